@@ -3,9 +3,8 @@
 ghost use Rattle.std.specs.Prelude.{◌≡◌, ◌<◌, ◌++◌, length, MatchOption, OnOk, OnErr};
 ghost use Rattle.byteorder.specs.Endian.{big_bytes};
 
-use std::alloc::AllocError;
-
 use byteorder::{BigEndian, ByteOrder};
+use std::alloc::AllocError;
 
 /// Appends a number as two octets.
 pub fn append_u16(out: &mut Vec<u8>, n: u16) -> Result<(), AllocError>

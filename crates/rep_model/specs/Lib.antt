@@ -1,0 +1,5 @@
+pub mod Views
+pub mod Fresh
+pub mod Keep
+pub mod Limits
+pub mod Taking

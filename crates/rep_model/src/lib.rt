@@ -1,0 +1,21 @@
+//! What a set of operations means, and what a gateway must keep of it.
+//!
+//! A client's *view* is read off the set of operations that a gateway has taken: the visible stamp, how
+//! many of its operations are there without a gap, the session that they make, and the messages that
+//! wait. Nothing else counts: not the order in which the operations came, nor how often.
+//!
+//! - `view`: the view of a client, as a value (`ClientView`).
+//! - `fault`: why a replica refuses a delta.
+//! - `replica`: what every replica of a set promises (`Replica`), however it keeps it.
+//!
+//! The definitions are in `specs/`: `Views` (visible stamp, prefix, session, pending), `Fresh` (the next
+//! epoch and sequence number), `Keep` (what may not be forgotten), `Limits` (how much a replica holds).
+#![tactic(auto)]
+
+mod fault;
+mod replica;
+mod view;
+
+pub use fault::{Limit, TakeFault};
+pub use replica::Replica;
+pub use view::{ClientView, Puts};

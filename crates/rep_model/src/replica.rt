@@ -1,0 +1,68 @@
+//! What every replica of a set of operations promises.
+
+ghost use Rattle.std.specs.Prelude.{◌≡◌, ℕ, ◌++◌, List, [], false, true, IfOk, OnOk, IfErr, MatchOption};
+ghost use Rattle.rep_ops.specs.declared.op.Op.{Op};
+ghost use Rattle.rep_model.specs.Views.{view, clients, is_named};
+ghost use Rattle.rep_model.specs.Fresh.{next_epoch, next_seq};
+ghost use Rattle.rep_model.specs.Keep.{IsKeptOf};
+
+use super::fault::TakeFault;
+use super::view::ClientView;
+use rep_ops::{ClientId, Delta};
+use std::alloc::Global;
+
+/// A replica of a set of operations.
+///
+/// `kept` is the set that it keeps. Of a set S that it has taken it may forget session operations below
+/// the visible stamp and acknowledged puts; every answer is the same as for S.
+pub trait Replica: Drop {
+    ghost use Rattle.rep_model.specs.Taking.{Fits, IsFaultOf};
+    ghost use Rattle.rep_model.specs.declared.fault.TakeFault.TheVariants.{Memory};
+
+    /// A delta that was found to fit, with all that `commit` needs to take it.
+    type Staged: Drop;
+
+    /// The set that is kept.
+    ghost kept: { Self → List Op };
+
+    /// The set that is kept once the staged delta is committed.
+    ghost after: { Self → Self.Staged → List Op };
+
+    /// The staged delta is that of the latest `prepare`, and nothing was committed since.
+    ghost ready: { Self → Self.Staged → Type 0 };
+
+    /// The replica of the empty set.
+    fn empty(alloc: Global) -> Result<Self, TakeFault>
+        ensures ok { IfOk result (λ made. kept made ≡ []) }
+        ensures err { IfErr result (λ fault. fault ≡ Memory) };
+
+    /// Finds out whether a delta can be taken, and makes ready to take it. What is kept stays.
+    fn prepare(&mut self, alloc: Global, delta: &Delta) -> Result<Self::Staged, TakeFault>
+        ensures unchanged { kept self.new ≡ kept self.old }
+        ensures fits { OnOk result (Fits (kept self.old) delta.now) }
+        ensures ready { IfOk result (λ staged. ready self.new staged) }
+        ensures taken { IfOk result (λ staged. IsKeptOf (kept self.old ++ delta.now) (after self.new staged)) }
+        ensures fault { IfErr result (λ fault. IsFaultOf (kept self.old) delta.now fault) };
+
+    /// Takes the delta of the latest `prepare`.
+    fn commit(&mut self, staged: Self::Staged)
+        requires { ready self.old staged }
+        ensures { kept self.new ≡ after self.old staged };
+
+    /// The view of a client, where an operation names it.
+    fn view_of(&self, client: &ClientId) -> Option<&ClientView>
+        ensures { MatchOption result (is_named client.now (kept self.now) ≡ false) (λ seen. (is_named client.now (kept self.now) ≡ true) × (seen.now ≡ view client.now (kept self.now))) };
+
+    /// The clients that operations name, in ascending order.
+    fn clients(&self, alloc: Global) -> Result<Vec<ClientId>, TakeFault>
+        ensures ok { IfOk result (λ all. all.items ≡ clients (kept self.now)) }
+        ensures err { IfErr result (λ fault. fault ≡ Memory) };
+
+    /// The epoch of the client's next Take; nothing after the last.
+    fn next_epoch(&self, client: &ClientId) -> Option<u64>
+        ensures { result ≡ next_epoch client.now (kept self.now) };
+
+    /// The sequence number of a gateway's next message for the client; nothing after the last.
+    fn next_seq(&self, client: &ClientId, gateway: u8) -> Option<u64>
+        ensures { result ≡ next_seq client.now gateway (kept self.now) };
+}

@@ -1,0 +1,97 @@
+//! The view of a client.
+
+ghost use Rattle.std.specs.Prelude.{◌≡◌, ◌==◌, length, List, IfOk, IfErr};
+
+use rep_ops::{OpsFault, Put, Stamp};
+use sn_session::Session;
+use std::alloc::{AllocError, Global};
+use std::marker::Model;
+
+/// Messages in the order of delivery: by sequence number, then origin. Contracts see the list.
+#[derive(Debug, Drop)]
+pub struct Puts {
+    items: Vec<Put>,
+}
+
+impl Model for Puts {
+    ghost use Rattle.std.specs.Prelude.{List};
+    ghost use Rattle.rep_ops.specs.declared.op.Put.{Put};
+
+    ghost Value = { List Put };
+
+    ghost view = { λ p. p.items.items };
+}
+
+impl Puts {
+    /// These messages.
+    pub fn new(items: Vec<Put>) -> Puts
+        ensures { result ≡ items.items }
+    {
+        Puts { items }
+    }
+
+    /// The messages, in their order.
+    pub fn as_slice(&self) -> &[Put]
+        ensures { result.now ≡ self.now }
+    {
+        self.items.as_slice()
+    }
+
+    /// How many messages there are.
+    pub fn len(&self) -> usize
+        ensures { result ≡ length self.now }
+    {
+        self.items.len()
+    }
+
+    /// Whether there is none.
+    pub fn is_empty(&self) -> bool
+        ensures { result ≡ (length self.now == 0) }
+    {
+        self.items.is_empty()
+    }
+
+    /// Equal messages.
+    pub fn copy(&self, alloc: Global) -> Result<Puts, OpsFault>
+        ensures ok { IfOk result (λ made. made ≡ self.now) }
+        ensures err { IfErr result (λ fault. fault ≡ OpsFault.Memory) }
+    {
+        let mut items = Vec::new(alloc);
+        for put in self.items.as_slice() {
+            items.push(put.copy(alloc)?).map_err(AllocError::from)?;
+        }
+        Ok(Puts { items })
+    }
+}
+
+/// What a set of operations says of a client.
+#[derive(Debug, Drop)]
+pub struct ClientView {
+    /// The greatest stamp whose Take is there.
+    pub stamp: Option<Stamp>,
+    /// How many operations of that stamp are there from 0 on without a gap; at most 256.
+    pub prefix: u16,
+    /// The session that these make.
+    pub session: Option<Session>,
+    /// The messages that are not acknowledged, by sequence number, then origin.
+    pub pending: Puts,
+}
+
+impl ClientView {
+    /// An equal view.
+    pub fn copy(&self, alloc: Global) -> Result<ClientView, OpsFault>
+        ensures ok { IfOk result (λ made. made ≡ self.now) }
+        ensures err { IfErr result (λ fault. fault ≡ OpsFault.Memory) }
+    {
+        let session = match &self.session {
+            None => None,
+            Some(session) => Some(session.copy(alloc)?),
+        };
+        Ok(ClientView {
+            stamp: self.stamp,
+            prefix: self.prefix,
+            session,
+            pending: self.pending.copy(alloc)?,
+        })
+    }
+}

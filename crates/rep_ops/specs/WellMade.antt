@@ -1,0 +1,31 @@
+-- Which operations a delta may hold.
+use Rattle.std.specs.Prelude.{ℕ, ◌==◌, Bool, true, ◌&&◌, if◌then◌else◌, nat_le, nat_lt, length}
+use Rattle.sn_session.specs.declared.session.SessionOp.{SessionOp}
+use Rattle.sn_session.specs.declared.session.SessionOp.TheVariants.{Take, Presence as SetPresence}
+use Rattle.sn_session.specs.Session.{is_take}
+use Rattle.rep_ops.specs.declared.op.Stamp.{Stamp}
+use Rattle.rep_ops.specs.declared.op.Put.{Put}
+use Rattle.rep_ops.specs.declared.op.Op.{Op}
+use Rattle.rep_ops.specs.declared.op.Op.TheVariants.{Session as OfSession, Put as OfPut, Ack}
+
+-- epochs, gateways and sequence numbers begin at 1
+abbrev pub is_stamp : Stamp → Bool
+is_stamp stamp = nat_le 1 stamp.epoch && nat_le 1 stamp.gateway
+
+-- the values of a change are in range: the next message id is not 0
+abbrev pub is_change : SessionOp → Bool
+is_change (Take session) = nat_le 1 session.next_id
+is_change (SetPresence presence duration) = true
+
+-- counter 0 is a Take, and no other counter is
+abbrev pub is_counted : ℕ → SessionOp → Bool
+is_counted counter change = if is_take change then counter == 0 else nat_lt 0 counter
+
+-- a message has an origin, a sequence number, a quality of service of 0 to 2 and at most 4,096 octets
+abbrev pub is_put : Put → Bool
+is_put put = nat_le 1 put.origin && nat_le 1 put.seq && nat_le put.qos 2 && nat_le (length put.body) 4096
+
+abbrev pub is_well_made : Op → Bool
+is_well_made (OfSession client stamp counter change) = is_stamp stamp && is_counted counter change && is_change change
+is_well_made (OfPut client put) = is_put put
+is_well_made (Ack client origin first last) = nat_le 1 origin && nat_le 1 first && nat_le first last

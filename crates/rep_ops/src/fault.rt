@@ -1,0 +1,55 @@
+//! Why operations, or the bytes of a delta, are refused.
+
+ghost use Rattle.std.specs.Prelude.{◌≡◌};
+ghost use Rattle.rep_ops.specs.declared.fault.OpsFault.TheVariants.{Memory};
+
+use sn_session::SessionFault;
+use std::alloc::AllocError;
+use thiserror::Error;
+
+/// Why operations, or the bytes of a delta, are refused.
+#[derive(Clone, Copy, Debug, PartialEq, Eq, Error)]
+pub enum OpsFault {
+    /// Fault 1: two operations have one name.
+    #[error("two operations have the same name")]
+    Twice,
+    /// Fault 2: the bytes of the delta would pass 8,388,608.
+    #[error("the delta is longer than 8388608 bytes")]
+    Limit,
+    /// Fault 3: memory ran out.
+    #[error("out of memory")]
+    Memory,
+    /// Fault 4: the bytes end before the delta does.
+    #[error("the bytes end before the delta does")]
+    Truncated,
+    /// Fault 5: the version is not known.
+    #[error("the version of the delta is not known")]
+    Version,
+    /// Fault 6: a value is out of range or over its limit.
+    #[error("a value is out of range or over its limit")]
+    Kind,
+    /// Fault 7: the operations are not in the order of their names.
+    #[error("the operations are not in the order of their names")]
+    Order,
+    /// Fault 8: bytes stand behind the delta.
+    #[error("bytes stand behind the delta")]
+    Trailing,
+}
+
+impl From<AllocError> for OpsFault {
+    ghost from_gives = { λ _ e. e ≡ Memory };
+
+    fn from(_error: AllocError) -> OpsFault {
+        OpsFault::Memory
+    }
+}
+
+impl From<SessionFault> for OpsFault {
+    ghost from_gives = { λ _ e. e ≡ Memory };
+
+    fn from(error: SessionFault) -> OpsFault {
+        match error {
+            SessionFault::Memory => OpsFault::Memory,
+        }
+    }
+}

@@ -1,0 +1,122 @@
+//! Stamps, puts and operations.
+
+ghost use Rattle.std.specs.Prelude.{◌≡◌, IfOk, IfErr};
+ghost use Rattle.rep_ops.specs.Orders.{stamp_cmp, client_of};
+
+use super::client_id::ClientId;
+use super::fault::OpsFault;
+use octets::Octets;
+use sn_session::{SessionFault, SessionOp};
+use std::alloc::Global;
+use std::cmp::Ordering;
+
+/// Who writes a client's session, and since when: an epoch and the number of the only gateway that
+/// writes under this stamp. Stamps are ordered by epoch, then gateway.
+#[derive(Clone, Copy, Debug, PartialEq, Eq, PartialOrd, Ord)]
+pub struct Stamp {
+    pub epoch: u64,
+    pub gateway: u8,
+}
+
+/// A message that waits for a client.
+#[derive(Debug, Drop, PartialEq, Eq)]
+pub struct Put {
+    /// The gateway that made it.
+    pub origin: u8,
+    /// The how manieth message of that gateway for the client, from 1.
+    pub seq: u64,
+    /// The name that it was published under.
+    pub topic: Octets,
+    /// Its quality of service, 0 to 2.
+    pub qos: u8,
+    /// What was published.
+    pub body: Octets,
+}
+
+/// An operation on the state of a client.
+#[derive(Debug, Drop, PartialEq, Eq)]
+pub enum Op {
+    /// A change of the session, named by client, stamp and counter. Counter 0 is a Take.
+    Session {
+        client: ClientId,
+        stamp: Stamp,
+        counter: u8,
+        change: SessionOp,
+    },
+    /// A message, named by client, origin and sequence number.
+    Put {
+        client: ClientId,
+        put: Put,
+    },
+    /// The acknowledgements of the messages first to last of an origin.
+    Ack {
+        client: ClientId,
+        origin: u8,
+        first: u64,
+        last: u64,
+    },
+}
+
+impl Put {
+    /// An equal message.
+    pub fn copy(&self, alloc: Global) -> Result<Put, OpsFault>
+        ensures ok { IfOk result (λ made. made ≡ self.now) }
+        ensures err { IfErr result (λ fault. fault ≡ OpsFault.Memory) }
+    {
+        Ok(Put {
+            origin: self.origin,
+            seq: self.seq,
+            topic: self.topic.copy(alloc)?,
+            qos: self.qos,
+            body: self.body.copy(alloc)?,
+        })
+    }
+}
+
+impl Op {
+    /// Whose state it is an operation on.
+    pub fn client(&self) -> &ClientId
+        ensures { result.now ≡ client_of self.now }
+    {
+        match self {
+            Op::Session { client, .. } => client,
+            Op::Put { client, .. } => client,
+            Op::Ack { client, .. } => client,
+        }
+    }
+
+    /// An equal operation.
+    pub fn copy(&self, alloc: Global) -> Result<Op, OpsFault>
+        ensures ok { IfOk result (λ made. made ≡ self.now) }
+        ensures err { IfErr result (λ fault. fault ≡ OpsFault.Memory) }
+    {
+        match self {
+            Op::Session {
+                client,
+                stamp,
+                counter,
+                change,
+            } => Ok(Op::Session {
+                client: client.copy(alloc)?,
+                stamp: *stamp,
+                counter: *counter,
+                change: change.copy(alloc)?,
+            }),
+            Op::Put { client, put } => Ok(Op::Put {
+                client: client.copy(alloc)?,
+                put: put.copy(alloc)?,
+            }),
+            Op::Ack {
+                client,
+                origin,
+                first,
+                last,
+            } => Ok(Op::Ack {
+                client: client.copy(alloc)?,
+                origin: *origin,
+                first: *first,
+                last: *last,
+            }),
+        }
+    }
+}

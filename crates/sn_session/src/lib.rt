@@ -1,0 +1,12 @@
+//! The session of a client: what a gateway knows of it, and the operations that change it.
+//!
+//! A session is never sent about as it stands. Gateways exchange *operations* (`SessionOp`), and each
+//! gateway reads the session off the operations that it has: a Take holds a whole session, and the
+//! others change it one by one (`Session::apply`).
+#![tactic(auto)]
+
+mod fault;
+mod session;
+
+pub use fault::SessionFault;
+pub use session::{Presence, Session, SessionOp};
