@@ -1,3 +1,4 @@
 pub mod Fault
 pub mod Levels
 pub mod Topics
+pub mod Matching

@@ -9,8 +9,10 @@
 mod fault;
 mod filter;
 mod level;
+mod matching;
 mod name;
 
 pub use fault::TopicFault;
 pub use filter::Filter;
+pub use matching::matches;
 pub use name::TopicName;
