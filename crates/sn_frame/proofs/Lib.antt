@@ -1,0 +1,4 @@
+pub mod Framing
+pub mod Numbers
+pub mod ReadBodies
+pub mod Refusals
