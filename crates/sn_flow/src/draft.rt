@@ -1,6 +1,6 @@
 //! What a row of the step table says.
 
-ghost use Rattle.std.specs.Prelude.{◌≡◌, ◌≤◌, OnOk, Err};
+ghost use Rattle.std.specs.Prelude.{◌≡◌, ◌≤◌, [], OnOk, Err};
 ghost use Rattle.sn_frame.specs.Bodies.{IsMessage};
 ghost use Rattle.sn_frame.specs.Grammar.{total_of};
 
@@ -13,6 +13,7 @@ use sn_frame::{Frame, encode};
 use sn_session::SessionOp;
 use std::alloc::{AllocError, Global};
 use std::marker::Model;
+use std::mem;
 
 /// A message for a client, before it has a sequence number.
 #[derive(Debug, Drop)]
@@ -26,11 +27,11 @@ pub struct NewPut {
 /// What a step does, before its operations have names. Contracts see the five lists (`Drafted`).
 #[derive(Debug, Drop)]
 pub struct Draft {
-    changes: Vec<SessionOp>,
-    acks: Vec<(u64, u8)>,
-    puts: Vec<NewPut>,
-    sends: Vec<Send>,
-    local: Vec<LocalChange>,
+    pub(crate) changes: Vec<SessionOp>,
+    pub(crate) acks: Vec<(u64, u8)>,
+    pub(crate) puts: Vec<NewPut>,
+    pub(crate) sends: Vec<Send>,
+    pub(crate) local: Vec<LocalChange>,
 }
 
 impl Model for Draft {
@@ -55,6 +56,14 @@ impl Draft {
             sends: Vec::new(alloc),
             local: Vec::new(alloc),
         }
+    }
+
+    /// The changes of the session, which the draft then has no more.
+    pub(crate) fn take_changes(&mut self, alloc: Global) -> Vec<SessionOp>
+        ensures taken { result.items ≡ self.old.changes }
+        ensures left { self.new ≡ record self.old { changes = [] } }
+    {
+        mem::replace(&mut self.changes, Vec::new(alloc))
     }
 
     /// And then this change of the session.

@@ -17,8 +17,11 @@ mod config;
 mod draft;
 mod fault;
 mod local;
+mod numbering;
+mod plan;
 
 pub use config::{Addr, Config, Send};
 pub use draft::{Draft, NewPut};
 pub use fault::StepFault;
 pub use local::LocalChange;
+pub use plan::{Plan, plan_of};
