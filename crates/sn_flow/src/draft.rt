@@ -1,6 +1,7 @@
 //! What a row of the step table says.
 
-ghost use Rattle.std.specs.Prelude.{◌≡◌, ◌≤◌, [], OnOk, Err};
+ghost use Rattle.std.specs.Prelude.{◌≡◌, ◌≤◌, ◌++◌, [], map, OnOk, Err};
+ghost use Rattle.sn_flow.specs.Names.{name_of};
 ghost use Rattle.sn_frame.specs.Bodies.{IsMessage};
 ghost use Rattle.sn_frame.specs.Grammar.{total_of};
 
@@ -8,7 +9,7 @@ use super::config::{Addr, Send};
 use super::fault::StepFault;
 use super::local::LocalChange;
 use octets::Octets;
-use rep_ops::ClientId;
+use rep_ops::{ClientId, Put};
 use sn_frame::{Frame, encode};
 use sn_session::SessionOp;
 use std::alloc::{AllocError, Global};
@@ -43,7 +44,7 @@ impl Model for Draft {
 }
 
 impl Draft {
-    ghost use Rattle.sn_flow.specs.Drafts.{nothing, changed, acked, sent, moved};
+    ghost use Rattle.sn_flow.specs.Drafts.{nothing, changed, acked, acked_all, sent, moved};
 
     /// A step that does nothing.
     pub fn new(alloc: Global) -> Draft
@@ -82,6 +83,13 @@ impl Draft {
         Ok(())
     }
 
+    /// And then the acknowledgements of these puts.
+    pub fn ack_all(&mut self, puts: &[Put]) -> Result<(), AllocError>
+        ensures { OnOk result (self.new ≡ acked_all (map name_of puts.now) self.old) }
+    {
+        extend_names(&mut self.acks, puts)
+    }
+
     /// And then this frame.
     pub fn send(&mut self, alloc: Global, to: Addr, frame: &Frame) -> Result<(), StepFault>
         requires message { IsMessage frame.now }
@@ -107,4 +115,14 @@ impl Draft {
         self.local.push(change)?;
         Ok(())
     }
+}
+
+/// Appends the names of these puts.
+fn extend_names(names: &mut Vec<(u64, u8)>, puts: &[Put]) -> Result<(), AllocError>
+    ensures { OnOk result (names.new.items ≡ names.old.items ++ map name_of puts.now) }
+{
+    for put in puts {
+        names.push((put.seq, put.origin))?;
+    }
+    Ok(())
 }

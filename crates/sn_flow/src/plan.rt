@@ -4,7 +4,7 @@ ghost use Rattle.std.specs.Prelude.{◌≡◌, IfOk, IfErr};
 ghost use Rattle.rep_model.specs.Views.{view};
 ghost use Rattle.rep_model.specs.Fresh.{next_epoch, next_seq};
 ghost use Rattle.sn_flow.specs.Numbering.{start_of, rest_of as defined_rest};
-ghost use Rattle.sn_flow.specs.Plans.{Gives, plan_of as defined_plan};
+ghost use Rattle.sn_flow.specs.Plans.{Gives, seen_of, plan_of as defined_plan, plan_without as defined_without};
 
 use std::alloc::Global;
 
@@ -83,10 +83,28 @@ pub fn plan_of<R: Replica>(
     client: &ClientId,
     mut draft: Draft,
 ) -> Result<Plan, StepFault>
-    ensures { Gives result (defined_plan gateway client.now (R.kept replica.now) draft) }
+    ensures { Gives result (defined_plan gateway client.now (seen_of (R.kept replica.now)) draft) }
 {
     let mut writer = writer_of(alloc, gateway, replica, client)?;
     let changes = draft.take_changes(alloc);
     writer.write_all(alloc, gateway, client, changes)?;
     rest_of(alloc, gateway, replica, client, writer, draft)
+}
+
+/// The plan of a draft without changes, acknowledgements and puts.
+pub fn plan_without(alloc: Global, draft: Draft) -> Plan
+    ensures { result ≡ defined_without draft }
+{
+    let Draft {
+        changes: _,
+        acks: _,
+        puts: _,
+        sends,
+        local,
+    } = draft;
+    Plan {
+        ops: Sequence::empty(alloc),
+        sends: Sequence::new(sends),
+        local: Sequence::new(local),
+    }
 }
