@@ -50,7 +50,8 @@ impl Model for Dialogs {
 
 impl Dialogs {
     ghost use Rattle.sn_flow.specs.Bindings.{after_all, client_at};
-    ghost use Rattle.std.specs.Prelude.{[], MatchOption, None, Some};
+    ghost use Rattle.std.specs.Prelude.{[]};
+    ghost use Rattle.std.specs.Option.{option_copied};
 
     /// No binding.
     pub fn empty(alloc: Global) -> Dialogs
@@ -79,7 +80,7 @@ impl Dialogs {
 
     /// The client of an address.
     pub fn client_at(&self, address: Addr) -> Option<&ClientId>
-        ensures { MatchOption result (client_at address self.now.bindings ≡ None) (λ client. client_at address self.now.bindings ≡ Some client.now) }
+        ensures { option_copied result ≡ client_at address self.now.bindings }
     {
         for binding in self.bindings.as_slice() {
             if binding.address == address {
