@@ -11,8 +11,10 @@ mod filter;
 mod level;
 mod matching;
 mod name;
+mod predefined;
 
 pub use fault::TopicFault;
 pub use filter::Filter;
 pub use matching::matches;
 pub use name::TopicName;
+pub use predefined::Predefined;
