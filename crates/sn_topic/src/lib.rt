@@ -18,3 +18,6 @@ pub use filter::Filter;
 pub use matching::matches;
 pub use name::TopicName;
 pub use predefined::Predefined;
+
+#[cfg(test)]
+mod tests;

@@ -1,6 +1,6 @@
 //! The topic ids that every client knows from the start.
 
-ghost use Rattle.std.specs.Prelude.{◌≡◌, IfOk, IfErr, IsErrOf, IsTrue, IsFalse, ◌↔◌, ◌≢◌, Err};
+ghost use Rattle.std.specs.Prelude.{◌≡◌, IfOk, IfErr, IsErrOf, IsTrue, IsFalse, ◌↔◌, ◌≢◌, Err, [], ◌≤◌, MatchOption, Contains, All};
 ghost use Rattle.std.specs.Option.{option_copied};
 ghost use Rattle.sn_topic.specs.Table.{has_id as id_test, is_table as table_test, may_name as name_test, name_of, ids_of, least, lesser as lesser_of};
 
@@ -31,7 +31,7 @@ impl Predefined {
     /// The table of these entries. `Id` is answered where an id is 0 or 65535, or stands twice. The entries
     /// are kept as they are, so no memory is taken.
     pub fn new(_alloc: Global, entries: Vec<(u16, TopicName)>) -> Result<Predefined, TopicFault>
-        ensures ok { IfOk result (λ table. table ≡ entries.items) }
+        ensures ok { IfOk result (λ table. (table ≡ entries.items) × IsTrue (table_test entries.items)) }
         ensures refused { IsErrOf result TopicFault.Id ↔ IsFalse (table_test entries.items) }
         ensures no_other { IfErr result (λ fault. fault ≡ TopicFault.Id) }
     {
@@ -54,7 +54,9 @@ impl Predefined {
 
     /// The least id that stands for a name.
     pub fn id(&self, name: &TopicName) -> Option<u16>
-        ensures { result ≡ least (ids_of name.now self.now) }
+        ensures rule { MatchOption result (ids_of name.now self.now ≡ [])
+            (λ id. Contains (ids_of name.now self.now) id × All (λ other. id ≤ other) (ids_of name.now self.now)) }
+        ensures value { result ≡ least (ids_of name.now self.now) }
     {
         let mut least = None;
         for (id, other) in &self.entries {
