@@ -1,9 +1,9 @@
 -- the tests of topics, and the facts that they compute
-use Rattle.std.proofs.Common.{◌≡◌, ℕ, ◌<◌, ◌≤◌, ◌&&◌, not, ◌↔◌, IsTrue, IsFalse, Bool, true, false, nat_lt, nat_le, List, length, refl, arith}
+use Rattle.std.proofs.Common.{◌≡◌, ℕ, ◌<◌, ◌≤◌, ◌&&◌, not, ◌↔◌, IsTrue, Bool, true, false, nat_lt, nat_le, List, length, refl, arith}
 use Rattle.std.proofs.lemmas.Bool.{and_parts, and_from}
 use Rattle.std.proofs.lemmas.Bool.Decides.{nat_tests}
 use Rattle.sn_topic.specs.Levels.{has_wildcard, levels, wildcards_stand_alone}
-use Rattle.sn_topic.specs.Topics.{IsTopicSize, IsName, IsFilter, is_topic_size, is_name, is_filter}
+use Rattle.sn_topic.specs.Topics.{IsName, IsFilter, is_topic_size, is_name, is_filter}
 
 -- a length within the bounds
 size_from : (n : ℕ) → (nat_lt 0 n && nat_le n 256) ≡ true → (0 < n) × (n ≤ 256)
