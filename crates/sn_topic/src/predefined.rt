@@ -9,7 +9,7 @@ use crate::name::TopicName;
 use std::alloc::Global;
 use std::marker::Model;
 
-/// Predefined topic ids with their names (MQTT-SN 1.2 section 6.1). Contracts see the list of the entries in
+/// Predefined topic ids with their names (MQTT-SN 1.2 section 6.7). Contracts see the list of the entries in
 /// the order in which they were given. Each look-up reads the entries from the front, since tables are small.
 #[derive(Debug, Drop)]
 pub struct Predefined {
@@ -29,7 +29,7 @@ impl Model for Predefined {
 
 impl Predefined {
     /// The table of these entries. `Id` is answered where an id is 0 or 65535, or stands twice. The entries
-    /// are kept as they are, so no memory is taken.
+    /// are kept as they are, so no memory is taken. The time is quadratic in their number.
     pub fn new(_alloc: Global, entries: Vec<(u16, TopicName)>) -> Result<Predefined, TopicFault>
         ensures ok { IfOk result (λ table. (table ≡ entries.items) × IsTrue (table_test entries.items)) }
         ensures refused { IsErrOf result TopicFault.Id ↔ IsFalse (table_test entries.items) }
@@ -98,7 +98,7 @@ fn lesser(known: Option<u16>, id: u16) -> u16
     }
 }
 
-/// Whether an id may stand for a topic: 0 and 65535 are reserved.
+/// Whether an id may stand for a topic: 0 and 65535 are reserved (MQTT-SN 1.2 section 5.3.11).
 fn may_name(id: u16) -> bool
     ensures { result ≡ name_test id }
 {
