@@ -190,3 +190,11 @@ module _ (N W : List Op) (t : Thin N W) (Y : List Op) where
         ∙ sym (put_at_both c Y W name);
     acknowledgements_same = λ c name. is_acknowledged_both c Y N name ∙ ap (λ a. is_acknowledged c Y name || a) (t.acknowledgements_same c name) ∙ sym (is_acknowledged_both c Y W name);
   }
+
+-- where a stamp is below the visible one, N has the visible one's Take
+pub taken_above : (N W : List Op) (t : Thin N W) (c : List ℕ) (x : Stamp) → is_below x (visible c W) ≡ true → (g : Stamp) × (is_lt (stamp_cmp x g) ≡ true) × (is_some (operation_at c N (g, 0)) ≡ true)
+taken_above N W t c x =
+    elim (visible c W) as (λ v. visible c W ≡ v → IfSome v (λ g. has stamp_cmp g (takes c W) ≡ true) → is_below x v ≡ true → (g : Stamp) × (is_lt (stamp_cmp x g) ≡ true) × (is_some (operation_at c N (g, 0)) ≡ true)) [
+      | None ↦ λ _ _ b. absurd (true≢false (sym b))
+      | Some g ↦ λ e h b. (g, b, ap is_some (t.operations_same c (g, 0) (ap (is_below g) e ∙ not_below_itself g)) ∙ sym (has_take c W g) ∙ h)
+    ] refl (greatest-has stamp_cmp stamp_total (takes c W))
