@@ -2,8 +2,10 @@
 
 ghost use Rattle.std.specs.Prelude.{◌≡◌};
 ghost use Rattle.rep_ops.specs.declared.fault.OpsFault.TheVariants.{Memory};
+ghost use Rattle.rep_ops.specs.Faults.{fault_of_topic};
 
 use sn_session::SessionFault;
+use sn_topic::TopicFault;
 use std::alloc::AllocError;
 use thiserror::Error;
 
@@ -50,6 +52,17 @@ impl From<SessionFault> for OpsFault {
     fn from(error: SessionFault) -> OpsFault {
         match error {
             SessionFault::Memory => OpsFault::Memory,
+        }
+    }
+}
+
+impl From<TopicFault> for OpsFault {
+    ghost from_gives = { λ t e. e ≡ fault_of_topic t };
+
+    fn from(error: TopicFault) -> OpsFault {
+        match error {
+            TopicFault::Memory => OpsFault::Memory,
+            TopicFault::Empty | TopicFault::TooLong | TopicFault::Wildcard | TopicFault::Id => OpsFault::Kind,
         }
     }
 }

@@ -17,6 +17,7 @@ mod client_id;
 mod delta;
 mod fault;
 mod op;
+mod order;
 
 pub use client_id::ClientId;
 pub use delta::Delta;

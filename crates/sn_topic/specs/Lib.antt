@@ -1,0 +1,4 @@
+pub mod Fault
+pub mod Levels
+pub mod Topics
+pub mod Matching
