@@ -6,3 +6,4 @@ pub mod WellMade
 pub mod Deltas
 pub mod Spelling
 pub mod Making
+pub mod Joining

@@ -6,7 +6,7 @@ ghost use Rattle.rep_ops.specs.Faults.{fault_of_topic};
 
 use sn_session::SessionFault;
 use sn_topic::TopicFault;
-use std::alloc::AllocError;
+use std::alloc::{AllocError, AllocFailed};
 use thiserror::Error;
 
 /// Why operations, or the bytes of a delta, are refused.
@@ -46,6 +46,14 @@ impl From<AllocError> for OpsFault {
     }
 }
 
+impl<T: Drop> From<AllocFailed<T>> for OpsFault {
+    ghost from_gives = { λ _ e. e ≡ Memory };
+
+    fn from(_error: AllocFailed<T>) -> OpsFault {
+        OpsFault::Memory
+    }
+}
+
 impl From<SessionFault> for OpsFault {
     ghost from_gives = { λ _ e. e ≡ Memory };
 
@@ -62,7 +70,8 @@ impl From<TopicFault> for OpsFault {
     fn from(error: TopicFault) -> OpsFault {
         match error {
             TopicFault::Memory => OpsFault::Memory,
-            TopicFault::Empty | TopicFault::TooLong | TopicFault::Wildcard | TopicFault::Id => OpsFault::Kind,
+            TopicFault::Empty | TopicFault::TooLong | TopicFault::Wildcard | TopicFault::Id =>
+                OpsFault::Kind,
         }
     }
 }

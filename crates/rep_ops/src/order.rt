@@ -25,12 +25,18 @@ pub fn name_order(a: &Op, b: &Op) -> Ordering
                 counter: next,
                 ..
             },
-        ) => client.cmp(other).then(stamp.cmp(later).then(counter.cmp(next))),
+        ) => client
+            .cmp(other)
+            .then(stamp.cmp(later).then(counter.cmp(next))),
         (Op::Session { .. }, _) => Ordering::Less,
         (_, Op::Session { .. }) => Ordering::Greater,
-        (Op::Put { client, put }, Op::Put { client: other, put: later }) => {
-            client.cmp(other).then(put.origin.cmp(&later.origin).then(put.seq.cmp(&later.seq)))
-        }
+        (
+            Op::Put { client, put },
+            Op::Put {
+                client: other,
+                put: later,
+            },
+        ) => { client.cmp(other).then(put.origin.cmp(&later.origin).then(put.seq.cmp(&later.seq))) }
         (Op::Put { .. }, _) => Ordering::Less,
         (_, Op::Put { .. }) => Ordering::Greater,
         (
@@ -46,7 +52,9 @@ pub fn name_order(a: &Op, b: &Op) -> Ordering
                 first: start,
                 ..
             },
-        ) => client.cmp(other).then(origin.cmp(later).then(first.cmp(start))),
+        ) => client
+            .cmp(other)
+            .then(origin.cmp(later).then(first.cmp(start))),
     }
 }
 
@@ -69,9 +77,13 @@ pub fn share_name(a: &Op, b: &Op) -> bool
                 ..
             },
         ) => client == other && stamp == later && counter == next,
-        (Op::Put { client, put }, Op::Put { client: other, put: later }) => {
-            client == other && put.origin == later.origin && put.seq == later.seq
-        }
+        (
+            Op::Put { client, put },
+            Op::Put {
+                client: other,
+                put: later,
+            },
+        ) => { client == other && put.origin == later.origin && put.seq == later.seq }
         (
             Op::Ack {
                 client,
