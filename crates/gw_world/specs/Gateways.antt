@@ -1,0 +1,15 @@
+-- A gateway as the field sees it: its number, the set of operations that it has made and taken, and which address is which client.
+use Rattle.std.specs.Prelude.{ℕ, ◌==◌, Bool, false, List, [], filter, Option, Some, None}
+use Rattle.rep_ops.specs.declared.op.Op.{Op}
+use Rattle.rep_ops.specs.declared.op.Stamp.{Stamp}
+use Rattle.sn_flow.specs.declared.config.Config.{Config}
+use Rattle.sn_flow.specs.declared.local.Binding.{Binding}
+
+pub record Gateway : Type 0 where
+  pub number : ℕ
+  pub taken : List Op
+  pub bindings : List Binding
+
+-- at the start it has taken nothing
+abbrev pub new_gateway : Config → Gateway
+new_gateway config = record { number = config.gateway; taken = []; bindings = [] }

@@ -1,0 +1,3 @@
+pub mod Gateways
+pub mod Steps
+pub mod Field
