@@ -23,7 +23,7 @@ new_field configs = record { gateways = map new_gateway configs; deltas = [] }
 -- the i-th gateway has this number
 pub record IsAt (field : Field) (i number : ℕ) (gateway : Gateway) : Type 0 where
   pub place : slice_get field.gateways i ≡ Some gateway
-  pub number : gateway.number ≡ number
+  pub numbered : gateway.number ≡ number
 
 -- the i-th gateway became another, and these deltas were made
 abbrev pub changed : Field → ℕ → Gateway → List (List Op) → Field

@@ -1,3 +1,4 @@
 pub mod Gateways
 pub mod Steps
 pub mod Field
+pub mod Keeping
