@@ -1,2 +1,3 @@
 pub mod Occurring
 pub mod Held
+pub mod Moving

@@ -1,5 +1,5 @@
 -- A field of gateways, and what a list of events may do to it.
-use Rattle.std.specs.Prelude.{◌≡◌, ◌≢◌, ℕ, ◌+◌, ◌-◌, ◌<◌, ◌≤◌, List, [], ◌∷◌, ◌++◌, map, length, Option, Some, None, Result, slice_get, slice_set, All}
+use Rattle.std.specs.Prelude.{◌≡◌, ℕ, ◌-◌, ◌≤◌, List, [], ◌∷◌, ◌++◌, map, Option, Some, None, Result, slice_get, slice_set}
 use Rattle.rep_ops.specs.declared.op.Op.{Op}
 use Rattle.rep_model.specs.declared.view.ClientView.{ClientView}
 use Rattle.rep_model.specs.Views.{view, clients}
@@ -8,7 +8,7 @@ use Rattle.gw_world.specs.declared.event.Event.{Event}
 use Rattle.gw_world.specs.declared.event.Event.TheVariants.{Frame, Take, Show}
 use Rattle.gw_world.specs.declared.event.Answer.{Answer}
 use Rattle.gw_world.specs.declared.event.Answer.TheVariants.{Node, Views}
-use Rattle.gw_world.specs.Gateways.{Gateway, new_gateway}
+use Rattle.gw_world.specs.Gateways.{Gateway, new_gateway, place_of}
 use Rattle.gw_world.specs.Steps.{FrameStep, TakeStep}
 
 -- the gateways, and the deltas made, in the order of making
@@ -20,10 +20,9 @@ pub record Field : Type 0 where
 abbrev pub new_field : List Config → Field
 new_field configs = record { gateways = map new_gateway configs; deltas = [] }
 
--- the i-th gateway has this number
-pub record IsAt (field : Field) (i number : ℕ) (gateway : Gateway) : Type 0 where
-  pub place : slice_get field.gateways i ≡ Some gateway
-  pub numbered : gateway.number ≡ number
+-- the gateway that an event at this number is at
+abbrev pub IsAt : Field → ℕ → ℕ → Gateway → Type 0
+IsAt field number i gateway = (place_of number field.gateways ≡ Some i) × (slice_get field.gateways i ≡ Some gateway)
 
 -- the i-th gateway became another, and these deltas were made
 abbrev pub changed : Field → ℕ → Gateway → List (List Op) → Field
@@ -41,12 +40,12 @@ shown taken = map (λ c. (c, view c taken)) (clients taken)
 abbrev pub After : Field → Event → Answer → Field → Type 0
 After old (Frame number from bytes now) (Node answer) new =
     (i : ℕ) × (gateway : Gateway) × (next : Gateway) × (made : List (List Op))
-    × IsAt old i number gateway × FrameStep gateway from bytes now answer next made × (new ≡ changed old i next made)
+    × IsAt old number i gateway × FrameStep gateway from bytes now answer next made × (new ≡ changed old i next made)
 After old (Take number delta) (Node answer) new =
     (i : ℕ) × (gateway : Gateway) × (next : Gateway) × (made : List (List Op)) × (ops : List Op)
-    × IsAt old i number gateway × IsDeltaAt old delta ops × TakeStep gateway ops answer next made × (new ≡ changed old i next made)
+    × IsAt old number i gateway × IsDeltaAt old delta ops × TakeStep gateway ops answer next made × (new ≡ changed old i next made)
 After old (Show number) (Views views) new =
-    (i : ℕ) × (gateway : Gateway) × IsAt old i number gateway × (views ≡ shown gateway.taken) × (new ≡ old)
+    (i : ℕ) × (gateway : Gateway) × IsAt old number i gateway × (views ≡ shown gateway.taken) × (new ≡ old)
 After old (Frame number from bytes now) (Views views) new = ⊥
 After old (Take number delta) (Views views) new = ⊥
 After old (Show number) (Node answer) new = ⊥
@@ -60,7 +59,7 @@ Run old (event ∷ events) [] new = ⊥
 
 -- no gateway of the field has the number
 abbrev pub NoGateway : Field → ℕ → Type 0
-NoGateway field number = All (λ gateway. gateway.number ≢ number) field.gateways
+NoGateway field number = place_of number field.gateways ≡ None
 
 -- the gateway that an event is at
 abbrev pub gateway_of : Event → ℕ
@@ -70,6 +69,6 @@ gateway_of (Show number) = number
 
 -- the event names a gateway that is there, and a delta that is not
 abbrev pub NamesNoDelta : Field → Event → Type 0
-NamesNoDelta field (Take number delta) = ¬ (NoGateway field number) × ((ops : List Op) → IsDeltaAt field delta ops → ⊥)
+NamesNoDelta field (Take number delta) = ((i : ℕ) × (place_of number field.gateways ≡ Some i)) × ((ops : List Op) → IsDeltaAt field delta ops → ⊥)
 NamesNoDelta field (Frame number from bytes now) = ⊥
 NamesNoDelta field (Show number) = ⊥
