@@ -1,9 +1,10 @@
 //! One event in a field of gateways.
 
-ghost use Rattle.std.specs.Prelude.{◌≡◌, ◌==◌, ◌<◌, Ok, Err, IfOk, IfErr, map, position, vec_len};
+ghost use Rattle.std.specs.Prelude.{◌≡◌, ◌<◌, Ok, Err, IfOk, IfErr, IfSome, length, map, vec_len};
 ghost use Rattle.gw_world.specs.Plans.{OnRefusal};
 ghost use Rattle.gw_world.specs.Events.{FrameAt, TakeAt};
 ghost use Rattle.gw_world.specs.Field.{shown};
+ghost use Rattle.gw_world.specs.Gateways.{place_of as gateway_place};
 
 use std::alloc::Global;
 
@@ -17,11 +18,15 @@ use super::node::{Node, Trouble};
 
 /// The place of the gateway of this number.
 pub fn place_of<R: Replica>(nodes: &[Node<R>], number: u8) -> Option<usize>
-    ensures { result ≡ position (λ node. node.config.gateway == number) nodes.now }
+    ensures place { result ≡ gateway_place number (map (λ node. record { number = node.config.gateway; taken = R.kept node.replica; bindings = node.dialogs.bindings }) nodes.now) }
+    ensures within { IfSome result (λ place. place < length nodes.now) }
 {
-    nodes
-        .iter()
-        .position(|node| node.config.gateway == number)
+    for place in 0..nodes.len() {
+        if nodes[place].config.gateway == number {
+            return Some(place);
+        }
+    }
+    None
 }
 
 /// A datagram comes to the gateway in this place.
