@@ -1,5 +1,5 @@
 -- What one gateway does in its place in the list of gateways.
-use Rattle.std.proofs.Common.{◌≡◌, ℕ, List, map, set, Option, Some, slice_get, Result, refl, sym, ap, ◌∙◌}
+use Rattle.std.proofs.Common.{◌≡◌, ℕ, List, map, set, Option, Some, slice_get, Result, ap, ◌∙◌}
 use Rattle.std.specs.Option.{option_map}
 use Rattle.std.proofs.lemmas.Option.{slice_get-map}
 use Rattle.std.proofs.lemmas.List.{map-set}
@@ -24,10 +24,10 @@ on_refusal Memory P Q f h = tt
 module _ {N : Type 0} (f : N → Gateway) (nodes : List N) (i : ℕ) (old new : N) (place : slice_get nodes i ≡ Some old) (numbered : (f new).number ≡ (f old).number) where
   pub moves_in_place : Moves (map f nodes) i (f old) (f new) (map f (set nodes i new))
   moves_in_place = record {
-      place = slice_get-map f nodes i ∙ ap (λ (x : Option N). option_map f x) place;
-      numbered = numbered;
-      moved = map-set f nodes i new;
-    }
+    place = slice_get-map f nodes i ∙ ap (λ (x : Option N). option_map f x) place;
+    numbered = numbered;
+    moved = map-set f nodes i new;
+  }
 
   pub frame_in_place : (from : Addr) (bytes : List ℕ) (now : ℕ) (answer : Result Out NodeFault)
       → FrameKept (f old).number (f old).taken (f old).bindings from bytes now answer (f new).taken (f new).bindings
@@ -41,7 +41,6 @@ module _ {N : Type 0} (f : N → Gateway) (nodes : List N) (i : ℕ) (old new : 
 
 pub there_in_place : {N : Type 0} (f : N → Gateway) (nodes : List N) (i : ℕ) (node : N) → slice_get nodes i ≡ Some node → slice_get (map f nodes) i ≡ Some (f node)
 there_in_place {N} f nodes i node place = slice_get-map f nodes i ∙ ap (λ (x : Option N). option_map f x) place
-
 
 pub missing_stops : (olds : List Gateway) (deltas : List (List Op)) (event : Event) (n : ℕ) (fault : WorldFault) (i : ℕ)
     → place_of (gateway_of event) olds ≡ Some i → IsMissing deltas event n fault → IsStopKept olds deltas event n fault

@@ -1,8 +1,8 @@
 -- What a set has under a name stands on the list.
-use Rattle.std.proofs.Common.{◌≡◌, ℕ, ◌+◌, ◌<◌, Bool, true, false, cond, if◌then◌else◌, List, [], ◌∷◌, ◌++◌, length, Option, Some, None, Contains, refl, sym, ap, ◌∙◌, subst, arith}
+use Rattle.std.proofs.Common.{◌≡◌, ℕ, true, false, cond, List, [], ◌∷◌, Some, Contains, refl, sym, ap, ◌∙◌, subst, arith}
 use Rattle.std.specs.List.{filter_map}
 use Rattle.std.specs.FinMap.{find}
-use Rattle.std.specs.Ordering.{is_eq, eq_by_cmp}
+use Rattle.std.specs.Ordering.{is_eq}
 use Rattle.std.specs.declared.cmp.Ordering.{Ordering}
 use Rattle.std.specs.declared.cmp.Ordering.TheVariants.{Less, Equal, Greater}
 use Rattle.std.proofs.lemmas.List.Elements.{Contains-append_right}
@@ -12,7 +12,7 @@ use Rattle.rep_ops.specs.declared.op.Put.{Put}
 use Rattle.rep_ops.specs.declared.op.Op.{Op}
 use Rattle.rep_ops.specs.declared.op.Op.TheVariants.{Session as OfSession, Put as OfPut, Ack}
 use Rattle.rep_ops.specs.Orders.{operation_cmp, put_cmp}
-use Rattle.rep_ops.specs.Sets.{same_client, operation_of, operations, operation_at, put_of, puts, put_at}
+use Rattle.rep_ops.specs.Sets.{same_client, operation_of, operation_at, put_of, put_at}
 use Rattle.rep_model.proofs.Readers.{operation_exact, put_exact, same_client-true}
 
 head_of : {X : Type 0} (x : X) (xs : List X) → Contains (x ∷ xs) x
@@ -40,7 +40,7 @@ operation_occurs c (OfSession d stamp counter o ∷ S) name change e =
                 let content : o ≡ change = cc in
                 let whose : c ≡ d = same_client-true c d same in
                 let whole : OfSession d stamp counter o ≡ OfSession c name.0 name.1 change =
-                    ap (λ x. OfSession x stamp counter o) (sym whose) ∙ (ap (λ x. OfSession c stamp counter x) content ∙ ap (λ (n : Stamp × ℕ). OfSession c n.0 n.1 change) (sym names)) in
+                ap (λ x. OfSession x stamp counter o) (sym whose) ∙ (ap (λ x. OfSession c stamp counter x) content ∙ ap (λ (n : Stamp × ℕ). OfSession c n.0 n.1 change) (sym names)) in
                 subst (λ op. Contains (OfSession d stamp counter o ∷ S) op) whole (head_of _ S)
             | false ↦ λ tie is. behind _ _ S (operation_occurs c S name change is)
           ] refl there

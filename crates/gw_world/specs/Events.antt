@@ -1,6 +1,6 @@
 -- What an event does to what the gateways keep. `olds` and `news` have for each gateway what its replica keeps in the place of
 -- what it has taken.
-use Rattle.std.specs.Prelude.{◌≡◌, ℕ, ◌-◌, ◌≤◌, List, [], ◌∷◌, ◌++◌, Option, Some, None, Result, Ok, Err, slice_get, slice_set}
+use Rattle.std.specs.Prelude.{◌≡◌, ℕ, ◌+◌, ◌-◌, ◌≤◌, take, Vec, List, [], ◌++◌, Some, None, Result, Ok, Err, slice_get, slice_set}
 use Rattle.std.specs.Option.{option_to_list}
 use Rattle.rep_ops.specs.declared.op.Op.{Op}
 use Rattle.sn_flow.specs.declared.config.Addr.{Addr}
@@ -14,7 +14,9 @@ use Rattle.gw_world.specs.declared.world.WorldFault.{WorldFault}
 use Rattle.gw_world.specs.declared.world.WorldFault.TheVariants as stops
 use Rattle.gw_world.specs.Gateways.{Gateway, place_of}
 use Rattle.gw_world.specs.Plans.{FrameKept, TakeKept}
-use Rattle.gw_world.specs.Field.{shown, gateway_of}
+use Rattle.gw_world.specs.Field.{Field, Run, NoGateway, NamesNoDelta, shown, gateway_of}
+use Rattle.gw_world.specs.Keeping.{AreShown}
+use Rattle.std.specs.declared.alloc.Global.{Global}
 
 -- the delta that an answer tells of
 abbrev pub made_of : Result Out NodeFault → List (List Op)
@@ -80,3 +82,24 @@ IsStopKept olds deltas event number (stops.NoGateway n) = (n ≡ number) × (pla
 IsStopKept olds deltas event number (stops.NoDelta n) =
     ((i : ℕ) × (place_of (gateway_of event) olds ≡ Some i)) × IsMissing deltas event number (stops.NoDelta n)
 IsStopKept olds deltas event number stops.Memory = Unit {0}
+
+-- what the gateways keep after a list of events
+abbrev pub RunKept : List Gateway → List (List Op) → List Event → List Answer → List Gateway → List (List Op) → Type 0
+RunKept olds deltas events answers news next =
+    (field : Field) → AreShown field.gateways olds → field.deltas ≡ deltas
+    → (new : Field) × Run field events answers new × AreShown new.gateways news × (new.deltas ≡ next)
+
+abbrev pub PlayedKept : List Gateway → List (List Op) → List Event → List Gateway → List (List Op) → Vec Answer Global → Type 0
+PlayedKept olds deltas events news next answers = RunKept olds deltas events answers.items news next
+
+-- why a list of events stops
+abbrev pub StopsKept : List Gateway → List (List Op) → List Event → WorldFault → Type 0
+StopsKept olds deltas events (stops.NoGateway n) =
+    (field : Field) → AreShown field.gateways olds → field.deltas ≡ deltas
+    → (k : ℕ) × (new : Field) × (event : Event) × (answers : List Answer) × Run field (take k events) answers new × (slice_get events k ≡ Some event)
+    × (n ≡ k + 1) × NoGateway new (gateway_of event)
+StopsKept olds deltas events (stops.NoDelta n) =
+    (field : Field) → AreShown field.gateways olds → field.deltas ≡ deltas
+    → (k : ℕ) × (new : Field) × (event : Event) × (answers : List Answer) × Run field (take k events) answers new × (slice_get events k ≡ Some event)
+    × (n ≡ k + 1) × NamesNoDelta new event
+StopsKept olds deltas events stops.Memory = Unit {0}

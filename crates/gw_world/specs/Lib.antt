@@ -1,5 +1,6 @@
 pub mod Gateways
 pub mod Steps
+pub mod Worlds
 pub mod Events
 pub mod Field
 pub mod Keeping

@@ -76,7 +76,7 @@ FrameKept number kept bindings from bytes now (Ok out) next next_bindings =
 FrameKept number kept bindings from bytes now (Err fault) next next_bindings =
     (next ≡ kept) × (next_bindings ≡ bindings)
     × (IsNoPlanBy number kept bindings from bytes now fault
-      ⊎ ((plan : Plan) × IsPlanFor number kept bindings from bytes now (Some plan) × IsNotMade plan.ops kept fault))
+    ⊎ ((plan : Plan) × IsPlanFor number kept bindings from bytes now (Some plan) × IsNotMade plan.ops kept fault))
 
 -- what a delta does to them
 abbrev pub TakeKept : ℕ → List Op → List Binding → List Op → Result Out NodeFault → List Op → List Binding → Type 0

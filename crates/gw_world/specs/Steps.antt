@@ -12,7 +12,6 @@ use Rattle.rep_model.specs.Keep.{keep}
 use Rattle.rep_model.specs.Taking.{AllAgree}
 use Rattle.rep_model.specs.Limits.{first_passed}
 use Rattle.sn_frame.specs.declared.frame.Frame.{Frame}
-use Rattle.sn_frame.specs.declared.fault.FrameFault.{FrameFault}
 use Rattle.sn_frame.specs.Bodies.{IsValue}
 use Rattle.sn_frame.specs.Grammar.{Spells}
 use Rattle.sn_frame.specs.Faults.{IsFirstFault}

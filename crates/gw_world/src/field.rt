@@ -6,15 +6,13 @@ ghost use Rattle.gw_world.specs.Events.{FrameAt, TakeAt};
 ghost use Rattle.gw_world.specs.Field.{shown};
 ghost use Rattle.gw_world.specs.Gateways.{place_of as gateway_place};
 
-use std::alloc::Global;
-
+use super::event::Out;
+use super::node::{Node, Trouble};
 use octets::Sequence;
 use rep_model::{ClientView, Replica};
 use rep_ops::{ClientId, Delta};
 use sn_flow::Addr;
-
-use super::event::Out;
-use super::node::{Node, Trouble};
+use std::alloc::Global;
 
 /// The place of the gateway of this number.
 pub fn place_of<R: Replica>(nodes: &[Node<R>], number: u8) -> Option<usize>

@@ -8,15 +8,13 @@ ghost use Rattle.rep_model.specs.Keep.{IsKeptOf};
 ghost use Rattle.rep_ops.specs.Making.{IsDeltaOf};
 ghost use Rattle.gw_world.specs.Plans.{IsPlanFor, IsNoPlan, IsRefusedBy, MakeNoDelta, IsNotMadeBy, Makes, OnRefusal};
 
-use std::alloc::{AllocError, AllocFailed, Global};
-
+use super::event::{NodeFault, Out};
 use octets::Sequence;
 use rep_model::{Replica, TakeFault};
 use rep_ops::{Delta, Op, OpsFault};
 use sn_flow::{Addr, Config, Dialogs, Plan, StepFault, step};
 use sn_frame::{FrameFault, decode};
-
-use super::event::{NodeFault, Out};
+use std::alloc::{AllocError, AllocFailed, Global};
 
 /// Why a gateway gave no answer of the wanted kind.
 #[derive(Debug, Drop)]
@@ -118,7 +116,9 @@ fn take_in<R: Replica>(alloc: Global, replica: &mut R, delta: &Delta) -> Result<
             replica.commit(staged);
             Ok(())
         }
-        Err(TakeFault::Conflict { client }) => Err(Trouble::Refused(NodeFault::Conflict { client })),
+        Err(TakeFault::Conflict { client }) => Err(Trouble::Refused(NodeFault::Conflict {
+            client,
+        })),
         Err(TakeFault::Full { .. }) => Err(Trouble::Refused(NodeFault::Full)),
         Err(TakeFault::Memory) => Err(Trouble::Memory),
     }
@@ -137,11 +137,7 @@ fn delta_of(alloc: Global, ops: Vec<Op>) -> Result<Delta, Trouble>
 }
 
 /// Makes one delta of operations, if there are any, and takes it.
-fn make<R: Replica>(
-    alloc: Global,
-    replica: &mut R,
-    ops: Vec<Op>,
-) -> Result<Option<Delta>, Trouble>
+fn make<R: Replica>(alloc: Global, replica: &mut R, ops: Vec<Op>) -> Result<Option<Delta>, Trouble>
     ensures ok { IfOk result (λ made. Makes ops.items made (R.kept replica.old) (R.kept replica.new)) }
     ensures err { OnErr result (R.kept replica.new ≡ R.kept replica.old) }
     ensures refused { IfErr result (IsNotMadeBy ops.items (R.kept replica.old)) }

@@ -2,19 +2,20 @@
 
 ghost use Rattle.std.specs.Prelude.{◌≡◌, ◌++◌, ◌<◌, List, MatchOption, IfOk, IfErr, OnOk, map, vec_len};
 ghost use Rattle.std.specs.Option.{option_to_list};
-ghost use Rattle.gw_world.specs.Events.{FrameAnswered, TakeAnswered, ShowAnswered, IsListed, EventAt, EventKept, IsMissing, IsStopKept};
+ghost use Rattle.gw_world.specs.Events.{FrameAnswered, TakeAnswered, ShowAnswered, IsListed, EventAt, EventKept, IsMissing, IsStopKept, PlayedKept, StopsKept};
+ghost use Rattle.gw_world.specs.Gateways.{new_gateway};
+ghost use Rattle.gw_world.specs.Worlds.{IsWorld, IsStop};
 ghost use Rattle.rep_ops.specs.declared.op.Op.{Op};
-
-use std::alloc::Global;
-
-use rep_model::Replica;
-use rep_ops::Delta;
-use sn_flow::{Addr, Config};
 
 use super::event::{Answer, Event};
 use super::field::{frame_at, place_of, show_at, take_at};
 use super::node::{Node, Trouble};
 use super::world::{World, WorldFault};
+use octets::Sequence;
+use rep_model::Replica;
+use rep_ops::Delta;
+use sn_flow::{Addr, Config, Dialogs};
+use std::alloc::Global;
 
 /// Puts the delta that an answer tells of on the list.
 fn record(alloc: Global, deltas: &mut Vec<Delta>, made: &Option<Delta>) -> Result<(), WorldFault>
@@ -110,7 +111,10 @@ fn play_at<R: Replica>(
 {
     match event {
         Event::Frame {
-            from, bytes, now, ..
+            from,
+            bytes,
+            now,
+            ..
         } => play_frame(alloc, nodes, deltas, place, *from, bytes.as_slice(), *now),
         Event::Take { delta, .. } => match delta_at(deltas.as_slice(), *delta) {
             Some(delta) => play_take(alloc, nodes, place, delta),
@@ -137,11 +141,80 @@ fn play_event<R: Replica>(
     }
 }
 
-/// Runs a field of gateways.
+/// The gateways of these configs, each of which has taken nothing.
+fn new_nodes<R: Replica>(alloc: Global, configs: &[Config]) -> Result<Vec<Node<R>>, WorldFault>
+    ensures ok { IfOk result (λ nodes. (map (λ node. record { number = node.config.gateway; taken = R.kept node.replica; bindings = node.dialogs.bindings }) nodes.items) ≡ map new_gateway configs.now) }
+    ensures err { IfErr result (λ fault. fault ≡ WorldFault.Memory) }
+{
+    let mut nodes = Vec::with_capacity(alloc, configs.len())?;
+    for config in configs {
+        nodes.push(Node {
+            config: *config,
+            replica: R::empty(alloc)?,
+            dialogs: Dialogs::empty(alloc),
+        })?;
+    }
+    Ok(nodes)
+}
+
+/// The replicas of the gateways, in their order.
+fn replicas_of<R: Replica>(alloc: Global, nodes: Vec<Node<R>>) -> Result<Vec<R>, WorldFault>
+    ensures ok { IfOk result (λ replicas. replicas.items ≡ map (λ node. node.replica) nodes.items) }
+    ensures err { IfErr result (λ fault. fault ≡ WorldFault.Memory) }
+{
+    let mut replicas = Vec::with_capacity(alloc, nodes.len())?;
+    for node in nodes {
+        let Node { replica, .. } = node;
+        replicas.push(replica)?;
+    }
+    Ok(replicas)
+}
+
+/// Plays the events, one after the other.
+fn play_all<R: Replica>(
+    alloc: Global,
+    nodes: &mut Vec<Node<R>>,
+    deltas: &mut Vec<Delta>,
+    events: &[Event],
+) -> Result<Vec<Answer>, WorldFault>
+    ensures ok { IfOk result (PlayedKept (map (λ node. record { number = node.config.gateway; taken = R.kept node.replica; bindings = node.dialogs.bindings }) nodes.old.items) deltas.old.items events.now (map (λ node. record { number = node.config.gateway; taken = R.kept node.replica; bindings = node.dialogs.bindings }) nodes.new.items) deltas.new.items) }
+    ensures err { IfErr result (StopsKept (map (λ node. record { number = node.config.gateway; taken = R.kept node.replica; bindings = node.dialogs.bindings }) nodes.old.items) deltas.old.items events.now) }
+{
+    let mut answers = Vec::with_capacity(alloc, events.len())?;
+    for (index, event) in events.iter().enumerate() {
+        let number = index as u64 + 1;
+        let answer = match play_event(alloc, nodes, deltas, event, number) {
+            Ok(answer) => answer,
+            Err(fault) => return Err(fault),
+        };
+        answers.push(answer)?;
+    }
+    Ok(answers)
+}
+
+/// Runs a field of gateways: the gateways of these configs begin with nothing, and the events come one
+/// after the other.
+///
+/// The result has an answer for each event, the deltas that were made, and the replicas of the gateways.
+/// There is none where an event names a gateway or a delta that is not there, or memory runs out.
 pub fn run<R: Replica>(
-    _alloc: Global,
-    _configs: &[Config],
-    _events: &[Event],
-) -> Result<World<R>, WorldFault> {
-    Err(WorldFault::Memory)
+    alloc: Global,
+    configs: &[Config],
+    events: &[Event],
+) -> Result<World<R>, WorldFault>
+    ensures ok { IfOk result (λ world. IsWorld (λ replica. R.kept replica) configs.now events.now world.answers world.deltas world.gateways) }
+    ensures err { IfErr result (IsStop configs.now events.now) }
+{
+    let mut nodes = new_nodes(alloc, configs)?;
+    let mut deltas = Vec::new(alloc);
+    let answers = match play_all(alloc, &mut nodes, &mut deltas, events) {
+        Ok(answers) => answers,
+        Err(fault) => return Err(fault),
+    };
+    let gateways = replicas_of(alloc, nodes)?;
+    Ok(World {
+        answers: Sequence::new(answers),
+        deltas: Sequence::new(deltas),
+        gateways: Sequence::new(gateways),
+    })
 }

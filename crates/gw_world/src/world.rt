@@ -5,6 +5,7 @@ ghost use Rattle.gw_world.specs.declared.world.WorldFault.TheVariants.{Memory};
 
 use super::event::Answer;
 use octets::Sequence;
+use rep_model::TakeFault;
 use rep_ops::{Delta, OpsFault};
 use std::alloc::{AllocError, AllocFailed};
 use thiserror::Error;
@@ -52,6 +53,14 @@ impl From<OpsFault> for WorldFault {
     ghost from_gives = { λ _ e. e ≡ Memory };
 
     fn from(_error: OpsFault) -> WorldFault {
+        WorldFault::Memory
+    }
+}
+
+impl From<TakeFault> for WorldFault {
+    ghost from_gives = { λ _ e. e ≡ Memory };
+
+    fn from(_error: TakeFault) -> WorldFault {
         WorldFault::Memory
     }
 }

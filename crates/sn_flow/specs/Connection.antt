@@ -1,5 +1,5 @@
 -- The rows of CONNECT and DISCONNECT (MQTT-SN 1.2 sections 6.2, 6.12 and 6.14).
-use Rattle.std.specs.Prelude.{ℕ, ◌==◌, ◌^◌, Bool, true, false, ◌&&◌, not, if◌then◌else◌, nat_le, List, [], ◌∷◌, map, length, Option, Some, None, bit_and, unwrap_or}
+use Rattle.std.specs.Prelude.{ℕ, ◌==◌, ◌^◌, Bool, true, false, ◌&&◌, not, if◌then◌else◌, nat_le, List, [], map, length, Option, Some, None, bit_and, unwrap_or}
 use Rattle.sn_session.specs.declared.session.Presence.TheVariants.{Active, Asleep, Disconnected}
 use Rattle.sn_session.specs.declared.session.Session.{Session}
 use Rattle.sn_session.specs.declared.session.SessionOp.TheVariants.{Take, Presence}
@@ -32,9 +32,9 @@ cleared clean waiting = if clean then map name_of waiting else []
 abbrev pub accept : Addr → List ℕ → Option Session → List Put → Bool → ℕ → ℕ → Drafted
 accept a c session waiting clean duration now =
     sent a (frames.ConnAck 0)
-      (moved (Bind a c now)
-        (acked_all (cleared clean waiting)
-          (changed (Take (accepted clean duration session)) nothing)))
+    (moved (Bind a c now)
+    (acked_all (cleared clean waiting)
+    (changed (Take (accepted clean duration session)) nothing)))
 
 -- whether there is no room for the client: it is new, and 1,024 are there
 abbrev pub has_no_room : Seen → List ℕ → Bool

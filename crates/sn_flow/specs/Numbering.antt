@@ -1,12 +1,11 @@
 -- From a draft to operations under names of the gateway's own.
-use Rattle.std.specs.Prelude.{ℕ, ◌+◌, ◌==◌, Bool, true, false, if◌then◌else◌, nat_lt, List, [], ◌∷◌, ◌++◌, map, fold, Option, Some, None, option_and_then, unwrap_or}
+use Rattle.std.specs.Prelude.{ℕ, ◌+◌, ◌==◌, if◌then◌else◌, nat_lt, List, [], ◌∷◌, ◌++◌, map, Option, Some, None, option_and_then, unwrap_or}
 use Rattle.std.specs.Option.{option_map}
 use Rattle.sn_session.specs.declared.session.Session.{Session}
 use Rattle.sn_session.specs.declared.session.SessionOp.{SessionOp}
 use Rattle.sn_session.specs.declared.session.SessionOp.TheVariants.{Take}
-use Rattle.sn_session.specs.Session.{applied, empty_session, is_take}
+use Rattle.sn_session.specs.Session.{applied, empty_session}
 use Rattle.rep_ops.specs.declared.op.Stamp.{Stamp}
-use Rattle.rep_ops.specs.declared.op.Put.{Put}
 use Rattle.rep_ops.specs.declared.op.Op.{Op}
 use Rattle.rep_ops.specs.declared.op.Op.TheVariants.{Session as OfSession, Put as OfPut, Ack}
 use Rattle.rep_model.specs.declared.view.ClientView.{ClientView}

@@ -1,5 +1,5 @@
 -- The plan of a step, and what a step reads.
-use Rattle.std.specs.Prelude.{◌≡◌, ℕ, Bool, List, [], Option, Some, None, Result, Ok, Err, MatchResult, ⊤}
+use Rattle.std.specs.Prelude.{◌≡◌, ℕ, Bool, List, [], Option, Some, None, Result, MatchResult, ⊤}
 use Rattle.rep_ops.specs.declared.op.Op.{Op}
 use Rattle.rep_model.specs.declared.view.ClientView.{ClientView}
 use Rattle.rep_model.specs.Views.{view, is_named, clients}

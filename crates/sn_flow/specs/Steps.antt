@@ -11,7 +11,7 @@ use Rattle.sn_session.specs.declared.session.Session.{Session}
 use Rattle.sn_flow.specs.declared.config.Addr.{Addr}
 use Rattle.sn_flow.specs.declared.local.Binding.{Binding}
 use Rattle.sn_flow.specs.declared.plan.Plan.{Plan}
-use Rattle.sn_flow.specs.Drafts.{Drafted, nothing, sent}
+use Rattle.sn_flow.specs.Drafts.{nothing, sent}
 use Rattle.sn_flow.specs.Plans.{Seen, plan_without}
 use Rattle.sn_flow.specs.Bindings.{client_at}
 use Rattle.sn_flow.specs.Connection.{connect, disconnect, turned_away}

@@ -5,11 +5,10 @@ ghost use Rattle.std.specs.Vec.{vec_capacity};
 ghost use Rattle.sn_flow.specs.Bindings.{after_local, after_all, bound, unbound, is_apart as is_apart_from, is_of_other as is_of_another, has_owned as has_owned_client, owned};
 ghost use Rattle.sn_flow.specs.Plans.{seen_of};
 
-use rep_model::Replica;
-use rep_ops::ClientId;
-
 use super::config::Addr;
 use super::local::{Binding, LocalChange};
+use rep_model::Replica;
+use rep_ops::ClientId;
 
 /// Whether a binding has neither the address nor the client.
 fn is_apart(address: Addr, client: &ClientId, binding: &Binding) -> bool
@@ -63,7 +62,9 @@ fn commit_one(bindings: &mut Vec<Binding>, change: LocalChange)
 {
     match change {
         LocalChange::Bind {
-            address, client, ..
+            address,
+            client,
+            ..
         } => bind(bindings, address, client),
         LocalChange::Unbind { client } => unbind(bindings, &client),
     }

@@ -10,18 +10,16 @@ ghost use Rattle.sn_flow.specs.Plans.{Gives, seen_of};
 ghost use Rattle.sn_flow.specs.Drafts.{acked_all, nothing, sent};
 ghost use Rattle.sn_flow.specs.Connection.{has_bit, cleared, accepted as accepted_session, accept as accept_draft, has_no_room as has_none, refusal_of as refused_by, connect as connect_plan, connect_draft as drafted_connect, disconnect as disconnect_plan, disconnect_draft as drafted_disconnect, turned_away as away};
 
-use std::alloc::Global;
-
-use rep_model::Replica;
-use rep_ops::{ClientId, Put};
-use sn_frame::{Flags, Frame};
-use sn_session::{Presence, Session, SessionOp};
-
 use super::config::{Addr, Config};
 use super::draft::Draft;
 use super::fault::StepFault;
 use super::local::LocalChange;
 use super::plan::{Plan, plan_of, plan_without};
+use rep_model::Replica;
+use rep_ops::{ClientId, Put};
+use sn_frame::{Flags, Frame};
+use sn_session::{Presence, Session, SessionOp};
+use std::alloc::Global;
 
 /// How many clients a gateway admits.
 const MAX_CLIENTS: usize = 1024;
@@ -31,7 +29,9 @@ const PROTOCOL: u8 = 1;
 
 /// CONNACK's codes (MQTT-SN 1.2 section 5.3.10).
 const ACCEPTED: u8 = 0;
+
 const CONGESTION: u8 = 1;
+
 const NOT_SUPPORTED: u8 = 3;
 
 fn is_clean(flags: Flags) -> bool
@@ -104,11 +104,7 @@ fn accept(
 }
 
 /// Whether there is no room for the client.
-fn has_no_room<R: Replica>(
-    alloc: Global,
-    replica: &R,
-    client: &ClientId,
-) -> Result<bool, StepFault>
+fn has_no_room<R: Replica>(alloc: Global, replica: &R, client: &ClientId) -> Result<bool, StepFault>
     ensures ok { IfOk result (λ none. none ≡ has_none (seen_of (R.kept replica.now)) client.now) }
     ensures err { IfErr result (λ fault. fault ≡ StepFault.Memory) }
 {

@@ -2,15 +2,13 @@
 
 ghost use Rattle.std.specs.Prelude.{◌≡◌, ◌≤◌, length, OnOk};
 
-use std::alloc::{AllocError, Global};
-use std::marker::Model;
-
+use super::bindings::{commit_all, keep_owned};
+use super::config::Addr;
 use octets::Sequence;
 use rep_model::Replica;
 use rep_ops::ClientId;
-
-use super::bindings::{commit_all, keep_owned};
-use super::config::Addr;
+use std::alloc::{AllocError, Global};
+use std::marker::Model;
 
 /// An address and the client that speaks from it.
 #[derive(Debug, Drop)]
@@ -29,7 +27,9 @@ pub enum LocalChange {
         moment: u64,
     },
     /// The client has no address any more.
-    Unbind { client: ClientId },
+    Unbind {
+        client: ClientId,
+    },
 }
 
 /// The local state of a gateway: which address is which client. It begins empty, and is gone when the

@@ -5,15 +5,13 @@ ghost use Rattle.rep_model.specs.Fresh.{one_more as next_number, next_seq};
 ghost use Rattle.sn_flow.specs.Numbering.{with_puts, ack_of};
 ghost use Rattle.sn_flow.specs.Plans.{Becomes};
 
-use std::alloc::{AllocError, Global};
-use std::marker::Model;
-
+use super::draft::NewPut;
+use super::fault::StepFault;
 use rep_model::{ClientView, Replica};
 use rep_ops::{ClientId, Op, Put, Stamp};
 use sn_session::{Session, SessionOp};
-
-use super::draft::NewPut;
-use super::fault::StepFault;
+use std::alloc::{AllocError, Global};
+use std::marker::Model;
 
 /// How many operations stand under one stamp.
 const MAX_COUNTER: u16 = 256;

@@ -6,17 +6,15 @@ ghost use Rattle.rep_model.specs.Fresh.{next_epoch, next_seq};
 ghost use Rattle.sn_flow.specs.Numbering.{start_of, rest_of as defined_rest};
 ghost use Rattle.sn_flow.specs.Plans.{Gives, seen_of, plan_of as defined_plan, plan_without as defined_without};
 
-use std::alloc::Global;
-
-use octets::Sequence;
-use rep_model::Replica;
-use rep_ops::{ClientId, Op};
-
 use super::config::Send;
 use super::draft::Draft;
 use super::fault::StepFault;
 use super::local::LocalChange;
 use super::numbering::{Writer, append_acks, number_puts};
+use octets::Sequence;
+use rep_model::Replica;
+use rep_ops::{ClientId, Op};
+use std::alloc::Global;
 
 /// What a step does. Nothing of it is done yet.
 #[derive(Debug, Drop)]

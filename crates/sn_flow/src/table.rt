@@ -10,20 +10,18 @@ ghost use Rattle.sn_frame.specs.FlagBits.{qos_of};
 ghost use Rattle.rep_ops.specs.ClientIds.{IsClientId};
 ghost use Rattle.rep_model.specs.Views.{view};
 
-use std::alloc::Global;
-
-use octets::Octets;
-use rep_model::Replica;
-use rep_ops::ClientId;
-use sn_frame::{Flags, Frame, Qos};
-use sn_session::Presence;
-
 use super::config::{Addr, Config};
 use super::connection::{connect, disconnect, turn_away};
 use super::draft::Draft;
 use super::fault::StepFault;
 use super::local::Dialogs;
 use super::plan::{Plan, plan_without};
+use octets::Octets;
+use rep_model::Replica;
+use rep_ops::ClientId;
+use sn_frame::{Flags, Frame, Qos};
+use sn_session::Presence;
+use std::alloc::Global;
 
 /// Nothing is done.
 fn quiet(alloc: Global) -> Plan

@@ -11,8 +11,8 @@ returns-in-Some-clause-ok g c =
 pub returns-in-Some-clause-err : goal.returns-in-Some-clause-err
 returns-in-Some-clause-err g c =
     IfErr-weaker c.play_at.result _ _
-      (λ fault h. missing_stops _ _ c.args.event.now c.args.number fault c.in-Some.place (sym (rw (c.as_slice.ensures.value, c.gateway.ensures) at c.in-Some.ensures.place)) h)
-      c.play_at.ensures.err
+    (λ fault h. missing_stops _ _ c.args.event.now c.args.number fault c.in-Some.place (sym (rw (c.as_slice.ensures.value, c.gateway.ensures) at c.in-Some.ensures.place)) h)
+    c.play_at.ensures.err
 
 pub returns-in-None-clause-err : goal.returns-in-None-clause-err
 returns-in-None-clause-err g c = (refl, sym (rw (c.as_slice.ensures.value, c.gateway.ensures) at c.in-None.ensures.place))

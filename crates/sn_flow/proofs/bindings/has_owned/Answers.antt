@@ -8,5 +8,5 @@ use Rattle.sn_flow.proofs.bindings.has_owned.Goals as goal
 pub returns-in-None : goal.returns-in-None
 returns-in-None g c =
     subst (λ (v : ClientView). false ≡ is_stamp_of c.args.gateway v.stamp)
-      (sym (view_unseen c.args.binding.now.client (g.R.Replica.kept c.args.replica.now) c.in-None.ensures))
-      refl
+    (sym (view_unseen c.args.binding.now.client (g.R.Replica.kept c.args.replica.now) c.in-None.ensures))
+    refl

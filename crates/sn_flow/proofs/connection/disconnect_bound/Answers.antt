@@ -9,5 +9,5 @@ use Rattle.sn_flow.proofs.connection.disconnect_bound.Goals as goal
 pub returns-in-None-clause-ok : goal.returns-in-None-clause-ok
 returns-in-None-clause-ok g c =
     subst (λ (v : ClientView). IfOk c.disconnect_draft-in-None.result (λ draft. draft ≡ drafted_disconnect c.args.to c.args.client.now (unwrap_or v.session empty_session) c.args.duration))
-      (sym (view_unseen c.args.client.now (g.R.Replica.kept c.args.replica.now) c.in-None.ensures))
-      (rw c.empty-in-None.ensures at c.disconnect_draft-in-None.ensures.ok)
+    (sym (view_unseen c.args.client.now (g.R.Replica.kept c.args.replica.now) c.in-None.ensures))
+    (rw c.empty-in-None.ensures at c.disconnect_draft-in-None.ensures.ok)

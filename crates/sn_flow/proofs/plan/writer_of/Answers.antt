@@ -1,6 +1,6 @@
 -- A client that no operation names has the view of an unseen client.
-use Rattle.std.proofs.Common.{◌≡◌, sym, ap, ◌∙◌}
-use Rattle.rep_model.specs.Views.{view, unseen}
+use Rattle.std.proofs.Common.{sym, ap, ◌∙◌}
+use Rattle.rep_model.specs.Views.{unseen}
 use Rattle.rep_model.specs.Fresh.{next_epoch}
 use Rattle.sn_flow.specs.Numbering.{start_of}
 use Rattle.sn_flow.proofs.Unseen.{view_unseen}

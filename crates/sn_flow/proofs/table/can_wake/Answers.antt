@@ -8,5 +8,5 @@ use Rattle.sn_flow.proofs.table.can_wake.Goals as goal
 pub returns-in-None : goal.returns-in-None
 returns-in-None g c =
     subst (λ (v : ClientView). false ≡ can_wake_at v.session)
-      (sym (view_unseen c.args.client.now (g.R.Replica.kept c.args.replica.now) c.in-None.ensures))
-      refl
+    (sym (view_unseen c.args.client.now (g.R.Replica.kept c.args.replica.now) c.in-None.ensures))
+    refl

@@ -1,4 +1,3 @@
-use Rattle.std.proofs.Common.{◌≡◌}
 use Rattle.sn_flow.proofs.table.connected.Goals as goal
 
 pub returns : goal.returns

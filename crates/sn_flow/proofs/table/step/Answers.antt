@@ -1,4 +1,3 @@
-use Rattle.std.proofs.Common.{◌≡◌}
 use Rattle.sn_flow.proofs.table.step.Goals as goal
 
 pub returns-in-PingReq : goal.returns-in-PingReq
