@@ -8,8 +8,15 @@ use Rattle.gw_sim.specs.declared.fault.LineFault.{LineFault}
 use Rattle.gw_sim.specs.declared.fault.LineFault.TheVariants as faults
 use Rattle.gw_sim.specs.declared.script.Script.{Script}
 use Rattle.gw_sim.specs.Commands.{Spells, Reads}
-use Rattle.gw_sim.specs.Scripts.{Extends, IsScriptOf, IsBadLine}
-use Rattle.gw_sim.specs.Scripts.IsScriptOf.{more}
+use Rattle.std.proofs.Common.{rules}
+use Rattle.std.proofs.lemmas.Bool.{eq-eqb}
+use Rattle.std.proofs.lemmas.List.Elements.{All-nil, All-push}
+use Rattle.std.proofs.lemmas.List.Folds.{list_any_at}
+use Rattle.std.proofs.lemmas.List.Quantifiers.{all_pairs_push}
+use Rattle.sn_flow.specs.declared.config.Config.{Config}
+use Rattle.gw_sim.specs.declared.command.Command.TheVariants as commands
+use Rattle.gw_sim.specs.Scripts.{AreGateways, config_of, has_gateway, Extends, IsScriptOf, IsBadLine}
+use Rattle.gw_sim.specs.Scripts.IsScriptOf.{none, more}
 
 -- the octets of lines
 abbrev pub octets_of : List (Bor (List ℕ)) → List (List ℕ)
@@ -59,3 +66,26 @@ bad_line lines all i k d before within same next read refused =
       read = subst Q (sym back) (subst R same read);
       refused = refused;
     }
+
+-- where no gateway has the number, the gateway at each place has another
+others : (configs : List Config) (number k : ℕ) (d : Config) → has_gateway configs number ≡ false → k < length configs
+    → (get_or configs k d).gateway ≢ number
+others configs number k d absent within same =
+    let test : Config → Bool = λ config. config.gateway == number in
+    let found : has_gateway configs number ≡ true = list_any_at test configs k d within (eq-eqb _ _ same) in
+    cc
+
+-- the gateways of a script are such as a field may have
+pub gateways : (lines : List (List ℕ)) (script : Script) → IsScriptOf lines script → AreGateways script.configs
+gateways lines script none = record { some = All-nil _; different = search rules }
+gateways lines script (more earlier line before after read (inl same)) =
+    let P : Script → Type 0 = λ s. AreGateways s.configs in subst P (sym same.1) (gateways earlier before read)
+gateways lines script (more earlier line before after read (inr (commands.Gateway number, spells, adds))) =
+    let P : Script → Type 0 = λ s. AreGateways s.configs in
+    let old : AreGateways before.configs = gateways earlier before read in
+    subst P (sym adds.3) (record {
+      some = All-push (λ (config : Config). config.gateway ≢ 0) before.configs (config_of number) old.some adds.1;
+      different = all_pairs_push (λ (a b : Config). a.gateway ≢ b.gateway) before.configs (config_of number) old.different (λ k d within. others before.configs number k d adds.2 within);
+    })
+gateways lines script (more earlier line before after read (inr (commands.Happens event, spells, adds))) =
+    let P : Script → Type 0 = λ s. AreGateways s.configs in subst P (sym adds) (gateways earlier before read)

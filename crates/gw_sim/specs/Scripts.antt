@@ -1,5 +1,5 @@
 -- A script: gateways, and then events.
-use Rattle.std.specs.Prelude.{◌≡◌, ◌≢◌, ◌==◌, ℕ, ◌-◌, ◌<◌, ◌⊎◌, Bool, false, List, [], ◌∷◌, ◌++◌, take, slice_get, Some}
+use Rattle.std.specs.Prelude.{◌≡◌, ◌≢◌, ◌==◌, ℕ, ◌-◌, ◌<◌, ◌⊎◌, Bool, false, List, [], ◌∷◌, ◌++◌, take, slice_get, Some, All, AllPairs}
 use Rattle.std.specs.List.{list_any}
 use Rattle.sn_flow.specs.declared.config.Config.{Config}
 use Rattle.gw_sim.specs.declared.command.Command.{Command}
@@ -14,6 +14,11 @@ config_of number = record { gateway = number }
 -- whether a gateway has the number
 abbrev pub has_gateway : List Config → ℕ → Bool
 has_gateway configs number = list_any (λ config. config.gateway == number) configs
+
+-- gateways as a field may have them: each has a number that is not 0, and no two have the same
+pub record AreGateways (configs : List Config) : Type 0 where
+  pub some : All (λ config. config.gateway ≢ 0) configs
+  pub different : AllPairs (λ a b. a.gateway ≢ b.gateway) configs
 
 -- the script that says nothing
 abbrev pub empty_script : Script

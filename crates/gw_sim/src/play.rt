@@ -1,7 +1,10 @@
 //! A script from its reading to the exit status.
 
-ghost use Rattle.std.specs.Prelude.{◌≡◌, ◌+◌, ◌≤◌, ◌^◌, IfOk, ◌⊎◌};
-ghost use Rattle.std.specs.Io.KnownBytes.{IsAtEnd};
+ghost use Rattle.std.specs.Prelude.{◌≡◌, ◌+◌, ◌≤◌, ◌^◌, IfOk, OnOk, IfSome, List, ◌⊎◌, string_bytes};
+ghost use Rattle.std.specs.Io.KnownBytes.{IsAtEnd, Appends};
+ghost use Rattle.gw_world.specs.declared.event.Answer.{Answer};
+ghost use Rattle.gw_sim.specs.Playing.{IsAnswered, IsOutcome};
+ghost use Rattle.gw_sim.specs.Printing.{answers_text};
 
 use super::fault::ScriptFault;
 use super::printing::{print_answers, print_bad_line, print_world_fault};
@@ -19,6 +22,8 @@ pub fn play<S: Source, W: Write>(alloc: Global, source: &mut S, writer: &mut W) 
     ensures reads { S.reads source.new ≤ S.reads source.old + 2 ^ 24 }
     ensures ended { result ≡ 0 → IsAtEnd (S.remaining source.new) }
     ensures status { result ≤ 1 }
+    // What is written is what the gateways answered, and nothing else.
+    ensures printed { result ≡ 0 → IfSome (S.remaining source.old) (λ text. (answers : List Answer) × IsAnswered text answers × Appends (W.contents writer.old) (W.contents writer.new) (answers_text 0 answers)) }
 {
     play_with::<Held, S, W>(alloc, source, writer)
 }
@@ -32,6 +37,8 @@ pub fn play_with<R: Replica, S: Source, W: Write>(
     ensures reads { S.reads source.new ≤ S.reads source.old + 2 ^ 24 }
     ensures ended { result ≡ 0 → IsAtEnd (S.remaining source.new) }
     ensures status { result ≤ 1 }
+    // What is written is what the gateways answered, and nothing else.
+    ensures printed { result ≡ 0 → IfSome (S.remaining source.old) (λ text. (answers : List Answer) × IsAnswered text answers × Appends (W.contents writer.old) (W.contents writer.new) (answers_text 0 answers)) }
 {
     let text = match read_all(alloc, source) {
         Ok(text) => text,
@@ -46,7 +53,7 @@ pub fn play_with<R: Replica, S: Source, W: Write>(
 
 /// What is printed for a script, and the exit status.
 fn outcome<R: Replica>(alloc: Global, text: &[u8]) -> Result<(String, u8), AllocError>
-    ensures { IfOk result (λ told. told.1 ≤ 1) }
+    ensures { IfOk result (λ told. IsOutcome text.now (string_bytes told.0) told.1) }
 {
     let script = match parse(alloc, text) {
         Ok(script) => script,
@@ -62,7 +69,8 @@ fn outcome<R: Replica>(alloc: Global, text: &[u8]) -> Result<(String, u8), Alloc
 /// Writes a text, and gives the status, or 1 where the writing fails.
 fn print<W: Write>(text: &str, writer: &mut W, status: u8) -> u8
     requires { status ≤ 1 }
-    ensures { (result ≡ status) ⊎ (result ≡ 1) }
+    ensures status { (result ≡ status) ⊎ (result ≡ 1) }
+    ensures written { result ≡ 0 → Appends (W.contents writer.old) (W.contents writer.new) text.now }
 {
     match write_text(text, writer) {
         Ok(()) => status,
@@ -71,7 +79,9 @@ fn print<W: Write>(text: &str, writer: &mut W, status: u8) -> u8
 }
 
 /// Writes a text.
-fn write_text<W: Write>(text: &str, writer: &mut W) -> io::Result<()> {
+fn write_text<W: Write>(text: &str, writer: &mut W) -> io::Result<()>
+    ensures { OnOk result (Appends (W.contents writer.old) (W.contents writer.new) text.now) }
+{
     writer.write_all(text.as_bytes())?;
     writer.flush()
 }

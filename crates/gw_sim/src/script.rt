@@ -2,7 +2,7 @@
 
 ghost use Rattle.std.specs.Prelude.{◌≡◌, ℕ, IfOk};
 ghost use Rattle.gw_sim.specs.Commands.{lines_of};
-ghost use Rattle.gw_sim.specs.Scripts.{IsScriptOf, IsBadLine};
+ghost use Rattle.gw_sim.specs.Scripts.{AreGateways, IsScriptOf, IsBadLine};
 
 use super::command::{Command, cut, read_command};
 use super::fault::{LineFault, ScriptFault};
@@ -89,6 +89,7 @@ impl Script {
 /// The script that a text says.
 pub fn parse(alloc: Global, text: &[u8]) -> Result<Script, ScriptFault>
     ensures ok { IfOk result (IsScriptOf (lines_of text.now)) }
+    ensures gateways { IfOk result (λ script. AreGateways script.configs) }
     // The first bad line is told.
     ensures bad { (k : ℕ) → result ≡ Err (ScriptFault.Line k) → IsBadLine (lines_of text.now) k }
 {

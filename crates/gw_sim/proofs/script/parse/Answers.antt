@@ -1,6 +1,6 @@
 use Rattle.std.proofs.Common.{◌≡◌, take}
 use Rattle.gw_sim.specs.Scripts.IsScriptOf.{none}
-use Rattle.gw_sim.proofs.Growth.{octets_of, one_more, bad_line}
+use Rattle.gw_sim.proofs.Growth.{octets_of, one_more, bad_line, gateways}
 use Rattle.gw_sim.proofs.script.parse.Goals as goal
 
 pub loop-index-init : goal.loop-index-init
@@ -15,3 +15,6 @@ loop-index-preserved c = record {
 pub returns-in-Err-NotACommand-clause-bad : goal.returns-in-Err-NotACommand-clause-bad
 returns-in-Err-NotACommand-clause-bad c = λ k e.
     bad_line c.deref-line-items.result.now _ c.loop-index.index k _ c.loop-index.script c.loop-index-test.true c.loop-index.invariant.all (cc) c.loop-index.invariant.said (c.in-Err-NotACommand.ensures.refused cc)
+
+pub returns-clause-gateways : goal.returns-clause-gateways
+returns-clause-gateways c = gateways _ c.loop-index.script c.loop-index.invariant.said
