@@ -1,6 +1,6 @@
 //! What a line says.
 
-ghost use Rattle.std.specs.Prelude.{◌≡◌, ◌≢◌, ◌==◌, IfOk, MatchOption, map};
+ghost use Rattle.std.specs.Prelude.{◌≡◌, ◌≢◌, ◌==◌, ◌⊎◌, IfOk, MatchOption, map};
 ghost use Rattle.std.specs.List.{slice_split};
 ghost use Rattle.gw_sim.specs.declared.command.Word.TheVariants as words;
 ghost use Rattle.gw_sim.specs.Commands.{Reads, Says, Spells};
@@ -57,7 +57,9 @@ pub fn cut(alloc: Global, text: &[u8], at: u8) -> Result<Vec<&[u8]>, AllocError>
 
 /// The command that a line spells.
 pub fn read_command(alloc: Global, line: &[u8]) -> Result<Command, LineFault>
-    ensures { Reads (Spells line.now) result }
+    ensures reads { Reads (Spells line.now) result }
+    // What a line spells is read, unless memory runs out.
+    ensures only { (command : Command) → Spells line.now command → (result ≡ Ok command) ⊎ (result ≡ Err LineFault.Memory) }
 {
     let fields = cut(alloc, line, b' ')?;
     let Some((first, rest)) = fields.as_slice().split_first() else {

@@ -50,7 +50,8 @@ pub trait Source {
     fn read(&mut self, buf: &mut [u8]) -> io::Result<usize>
         ensures bound { ReadsAtMost result buf.new }
         ensures bytes { ReadConsumes (remaining self.old) (remaining self.new) result buf.new }
-        ensures count { reads self.new ≤ reads self.old + 1 };
+        ensures count { OnOk result (reads self.new ≡ reads self.old + 1) }
+        ensures most { reads self.new ≤ reads self.old + 1 };
 }
 
 /// A reader whose reads are counted.

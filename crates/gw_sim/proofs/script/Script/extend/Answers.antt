@@ -9,4 +9,4 @@ returns-in_err-command-clause-refused c = λ e.
     let same = p.2 in
     let told = p.1 in
     let was = c.in_err-command.was in
-    unreadable c.args.self.now c.args.line.now c.read_command.result c.read_command.ensures (cc) (not_empty c.args.line.now c.is_empty.result c.is_empty.ensures c.if-is_empty.false)
+    unreadable c.args.self.now c.args.line.now c.read_command.result c.read_command.ensures.reads (cc) (not_empty c.args.line.now c.is_empty.result c.is_empty.ensures c.if-is_empty.false)
