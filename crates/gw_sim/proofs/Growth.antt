@@ -1,6 +1,6 @@
 -- A script grows line by line.
-use Rattle.std.proofs.Common.{◌≡◌, ◌≢◌, ℕ, ◌+◌, ◌-◌, ◌<◌, ◌⊎◌, inl, inr, List, [], ◌∷◌, ◌++◌, length, get_or, map, take, Bor, Some, refl, ap, sym, subst, ◌∙◌, arith, Bool, true, false, ◌==◌}
-use Rattle.std.specs.Prelude.{Result, Ok, Err, slice_get}
+use Rattle.std.proofs.Common.{◌≡◌, ◌≢◌, ℕ, ◌+◌, ◌-◌, ◌<◌, inl, inr, List, [], ◌∷◌, ◌++◌, length, get_or, map, take, Bor, Some, ap, sym, subst, ◌∙◌, arith, Bool, true, false, ◌==◌}
+use Rattle.std.specs.Prelude.{Result, Err, slice_get}
 use Rattle.std.proofs.lemmas.List.{take_more, get_or-map, length-map}
 use Rattle.std.proofs.lemmas.Option.{slice_get-get_or}
 use Rattle.gw_sim.specs.declared.command.Command.{Command}

@@ -1,3 +1,4 @@
 pub mod Digits
-pub mod Lines
+mod Examples
 pub mod Growth
+pub mod Lines

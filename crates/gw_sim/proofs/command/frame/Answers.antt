@@ -1,4 +1,3 @@
-use Rattle.std.proofs.Common.{◌≡◌}
 use Rattle.gw_sim.proofs.Lines.{no_octets}
 use Rattle.gw_sim.proofs.command.frame.Goals as goal
 

@@ -1,5 +1,4 @@
-use Rattle.std.proofs.Common.{◌≡◌, ◌∷◌, map, ap, sym, ◌∙◌}
-use Rattle.gw_sim.specs.Commands.{fields_of}
+use Rattle.std.proofs.Common.{sym, ◌∙◌}
 use Rattle.gw_sim.proofs.Lines.{spelled, read_as}
 use Rattle.gw_sim.proofs.command.read_command.Goals as goal
 

@@ -1,4 +1,4 @@
-use Rattle.std.proofs.Common.{rules, ◌≡◌, ◌≢◌, ◌<◌, ℕ, arith, false, get_or}
+use Rattle.std.proofs.Common.{◌≢◌, arith, get_or}
 use Rattle.std.proofs.lemmas.Bool.Decides.{nat_tests}
 use Rattle.gw_sim.proofs.Digits.{digits_utf8, parsed}
 use Rattle.gw_sim.proofs.number.number.Goals as goal

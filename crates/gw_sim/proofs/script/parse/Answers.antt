@@ -1,6 +1,5 @@
-use Rattle.std.proofs.Common.{◌≡◌, take}
 use Rattle.gw_sim.specs.Scripts.IsScriptOf.{none}
-use Rattle.gw_sim.proofs.Growth.{octets_of, one_more, bad_line, gateways}
+use Rattle.gw_sim.proofs.Growth.{one_more, bad_line, gateways}
 use Rattle.gw_sim.proofs.script.parse.Goals as goal
 
 pub loop-index-init : goal.loop-index-init

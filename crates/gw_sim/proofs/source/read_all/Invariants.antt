@@ -1,4 +1,4 @@
-use Rattle.std.proofs.Common.{◌≡◌, ◌≤◌, ◌+◌}
+use Rattle.std.proofs.Common.{◌≤◌, ◌+◌}
 use Rattle.std.specs.Io.KnownBytes.{Consumes}
 use Rattle.gw_sim.proofs.source.read_all.Given as goal
 

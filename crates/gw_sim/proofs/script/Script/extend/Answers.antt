@@ -1,4 +1,3 @@
-use Rattle.std.proofs.Common.{◌≡◌}
 use Rattle.std.proofs.lemmas.Result.{err_from_is_err_and}
 use Rattle.gw_sim.proofs.Growth.{unreadable, not_empty}
 use Rattle.gw_sim.proofs.script.Script.extend.Goals as goal
