@@ -1,0 +1,22 @@
+#!/bin/sh
+# Builds gw_sim, plays a script of bench/script.py, and prints events per second.
+#
+# Usage: bench/play.sh [EVENTS] [GATEWAYS] [CLIENTS]
+set -eu
+top=$(cd "$(dirname "$0")/.." && pwd)
+work=$(mktemp -d)
+trap 'rm -rf "$work"' EXIT
+python3 "$top/bench/script.py" "$@" >"$work/script"
+events=$(grep -vc '^gateway' "$work/script")
+program=$top/crates/gw_sim/out/gw_sim
+if [ ! -x "$program" ] || [ -n "$(find "$top/crates" -name '*.rt' -newer "$program" | head -n 1)" ]; then
+    (cd "$top/crates/gw_sim" && rt run <"$work/script" >/dev/null) || true
+fi
+start=$(date +%s.%N)
+status=0
+"$program" <"$work/script" >"$work/printed" || status=$?
+end=$(date +%s.%N)
+lines=$(wc -l <"$work/printed")
+echo "$events events, $lines lines printed, status $status"
+[ "$status" -eq 0 ] || { head -n 1 "$work/printed"; exit 1; }
+awk -v n="$events" -v a="$start" -v b="$end" 'BEGIN { printf "%.3f s, %.0f events per second\n", b - a, n / (b - a) }'

@@ -1,0 +1,62 @@
+-- The definitions on worked examples.
+use Rattle.std.proofs.Common.{◌≡◌, ◌++◌, [], ◌∷◌, None, Some, refl}
+use Rattle.std.specs.Prelude.{codes, Ok}
+use Rattle.std.specs.Fmt.{digits}
+use Rattle.hex.specs.Hex.{decode_of, decode_pairs, encode_with}
+use Rattle.gw_world.specs.declared.event.Answer.TheVariants as answers
+use Rattle.gw_world.specs.declared.event.NodeFault.TheVariants as node_faults
+use Rattle.gw_world.specs.declared.world.WorldFault.TheVariants as world_faults
+use Rattle.sn_frame.specs.declared.fault.FrameFault.TheVariants as frame_faults
+use Rattle.gw_sim.specs.Commands.{fields_of}
+use Rattle.gw_sim.specs.Numbers.{value_of}
+use Rattle.gw_sim.specs.Printing.{line_end, send_line, fault_line, put_line, client_text, answers_text, world_fault_line, bad_line_text}
+
+-- a field of leading zeros
+zeros : value_of (codes "0040") ≡ 40
+zeros = refl
+
+-- a space too many makes an empty field
+fields : fields_of (codes "show  1") ≡ codes "show" ∷ [] ∷ codes "1" ∷ []
+fields = refl
+
+-- digits of either case
+letters : decode_of (codes "aF00") ≡ Ok (0xaf ∷ 0 ∷ [])
+unfolding decode_pairs
+letters = refl
+
+-- a CONNACK for port 7
+datagram : send_line (record { to = record { host = 0; port = 7 }; bytes = 3 ∷ 5 ∷ 0 ∷ [] }) ≡ codes "to 7 030500" ++ line_end
+unfolding digits encode_with
+datagram = refl
+
+-- two deltas, and a step that did nothing
+deltas : answers_text 0 (answers.Node (Ok (record { sends = []; made = Some [] })) ∷ answers.Node (Ok (record { sends = []; made = None }))
+    ∷ answers.Node (Ok (record { sends = []; made = Some [] })) ∷ [])
+    ≡ codes "delta 1" ++ line_end ++ codes "quiet" ++ line_end ++ codes "delta 2" ++ line_end
+unfolding digits
+deltas = refl
+
+-- a datagram of no octet
+no_frame : fault_line (node_faults.Frame frame_faults.Empty) ≡ codes "refused N1 F1" ++ line_end
+unfolding digits
+no_frame = refl
+
+-- a message of no octet
+waiting : put_line (record { origin = 2; seq = 1; topic = codes "ab"; qos = 0; body = [] }) ≡ codes "  put 1.2 0 6162 -" ++ line_end
+unfolding digits encode_with
+waiting = refl
+
+-- a client of which no Take came
+unknown : client_text (codes "s1", record { stamp = None; prefix = 0; session = None; pending = [] }) ≡ codes "client 7331 stamp none" ++ line_end
+unfolding digits encode_with
+unknown = refl
+
+-- why a run has no result
+no_gateway : world_fault_line (world_faults.NoGateway 3) ≡ codes "event 3: E1" ++ line_end
+unfolding digits
+no_gateway = refl
+
+-- a script's third line
+third : bad_line_text 3 ≡ codes "line 3: not a command" ++ line_end
+unfolding digits
+third = refl

@@ -1,0 +1,91 @@
+-- A script grows line by line.
+use Rattle.std.proofs.Common.{◌≡◌, ◌≢◌, ℕ, ◌+◌, ◌-◌, ◌<◌, inl, inr, List, [], ◌∷◌, ◌++◌, length, get_or, map, take, Bor, Some, ap, sym, subst, ◌∙◌, arith, Bool, true, false, ◌==◌}
+use Rattle.std.specs.Prelude.{Result, Err, slice_get}
+use Rattle.std.proofs.lemmas.List.{take_more, get_or-map, length-map}
+use Rattle.std.proofs.lemmas.Option.{slice_get-get_or}
+use Rattle.gw_sim.specs.declared.command.Command.{Command}
+use Rattle.gw_sim.specs.declared.fault.LineFault.{LineFault}
+use Rattle.gw_sim.specs.declared.fault.LineFault.TheVariants as faults
+use Rattle.gw_sim.specs.declared.script.Script.{Script}
+use Rattle.gw_sim.specs.Commands.{Spells, Reads}
+use Rattle.std.proofs.Common.{rules}
+use Rattle.std.proofs.lemmas.Bool.{eq-eqb}
+use Rattle.std.proofs.lemmas.List.Elements.{All-nil, All-push}
+use Rattle.std.proofs.lemmas.List.Folds.{list_any_at}
+use Rattle.std.proofs.lemmas.List.Quantifiers.{all_pairs_push}
+use Rattle.sn_flow.specs.declared.config.Config.{Config}
+use Rattle.gw_sim.specs.declared.command.Command.TheVariants as commands
+use Rattle.gw_sim.specs.Scripts.{AreGateways, config_of, has_gateway, Extends, IsScriptOf, IsBadLine}
+use Rattle.gw_sim.specs.Scripts.IsScriptOf.{none, more}
+
+-- the octets of lines
+abbrev pub octets_of : List (Bor (List ℕ)) → List (List ℕ)
+octets_of lines = map (λ (line : Bor (List ℕ)). line.now) lines
+
+-- a line that spells nothing, and is not empty, extends no script
+pub unreadable : (before : Script) (line : List ℕ) (r : Result Command LineFault) → Reads (Spells line) r → r ≡ Err faults.NotACommand
+    → line ≢ [] → (after : Script) → Extends before line after → ⊥
+unreadable before line r reads refused some after (inl p) = some p.0
+unreadable before line r reads refused some after (inr (command, spells, adds)) = (rw refused at reads) command spells
+
+-- a line is not empty where a test says so
+pub not_empty : (line : List ℕ) (test : Bool) → test ≡ (length line == 0) → test ≡ false → line ≢ []
+not_empty line test is fails empty = let e : (length line == 0) ≡ true = ap (λ (x : List ℕ). length x == 0) empty in cc
+
+-- the lines read so far and one more
+pub one_more : (lines : List (Bor (List ℕ))) (i : ℕ) (d : Bor (List ℕ)) (before after : Script) → i < length lines
+    → IsScriptOf (take i (octets_of lines)) before → Extends before (get_or lines i d).now after
+    → IsScriptOf (take (i + 1) (octets_of lines)) after
+one_more lines i d before after within read extends =
+    let now : Bor (List ℕ) → List ℕ = λ b. b.now in
+    let size : i < length (octets_of lines) = omega (arith, length-map lines now) in
+    let P : List (List ℕ) → Type 0 = λ xs. IsScriptOf xs after in
+    let e : take (i + 1) (octets_of lines) ≡ take i (octets_of lines) ++ (get_or lines i d).now ∷ [] =
+    take_more (octets_of lines) i d.now size ∙ ap (λ (x : List ℕ). take i (octets_of lines) ++ x ∷ []) (get_or-map now lines i d d.now within) in
+    subst P (sym e) (more (take i (octets_of lines)) (get_or lines i d).now before after read extends)
+
+-- the first line that cannot stand where it stands
+pub bad_line : (lines : List (Bor (List ℕ))) (all : List (List ℕ)) (i k : ℕ) (d : Bor (List ℕ)) (before : Script) → i < length lines
+    → octets_of lines ≡ all → i + 1 ≡ k → IsScriptOf (take i (octets_of lines)) before
+    → ((after : Script) → Extends before (get_or lines i d).now after → ⊥) → IsBadLine all k
+bad_line lines all i k d before within same next read refused =
+    let now : Bor (List ℕ) → List ℕ = λ b. b.now in
+    let size : i < length (octets_of lines) = omega (arith, length-map lines now) in
+    let there : slice_get (octets_of lines) i ≡ Some (get_or lines i d).now =
+    slice_get-get_or (octets_of lines) i d.now size ∙ ap (λ (x : List ℕ). Some x) (get_or-map now lines i d d.now within) in
+    let back : k - 1 ≡ i = omega arith in
+    let P : ℕ → Type 0 = λ n. slice_get all n ≡ Some (get_or lines i d).now in
+    let Q : ℕ → Type 0 = λ n. IsScriptOf (take n all) before in
+    let R : List (List ℕ) → Type 0 = λ xs. IsScriptOf (take i xs) before in
+    let S : List (List ℕ) → Type 0 = λ xs. slice_get xs i ≡ Some (get_or lines i d).now in
+    record {
+      before = before;
+      line = (get_or lines i d).now;
+      counted = omega arith;
+      there = subst P (sym back) (subst S same there);
+      read = subst Q (sym back) (subst R same read);
+      refused = refused;
+    }
+
+-- where no gateway has the number, the gateway at each place has another
+others : (configs : List Config) (number k : ℕ) (d : Config) → has_gateway configs number ≡ false → k < length configs
+    → (get_or configs k d).gateway ≢ number
+others configs number k d absent within same =
+    let test : Config → Bool = λ config. config.gateway == number in
+    let found : has_gateway configs number ≡ true = list_any_at test configs k d within (eq-eqb _ _ same) in
+    cc
+
+-- the gateways of a script are such as a field may have
+pub gateways : (lines : List (List ℕ)) (script : Script) → IsScriptOf lines script → AreGateways script.configs
+gateways lines script none = record { some = All-nil _; different = search rules }
+gateways lines script (more earlier line before after read (inl same)) =
+    let P : Script → Type 0 = λ s. AreGateways s.configs in subst P (sym same.1) (gateways earlier before read)
+gateways lines script (more earlier line before after read (inr (commands.Gateway number, spells, adds))) =
+    let P : Script → Type 0 = λ s. AreGateways s.configs in
+    let old : AreGateways before.configs = gateways earlier before read in
+    subst P (sym adds.3) (record {
+      some = All-push (λ (config : Config). config.gateway ≢ 0) before.configs (config_of number) old.some adds.1;
+      different = all_pairs_push (λ (a b : Config). a.gateway ≢ b.gateway) before.configs (config_of number) old.different (λ k d within. others before.configs number k d adds.2 within);
+    })
+gateways lines script (more earlier line before after read (inr (commands.Happens event, spells, adds))) =
+    let P : Script → Type 0 = λ s. AreGateways s.configs in subst P (sym adds) (gateways earlier before read)

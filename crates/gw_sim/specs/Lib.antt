@@ -1,0 +1,6 @@
+pub mod Commands
+pub mod Numbers
+pub mod Octets
+pub mod Printing
+pub mod Scripts
+pub mod Playing

@@ -1,0 +1,133 @@
+-- What answers are printed as. Each line ends with a line feed.
+use Rattle.std.specs.Prelude.{ℕ, ◌+◌, ◌∷◌, List, [], ◌++◌, Option, Some, None, Ok, Err, Bool, true, false, if◌then◌else◌, codes, flat_map, is_some}
+use Rattle.std.specs.Fmt.{decimal}
+use Rattle.hex.specs.Hex.{encode_lower}
+use Rattle.sn_frame.specs.Faults.{fault_number}
+use Rattle.sn_session.specs.declared.session.Presence.{Presence}
+use Rattle.sn_session.specs.declared.session.Presence.TheVariants as presences
+use Rattle.sn_session.specs.declared.session.Session.{Session}
+use Rattle.rep_ops.specs.declared.op.Op.{Op}
+use Rattle.rep_ops.specs.declared.op.Put.{Put}
+use Rattle.rep_ops.specs.declared.op.Stamp.{Stamp}
+use Rattle.rep_model.specs.declared.view.ClientView.{ClientView}
+use Rattle.sn_flow.specs.declared.config.Send.{Send}
+use Rattle.gw_world.specs.declared.event.Answer.{Answer}
+use Rattle.gw_world.specs.declared.event.Answer.TheVariants as answers
+use Rattle.gw_world.specs.declared.event.NodeFault.{NodeFault}
+use Rattle.gw_world.specs.declared.event.NodeFault.TheVariants as node_faults
+use Rattle.gw_world.specs.declared.event.Out.{Out}
+use Rattle.gw_world.specs.declared.world.WorldFault.{WorldFault}
+use Rattle.gw_world.specs.declared.world.WorldFault.TheVariants as world_faults
+
+infixr 65 ◌▹◌
+-- a text and then another
+abbrev pub ◌▹◌ : List ℕ → List ℕ → List ℕ
+a ▹ b = a ++ b
+
+-- octets in lower-case hexadecimal digits, a dash for none
+abbrev pub hex_text : List ℕ → List ℕ
+hex_text [] = codes "-"
+hex_text (octet ∷ rest) = encode_lower (octet ∷ rest)
+
+-- the end of a line
+abbrev pub line_end : List ℕ
+line_end = 10 ∷ []
+
+-- a datagram: its port and its octets
+abbrev pub send_line : Send → List ℕ
+send_line send = codes "to " ▹ decimal send.to.port ▹ codes " " ▹ hex_text send.bytes ▹ line_end
+
+-- the delta that a step made, behind so many others
+abbrev pub made_line : ℕ → Option (List Op) → List ℕ
+made_line before None = []
+made_line before (Some delta) = codes "delta " ▹ decimal (before + 1) ▹ line_end
+
+-- the datagrams and the delta of a step; nothing of both is quiet
+abbrev pub done_text : List Send → ℕ → Option (List Op) → List ℕ
+done_text [] before None = codes "quiet" ▹ line_end
+done_text sends before made = flat_map send_line sends ▹ made_line before made
+
+-- what a gateway did
+abbrev pub out_text : ℕ → Out → List ℕ
+out_text before out = done_text out.sends before out.made
+
+-- a refusal, by its number
+abbrev pub fault_line : NodeFault → List ℕ
+fault_line (node_faults.Frame fault) = codes "refused N1 F" ▹ decimal (fault_number fault) ▹ line_end
+fault_line (node_faults.Conflict client) = codes "refused N4" ▹ line_end
+fault_line node_faults.Full = codes "refused N5" ▹ line_end
+fault_line node_faults.Exhausted = codes "refused N6" ▹ line_end
+
+abbrev pub presence_word : Presence → List ℕ
+presence_word presences.Active = codes "active"
+presence_word presences.Asleep = codes "asleep"
+presence_word presences.Awake = codes "awake"
+presence_word presences.Disconnected = codes "disconnected"
+presence_word presences.Lost = codes "lost"
+
+-- whether the session began clean
+abbrev pub kind_word : Bool → List ℕ
+kind_word true = codes "clean"
+kind_word false = codes "kept"
+
+-- a stamp: epoch and gateway
+abbrev pub stamp_text : Stamp → List ℕ
+stamp_text stamp = decimal stamp.epoch ▹ codes "." ▹ decimal stamp.gateway
+
+-- what stands in the session itself
+abbrev pub session_text : Session → List ℕ
+session_text session =
+    presence_word session.presence ▹ codes " " ▹ kind_word session.clean ▹ codes " " ▹ decimal session.duration ▹ codes " next "
+    ▹ decimal session.next_id
+
+-- what is known of a client
+abbrev pub known_text : Option Stamp → ℕ → Option Session → List ℕ
+known_text (Some stamp) prefix (Some session) =
+    stamp_text stamp ▹ codes " prefix " ▹ decimal prefix ▹ codes " " ▹ session_text session ▹ line_end
+known_text stamp prefix session = codes "none" ▹ line_end
+
+-- a client, by its name
+abbrev pub client_line : List ℕ → ClientView → List ℕ
+client_line client view = codes "client " ▹ hex_text client ▹ codes " stamp " ▹ known_text view.stamp view.prefix view.session
+
+-- a message that waits
+abbrev pub put_line : Put → List ℕ
+put_line put =
+    codes "  put " ▹ decimal put.seq ▹ codes "." ▹ decimal put.origin ▹ codes " " ▹ decimal put.qos ▹ codes " " ▹ hex_text put.topic
+    ▹ codes " " ▹ hex_text put.body ▹ line_end
+
+-- a client with its messages
+abbrev pub client_text : List ℕ × ClientView → List ℕ
+client_text (client, view) = client_line client view ▹ flat_map put_line view.pending
+
+-- the clients that a gateway knows
+abbrev pub views_text : List (List ℕ × ClientView) → List ℕ
+views_text [] = codes "empty" ▹ line_end
+views_text (first ∷ rest) = flat_map client_text (first ∷ rest)
+
+-- an answer, behind so many deltas
+abbrev pub answer_text : ℕ → Answer → List ℕ
+answer_text before (answers.Node (Ok out)) = out_text before out
+answer_text before (answers.Node (Err fault)) = fault_line fault
+answer_text before (answers.Views views) = views_text views
+
+-- how many deltas there are behind an answer
+abbrev pub deltas_after : ℕ → Answer → ℕ
+deltas_after before (answers.Node (Ok out)) = if is_some out.made then before + 1 else before
+deltas_after before (answers.Node (Err fault)) = before
+deltas_after before (answers.Views views) = before
+
+-- answers in their order
+abbrev pub answers_text : ℕ → List Answer → List ℕ
+answers_text before [] = []
+answers_text before (answer ∷ rest) = answer_text before answer ▹ answers_text (deltas_after before answer) rest
+
+-- why a run has no result
+abbrev pub world_fault_line : WorldFault → List ℕ
+world_fault_line (world_faults.NoGateway event) = codes "event " ▹ decimal event ▹ codes ": E1" ▹ line_end
+world_fault_line (world_faults.NoDelta event) = codes "event " ▹ decimal event ▹ codes ": E2" ▹ line_end
+world_fault_line world_faults.Memory = codes "E3" ▹ line_end
+
+-- a script whose line of this number is bad
+abbrev pub bad_line_text : ℕ → List ℕ
+bad_line_text number = codes "line " ▹ decimal number ▹ codes ": not a command" ▹ line_end

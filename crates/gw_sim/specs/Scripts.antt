@@ -1,0 +1,55 @@
+-- A script: gateways, and then events.
+use Rattle.std.specs.Prelude.{◌≡◌, ◌≢◌, ◌==◌, ℕ, ◌-◌, ◌<◌, ◌⊎◌, Bool, false, List, [], ◌∷◌, ◌++◌, take, slice_get, Some, All, AllPairs}
+use Rattle.std.specs.List.{list_any}
+use Rattle.sn_flow.specs.declared.config.Config.{Config}
+use Rattle.gw_sim.specs.declared.command.Command.{Command}
+use Rattle.gw_sim.specs.declared.command.Command.TheVariants as commands
+use Rattle.gw_sim.specs.declared.script.Script.{Script}
+use Rattle.gw_sim.specs.Commands.{Spells}
+
+-- a gateway that is told nothing but its number
+abbrev pub config_of : ℕ → Config
+config_of number = record { gateway = number }
+
+-- whether a gateway has the number
+abbrev pub has_gateway : List Config → ℕ → Bool
+has_gateway configs number = list_any (λ config. config.gateway == number) configs
+
+-- gateways as a field may have them: each has a number that is not 0, and no two have the same
+pub record AreGateways (configs : List Config) : Type 0 where
+  pub some : All (λ config. config.gateway ≢ 0) configs
+  pub different : AllPairs (λ a b. a.gateway ≢ b.gateway) configs
+
+-- the script that says nothing
+abbrev pub empty_script : Script
+empty_script = record { configs = []; events = [] }
+
+-- The second script says what the first says, and then the command. A gateway comes before all events,
+-- its number is not 0, and no other has it.
+abbrev pub Adds : Script → Command → Script → Type 0
+Adds before (commands.Gateway number) after =
+    (before.events ≡ []) × (number ≢ 0) × (has_gateway before.configs number ≡ false)
+    × (after ≡ record { configs = before.configs ++ config_of number ∷ []; events = [] })
+Adds before (commands.Happens event) after =
+    after ≡ record { configs = before.configs; events = before.events ++ event ∷ [] }
+
+-- the second script says what the first says, and then the line; an empty line says nothing
+abbrev pub Extends : Script → List ℕ → Script → Type 0
+Extends before line after =
+    ((line ≡ []) × (after ≡ before)) ⊎ ((command : Command) × Spells line command × Adds before command after)
+
+-- the lines make up the script
+pub data IsScriptOf : List (List ℕ) → Script → Type 0 where
+  none : IsScriptOf [] empty_script
+  more : (lines : List (List ℕ)) (line : List ℕ) (before after : Script) → IsScriptOf lines before → Extends before line after
+      → IsScriptOf (lines ++ line ∷ []) after
+
+-- The line of this number, from 1, is the first that cannot stand where it stands: the lines before it
+-- make up a script, and no script has it next.
+pub record IsBadLine (lines : List (List ℕ)) (number : ℕ) : Type 0 where
+  pub before : Script
+  pub line : List ℕ
+  pub counted : 0 < number
+  pub there : slice_get lines (number - 1) ≡ Some line
+  pub read : IsScriptOf (take (number - 1) lines) before
+  pub refused : (after : Script) → Extends before line after → ⊥

@@ -1,0 +1,151 @@
+//! What a line says.
+
+ghost use Rattle.std.specs.Prelude.{◌≡◌, ◌≢◌, ◌==◌, ◌⊎◌, IfOk, MatchOption, map};
+ghost use Rattle.std.specs.List.{slice_split};
+ghost use Rattle.gw_sim.specs.declared.command.Word.TheVariants as words;
+ghost use Rattle.gw_sim.specs.Commands.{Reads, Says, Spells};
+
+use super::bytes::bytes;
+use super::fault::LineFault;
+use super::number::{number, number_u8, number_u16};
+use gw_world::Event;
+use sn_flow::Addr;
+use std::alloc::{AllocError, Global};
+
+/// What a line says.
+#[derive(Debug, Drop, PartialEq, Eq)]
+pub enum Command {
+    /// There is a gateway of this number.
+    Gateway { number: u8 },
+    /// Something happens.
+    Happens(Event),
+}
+
+/// The first word of a line.
+#[derive(Clone, Copy, Debug, PartialEq, Eq)]
+pub enum Word {
+    Gateway,
+    Frame,
+    Take,
+    Show,
+}
+
+impl Word {
+    ghost use Rattle.gw_sim.specs.declared.command.Word.{Word};
+    ghost use Rattle.gw_sim.specs.Commands.{text_of};
+
+    /// The word that is written so.
+    pub fn of(text: &[u8]) -> Option<Word>
+        ensures { MatchOption result ((word : Word) → text_of word ≢ text.now) (λ word. text_of word ≡ text.now) }
+    {
+        match text {
+            b"gateway" => Some(Word::Gateway),
+            b"frame" => Some(Word::Frame),
+            b"take" => Some(Word::Take),
+            b"show" => Some(Word::Show),
+            _ => None,
+        }
+    }
+}
+
+/// What stands before, between and behind the places of an octet.
+pub fn cut(alloc: Global, text: &[u8], at: u8) -> Result<Vec<&[u8]>, AllocError>
+    ensures { IfOk result (λ parts. map (λ part. part.now) parts.items ≡ slice_split (λ b. b == at) text.now) }
+{
+    text.split(|b| *b == at).collect(alloc)
+}
+
+/// The command that a line spells.
+pub fn read_command(alloc: Global, line: &[u8]) -> Result<Command, LineFault>
+    ensures reads { Reads (Spells line.now) result }
+    // What a line spells is read, unless memory runs out.
+    ensures only { (command : Command) → Spells line.now command → (result ≡ Ok command) ⊎ (result ≡ Err LineFault.Memory) }
+{
+    let fields = cut(alloc, line, b' ')?;
+    let Some((first, rest)) = fields.as_slice().split_first() else {
+        return Err(LineFault::NotACommand);
+    };
+    let Some(word) = Word::of(first) else {
+        return Err(LineFault::NotACommand);
+    };
+    say(alloc, word, rest)
+}
+
+/// The command that fields say behind a word.
+fn say(alloc: Global, word: Word, fields: &[&[u8]]) -> Result<Command, LineFault>
+    ensures { Reads (Says word (map (λ field. field.now) fields.now)) result }
+{
+    match word {
+        Word::Gateway => gateway(fields),
+        Word::Frame => frame(alloc, fields),
+        Word::Take => take(fields),
+        Word::Show => show(fields),
+    }
+}
+
+/// What the fields behind `gateway` say.
+fn gateway(fields: &[&[u8]]) -> Result<Command, LineFault>
+    ensures { Reads (Says words.Gateway (map (λ field. field.now) fields.now)) result }
+{
+    let [number] = fields else {
+        return Err(LineFault::NotACommand);
+    };
+    match number_u8(number) {
+        Some(number) => Ok(Command::Gateway { number }),
+        None => Err(LineFault::NotACommand),
+    }
+}
+
+/// What the fields behind `frame` say.
+fn frame(alloc: Global, fields: &[&[u8]]) -> Result<Command, LineFault>
+    ensures { Reads (Says words.Frame (map (λ field. field.now) fields.now)) result }
+{
+    let [gateway, address, moment, octets] = fields else {
+        return Err(LineFault::NotACommand);
+    };
+    let (Some(gateway), Some(port), Some(now)) = (
+        number_u8(gateway),
+        number_u16(address),
+        number(moment),
+    ) else {
+        return Err(LineFault::NotACommand);
+    };
+    match bytes(alloc, octets)? {
+        Some(bytes) => {
+            let from = Addr { host: 0, port };
+            Ok(Command::Happens(Event::Frame {
+                gateway,
+                from,
+                bytes,
+                now,
+            }))
+        }
+        None => Err(LineFault::NotACommand),
+    }
+}
+
+/// What the fields behind `take` say.
+fn take(fields: &[&[u8]]) -> Result<Command, LineFault>
+    ensures { Reads (Says words.Take (map (λ field. field.now) fields.now)) result }
+{
+    let [gateway, delta] = fields else {
+        return Err(LineFault::NotACommand);
+    };
+    match (number_u8(gateway), number(delta)) {
+        (Some(gateway), Some(delta)) => Ok(Command::Happens(Event::Take { gateway, delta })),
+        _ => Err(LineFault::NotACommand),
+    }
+}
+
+/// What the fields behind `show` say.
+fn show(fields: &[&[u8]]) -> Result<Command, LineFault>
+    ensures { Reads (Says words.Show (map (λ field. field.now) fields.now)) result }
+{
+    let [gateway] = fields else {
+        return Err(LineFault::NotACommand);
+    };
+    match number_u8(gateway) {
+        Some(gateway) => Ok(Command::Happens(Event::Show { gateway })),
+        None => Err(LineFault::NotACommand),
+    }
+}

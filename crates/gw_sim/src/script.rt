@@ -1,0 +1,108 @@
+//! What the lines of a script say together.
+
+ghost use Rattle.std.specs.Prelude.{◌≡◌, ℕ, IfOk};
+ghost use Rattle.gw_sim.specs.Commands.{lines_of};
+ghost use Rattle.gw_sim.specs.Scripts.{AreGateways, IsScriptOf, IsBadLine};
+
+use super::command::{Command, cut, read_command};
+use super::fault::{LineFault, ScriptFault};
+use gw_world::Event;
+use octets::Sequence;
+use sn_flow::Config;
+use std::alloc::Global;
+
+/// What a script says: which gateways there are, and then what happens.
+#[derive(Debug, Drop)]
+pub struct Script {
+    pub configs: Sequence<Config>,
+    pub events: Sequence<Event>,
+}
+
+impl Script {
+    ghost use Rattle.std.specs.Prelude.{◌≡◌, OnOk, OnErr};
+    ghost use Rattle.gw_sim.specs.declared.script.Script.{Script};
+    ghost use Rattle.gw_sim.specs.declared.command.Command.TheVariants.{Gateway};
+    ghost use Rattle.gw_sim.specs.Scripts.{empty_script, has_gateway, Adds, Extends};
+
+    /// The script that says nothing.
+    pub fn empty(alloc: Global) -> Script
+        ensures { result ≡ empty_script }
+    {
+        Script {
+            configs: Sequence::empty(alloc),
+            events: Sequence::empty(alloc),
+        }
+    }
+
+    /// Adds what a line says. On an error the script is as it was.
+    pub fn extend(&mut self, alloc: Global, line: &[u8]) -> Result<(), LineFault>
+        ensures ok { OnOk result (Extends self.old line.now self.new) }
+        ensures refused { result ≡ Err LineFault.NotACommand → (after : Script) → Extends self.old line.now after → ⊥ }
+        ensures err { OnErr result (self.new ≡ self.old) }
+    {
+        if line.is_empty() {
+            return Ok(());
+        }
+        let command = read_command(alloc, line)?;
+        self.add(command)
+    }
+
+    /// Adds a command. On an error the script is as it was.
+    pub fn add(&mut self, command: Command) -> Result<(), LineFault>
+        ensures ok { OnOk result (Adds self.old command self.new) }
+        ensures refused { result ≡ Err LineFault.NotACommand → (after : Script) → Adds self.old command after → ⊥ }
+        ensures err { OnErr result (self.new ≡ self.old) }
+    {
+        match command {
+            Command::Gateway { number } => self.add_gateway(number),
+            Command::Happens(event) => {
+                self.events.push(event)?;
+                Ok(())
+            }
+        }
+    }
+
+    /// Adds a gateway.
+    fn add_gateway(&mut self, number: u8) -> Result<(), LineFault>
+        ensures ok { OnOk result (Adds self.old (Gateway number) self.new) }
+        ensures refused { result ≡ Err LineFault.NotACommand → (after : Script) → Adds self.old (Gateway number) after → ⊥ }
+        ensures err { OnErr result (self.new ≡ self.old) }
+    {
+        if number == 0 || !self.events.is_empty() || self.has_gateway(number) {
+            return Err(LineFault::NotACommand);
+        }
+        self.configs.push(Config { gateway: number })?;
+        Ok(())
+    }
+
+    /// Whether there is a gateway of this number.
+    fn has_gateway(&self, number: u8) -> bool
+        ensures { result ≡ has_gateway self.now.configs number }
+    {
+        self.configs
+            .as_slice()
+            .iter()
+            .any(|config| config.gateway == number)
+    }
+}
+
+/// The script that a text says.
+pub fn parse(alloc: Global, text: &[u8]) -> Result<Script, ScriptFault>
+    ensures ok { IfOk result (IsScriptOf (lines_of text.now)) }
+    ensures gateways { IfOk result (λ script. AreGateways script.configs) }
+    // The first bad line is told.
+    ensures bad { (k : ℕ) → result ≡ Err (ScriptFault.Line k) → IsBadLine (lines_of text.now) k }
+{
+    let lines = cut(alloc, text, b'\n')?;
+    let mut script = Script::empty(alloc);
+    for (index, line) in lines.iter().enumerate() {
+        match script.extend(alloc, line) {
+            Ok(()) => {}
+            Err(LineFault::NotACommand) => {
+                return Err(ScriptFault::Line { number: index + 1 });
+            }
+            Err(LineFault::Memory) => return Err(ScriptFault::Memory),
+        }
+    }
+    Ok(script)
+}
