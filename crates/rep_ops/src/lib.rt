@@ -19,9 +19,11 @@ mod fault;
 mod join;
 mod op;
 mod order;
+mod read;
 mod size;
+mod write;
 
 pub use client_id::ClientId;
-pub use delta::{Delta, one_delta};
+pub use delta::{Delta, no_prefix, one_delta, one_reading};
 pub use fault::OpsFault;
 pub use op::{Op, Put, Stamp};
