@@ -76,7 +76,7 @@ impl Delta {
         ensures memory { IfErr result (λ fault. fault ≡ OpsFault.Memory) }
     {
         let start = out.len();
-        match write_delta(out, self.ops.as_slice()) {
+        match write_delta(out, self.ops()) {
             Ok(()) => Ok(()),
             Err(fault) => {
                 out.truncate(start);
@@ -126,7 +126,7 @@ impl Delta {
         ensures err { IfErr result (λ fault. fault ≡ OpsFault.Memory) }
     {
         Ok(Delta {
-            ops: copy_all(alloc, self.ops.as_slice())?,
+            ops: copy_all(alloc, self.ops())?,
         })
     }
 }
