@@ -12,3 +12,4 @@ pub mod Loop
 pub mod Fields
 pub mod Operations
 pub mod Format
+pub mod Examples
