@@ -6,6 +6,8 @@
 
 mod number;
 mod octets_type;
+mod sequence;
 
 pub use number::{append_u16, append_u32, append_u64, read_u16, read_u32, read_u64};
 pub use octets_type::Octets;
+pub use sequence::Sequence;
