@@ -4,7 +4,7 @@ use Rattle.sn_session.specs.declared.session.Presence.TheVariants.{Active}
 use Rattle.sn_session.specs.declared.session.SessionOp.TheVariants.{Take}
 use Rattle.rep_ops.specs.declared.fault.OpsFault.TheVariants as faults
 use Rattle.rep_ops.specs.declared.op.Op.{Op}
-use Rattle.rep_ops.specs.declared.op.Op.TheVariants.{Session as OfSession, Put as OfPut, Ack}
+use Rattle.rep_ops.specs.declared.op.Op.TheVariants.{Session as OfSession, Ack}
 use Rattle.rep_ops.specs.Joining.{joined}
 use Rattle.rep_ops.specs.Reading.{reading, delta_at, front_at, ops_at, op_at, ack_at, range_at, client_at}
 use Rattle.rep_ops.specs.Spelling.{spelling}

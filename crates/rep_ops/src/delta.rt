@@ -32,12 +32,13 @@ impl Model for Delta {
     ghost use Rattle.rep_ops.specs.declared.op.Op.{Op};
     ghost use Rattle.rep_ops.specs.Deltas.{IsDelta};
     ghost use Rattle.rep_ops.specs.Spelling.{IsWithinLimit};
+    ghost use Rattle.rep_ops.specs.Values.{AreValues};
 
     ghost Value = { List Op };
 
     ghost view = { λ d. d.ops.items };
 
-    ghost invariant = { λ d. IsDelta d.ops.items × IsWithinLimit d.ops.items };
+    ghost invariant = { λ d. IsDelta d.ops.items × IsWithinLimit d.ops.items × AreValues d.ops.items };
 }
 
 impl Delta {
@@ -109,6 +110,7 @@ impl Delta {
         ensures ops { result.now ≡ self.now }
         ensures delta { IsDelta self.now }
         ensures size { IsWithinLimit self.now }
+        ensures values { AreValues self.now }
     {
         self.ops.as_slice()
     }
@@ -133,7 +135,7 @@ impl Delta {
 
 /// The operations of the delta that is the set of these, however large.
 fn canonical(alloc: Global, ops: Vec<Op>) -> Result<Vec<Op>, OpsFault>
-    ensures ok { IfOk result (λ d. AreApart ops.items × IsDeltaOf ops.items d.items) }
+    ensures ok { IfOk result (λ d. AreApart ops.items × IsDeltaOf ops.items d.items × AreValues d.items) }
     ensures fault { IfErr result (λ fault. (fault ≡ OpsFault.Memory) ⊎ (fault ≡ OpsFault.Kind) ⊎ (fault ≡ OpsFault.Twice)) }
     ensures kind { result ≡ Err OpsFault.Kind ↔ (¬ (AreWellMade ops.items)) }
     ensures twice { result ≡ Err OpsFault.Twice ↔ (AreWellMade ops.items × HasTwice ops.items) }

@@ -14,7 +14,7 @@ returns-in_err-read_delta-clause-only c = λ d v s.
 pub invariant_of-result : goal.invariant_of-result
 invariant_of-result c =
     let read = read_spelled c.args.bytes.now c.in_ok-read_delta.field-0.items (λ i. omega (arith, c.type_inv.bytes i)) c.in_ok-read_delta.ensures in
-    (read.0.delta, read.0.limit)
+    (read.0.delta, read.0.limit, read.1)
 
 pub returns-clause-ok : goal.returns-clause-ok
 returns-clause-ok c = (read_spelled c.args.bytes.now c.in_ok-read_delta.field-0.items (λ i. omega (arith, c.type_inv.bytes i)) c.in_ok-read_delta.ensures).0
