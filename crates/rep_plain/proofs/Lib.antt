@@ -1,1 +1,4 @@
 pub mod Places
+pub mod Maps
+pub mod Prefixes
+pub mod Entering
