@@ -5,6 +5,7 @@
 //! wait. Nothing else counts: not the order in which the operations came, nor how often.
 //!
 //! - `view`: the view of a client, as a value (`ClientView`).
+//! - `laws`: the laws of sets and views, proved of all sets.
 //! - `fault`: why a replica refuses a delta.
 //! - `replica`: what every replica of a set promises (`Replica`), however it keeps it.
 //!
@@ -13,9 +14,11 @@
 #![tactic(auto)]
 
 mod fault;
+mod laws;
 mod replica;
 mod view;
 
 pub use fault::{Limit, TakeFault};
+pub use laws::{consistency, join_laws, keep_laws, leaves_only};
 pub use replica::Replica;
 pub use view::{ClientView, Puts};
