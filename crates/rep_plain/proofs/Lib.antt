@@ -2,3 +2,4 @@ pub mod Places
 pub mod Maps
 pub mod Prefixes
 pub mod Entering
+pub mod Workings
