@@ -1,14 +1,15 @@
--- When two sets are consistent together.
-use Rattle.std.proofs.Common.{◌≡◌, ℕ, Bool, true, false, ◌||◌, List, ◌∷◌, ◌++◌, [], Option, Some, None, is_some, IfSome, refl, sym, ap, ◌∙◌, true≢false}
+-- When two sets are consistent together, and that consistency is no matter of order.
+use Rattle.std.proofs.Common.{◌≡◌, ℕ, Bool, true, false, ◌||◌, List, ◌∷◌, ◌++◌, [], Option, Some, None, is_some, IfSome, Contains, refl, sym, ap, ◌∙◌, true≢false}
 use Rattle.std.specs.List.{AllByRecursion}
 use Rattle.std.proofs.lemmas.Bool.{or_left, or_right}
+use Rattle.std.proofs.lemmas.List.Elements.{All-contains, All-from_recursion}
 use Rattle.std.proofs.lemmas.Option.{same_Some}
 use Rattle.rep_ops.specs.declared.op.Op.{Op}
 use Rattle.rep_ops.specs.declared.op.Op.TheVariants.{Session as OfSession, Put as OfPut, Ack}
-use Rattle.rep_ops.specs.Sets.{operation_at, put_at, is_acknowledged, Stands, IsConsistent, Agrees}
+use Rattle.rep_ops.specs.Sets.{operation_at, put_at, is_acknowledged, Stands, IsConsistent, Agrees, Same}
 use Rattle.rep_model.proofs.Lookup.{or_else}
 use Rattle.rep_model.proofs.Readers.{operation_at_both, put_at_both, is_acknowledged_both}
-use Rattle.rep_model.proofs.Joins.{all-both, all-right, all-weaker}
+use Rattle.rep_model.proofs.Joins.{all-both, all-right, all-weaker, all-moved, same-elements}
 
 -- the first of the two is x, or there is none and the second is
 behind : {X : Type 0} (a b : Option X) (x : X) → IfSome a (λ y. y ≡ x) → b ≡ Some x → or_else a b ≡ Some x
@@ -45,3 +46,13 @@ module _ (K D : List Op) where
 
   pub consistent-agrees : IsConsistent (K ++ D) → AllByRecursion (Agrees K) D
   consistent-agrees h = all-weaker (Stands (K ++ D)) (Agrees K) agrees-from D (all-right (Stands (K ++ D)) K D h)
+
+-- what stands in a set stands in each equal set
+stands-same : (A B : List Op) → Same A B → (op : Op) → Stands A op → Stands B op
+stands-same A B s (OfSession c stamp counter change) h = sym (s.operations_same c (stamp, counter)) ∙ h
+stands-same A B s (OfPut c put) h = sym (s.puts_same c (put.seq, put.origin)) ∙ h
+stands-same A B s (Ack c origin first last) h = λ seq a b. sym (s.acknowledgements_same c (seq, origin)) ∙ h seq a b
+
+-- a list of the same operations is consistent too
+pub consistent-elements : (A B : List Op) → IsConsistent A → ((op : Op) → Contains A op → Contains B op) → ((op : Op) → Contains B op → Contains A op) → IsConsistent B
+consistent-elements A B k f g = all-moved (Stands B) B (λ op h. stands-same A B (same-elements A B k f g) op (All-contains (Stands A) A op (All-from_recursion (Stands A) A k) (g op h)))

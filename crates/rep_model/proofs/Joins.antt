@@ -216,7 +216,7 @@ moved p xs ys f e =
     let v = f w.1 (w.0, w.2, w.3) in
     list_any_at p ys v.0 w.1 v.1 (ap p v.2 ∙ w.4)
 
-all-moved : {X : Type 0} (P : X → Type 0) (xs : List X) → ((x : X) → Contains xs x → P x) → AllByRecursion P xs
+pub all-moved : {X : Type 0} (P : X → Type 0) (xs : List X) → ((x : X) → Contains xs x → P x) → AllByRecursion P xs
 all-moved P xs f = recursion_from_All P xs (All-weaker (Contains xs) P f xs (All-contains_itself xs))
 
 agree : {X : Type 0} (a b : Option X) → (is_some a ≡ true → is_some b ≡ true) → ((y : X) → b ≡ Some y → a ≡ Some y) → a ≡ b

@@ -19,6 +19,8 @@ mod replica;
 mod view;
 
 pub use fault::{Limit, TakeFault};
-pub use laws::{consistency, join_laws, keep_laws, leaves_only};
+pub use laws::{
+    client_laws, consistency, count_laws, join_laws, keep_laws, leaves_only, order_laws, range_laws,
+};
 pub use replica::Replica;
 pub use view::{ClientView, Puts};
