@@ -3,3 +3,7 @@ pub mod Maps
 pub mod Prefixes
 pub mod Entering
 pub mod Workings
+pub mod Single
+pub mod Flat
+pub mod Taking
+pub mod Counting
