@@ -16,8 +16,8 @@ use Rattle.rep_ops.specs.Sets.{same_client}
 use Rattle.rep_model.specs.Views.{named, in_order, names, clients, names_client, is_named}
 use Rattle.rep_model.proofs.Lookup.{or_else}
 use Rattle.rep_model.proofs.Readers.{client_total, client_exact, same_client-true}
-use Rattle.rep_plain.specs.Rows.{flat, own, or_nothing, moved, has_any, count_named, IsOwn, AreRows}
-use Rattle.rep_plain.proofs.Single.{of_client, is_named_own}
+use Rattle.rep_plain.specs.Rows.{flat, own, or_nothing, moved, has_any, count_named, IsOwn, AreRows, of_client}
+use Rattle.rep_plain.proofs.Single.{is_named_own}
 
 abbrev twice : List ℕ → Option (List ℕ × List ℕ)
 twice c = Some (c, c)
@@ -175,7 +175,7 @@ pub named_any : (c : List ℕ) (ops : List Op) → IsOwn c ops → is_named c op
 named_any c [] h = refl
 named_any c (op ∷ ops) h = ap (λ b. b || is_named c ops) (names_own c op h.0)
 
-found_own : (c : List ℕ) (rows : List (List ℕ × List Op)) → AllByRecursion (λ row. IsOwn row.0 row.1) rows → IsOwn c (own c rows)
+pub found_own : (c : List ℕ) (rows : List (List ℕ × List Op)) → AllByRecursion (λ row. IsOwn row.0 row.1) rows → IsOwn c (own c rows)
 found_own c [] h = tt
 found_own c (row ∷ rows) h =
     elim (eq_by_cmp client_cmp c row.0) as (λ b. eq_by_cmp client_cmp c row.0 ≡ b → IsOwn c (or_nothing (cond b (Some row.1) (find client_cmp c rows)))) [

@@ -7,3 +7,7 @@ pub mod Single
 pub mod Flat
 pub mod Taking
 pub mod Counting
+pub mod Found
+pub mod Growing
+pub mod Moves
+pub mod Prepared

@@ -18,9 +18,9 @@ use Rattle.rep_model.specs.Views.{visible, named}
 use Rattle.rep_model.specs.Keep.{is_below, keep, IsKeptOf}
 use Rattle.rep_model.proofs.Lookup.{or_else, filter_map-filter, list_any-filter, list_any-weaker}
 use Rattle.rep_model.proofs.Readers.{operation_exact, put_exact, client_total, client_exact, same_client-true, operation_at_both, put_at_both, is_acknowledged_both, operation_at_keep, put_at_keep, is_acknowledged_keep}
-use Rattle.rep_plain.specs.Rows.{flat, own, or_nothing, moved, has_any, count_named, IsOwn, AreRows}
+use Rattle.rep_plain.specs.Rows.{flat, own, or_nothing, moved, has_any, count_named, IsOwn, AreRows, of_client, grown, IsGrown}
 use Rattle.rep_plain.specs.Tables.{has_range, is_known}
-use Rattle.rep_plain.proofs.Single.{of_client, operation_at_own, put_at_own, is_acknowledged_own}
+use Rattle.rep_plain.proofs.Single.{operation_at_own, put_at_own, is_acknowledged_own}
 use Rattle.rep_plain.proofs.Flat.{of_flat, find_in_moved, rows_moved}
 
 -- ---- what is kept of a set
@@ -143,13 +143,6 @@ module _ (K D : List Op) where
   }
 
 -- ---- what is grown of each client
-
--- a client's operations with those of a list behind them, where it has any
-abbrev pub grown : List ℕ → List (List ℕ × List Op) → List Op → Option (List Op)
-grown c rows D = if has_any (of_client c D) then Some (own c rows ++ of_client c D) else None
-
-abbrev pub IsGrown : List (List ℕ × List Op) → List Op → List (List ℕ × List Op) → Type 0
-IsGrown rows D fresh = (c : List ℕ) → find client_cmp c fresh ≡ grown c rows D
 
 grown_own : (ops rest : List Op) (o : Option (List Op)) → or_nothing o ≡ ops → or_nothing (or_else (if has_any rest then Some (ops ++ rest) else None) o) ≡ ops ++ rest
 grown_own ops [] o e = e ∙ sym (append-nil ops)
