@@ -1,5 +1,5 @@
 -- The next epoch and the next sequence number of thin sets.
-use Rattle.std.proofs.Common.{◌≡◌, ℕ, ◌≤◌, Bool, true, false, ◌&&◌, ◌||◌, ◌⊎◌, ◌==◌, nat_le, if◌then◌else◌, List, [], ◌∷◌, Option, Some, None, is_some, refl, sym, ap, ◌∙◌, true≢false, inl, inr, Ordering, Less, Equal, Greater, nat_cmp, is_eq, is_lt, arith, le_refl, le_antisymm, leb-true, le-leb, eqb-true, eq-eqb}
+use Rattle.std.proofs.Common.{◌≡◌, ℕ, ◌≤◌, Bool, true, false, ◌&&◌, ◌||◌, ◌⊎◌, ◌==◌, nat_le, if◌then◌else◌, List, Some, None, is_some, refl, sym, ap, ◌∙◌, true≢false, inl, inr, Ordering, Less, Equal, Greater, nat_cmp, is_eq, is_lt, arith, le_antisymm, leb-true, le-leb, eqb-true, eq-eqb}
 use Rattle.std.specs.List.{list_any}
 use Rattle.std.specs.Ordering.{eq_by_cmp, ordering_then}
 use Rattle.std.specs.FinMap.Entries.{is_some-find}

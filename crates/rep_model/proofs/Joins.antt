@@ -1,5 +1,5 @@
 -- Joining sets, and what counts as a set: the lemmas that crates above cite.
-use Rattle.std.proofs.Common.{◌≡◌, ℕ, ◌≤◌, Bool, true, false, cond, not, if◌then◌else◌, ◌&&◌, ◌||◌, ◌⊎◌, List, [], ◌∷◌, ◌++◌, Option, Some, None, is_some, IfSome, MatchOption, IsTrue, Contains, refl, sym, ap, ◌∙◌, subst, true≢false, append_assoc, inl, inr, leb-true, eqb-true}
+use Rattle.std.proofs.Common.{◌≡◌, ℕ, Bool, true, false, cond, not, if◌then◌else◌, ◌&&◌, ◌||◌, ◌⊎◌, List, [], ◌∷◌, ◌++◌, Option, Some, None, is_some, IfSome, Contains, refl, sym, ap, ◌∙◌, subst, true≢false, append_assoc, inl, inr, leb-true, eqb-true}
 use Rattle.std.specs.List.{list_any, AllByRecursion}
 use Rattle.std.proofs.lemmas.List.Folds.{Any-from_list_any, list_any_at}
 use Rattle.std.proofs.lemmas.List.Elements.{All-weaker, All-contains, All-contains_itself, All-from_recursion, recursion_from_All}
@@ -10,7 +10,7 @@ use Rattle.rep_ops.specs.declared.op.Op.{Op}
 use Rattle.rep_ops.specs.declared.op.Op.TheVariants.{Session as OfSession, Put as OfPut, Ack}
 use Rattle.rep_ops.specs.Orders.{operation_cmp, put_cmp}
 use Rattle.rep_ops.specs.Sets.{same_client, operation_of, operation_at, put_of, put_at, acknowledges, is_acknowledged, Stands, IsConsistent, Within, Same}
-use Rattle.rep_model.specs.Views.{visible, pending_at, view}
+use Rattle.rep_model.specs.Views.{pending_at, view}
 use Rattle.rep_model.specs.Keep.{keep, IsKeptOf, CountsAs, Below}
 use Rattle.rep_model.proofs.Lookup.{or_else, is_entry_of, is_some-find_map, find-all}
 use Rattle.rep_model.proofs.Readers.{operation_exact, put_exact, same_client-true, operation_at_both, put_at_both, is_acknowledged_both}

@@ -4,7 +4,6 @@ use Rattle.std.specs.List.{list_any, cons_option, AllByRecursion}
 use Rattle.std.specs.FinMap.{find}
 use Rattle.std.specs.FinMap.Entries.{find-where_key, is_sorted, is_sorted-where_key, same_entries}
 use Rattle.std.proofs.lemmas.Bool.{and_parts, false_from_ne_true}
-use Rattle.sn_session.specs.declared.session.SessionOp.{SessionOp}
 use Rattle.rep_ops.specs.declared.op.Stamp.{Stamp}
 use Rattle.rep_ops.specs.declared.op.Op.{Op}
 use Rattle.rep_ops.specs.declared.op.Op.TheVariants.{Session as OfSession, Put as OfPut, Ack}
@@ -12,10 +11,10 @@ use Rattle.rep_ops.specs.Orders.{operation_cmp}
 use Rattle.rep_ops.specs.Sets.{same_client, operations, operation_at, is_acknowledged}
 use Rattle.rep_model.specs.declared.fault.Limit.{Limit}
 use Rattle.rep_model.specs.declared.fault.Limit.TheVariants.{Clients, Pending, Parked, Exceptions}
-use Rattle.rep_model.specs.Views.{visible, history, in_order, pending, clients}
+use Rattle.rep_model.specs.Views.{visible, history, in_order, pending}
 use Rattle.rep_model.specs.Keep.{is_below, CountsAs}
 use Rattle.rep_model.specs.Ranges.{is_within, in_ranges, AreApart}
-use Rattle.rep_model.specs.Limits.{is_in_prefix, is_parked, parked, range_of, acknowledged, above_a_gap, sum_to, exceptions, first_passed}
+use Rattle.rep_model.specs.Limits.{is_in_prefix, parked, range_of, acknowledged, above_a_gap, sum_to, exceptions, first_passed}
 use Rattle.rep_model.proofs.Lookup.{find-in_order, is_sorted-in_order}
 use Rattle.rep_model.proofs.Readers.{operation_total, operation_exact}
 use Rattle.rep_model.proofs.Thin.{Thin, visible-thin, history-thin, pending-thin}
@@ -95,12 +94,12 @@ module _ (N W : List Op) (t : Thin N W) where
   pub parked-thin : (c : List ℕ) → parked c N ≡ parked c W
   parked-thin c = same_entries operation_cmp operation_total operation_exact (parked c N) (parked c W) (sorted-parked c N) (sorted-parked c W)
       (λ q. find-parked c N q
-        ∙ (λ i. cond (is_parked_name (visible-thin N W t c i) (length (history-thin N W t c i)) q) (operation_at c N q) None)
-        ∙ elim (is_below q.0 (visible c W)) as (λ b. is_below q.0 (visible c W) ≡ b → cond (not b && not (is_in_prefix (visible c W) (length (history c W)) q)) (operation_at c N q) None ≡ cond (not b && not (is_in_prefix (visible c W) (length (history c W)) q)) (operation_at c W q) None) [
-          | true ↦ λ _. refl
-          | false ↦ λ e. ap (λ o. cond (not (is_in_prefix (visible c W) (length (history c W)) q)) o None) (t.operations_same c q e)
-        ] refl
-        ∙ sym (find-parked c W q))
+      ∙ (λ i. cond (is_parked_name (visible-thin N W t c i) (length (history-thin N W t c i)) q) (operation_at c N q) None)
+      ∙ elim (is_below q.0 (visible c W)) as (λ b. is_below q.0 (visible c W) ≡ b → cond (not b && not (is_in_prefix (visible c W) (length (history c W)) q)) (operation_at c N q) None ≡ cond (not b && not (is_in_prefix (visible c W) (length (history c W)) q)) (operation_at c W q) None) [
+        | true ↦ λ _. refl
+        | false ↦ λ e. ap (λ o. cond (not (is_in_prefix (visible c W) (length (history c W)) q)) o None) (t.operations_same c q e)
+      ] refl
+      ∙ sym (find-parked c W q))
 
   pub acknowledged-thin : (c : List ℕ) (origin : ℕ) → acknowledged c origin N ≡ acknowledged c origin W
   acknowledged-thin c origin = same_ranges 0 0 (acknowledged c origin N) (acknowledged c origin W) (apart-acknowledged c origin N) (apart-acknowledged c origin W)

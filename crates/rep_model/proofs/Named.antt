@@ -1,21 +1,19 @@
 -- The clients that a set names.
-use Rattle.std.proofs.Common.{◌≡◌, ℕ, ◌≤◌, Bool, true, false, cond, not, ◌&&◌, ◌||◌, ◌==◌, ◌↔◌, T, nat_le, if◌then◌else◌, List, [], ◌∷◌, filter, filter_map, map, length, Option, Some, None, is_some, IsTrue, Contains, refl, sym, ap, ◌∙◌, subst, true≢false, Ordering, Less, Equal, Greater, is_eq, is_lt, arith, leb-true, le-leb, eqb-true, eq-eqb}
+use Rattle.std.proofs.Common.{◌≡◌, ℕ, ◌≤◌, Bool, true, false, cond, not, ◌&&◌, ◌||◌, ◌==◌, ◌↔◌, T, nat_le, if◌then◌else◌, List, [], ◌∷◌, filter, filter_map, map, length, Option, Some, None, is_some, IsTrue, Contains, refl, sym, ap, ◌∙◌, true≢false, Ordering, Less, Equal, Greater, is_eq, is_lt, arith, leb-true, le-leb, eq-eqb}
 use Rattle.std.specs.List.{list_any, cons_option, AllByRecursion}
 use Rattle.std.specs.List.Sorted.{IsStrictlySortedBy}
 use Rattle.std.specs.Ordering.{eq_by_cmp}
 use Rattle.std.specs.FinMap.{find}
 use Rattle.std.specs.FinMap.Entries.{below_all, is_sorted, is_some-find, same_entries}
-use Rattle.std.proofs.lemmas.Bool.{or_left, or_right, or_parts, and_parts, and_from}
+use Rattle.std.proofs.lemmas.Bool.{or_parts, and_parts}
 use Rattle.std.proofs.lemmas.Cmp.{tied_itself, eq_by_cmp_equiv}
 use Rattle.std.proofs.lemmas.Map.Text.{is_eq-slice_cmp}
 use Rattle.std.proofs.lemmas.Map.Views.{tells_apart, Contains-from_any, list_any-from_Contains}
-use Rattle.sn_session.specs.declared.session.SessionOp.{SessionOp}
 use Rattle.rep_ops.specs.declared.op.Stamp.{Stamp}
-use Rattle.rep_ops.specs.declared.op.Put.{Put}
 use Rattle.rep_ops.specs.declared.op.Op.{Op}
 use Rattle.rep_ops.specs.declared.op.Op.TheVariants.{Session as OfSession, Put as OfPut, Ack}
 use Rattle.rep_ops.specs.Orders.{stamp_cmp, operation_cmp, put_cmp, client_cmp}
-use Rattle.rep_ops.specs.Sets.{same_client, operation_of, operations, operation_at, put_of, puts, put_at, acknowledges, is_acknowledged}
+use Rattle.rep_ops.specs.Sets.{same_client, operation_of, operations, operation_at, put_of, put_at, acknowledges, is_acknowledged}
 use Rattle.rep_model.specs.Views.{greatest, take_stamp, names, visible, history_at, session_of, in_order, unacknowledged, view, unseen, named, clients, names_client, is_named}
 use Rattle.rep_model.specs.Fresh.{largest, one_more, next_epoch, seq_of, next_seq}
 use Rattle.rep_model.specs.Keep.{is_below, CountsAs}
@@ -169,7 +167,8 @@ any_client c S = sym (is_some-find client_cmp c (in_order client_cmp (filter_map
 pub clients-named : (c : List ℕ) (S : List Op) → IsTrue (is_named c S) ↔ Contains (clients S) c
 clients-named c S = (
   λ h. Contains-from_any (tells_apart client_exact) c (clients S) (any_client c S ∙ h),
-  λ h. sym (any_client c S) ∙ list_any-from_Contains (eq_by_cmp_equiv client_total) c (clients S) h)
+  λ h. sym (any_client c S) ∙ list_any-from_Contains (eq_by_cmp_equiv client_total) c (clients S) h,
+)
 
 first : (a b : Bool) → T (a && b) → T a
 first true b p = tt

@@ -1,7 +1,7 @@
 -- Ranges in ascending order that do not touch: one more of them, and that their numbers determine them.
-use Rattle.std.proofs.Common.{◌≡◌, ℕ, ◌+◌, ◌<◌, ◌≤◌, Bool, true, false, ◌&&◌, ◌||◌, if◌then◌else◌, nat_le, nat_lt, max, List, [], ◌∷◌, filter_map, Option, Some, None, refl, sym, ap, ◌∙◌, true≢false, arith, le-leb, leb-true, leb-false, ltb-true, ltb-false, le_antisymm, subst}
-use Rattle.std.specs.List.{list_any, cons_option, AllByRecursion}
-use Rattle.std.proofs.lemmas.Bool.{and_parts, and_from, or_left, or_right, or_cases, false_from_ne_true}
+use Rattle.std.proofs.Common.{◌≡◌, ℕ, ◌+◌, ◌≤◌, Bool, true, false, ◌||◌, if◌then◌else◌, nat_le, nat_lt, max, List, [], ◌∷◌, refl, sym, ap, ◌∙◌, true≢false, arith, le-leb, leb-true, leb-false, ltb-true, ltb-false, le_antisymm, subst}
+use Rattle.std.specs.List.{AllByRecursion}
+use Rattle.std.proofs.lemmas.Bool.{and_parts, and_from, or_left, or_right, false_from_ne_true}
 use Rattle.rep_model.specs.Ranges.{is_within, in_ranges, AreApartFrom, AreApart}
 use Rattle.rep_model.specs.Limits.{with_range, joined}
 
@@ -75,8 +75,8 @@ within-merged n r s p q =
     agree_test (is_within n (merged r s)) (is_within n r || is_within n s)
     (λ e. let w = within-parts n (merged r s) e in reached n r s p q w.0 w.1)
     (λ e. by_or (is_within n r) (is_within n s) e
-        (λ h. let w = within-parts n r h in within-from n (merged r s) (omega (arith, l.0, w.0)) (omega (arith, w.1)))
-        (λ h. let w = within-parts n s h in within-from n (merged r s) (omega (arith, l.1, w.0)) (omega (arith, w.1))))
+    (λ h. let w = within-parts n r h in within-from n (merged r s) (omega (arith, l.0, w.0)) (omega (arith, w.1)))
+    (λ h. let w = within-parts n s h in within-from n (merged r s) (omega (arith, l.1, w.0)) (omega (arith, w.1))))
 
 turned : (a b d : Bool) → (a || (b || d)) ≡ (b || (a || d))
 turned true true d = refl

@@ -10,12 +10,16 @@
 //! - `replica`: what every replica of a set promises (`Replica`), however it keeps it.
 //!
 //! The definitions are in `specs/`: `Views` (visible stamp, prefix, session, pending), `Fresh` (the next
-//! epoch and sequence number), `Keep` (what may not be forgotten), `Limits` (how much a replica holds).
+//! epoch and sequence number), `Keep` (what may not be forgotten), `Ranges` (of acknowledgements), `Limits`
+//! (how much a replica holds). The lemmas that crates above cite are in `proofs/`: `Joins`, `Thin`,
+//! `Ranges`, `Named`, `Fresh`, `Limits`, `Agreeing`.
 #![tactic(auto)]
 
 mod fault;
 mod laws;
 mod replica;
+#[cfg(test)]
+mod tests;
 mod view;
 
 pub use fault::{Limit, TakeFault};
