@@ -57,9 +57,9 @@ module _ {K X : Type 0} (R : K → K → Ordering) (o : IsTotalOrder R) where
 
 count_head : {A : Type 0} (p : A → Bool) (x : A) (xs : List A) → count_by p (x ∷ xs) ≡ one_if (p x) + count_by p xs
 count_head p x xs = sym (length-filter p (x ∷ xs)) ∙ elim (p x) as (λ b. length (cond b (x ∷ filter p xs) (filter p xs)) ≡ one_if b + count_by p xs) [
-      | true ↦ ap suc (length-filter p xs) ∙ (let e : suc (count_by p xs) ≡ 1 + count_by p xs = omega arith in e)
-      | false ↦ length-filter p xs ∙ (let e : count_by p xs ≡ 0 + count_by p xs = omega arith in e)
-    ]
+  | true ↦ ap suc (length-filter p xs) ∙ (let e : suc (count_by p xs) ≡ 1 + count_by p xs = omega arith in e)
+  | false ↦ length-filter p xs ∙ (let e : count_by p xs ≡ 0 + count_by p xs = omega arith in e)
+]
 
 pub count_moved : (rows fresh : List (List ℕ × List Op)) → AreRows rows → T (is_sorted client_cmp fresh) → AllByRecursion (λ row. IsOwn row.0 row.1) fresh → AllByRecursion (λ row. has_any row.1 ≡ true) fresh → count_named (moved rows fresh) ≡ count_named rows + count_new rows fresh
 count_moved rows [] are sorted owned any = let e : count_named rows ≡ count_named rows + 0 = omega arith in e
@@ -150,8 +150,8 @@ module _ (es fs : List (List ℕ × Entry)) (are : AreRows (rows_of es)) (each :
   own_after : AllByRecursion (λ f. own f.0 after ≡ f.1.ops.items) fs
   own_after = entries_from_rows (λ c ops. own c after ≡ ops) fs
       (all-weaker (λ row. find client_cmp row.0 (rows_of fs) ≡ Some row.1) (λ row. own row.0 after ≡ row.1)
-        (λ row found. ap or_nothing (find_in_moved row.0 (rows_of es) (rows_of fs) ∙ ap (λ x. or_else x (find client_cmp row.0 (rows_of es))) found))
-        (rows_of fs) (all_found client_cmp client_total (rows_of fs) h.sorted))
+      (λ row found. ap or_nothing (find_in_moved row.0 (rows_of es) (rows_of fs) ∙ ap (λ x. or_else x (find client_cmp row.0 (rows_of es))) found))
+      (rows_of fs) (all_found client_cmp client_total (rows_of fs) h.sorted))
 
   named_after : AllByRecursion (λ f. is_named f.0 (flat after) ≡ true) fs
   named_after = go fs own_after (entries_from_rows (λ c ops. has_any ops ≡ true) fs h.any)
@@ -162,14 +162,14 @@ module _ (es fs : List (List ℕ × Entry)) (are : AreRows (rows_of es)) (each :
 
   -- a limit on a number that is read off a client's own operations
   passed_one : (limit : ℕ) (m : List ℕ → List Op → ℕ) (test : List ℕ × Entry → Bool)
-    → ((c : List ℕ) (S : List Op) → m c S ≡ m c (of_client c S))
-    → ((c : List ℕ) → nat_lt limit (m c []) ≡ false)
-    → ((c : List ℕ) (e : Entry) → IsEntry c e → nat_lt limit (m c e.ops.items) ≡ false)
-    → ((f : List ℕ × Entry) → IsWorkedOut f.0 f.1 → nat_lt limit (m f.0 f.1.ops.items) ≡ test f)
-    → list_any (λ c. nat_lt limit (m c (flat after))) (clients (flat after)) ≡ list_any test fs
+      → ((c : List ℕ) (S : List Op) → m c S ≡ m c (of_client c S))
+      → ((c : List ℕ) → nat_lt limit (m c []) ≡ false)
+      → ((c : List ℕ) (e : Entry) → IsEntry c e → nat_lt limit (m c e.ops.items) ≡ false)
+      → ((f : List ℕ × Entry) → IsWorkedOut f.0 f.1 → nat_lt limit (m f.0 f.1.ops.items) ≡ test f)
+      → list_any (λ c. nat_lt limit (m c (flat after))) (clients (flat after)) ≡ list_any test fs
   passed_one limit m test reads none fits says =
       any_fresh (λ c. nat_lt limit (m c (flat after))) test (flat after) fs (go fs own_after h.worked_out) named_after
-        (λ c absent. ap (nat_lt limit) (read c ∙ ap (m c) (ap or_nothing (find_in_moved c (rows_of es) (rows_of fs) ∙ ap (λ x. or_else x (find client_cmp c (rows_of es))) (find_rows c fs ∙ ap (option_map (λ (e : Entry). e.ops.items)) absent)))) ∙ empty_own limit m c none fits es each)
+      (λ c absent. ap (nat_lt limit) (read c ∙ ap (m c) (ap or_nothing (find_in_moved c (rows_of es) (rows_of fs) ∙ ap (λ x. or_else x (find client_cmp c (rows_of es))) (find_rows c fs ∙ ap (option_map (λ (e : Entry). e.ops.items)) absent)))) ∙ empty_own limit m c none fits es each)
     where
       read : (c : List ℕ) → m c (flat after) ≡ m c (own c after)
       read c = reads c (flat after) ∙ ap (m c) (of_flat c after are_after)
@@ -183,14 +183,14 @@ module _ (es fs : List (List ℕ × Entry)) (are : AreRows (rows_of es)) (each :
   first_passed_after count is =
       let all : count ≡ length (clients (flat after)) = is ∙ sym (count_moved (rows_of es) (rows_of fs) are h.sorted h.owned h.any) ∙ sym (count_clients after are_after) in
       let pend = passed_one 16384 (λ c S. length (pending c S)) too_many_pending (λ c S. ap length (pending_own c S)) (λ c. refl)
-          (λ c e i. not_above 16384 (length (pending c e.ops.items)) (subst (λ n. n ≤ 16384) (ap (λ (v : ClientView). length v.pending) i.worked_out.seen) i.pending))
-          (λ f w. ap (nat_lt 16384) (sym (ap (λ (v : ClientView). length v.pending) w.seen))) in
+      (λ c e i. not_above 16384 (length (pending c e.ops.items)) (subst (λ n. n ≤ 16384) (ap (λ (v : ClientView). length v.pending) i.worked_out.seen) i.pending))
+      (λ f w. ap (nat_lt 16384) (sym (ap (λ (v : ClientView). length v.pending) w.seen))) in
       let park = passed_one 4096 (λ c S. length (parked c S)) too_many_parked (λ c S. ap length (parked_own c S)) (λ c. refl)
-          (λ c e i. not_above 4096 (length (parked c e.ops.items)) (subst (λ n. n ≤ 4096) i.worked_out.parked i.parked))
-          (λ f w. ap (nat_lt 4096) (sym w.parked)) in
+      (λ c e i. not_above 4096 (length (parked c e.ops.items)) (subst (λ n. n ≤ 4096) i.worked_out.parked i.parked))
+      (λ f w. ap (nat_lt 4096) (sym w.parked)) in
       let except = passed_one 16384 exceptions too_many_exceptions exceptions_own (λ c. no_exceptions c)
-          (λ c e i. sym (above_capped (exceptions c e.ops.items)) ∙ not_above 16384 (capped (exceptions c e.ops.items)) (subst (λ n. n ≤ 16384) i.worked_out.exceptions i.exceptions))
-          (λ f w. sym (above_capped (exceptions f.0 f.1.ops.items)) ∙ ap (nat_lt 16384) (sym w.exceptions)) in
+      (λ c e i. sym (above_capped (exceptions c e.ops.items)) ∙ not_above 16384 (capped (exceptions c e.ops.items)) (subst (λ n. n ≤ 16384) i.worked_out.exceptions i.exceptions))
+      (λ f w. sym (above_capped (exceptions f.0 f.1.ops.items)) ∙ ap (nat_lt 16384) (sym w.exceptions)) in
       ap (λ n. passed_of n (list_any too_many_pending fs) (list_any too_many_parked fs) (list_any too_many_exceptions fs)) all ∙ sym (λ i. passed_of (length (clients (flat after))) (pend i) (park i) (except i))
     where
       not_above : (limit n : ℕ) → n ≤ limit → nat_lt limit n ≡ false

@@ -24,16 +24,16 @@ same_back c d h = nat_list_eq_equiv.symm c d ∙ h
 pub entered_operation : (c d : List ℕ) (stamp : Stamp) (counter : ℕ) (change : SessionOp) (op : Op) (S : List Op) (es : List ((Stamp × ℕ) × SessionOp)) → op ≡ OfSession d stamp counter change → pointwise nat_eq d c ≡ true → es ≡ in_order operation_cmp (operations c S) → insert_entry operation_cmp es (stamp, counter) change ≡ in_order operation_cmp (operations c (op ∷ S))
 entered_operation c d stamp counter change op S es is same h =
     insert_is_put operation_cmp (stamp, counter) change es
-        ∙ ap (λ rest. place operation_cmp (stamp, counter) change rest) h
-        ∙ sym (ap (λ o. in_order operation_cmp (operations c (o ∷ S))) is ∙ ap (λ b. in_order operation_cmp (cons_option (if b then Some ((stamp, counter), change) else None) (operations c S))) (same_back c d same))
+    ∙ ap (λ rest. place operation_cmp (stamp, counter) change rest) h
+    ∙ sym (ap (λ o. in_order operation_cmp (operations c (o ∷ S))) is ∙ ap (λ b. in_order operation_cmp (cons_option (if b then Some ((stamp, counter), change) else None) (operations c S))) (same_back c d same))
 
 pub entered_put : (c d : List ℕ) (p : Put) (op : Op) (ranges : List Range) (S : List Op) (es : List ((ℕ × ℕ) × Put)) → op ≡ OfPut d p → pointwise nat_eq d c ≡ true → list_any (covers (p.seq, p.origin)) ranges ≡ false → es ≡ in_order put_cmp (unacknowledged_by ranges c S) → insert_entry put_cmp es (p.seq, p.origin) p ≡ in_order put_cmp (unacknowledged_by ranges c (op ∷ S))
 entered_put c d p op ranges S es is same free h =
     insert_is_put put_cmp (p.seq, p.origin) p es
-        ∙ ap (λ rest. place put_cmp (p.seq, p.origin) p rest) h
-        ∙ sym (ap (λ o. in_order put_cmp (unacknowledged_by ranges c (o ∷ S))) is
-            ∙ ap (λ b. in_order put_cmp (filter (λ e. not (list_any (covers e.0) ranges)) (cons_option (if b then Some ((p.seq, p.origin), p) else None) (puts c S)))) (same_back c d same)
-            ∙ ap (λ b. in_order put_cmp (if not b then ((p.seq, p.origin), p) ∷ unacknowledged_by ranges c S else unacknowledged_by ranges c S)) free)
+    ∙ ap (λ rest. place put_cmp (p.seq, p.origin) p rest) h
+    ∙ sym (ap (λ o. in_order put_cmp (unacknowledged_by ranges c (o ∷ S))) is
+    ∙ ap (λ b. in_order put_cmp (filter (λ e. not (list_any (covers e.0) ranges)) (cons_option (if b then Some ((p.seq, p.origin), p) else None) (puts c S)))) (same_back c d same)
+    ∙ ap (λ b. in_order put_cmp (if not b then ((p.seq, p.origin), p) ∷ unacknowledged_by ranges c S else unacknowledged_by ranges c S)) free)
 
 -- the ranges of a list cover what the list acknowledges
 pub covers_acknowledged : (c : List ℕ) (S : List Op) (name : ℕ × ℕ) → list_any (covers name) (filter_map (range_in c) S) ≡ is_acknowledged c S name
@@ -50,7 +50,7 @@ covers_acknowledged c (Ack d origin first last ∷ S) name =
 pub waiting_is_pending : (c : List ℕ) (S : List Op) (ranges : List Range) → ranges ≡ filter_map (range_in c) S → map (λ e. e.1) (in_order put_cmp (unacknowledged_by ranges c S)) ≡ pending c S
 waiting_is_pending c S ranges is =
     ap (λ rs. map (λ e. e.1) (in_order put_cmp (unacknowledged_by rs c S))) is
-        ∙ (λ i. map (λ e. e.1) (in_order put_cmp (filter (λ e. not (covers_acknowledged c S e.0 i)) (puts c S))))
+    ∙ (λ i. map (λ e. e.1) (in_order put_cmp (filter (λ e. not (covers_acknowledged c S e.0 i)) (puts c S))))
 
 -- the ranges of an origin
 pub numbers_acknowledged : (c : List ℕ) (S : List Op) (origin : ℕ) → filter_map (numbers origin) (filter_map (range_in c) S) ≡ filter_map (range_of c origin) S

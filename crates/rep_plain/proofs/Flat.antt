@@ -96,13 +96,13 @@ of_flat c [] h = refl
 of_flat c (row ∷ rows) h =
     let rest = of_flat c rows (tail_rows row rows h) in
     filter-append (λ op. same_client c (client_of op)) row.1 (flat rows)
-        ∙ elim (eq_by_cmp client_cmp c row.0) as (λ b. eq_by_cmp client_cmp c row.0 ≡ b → of_client c row.1 ++ of_client c (flat rows) ≡ or_nothing (cond b (Some row.1) (find client_cmp c rows))) [
-          | true ↦ λ t.
-              let same = tells_apart client_exact c row.0 t in
-              let none = find_below client_cmp c rows (subst (λ x. T (below_all client_cmp x rows)) (sym same) (first (below_all client_cmp row.0 rows) (is_sorted client_cmp rows) h.sorted)) in
-              (λ i. own_all c row.1 (subst (λ x. IsOwn x row.1) (sym same) h.owned.0) i ++ (rest ∙ ap or_nothing none) i) ∙ append-nil row.1
-          | false ↦ λ t. (λ i. own_other c row.0 row.1 h.owned.0 (sym (is_eq-slice_cmp c row.0) ∙ t) i ++ rest i)
-        ] refl
+    ∙ elim (eq_by_cmp client_cmp c row.0) as (λ b. eq_by_cmp client_cmp c row.0 ≡ b → of_client c row.1 ++ of_client c (flat rows) ≡ or_nothing (cond b (Some row.1) (find client_cmp c rows))) [
+      | true ↦ λ t.
+          let same = tells_apart client_exact c row.0 t in
+          let none = find_below client_cmp c rows (subst (λ x. T (below_all client_cmp x rows)) (sym same) (first (below_all client_cmp row.0 rows) (is_sorted client_cmp rows) h.sorted)) in
+          (λ i. own_all c row.1 (subst (λ x. IsOwn x row.1) (sym same) h.owned.0) i ++ (rest ∙ ap or_nothing none) i) ∙ append-nil row.1
+      | false ↦ λ t. (λ i. own_other c row.0 row.1 h.owned.0 (sym (is_eq-slice_cmp c row.0) ∙ t) i ++ rest i)
+    ] refl
 
 -- ---- the clients
 
@@ -130,18 +130,18 @@ with_row : (c : List ℕ) (ops S : List Op) (es : List (List ℕ × List ℕ)) �
 with_row c [] S es own below h = h
 with_row c (op ∷ ops) S es own below h =
     ap (λ o. in_order client_cmp (cons_option o (filter_map named (ops ++ S)))) own.0
-        ∙ ap (put client_cmp c c) (with_row c ops S es own.1 below h)
-        ∙ elim ops as (λ rest. put client_cmp c c (cond (has_any rest) ((c, c) ∷ es) es) ≡ (c, c) ∷ es) [
-          | [] ↦ put_front c es below
-          | x ∷ xs ↦ put_again c es
-        ]
+    ∙ ap (put client_cmp c c) (with_row c ops S es own.1 below h)
+    ∙ elim ops as (λ rest. put client_cmp c c (cond (has_any rest) ((c, c) ∷ es) es) ≡ (c, c) ∷ es) [
+      | [] ↦ put_front c es below
+      | x ∷ xs ↦ put_again c es
+    ]
 
 clients_doubles : (rows : List (List ℕ × List Op)) → AreRows rows → in_order client_cmp (filter_map named (flat rows)) ≡ doubles rows
 unfolding doubles
 clients_doubles [] h = refl
 clients_doubles (row ∷ rows) h =
     with_row row.0 row.1 (flat rows) (doubles rows) h.owned.0 (below_doubles row.0 rows (first (below_all client_cmp row.0 rows) (is_sorted client_cmp rows) h.sorted)) (clients_doubles rows (tail_rows row rows h))
-        ∙ elim (has_any row.1) as (λ b. cond b ((row.0, row.0) ∷ doubles rows) (doubles rows) ≡ map (λ row. (row.0, row.0)) (cond b (row ∷ filter (λ row. has_any row.1) rows) (filter (λ row. has_any row.1) rows))) [ true ↦ refl | false ↦ refl ]
+    ∙ elim (has_any row.1) as (λ b. cond b ((row.0, row.0) ∷ doubles rows) (doubles rows) ≡ map (λ row. (row.0, row.0)) (cond b (row ∷ filter (λ row. has_any row.1) rows) (filter (λ row. has_any row.1) rows))) [ true ↦ refl | false ↦ refl ]
 
 names_doubles : (rows : List (List ℕ × List Op)) → names (doubles rows) ≡ map (λ row. row.0) (filter (λ row. has_any row.1) rows)
 unfolding doubles
@@ -168,8 +168,8 @@ names_own c (OfSession d stamp counter change) e = ap (same_client c) (named_cli
 names_own c (OfPut d p) e = ap (same_client c) (named_client c (OfPut d p) e) ∙ same_itself c
 names_own c (Ack d origin low high) e =
     ap (λ x. same_client c x && nat_le low high) (named_client c (Ack d origin low high) e)
-        ∙ ap (λ b. b && nat_le low high) (same_itself c)
-        ∙ elim (nat_le low high) as (λ b. (if b then twice d else None) ≡ twice c → b ≡ true) [ true ↦ λ _. refl | false ↦ λ e. none_some (c, c) e ] e
+    ∙ ap (λ b. b && nat_le low high) (same_itself c)
+    ∙ elim (nat_le low high) as (λ b. (if b then twice d else None) ≡ twice c → b ≡ true) [ true ↦ λ _. refl | false ↦ λ e. none_some (c, c) e ] e
 
 pub named_any : (c : List ℕ) (ops : List Op) → IsOwn c ops → is_named c ops ≡ has_any ops
 named_any c [] h = refl
@@ -192,8 +192,8 @@ pub find_in_moved : (c : List ℕ) (rows fresh : List (List ℕ × List Op)) →
 find_in_moved c rows [] = refl
 find_in_moved c rows (row ∷ fresh) =
     find-put client_cmp client_total c row.0 row.1 (moved rows fresh)
-        ∙ ap (cond (eq_by_cmp client_cmp c row.0) (Some row.1)) (find_in_moved c rows fresh)
-        ∙ sym (find_moved client_cmp client_total c row.0 row.1 rows (find client_cmp c fresh))
+    ∙ ap (cond (eq_by_cmp client_cmp c row.0) (Some row.1)) (find_in_moved c rows fresh)
+    ∙ sym (find_moved client_cmp client_total c row.0 row.1 rows (find client_cmp c fresh))
 
 pub rows_put : (c : List ℕ) (ops : List Op) (rows : List (List ℕ × List Op)) → IsOwn c ops → AreRows rows → AreRows (put client_cmp c ops rows)
 rows_put c ops rows is h = record {
@@ -226,21 +226,21 @@ count_put c ops (row ∷ rows) h =
           let none = find_below client_cmp c (row ∷ rows) (both (is_lt (client_cmp c row.0)) (below_all client_cmp c rows) (subst (λ r. T (is_lt r)) (sym t) tt) (below_less c row.0 rows t (first (below_all client_cmp row.0 rows) (is_sorted client_cmp rows) h))) in
           let gone : find client_cmp c rows ≡ None = sym (ap (λ r. cond (is_eq r) (Some row.1) (find client_cmp c rows)) t) ∙ none in
           ap (λ o. count_named ((c, ops) ∷ row ∷ rows) + one_if (has_any (or_nothing o))) gone
-              ∙ ap (λ n. n + 0) (head_count (c, ops) (row ∷ rows))
-              ∙ (let e : (one_if (has_any ops) + count_named (row ∷ rows)) + 0 ≡ count_named (row ∷ rows) + one_if (has_any ops) = omega arith in e)
+          ∙ ap (λ n. n + 0) (head_count (c, ops) (row ∷ rows))
+          ∙ (let e : (one_if (has_any ops) + count_named (row ∷ rows)) + 0 ≡ count_named (row ∷ rows) + one_if (has_any ops) = omega arith in e)
       | Equal ↦ λ _. ap (λ n. n + one_if (has_any row.1)) (head_count (row.0, ops) rows)
           ∙ (let e : (one_if (has_any ops) + count_named rows) + one_if (has_any row.1) ≡ (one_if (has_any row.1) + count_named rows) + one_if (has_any ops) = omega arith in e)
           ∙ ap (λ n. n + one_if (has_any ops)) (sym head)
       | Greater ↦ λ _.
           let rest = count_put c ops rows (second (below_all client_cmp row.0 rows) (is_sorted client_cmp rows) h) in
           ap (λ n. n + one_if (has_any (own c rows))) (head_count row (put client_cmp c ops rows))
-              ∙ (let e : (one_if (has_any row.1) + count_named (put client_cmp c ops rows)) + one_if (has_any (own c rows)) ≡ (one_if (has_any row.1) + count_named rows) + one_if (has_any ops) = omega (arith, rest) in e)
-              ∙ ap (λ n. n + one_if (has_any ops)) (sym head)
+          ∙ (let e : (one_if (has_any row.1) + count_named (put client_cmp c ops rows)) + one_if (has_any (own c rows)) ≡ (one_if (has_any row.1) + count_named rows) + one_if (has_any ops) = omega (arith, rest) in e)
+          ∙ ap (λ n. n + one_if (has_any ops)) (sym head)
     ] refl
   where
     below_less : (x y : List ℕ) (es : List (List ℕ × List Op)) → client_cmp x y ≡ Less → T (below_all client_cmp y es) → T (below_all client_cmp x es)
     below_less x y [] p h = tt
     below_less x y (e ∷ es) p h =
         both (is_lt (client_cmp x e.0)) (below_all client_cmp x es)
-            (subst (λ r. T (is_lt r)) (sym (client_total.trans x y e.0 p (less (client_cmp y e.0) (first (is_lt (client_cmp y e.0)) (below_all client_cmp y es) h)))) tt)
-            (below_less x y es p (second (is_lt (client_cmp y e.0)) (below_all client_cmp y es) h))
+        (subst (λ r. T (is_lt r)) (sym (client_total.trans x y e.0 p (less (client_cmp y e.0) (first (is_lt (client_cmp y e.0)) (below_all client_cmp y es) h)))) tt)
+        (below_less x y es p (second (is_lt (client_cmp y e.0)) (below_all client_cmp y es) h))

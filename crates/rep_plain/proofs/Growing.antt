@@ -41,8 +41,8 @@ grown_there rows D op c ops is h =
     let more = behind c D op true (ap (same_client c) (sym is) ∙ same_self c) in
     let all : ops ++ op ∷ [] ≡ own c rows ++ (of_client c D ++ op ∷ []) = ap (λ ops. ops ++ op ∷ []) (h ∙ or_own (own c rows) (of_client c D)) ∙ append_assoc (own c rows) (of_client c D) (op ∷ []) in
     ap Some all
-        ∙ ap (λ b. if b then Some (own c rows ++ (of_client c D ++ op ∷ [])) else None) (sym (any_behind (of_client c D) op))
-        ∙ ap (λ rest. if has_any rest then Some (own c rows ++ rest) else None) (sym more)
+    ∙ ap (λ b. if b then Some (own c rows ++ (of_client c D ++ op ∷ [])) else None) (sym (any_behind (of_client c D) op))
+    ∙ ap (λ rest. if has_any rest then Some (own c rows ++ rest) else None) (sym more)
 
 -- another client
 pub grown_apart : (rows : List (List ℕ × List Op)) (D : List Op) (op : Op) (c : List ℕ) → same_client c (client_of op) ≡ false → grown c rows D ≡ grown c rows (D ++ op ∷ [])

@@ -121,15 +121,15 @@ all_front P (y ∷ xs) x h = let rest = all_front P xs x h.1 in ((h.0, rest.0), 
 pub move_last : (es new fs rest : List (List ℕ × Entry)) (c : List ℕ) (e : Entry) → fs ≡ rest ++ (c, e) ∷ [] → new ≡ insert_entry client_cmp es c e → moved (rows_of new) (rows_of rest) ≡ moved (rows_of es) (rows_of fs)
 move_last es new fs rest c e all is =
     ap (λ es. moved (rows_of es) (rows_of rest)) (is ∙ insert_is_put client_cmp c e es)
-        ∙ ap (λ rows. moved rows (rows_of rest)) (rows_put c e es)
-        ∙ sym (ap (λ fs. moved (rows_of es) (rows_of fs)) all ∙ ap (moved (rows_of es)) (rows_last rest (c, e)) ∙ moved_last (rows_of es) (rows_of rest) (c, e.ops.items))
+    ∙ ap (λ rows. moved rows (rows_of rest)) (rows_put c e es)
+    ∙ sym (ap (λ fs. moved (rows_of es) (rows_of fs)) all ∙ ap (moved (rows_of es)) (rows_last rest (c, e)) ∙ moved_last (rows_of es) (rows_of rest) (c, e.ops.items))
 
 pub room_left : (es new fs rest : List (List ℕ × Entry)) (c : List ℕ) (e : Entry) → fs ≡ rest ++ (c, e) ∷ [] → new ≡ insert_entry client_cmp es c e → HaveRoom (rows_of es) (rows_of fs) → HaveRoom (rows_of new) (rows_of rest)
 room_left es new fs rest c e all is h =
     let front = all_front (λ (row : List ℕ × List Op). IsSome (find client_cmp row.0 (rows_of es))) (rows_of rest) (c, e.ops.items) (subst (HaveRoom (rows_of es)) (ap rows_of all ∙ rows_last rest (c, e)) h) in
     let rows : rows_of new ≡ put client_cmp c e.ops.items (rows_of es) = ap rows_of (is ∙ insert_is_put client_cmp c e es) ∙ rows_put c e es in
     subst (λ rows. HaveRoom rows (rows_of rest)) (sym rows)
-        (all-weaker (λ (row : List ℕ × List Op). IsSome (find client_cmp row.0 (rows_of es))) (λ (row : List ℕ × List Op). IsSome (find client_cmp row.0 (put client_cmp c e.ops.items (rows_of es)))) (λ row s. found_put row.0 c e.ops.items (rows_of es) s) (rows_of rest) front.0)
+    (all-weaker (λ (row : List ℕ × List Op). IsSome (find client_cmp row.0 (rows_of es))) (λ (row : List ℕ × List Op). IsSome (find client_cmp row.0 (put client_cmp c e.ops.items (rows_of es)))) (λ row s. found_put row.0 c e.ops.items (rows_of es) s) (rows_of rest) front.0)
 
 -- the last of the fresh clients has a place
 pub room_last : (es fs rest : List (List ℕ × Entry)) (c : List ℕ) (e : Entry) → fs ≡ rest ++ (c, e) ∷ [] → HaveRoom (rows_of es) (rows_of fs) → is_some (lookup (is_at (client_cmp c)) es) ≡ true
@@ -167,8 +167,8 @@ entry_found c e (f ∷ es) h is =
 pub seen_found : (c : List ℕ) (es : List (List ℕ × Entry)) (n : ℕ) (e : Entry) → IsTable es n → Some e ≡ lookup (is_at (client_cmp c)) es → e.seen ≡ view c (flat (rows_of es))
 seen_found c es n e t is =
     (entry_found c e es t.each (sym (is ∙ lookup_is_find client_cmp c es))).worked_out.seen
-        ∙ ap (view c) (own_found c es (Some e) is)
-        ∙ sym (view_own c (flat (rows_of es)) ∙ ap (view c) (of_flat c (rows_of es) (table_rows es n t)))
+    ∙ ap (view c) (own_found c es (Some e) is)
+    ∙ sym (view_own c (flat (rows_of es)) ∙ ap (view c) (of_flat c (rows_of es) (table_rows es n t)))
 
 pub named_found : (c : List ℕ) (es : List (List ℕ × Entry)) (n : ℕ) (o : Option Entry) → IsTable es n → o ≡ lookup (is_at (client_cmp c)) es → is_named c (flat (rows_of es)) ≡ has_any (or_nothing (option_map (λ (e : Entry). e.ops.items) o))
 named_found c es n o t is = named_flat c (rows_of es) (table_rows es n t) ∙ ap has_any (sym (own_found c es o is))

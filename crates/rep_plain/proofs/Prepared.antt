@@ -69,9 +69,10 @@ grown_some : (rows : List (List ℕ × List Op)) (N : List Op) (c : List ℕ) (o
 grown_some rows N c ops are each is =
     elim (has_any (of_client c N)) as (λ b. has_any (of_client c N) ≡ b → (if b then Some (own c rows ++ of_client c N) else None) ≡ Some ops → IsOwn c ops × (has_any ops ≡ true)) [
       | true ↦ λ any is.
-          let same = same_Some (own c rows ++ of_client c N) ops is in
-          (subst (IsOwn c) same (all-both (λ op. named op ≡ Some (c, c)) (own c rows) (of_client c N) (found_own c rows are.owned) (own_of c N each)),
-          ap has_any (sym same) ∙ any_right (own c rows) (of_client c N) any)
+          let same = same_Some (own c rows ++ of_client c N) ops is in (
+            subst (IsOwn c) same (all-both (λ op. named op ≡ Some (c, c)) (own c rows) (of_client c N) (found_own c rows are.owned) (own_of c N each)),
+            ap has_any (sym same) ∙ any_right (own c rows) (of_client c N) any,
+          )
       | false ↦ λ _ is. none_some ops is
     ] refl is
 
@@ -107,19 +108,19 @@ module _ (es : List (List ℕ × Entry)) (n : ℕ) (t : IsTable es n) (D : List 
   pub same_after : (room : List (List ℕ × Entry)) → IsRoomier es room → Same (flat (moved (rows_of room) (rows_of fs))) (flat (rows_of es) ++ D)
   same_after room r =
       same_trans (same_grown (rows_of es) (rows_of room) (rows_of fs) N are (table_rows room n (r.table n t)) are_fresh.owned (own_room room r) g)
-          (subst (λ N. Same (flat (rows_of es) ++ N) (flat (rows_of es) ++ D)) (sym news) (same_news (flat (rows_of es)) D))
+      (subst (λ N. Same (flat (rows_of es) ++ N) (flat (rows_of es) ++ D)) (sym news) (same_news (flat (rows_of es)) D))
 
   -- the limit that is passed
   pub first_passed_both : (m : ℕ) → m ≡ n + count_new (rows_of es) (rows_of fs) → IsRoomier es es → passed_by m fs ≡ first_passed (flat (rows_of es) ++ D)
   first_passed_both m is r =
       first_passed_after es fs are t.each are_fresh m (is ∙ ap (λ n. n + count_new (rows_of es) (rows_of fs)) t.counted)
-          ∙ first_passed-thin (flat (moved (rows_of es) (rows_of fs))) (flat (rows_of es) ++ D) (thin-same (flat (moved (rows_of es) (rows_of fs))) (flat (rows_of es) ++ D) (same_after es r))
+      ∙ first_passed-thin (flat (moved (rows_of es) (rows_of fs))) (flat (rows_of es) ++ D) (thin-same (flat (moved (rows_of es) (rows_of fs))) (flat (rows_of es) ++ D) (same_after es r))
 
   pub counted_after : (room : List (List ℕ × Entry)) → IsRoomier es room → (m : ℕ) → m ≡ n + count_new (rows_of es) (rows_of fs) → m ≡ count_named (moved (rows_of room) (rows_of fs))
   counted_after room r m is =
       is ∙ ap (λ k. k + count_new (rows_of es) (rows_of fs)) (r.table n t).counted
-          ∙ sym (λ i. count_named (rows_of room) + count_by (λ (row : List ℕ × List Op). not (has_any (own_room room r row.0 i))) (rows_of fs))
-          ∙ sym (count_moved (rows_of room) (rows_of fs) (table_rows room n (r.table n t)) sorted are_fresh.owned are_fresh.any)
+      ∙ sym (λ i. count_named (rows_of room) + count_by (λ (row : List ℕ × List Op). not (has_any (own_room room r row.0 i))) (rows_of fs))
+      ∙ sym (count_moved (rows_of room) (rows_of fs) (table_rows room n (r.table n t)) sorted are_fresh.owned are_fresh.any)
 
 -- ---- no limit is passed
 
@@ -156,14 +157,16 @@ not_above limit n h = grind (arith, nat_tests)
 
 fit_entries : (fs : List (List ℕ × Entry)) → AllByRecursion (λ f. IsOwn f.0 f.1.ops.items) fs → AllByRecursion (λ f. IsWorkedOut f.0 f.1) fs → list_any too_many_pending fs ≡ false → list_any too_many_parked fs ≡ false → list_any too_many_exceptions fs ≡ false → AreEntries fs
 fit_entries [] o w a b c = tt
-fit_entries (f ∷ fs) o w a b c =
-    (record {
-      own = o.0;
-      worked_out = w.0;
-      pending = not_above 16384 (length f.1.seen.pending) (or_left (too_many_pending f) (list_any too_many_pending fs) a);
-      parked = not_above 4096 f.1.parked (or_left (too_many_parked f) (list_any too_many_parked fs) b);
-      exceptions = not_above 16384 f.1.exceptions (or_left (too_many_exceptions f) (list_any too_many_exceptions fs) c);
-    }, fit_entries fs o.1 w.1 (or_right (too_many_pending f) (list_any too_many_pending fs) a) (or_right (too_many_parked f) (list_any too_many_parked fs) b) (or_right (too_many_exceptions f) (list_any too_many_exceptions fs) c))
+fit_entries (f ∷ fs) o w a b c = (
+  record {
+    own = o.0;
+    worked_out = w.0;
+    pending = not_above 16384 (length f.1.seen.pending) (or_left (too_many_pending f) (list_any too_many_pending fs) a);
+    parked = not_above 4096 f.1.parked (or_left (too_many_parked f) (list_any too_many_parked fs) b);
+    exceptions = not_above 16384 f.1.exceptions (or_left (too_many_exceptions f) (list_any too_many_exceptions fs) c);
+  },
+  fit_entries fs o.1 w.1 (or_right (too_many_pending f) (list_any too_many_pending fs) a) (or_right (too_many_parked f) (list_any too_many_parked fs) b) (or_right (too_many_exceptions f) (list_any too_many_exceptions fs) c),
+)
 
 -- where no limit is passed, the fresh entries pass none
 pub fresh_fit : (m : ℕ) (fs : List (List ℕ × Entry)) → AreFresh fs → passed_by m fs ≡ None → AreEntries fs × (m ≤ 4096)

@@ -124,14 +124,14 @@ module _ (K D : List Op) where
     operations_same = λ c name.
         operation_at_both c K (filter (λ op. not (is_known K op)) D) name
         ∙ found_first (operation_at c K name) (operation_at c (filter (λ op. not (is_known K op)) D) name) (operation_at c D name)
-            (ap (find operation_cmp name) (filter_map-filter (operation_of c) (λ op. not (is_known K op)) (λ n. not (is_some (operation_at c K n))) (new_operation c) D)
-            ∙ find-where_key operation_cmp (λ n. not (is_some (operation_at c K n))) name (λ x t. ap (λ (n : Stamp × ℕ). not (is_some (operation_at c K n))) (sym (operation_exact name x t))) (filter_map (operation_of c) D))
+        (ap (find operation_cmp name) (filter_map-filter (operation_of c) (λ op. not (is_known K op)) (λ n. not (is_some (operation_at c K n))) (new_operation c) D)
+        ∙ find-where_key operation_cmp (λ n. not (is_some (operation_at c K n))) name (λ x t. ap (λ (n : Stamp × ℕ). not (is_some (operation_at c K n))) (sym (operation_exact name x t))) (filter_map (operation_of c) D))
         ∙ sym (operation_at_both c K D name);
     puts_same = λ c name.
         put_at_both c K (filter (λ op. not (is_known K op)) D) name
         ∙ found_first (put_at c K name) (put_at c (filter (λ op. not (is_known K op)) D) name) (put_at c D name)
-            (ap (find put_cmp name) (filter_map-filter (put_of c) (λ op. not (is_known K op)) (λ n. not (is_some (put_at c K n))) (new_put c) D)
-            ∙ find-where_key put_cmp (λ n. not (is_some (put_at c K n))) name (λ x t. ap (λ (n : ℕ × ℕ). not (is_some (put_at c K n))) (sym (put_exact name x t))) (filter_map (put_of c) D))
+        (ap (find put_cmp name) (filter_map-filter (put_of c) (λ op. not (is_known K op)) (λ n. not (is_some (put_at c K n))) (new_put c) D)
+        ∙ find-where_key put_cmp (λ n. not (is_some (put_at c K n))) name (λ x t. ap (λ (n : ℕ × ℕ). not (is_some (put_at c K n))) (sym (put_exact name x t))) (filter_map (put_of c) D))
         ∙ sym (put_at_both c K D name);
     acknowledgements_same = λ c name.
         is_acknowledged_both c K (filter (λ op. not (is_known K op)) D) name
@@ -152,13 +152,13 @@ grown_own ops (op ∷ rest) o e = refl
 pub own_grown : (rows room fresh : List (List ℕ × List Op)) (D : List Op) → ((c : List ℕ) → own c room ≡ own c rows) → IsGrown rows D fresh → (c : List ℕ) → own c (moved room fresh) ≡ own c rows ++ of_client c D
 own_grown rows room fresh D same h c =
     ap or_nothing (find_in_moved c room fresh)
-        ∙ ap (λ x. or_nothing (or_else x (find client_cmp c room))) (h c)
-        ∙ grown_own (own c rows) (of_client c D) (find client_cmp c room) (same c)
+    ∙ ap (λ x. or_nothing (or_else x (find client_cmp c room))) (h c)
+    ∙ grown_own (own c rows) (of_client c D) (find client_cmp c room) (same c)
 
 pub same_grown : (rows room fresh : List (List ℕ × List Op)) (D : List Op) → AreRows rows → AreRows room → AllByRecursion (λ row. IsOwn row.0 row.1) fresh → ((c : List ℕ) → own c room ≡ own c rows) → IsGrown rows D fresh → Same (flat (moved room fresh)) (flat rows ++ D)
 same_grown rows room fresh D are place owned same h =
     same_by_client (flat (moved room fresh)) (flat rows ++ D) (λ c.
-        of_flat c (moved room fresh) (rows_moved room fresh place owned)
-        ∙ own_grown rows room fresh D same h c
-        ∙ ap (λ ops. ops ++ of_client c D) (sym (of_flat c rows are))
-        ∙ sym (filter-append (λ op. same_client c (client_of op)) (flat rows) D))
+    of_flat c (moved room fresh) (rows_moved room fresh place owned)
+    ∙ own_grown rows room fresh D same h c
+    ∙ ap (λ ops. ops ++ of_client c D) (sym (of_flat c rows are))
+    ∙ sym (filter-append (λ op. same_client c (client_of op)) (flat rows) D))

@@ -23,7 +23,7 @@ use Rattle.rep_plain.proofs.Entering.{numbers_acknowledged}
 pub history_in_order : (c : List ℕ) (S : List Op) (known : List ((Stamp × ℕ) × SessionOp)) (seen : Option Stamp) → known ≡ in_order operation_cmp (operations c S) → seen ≡ visible c S → history_at (λ name. find operation_cmp name known) seen ≡ history c S
 history_in_order c S known seen k v =
     (λ i. history_at (λ name. find operation_cmp name (k i)) (v i))
-        ∙ (λ i. history_at (λ name. find-in_order operation_cmp operation_total name (operations c S) i) (visible c S))
+    ∙ (λ i. history_at (λ name. find-in_order operation_cmp operation_total name (operations c S) i) (visible c S))
 
 filter_names : (seen : Option Stamp) (prefix : ℕ) (known : List ((Stamp × ℕ) × SessionOp)) → length (filter (waits seen prefix) (keys_of known)) ≡ length (filter (is_parked seen prefix) known)
 filter_names seen prefix [] = refl
@@ -44,7 +44,7 @@ pub exceptions_of_ranges : (c : List ℕ) (S : List Op) (ranges : List Range) �
 unfolding exceptions above_gaps
 exceptions_of_ranges c S ranges is =
     ap (λ (rs : List Range). sum_to (λ origin. above_a_gap (joined (filter_map (numbers origin) rs))) 255) is
-        ∙ (λ i. sum_to (λ origin. above_a_gap (joined (numbers_acknowledged c S origin i))) 255)
+    ∙ (λ i. sum_to (λ origin. above_a_gap (joined (numbers_acknowledged c S origin i))) 255)
 
 -- nothing comes to nothing
 pub nothing_worked_out : (c : List ℕ) (entry : Entry) → entry.ops.items ≡ [] → entry.seen ≡ unseen → entry.parked ≡ 0 → entry.exceptions ≡ 0 → IsWorkedOut c entry

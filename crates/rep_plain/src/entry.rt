@@ -47,7 +47,11 @@ impl Entry {
     }
 
     /// What the operations of the client come to.
-    pub(crate) fn work_out(alloc: Global, client: &ClientId, ops: Vec<Op>) -> Result<Entry, NoMemory>
+    pub(crate) fn work_out(
+        alloc: Global,
+        client: &ClientId,
+        ops: Vec<Op>,
+    ) -> Result<Entry, NoMemory>
         ensures ops { IfOk result (λ entry. entry.ops.items ≡ ops.items) }
         ensures worked_out { IfOk result (λ entry. IsWorkedOut client.now entry) }
     {

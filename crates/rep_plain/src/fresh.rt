@@ -14,13 +14,17 @@ ghost use Rattle.rep_plain.specs.Tables.{rows_of, groups_of};
 use super::entry::Entry;
 use super::fault::NoMemory;
 use super::news::push_copy;
-use super::table::{own_ops, Table};
+use super::table::{Table, own_ops};
 use rep_ops::{ClientId, Op};
 use std::alloc::Global;
 use std::collections::BTreeMap;
 
 /// For each client of the new operations: what the table has of it, and the new operations behind.
-pub(crate) fn grown(alloc: Global, table: &Table, news: Vec<Op>) -> Result<BTreeMap<ClientId, Vec<Op>>, NoMemory>
+pub(crate) fn grown(
+    alloc: Global,
+    table: &Table,
+    news: Vec<Op>,
+) -> Result<BTreeMap<ClientId, Vec<Op>>, NoMemory>
     ensures { IfOk result (λ groups. IsGrown (rows_of table.now.entries) news.items (groups_of groups.entries)) }
 {
     let mut groups = BTreeMap::new(alloc);

@@ -9,7 +9,7 @@ ghost use Rattle.rep_plain.specs.Tables.{rows_of, is_known, has_range, one_new, 
 
 use super::fault::NoMemory;
 use super::reading::{agrees, operation_at, put_at};
-use super::table::{own_ops, Table};
+use super::table::{Table, own_ops};
 use rep_model::TakeFault;
 use rep_ops::{ClientId, Op};
 use std::alloc::Global;

@@ -7,7 +7,7 @@ use super::fresh::{grown, worked_out};
 use super::news::news;
 use super::reading::{greatest_epoch, greatest_seq};
 use super::room::{make_room, move_in};
-use super::table::{count_new, named_clients, own_ops, passed, Table};
+use super::table::{Table, count_new, named_clients, own_ops, passed};
 use rep_model::{ClientView, Replica, TakeFault};
 use rep_ops::{ClientId, Delta};
 use std::alloc::Global;

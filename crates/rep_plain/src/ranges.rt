@@ -60,10 +60,17 @@ impl Range {
 ghost use Rattle.rep_plain.specs.Steps.{range_in, covers, numbers, capped, above_gaps};
 
 /// The client's acknowledgements in the order in which they came.
-pub(crate) fn ranges_of(alloc: Global, ops: &[Op], client: &ClientId) -> Result<Vec<Range>, NoMemory>
+pub(crate) fn ranges_of(
+    alloc: Global,
+    ops: &[Op],
+    client: &ClientId,
+) -> Result<Vec<Range>, NoMemory>
     ensures { IfOk result (λ ranges. ranges.items ≡ filter_map (range_in client.now) ops.now) }
 {
-    let ranges = ops.iter().filter_map(|op| Range::in_op(op, client)).collect(alloc)?;
+    let ranges = ops
+        .iter()
+        .filter_map(|op| Range::in_op(op, client))
+        .collect(alloc)?;
     Ok(ranges)
 }
 
@@ -115,7 +122,11 @@ fn with_numbers(
 }
 
 /// Ranges in ascending order with one more; those that overlap or touch become one.
-fn with_range(alloc: Global, range: (u64, u64), ranges: &[(u64, u64)]) -> Result<Vec<(u64, u64)>, NoMemory>
+fn with_range(
+    alloc: Global,
+    range: (u64, u64),
+    ranges: &[(u64, u64)],
+) -> Result<Vec<(u64, u64)>, NoMemory>
     ensures { IfOk result (λ made. made.items ≡ with_range range ranges.now) }
 {
     let mut made = Vec::new(alloc);

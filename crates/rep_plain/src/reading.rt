@@ -64,7 +64,11 @@ fn has_put_name(name: (u64, u8), put: &Put) -> bool
 }
 
 /// The session operation that is there under a name.
-pub(crate) fn operation_at<'a>(ops: &'a [Op], client: &ClientId, name: (Stamp, u8)) -> Option<&'a SessionOp>
+pub(crate) fn operation_at<'a>(
+    ops: &'a [Op],
+    client: &ClientId,
+    name: (Stamp, u8),
+) -> Option<&'a SessionOp>
     ensures { option_copied result ≡ operation_at client.now ops.now name }
 {
     for op in ops {

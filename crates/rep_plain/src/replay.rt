@@ -80,7 +80,11 @@ pub(crate) fn replay(
 }
 
 /// A session after one more operation; a Take begins it.
-fn changed(alloc: Global, session: Option<Session>, change: &SessionOp) -> Result<Option<Session>, NoMemory>
+fn changed(
+    alloc: Global,
+    session: Option<Session>,
+    change: &SessionOp,
+) -> Result<Option<Session>, NoMemory>
     ensures { IfOk result (λ made. made ≡ after_change session change.now) }
 {
     match session {
@@ -96,10 +100,17 @@ fn changed(alloc: Global, session: Option<Session>, change: &SessionOp) -> Resul
 }
 
 /// How many of the operations wait for earlier ones.
-pub(crate) fn count_parked(known: &BTreeMap<(Stamp, u8), SessionOp>, visible: Option<Stamp>, prefix: u16) -> usize
+pub(crate) fn count_parked(
+    known: &BTreeMap<(Stamp, u8), SessionOp>,
+    visible: Option<Stamp>,
+    prefix: u16,
+) -> usize
     ensures { result ≡ count_by (waits visible prefix) (keys known.now) }
 {
-    known.keys().filter(|name| waits(**name, visible, prefix)).count()
+    known
+        .keys()
+        .filter(|name| waits(**name, visible, prefix))
+        .count()
 }
 
 /// Whether an operation of that name waits for earlier ones.

@@ -13,7 +13,11 @@ use rep_ops::ClientId;
 use std::alloc::Global;
 
 /// Makes a place for each of the fresh clients. An empty place is seen by no query.
-pub(crate) fn make_room(alloc: Global, table: &mut Table, fresh: &[(ClientId, Entry)]) -> Result<(), NoMemory>
+pub(crate) fn make_room(
+    alloc: Global,
+    table: &mut Table,
+    fresh: &[(ClientId, Entry)],
+) -> Result<(), NoMemory>
     ensures roomier { IsRoomier table.old.entries table.new.entries }
     ensures room { OnOk result (HaveRoom (rows_of table.new.entries) (rows_of fresh.now)) }
 {

@@ -60,7 +60,9 @@ pub(crate) fn passed(count: usize, fresh: &[(ClientId, Entry)]) -> Option<Limit>
 fn any_pending(fresh: &[(ClientId, Entry)]) -> bool
     ensures { result ≡ list_any too_many_pending fresh.now }
 {
-    fresh.iter().any(|row| row.1.seen.pending.len() > MOST_PENDING)
+    fresh
+        .iter()
+        .any(|row| row.1.seen.pending.len() > MOST_PENDING)
 }
 
 /// Whether too many session operations of one of the clients wait.
@@ -81,7 +83,10 @@ fn any_exceptions(fresh: &[(ClientId, Entry)]) -> bool
 pub(crate) fn count_new(table: &Table, fresh: &[(ClientId, Entry)]) -> usize
     ensures { result ≡ count_new (rows_of table.now.entries) (rows_of fresh.now) }
 {
-    fresh.iter().filter(|row| own_ops(table, &row.0).is_empty()).count()
+    fresh
+        .iter()
+        .filter(|row| own_ops(table, &row.0).is_empty())
+        .count()
 }
 
 /// The clients that have operations, in ascending order.

@@ -9,14 +9,19 @@ ghost use Rattle.rep_model.specs.Views.{in_order, pending};
 ghost use Rattle.rep_plain.specs.Steps.{range_in, unacknowledged_by};
 
 use super::fault::NoMemory;
-use super::ranges::{is_covered, Range};
+use super::ranges::{Range, is_covered};
 use rep_model::Puts;
 use rep_ops::{ClientId, Op, Put};
 use std::alloc::Global;
 use std::collections::BTreeMap;
 
 /// The messages that are not acknowledged, in the order of delivery.
-pub(crate) fn waiting(alloc: Global, ops: &[Op], client: &ClientId, ranges: &[Range]) -> Result<Puts, NoMemory>
+pub(crate) fn waiting(
+    alloc: Global,
+    ops: &[Op],
+    client: &ClientId,
+    ranges: &[Range],
+) -> Result<Puts, NoMemory>
     requires { ranges.now ≡ filter_map (range_in client.now) ops.now }
     ensures { IfOk result (λ waiting. waiting ≡ pending client.now ops.now) }
 {
@@ -48,7 +53,8 @@ fn note_put(
     ensures { (S : List Op) → by_name.old.entries ≡ in_order put_cmp (unacknowledged_by ranges.now client.now S) → OnOk result (by_name.new.entries ≡ in_order put_cmp (unacknowledged_by ranges.now client.now (op.now ∷ S))) }
 {
     match op {
-        Op::Put { client: owner, put } if owner == client && !is_covered(ranges, put.seq, put.origin) => {
+        Op::Put { client: owner, put }
+            if owner == client && !is_covered(ranges, put.seq, put.origin) => {
             by_name.insert((put.seq, put.origin), put.copy(alloc)?)?;
         }
         _ => {}

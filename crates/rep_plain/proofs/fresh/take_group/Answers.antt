@@ -18,11 +18,11 @@ returns-in-Some-clause-ops c =
 pub returns-in-Some-clause-others : goal.returns-in-Some-clause-others
 returns-in-Some-clause-others c =
     λ q apart.
-        let items = λ (ops : Vec Op Global). ops.items in
-        let old = c.args.groups.now.entries in
-        let new = c.remove.new.self.entries in
-        let same : lookup (is_at (client_cmp q)) new ≡ lookup (is_at (client_cmp q)) old = c.remove.ensures.updates.2 q apart in
-        sym (look_up items q new (lookup (is_at (client_cmp q)) old) (sym same)) ∙ look_up items q old (lookup (is_at (client_cmp q)) old) (λ i. lookup (is_at (client_cmp q)) old)
+    let items = λ (ops : Vec Op Global). ops.items in
+    let old = c.args.groups.now.entries in
+    let new = c.remove.new.self.entries in
+    let same : lookup (is_at (client_cmp q)) new ≡ lookup (is_at (client_cmp q)) old = c.remove.ensures.updates.2 q apart in
+    sym (look_up items q new (lookup (is_at (client_cmp q)) old) (sym same)) ∙ look_up items q old (lookup (is_at (client_cmp q)) old) (λ i. lookup (is_at (client_cmp q)) old)
 
 pub returns-in-None-clause-ops : goal.returns-in-None-clause-ops
 returns-in-None-clause-ops c =

@@ -13,9 +13,9 @@ returns-then-not-agrees-clause-fault c =
     let op = c.args.op.now in
     let same = c.own_ops-kept.ensures ∙ ap (λ x. own x rows) c.client.ensures in
     ⊎_elim
-        (λ is. subst (IsRefusalOf (flat rows) op) (sym is) (sym c.client-then-not-agrees.ensures, λ h. true≢false (sym (c.agrees.ensures.1 (subst (λ S. Agrees S op) (sym same) (agrees_own rows c.requires op h))) ∙ c.if-not-agrees.true)))
-        (λ is. subst (IsRefusalOf (flat rows) op) (sym is) tt)
-        c.conflict.ensures
+    (λ is. subst (IsRefusalOf (flat rows) op) (sym is) (sym c.client-then-not-agrees.ensures, λ h. true≢false (sym (c.agrees.ensures.1 (subst (λ S. Agrees S op) (sym same) (agrees_own rows c.requires op h))) ∙ c.if-not-agrees.true)))
+    (λ is. subst (IsRefusalOf (flat rows) op) (sym is) tt)
+    c.conflict.ensures
 
 pub returns-clause-agrees : goal.returns-clause-agrees
 returns-clause-agrees c =

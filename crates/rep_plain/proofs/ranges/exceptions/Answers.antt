@@ -12,5 +12,5 @@ loop-below-init c = refl
 pub loop-below-preserved : goal.loop-below-preserved
 loop-below-preserved c =
     capped_more c.args.ranges.now c.loop-below.below c.above_gap.result c.loop-below.count _
-        (c.above_gap.ensures ∙ ap (λ rs. capped (above_a_gap rs)) (c.as_slice.ensures.value ∙ c.in_ok-numbers.ensures))
-        c.loop-below.invariant c.saturating_add-count.ensures
+    (c.above_gap.ensures ∙ ap (λ rs. capped (above_a_gap rs)) (c.as_slice.ensures.value ∙ c.in_ok-numbers.ensures))
+    c.loop-below.invariant c.saturating_add-count.ensures

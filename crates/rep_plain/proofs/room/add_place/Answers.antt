@@ -13,7 +13,7 @@ returns-in_ok-insert-clause-roomier c =
     let is = c.in_ok-insert.ensures.entries ∙ ap (λ k. insert_entry client_cmp old k e) c.in_ok-copy.ensures.ok in
     let absent = none_there (lookup (is_at (client_cmp client)) old) (sym c.contains_key.ensures ∙ c.if-not-contains_key.true) in
     roomier_place old c.insert.new.self.entries client e is absent c.empty.ensures.ops
-        (entry_empty client e c.empty.ensures.ops (c.empty.ensures.worked_out client) c.empty.ensures.open.0 c.empty.ensures.open.1 c.empty.ensures.open.2)
+    (entry_empty client e c.empty.ensures.ops (c.empty.ensures.worked_out client) c.empty.ensures.open.0 c.empty.ensures.open.1 c.empty.ensures.open.2)
 
 pub returns-in_ok-insert-clause-there : goal.returns-in_ok-insert-clause-there
 returns-in_ok-insert-clause-there c =

@@ -13,10 +13,11 @@ loop-client-preserved-in-Ok c =
     let fs = c.loop-client.fresh.items in
     let rest = c.pop.new.self.items in
     let all = c.in-Some.ensures.items in
-    let is = c.in-Ok.ensures.entries in
-    (move_last es new fs rest c.in-Some.client c.in-Some.entry all is ∙ c.loop-client.invariant.0,
-    room_left es new fs rest c.in-Some.client c.in-Some.entry all is c.loop-client.invariant.1,
-    λ h. movable_left es new fs rest c.in-Some.client c.in-Some.entry all is (c.loop-client.invariant.2 h))
+    let is = c.in-Ok.ensures.entries in (
+      move_last es new fs rest c.in-Some.client c.in-Some.entry all is ∙ c.loop-client.invariant.0,
+      room_left es new fs rest c.in-Some.client c.in-Some.entry all is c.loop-client.invariant.1,
+      λ h. movable_left es new fs rest c.in-Some.client c.in-Some.entry all is (c.loop-client.invariant.2 h),
+    )
 
 pub loop-client-preserved-in-Ok-2 : goal.loop-client-preserved-in-Ok-2
 loop-client-preserved-in-Ok-2 c =
@@ -25,7 +26,8 @@ loop-client-preserved-in-Ok-2 c =
     let fs = c.loop-client.fresh.items in
     let rest = c.pop.new.self.items in
     let all = c.in-Some.ensures.items in
-    let is = c.in-Ok.ensures.entries in
-    (move_last es new fs rest c.in-Some.client c.in-Some.entry all is ∙ c.loop-client.invariant.0,
-    room_left es new fs rest c.in-Some.client c.in-Some.entry all is c.loop-client.invariant.1,
-    λ h. movable_left es new fs rest c.in-Some.client c.in-Some.entry all is (c.loop-client.invariant.2 h))
+    let is = c.in-Ok.ensures.entries in (
+      move_last es new fs rest c.in-Some.client c.in-Some.entry all is ∙ c.loop-client.invariant.0,
+      room_left es new fs rest c.in-Some.client c.in-Some.entry all is c.loop-client.invariant.1,
+      λ h. movable_left es new fs rest c.in-Some.client c.in-Some.entry all is (c.loop-client.invariant.2 h),
+    )

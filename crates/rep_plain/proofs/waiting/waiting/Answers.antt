@@ -19,6 +19,6 @@ returns c =
     let here : drop c.loop-i.i c.args.ops.now ≡ c.args.ops.now = ap (λ n. drop n c.args.ops.now) (let z : c.loop-i.i ≡ 0 = omega arith in z) in
     let es = c.loop-i.by_name.entries in
     let is = ap (λ entries. map (λ e. e.1) entries) c.loop-i.invariant.1
-        ∙ ap (λ S. map (λ e. e.1) (in_order put_cmp (unacknowledged_by ranges client S))) here
-        ∙ waiting_is_pending client c.args.ops.now ranges c.requires in
+    ∙ ap (λ S. map (λ e. e.1) (in_order put_cmp (unacknowledged_by ranges client S))) here
+    ∙ waiting_is_pending client c.args.ops.now ranges c.requires in
     IfOk-weaker c.into_puts.result (λ puts. puts ≡ map (λ e. e.1) es) (λ puts. puts ≡ pending client c.args.ops.now) (λ puts h. h ∙ is) c.into_puts.ensures

@@ -15,4 +15,4 @@ returns c =
     let rows = rows_of es in
     let are = table_rows es c.self.inside.named c.self.invariant in
     next_one c.greatest_epoch.result c.checked_add.result c.checked_add.ensures
-        ∙ ap one_more (c.greatest_epoch.ensures ∙ ap (λ S. greatest_epoch client S) (c.own_ops.ensures ∙ sym (of_flat client rows are)) ∙ sym (greatest_epoch_own client (flat rows)) ∙ ap (λ rows. greatest_epoch client (flat rows)) c.self.view_is)
+    ∙ ap one_more (c.greatest_epoch.ensures ∙ ap (λ S. greatest_epoch client S) (c.own_ops.ensures ∙ sym (of_flat client rows are)) ∙ sym (greatest_epoch_own client (flat rows)) ∙ ap (λ rows. greatest_epoch client (flat rows)) c.self.view_is)

@@ -15,4 +15,4 @@ returns c =
     let rows = rows_of es in
     let are = table_rows es c.self.inside.named c.self.invariant in
     next_one c.greatest_seq.result c.checked_add.result c.checked_add.ensures
-        ∙ ap one_more (c.greatest_seq.ensures ∙ ap (λ S. largest (seq_of client c.args.gateway) S) (c.own_ops.ensures ∙ sym (of_flat client rows are)) ∙ sym (greatest_seq_own client (flat rows) c.args.gateway) ∙ ap (λ rows. largest (seq_of client c.args.gateway) (flat rows)) c.self.view_is)
+    ∙ ap one_more (c.greatest_seq.ensures ∙ ap (λ S. largest (seq_of client c.args.gateway) S) (c.own_ops.ensures ∙ sym (of_flat client rows are)) ∙ sym (greatest_seq_own client (flat rows) c.args.gateway) ∙ ap (λ rows. largest (seq_of client c.args.gateway) (flat rows)) c.self.view_is)

@@ -88,9 +88,10 @@ returns-clause-ready c =
     let new = c.count_new.ensures ∙ ap (λ fs. count_new (rows_of es) (rows_of fs)) c.as_slice.ensures.value in
     let m = n + c.count_new.result in
     let room = c.make_room.new.table.entries in
-    let r = c.in_ok-make_room.ensures.roomier in
-    (subst (λ fs. HaveRoom (rows_of room) (rows_of fs)) c.as_slice-3.ensures.value c.in_ok-make_room.ensures.room,
-    counted_after es n t D c.ops.ensures.delta N news fs g sorted worked room r m (ap (λ k. n + k) new))
+    let r = c.in_ok-make_room.ensures.roomier in (
+      subst (λ fs. HaveRoom (rows_of room) (rows_of fs)) c.as_slice-3.ensures.value c.in_ok-make_room.ensures.room,
+      counted_after es n t D c.ops.ensures.delta N news fs g sorted worked room r m (ap (λ k. n + k) new),
+    )
 
 pub returns-clause-taken : goal.returns-clause-taken
 returns-clause-taken c =

@@ -19,16 +19,17 @@ returns-then-is_empty c =
     let e = c.in_ok-entry.entry.now in
     let empty = sym c.is_empty.ensures ∙ c.if-is_empty.true in
     sym (ap (λ rows. is_named client (flat rows)) c.self.view_is)
-        ∙ named_found client es c.self.inside.named (Some e) c.self.invariant c.in_ok-entry.ensures.value
-        ∙ any_length e.ops.items ∙ ap (λ ops. not (length ops == 0)) (sym c.as_slice.ensures.value) ∙ ap not empty
+    ∙ named_found client es c.self.inside.named (Some e) c.self.invariant c.in_ok-entry.ensures.value
+    ∙ any_length e.ops.items ∙ ap (λ ops. not (length ops == 0)) (sym c.as_slice.ensures.value) ∙ ap not empty
 
 pub returns : goal.returns
 returns c =
     let client = c.args.client.now in
     let es = c.self.inside.table.entries in
     let e = c.in_ok-entry.entry.now in
-    let some = sym c.is_empty.ensures ∙ c.if-is_empty.false in
-    (sym (ap (λ rows. is_named client (flat rows)) c.self.view_is)
-        ∙ named_found client es c.self.inside.named (Some e) c.self.invariant c.in_ok-entry.ensures.value
-        ∙ any_length e.ops.items ∙ ap (λ ops. not (length ops == 0)) (sym c.as_slice.ensures.value) ∙ ap not some,
-    seen_found client es c.self.inside.named e c.self.invariant c.in_ok-entry.ensures.value ∙ ap (λ rows. view client (flat rows)) c.self.view_is)
+    let some = sym c.is_empty.ensures ∙ c.if-is_empty.false in (
+      sym (ap (λ rows. is_named client (flat rows)) c.self.view_is)
+          ∙ named_found client es c.self.inside.named (Some e) c.self.invariant c.in_ok-entry.ensures.value
+          ∙ any_length e.ops.items ∙ ap (λ ops. not (length ops == 0)) (sym c.as_slice.ensures.value) ∙ ap not some,
+      seen_found client es c.self.inside.named e c.self.invariant c.in_ok-entry.ensures.value ∙ ap (λ rows. view client (flat rows)) c.self.view_is,
+    )
