@@ -1,5 +1,5 @@
 -- One operation more in front of a list.
-use Rattle.std.proofs.Common.{◌≡◌, ℕ, Bool, true, false, not, ◌&&◌, ◌||◌, ◌==◌, nat_le, if◌then◌else◌, cond, List, [], ◌∷◌, map, filter, Option, Some, None, refl, sym, ap, subst, ◌∙◌, nat_eq}
+use Rattle.std.proofs.Common.{◌≡◌, ℕ, true, false, not, ◌&&◌, ◌||◌, ◌==◌, nat_le, if◌then◌else◌, List, [], ◌∷◌, map, filter, Some, None, refl, sym, ap, ◌∙◌, nat_eq}
 use Rattle.std.specs.List.{filter_map, list_any, cons_option}
 use Rattle.std.specs.Cmp.Lexicographic.{pointwise, nat_list_eq_equiv}
 use Rattle.std.specs.BTreeMap.{insert_entry}
@@ -10,9 +10,9 @@ use Rattle.rep_ops.specs.declared.op.Put.{Put}
 use Rattle.rep_ops.specs.declared.op.Op.{Op}
 use Rattle.rep_ops.specs.declared.op.Op.TheVariants.{Session as OfSession, Put as OfPut, Ack}
 use Rattle.rep_ops.specs.Orders.{operation_cmp, put_cmp}
-use Rattle.rep_ops.specs.Sets.{same_client, operations, operation_of, put_of, puts, acknowledges, is_acknowledged}
+use Rattle.rep_ops.specs.Sets.{same_client, operations, puts, is_acknowledged}
 use Rattle.rep_model.specs.Views.{in_order, pending}
-use Rattle.rep_model.specs.Limits.{range_of, acknowledged}
+use Rattle.rep_model.specs.Limits.{range_of}
 use Rattle.rep_plain.specs.declared.ranges.Range.{Range}
 use Rattle.rep_plain.specs.Steps.{range_in, covers, numbers, unacknowledged_by}
 use Rattle.rep_plain.proofs.Maps.{insert_is_put}

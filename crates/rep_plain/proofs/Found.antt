@@ -1,5 +1,5 @@
 -- What a look-up in the table says of its rows.
-use Rattle.std.proofs.Common.{◌≡◌, ℕ, ◌≤◌, Bool, true, false, cond, List, [], ◌∷◌, ◌++◌, map, Option, Some, None, is_some, T, Bor, refl, sym, ap, ◌∙◌, subst, Ordering, Less, Equal, Greater, ◌&&◌, IfSome, Contains}
+use Rattle.std.proofs.Common.{◌≡◌, ℕ, Bool, true, false, cond, List, [], ◌∷◌, map, Option, Some, None, is_some, T, Bor, refl, sym, ap, ◌∙◌, subst, Ordering, Less, Equal, Greater, ◌&&◌, IfSome, Contains}
 use Rattle.std.specs.Option.{option_map, option_copied}
 use Rattle.std.specs.List.{AllByRecursion, list_any}
 use Rattle.std.specs.List.Sorted.{IsStrictlySortedBy}
@@ -9,7 +9,6 @@ use Rattle.std.specs.BTreeMap.{is_at}
 use Rattle.std.specs.FinMap.{find, put, is_sorted}
 use Rattle.std.specs.FinMap.Entries.{below_all, by_order}
 use Rattle.std.proofs.lemmas.Map.Keys.{sorted_head, sorted_tail}
-use Rattle.std.proofs.lemmas.Map.Views.{tells_apart}
 use Rattle.rep_ops.specs.declared.op.Op.{Op}
 use Rattle.rep_ops.specs.declared.op.Stamp.{Stamp}
 use Rattle.rep_ops.specs.declared.op.Op.TheVariants.{Session as OfSession, Put as OfPut, Ack}
@@ -18,11 +17,9 @@ use Rattle.rep_ops.specs.Sets.{operation_at, put_at, Agrees}
 use Rattle.rep_model.specs.Taking.{IsFaultOf}
 use Rattle.rep_model.specs.declared.fault.TakeFault.{TakeFault}
 use Rattle.rep_model.specs.declared.fault.TakeFault.TheVariants.{Conflict, Full, Memory}
-use Rattle.rep_model.proofs.Readers.{client_exact}
 use Rattle.rep_plain.specs.declared.entry.Entry.{Entry}
-use Rattle.rep_plain.specs.Entries.{IsWorkedOut}
 use Rattle.rep_plain.specs.Rows.{flat, own, or_nothing, IsOwn, AreRows}
-use Rattle.rep_plain.specs.Tables.{rows_of, IsEntry, AreEntries, IsTable, is_known, has_range, IsRefusalOf}
+use Rattle.rep_plain.specs.Tables.{rows_of, AreEntries, IsTable, is_known, has_range, IsRefusalOf}
 use Rattle.rep_plain.proofs.Maps.{lookup_is_find}
 use Rattle.rep_plain.proofs.Single.{operation_at_own, put_at_own, has_range_own}
 use Rattle.rep_plain.proofs.Flat.{of_flat}

@@ -1,5 +1,5 @@
 -- The operations of a stamp, one after the other.
-use Rattle.std.proofs.Common.{◌≡◌, ℕ, suc, ◌+◌, ◌^◌, min, ◌-◌, ◌≤◌, ◌<◌, List, [], ◌∷◌, length, fold, Some, None, Option, refl, sym, ap, ◌∙◌, arith}
+use Rattle.std.proofs.Common.{◌≡◌, ℕ, suc, ◌+◌, ◌^◌, min, ◌-◌, ◌<◌, List, [], length, fold, Some, None, Option, refl, sym, ap, ◌∙◌, arith}
 use Rattle.sn_session.specs.declared.session.Session.{Session}
 use Rattle.sn_session.specs.declared.session.SessionOp.{SessionOp}
 use Rattle.std.specs.List.{filter_map}

@@ -10,7 +10,6 @@ use Rattle.rep_ops.specs.Orders.{client_cmp, client_of}
 use Rattle.rep_ops.specs.Sets.{same_client, Same}
 use Rattle.rep_ops.specs.WellMade.{is_well_made}
 use Rattle.rep_ops.specs.Deltas.{IsDelta}
-use Rattle.rep_model.specs.declared.fault.Limit.{Limit}
 use Rattle.rep_model.specs.declared.fault.Limit.TheVariants.{Clients, Pending, Parked, Exceptions}
 use Rattle.rep_model.specs.Views.{named}
 use Rattle.rep_model.specs.Limits.{first_passed}
@@ -21,7 +20,7 @@ use Rattle.rep_model.proofs.Limits.{first_passed-thin}
 use Rattle.rep_plain.specs.declared.entry.Entry.{Entry}
 use Rattle.rep_plain.specs.Entries.{IsWorkedOut}
 use Rattle.rep_plain.specs.Rows.{flat, own, moved, has_any, count_named, count_new, IsOwn, AreRows, of_client, grown, IsGrown}
-use Rattle.rep_plain.specs.Tables.{rows_of, IsEntry, AreEntries, IsTable, IsRoomier, is_known, passed_of, passed_by, too_many_pending, too_many_parked, too_many_exceptions}
+use Rattle.rep_plain.specs.Tables.{rows_of, AreEntries, IsTable, IsRoomier, is_known, passed_by, too_many_pending, too_many_parked, too_many_exceptions}
 use Rattle.rep_plain.proofs.Flat.{of_flat, found_own}
 use Rattle.rep_plain.proofs.Found.{table_rows}
 use Rattle.rep_plain.proofs.Taking.{same_news, same_grown}

@@ -1,11 +1,9 @@
 -- What the rows are once a delta is taken.
-use Rattle.std.proofs.Common.{◌≡◌, ℕ, ◌≤◌, suc, ◌+◌, Bool, true, false, not, cond, ◌&&◌, ◌||◌, ◌==◌, if◌then◌else◌, nat_le, List, [], ◌∷◌, ◌++◌, length, map, filter, Option, Some, None, is_some, IfSome, T, refl, sym, ap, ◌∙◌, subst, true≢false, arith, Ordering, Less, Equal, Greater, is_eq, append-nil, leb-true, eqb-true, eq-eqb, le-leb}
+use Rattle.std.proofs.Common.{◌≡◌, ℕ, ◌≤◌, Bool, true, false, not, cond, ◌&&◌, ◌||◌, ◌==◌, if◌then◌else◌, nat_le, List, [], ◌∷◌, ◌++◌, filter, Option, Some, None, is_some, IfSome, refl, sym, ap, ◌∙◌, true≢false, arith, append-nil, leb-true, eqb-true, eq-eqb, le-leb}
 use Rattle.std.specs.Cmp.Derive.{both_true}
-use Rattle.std.specs.List.{filter_map, list_any, cons_option, AllByRecursion}
-use Rattle.std.specs.Ordering.{is_lt, eq_by_cmp, ordering_reverse}
-use Rattle.std.specs.Cmp.{IsTotalOrder, tied_itself}
-use Rattle.std.specs.FinMap.{find, put, is_sorted}
-use Rattle.std.specs.FinMap.Entries.{below_all, by_order, find-where_key}
+use Rattle.std.specs.List.{filter_map, list_any, AllByRecursion}
+use Rattle.std.specs.FinMap.{find}
+use Rattle.std.specs.FinMap.Entries.{find-where_key}
 use Rattle.std.proofs.lemmas.List.Elements.{filter-append}
 use Rattle.sn_session.specs.declared.session.SessionOp.{SessionOp}
 use Rattle.rep_ops.specs.declared.op.Stamp.{Stamp}
@@ -13,12 +11,12 @@ use Rattle.rep_ops.specs.declared.op.Put.{Put}
 use Rattle.rep_ops.specs.declared.op.Op.{Op}
 use Rattle.rep_ops.specs.declared.op.Op.TheVariants.{Session as OfSession, Put as OfPut, Ack}
 use Rattle.rep_ops.specs.Orders.{client_cmp, client_of, operation_cmp, put_cmp}
-use Rattle.rep_ops.specs.Sets.{same_client, operation_of, operation_at, put_of, put_at, acknowledges, is_acknowledged, Within, Same}
-use Rattle.rep_model.specs.Views.{visible, named}
-use Rattle.rep_model.specs.Keep.{is_below, keep, IsKeptOf}
+use Rattle.rep_ops.specs.Sets.{same_client, operation_of, operation_at, put_of, put_at, acknowledges, is_acknowledged, Same}
+use Rattle.rep_model.specs.Views.{visible}
+use Rattle.rep_model.specs.Keep.{is_below, IsKeptOf}
 use Rattle.rep_model.proofs.Lookup.{or_else, filter_map-filter, list_any-filter, list_any-weaker}
-use Rattle.rep_model.proofs.Readers.{operation_exact, put_exact, client_total, client_exact, same_client-true, operation_at_both, put_at_both, is_acknowledged_both, operation_at_keep, put_at_keep, is_acknowledged_keep}
-use Rattle.rep_plain.specs.Rows.{flat, own, or_nothing, moved, has_any, count_named, IsOwn, AreRows, of_client, grown, IsGrown}
+use Rattle.rep_model.proofs.Readers.{operation_exact, put_exact, same_client-true, operation_at_both, put_at_both, is_acknowledged_both, operation_at_keep, put_at_keep, is_acknowledged_keep}
+use Rattle.rep_plain.specs.Rows.{flat, own, or_nothing, moved, has_any, IsOwn, AreRows, of_client, IsGrown}
 use Rattle.rep_plain.specs.Tables.{has_range, is_known}
 use Rattle.rep_plain.proofs.Single.{operation_at_own, put_at_own, is_acknowledged_own}
 use Rattle.rep_plain.proofs.Flat.{of_flat, find_in_moved, rows_moved}
@@ -56,6 +54,9 @@ same_by_client A B h = record {
 }
 
 -- ---- what is known is not needed
+
+le_then : (a b c : ℕ) → a ≤ b → b ≤ c → a ≤ c
+le_then a b c p q = omega arith
 
 and_first : (a b : Bool) → (a && b) ≡ true → a ≡ true
 and_first true b e = refl
@@ -106,8 +107,8 @@ module _ (K D : List Op) where
       let high-end : high ≤ end = leb-true high end (and_second _ _ h) in
       let client : same_client c x ≡ true = ap (λ y. same_client y x) (same_client-true c d c-d) ∙ d-x in
       let gateway : (name.1 == o) ≡ true = eq-eqb name.1 o (name-origin ∙ origin-o) in
-      let from : nat_le start name.0 ≡ true = le-leb start name.0 (omega arith) in
-      let to : nat_le name.0 end ≡ true = le-leb name.0 end (omega arith) in
+      let from : nat_le start name.0 ≡ true = le-leb start name.0 (le_then start low name.0 start-low low-name) in
+      let to : nat_le name.0 end ≡ true = le-leb name.0 end (le_then name.0 high end name-high high-end) in
       both_true (both_true (both_true client gateway) from) to
 
   known_acknowledged : (c : List ℕ) (name : ℕ × ℕ) → is_acknowledged c K name ≡ false → (op : Op) → acknowledges c name op ≡ true → not (is_known K op) ≡ true

@@ -1,5 +1,5 @@
 -- What the operations of a client come to, found by way of their order and of ranges.
-use Rattle.std.proofs.Common.{◌≡◌, ℕ, suc, Bool, true, false, cond, List, [], ◌∷◌, length, filter, count_by, Option, refl, sym, ap, ◌∙◌}
+use Rattle.std.proofs.Common.{◌≡◌, ℕ, suc, true, false, cond, List, [], ◌∷◌, length, filter, count_by, Option, refl, sym, ap, ◌∙◌}
 use Rattle.std.specs.List.{filter_map}
 use Rattle.std.specs.FinMap.{find}
 use Rattle.std.specs.Map.{keys_of}
@@ -8,9 +8,9 @@ use Rattle.sn_session.specs.declared.session.SessionOp.{SessionOp}
 use Rattle.rep_ops.specs.declared.op.Stamp.{Stamp}
 use Rattle.rep_ops.specs.declared.op.Op.{Op}
 use Rattle.rep_ops.specs.Orders.{operation_cmp}
-use Rattle.rep_ops.specs.Sets.{operations, operation_at}
+use Rattle.rep_ops.specs.Sets.{operations}
 use Rattle.rep_model.specs.Views.{view, unseen, visible, in_order, history, history_at}
-use Rattle.rep_model.specs.Limits.{is_parked, parked, joined, above_a_gap, sum_to, exceptions, acknowledged, range_of}
+use Rattle.rep_model.specs.Limits.{is_parked, parked, joined, above_a_gap, sum_to, exceptions}
 use Rattle.rep_model.proofs.Lookup.{find-in_order}
 use Rattle.rep_model.proofs.Readers.{operation_total}
 use Rattle.rep_plain.specs.declared.ranges.Range.{Range}

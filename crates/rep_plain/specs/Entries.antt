@@ -1,6 +1,5 @@
 -- What the replica holds of one client.
 use Rattle.std.specs.Prelude.{◌≡◌, ℕ, List, length}
-use Rattle.rep_ops.specs.declared.op.Op.{Op}
 use Rattle.rep_model.specs.Views.{view}
 use Rattle.rep_model.specs.Limits.{parked, exceptions}
 use Rattle.rep_plain.specs.declared.entry.Entry.{Entry}

@@ -2,6 +2,8 @@
 
 ghost use Rattle.std.specs.Prelude.{◌≡◌, IsSome, OnOk, []};
 ghost use Rattle.std.specs.FinMap.{find};
+ghost use Rattle.std.specs.Map.{lookup};
+ghost use Rattle.std.specs.BTreeMap.{is_at, insert_entry};
 ghost use Rattle.rep_ops.specs.Orders.{client_cmp};
 ghost use Rattle.rep_plain.specs.Rows.{moved};
 ghost use Rattle.rep_plain.specs.Tables.{rows_of, IsRoomier, HaveRoom, AreMovable};
@@ -45,9 +47,17 @@ pub(crate) fn move_in(table: &mut Table, mut fresh: Vec<(ClientId, Entry)>)
     ensures movable { AreMovable table.old.entries fresh.items → AreMovable table.new.entries [] }
 {
     while let Some((client, entry)) = fresh.pop() {
-        match table.insert(client, entry) {
-            Ok(_) => {}
-            Err(_) => unreachable!(),
-        }
+        replace(table, client, entry);
+    }
+}
+
+/// Puts the entry into the client's place.
+fn replace(table: &mut Table, client: ClientId, entry: Entry)
+    requires { IsSome (lookup (is_at (client_cmp client)) table.old.entries) }
+    ensures { table.new.entries ≡ insert_entry client_cmp table.old.entries client entry }
+{
+    match table.insert(client, entry) {
+        Ok(_) => {}
+        Err(_) => unreachable!(),
     }
 }

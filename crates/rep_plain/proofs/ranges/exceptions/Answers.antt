@@ -1,7 +1,6 @@
-use Rattle.std.proofs.Common.{◌+◌, refl, sym, ap, ◌∙◌}
-use Rattle.std.specs.List.{filter_map}
-use Rattle.rep_model.specs.Limits.{joined, above_a_gap}
-use Rattle.rep_plain.specs.Steps.{numbers, capped, above_gaps}
+use Rattle.std.proofs.Common.{refl, ap, ◌∙◌}
+use Rattle.rep_model.specs.Limits.{above_a_gap}
+use Rattle.rep_plain.specs.Steps.{capped, above_gaps}
 use Rattle.rep_plain.proofs.Prefixes.{capped_more}
 use Rattle.rep_plain.proofs.ranges.exceptions.Goals as goal
 

@@ -1,4 +1,4 @@
-use Rattle.std.proofs.Common.{Some, None, sym, ap, ◌∙◌}
+use Rattle.std.proofs.Common.{Some, None, ◌∙◌}
 use Rattle.rep_plain.proofs.Found.{own_found}
 use Rattle.rep_plain.proofs.table.own_ops.Goals as goal
 

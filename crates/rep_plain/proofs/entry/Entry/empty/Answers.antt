@@ -1,4 +1,4 @@
-use Rattle.std.proofs.Common.{refl, ap, ◌∙◌}
+use Rattle.std.proofs.Common.{refl, ◌∙◌}
 use Rattle.std.proofs.Common.{None}
 use Rattle.rep_plain.proofs.Workings.{nothing_worked_out}
 use Rattle.rep_plain.proofs.entry.Entry.empty.Goals as goal

@@ -1,5 +1,5 @@
 use Rattle.std.proofs.Common.{sym, ap, ◌∙◌}
-use Rattle.rep_model.specs.Fresh.{one_more, greatest_epoch, largest, seq_of}
+use Rattle.rep_model.specs.Fresh.{one_more, largest, seq_of}
 use Rattle.rep_plain.specs.Rows.{flat}
 use Rattle.rep_plain.specs.Tables.{rows_of}
 use Rattle.rep_plain.proofs.Single.{greatest_seq_own}

@@ -1,8 +1,8 @@
-use Rattle.std.proofs.Common.{◌≡◌, ◌+◌, ◌++◌, not, filter, Some, None, refl, sym, ap, subst, ◌∙◌}
+use Rattle.std.proofs.Common.{◌≡◌, ◌+◌, ◌++◌, not, filter, Some, sym, ap, subst, ◌∙◌}
 use Rattle.rep_model.specs.Taking.{AllAgree, Fits}
 use Rattle.rep_model.specs.Limits.{first_passed}
 use Rattle.rep_model.specs.Keep.{IsKeptOf}
-use Rattle.rep_plain.specs.Rows.{flat, moved, count_named, count_new, IsGrown}
+use Rattle.rep_plain.specs.Rows.{flat, moved, count_new, IsGrown}
 use Rattle.rep_plain.specs.Tables.{rows_of, is_known, passed_by, HaveRoom}
 use Rattle.rep_plain.proofs.Found.{table_rows}
 use Rattle.rep_plain.proofs.Taking.{kept_same}
