@@ -1,16 +1,220 @@
 //! The run.
 
-use super::event::Event;
+ghost use Rattle.std.specs.Prelude.{◌≡◌, ◌++◌, ◌<◌, List, MatchOption, IfOk, IfErr, OnOk, map, vec_len};
+ghost use Rattle.std.specs.Option.{option_to_list};
+ghost use Rattle.gw_world.specs.Events.{FrameAnswered, TakeAnswered, ShowAnswered, IsListed, EventAt, EventKept, IsMissing, IsStopKept, PlayedKept, StopsKept};
+ghost use Rattle.gw_world.specs.Gateways.{new_gateway};
+ghost use Rattle.gw_world.specs.Worlds.{IsWorld, IsStop};
+ghost use Rattle.rep_ops.specs.declared.op.Op.{Op};
+
+use super::event::{Answer, Event};
+use super::field::{frame_at, place_of, show_at, take_at};
+use super::node::{Node, Trouble};
 use super::world::{World, WorldFault};
+use octets::Sequence;
 use rep_model::Replica;
-use sn_flow::Config;
+use rep_ops::Delta;
+use sn_flow::{Addr, Config, Dialogs};
 use std::alloc::Global;
 
-/// Runs a field of gateways.
+/// Puts the delta that an answer tells of on the list.
+fn record(alloc: Global, deltas: &mut Vec<Delta>, made: &Option<Delta>) -> Result<(), WorldFault>
+    ensures ok { OnOk result (deltas.new.items ≡ deltas.old.items ++ option_to_list made.now) }
+    ensures err { IfErr result (λ fault. fault ≡ WorldFault.Memory) }
+{
+    if let Some(delta) = made {
+        deltas.push(delta.copy(alloc)?)?;
+    }
+    Ok(())
+}
+
+/// A datagram comes to the gateway in this place.
+fn play_frame<R: Replica>(
+    alloc: Global,
+    nodes: &mut Vec<Node<R>>,
+    deltas: &mut Vec<Delta>,
+    place: usize,
+    from: Addr,
+    bytes: &[u8],
+    now: u64,
+) -> Result<Answer, WorldFault>
+    requires { place < vec_len nodes.old }
+    ensures ok { IfOk result (FrameAnswered (map (λ node. record { number = node.config.gateway; taken = R.kept node.replica; bindings = node.dialogs.bindings }) nodes.old.items) deltas.old.items place from bytes.now now (map (λ node. record { number = node.config.gateway; taken = R.kept node.replica; bindings = node.dialogs.bindings }) nodes.new.items) deltas.new.items) }
+    ensures err { IfErr result (λ fault. fault ≡ WorldFault.Memory) }
+{
+    match frame_at(alloc, nodes, place, from, bytes, now) {
+        Ok(out) => {
+            record(alloc, deltas, &out.made)?;
+            Ok(Answer::Node(Ok(out)))
+        }
+        Err(Trouble::Refused(fault)) => Ok(Answer::Node(Err(fault))),
+        Err(Trouble::Memory) => Err(WorldFault::Memory),
+    }
+}
+
+/// A delta comes to the gateway in this place.
+fn play_take<R: Replica>(
+    alloc: Global,
+    nodes: &mut Vec<Node<R>>,
+    place: usize,
+    delta: &Delta,
+) -> Result<Answer, WorldFault>
+    requires { place < vec_len nodes.old }
+    ensures ok { IfOk result (TakeAnswered (map (λ node. record { number = node.config.gateway; taken = R.kept node.replica; bindings = node.dialogs.bindings }) nodes.old.items) place delta.now (map (λ node. record { number = node.config.gateway; taken = R.kept node.replica; bindings = node.dialogs.bindings }) nodes.new.items)) }
+    ensures err { IfErr result (λ fault. fault ≡ WorldFault.Memory) }
+{
+    match take_at(alloc, nodes, place, delta) {
+        Ok(out) => Ok(Answer::Node(Ok(out))),
+        Err(Trouble::Refused(fault)) => Ok(Answer::Node(Err(fault))),
+        Err(Trouble::Memory) => Err(WorldFault::Memory),
+    }
+}
+
+/// What the gateway in this place knows.
+fn play_show<R: Replica>(
+    alloc: Global,
+    nodes: &Vec<Node<R>>,
+    place: usize,
+) -> Result<Answer, WorldFault>
+    requires { place < vec_len nodes.now }
+    ensures ok { IfOk result (ShowAnswered (map (λ node. record { number = node.config.gateway; taken = R.kept node.replica; bindings = node.dialogs.bindings }) nodes.now.items) place) }
+    ensures err { IfErr result (λ fault. fault ≡ WorldFault.Memory) }
+{
+    match show_at(alloc, &nodes[place].replica) {
+        Ok(views) => Ok(Answer::Views(views)),
+        Err(_) => Err(WorldFault::Memory),
+    }
+}
+
+/// The delta of this number; the first has number 1.
+fn delta_at(deltas: &[Delta], number: u64) -> Option<&Delta>
+    ensures { MatchOption result ((ops : List Op) → IsListed deltas.now number ops → ⊥) (λ delta. IsListed deltas.now number delta.now) }
+{
+    if number == 0 {
+        return None;
+    }
+    deltas.get((number - 1) as usize)
+}
+
+/// One event at the gateway in this place. Events are numbered.
+fn play_at<R: Replica>(
+    alloc: Global,
+    nodes: &mut Vec<Node<R>>,
+    deltas: &mut Vec<Delta>,
+    place: usize,
+    event: &Event,
+    number: u64,
+) -> Result<Answer, WorldFault>
+    requires { place < vec_len nodes.old }
+    ensures ok { IfOk result (EventAt (map (λ node. record { number = node.config.gateway; taken = R.kept node.replica; bindings = node.dialogs.bindings }) nodes.old.items) deltas.old.items place event.now (map (λ node. record { number = node.config.gateway; taken = R.kept node.replica; bindings = node.dialogs.bindings }) nodes.new.items) deltas.new.items) }
+    ensures err { IfErr result (IsMissing deltas.old.items event.now number) }
+{
+    match event {
+        Event::Frame {
+            from,
+            bytes,
+            now,
+            ..
+        } => play_frame(alloc, nodes, deltas, place, *from, bytes.as_slice(), *now),
+        Event::Take { delta, .. } => match delta_at(deltas.as_slice(), *delta) {
+            Some(delta) => play_take(alloc, nodes, place, delta),
+            None => Err(WorldFault::NoDelta { event: number }),
+        },
+        Event::Show { .. } => play_show(alloc, nodes, place),
+    }
+}
+
+/// One event. Events are numbered.
+fn play_event<R: Replica>(
+    alloc: Global,
+    nodes: &mut Vec<Node<R>>,
+    deltas: &mut Vec<Delta>,
+    event: &Event,
+    number: u64,
+) -> Result<Answer, WorldFault>
+    ensures ok { IfOk result (EventKept (map (λ node. record { number = node.config.gateway; taken = R.kept node.replica; bindings = node.dialogs.bindings }) nodes.old.items) deltas.old.items event.now (map (λ node. record { number = node.config.gateway; taken = R.kept node.replica; bindings = node.dialogs.bindings }) nodes.new.items) deltas.new.items) }
+    ensures err { IfErr result (IsStopKept (map (λ node. record { number = node.config.gateway; taken = R.kept node.replica; bindings = node.dialogs.bindings }) nodes.old.items) deltas.old.items event.now number) }
+{
+    match place_of(nodes.as_slice(), event.gateway()) {
+        Some(place) => play_at(alloc, nodes, deltas, place, event, number),
+        None => Err(WorldFault::NoGateway { event: number }),
+    }
+}
+
+/// The gateways of these configs, each of which has taken nothing.
+fn new_nodes<R: Replica>(alloc: Global, configs: &[Config]) -> Result<Vec<Node<R>>, WorldFault>
+    ensures ok { IfOk result (λ nodes. (map (λ node. record { number = node.config.gateway; taken = R.kept node.replica; bindings = node.dialogs.bindings }) nodes.items) ≡ map new_gateway configs.now) }
+    ensures err { IfErr result (λ fault. fault ≡ WorldFault.Memory) }
+{
+    let mut nodes = Vec::with_capacity(alloc, configs.len())?;
+    for config in configs {
+        nodes.push(Node {
+            config: config.copy(alloc)?,
+            replica: R::empty(alloc)?,
+            dialogs: Dialogs::empty(alloc),
+        })?;
+    }
+    Ok(nodes)
+}
+
+/// The replicas of the gateways, in their order.
+fn replicas_of<R: Replica>(alloc: Global, nodes: Vec<Node<R>>) -> Result<Vec<R>, WorldFault>
+    ensures ok { IfOk result (λ replicas. replicas.items ≡ map (λ node. node.replica) nodes.items) }
+    ensures err { IfErr result (λ fault. fault ≡ WorldFault.Memory) }
+{
+    let mut replicas = Vec::with_capacity(alloc, nodes.len())?;
+    for node in nodes {
+        let Node { replica, .. } = node;
+        replicas.push(replica)?;
+    }
+    Ok(replicas)
+}
+
+/// Plays the events, one after the other.
+fn play_all<R: Replica>(
+    alloc: Global,
+    nodes: &mut Vec<Node<R>>,
+    deltas: &mut Vec<Delta>,
+    events: &[Event],
+) -> Result<Vec<Answer>, WorldFault>
+    ensures ok { IfOk result (PlayedKept (map (λ node. record { number = node.config.gateway; taken = R.kept node.replica; bindings = node.dialogs.bindings }) nodes.old.items) deltas.old.items events.now (map (λ node. record { number = node.config.gateway; taken = R.kept node.replica; bindings = node.dialogs.bindings }) nodes.new.items) deltas.new.items) }
+    ensures err { IfErr result (StopsKept (map (λ node. record { number = node.config.gateway; taken = R.kept node.replica; bindings = node.dialogs.bindings }) nodes.old.items) deltas.old.items events.now) }
+{
+    let mut answers = Vec::with_capacity(alloc, events.len())?;
+    for (index, event) in events.iter().enumerate() {
+        let number = index as u64 + 1;
+        let answer = match play_event(alloc, nodes, deltas, event, number) {
+            Ok(answer) => answer,
+            Err(fault) => return Err(fault),
+        };
+        answers.push(answer)?;
+    }
+    Ok(answers)
+}
+
+/// Runs a field of gateways: the gateways of these configs begin with nothing, and the events come one
+/// after the other.
+///
+/// The result has an answer for each event, the deltas that were made, and the replicas of the gateways.
+/// There is none where an event names a gateway or a delta that is not there, or memory runs out.
 pub fn run<R: Replica>(
-    _alloc: Global,
-    _configs: &[Config],
-    _events: &[Event],
-) -> Result<World<R>, WorldFault> {
-    Err(WorldFault::Memory)
+    alloc: Global,
+    configs: &[Config],
+    events: &[Event],
+) -> Result<World<R>, WorldFault>
+    ensures ok { IfOk result (λ world. IsWorld (λ replica. R.kept replica) configs.now events.now world.answers world.deltas world.gateways) }
+    ensures err { IfErr result (IsStop configs.now events.now) }
+{
+    let mut nodes = new_nodes(alloc, configs)?;
+    let mut deltas = Vec::new(alloc);
+    let answers = match play_all(alloc, &mut nodes, &mut deltas, events) {
+        Ok(answers) => answers,
+        Err(fault) => return Err(fault),
+    };
+    let gateways = replicas_of(alloc, nodes)?;
+    Ok(World {
+        answers: Sequence::new(answers),
+        deltas: Sequence::new(deltas),
+        gateways: Sequence::new(gateways),
+    })
 }

@@ -1,5 +1,13 @@
 pub mod ClientIds
+pub mod Faults
 pub mod Orders
 pub mod Sets
 pub mod WellMade
 pub mod Deltas
+pub mod Spelling
+pub mod Making
+pub mod Joining
+pub mod Writing
+pub mod Reading
+pub mod Values
+pub mod Formats

@@ -1,6 +1,7 @@
 //! What a row of the step table says.
 
-ghost use Rattle.std.specs.Prelude.{◌≡◌, ◌≤◌, OnOk, Err};
+ghost use Rattle.std.specs.Prelude.{◌≡◌, ◌≤◌, ◌++◌, [], map, OnOk, Err};
+ghost use Rattle.sn_flow.specs.Names.{name_of};
 ghost use Rattle.sn_frame.specs.Bodies.{IsMessage};
 ghost use Rattle.sn_frame.specs.Grammar.{total_of};
 
@@ -8,17 +9,19 @@ use super::config::{Addr, Send};
 use super::fault::StepFault;
 use super::local::LocalChange;
 use octets::Octets;
-use rep_ops::ClientId;
+use rep_ops::{ClientId, Put};
 use sn_frame::{Frame, encode};
 use sn_session::SessionOp;
+use sn_topic::TopicName;
 use std::alloc::{AllocError, Global};
 use std::marker::Model;
+use std::mem;
 
 /// A message for a client, before it has a sequence number.
 #[derive(Debug, Drop)]
 pub struct NewPut {
     pub client: ClientId,
-    pub topic: Octets,
+    pub topic: TopicName,
     pub qos: u8,
     pub body: Octets,
 }
@@ -26,11 +29,11 @@ pub struct NewPut {
 /// What a step does, before its operations have names. Contracts see the five lists (`Drafted`).
 #[derive(Debug, Drop)]
 pub struct Draft {
-    changes: Vec<SessionOp>,
-    acks: Vec<(u64, u8)>,
-    puts: Vec<NewPut>,
-    sends: Vec<Send>,
-    local: Vec<LocalChange>,
+    pub(crate) changes: Vec<SessionOp>,
+    pub(crate) acks: Vec<(u64, u8)>,
+    pub(crate) puts: Vec<NewPut>,
+    pub(crate) sends: Vec<Send>,
+    pub(crate) local: Vec<LocalChange>,
 }
 
 impl Model for Draft {
@@ -42,7 +45,7 @@ impl Model for Draft {
 }
 
 impl Draft {
-    ghost use Rattle.sn_flow.specs.Drafts.{nothing, changed, acked, sent, moved};
+    ghost use Rattle.sn_flow.specs.Drafts.{nothing, changed, acked, acked_all, sent, moved};
 
     /// A step that does nothing.
     pub fn new(alloc: Global) -> Draft
@@ -55,6 +58,14 @@ impl Draft {
             sends: Vec::new(alloc),
             local: Vec::new(alloc),
         }
+    }
+
+    /// The changes of the session, which the draft then has no more.
+    pub(crate) fn take_changes(&mut self, alloc: Global) -> Vec<SessionOp>
+        ensures taken { result.items ≡ self.old.changes }
+        ensures left { self.new ≡ record self.old { changes = [] } }
+    {
+        mem::replace(&mut self.changes, Vec::new(alloc))
     }
 
     /// And then this change of the session.
@@ -71,6 +82,13 @@ impl Draft {
     {
         self.acks.push((seq, origin))?;
         Ok(())
+    }
+
+    /// And then the acknowledgements of these puts.
+    pub fn ack_all(&mut self, puts: &[Put]) -> Result<(), AllocError>
+        ensures { OnOk result (self.new ≡ acked_all (map name_of puts.now) self.old) }
+    {
+        extend_names(&mut self.acks, puts)
     }
 
     /// And then this frame.
@@ -98,4 +116,14 @@ impl Draft {
         self.local.push(change)?;
         Ok(())
     }
+}
+
+/// Appends the names of these puts.
+fn extend_names(names: &mut Vec<(u64, u8)>, puts: &[Put]) -> Result<(), AllocError>
+    ensures { OnOk result (names.new.items ≡ names.old.items ++ map name_of puts.now) }
+{
+    for put in puts {
+        names.push((put.seq, put.origin))?;
+    }
+    Ok(())
 }

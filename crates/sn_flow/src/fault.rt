@@ -3,6 +3,7 @@
 ghost use Rattle.std.specs.Prelude.{◌≡◌};
 ghost use Rattle.sn_flow.specs.declared.fault.StepFault.TheVariants.{Memory};
 
+use rep_model::TakeFault;
 use rep_ops::OpsFault;
 use sn_session::SessionFault;
 use std::alloc::{AllocError, AllocFailed};
@@ -47,6 +48,14 @@ impl From<SessionFault> for StepFault {
     ghost from_gives = { λ _ e. e ≡ Memory };
 
     fn from(_error: SessionFault) -> StepFault {
+        StepFault::Memory
+    }
+}
+
+impl From<TakeFault> for StepFault {
+    ghost from_gives = { λ _ e. e ≡ Memory };
+
+    fn from(_error: TakeFault) -> StepFault {
         StepFault::Memory
     }
 }

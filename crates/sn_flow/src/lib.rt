@@ -13,12 +13,20 @@
 //! - `connection`, `other`: the rows.
 #![tactic(auto)]
 
+mod bindings;
 mod config;
+mod connection;
 mod draft;
 mod fault;
 mod local;
+mod numbering;
+mod plan;
+mod table;
 
 pub use config::{Addr, Config, Send};
+pub use connection::{connect, disconnect, turn_away};
 pub use draft::{Draft, NewPut};
 pub use fault::StepFault;
-pub use local::LocalChange;
+pub use local::{Binding, Dialogs, LocalChange};
+pub use plan::{Plan, plan_of, plan_without};
+pub use table::step;

@@ -1,5 +1,5 @@
 -- a frame that was read has the body that it was read from, and each frame's body reads as it
-use Rattle.std.proofs.Common.{◌≡◌, ℕ, zero, suc, ◌+◌, ◌*◌, ◌^◌, ◌/◌, ◌%◌, ◌<◌, ◌≤◌, ◌==◌, Bool, true, false, cond, ◌&&◌, leb, List, [], ◌∷◌, ◌++◌, length, get_or, Option, Some, None, refl, ap, sym, subst, ◌∙◌, arith}
+use Rattle.std.proofs.Common.{◌≡◌, ℕ, ◌^◌, ◌<◌, Bool, true, false, cond, ◌&&◌, leb, List, [], ◌∷◌, ◌++◌, length, Option, Some, None, refl, ap, sym, subst, ◌∙◌}
 use Rattle.std.specs.Prelude.{option_map}
 use Rattle.std.proofs.lemmas.Bool.{le-leb, leb-true, eqb-true, eq-eqb}
 use Rattle.byteorder.specs.Endian.{big_bytes}
@@ -8,10 +8,9 @@ use Rattle.sn_frame.specs.declared.flags.TopicIdType.{TopicIdType}
 use Rattle.sn_frame.specs.declared.flags.TopicIdType.TheVariants as kinds
 use Rattle.sn_frame.specs.declared.frame.Frame.{Frame}
 use Rattle.sn_frame.specs.declared.frame.Frame.TheVariants as frames
-use Rattle.sn_frame.specs.declared.frame.Will.{Will}
 use Rattle.sn_frame.specs.declared.msg_type.MsgType.{MsgType}
 use Rattle.sn_frame.specs.declared.msg_type.MsgType.TheVariants as types
-use Rattle.sn_frame.specs.Bodies.{type_of, body_of, IsMessage, IsValue, IsTopicField, will_octets, duration_octets}
+use Rattle.sn_frame.specs.Bodies.{type_of, body_of, IsMessage, IsValue, IsTopicField, will_octets}
 use Rattle.sn_frame.specs.FlagBits.{kind_of}
 use Rattle.sn_frame.specs.Reading.{number, read_bare, read_octet, read_number, read_ids, fits_topic, read_filter, read_will, read_advertise, read_gw_info, read_connect, read_register, read_publish, read_sub_ack, read_ping_req, read_disconnect, frame_of}
 use Rattle.sn_frame.proofs.Numbers.{IsBytes, octets-number, number-fits, number-octets, chosen, both, first_of_both, second_of_both}
@@ -58,15 +57,18 @@ filter_guard : (t : MsgType) (make : Flags → ℕ → List ℕ → Frame) (bits
 filter_guard t make bits m topic body true h = h refl
 filter_guard t make bits m topic body false h = tt
 
+-- a body of nothing
 bare_stands : (t : MsgType) (f : Frame) → IsOf t [] f → (body : List ℕ) → Stands t body (read_bare body f)
 bare_stands t f h [] = h
 bare_stands t f h (x ∷ body) = tt
 
+-- a body of one octet
 octet_stands : (t : MsgType) (make : ℕ → Frame) → ((n : ℕ) → IsOf t (n ∷ []) (make n)) → (body : List ℕ) → Stands t body (option_map make (read_octet body))
 octet_stands t make h [] = tt
 octet_stands t make h (x ∷ []) = h x
 octet_stands t make h (x ∷ y ∷ body) = tt
 
+-- a body of one number
 number_stands : (t : MsgType) (make : ℕ → Frame) → ((n : ℕ) → n < 2 ^ 16 → IsOf t (big_bytes 2 n) (make n))
     → (body : List ℕ) → IsBytes body → Stands t body (option_map make (read_number body))
 number_stands t make h [] b = tt
@@ -76,6 +78,7 @@ number_stands t make h (x ∷ y ∷ []) b =
     subst P (octets-number x y (b 0) (b 1)) (h (number x y) (number-fits x y (b 0) (b 1)))
 number_stands t make h (x ∷ y ∷ z ∷ body) b = tt
 
+-- a body of a topic id, a message id and a code
 ids_stands : (t : MsgType) (make : ℕ → ℕ → ℕ → Frame)
     → ((i m c : ℕ) → i < 2 ^ 16 → m < 2 ^ 16 → IsOf t (big_bytes 2 i ++ big_bytes 2 m ++ (c ∷ [])) (make i m c))
     → (body : List ℕ) → IsBytes body → Stands t body (option_map (λ x. make x.0 x.1 x.2) (read_ids body))
@@ -87,9 +90,10 @@ ids_stands t make h (i1 ∷ i0 ∷ m1 ∷ m0 ∷ []) b = tt
 ids_stands t make h (i1 ∷ i0 ∷ m1 ∷ m0 ∷ c ∷ []) b =
     let P : List ℕ → Type 0 = λ body. IsOf t body (make (number i1 i0) (number m1 m0) c) in
     subst P (numbers-cells i1 i0 m1 m0 (c ∷ []) (b 0) (b 1) (b 2) (b 3))
-        (h (number i1 i0) (number m1 m0) c (number-fits i1 i0 (b 0) (b 1)) (number-fits m1 m0 (b 2) (b 3)))
+    (h (number i1 i0) (number m1 m0) c (number-fits i1 i0 (b 0) (b 1)) (number-fits m1 m0 (b 2) (b 3)))
 ids_stands t make h (i1 ∷ i0 ∷ m1 ∷ m0 ∷ c ∷ x ∷ body) b = tt
 
+-- a body of flags, a message id and a topic
 filter_stands : (t : MsgType) (make : Flags → ℕ → List ℕ → Frame)
     → ((bits m : ℕ) (topic : List ℕ) → m < 2 ^ 16 → IsTopicField (kind_of bits) topic → IsOf t ((bits ∷ big_bytes 2 m) ++ topic) (make (record { bits = bits }) m topic))
     → (body : List ℕ) → IsBytes body → Stands t body (option_map (λ x. make x.0 x.1 x.2) (read_filter body))
@@ -99,13 +103,15 @@ filter_stands t make h (bits ∷ m1 ∷ []) b = tt
 filter_stands t make h (bits ∷ m1 ∷ m0 ∷ topic) b =
     let P : List ℕ → Type 0 = λ two. IsOf t ((bits ∷ two) ++ topic) (make (record { bits = bits }) (number m1 m0) topic) in
     let made : IsTopicField (kind_of bits) topic → IsOf t (bits ∷ m1 ∷ m0 ∷ topic) (make (record { bits = bits }) (number m1 m0) topic) =
-        λ fits. subst P (octets-number m1 m0 (b 1) (b 2)) (h bits (number m1 m0) topic (number-fits m1 m0 (b 1) (b 2)) fits) in
+    λ fits. subst P (octets-number m1 m0 (b 1) (b 2)) (h bits (number m1 m0) topic (number-fits m1 m0 (b 1) (b 2)) fits) in
     filter_guard t make bits (number m1 m0) topic (bits ∷ m1 ∷ m0 ∷ topic) (fits_topic (kind_of bits) topic) (λ e. made (true-fits (kind_of bits) topic e))
 
+-- a will that was read has the octets that it was read from
 will_back : (body : List ℕ) → will_octets (read_will body) ≡ body
 will_back [] = refl
 will_back (bits ∷ topic) = refl
 
+-- the bodies that one message alone has
 advertise_stands : (body : List ℕ) → IsBytes body → Stands types.Advertise body (read_advertise body)
 advertise_stands [] b = tt
 advertise_stands (g ∷ []) b = tt
@@ -124,8 +130,12 @@ connect_stands (f ∷ p ∷ []) b = tt
 connect_stands (f ∷ p ∷ x ∷ []) b = tt
 connect_stands (f ∷ p ∷ x ∷ y ∷ client) b =
     guarded (leb 1 (length client) && leb (length client) 23) types.Connect (f ∷ p ∷ x ∷ y ∷ client) (frames.Connect (record { bits = f }) p (number x y) client)
-        (λ e. ((leb-true _ _ (first_of_both _ _ e), leb-true _ _ (second_of_both _ _ e)), number-fits x y (b 2) (b 3), refl,
-            ap (λ n. (f ∷ p ∷ n) ++ client) (octets-number x y (b 2) (b 3))))
+    (λ e. (
+      (leb-true _ _ (first_of_both _ _ e), leb-true _ _ (second_of_both _ _ e)),
+      number-fits x y (b 2) (b 3),
+      refl,
+      ap (λ n. (f ∷ p ∷ n) ++ client) (octets-number x y (b 2) (b 3)),
+    ))
 
 register_stands : (body : List ℕ) → IsBytes body → Stands types.Register body (read_register body)
 register_stands [] b = tt

@@ -1,17 +1,18 @@
 -- what a frame that is spelled says about reading, and about refusals
-use Rattle.std.proofs.Common.{◌≡◌, ℕ, zero, suc, ◌+◌, ◌<◌, ◌≤◌, ◌⊎◌, inl, inr, Bool, true, false, cond, List, [], ◌∷◌, ◌++◌, length, get_or, Option, Some, None, refl, ap, sym, subst, ◌∙◌, arith}
+use Rattle.std.proofs.Common.{◌≡◌, ℕ, ◌+◌, ◌≤◌, ◌⊎◌, inl, inr, Bool, true, false, leb, List, [], length, Option, Some, None, refl, ap, sym, subst, arith}
+use Rattle.std.proofs.lemmas.Bool.{leb-true}
 use Rattle.std.specs.Prelude.{Result, Ok, Err, IfOk, IfErr, ◌≢◌}
 use Rattle.sn_frame.specs.declared.fault.FrameFault.{FrameFault}
 use Rattle.sn_frame.specs.declared.fault.FrameFault.TheVariants as faults
 use Rattle.sn_frame.specs.declared.frame.Frame.{Frame}
 use Rattle.sn_frame.specs.declared.msg_type.MsgType.{MsgType}
 use Rattle.sn_frame.specs.Bodies.{type_of, body_of, IsMessage, IsValue}
-use Rattle.sn_frame.specs.Faults.{IsFirstFault, IsPlain, IsSpelling, IsType, type_place, said_total}
-use Rattle.sn_frame.specs.Grammar.{IsFramed, Spells}
+use Rattle.sn_frame.specs.Faults.{IsFirstFault, IsPlain, type_place}
+use Rattle.sn_frame.specs.Grammar.{IsFramed, Spells, spelling, total_of}
 use Rattle.sn_frame.specs.Reading.{frame_of, Gives}
 use Rattle.sn_frame.specs.Types.{octet_of}
 use Rattle.sn_frame.proofs.Framing.{one_framing, one_type, no_capsule, framed_place, framed_there, body_bytes}
-use Rattle.sn_frame.proofs.Numbers.{IsBytes}
+use Rattle.sn_frame.proofs.Numbers.{IsBytes, chosen, otherwise}
 use Rattle.sn_frame.proofs.ReadBodies.{reads_back, frame_stands, Stands}
 
 -- a frame that is spelled is the one that is read
@@ -30,6 +31,24 @@ one_frame bytes f g v w p q =
     let first = only_read bytes (type_of f) (body_of f) f p.framed v p in
     let second = only_read bytes (type_of f) (body_of f) g p.framed w q in
     cc
+
+-- a total that is said in either form fits the long one
+framed_fits : (bytes : List ℕ) (kind : ℕ) (body : List ℕ) → IsFramed bytes kind body → length body + 4 ≤ 65535
+framed_fits bytes kind body (inl p) = let small : length body + 2 ≤ 255 = p.0 in omega arith
+framed_fits bytes kind body (inr p) = p.0
+
+-- the form that the test of the size chooses
+canonical_of : (test : Bool) (f : Frame) → IsMessage f → total_of f ≤ 65535 → leb (length (body_of f) + 2) 255 ≡ test → Spells (spelling f) f
+canonical_of true f h fits e = record { message = h; framed = inl (leb-true _ _ e, chosen _ _ _ e) }
+canonical_of false f h fits e = record { message = h; framed = inr (fits, otherwise _ _ _ e) }
+
+-- the canonical form of a frame that fits spells it
+pub fitting_spelled : (f : Frame) → IsMessage f → total_of f ≤ 65535 → Spells (spelling f) f
+fitting_spelled f h fits = canonical_of (leb (length (body_of f) + 2) 255) f h fits refl
+
+-- and so does that of a frame that is spelled
+pub spelled_canonical : (bytes : List ℕ) (f : Frame) → Spells bytes f → Spells (spelling f) f
+spelled_canonical bytes f s = fitting_spelled f s.message (framed_fits bytes _ (body_of f) s.framed)
 
 -- the octets of a frame have no fault, but memory may be wanted for it
 pub is_refused : (bytes : List ℕ) (e : FrameFault) (f : Frame) → IsFirstFault bytes e → IsValue f → Spells bytes f → e ≡ faults.Memory

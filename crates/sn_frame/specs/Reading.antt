@@ -61,35 +61,43 @@ abbrev pub read_will : List ℕ → Option Will
 read_will [] = None
 read_will (bits ∷ topic) = Some (record { flags = record { bits = bits }; topic = topic })
 
+-- ADVERTISE: gateway, duration
 abbrev pub read_advertise : List ℕ → Option Frame
 read_advertise (gateway ∷ high ∷ low ∷ []) = Some (frames.Advertise gateway (number high low))
 read_advertise body = None
 
+-- GWINFO: gateway, address
 abbrev pub read_gw_info : List ℕ → Option Frame
 read_gw_info (gateway ∷ address) = Some (frames.GwInfo gateway address)
 read_gw_info body = None
 
+-- CONNECT: flags, protocol, duration, client of 1 to 23 octets
 abbrev pub read_connect : List ℕ → Option Frame
 read_connect (bits ∷ protocol ∷ high ∷ low ∷ client) =
     if nat_le 1 (length client) && nat_le (length client) 23 then Some (frames.Connect (record { bits = bits }) protocol (number high low) client)
     else None
 read_connect body = None
 
+-- REGISTER: topic id, message id, name
 abbrev pub read_register : List ℕ → Option Frame
 read_register (t1 ∷ t0 ∷ m1 ∷ m0 ∷ name) = Some (frames.Register (number t1 t0) (number m1 m0) name)
 read_register body = None
 
+-- PUBLISH: flags, topic, message id, body
 abbrev pub read_publish : List ℕ → Option Frame
 read_publish (bits ∷ t1 ∷ t0 ∷ m1 ∷ m0 ∷ message) = Some (frames.Publish (record { bits = bits }) (number t1 t0) (number m1 m0) message)
 read_publish body = None
 
+-- SUBACK: flags, topic id, message id, code
 abbrev pub read_sub_ack : List ℕ → Option Frame
 read_sub_ack (bits ∷ t1 ∷ t0 ∷ m1 ∷ m0 ∷ code ∷ []) = Some (frames.SubAck (record { bits = bits }) (number t1 t0) (number m1 m0) code)
 read_sub_ack body = None
 
+-- PINGREQ: client of at most 23 octets
 abbrev pub read_ping_req : List ℕ → Option Frame
 read_ping_req body = if nat_le (length body) 23 then Some (frames.PingReq body) else None
 
+-- DISCONNECT: nothing, or duration
 abbrev pub read_disconnect : List ℕ → Option Frame
 read_disconnect [] = Some (frames.Disconnect None)
 read_disconnect (high ∷ low ∷ []) = Some (frames.Disconnect (Some (number high low)))

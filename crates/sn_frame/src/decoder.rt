@@ -8,13 +8,11 @@ ghost use Rattle.sn_frame.specs.Faults.{IsPlain, IsFirstFault};
 ghost use Rattle.sn_frame.specs.Grammar.{IsFramed, Spells};
 ghost use Rattle.sn_frame.specs.Reading.{frame_of, Gives};
 
-use std::alloc::Global;
-
-use octets::Octets;
-
 use crate::fault::FrameFault;
 use crate::frame::Frame;
 use crate::msg_type::MsgType;
+use octets::Octets;
+use std::alloc::Global;
 
 mod bodies;
 mod parts;
@@ -55,16 +53,30 @@ fn open(bytes: &[u8]) -> Result<(u8, &[u8]), FrameFault>
         [1, _, _, ENCAPSULATED, ..] => Err(FrameFault::Encapsulated),
         [1, high, low, kind, body @ ..] => {
             let said = number(*high, *low);
-            if usize::from(said) == held { Ok((*kind, body)) } else { Err(FrameFault::Length { said, held }) }
+            if usize::from(said) == held {
+                Ok((*kind, body))
+            } else {
+                Err(FrameFault::Length { said, held })
+            }
         }
-        [1, high, low] => Err(FrameFault::Length { said: number(*high, *low), held }),
+        [1, high, low] => Err(FrameFault::Length {
+            said: number(*high, *low),
+            held,
+        }),
         [1, ..] => Err(FrameFault::Length { said: 1, held }),
         [_, ENCAPSULATED, ..] => Err(FrameFault::Encapsulated),
         [said, kind, body @ ..] => {
             let said = u16::from(*said);
-            if usize::from(said) == held { Ok((*kind, body)) } else { Err(FrameFault::Length { said, held }) }
+            if usize::from(said) == held {
+                Ok((*kind, body))
+            } else {
+                Err(FrameFault::Length { said, held })
+            }
         }
-        [said] => Err(FrameFault::Length { said: u16::from(*said), held }),
+        [said] => Err(FrameFault::Length {
+            said: u16::from(*said),
+            held,
+        }),
     }
 }
 
@@ -74,43 +86,83 @@ fn message(alloc: Global, msg_type: MsgType, body: &[u8]) -> Result<Frame, Frame
 {
     match msg_type {
         MsgType::Advertise => advertise(body),
-        MsgType::SearchGw => Ok(Frame::SearchGw { radius: one_octet(body)? }),
+        MsgType::SearchGw => Ok(Frame::SearchGw {
+            radius: one_octet(body)?,
+        }),
         MsgType::GwInfo => gw_info(alloc, body),
         MsgType::Connect => connect(alloc, body),
-        MsgType::ConnAck => Ok(Frame::ConnAck { code: one_octet(body)? }),
+        MsgType::ConnAck => Ok(Frame::ConnAck {
+            code: one_octet(body)?,
+        }),
         MsgType::WillTopicReq => bare(body, Frame::WillTopicReq),
-        MsgType::WillTopic => Ok(Frame::WillTopic { will: optional_will(alloc, body)? }),
+        MsgType::WillTopic => Ok(Frame::WillTopic {
+            will: optional_will(alloc, body)?,
+        }),
         MsgType::WillMsgReq => bare(body, Frame::WillMsgReq),
-        MsgType::WillMsg => Ok(Frame::WillMsg { message: Octets::from_slice(alloc, body)? }),
+        MsgType::WillMsg => Ok(Frame::WillMsg {
+            message: Octets::from_slice(alloc, body)?,
+        }),
         MsgType::Register => register(alloc, body),
         MsgType::RegAck => {
             let (topic_id, msg_id, code) = ids_and_code(body)?;
-            Ok(Frame::RegAck { topic_id, msg_id, code })
+            Ok(Frame::RegAck {
+                topic_id,
+                msg_id,
+                code,
+            })
         }
         MsgType::Publish => publish(alloc, body),
         MsgType::PubAck => {
             let (topic_id, msg_id, code) = ids_and_code(body)?;
-            Ok(Frame::PubAck { topic_id, msg_id, code })
+            Ok(Frame::PubAck {
+                topic_id,
+                msg_id,
+                code,
+            })
         }
-        MsgType::PubComp => Ok(Frame::PubComp { msg_id: one_number(body)? }),
-        MsgType::PubRec => Ok(Frame::PubRec { msg_id: one_number(body)? }),
-        MsgType::PubRel => Ok(Frame::PubRel { msg_id: one_number(body)? }),
+        MsgType::PubComp => Ok(Frame::PubComp {
+            msg_id: one_number(body)?,
+        }),
+        MsgType::PubRec => Ok(Frame::PubRec {
+            msg_id: one_number(body)?,
+        }),
+        MsgType::PubRel => Ok(Frame::PubRel {
+            msg_id: one_number(body)?,
+        }),
         MsgType::Subscribe => {
             let (flags, msg_id, topic) = subscription(alloc, body)?;
-            Ok(Frame::Subscribe { flags, msg_id, topic })
+            Ok(Frame::Subscribe {
+                flags,
+                msg_id,
+                topic,
+            })
         }
         MsgType::SubAck => sub_ack(body),
         MsgType::Unsubscribe => {
             let (flags, msg_id, topic) = subscription(alloc, body)?;
-            Ok(Frame::Unsubscribe { flags, msg_id, topic })
+            Ok(Frame::Unsubscribe {
+                flags,
+                msg_id,
+                topic,
+            })
         }
-        MsgType::UnsubAck => Ok(Frame::UnsubAck { msg_id: one_number(body)? }),
+        MsgType::UnsubAck => Ok(Frame::UnsubAck {
+            msg_id: one_number(body)?,
+        }),
         MsgType::PingReq => ping_req(alloc, body),
         MsgType::PingResp => bare(body, Frame::PingResp),
         MsgType::Disconnect => disconnect(body),
-        MsgType::WillTopicUpd => Ok(Frame::WillTopicUpd { will: optional_will(alloc, body)? }),
-        MsgType::WillTopicResp => Ok(Frame::WillTopicResp { code: one_octet(body)? }),
-        MsgType::WillMsgUpd => Ok(Frame::WillMsgUpd { message: Octets::from_slice(alloc, body)? }),
-        MsgType::WillMsgResp => Ok(Frame::WillMsgResp { code: one_octet(body)? }),
+        MsgType::WillTopicUpd => Ok(Frame::WillTopicUpd {
+            will: optional_will(alloc, body)?,
+        }),
+        MsgType::WillTopicResp => Ok(Frame::WillTopicResp {
+            code: one_octet(body)?,
+        }),
+        MsgType::WillMsgUpd => Ok(Frame::WillMsgUpd {
+            message: Octets::from_slice(alloc, body)?,
+        }),
+        MsgType::WillMsgResp => Ok(Frame::WillMsgResp {
+            code: one_octet(body)?,
+        }),
     }
 }

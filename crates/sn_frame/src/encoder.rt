@@ -1,14 +1,13 @@
 //! From a frame to its octets (MQTT-SN 1.2 sections 5.2 and 5.4).
 
-ghost use Rattle.std.specs.Prelude.{◌≡◌, ◌<◌, ◌++◌, ◌↔◌, ◌⊎◌, OnOk, OnErr, Err};
+ghost use Rattle.std.specs.Prelude.{◌≡◌, ◌<◌, ◌+◌, ◌^◌, length, ◌++◌, ◌↔◌, ◌⊎◌, OnOk, OnErr, Err};
 ghost use Rattle.sn_frame.specs.Bodies.{IsMessage};
 ghost use Rattle.sn_frame.specs.Grammar.{Spells, spelling, total_of};
-
-use std::alloc::{AllocError, Global};
 
 use crate::fault::EncodeFault;
 use crate::frame::Frame;
 use crate::msg_type::MsgType;
+use std::alloc::{AllocError, Global};
 
 mod body;
 mod parts;
@@ -56,11 +55,11 @@ pub fn encode(alloc: Global, frame: &Frame, out: &mut Vec<u8>) -> Result<(), Enc
 
 /// Appends both, or nothing.
 fn append_both(out: &mut Vec<u8>, head: &[u8], tail: &[u8]) -> Result<(), AllocError>
+    requires { length head.now + length tail.now < 2 ^ 64 }
     ensures ok { OnOk result (out.new.items ≡ out.old.items ++ (head.now ++ tail.now)) }
     ensures err { OnErr result (out.new.items ≡ out.old.items) }
 {
-    let Some(size) = head.len().checked_add(tail.len()) else { return Err(AllocError) };
-    out.reserve(size)?;
+    out.reserve(head.len() + tail.len())?;
     out.extend_from_slice(head)?;
     out.extend_from_slice(tail)
 }

@@ -5,7 +5,6 @@ ghost use Rattle.sn_frame.specs.declared.fault.FrameFault.TheVariants as frame_f
 ghost use Rattle.sn_frame.specs.declared.fault.EncodeFault.TheVariants as encode_faults;
 
 use std::alloc::AllocError;
-
 use thiserror::Error;
 
 /// Why a datagram was refused: the first cause in the order Empty, Encapsulated, Length, UnknownType,
@@ -68,6 +67,7 @@ impl FrameFault {
 
 impl From<AllocError> for FrameFault {
     ghost from_gives = { λ _ e. e ≡ frame_faults.Memory };
+
     fn from(_e: AllocError) -> FrameFault {
         FrameFault::Memory
     }
@@ -75,6 +75,7 @@ impl From<AllocError> for FrameFault {
 
 impl From<AllocError> for EncodeFault {
     ghost from_gives = { λ _ e. e ≡ encode_faults.Memory };
+
     fn from(_e: AllocError) -> EncodeFault {
         EncodeFault::Memory
     }

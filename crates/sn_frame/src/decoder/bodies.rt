@@ -2,21 +2,22 @@
 
 ghost use Rattle.sn_frame.specs.Reading.{Gives, read_advertise, read_gw_info, read_connect, read_register, read_publish, read_sub_ack, read_ping_req, read_disconnect};
 
-use std::alloc::Global;
-
-use octets::Octets;
-
 use crate::decoder::parts::number;
 use crate::fault::FrameFault;
 use crate::flags::Flags;
 use crate::frame::Frame;
+use octets::Octets;
+use std::alloc::Global;
 
 /// ADVERTISE.
 pub(super) fn advertise(body: &[u8]) -> Result<Frame, FrameFault>
     ensures { Gives (read_advertise body.now) result }
 {
     match body {
-        [gateway, high, low] => Ok(Frame::Advertise { gateway: *gateway, duration: number(*high, *low) }),
+        [gateway, high, low] => Ok(Frame::Advertise {
+            gateway: *gateway,
+            duration: number(*high, *low),
+        }),
         _ => Err(FrameFault::Body),
     }
 }
@@ -27,7 +28,10 @@ pub(super) fn gw_info(alloc: Global, body: &[u8]) -> Result<Frame, FrameFault>
 {
     match body {
         [gateway, address @ ..] => {
-            Ok(Frame::GwInfo { gateway: *gateway, address: Octets::from_slice(alloc, address)? })
+            Ok(Frame::GwInfo {
+                gateway: *gateway,
+                address: Octets::from_slice(alloc, address)?,
+            })
         }
         _ => Err(FrameFault::Body),
     }
@@ -38,12 +42,14 @@ pub(super) fn connect(alloc: Global, body: &[u8]) -> Result<Frame, FrameFault>
     ensures { Gives (read_connect body.now) result }
 {
     match body {
-        [bits, protocol, high, low, client @ ..] if (1..=23).contains(&client.len()) => Ok(Frame::Connect {
-            flags: Flags { bits: *bits },
-            protocol: *protocol,
-            duration: number(*high, *low),
-            client: Octets::from_slice(alloc, client)?,
-        }),
+        [bits, protocol, high, low, client @ ..] if (1..=23).contains(&client.len()) => Ok(
+            Frame::Connect {
+                flags: Flags { bits: *bits },
+                protocol: *protocol,
+                duration: number(*high, *low),
+                client: Octets::from_slice(alloc, client)?,
+            },
+        ),
         _ => Err(FrameFault::Body),
     }
 }
@@ -99,7 +105,9 @@ pub(super) fn ping_req(alloc: Global, body: &[u8]) -> Result<Frame, FrameFault>
     if body.len() > 23 {
         return Err(FrameFault::Body);
     }
-    Ok(Frame::PingReq { client: Octets::from_slice(alloc, body)? })
+    Ok(Frame::PingReq {
+        client: Octets::from_slice(alloc, body)?,
+    })
 }
 
 /// DISCONNECT.
@@ -108,7 +116,9 @@ pub(super) fn disconnect(body: &[u8]) -> Result<Frame, FrameFault>
 {
     match body {
         [] => Ok(Frame::Disconnect { duration: None }),
-        [high, low] => Ok(Frame::Disconnect { duration: Some(number(*high, *low)) }),
+        [high, low] => Ok(Frame::Disconnect {
+            duration: Some(number(*high, *low)),
+        }),
         _ => Err(FrameFault::Body),
     }
 }

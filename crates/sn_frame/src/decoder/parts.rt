@@ -3,14 +3,12 @@
 ghost use Rattle.std.specs.Prelude.{◌≡◌, IfOk};
 ghost use Rattle.sn_frame.specs.Reading.{Gives, number, read_bare, read_octet, read_number, read_ids, read_filter, read_will};
 
-use std::alloc::{AllocError, Global};
-
-use byteorder::{BigEndian, ByteOrder};
-use octets::Octets;
-
 use crate::fault::FrameFault;
 use crate::flags::Flags;
 use crate::frame::{Frame, Will};
+use byteorder::{BigEndian, ByteOrder};
+use octets::Octets;
+use std::alloc::{AllocError, Global};
 
 /// The number in two octets.
 pub(super) fn number(high: u8, low: u8) -> u16
@@ -69,7 +67,11 @@ pub(super) fn subscription(alloc: Global, body: &[u8]) -> Result<(Flags, u16, Oc
             if !flags.kind().fits(topic) {
                 return Err(FrameFault::Body);
             }
-            Ok((flags, number(*high, *low), Octets::from_slice(alloc, topic)?))
+            Ok((
+                flags,
+                number(*high, *low),
+                Octets::from_slice(alloc, topic)?,
+            ))
         }
         _ => Err(FrameFault::Body),
     }
@@ -81,6 +83,9 @@ pub(super) fn optional_will(alloc: Global, body: &[u8]) -> Result<Option<Will>, 
 {
     match body {
         [] => Ok(None),
-        [bits, topic @ ..] => Ok(Some(Will { flags: Flags { bits: *bits }, topic: Octets::from_slice(alloc, topic)? })),
+        [bits, topic @ ..] => Ok(Some(Will {
+            flags: Flags { bits: *bits },
+            topic: Octets::from_slice(alloc, topic)?,
+        })),
     }
 }

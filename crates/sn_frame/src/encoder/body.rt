@@ -4,14 +4,14 @@ ghost use Rattle.std.specs.Prelude.{◌≡◌, ◌∷◌, ◌++◌, ◌↔◌, L
 ghost use Rattle.byteorder.specs.Endian.{big_bytes};
 ghost use Rattle.sn_frame.specs.Bodies.{body_of, type_of, IsMessage};
 
-use std::alloc::{AllocError, Global};
-
-use octets::Octets;
-
-use crate::encoder::parts::{ids_and_code, joined, number_body, octets_of, optional_duration, optional_will, subscription};
+use crate::encoder::parts::{
+    ids_and_code, joined, number_body, octets_of, optional_duration, optional_will, subscription,
+};
 use crate::flags::Flags;
 use crate::frame::Frame;
 use crate::msg_type::MsgType;
+use octets::Octets;
+use std::alloc::{AllocError, Global};
 
 /// Whether the frame's parts have sizes that its message allows.
 pub(super) fn is_message(frame: &Frame) -> bool
@@ -71,25 +71,61 @@ pub(super) fn body_of(alloc: Global, frame: &Frame) -> Result<Vec<u8>, AllocErro
         Frame::Advertise { gateway, duration } => advertise(alloc, *gateway, *duration),
         Frame::SearchGw { radius } => Vec::from_slice(alloc, &[*radius]),
         Frame::GwInfo { gateway, address } => joined(alloc, &[*gateway], address.as_slice()),
-        Frame::Connect { flags, protocol, duration, client } => connect(alloc, *flags, *protocol, *duration, client),
+        Frame::Connect {
+            flags,
+            protocol,
+            duration,
+            client,
+        } => connect(alloc, *flags, *protocol, *duration, client),
         Frame::ConnAck { code } | Frame::WillTopicResp { code } | Frame::WillMsgResp { code } => {
             Vec::from_slice(alloc, &[*code])
         }
         Frame::WillTopic { will } | Frame::WillTopicUpd { will } => optional_will(alloc, will),
-        Frame::WillMsg { message } | Frame::WillMsgUpd { message } => Vec::from_slice(alloc, message.as_slice()),
-        Frame::Register { topic_id, msg_id, name } => register(alloc, *topic_id, *msg_id, name),
-        Frame::RegAck { topic_id, msg_id, code } | Frame::PubAck { topic_id, msg_id, code } => {
-            ids_and_code(alloc, *topic_id, *msg_id, *code)
+        Frame::WillMsg { message } | Frame::WillMsgUpd { message } => Vec::from_slice(
+            alloc,
+            message.as_slice(),
+        ),
+        Frame::Register {
+            topic_id,
+            msg_id,
+            name,
+        } => register(alloc, *topic_id, *msg_id, name),
+        Frame::RegAck {
+            topic_id,
+            msg_id,
+            code,
         }
-        Frame::Publish { flags, topic, msg_id, body } => publish(alloc, *flags, *topic, *msg_id, body),
+        | Frame::PubAck {
+            topic_id,
+            msg_id,
+            code,
+        } => { ids_and_code(alloc, *topic_id, *msg_id, *code) }
+        Frame::Publish {
+            flags,
+            topic,
+            msg_id,
+            body,
+        } => publish(alloc, *flags, *topic, *msg_id, body),
         Frame::PubComp { msg_id }
         | Frame::PubRec { msg_id }
         | Frame::PubRel { msg_id }
         | Frame::UnsubAck { msg_id } => number_body(alloc, *msg_id),
-        Frame::Subscribe { flags, msg_id, topic } | Frame::Unsubscribe { flags, msg_id, topic } => {
-            subscription(alloc, *flags, *msg_id, topic.as_slice())
+        Frame::Subscribe {
+            flags,
+            msg_id,
+            topic,
         }
-        Frame::SubAck { flags, topic_id, msg_id, code } => sub_ack(alloc, *flags, *topic_id, *msg_id, *code),
+        | Frame::Unsubscribe {
+            flags,
+            msg_id,
+            topic,
+        } => { subscription(alloc, *flags, *msg_id, topic.as_slice()) }
+        Frame::SubAck {
+            flags,
+            topic_id,
+            msg_id,
+            code,
+        } => sub_ack(alloc, *flags, *topic_id, *msg_id, *code),
         Frame::PingReq { client } => Vec::from_slice(alloc, client.as_slice()),
         Frame::Disconnect { duration } => optional_duration(alloc, *duration),
     }
@@ -104,7 +140,13 @@ fn advertise(alloc: Global, gateway: u8, duration: u16) -> Result<Vec<u8>, Alloc
 }
 
 /// The body of CONNECT.
-fn connect(alloc: Global, flags: Flags, protocol: u8, duration: u16, client: &Octets) -> Result<Vec<u8>, AllocError>
+fn connect(
+    alloc: Global,
+    flags: Flags,
+    protocol: u8,
+    duration: u16,
+    client: &Octets,
+) -> Result<Vec<u8>, AllocError>
     ensures { IfOk result (λ body. body.items ≡ (flags.bits ∷ protocol ∷ big_bytes 2 duration) ++ client.now) }
 {
     let [high, low] = octets_of(duration);
@@ -121,7 +163,13 @@ fn register(alloc: Global, topic_id: u16, msg_id: u16, name: &Octets) -> Result<
 }
 
 /// The body of PUBLISH.
-fn publish(alloc: Global, flags: Flags, topic: u16, msg_id: u16, message: &Octets) -> Result<Vec<u8>, AllocError>
+fn publish(
+    alloc: Global,
+    flags: Flags,
+    topic: u16,
+    msg_id: u16,
+    message: &Octets,
+) -> Result<Vec<u8>, AllocError>
     ensures { IfOk result (λ body. body.items ≡ (flags.bits ∷ big_bytes 2 topic) ++ big_bytes 2 msg_id ++ message.now) }
 {
     let [t1, t0] = octets_of(topic);
@@ -130,7 +178,13 @@ fn publish(alloc: Global, flags: Flags, topic: u16, msg_id: u16, message: &Octet
 }
 
 /// The body of SUBACK.
-fn sub_ack(alloc: Global, flags: Flags, topic_id: u16, msg_id: u16, code: u8) -> Result<Vec<u8>, AllocError>
+fn sub_ack(
+    alloc: Global,
+    flags: Flags,
+    topic_id: u16,
+    msg_id: u16,
+    code: u8,
+) -> Result<Vec<u8>, AllocError>
     ensures { IfOk result (λ body. body.items ≡ (flags.bits ∷ big_bytes 2 topic_id) ++ big_bytes 2 msg_id ++ (code ∷ [])) }
 {
     let [t1, t0] = octets_of(topic_id);

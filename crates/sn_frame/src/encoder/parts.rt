@@ -4,12 +4,10 @@ ghost use Rattle.std.specs.Prelude.{◌≡◌, ◌∷◌, ◌++◌, List, [], If
 ghost use Rattle.byteorder.specs.Endian.{big_bytes};
 ghost use Rattle.sn_frame.specs.Bodies.{will_octets, duration_octets};
 
-use std::alloc::{AllocError, Global};
-
-use byteorder::{BigEndian, ByteOrder};
-
 use crate::flags::Flags;
 use crate::frame::Will;
+use byteorder::{BigEndian, ByteOrder};
+use std::alloc::{AllocError, Global};
 
 /// A number as two octets.
 pub(super) fn octets_of(n: u16) -> [u8; 2]
@@ -37,7 +35,12 @@ pub(super) fn number_body(alloc: Global, n: u16) -> Result<Vec<u8>, AllocError>
 }
 
 /// A topic id, a message id and a return code.
-pub(super) fn ids_and_code(alloc: Global, topic_id: u16, msg_id: u16, code: u8) -> Result<Vec<u8>, AllocError>
+pub(super) fn ids_and_code(
+    alloc: Global,
+    topic_id: u16,
+    msg_id: u16,
+    code: u8,
+) -> Result<Vec<u8>, AllocError>
     ensures { IfOk result (λ body. body.items ≡ big_bytes 2 topic_id ++ big_bytes 2 msg_id ++ (code ∷ [])) }
 {
     let [t1, t0] = octets_of(topic_id);
@@ -46,7 +49,12 @@ pub(super) fn ids_and_code(alloc: Global, topic_id: u16, msg_id: u16, code: u8) 
 }
 
 /// Flags, a message id and a topic.
-pub(super) fn subscription(alloc: Global, flags: Flags, msg_id: u16, topic: &[u8]) -> Result<Vec<u8>, AllocError>
+pub(super) fn subscription(
+    alloc: Global,
+    flags: Flags,
+    msg_id: u16,
+    topic: &[u8],
+) -> Result<Vec<u8>, AllocError>
     ensures { IfOk result (λ body. body.items ≡ (flags.bits ∷ big_bytes 2 msg_id) ++ topic.now) }
 {
     let [high, low] = octets_of(msg_id);

@@ -1,6 +1,5 @@
 use Rattle.std.proofs.Common.{◌≡◌, ℕ, List, subst, sym, arith}
 use Rattle.sn_frame.specs.Grammar.{IsFramed}
-use Rattle.sn_frame.specs.Types.{octet_of}
 use Rattle.sn_frame.proofs.Numbers.{IsBytes}
 use Rattle.sn_frame.proofs.Refusals.{is_refused, answers_ok, answers_value, answers_only, answers_fault}
 use Rattle.sn_frame.proofs.decoder.decode.Goals as goal

@@ -1,0 +1,195 @@
+-- From what all gateways keep to the field, and over a whole list of events.
+use Rattle.std.proofs.Common.{◌≡◌, ℕ, ◌+◌, ◌-◌, ◌==◌, if◌then◌else◌, zero, suc, List, [], ◌∷◌, ◌++◌, map, Some, slice_get, set, refl, sym, ap, ◌∙◌, subst, append-nil, take, length, arith}
+use Rattle.rep_ops.specs.declared.op.Op.{Op}
+use Rattle.rep_model.specs.Views.{view}
+use Rattle.rep_model.proofs.Joins.{view-counts}
+use Rattle.rep_model.proofs.Named.{clients-counts}
+use Rattle.sn_flow.specs.declared.config.Config.{Config}
+use Rattle.gw_world.specs.declared.event.Event.{Event}
+use Rattle.gw_world.specs.declared.event.Event.TheVariants.{Frame, Take, Show}
+use Rattle.gw_world.specs.declared.event.Answer.{Answer}
+use Rattle.gw_world.specs.declared.event.Answer.TheVariants.{Node, Views}
+use Rattle.gw_world.specs.declared.world.WorldFault.{WorldFault}
+use Rattle.gw_world.specs.declared.world.WorldFault.TheVariants as stops
+use Rattle.gw_world.specs.Gateways.{Gateway, new_gateway, place_from, place_of}
+use Rattle.gw_world.specs.Field.{Field, new_field, After, Run, NamesNoDelta, shown, gateway_of}
+use Rattle.gw_world.specs.Events.{made_of, Moves, EventKept, RunKept, StopsKept, IsStopKept, IsMissing}
+use Rattle.gw_world.specs.Keeping.{IsShown, AreShown}
+use Rattle.gw_world.specs.Worlds.{IsWorld, IsStop}
+use Rattle.gw_world.proofs.Held.{keeps_nothing}
+use Rattle.gw_world.proofs.Shown.{keeping, frame_taken, take_taken}
+
+-- a number has the same place in both lists
+pub place_shown : (n i : ℕ) (gs ks : List Gateway) → AreShown gs ks → place_from n i gs ≡ place_from n i ks
+place_shown n i [] [] s = refl
+place_shown n i (g ∷ gs) (k ∷ ks) s =
+    let number : g.number ≡ k.number = sym s.0.numbered in
+    let rest : place_from n (i + 1) gs ≡ place_from n (i + 1) ks = place_shown n (i + 1) gs ks s.1 in
+    λ j. if number j == n then Some i else rest j
+place_shown n i [] (k ∷ ks) s = absurd s
+place_shown n i (g ∷ gs) [] s = absurd s
+
+-- the gateway in a place
+pub record ShownAt (gs : List Gateway) (i : ℕ) (k : Gateway) : Type 0 where
+  pub gateway : Gateway
+  pub place : slice_get gs i ≡ Some gateway
+  pub shown : IsShown gateway k
+
+shown_at : (gs ks : List Gateway) (i : ℕ) (k : Gateway) → AreShown gs ks → slice_get ks i ≡ Some k → ShownAt gs i k
+shown_at [] [] i k s e = absurd (cc)
+shown_at (g ∷ gs) (h ∷ hs) zero k s e = record { gateway = g; place = refl; shown = subst (λ x. IsShown g x) (cc) s.0 }
+shown_at (g ∷ gs) (h ∷ hs) (suc i) k s e = let r = shown_at gs hs i k s.1 e in record { gateway = r.gateway; place = r.place; shown = r.shown }
+shown_at [] (h ∷ hs) i k s e = absurd s
+shown_at (g ∷ gs) [] i k s e = absurd s
+
+shown_set : (gs ks : List Gateway) (i : ℕ) (g k : Gateway) → AreShown gs ks → IsShown g k → AreShown (set gs i g) (set ks i k)
+shown_set [] [] i g k s one = tt
+shown_set (x ∷ gs) (y ∷ ks) zero g k s one = (one, s.1)
+shown_set (x ∷ gs) (y ∷ ks) (suc i) g k s one = (s.0, shown_set gs ks i g k s.1 one)
+shown_set [] (y ∷ ks) i g k s one = absurd s
+shown_set (x ∷ gs) [] i g k s one = absurd s
+
+-- what an event leads the field to
+pub record Reaches (field : Field) (event : Event) (answer : Answer) (news : List Gateway) (next : List (List Op)) : Type 0 where
+  pub new : Field
+  pub after : After field event answer new
+  pub shown : AreShown new.gateways news
+  pub listed : new.deltas ≡ next
+
+module _ (field : Field) (ks : List Gateway) (s : AreShown field.gateways ks) where
+  place_there : (n i : ℕ) → place_of n ks ≡ Some i → place_of n field.gateways ≡ Some i
+  place_there n i e = place_shown n 0 field.gateways ks s ∙ e
+
+  -- one gateway moves in its place
+  moved : (i : ℕ) (old new next : Gateway) (news : List Gateway) → Moves ks i old new news → IsShown next (keeping old new.taken new.bindings) → AreShown (set field.gateways i next) news
+  moved i old new next news moves shown =
+      subst (λ xs. AreShown (set field.gateways i next) xs) (sym moves.moved)
+      (shown_set field.gateways ks i next new s (record { numbered = moves.numbered ∙ shown.numbered; bound = shown.bound; keeps = shown.keeps }))
+
+  pub event_reaches : (deltas : List (List Op)) (listed : field.deltas ≡ deltas) (event : Event) (news : List Gateway) (next : List (List Op)) (answer : Answer)
+      → EventKept ks deltas event news next answer → Reaches field event answer news next
+  event_reaches deltas listed (Frame n from bytes now) news next (Node answer) (i, place, ((old, new, moves, kept), is_next)) =
+      let at = shown_at field.gateways ks i old s moves.place in
+      let leads = frame_taken at.gateway old at.shown from bytes now answer new.taken new.bindings kept in
+      record {
+        new = record { gateways = set field.gateways i leads.next; deltas = field.deltas ++ made_of answer };
+        after = (i, at.gateway, leads.next, made_of answer, (place_there n i place, at.place), leads.step, refl);
+        shown = moved i old new leads.next news moves leads.shown;
+        listed = ap (λ ds. ds ++ made_of answer) listed ∙ sym is_next;
+      }
+  event_reaches deltas listed (Take n delta) news next (Node answer) (i, place, (ops, (one, there), (old, new, moves, kept), is_next)) =
+      let at = shown_at field.gateways ks i old s moves.place in
+      let leads = take_taken at.gateway old at.shown ops answer new.taken new.bindings kept in
+      record {
+        new = record { gateways = set field.gateways i leads.next; deltas = field.deltas ++ [] };
+        after = (i, at.gateway, leads.next, [], ops, (place_there n i place, at.place), (one, ap (λ ds. slice_get ds (delta - 1)) listed ∙ there), leads.step, refl);
+        shown = moved i old new leads.next news moves leads.shown;
+        listed = append-nil field.deltas ∙ (listed ∙ sym is_next);
+      }
+  event_reaches deltas listed (Show n) news next (Views views) (i, place, ((kept, there, is_views), same, is_next)) =
+      let at = shown_at field.gateways ks i kept s there in
+      let known : shown kept.taken ≡ shown at.gateway.taken =
+      λ j. map (λ c. (c, view-counts c at.gateway.taken kept.taken at.shown.keeps.counts j)) (clients-counts at.gateway.taken kept.taken at.shown.keeps.counts j) in
+      record {
+        new = field;
+        after = (i, at.gateway, (place_there n i place, at.place), is_views ∙ known, refl);
+        shown = subst (λ xs. AreShown field.gateways xs) (sym same) s;
+        listed = listed ∙ sym is_next;
+      }
+  event_reaches deltas listed (Frame n from bytes now) news next (Views views) (i, place, h) = absurd h
+  event_reaches deltas listed (Take n delta) news next (Views views) (i, place, (ops, there, h, is_next)) = absurd h
+  event_reaches deltas listed (Show n) news next (Node answer) (i, place, (h, same, is_next)) = absurd h
+
+-- a run goes on by one more event
+pub run_more : (old mid new : Field) (events : List Event) (answers : List Answer) (event : Event) (answer : Answer)
+    → Run old events answers mid → After mid event answer new → Run old (events ++ event ∷ []) (answers ++ answer ∷ []) new
+run_more old mid new [] [] event answer run after = (new, subst (λ f. After f event answer new) run after, refl)
+run_more old mid new (e ∷ events) (a ∷ answers) event answer (f, first, rest) after = (f, first, run_more f mid new events answers event answer rest after)
+run_more old mid new [] (a ∷ answers) event answer run after = absurd run
+run_more old mid new (e ∷ events) [] event answer run after = absurd run
+
+-- at the start every gateway keeps nothing
+pub shown_at_start : (configs : List Config) → AreShown (map new_gateway configs) (map new_gateway configs)
+shown_at_start [] = tt
+shown_at_start (config ∷ configs) = (record { numbered = refl; bound = refl; keeps = keeps_nothing }, shown_at_start configs)
+
+-- what is kept after one more event
+pub kept_more : (olds : List Gateway) (ds : List (List Op)) (events : List Event) (answers : List Answer) (ks : List Gateway) (deltas : List (List Op))
+    (event : Event) (news : List Gateway) (next : List (List Op)) (answer : Answer)
+    → RunKept olds ds events answers ks deltas → EventKept ks deltas event news next answer → RunKept olds ds (events ++ event ∷ []) (answers ++ answer ∷ []) news next
+kept_more olds ds events answers ks deltas event news next answer run one field s e =
+    let before = run field s e in
+    let r = event_reaches before.0 ks before.2 deltas before.3 event news next answer one in
+    (r.new, run_more field before.0 r.new events answers event answer before.1 r.after, r.shown, r.listed)
+
+names_no_delta : (field : Field) (ks : List Gateway) (deltas : List (List Op)) (event : Event) (number n : ℕ) → AreShown field.gateways ks → field.deltas ≡ deltas
+    → (i : ℕ) → place_of (gateway_of event) ks ≡ Some i → IsMissing deltas event number (stops.NoDelta n) → NamesNoDelta field event
+names_no_delta field ks deltas (Frame g from bytes now) number n s listed i place h = absurd h
+names_no_delta field ks deltas (Show g) number n s listed i place h = absurd h
+names_no_delta field ks deltas (Take g delta) number n s listed i place h =
+    ((i, place_shown g 0 field.gateways ks s ∙ place), λ ops there. h.1 ops (there.0, ap (λ ds. slice_get ds (delta - 1)) (sym listed) ∙ there.1))
+
+-- the event after these stops the run
+pub stops_here : (olds : List Gateway) (ds : List (List Op)) (events : List Event) (k : ℕ) (answers : List Answer) (ks : List Gateway) (deltas : List (List Op))
+    (event : Event) (fault : WorldFault)
+    → RunKept olds ds (take k events) answers ks deltas → slice_get events k ≡ Some event → IsStopKept ks deltas event (k + 1) fault → StopsKept olds ds events fault
+stops_here olds ds events k answers ks deltas event (stops.NoGateway n) run there (number, place) = λ field s e.
+    let before = run field s e in
+    (k, before.0, event, answers, before.1, there, number, place_shown (gateway_of event) 0 before.0.gateways ks before.2 ∙ place)
+stops_here olds ds events k answers ks deltas event (stops.NoDelta n) run there ((i, place), missing) = λ field s e.
+    let before = run field s e in
+    (k, before.0, event, answers, before.1, there, numbered deltas event (k + 1) n missing, names_no_delta before.0 ks deltas event (k + 1) n before.2 before.3 i place missing)
+  where
+    numbered : (deltas : List (List Op)) (event : Event) (number n : ℕ) → IsMissing deltas event number (stops.NoDelta n) → n ≡ number
+    numbered deltas (Frame g from bytes now) number n h = absurd h
+    numbered deltas (Take g delta) number n h = h.0
+    numbered deltas (Show g) number n h = absurd h
+stops_here olds ds events k answers ks deltas event stops.Memory run there h = tt
+
+-- what each replica shows is what was taken shows
+pub views_shown : {N R : Type 0} (held : N → Gateway) (replica_of : N → R) (kept : R → List Op) → ((node : N) → (held node).taken ≡ kept (replica_of node))
+    → (gs : List Gateway) (nodes : List N) → AreShown gs (map held nodes)
+    → (i : ℕ) (gateway : Gateway) (replica : R) → slice_get gs i ≡ Some gateway → slice_get (map replica_of nodes) i ≡ Some replica
+    → (c : List ℕ) → view c (kept replica) ≡ view c gateway.taken
+views_shown held replica_of kept same [] nodes s i gateway replica e f c = absurd (cc)
+views_shown held replica_of kept same (g ∷ gs) [] s i gateway replica e f c = absurd s
+views_shown held replica_of kept same (g ∷ gs) (node ∷ nodes) s zero gateway replica e f c =
+    let is_gateway : g ≡ gateway = cc in
+    let is_replica : replica_of node ≡ replica = cc in
+    ap (λ r. view c (kept r)) (sym is_replica) ∙ (ap (λ S. view c S) (sym (same node)) ∙ (view-counts c g.taken (held node).taken s.0.keeps.counts ∙ ap (λ (x : Gateway). view c x.taken) is_gateway))
+views_shown held replica_of kept same (g ∷ gs) (node ∷ nodes) s (suc i) gateway replica e f c = views_shown held replica_of kept same gs nodes s.1 i gateway replica e f c
+
+pub length_shown : {N R : Type 0} (held : N → Gateway) (replica_of : N → R) (gs : List Gateway) (nodes : List N) → AreShown gs (map held nodes) → length (map replica_of nodes) ≡ length gs
+length_shown held replica_of [] [] s = refl
+length_shown held replica_of [] (node ∷ nodes) s = absurd s
+length_shown held replica_of (g ∷ gs) [] s = absurd s
+length_shown held replica_of (g ∷ gs) (node ∷ nodes) s = let rest = length_shown held replica_of gs nodes s.1 in omega arith
+
+start_shown : (configs : List Config) (ks : List Gateway) → ks ≡ map new_gateway configs → AreShown (map new_gateway configs) ks
+start_shown configs ks e = subst (λ xs. AreShown (map new_gateway configs) xs) (sym e) (shown_at_start configs)
+
+-- a run from the start that stops
+pub stops_from_start : (configs : List Config) (ks : List Gateway) (ds : List (List Op)) (events : List Event) (fault : WorldFault)
+    → ks ≡ map new_gateway configs → ds ≡ [] → StopsKept ks ds events fault → IsStop configs events fault
+stops_from_start configs ks ds events (stops.NoGateway n) same none h =
+    let (k, field, event, answers, run, there, number, missing) = h (new_field configs) (start_shown configs ks same) (sym none) in
+    (k, field, event, record { answers = answers; run = run; event_is = there }, number, missing)
+stops_from_start configs ks ds events (stops.NoDelta n) same none h =
+    let (k, field, event, answers, run, there, number, missing) = h (new_field configs) (start_shown configs ks same) (sym none) in
+    (k, field, event, record { answers = answers; run = run; event_is = there }, number, missing)
+stops_from_start configs ks ds events stops.Memory same none h = tt
+
+-- a run from the start to its end
+pub world_from_start : {N R : Type 0} (held : N → Gateway) (replica_of : N → R) (kept : R → List Op) → ((node : N) → (held node).taken ≡ kept (replica_of node))
+    → (configs : List Config) (events : List Event) (answers : List Answer) (ks : List Gateway) (ds deltas : List (List Op)) (nodes : List N) (replicas : List R)
+    → ks ≡ map new_gateway configs → ds ≡ [] → RunKept ks ds events answers (map held nodes) deltas → replicas ≡ map replica_of nodes
+    → IsWorld kept configs events answers deltas replicas
+world_from_start held replica_of kept same configs events answers ks ds deltas nodes replicas start none run are =
+    let end = run (new_field configs) (start_shown configs ks start) (sym none) in
+    record {
+      field = end.0;
+      run = end.1;
+      listed = sym end.3;
+      all = ap length are ∙ length_shown held replica_of end.0.gateways nodes end.2;
+      views = λ i gateway replica e f c. views_shown held replica_of kept same end.0.gateways nodes end.2 i gateway replica e (ap (λ rs. slice_get rs i) (sym are) ∙ f) c;
+    }

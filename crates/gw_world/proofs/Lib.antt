@@ -1,0 +1,5 @@
+pub mod Occurring
+pub mod Held
+pub mod Moving
+pub mod Shown
+pub mod Fields

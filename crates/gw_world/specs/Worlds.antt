@@ -1,0 +1,35 @@
+-- The result of a run.
+use Rattle.std.specs.Prelude.{◌≡◌, ℕ, ◌+◌, List, length, take, Some, slice_get}
+use Rattle.rep_ops.specs.declared.op.Op.{Op}
+use Rattle.rep_model.specs.Views.{view}
+use Rattle.sn_flow.specs.declared.config.Config.{Config}
+use Rattle.gw_world.specs.declared.event.Event.{Event}
+use Rattle.gw_world.specs.declared.event.Answer.{Answer}
+use Rattle.gw_world.specs.declared.world.WorldFault.{WorldFault}
+use Rattle.gw_world.specs.declared.world.WorldFault.TheVariants as stops
+use Rattle.gw_world.specs.Gateways.{Gateway}
+use Rattle.gw_world.specs.Field.{Field, new_field, Run, NoGateway, NamesNoDelta, gateway_of}
+
+-- The events led the field, from its start, to these answers and deltas; and each replica, which keeps what `kept` says, shows of
+-- every client the view of the set that its gateway has made and taken.
+pub record IsWorld {R : Type 0} (kept : R → List Op) (configs : List Config) (events : List Event) (answers : List Answer) (deltas : List (List Op)) (replicas : List R) : Type 0 where
+  pub field : Field
+  pub run : Run (new_field configs) events answers field
+  pub listed : deltas ≡ field.deltas
+  pub all : length replicas ≡ length field.gateways
+  pub views : (i : ℕ) (gateway : Gateway) (replica : R) → slice_get field.gateways i ≡ Some gateway → slice_get replicas i ≡ Some replica
+      → (c : List ℕ) → view c (kept replica) ≡ view c gateway.taken
+
+-- the events before the k-th, counted from 0, led the field to this
+pub record Before (configs : List Config) (events : List Event) (k : ℕ) (field : Field) (event : Event) : Type 0 where
+  pub answers : List Answer
+  pub run : Run (new_field configs) (take k events) answers field
+  pub event_is : slice_get events k ≡ Some event
+
+-- why there is no result: an event, numbered from 1, names no gateway, or no delta of the list as it then is; or memory ran out
+abbrev pub IsStop : List Config → List Event → WorldFault → Type 0
+IsStop configs events (stops.NoGateway n) =
+    (k : ℕ) × (field : Field) × (event : Event) × Before configs events k field event × (n ≡ k + 1) × NoGateway field (gateway_of event)
+IsStop configs events (stops.NoDelta n) =
+    (k : ℕ) × (field : Field) × (event : Event) × Before configs events k field event × (n ≡ k + 1) × NamesNoDelta field event
+IsStop configs events stops.Memory = Unit {0}

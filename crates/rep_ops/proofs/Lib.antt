@@ -1,0 +1,15 @@
+pub mod Names
+pub mod Joining
+pub mod Rising
+pub mod Sizes
+pub mod Sets
+pub mod Joined
+pub mod Making
+pub mod Canonical
+pub mod Writing
+pub mod Laws
+pub mod Loop
+pub mod Fields
+pub mod Operations
+pub mod Format
+pub mod Examples
