@@ -149,7 +149,7 @@ fn new_nodes<R: Replica>(alloc: Global, configs: &[Config]) -> Result<Vec<Node<R
     let mut nodes = Vec::with_capacity(alloc, configs.len())?;
     for config in configs {
         nodes.push(Node {
-            config: *config,
+            config: config.copy(alloc)?,
             replica: R::empty(alloc)?,
             dialogs: Dialogs::empty(alloc),
         })?;

@@ -7,6 +7,7 @@ use super::event::Answer;
 use octets::Sequence;
 use rep_model::TakeFault;
 use rep_ops::{Delta, OpsFault};
+use sn_flow::StepFault;
 use std::alloc::{AllocError, AllocFailed};
 use thiserror::Error;
 
@@ -61,6 +62,14 @@ impl From<TakeFault> for WorldFault {
     ghost from_gives = { λ _ e. e ≡ Memory };
 
     fn from(_error: TakeFault) -> WorldFault {
+        WorldFault::Memory
+    }
+}
+
+impl From<StepFault> for WorldFault {
+    ghost from_gives = { λ _ e. e ≡ Memory };
+
+    fn from(_error: StepFault) -> WorldFault {
         WorldFault::Memory
     }
 }

@@ -6,3 +6,10 @@ pub mod Sets
 pub mod Joined
 pub mod Making
 pub mod Canonical
+pub mod Writing
+pub mod Laws
+pub mod Loop
+pub mod Fields
+pub mod Operations
+pub mod Format
+pub mod Examples

@@ -1,5 +1,5 @@
 -- Sorted and joined, operations are the delta of their set.
-use Rattle.std.proofs.Common.{◌≡◌, List, length, Result, Ok, Err, subst, sym}
+use Rattle.std.proofs.Common.{◌≡◌, List, length, Result, Ok, Err, subst, sym, true}
 use Rattle.std.specs.Prelude.{IfOk, IfErr}
 use Rattle.std.specs.Global.{Vec}
 use Rattle.std.specs.List.{AllAdjacentBelow}
@@ -12,11 +12,13 @@ use Rattle.rep_ops.specs.declared.fault.OpsFault.{OpsFault}
 use Rattle.rep_ops.specs.declared.fault.OpsFault.TheVariants.{Memory, Twice}
 use Rattle.rep_ops.specs.declared.op.Op.{Op}
 use Rattle.rep_ops.specs.Deltas.{ShareName}
-use Rattle.rep_ops.specs.Joining.{joined}
+use Rattle.rep_ops.specs.declared.op.Op.TheVariants.{Session as OfSession, Put as OfPut, Ack}
+use Rattle.rep_ops.specs.Joining.{touches, merged, joined}
 use Rattle.rep_ops.specs.Making.{AreWellMade, AreApart, IsDeltaOf}
 use Rattle.rep_ops.specs.Orders.{name_cmp}
+use Rattle.rep_ops.specs.Values.{IsValue, AreValues}
 use Rattle.rep_ops.specs.WellMade.{is_well_made}
-use Rattle.rep_ops.proofs.Joined.{delta_joined, same_joined}
+use Rattle.rep_ops.proofs.Joined.{all_joined, delta_joined, same_joined}
 use Rattle.rep_ops.proofs.Rising.{rising_from, rising_apart}
 use Rattle.rep_ops.proofs.Sets.{twice_permutation, same_permutation, Same-sym, Same-trans}
 
@@ -24,8 +26,19 @@ made_permutation : (xs ys : List Op) → IsPermutation xs ys → AreWellMade xs 
 made_permutation xs ys p h =
     recursion_from_All (λ op. IsTrue (is_well_made op)) ys (All-permutation (λ op. IsTrue (is_well_made op)) xs ys p (All-from_recursion (λ op. IsTrue (is_well_made op)) xs h))
 
+values_permutation : (xs ys : List Op) → IsPermutation xs ys → AreValues xs → AreValues ys
+values_permutation xs ys p h = recursion_from_All IsValue ys (All-permutation IsValue xs ys p (All-from_recursion IsValue xs h))
+
+merged_value : (a b : Op) → touches a b ≡ true → IsValue a → IsValue b → IsValue (merged a b)
+merged_value (OfSession c s i o) b e ha hb = ha
+merged_value (OfPut c p) b e ha hb = ha
+merged_value (Ack c r f l) (OfSession d t j o) e ha hb = ha
+merged_value (Ack c r f l) (OfPut d q) e ha hb = ha
+merged_value (Ack c r f l) (Ack d s g m) e ha hb = (ha.0, ha.1, ha.2, hb.3)
+
 pub record Sorted (xs ys : List Op) : Type 0 where
   pub made : AreWellMade xs
+  pub values : AreValues xs
   pub same : IsPermutation xs ys
   pub sorted : IsSortedBy (λ a b. is_lt (name_cmp a b)) ys
   pub once : AllAdjacentBelow (λ a b. ¬ (ShareName a b)) ys (length ys)
@@ -45,8 +58,11 @@ sorted_delta xs ys s =
       same = Same-trans (joined ys) ys xs (same_joined ys made) (Same-sym xs ys (same_permutation xs ys s.same apart.once));
     }
 
-pub ok_made : (xs ys : List Op) → Sorted xs ys → (r : Result (Vec Op) OpsFault) → IfOk r (λ out. out.items ≡ joined ys) → IfOk r (λ d. AreApart xs × IsDeltaOf xs d.items)
-ok_made xs ys s (Ok out) h = (sorted_apart xs ys s, subst (λ (d : List Op). IsDeltaOf xs d) (sym h) (sorted_delta xs ys s))
+sorted_values : (xs ys : List Op) → Sorted xs ys → AreValues (joined ys)
+sorted_values xs ys s = all_joined IsValue merged_value ys (values_permutation xs ys s.same s.values)
+
+pub ok_made : (xs ys : List Op) → Sorted xs ys → (r : Result (Vec Op) OpsFault) → IfOk r (λ out. out.items ≡ joined ys) → IfOk r (λ d. AreApart xs × IsDeltaOf xs d.items × AreValues d.items)
+ok_made xs ys s (Ok out) h = (sorted_apart xs ys s, subst (λ (d : List Op). IsDeltaOf xs d) (sym h) (sorted_delta xs ys s), subst AreValues (sym h) (sorted_values xs ys s))
 ok_made xs ys s (Err e) h = tt
 
 pub memory_alone : {T : Type 0} (r : Result T OpsFault) → IfErr r (λ fault. fault ≡ Memory) → r ≡ Err Twice → ⊥
@@ -54,10 +70,11 @@ memory_alone (Ok x) h e = absurd cc
 memory_alone (Err f) h e = absurd cc
 
 -- what the two tests and the sort say
-pub sorted_from : (xs seen ys again : List Op) → seen ≡ xs → AreWellMade seen → IsPermutation xs ys → IsSortedBy (λ a b. is_lt (name_cmp a b)) ys
+pub sorted_from : (xs seen ys again : List Op) → seen ≡ xs → AreWellMade seen → AreValues seen → IsPermutation xs ys → IsSortedBy (λ a b. is_lt (name_cmp a b)) ys
     → again ≡ ys → AllAdjacentBelow (λ a b. ¬ (ShareName a b)) again (length again) → Sorted xs ys
-sorted_from xs seen ys again e made same sorted f once = record {
+sorted_from xs seen ys again e made values same sorted f once = record {
   made = subst AreWellMade e made;
+  values = subst AreValues e values;
   same = same;
   sorted = sorted;
   once = subst (λ (zs : List Op). AllAdjacentBelow (λ a b. ¬ (ShareName a b)) zs (length zs)) f once;

@@ -7,3 +7,7 @@ pub mod Deltas
 pub mod Spelling
 pub mod Making
 pub mod Joining
+pub mod Writing
+pub mod Reading
+pub mod Values
+pub mod Formats

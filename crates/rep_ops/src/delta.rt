@@ -1,17 +1,22 @@
 //! A set of operations that travels in one piece.
 
-ghost use Rattle.std.specs.Prelude.{◌≡◌, ◌⊎◌, ◌<◌, ◌==◌, List, [], length, IfOk, IfErr, ◌↔◌};
+ghost use Rattle.std.specs.Prelude.{◌≡◌, ◌≢◌, ◌⊎◌, ◌<◌, ◌≤◌, ◌==◌, ℕ, List, [], Ok, Err, ◌++◌, length, IfOk, IfErr, OnOk, OnErr, ◌↔◌};
 ghost use Rattle.rep_ops.specs.Deltas.{IsDelta, HasTwice};
 ghost use Rattle.rep_ops.specs.Joining.{joined};
 ghost use Rattle.rep_ops.specs.Making.{AreWellMade, AreApart, IsDeltaOf, IsRefusal};
+ghost use Rattle.rep_ops.specs.Formats.{IsSpelled};
+ghost use Rattle.rep_ops.specs.Reading.{Gives, reading, AreOctets};
 ghost use Rattle.rep_ops.specs.Sets.{Same};
-ghost use Rattle.rep_ops.specs.Spelling.{IsWithinLimit};
+ghost use Rattle.rep_ops.specs.Values.{AreValues};
+ghost use Rattle.rep_ops.specs.Spelling.{spelling, IsWithinLimit};
 ghost use Rattle.rep_ops.specs.declared.op.Op.{Op};
 
 use super::fault::OpsFault;
 use super::join::{has_twice, join_ranges, sort_by_name};
 use super::op::Op;
+use super::read::read_delta;
 use super::size::{are_well_made, is_within_limit};
+use super::write::write_delta;
 use std::alloc::Global;
 use std::marker::Model;
 
@@ -27,12 +32,13 @@ impl Model for Delta {
     ghost use Rattle.rep_ops.specs.declared.op.Op.{Op};
     ghost use Rattle.rep_ops.specs.Deltas.{IsDelta};
     ghost use Rattle.rep_ops.specs.Spelling.{IsWithinLimit};
+    ghost use Rattle.rep_ops.specs.Values.{AreValues};
 
     ghost Value = { List Op };
 
     ghost view = { λ d. d.ops.items };
 
-    ghost invariant = { λ d. IsDelta d.ops.items × IsWithinLimit d.ops.items };
+    ghost invariant = { λ d. IsDelta d.ops.items × IsWithinLimit d.ops.items × AreValues d.ops.items };
 }
 
 impl Delta {
@@ -64,11 +70,47 @@ impl Delta {
         Ok(Delta { ops })
     }
 
+    /// Appends the one spelling of the delta. On an error the vector is as it was.
+    pub fn encode(&self, _alloc: Global, out: &mut Vec<u8>) -> Result<(), OpsFault>
+        ensures ok { OnOk result (out.new.items ≡ out.old.items ++ spelling self.now) }
+        ensures err { OnErr result (out.new.items ≡ out.old.items) }
+        ensures memory { IfErr result (λ fault. fault ≡ OpsFault.Memory) }
+    {
+        let start = out.len();
+        match write_delta(out, self.ops()) {
+            Ok(()) => Ok(()),
+            Err(fault) => {
+                out.truncate(start);
+                Err(fault)
+            }
+        }
+    }
+
+    /// The delta that octets spell.
+    ///
+    /// `Limit` for more than 8,388,608 octets; else the first of these from the left: `Version` for a
+    /// version other than 1, `Truncated` where the octets end, `Kind` for a value out of range (a length,
+    /// count or tag as soon as it is read, any other value when it is whole), `Order` for an operation that
+    /// may not stand behind the one before it, and last `Trailing` for octets behind the delta.
+    pub fn decode(alloc: Global, bytes: &[u8]) -> Result<Delta, OpsFault>
+        // What is read is spelled so.
+        ensures ok { IfOk result (IsSpelled bytes.now) }
+        // What is spelled so is read, unless memory runs out.
+        ensures only { (d : List Op) → AreValues d → IsSpelled bytes.now d → (result ≡ Ok d) ⊎ (result ≡ Err OpsFault.Memory) }
+        // Which fault it is.
+        ensures exact { Gives (λ d. d) result (reading bytes.now) }
+    {
+        Ok(Delta {
+            ops: read_delta(alloc, bytes)?,
+        })
+    }
+
     /// The operations, in the order of their names.
     pub fn ops(&self) -> &[Op]
         ensures ops { result.now ≡ self.now }
         ensures delta { IsDelta self.now }
         ensures size { IsWithinLimit self.now }
+        ensures values { AreValues self.now }
     {
         self.ops.as_slice()
     }
@@ -86,14 +128,14 @@ impl Delta {
         ensures err { IfErr result (λ fault. fault ≡ OpsFault.Memory) }
     {
         Ok(Delta {
-            ops: copy_all(alloc, self.ops.as_slice())?,
+            ops: copy_all(alloc, self.ops())?,
         })
     }
 }
 
 /// The operations of the delta that is the set of these, however large.
 fn canonical(alloc: Global, ops: Vec<Op>) -> Result<Vec<Op>, OpsFault>
-    ensures ok { IfOk result (λ d. AreApart ops.items × IsDeltaOf ops.items d.items) }
+    ensures ok { IfOk result (λ d. AreApart ops.items × IsDeltaOf ops.items d.items × AreValues d.items) }
     ensures fault { IfErr result (λ fault. (fault ≡ OpsFault.Memory) ⊎ (fault ≡ OpsFault.Kind) ⊎ (fault ≡ OpsFault.Twice)) }
     ensures kind { result ≡ Err OpsFault.Kind ↔ (¬ (AreWellMade ops.items)) }
     ensures twice { result ≡ Err OpsFault.Twice ↔ (AreWellMade ops.items × HasTwice ops.items) }
@@ -124,4 +166,25 @@ fn copy_all(alloc: Global, ops: &[Op]) -> Result<Vec<Op>, OpsFault>
 /// A set has one delta.
 pub fn one_delta()
     ensures { (a b : List Op) → IsDelta a → IsDelta b → Same a b → a ≡ b }
+{}
+
+/// The reading of octets and the spelling of deltas are one another's inverse.
+pub fn one_reading()
+    // A delta is read off its spelling, so no octets spell two deltas.
+    ensures again { (d : List Op) → IsDelta d → AreValues d → IsWithinLimit d → reading (spelling d) ≡ Ok d }
+    // What is read off octets is spelled so.
+    ensures spelled { (bytes : List ℕ) (d : List Op) → AreOctets bytes → reading bytes ≡ Ok d → IsSpelled bytes d × AreValues d }
+{}
+
+/// No spelling begins another.
+pub fn no_prefix()
+    // Where two spellings stand in front of the same octets they are the same, and so is what is behind them.
+    ensures free { (a b : List Op) (x y : List ℕ) → IsDelta a → AreValues a → IsWithinLimit a → IsDelta b → AreValues b → IsWithinLimit b
+        → spelling a ++ x ≡ spelling b ++ y → (a ≡ b) × (x ≡ y) }
+    // What is cut off anywhere is told by `Truncated`.
+    ensures cut { (d : List Op) (front rest : List ℕ) → IsDelta d → AreValues d → IsWithinLimit d
+        → spelling d ≡ front ++ rest → rest ≢ [] → reading front ≡ Err OpsFault.Truncated }
+    // What stands behind is told by `Trailing`.
+    ensures behind { (d : List Op) (rest : List ℕ) → IsDelta d → AreValues d → rest ≢ []
+        → length (spelling d ++ rest) ≤ 8388608 → reading (spelling d ++ rest) ≡ Err OpsFault.Trailing }
 {}

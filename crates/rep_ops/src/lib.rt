@@ -6,11 +6,17 @@
 //!
 //! - `client_id`: who a session is of.
 //! - `op`: stamps, puts and operations.
-//! - `delta`: a set of operations that travels in one piece (`Delta`).
-//! - `fault`: why a delta is refused.
+//! - `delta`: a set of operations that travels in one piece (`Delta`): made of operations, copied, written
+//!   as octets and read again.
+//! - `order`, `join`, `size`: names and their order, ranges joined, what a delta may hold.
+//! - `write`, `read`: the format, one function for each type of it.
+//! - `fault`: why operations or octets are refused.
 //!
 //! The definitions are in `specs/`: `Orders` (names and their order), `Sets` (what a set has under a
-//! name, equal sets, consistent sets), `WellMade` and `Deltas` (what a delta may hold).
+//! name, equal sets, consistent sets), `WellMade` and `Deltas` (what a delta may hold), `Making` (which
+//! operations make one), `Spelling` (the octets of a delta), `Reading` (what octets say, up to the first
+//! fault). `one_delta`, `one_reading` and `no_prefix` state the laws: a set has one delta, a delta one
+//! spelling, and no spelling begins another.
 #![tactic(auto)]
 
 mod client_id;
@@ -19,9 +25,14 @@ mod fault;
 mod join;
 mod op;
 mod order;
+mod read;
 mod size;
+mod write;
 
 pub use client_id::ClientId;
-pub use delta::{Delta, one_delta};
+pub use delta::{Delta, no_prefix, one_delta, one_reading};
 pub use fault::OpsFault;
 pub use op::{Op, Put, Stamp};
+
+#[cfg(test)]
+mod tests;

@@ -3,10 +3,11 @@
 ghost use Rattle.std.specs.Prelude.{◌≡◌, ◌≤◌, ◌↔◌, length, IsTrue};
 ghost use Rattle.rep_ops.specs.Making.{AreWellMade};
 ghost use Rattle.rep_ops.specs.Spelling.{op_octets, change_octets, put_octets, spelling, IsWithinLimit};
+ghost use Rattle.rep_ops.specs.Values.{IsChangeValue, IsValue, AreValues};
 ghost use Rattle.rep_ops.specs.WellMade.{is_stamp as stamp_test, is_change as change_test, is_counted as count_test, is_put as put_test, is_well_made as made_test};
 
 use super::op::{Op, Put, Stamp};
-use sn_session::SessionOp;
+use sn_session::{Session, SessionOp};
 
 /// The most octets of a delta.
 pub const MAX_OCTETS: usize = 8_388_608;
@@ -69,11 +70,77 @@ pub fn is_well_made(op: &Op) -> bool
     }
 }
 
+/// What the types of a change promise of its numbers.
+fn change_is_value(change: &SessionOp)
+    ensures { IsChangeValue change.now }
+{
+    match change {
+        SessionOp::Take(
+            Session {
+                duration,
+                next_id,
+                ..
+            },
+        ) => {
+            let _duration = *duration;
+            let _next_id = *next_id;
+        }
+        SessionOp::Presence { duration, .. } => {
+            let _number = *duration;
+        }
+    }
+}
+
+/// What the types of an operation promise of its parts.
+fn is_value(op: &Op)
+    ensures { IsValue op.now }
+{
+    match op {
+        Op::Session {
+            client,
+            stamp,
+            counter,
+            change,
+        } => {
+            let _name = client.bytes();
+            let _epoch = stamp.epoch;
+            let _gateway = stamp.gateway;
+            let _counter = *counter;
+            change_is_value(change);
+        }
+        Op::Put { client, put } => {
+            let _name = client.bytes();
+            let Put {
+                origin,
+                seq,
+                topic,
+                ..
+            } = put;
+            let _topic = topic.bytes();
+            let _origin = *origin;
+            let _seq = *seq;
+        }
+        Op::Ack {
+            client,
+            origin,
+            first,
+            last,
+        } => {
+            let _name = client.bytes();
+            let _origin = *origin;
+            let _first = *first;
+            let _last = *last;
+        }
+    }
+}
+
 /// Whether a delta may hold the operations.
 pub fn are_well_made(ops: &[Op]) -> bool
-    ensures { IsTrue result ↔ AreWellMade ops.now }
+    ensures made { IsTrue result ↔ AreWellMade ops.now }
+    ensures values { IsTrue result → AreValues ops.now }
 {
     for op in ops {
+        is_value(op);
         if !is_well_made(op) {
             return false;
         }

@@ -1,6 +1,11 @@
 //! What a gateway is told, and what it sends.
 
+use std::alloc::Global;
+
 use octets::Octets;
+use sn_topic::Predefined;
+
+use super::fault::StepFault;
 
 /// An address of the transport below: a host and a port.
 #[derive(Clone, Copy, Debug, PartialEq, Eq)]
@@ -10,10 +15,31 @@ pub struct Addr {
 }
 
 /// What a gateway is told when it starts.
-#[derive(Clone, Copy, Debug, PartialEq, Eq)]
+#[derive(Debug, Drop)]
 pub struct Config {
     /// Its number, 1 to 255; no other gateway of the field has it.
     pub gateway: u8,
+    /// The topic ids that stand for names without registration.
+    pub predefined: Predefined,
+}
+
+impl Config {
+    ghost use Rattle.std.specs.Prelude.{◌≡◌, IfOk, IfErr};
+    ghost use Rattle.sn_flow.specs.declared.fault.StepFault.TheVariants.{Memory};
+
+    /// An equal configuration.
+    pub fn copy(&self, alloc: Global) -> Result<Config, StepFault>
+        ensures ok { IfOk result (λ made. made ≡ self.now) }
+        ensures err { IfErr result (λ fault. fault ≡ Memory) }
+    {
+        let Ok(predefined) = self.predefined.copy(alloc) else {
+            return Err(StepFault::Memory);
+        };
+        Ok(Config {
+            gateway: self.gateway,
+            predefined,
+        })
+    }
 }
 
 /// A datagram to be sent.

@@ -1,0 +1,20 @@
+# Nimhazel: a field of MQTT-SN 1.2 gateways.
+#
+#   make run    runs the simulator on the scripts of examples/ and shows script and output side by side
+#   make test   proves every crate from nothing, tries the edits that must fail, runs every test and program
+#
+# Both need the Rattle kit's command `rt` and nothing else.
+
+.PHONY: run test bench clean
+
+run:
+	@sh examples/show.sh
+
+test:
+	rt ci
+
+bench:
+	@sh bench/play.sh
+
+clean:
+	rm -rf crates/*/out

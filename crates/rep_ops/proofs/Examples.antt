@@ -1,0 +1,54 @@
+-- Worked examples of the definitions.
+use Rattle.std.proofs.Common.{◌≡◌, ℕ, List, [], ◌∷◌, Ok, Err, refl, true}
+use Rattle.sn_session.specs.declared.session.Presence.TheVariants.{Active}
+use Rattle.sn_session.specs.declared.session.SessionOp.TheVariants.{Take}
+use Rattle.rep_ops.specs.declared.fault.OpsFault.TheVariants as faults
+use Rattle.rep_ops.specs.declared.op.Op.{Op}
+use Rattle.rep_ops.specs.declared.op.Op.TheVariants.{Session as OfSession, Ack}
+use Rattle.rep_ops.specs.Joining.{joined}
+use Rattle.rep_ops.specs.Reading.{reading, delta_at, front_at, ops_at, op_at, ack_at, range_at, client_at}
+use Rattle.rep_ops.specs.Spelling.{spelling}
+
+-- a client `s1`
+abbrev s1 : List ℕ
+s1 = 0x73 ∷ 0x31 ∷ []
+
+-- it connected for 60 seconds with a clean session
+abbrev connected : Op
+connected = OfSession s1 (record { epoch = 1; gateway = 1 }) 0 (Take (record { presence = Active; clean = true; duration = 60; next_id = 1 }))
+
+abbrev connected_octets : List ℕ
+connected_octets =
+    0x01 ∷ 0x00 ∷ 0x00 ∷ 0x00 ∷ 0x01 ∷ 0x01 ∷ 0x02 ∷ 0x73 ∷ 0x31 ∷ 0x00 ∷ 0x00 ∷ 0x00 ∷ 0x00 ∷ 0x00 ∷ 0x00 ∷ 0x00 ∷ 0x01 ∷ 0x01 ∷ 0x00 ∷ 0x00
+    ∷ 0x00 ∷ 0x01 ∷ 0x00 ∷ 0x3c ∷ 0x00 ∷ 0x01 ∷ 0x00 ∷ 0x00 ∷ 0x00 ∷ 0x00 ∷ 0x00 ∷ 0x00 ∷ 0x00 ∷ 0x00 ∷ []
+
+connected_spelled : spelling (connected ∷ []) ≡ connected_octets
+connected_spelled = refl
+
+-- the first message of gateway 2 is acknowledged
+abbrev acknowledged_octets : List ℕ
+acknowledged_octets =
+    0x01 ∷ 0x00 ∷ 0x00 ∷ 0x00 ∷ 0x01 ∷ 0x03 ∷ 0x02 ∷ 0x73 ∷ 0x31 ∷ 0x02 ∷ 0x00 ∷ 0x00 ∷ 0x00 ∷ 0x00 ∷ 0x00 ∷ 0x00 ∷ 0x00 ∷ 0x01
+    ∷ 0x00 ∷ 0x00 ∷ 0x00 ∷ 0x00 ∷ 0x00 ∷ 0x00 ∷ 0x00 ∷ 0x01 ∷ []
+
+acknowledged_spelled : spelling (Ack s1 2 1 1 ∷ []) ≡ acknowledged_octets
+acknowledged_spelled = refl
+
+acknowledged_read : reading acknowledged_octets ≡ Ok (Ack s1 2 1 1 ∷ [])
+unfolding delta_at front_at ops_at op_at ack_at range_at client_at
+acknowledged_read = refl
+
+other_version : reading (0x02 ∷ []) ≡ Err faults.Version
+unfolding delta_at front_at
+other_version = refl
+
+nothing_there : reading [] ≡ Err faults.Truncated
+unfolding delta_at front_at
+nothing_there = refl
+
+-- 1 to 2 and 3 to 3 are one range, and 4 is apart from 1 to 2
+ranges_joined : joined (Ack s1 2 1 2 ∷ Ack s1 2 3 3 ∷ []) ≡ Ack s1 2 1 3 ∷ []
+ranges_joined = refl
+
+ranges_apart : joined (Ack s1 2 1 2 ∷ Ack s1 2 4 4 ∷ []) ≡ Ack s1 2 1 2 ∷ Ack s1 2 4 4 ∷ []
+ranges_apart = refl

@@ -1,0 +1,11 @@
+-- The format as a relation of octets with deltas.
+use Rattle.std.specs.Prelude.{◌≡◌, ℕ, List}
+use Rattle.rep_ops.specs.declared.op.Op.{Op}
+use Rattle.rep_ops.specs.Deltas.{IsDelta}
+use Rattle.rep_ops.specs.Spelling.{spelling, IsWithinLimit}
+
+-- the octets spell the delta
+pub record IsSpelled (bytes : List ℕ) (d : List Op) : Type 0 where
+  pub delta : IsDelta d
+  pub limit : IsWithinLimit d
+  pub spelled : bytes ≡ spelling d

@@ -1,0 +1,199 @@
+-- Reading a delta from left to right, up to the first fault. A reader gives a value and the octets behind it.
+use Rattle.std.specs.Prelude.{◌≡◌, ℕ, zero, suc, ◌+◌, ◌==◌, Bool, true, ◌&&◌, not, if◌then◌else◌, nat_le, nat_lt, List, [], ◌∷◌, ◌++◌, length, take, drop, slice_index, ◌<◌, Result, Ok, Err}
+use Rattle.std.specs.Int.{Width, w16, w32, w64, byte_len, from_be_bytes}
+use Rattle.std.specs.Ordering.{is_lt}
+use Rattle.sn_topic.specs.Levels.{has_wildcard}
+use Rattle.sn_session.specs.declared.session.Presence.{Presence}
+use Rattle.sn_session.specs.declared.session.Presence.TheVariants as presences
+use Rattle.sn_session.specs.declared.session.Session.{Session}
+use Rattle.sn_session.specs.declared.session.SessionOp.{SessionOp}
+use Rattle.sn_session.specs.declared.session.SessionOp.TheVariants.{Take, Presence as SetPresence}
+use Rattle.rep_ops.specs.declared.fault.OpsFault.{OpsFault}
+use Rattle.rep_ops.specs.declared.fault.OpsFault.TheVariants as faults
+use Rattle.rep_ops.specs.declared.op.Op.{Op}
+use Rattle.rep_ops.specs.declared.op.Op.TheVariants.{Session as OfSession, Put as OfPut, Ack}
+use Rattle.rep_ops.specs.Orders.{name_cmp}
+use Rattle.rep_ops.specs.Sets.{same_client}
+use Rattle.rep_ops.specs.Spelling.{max_octets}
+
+-- ---- readers
+
+abbrev pub Reader : Type 0 → Type 0
+Reader A = List ℕ → Result (A × List ℕ) OpsFault
+
+-- go on with what was read, or end with the fault
+infixl 10 ◌>>=◌
+abbrev pub ◌>>=◌ : {A B : Type 0} → Result A OpsFault → (A → Result B OpsFault) → Result B OpsFault
+(Ok x) >>= f = f x
+(Err e) >>= f = Err e
+
+-- one value, and behind it another
+abbrev pub both : {A B : Type 0} → Reader A → Reader B → Reader (A × B)
+both first second bytes = first bytes >>= λ x. second x.1 >>= λ y. Ok ((x.0, y.0), y.1)
+
+-- one value, and behind it another whose form depends on the first
+abbrev pub by_first : {A B : Type 0} → Reader A → (A → Reader B) → Reader (A × B)
+by_first first second bytes = first bytes >>= λ x. second x.0 x.1 >>= λ y. Ok ((x.0, y.0), y.1)
+
+-- a value made of what was read
+abbrev pub made : {A B : Type 0} → (A → B) → Reader A → Reader B
+made f read bytes = read bytes >>= λ x. Ok (f x.0, x.1)
+
+-- a value that is in range, looked at when it is whole
+abbrev pub ranged : {A : Type 0} → (A → Bool) → Reader A → Reader A
+ranged test read bytes = read bytes >>= λ x. if test x.0 then Ok x else Err faults.Kind
+
+-- ---- octets, numbers and texts
+
+abbrev pub octet_at : Reader ℕ
+octet_at [] = Err faults.Truncated
+octet_at (octet ∷ rest) = Ok (octet, rest)
+
+-- so many octets
+abbrev pub octets_at : ℕ → Reader (List ℕ)
+octets_at n bytes = if nat_lt (length bytes) n then Err faults.Truncated else Ok (take n bytes, drop n bytes)
+
+-- a number, the most significant octet first
+abbrev pub number_at : Width → Reader ℕ
+number_at w bytes = if nat_lt (length bytes) (byte_len w) then Err faults.Truncated else Ok (from_be_bytes w (take (byte_len w) bytes), drop (byte_len w) bytes)
+
+-- a size that is in range, and so many octets
+abbrev pub sized_at : (ℕ → Bool) → Reader ℕ → Reader (List ℕ)
+sized_at test size bytes = ranged test size bytes >>= λ x. octets_at x.0 x.1
+
+-- origins, gateways, epochs, sequence numbers and message ids begin at 1
+abbrev pub is_counted : ℕ → Bool
+is_counted n = nat_le 1 n
+
+unfoldable pub client_at : Reader (List ℕ)
+client_at = sized_at (λ n. nat_le 1 n && nat_le n 23) octet_at
+
+unfoldable pub topic_at : Reader (List ℕ)
+topic_at = ranged (λ name. not (has_wildcard name)) (sized_at (λ n. nat_le 1 n && nat_le n 256) (number_at w16))
+
+unfoldable pub body_at : Reader (List ℕ)
+body_at = sized_at (λ n. nat_le n 4096) (number_at w16)
+
+-- ---- sessions
+
+unfoldable pub flag_at : Reader Bool
+flag_at = made (λ n. n == 1) (ranged (λ n. nat_le n 1) octet_at)
+
+abbrev pub presence_of : ℕ → Presence
+presence_of n = if n == 0 then presences.Active else (if n == 1 then presences.Asleep else (if n == 2 then presences.Awake else (if n == 3 then presences.Disconnected else presences.Lost)))
+
+unfoldable pub presence_at : Reader Presence
+presence_at = made presence_of (ranged (λ n. nat_le n 4) octet_at)
+
+-- the count of a list without entries
+unfoldable pub no_list_at : Reader ℕ
+no_list_at = ranged (λ n. n == 0) (number_at w16)
+
+-- the flag of a part that is not there
+unfoldable pub no_part_at : Reader ℕ
+no_part_at = ranged (λ n. n == 0) octet_at
+
+-- topics, subscriptions, will, received, exchange
+unfoldable pub empty_parts_at : Reader (ℕ × (ℕ × (ℕ × (ℕ × ℕ))))
+empty_parts_at = both no_list_at (both no_list_at (both no_part_at (both no_list_at no_part_at)))
+
+-- presence, clean, duration, next message id, and the parts
+abbrev pub Fields : Type 0
+Fields = Presence × (Bool × (ℕ × (ℕ × (ℕ × (ℕ × (ℕ × (ℕ × ℕ)))))))
+
+abbrev pub session_of : Fields → Session
+session_of x = record { presence = x.0; clean = x.1.0; duration = x.1.1.0; next_id = x.1.1.1.0 }
+
+unfoldable pub session_at : Reader Session
+session_at = made session_of (both presence_at (both flag_at (both (number_at w16) (both (ranged is_counted (number_at w16)) empty_parts_at))))
+
+unfoldable pub set_presence_at : Reader SessionOp
+set_presence_at = made (λ x. SetPresence x.0 x.1) (both presence_at (number_at w16))
+
+-- the fields of a change, by its tag
+abbrev pub fields_at : ℕ → Reader SessionOp
+fields_at tag bytes = if tag == 0 then made (λ session. Take session) session_at bytes else set_presence_at bytes
+
+-- tag 0, a Take, stands at counter 0 and nowhere else; the other tag is 1
+abbrev pub is_tag : ℕ → ℕ → Bool
+is_tag counter tag = if counter == 0 then tag == 0 else tag == 1
+
+unfoldable pub change_at : ℕ → Reader SessionOp
+change_at counter bytes = ranged (is_tag counter) octet_at bytes >>= λ tag. fields_at tag.0 tag.1
+
+-- ---- operations
+
+abbrev pub session_op_of : List ℕ × (ℕ × (ℕ × (ℕ × SessionOp))) → Op
+session_op_of x = OfSession x.0 (record { epoch = x.1.0; gateway = x.1.1.0 }) x.1.1.1.0 x.1.1.1.1
+
+unfoldable pub session_op_at : Reader Op
+session_op_at = made session_op_of (both client_at (both (ranged is_counted (number_at w64)) (both (ranged is_counted octet_at) (by_first octet_at change_at))))
+
+abbrev pub put_op_of : List ℕ × (ℕ × (ℕ × (List ℕ × (ℕ × List ℕ)))) → Op
+put_op_of x = OfPut x.0 (record { origin = x.1.0; seq = x.1.1.0; topic = x.1.1.1.0; qos = x.1.1.1.1.0; body = x.1.1.1.1.1 })
+
+unfoldable pub put_op_at : Reader Op
+put_op_at = made put_op_of (both client_at (both (ranged is_counted octet_at) (both (ranged is_counted (number_at w64)) (both topic_at (both (ranged (λ n. nat_le n 2) octet_at) body_at)))))
+
+abbrev pub ack_of : List ℕ × (ℕ × (ℕ × ℕ)) → Op
+ack_of x = Ack x.0 x.1.0 x.1.1.0 x.1.1.1
+
+-- a range does not end before it begins
+unfoldable pub range_at : Reader (ℕ × ℕ)
+range_at = ranged (λ x. nat_le x.0 x.1) (both (ranged is_counted (number_at w64)) (number_at w64))
+
+unfoldable pub ack_at : Reader Op
+ack_at = made ack_of (both client_at (both (ranged is_counted octet_at) range_at))
+
+-- an operation, by its kind
+abbrev pub of_kind_at : ℕ → Reader Op
+of_kind_at kind bytes = if kind == 1 then session_op_at bytes else (if kind == 2 then put_op_at bytes else ack_at bytes)
+
+unfoldable pub op_at : Reader Op
+op_at bytes = ranged (λ kind. nat_le 1 kind && nat_le kind 3) octet_at bytes >>= λ kind. of_kind_at kind.0 kind.1
+
+-- ---- deltas
+
+-- the test of `IsApart`
+abbrev pub is_apart : Op → Op → Bool
+is_apart (Ack c origin first last) (Ack d other start end) = if same_client c d && (origin == other) then nat_lt (last + 1) start else true
+is_apart a b = true
+
+-- whether the operation may stand behind these
+abbrev pub may_follow : List Op → Op → Bool
+may_follow [] op = true
+may_follow (a ∷ []) op = is_lt (name_cmp a op) && is_apart a op
+may_follow (a ∷ b ∷ more) op = may_follow (b ∷ more) op
+
+-- so many operations, behind those that were read
+unfoldable pub ops_at : ℕ → List Op → Reader (List Op)
+ops_at zero front bytes = Ok (front, bytes)
+ops_at (suc n) front bytes = op_at bytes >>= λ x. if may_follow front x.0 then ops_at n (front ++ x.0 ∷ []) x.1 else Err faults.Order
+
+-- the version, the count and the operations
+unfoldable pub front_at : Reader (List Op)
+front_at bytes = octet_at bytes >>= λ version. if version.0 == 1 then (number_at w32 version.1 >>= λ count. ops_at count.0 [] count.1) else Err faults.Version
+
+-- a delta, and nothing behind it
+unfoldable pub delta_at : List ℕ → Result (List Op) OpsFault
+delta_at bytes = front_at bytes >>= λ x. if length x.1 == 0 then Ok x.0 else Err faults.Trailing
+
+-- what the octets say, or why they are no delta
+abbrev pub reading : List ℕ → Result (List Op) OpsFault
+reading bytes = if nat_lt max_octets (length bytes) then Err faults.Limit else delta_at bytes
+
+-- numbers of 8 bits
+abbrev pub AreOctets : List ℕ → Type 0
+AreOctets bytes = (i : ℕ) → slice_index bytes i < 256
+
+-- ---- what a function returned, against reading
+
+-- it is the fault that reading gives, unless memory ran out
+abbrev pub Fails : {Y : Type 0} → OpsFault → Result Y OpsFault → Type 0
+Fails faults.Memory read = Unit {0}
+Fails fault read = read ≡ Err fault
+
+-- it is what reading gives, seen by a view, unless memory ran out
+abbrev pub Gives : {X Y : Type 0} → (X → Y) → Result X OpsFault → Result Y OpsFault → Type 0
+Gives view (Ok x) read = read ≡ Ok (view x)
+Gives view (Err fault) read = Fails fault read

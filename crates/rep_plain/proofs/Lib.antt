@@ -1,0 +1,13 @@
+pub mod Places
+pub mod Maps
+pub mod Prefixes
+pub mod Entering
+pub mod Workings
+pub mod Single
+pub mod Flat
+pub mod Taking
+pub mod Counting
+pub mod Found
+pub mod Growing
+pub mod Moves
+pub mod Prepared

@@ -1,0 +1,38 @@
+use Rattle.std.proofs.Common.{◌≡◌, ◌++◌, ◌∷◌, [], true, false, cond, Some, refl, sym, ap, ◌∙◌, is_eq, Vec, Global}
+use Rattle.std.specs.Option.{unwrap_or}
+use Rattle.std.specs.BTreeMap.{is_at}
+use Rattle.std.specs.Map.{lookup}
+use Rattle.std.specs.FinMap.{find}
+use Rattle.std.proofs.lemmas.Map.Views.{tells_apart}
+use Rattle.rep_ops.specs.declared.op.Op.{Op}
+use Rattle.rep_ops.specs.Orders.{client_cmp, client_of}
+use Rattle.rep_model.proofs.Readers.{client_exact}
+use Rattle.rep_plain.specs.Rows.{own, grown}
+use Rattle.rep_plain.specs.Tables.{rows_of, groups_of}
+use Rattle.rep_plain.proofs.Growing.{look_up, grown_there, grown_apart, not_same}
+use Rattle.rep_plain.proofs.fresh.add_to_group.Goals as goal
+
+pub returns : goal.returns
+returns c =
+    λ D h q.
+    let items = λ (ops : Vec Op Global). ops.items in
+    let rows = rows_of c.args.table.now.entries in
+    let op = c.args.op in
+    let client = c.in_ok-client.client in
+    let mid = c.take_group.new.groups.entries in
+    let new = c.insert.new.self.entries in
+    let is : client ≡ client_of op = c.in_ok-client.ensures.ok ∙ c.client.ensures in
+    let now = c.in_ok-insert.ensures.updates.0 q in
+    elim (is_eq (client_cmp client q)) as (λ b. is_eq (client_cmp client q) ≡ b → find client_cmp q (groups_of new) ≡ grown q rows (D ++ op ∷ [])) [
+      | true ↦ λ t.
+          let here : lookup (is_at (client_cmp q)) new ≡ Some c.push.new.self = now ∙ ap (λ b. cond b (Some c.push.new.self) (lookup (is_at (client_cmp q)) mid)) t in
+          sym (look_up items q new (Some c.push.new.self) (sym here))
+          ∙ ap Some c.in_ok-push.ensures.items
+          ∙ grown_there rows D op client c.in_ok-ops.ops.items is (c.in_ok-ops.ensures.ops ∙ ap (λ o. unwrap_or o (own client rows)) (h client))
+          ∙ ap (λ x. grown x rows (D ++ op ∷ [])) (tells_apart client_exact client q t)
+      | false ↦ λ t.
+          let there : lookup (is_at (client_cmp q)) new ≡ lookup (is_at (client_cmp q)) mid = now ∙ ap (λ b. cond b (Some c.push.new.self) (lookup (is_at (client_cmp q)) mid)) t in
+          sym (look_up items q new (lookup (is_at (client_cmp q)) mid) (sym there))
+          ∙ look_up items q mid (lookup (is_at (client_cmp q)) mid) refl
+          ∙ c.in_ok-ops.ensures.others q t ∙ h q ∙ grown_apart rows D op q (not_same q client op is t)
+    ] refl

@@ -1,0 +1,10 @@
+use Rattle.std.proofs.Common.{◌≡◌, ◌++◌, drop, filter, not}
+use Rattle.rep_model.specs.Taking.{AllAgree}
+use Rattle.rep_plain.specs.Rows.{flat}
+use Rattle.rep_plain.specs.Tables.{rows_of, is_known}
+use Rattle.rep_plain.proofs.news.news.Given as goal
+
+abbrev pub invariant-loop-op : goal.invariant-loop-op
+invariant-loop-op l =
+    (l.news.items ++ filter (λ op. not (is_known (flat (rows_of l.table.entries)) op)) (drop l.op-index l.delta) ≡ filter (λ op. not (is_known (flat (rows_of l.table.entries)) op)) l.delta)
+    × (AllAgree (flat (rows_of l.table.entries)) (drop l.op-index l.delta) → AllAgree (flat (rows_of l.table.entries)) l.delta)

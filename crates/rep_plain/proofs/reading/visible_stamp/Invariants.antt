@@ -1,0 +1,9 @@
+use Rattle.std.proofs.Common.{◌≡◌, ◌≤◌, length, drop}
+use Rattle.rep_model.specs.Views.{visible}
+use Rattle.rep_plain.proofs.reading.visible_stamp.Given as goal
+
+abbrev pub invariant-loop-i : goal.invariant-loop-i
+invariant-loop-i l = (l.i ≤ length l.ops) × (l.best ≡ visible l.client (drop l.i l.ops))
+
+abbrev pub decreases-loop-i : goal.decreases-loop-i
+decreases-loop-i l = l.i

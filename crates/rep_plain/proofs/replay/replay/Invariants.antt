@@ -1,0 +1,7 @@
+use Rattle.std.specs.FinMap.{find}
+use Rattle.rep_ops.specs.Orders.{operation_cmp}
+use Rattle.rep_plain.proofs.Prefixes.{IsReplayed}
+use Rattle.rep_plain.proofs.replay.replay.Given as goal
+
+abbrev pub invariant-loop-counter : goal.invariant-loop-counter
+invariant-loop-counter l = IsReplayed (λ k. find operation_cmp (l.stamp, k) l.known.entries) l.session l.counter

@@ -1,0 +1,63 @@
+-- Clients with their operations, in the order of the clients.
+use Rattle.std.specs.Prelude.{◌≡◌, ℕ, Bool, true, false, List, [], ◌∷◌, ◌++◌, Option, Some, None, T, length, map, filter, count_by, not, if◌then◌else◌}
+use Rattle.std.specs.List.{AllByRecursion}
+use Rattle.std.specs.FinMap.{find, put, is_sorted}
+use Rattle.rep_ops.specs.declared.op.Op.{Op}
+use Rattle.rep_ops.specs.Orders.{client_cmp, client_of}
+use Rattle.rep_ops.specs.Sets.{same_client}
+use Rattle.rep_model.specs.Views.{named}
+
+-- all operations, client by client
+abbrev pub flat : List (List ℕ × List Op) → List Op
+flat [] = []
+flat (row ∷ rows) = row.1 ++ flat rows
+
+abbrev pub or_nothing : Option (List Op) → List Op
+or_nothing None = []
+or_nothing (Some ops) = ops
+
+-- the client's own operations
+abbrev pub own : List ℕ → List (List ℕ × List Op) → List Op
+own c rows = or_nothing (find client_cmp c rows)
+
+-- the rows, with the fresh ones in place of those of the same clients
+abbrev pub moved : List (List ℕ × List Op) → List (List ℕ × List Op) → List (List ℕ × List Op)
+moved rows [] = rows
+moved rows (row ∷ fresh) = put client_cmp row.0 row.1 (moved rows fresh)
+
+abbrev pub has_any : List Op → Bool
+has_any [] = false
+has_any (op ∷ ops) = true
+
+-- how many of the clients have operations
+abbrev pub count_named : List (List ℕ × List Op) → ℕ
+count_named rows = length (filter (λ row. has_any row.1) rows)
+
+-- the clients that have operations
+abbrev pub named_rows : List (List ℕ × List Op) → List (List ℕ)
+named_rows rows = map (λ row. row.0) (filter (λ row. has_any row.1) rows)
+
+-- each operation names the client
+abbrev pub IsOwn : List ℕ → List Op → Type 0
+IsOwn c ops = AllByRecursion (λ op. named op ≡ Some (c, c)) ops
+
+-- in the order of the clients, each with operations of its own
+pub record AreRows (rows : List (List ℕ × List Op)) : Type 0 where
+  pub sorted : T (is_sorted client_cmp rows)
+  pub owned : AllByRecursion (λ row. IsOwn row.0 row.1) rows
+
+-- how many of the fresh clients had no operations
+abbrev pub count_new : List (List ℕ × List Op) → List (List ℕ × List Op) → ℕ
+count_new rows fresh = count_by (λ row. not (has_any (own row.0 rows))) fresh
+
+-- the client's own operations in a list
+abbrev pub of_client : List ℕ → List Op → List Op
+of_client c S = filter (λ op. same_client c (client_of op)) S
+
+-- a client's row with the operations of a list behind it, where the list has any of the client
+abbrev pub grown : List ℕ → List (List ℕ × List Op) → List Op → Option (List Op)
+grown c rows D = if has_any (of_client c D) then Some (own c rows ++ of_client c D) else None
+
+-- fresh rows for the clients of a list
+abbrev pub IsGrown : List (List ℕ × List Op) → List Op → List (List ℕ × List Op) → Type 0
+IsGrown rows D fresh = (c : List ℕ) → find client_cmp c fresh ≡ grown c rows D

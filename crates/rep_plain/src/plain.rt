@@ -1,0 +1,118 @@
+//! The plain replica.
+
+ghost use Rattle.std.specs.Prelude.{◌≡◌};
+
+use super::entry::Entry;
+use super::fresh::{grown, worked_out};
+use super::news::news;
+use super::reading::{greatest_epoch, greatest_seq};
+use super::room::{make_room, move_in};
+use super::table::{Table, count_new, named_clients, own_ops, passed};
+use rep_model::{ClientView, Replica, TakeFault};
+use rep_ops::{ClientId, Delta};
+use std::alloc::Global;
+use std::collections::BTreeMap;
+use std::marker::Model;
+
+/// The plain replica: a table of clients, each with its operations and the view that they give.
+#[derive(Debug, Drop)]
+pub struct Plain {
+    /// The clients. A place without operations is seen by no query.
+    table: Table,
+    /// How many clients have operations.
+    named: usize,
+}
+
+impl Model for Plain {
+    ghost use Rattle.std.specs.Prelude.{List, ℕ};
+    ghost use Rattle.rep_ops.specs.declared.op.Op.{Op};
+
+    ghost Value = { List (List ℕ × List Op) };
+
+    ghost use Rattle.rep_plain.specs.Tables.{rows_of, IsTable};
+
+    ghost view = { λ p. rows_of p.table.entries };
+
+    ghost invariant = { λ p. IsTable p.table.entries p.named };
+}
+
+/// A delta that fits: the entries of the clients that it names, with its operations.
+#[derive(Debug, Drop)]
+pub struct Staged {
+    /// The entries, in the order of the clients.
+    fresh: Vec<(ClientId, Entry)>,
+    /// How many clients have operations once they are in their places.
+    named: usize,
+}
+
+impl Model for Staged {
+    ghost use Rattle.std.specs.Prelude.{List, ℕ, ◌≤◌};
+    ghost use Rattle.rep_ops.specs.declared.op.Op.{Op};
+
+    ghost Value = { List (List ℕ × List Op) × ℕ };
+
+    ghost use Rattle.rep_plain.specs.Tables.{rows_of, AreEntries};
+
+    ghost view = { λ s. (rows_of s.fresh.items, s.named) };
+
+    ghost invariant = { λ s. AreEntries s.fresh.items × (s.named ≤ 4096) };
+}
+
+impl Replica for Plain {
+    ghost use Rattle.std.specs.Prelude.{◌≡◌};
+    ghost use Rattle.rep_plain.specs.Rows.{flat, moved, count_named};
+    ghost use Rattle.rep_plain.specs.Tables.{HaveRoom};
+
+    type Staged = Staged;
+
+    ghost kept = { λ rows. flat rows };
+
+    ghost after = { λ rows staged. flat (moved rows staged.0) };
+
+    ghost ready = { λ rows staged. HaveRoom rows staged.0 × (staged.1 ≡ count_named (moved rows staged.0)) };
+
+    fn empty(alloc: Global) -> Result<Plain, TakeFault> {
+        Ok(Plain {
+            table: BTreeMap::new(alloc),
+            named: 0,
+        })
+    }
+
+    fn prepare(&mut self, alloc: Global, delta: &Delta) -> Result<Staged, TakeFault> {
+        let news = news(alloc, &self.table, delta.ops())?;
+        let groups = grown(alloc, &self.table, news)?;
+        let fresh = worked_out(alloc, groups)?;
+        let named = self.named + count_new(&self.table, fresh.as_slice());
+        if let Some(limit) = passed(named, fresh.as_slice()) {
+            return Err(TakeFault::Full { limit });
+        }
+        make_room(alloc, &mut self.table, fresh.as_slice())?;
+        Ok(Staged { fresh, named })
+    }
+
+    fn commit(&mut self, staged: Staged) {
+        let Staged { fresh, named } = staged;
+        move_in(&mut self.table, fresh);
+        self.named = named;
+    }
+
+    fn view_of(&self, client: &ClientId) -> Option<&ClientView> {
+        let entry = self.table.get(client)?;
+        if entry.ops.as_slice().is_empty() {
+            return None;
+        }
+        Some(&entry.seen)
+    }
+
+    fn clients(&self, alloc: Global) -> Result<Vec<ClientId>, TakeFault> {
+        Ok(named_clients(alloc, &self.table)?)
+    }
+
+    fn next_epoch(&self, client: &ClientId) -> Option<u64> {
+        greatest_epoch(own_ops(&self.table, client), client).checked_add(1)
+    }
+
+    fn next_seq(&self, client: &ClientId, gateway: u8) -> Option<u64> {
+        greatest_seq(own_ops(&self.table, client), client, gateway).checked_add(1)
+    }
+}

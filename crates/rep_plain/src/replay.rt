@@ -1,0 +1,128 @@
+//! The session operations of a client: their prefix, the session that they make, and those that wait.
+
+ghost use Rattle.std.specs.Prelude.{◌≡◌, ℕ, List, ◌∷◌, length, filter, IfOk, OnOk};
+ghost use Rattle.std.specs.FinMap.{find};
+ghost use Rattle.rep_ops.specs.declared.op.Op.{Op};
+ghost use Rattle.rep_ops.specs.Orders.{operation_cmp};
+ghost use Rattle.rep_ops.specs.Sets.{operations};
+ghost use Rattle.rep_model.specs.Views.{in_order, history_at, session_of, after_change};
+ghost use Rattle.std.specs.Prelude.{count_by};
+ghost use Rattle.std.specs.BTreeMap.{keys};
+ghost use Rattle.rep_plain.specs.Steps.{waits};
+
+use super::fault::NoMemory;
+use rep_ops::{ClientId, Op, Stamp};
+use sn_session::{Session, SessionOp};
+use std::alloc::Global;
+use std::cmp::Ordering;
+use std::collections::BTreeMap;
+
+/// The session operations of the client in the order of their names, of each name the first.
+pub(crate) fn operations_in_order(
+    alloc: Global,
+    ops: &[Op],
+    client: &ClientId,
+) -> Result<BTreeMap<(Stamp, u8), SessionOp>, NoMemory>
+    ensures { IfOk result (λ known. known.entries ≡ in_order operation_cmp (operations client.now ops.now)) }
+{
+    let mut known = BTreeMap::new(alloc);
+    let mut i = ops.len();
+    while i > 0 {
+        i -= 1;
+        note_operation(alloc, &mut known, &ops[i], client)?;
+    }
+    Ok(known)
+}
+
+/// Enters an operation in front of those that are known.
+fn note_operation(
+    alloc: Global,
+    known: &mut BTreeMap<(Stamp, u8), SessionOp>,
+    op: &Op,
+    client: &ClientId,
+) -> Result<(), NoMemory>
+    ensures { (S : List Op) → known.old.entries ≡ in_order operation_cmp (operations client.now S) → OnOk result (known.new.entries ≡ in_order operation_cmp (operations client.now (op.now ∷ S))) }
+{
+    match op {
+        Op::Session {
+            client: owner,
+            stamp,
+            counter,
+            change,
+        } if owner == client => {
+            known.insert((*stamp, *counter), change.copy(alloc)?)?;
+        }
+        _ => {}
+    }
+    Ok(())
+}
+
+/// How many operations of the stamp there are from 0 on without a gap, and the session that they make.
+pub(crate) fn replay(
+    alloc: Global,
+    known: &BTreeMap<(Stamp, u8), SessionOp>,
+    visible: Option<Stamp>,
+) -> Result<(u16, Option<Session>), NoMemory>
+    ensures prefix { IfOk result (λ made. made.0 ≡ length (history_at (λ name. find operation_cmp name known.now.entries) visible)) }
+    ensures session { IfOk result (λ made. made.1 ≡ session_of (history_at (λ name. find operation_cmp name known.now.entries) visible)) }
+{
+    let Some(stamp) = visible else {
+        return Ok((0, None));
+    };
+    let mut session = None;
+    for counter in 0..256u16 {
+        let Some(change) = known.get(&(stamp, counter as u8)) else {
+            return Ok((counter, session));
+        };
+        session = changed(alloc, session, change)?;
+    }
+    Ok((256, session))
+}
+
+/// A session after one more operation; a Take begins it.
+fn changed(
+    alloc: Global,
+    session: Option<Session>,
+    change: &SessionOp,
+) -> Result<Option<Session>, NoMemory>
+    ensures { IfOk result (λ made. made ≡ after_change session change.now) }
+{
+    match session {
+        Some(mut session) => {
+            session.apply(alloc, change)?;
+            Ok(Some(session))
+        }
+        None => match change {
+            SessionOp::Take(taken) => Ok(Some(taken.copy(alloc)?)),
+            _ => Ok(None),
+        },
+    }
+}
+
+/// How many of the operations wait for earlier ones.
+pub(crate) fn count_parked(
+    known: &BTreeMap<(Stamp, u8), SessionOp>,
+    visible: Option<Stamp>,
+    prefix: u16,
+) -> usize
+    ensures { result ≡ count_by (waits visible prefix) (keys known.now) }
+{
+    known
+        .keys()
+        .filter(|name| waits(**name, visible, prefix))
+        .count()
+}
+
+/// Whether an operation of that name waits for earlier ones.
+fn waits(name: (Stamp, u8), visible: Option<Stamp>, prefix: u16) -> bool
+    ensures { result ≡ waits visible prefix name }
+{
+    match visible {
+        None => true,
+        Some(seen) => match name.0.cmp(&seen) {
+            Ordering::Less => false,
+            Ordering::Equal => name.1 as u16 >= prefix,
+            Ordering::Greater => true,
+        },
+    }
+}
