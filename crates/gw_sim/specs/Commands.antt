@@ -10,6 +10,7 @@ use Rattle.gw_sim.specs.declared.command.Word.TheVariants as words
 use Rattle.gw_sim.specs.declared.fault.LineFault.{LineFault}
 use Rattle.gw_sim.specs.declared.fault.LineFault.TheVariants as faults
 use Rattle.gw_sim.specs.Numbers.{IsNumber}
+use Rattle.sn_topic.specs.Topics.{IsName}
 use Rattle.gw_sim.specs.Octets.{IsHex}
 
 -- what stands between the spaces of a line
@@ -23,6 +24,7 @@ lines_of text = slice_split (λ b. b == 10) text
 -- how a command begins
 abbrev pub text_of : Word → List ℕ
 text_of words.Gateway = codes "gateway"
+text_of words.Predefine = codes "predefine"
 text_of words.Frame = codes "frame"
 text_of words.Take = codes "take"
 text_of words.Show = codes "show"
@@ -34,6 +36,8 @@ IsAddress text address = (address.host ≡ 0) × IsNumber 16 text address.port
 -- behind this word, the fields say the command
 abbrev pub Says : Word → List (List ℕ) → Command → Type 0
 Says words.Gateway (number ∷ []) (commands.Gateway g) = IsNumber 8 number g
+Says words.Predefine (number ∷ id ∷ octets ∷ []) (commands.Predefine g i name) =
+    IsNumber 8 number g × IsNumber 16 id i × IsHex octets name × IsName name
 Says words.Frame (gateway ∷ address ∷ moment ∷ octets ∷ []) (commands.Happens (events.Frame g from bytes now)) =
     IsNumber 8 gateway g × IsAddress address from × IsNumber 64 moment now × IsHex octets bytes
 Says words.Take (gateway ∷ delta ∷ []) (commands.Happens (events.Take g d)) = IsNumber 8 gateway g × IsNumber 64 delta d

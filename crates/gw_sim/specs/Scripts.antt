@@ -1,6 +1,7 @@
 -- A script: gateways, and then events.
-use Rattle.std.specs.Prelude.{◌≡◌, ◌≢◌, ◌==◌, ℕ, ◌-◌, ◌<◌, ◌⊎◌, Bool, false, List, [], ◌∷◌, ◌++◌, take, slice_get, Some, All, AllPairs}
+use Rattle.std.specs.Prelude.{◌≡◌, ◌≢◌, ◌==◌, ℕ, ◌-◌, ◌<◌, ◌⊎◌, Bool, false, List, [], ◌∷◌, ◌++◌, take, length, slice_get, slice_set, Some, All, AllPairs, IsTrue}
 use Rattle.std.specs.List.{list_any}
+use Rattle.sn_topic.specs.Table.{is_table}
 use Rattle.sn_flow.specs.declared.config.Config.{Config}
 use Rattle.gw_sim.specs.declared.command.Command.{Command}
 use Rattle.gw_sim.specs.declared.command.Command.TheVariants as commands
@@ -15,6 +16,10 @@ config_of number = record { gateway = number; predefined = [] }
 abbrev pub has_gateway : List Config → ℕ → Bool
 has_gateway configs number = list_any (λ config. config.gateway == number) configs
 
+-- the gateway in this place has the number
+abbrev pub HasNumber : List Config → ℕ → ℕ → Type 0
+HasNumber configs place number = (place < length configs) × ((config : Config) × (slice_get configs place ≡ Some config) × (config.gateway ≡ number))
+
 -- gateways as a field may have them: each has a number that is not 0, and no two have the same
 pub record AreGateways (configs : List Config) : Type 0 where
   pub some : All (λ config. config.gateway ≢ 0) configs
@@ -25,11 +30,16 @@ abbrev pub empty_script : Script
 empty_script = record { configs = []; events = [] }
 
 -- The second script says what the first says, and then the command. A gateway comes before all events,
--- its number is not 0, and no other has it.
+-- its number is not 0, and no other has it. A predefined topic id comes before all events too, for a gateway
+-- that is there, and is not 0000, FFFF or an id that the gateway has already.
 abbrev pub Adds : Script → Command → Script → Type 0
 Adds before (commands.Gateway number) after =
     (before.events ≡ []) × (number ≢ 0) × (has_gateway before.configs number ≡ false)
     × (after ≡ record { configs = before.configs ++ config_of number ∷ []; events = [] })
+Adds before (commands.Predefine number id name) after =
+    (before.events ≡ []) × (place : ℕ) × (config : Config) × (slice_get before.configs place ≡ Some config) × (config.gateway ≡ number)
+    × IsTrue (is_table (config.predefined ++ (id, name) ∷ []))
+    × (after ≡ record { configs = slice_set before.configs place (record config { predefined = config.predefined ++ (id, name) ∷ [] }); events = [] })
 Adds before (commands.Happens event) after =
     after ≡ record { configs = before.configs; events = before.events ++ event ∷ [] }
 

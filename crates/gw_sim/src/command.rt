@@ -1,15 +1,17 @@
 //! What a line says.
 
-ghost use Rattle.std.specs.Prelude.{◌≡◌, ◌≢◌, ◌==◌, ◌⊎◌, IfOk, MatchOption, map};
+ghost use Rattle.std.specs.Prelude.{◌≡◌, ◌≢◌, ◌==◌, ◌⊎◌, Err, IfOk, MatchOption, map};
 ghost use Rattle.std.specs.List.{slice_split};
 ghost use Rattle.gw_sim.specs.declared.command.Word.TheVariants as words;
 ghost use Rattle.gw_sim.specs.Commands.{Reads, Says, Spells};
+ghost use Rattle.sn_topic.specs.Topics.{IsName};
 
 use super::bytes::bytes;
 use super::fault::LineFault;
 use super::number::{number, number_u8, number_u16};
 use gw_world::Event;
 use sn_flow::Addr;
+use sn_topic::{TopicFault, TopicName};
 use std::alloc::{AllocError, Global};
 
 /// What a line says.
@@ -17,6 +19,12 @@ use std::alloc::{AllocError, Global};
 pub enum Command {
     /// There is a gateway of this number.
     Gateway { number: u8 },
+    /// The gateway of this number has a predefined topic id.
+    Predefine {
+        number: u8,
+        id: u16,
+        name: TopicName,
+    },
     /// Something happens.
     Happens(Event),
 }
@@ -25,6 +33,7 @@ pub enum Command {
 #[derive(Clone, Copy, Debug, PartialEq, Eq)]
 pub enum Word {
     Gateway,
+    Predefine,
     Frame,
     Take,
     Show,
@@ -40,6 +49,7 @@ impl Word {
     {
         match text {
             b"gateway" => Some(Word::Gateway),
+            b"predefine" => Some(Word::Predefine),
             b"frame" => Some(Word::Frame),
             b"take" => Some(Word::Take),
             b"show" => Some(Word::Show),
@@ -77,6 +87,7 @@ fn say(alloc: Global, word: Word, fields: &[&[u8]]) -> Result<Command, LineFault
 {
     match word {
         Word::Gateway => gateway(fields),
+        Word::Predefine => predefine(alloc, fields),
         Word::Frame => frame(alloc, fields),
         Word::Take => take(fields),
         Word::Show => show(fields),
@@ -92,6 +103,37 @@ fn gateway(fields: &[&[u8]]) -> Result<Command, LineFault>
     };
     match number_u8(number) {
         Some(number) => Ok(Command::Gateway { number }),
+        None => Err(LineFault::NotACommand),
+    }
+}
+
+/// The topic name of these octets, if they are one.
+fn topic_name(alloc: Global, octets: &[u8]) -> Result<TopicName, LineFault>
+    ensures ok { IfOk result (λ name. (name ≡ octets.now) × IsName octets.now) }
+    ensures refused { result ≡ Err LineFault.NotACommand → IsName octets.now → ⊥ }
+{
+    match TopicName::new(alloc, octets) {
+        Ok(name) => Ok(name),
+        Err(TopicFault::Memory) => Err(LineFault::Memory),
+        Err(_) => Err(LineFault::NotACommand),
+    }
+}
+
+/// What the fields behind `predefine` say.
+fn predefine(alloc: Global, fields: &[&[u8]]) -> Result<Command, LineFault>
+    ensures { Reads (Says words.Predefine (map (λ field. field.now) fields.now)) result }
+{
+    let [number, id, name] = fields else {
+        return Err(LineFault::NotACommand);
+    };
+    let (Some(number), Some(id)) = (number_u8(number), number_u16(id)) else {
+        return Err(LineFault::NotACommand);
+    };
+    match bytes(alloc, name)? {
+        Some(octets) => {
+            let name = topic_name(alloc, octets.as_slice())?;
+            Ok(Command::Predefine { number, id, name })
+        }
         None => Err(LineFault::NotACommand),
     }
 }

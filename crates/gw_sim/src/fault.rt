@@ -4,7 +4,7 @@ ghost use Rattle.std.specs.Prelude.{◌≡◌};
 ghost use Rattle.gw_sim.specs.declared.fault.LineFault.TheVariants as line_faults;
 ghost use Rattle.gw_sim.specs.declared.fault.ScriptFault.TheVariants as script_faults;
 
-use std::alloc::AllocError;
+use std::alloc::{AllocError, AllocFailed};
 use thiserror::Error;
 
 /// Why a line is refused.
@@ -35,6 +35,14 @@ pub enum ScriptFault {
     /// Memory ran out.
     #[error("out of memory")]
     Memory,
+}
+
+impl<T: Drop> From<AllocFailed<T>> for LineFault {
+    ghost from_gives = { λ _ e. e ≡ line_faults.Memory };
+
+    fn from(_error: AllocFailed<T>) -> LineFault {
+        LineFault::Memory
+    }
 }
 
 impl From<AllocError> for ScriptFault {

@@ -2,14 +2,14 @@
 
 ghost use Rattle.std.specs.Prelude.{◌≡◌, ℕ, [], IfOk};
 ghost use Rattle.gw_sim.specs.Commands.{lines_of};
-ghost use Rattle.gw_sim.specs.Scripts.{AreGateways, IsScriptOf, IsBadLine};
+ghost use Rattle.gw_sim.specs.Scripts.{AreGateways, HasNumber, IsScriptOf, IsBadLine};
 
 use super::command::{Command, cut, read_command};
 use super::fault::{LineFault, ScriptFault};
 use gw_world::Event;
 use octets::Sequence;
 use sn_flow::Config;
-use sn_topic::Predefined;
+use sn_topic::{Predefined, TopicFault, TopicName};
 use std::alloc::Global;
 
 /// What a script says: which gateways there are, and then what happens.
@@ -22,7 +22,7 @@ pub struct Script {
 impl Script {
     ghost use Rattle.std.specs.Prelude.{◌≡◌, OnOk, OnErr};
     ghost use Rattle.gw_sim.specs.declared.script.Script.{Script};
-    ghost use Rattle.gw_sim.specs.declared.command.Command.TheVariants.{Gateway};
+    ghost use Rattle.gw_sim.specs.declared.command.Command.TheVariants.{Gateway, Predefine};
     ghost use Rattle.gw_sim.specs.Scripts.{empty_script, has_gateway, Adds, Extends};
 
     /// The script that says nothing.
@@ -56,6 +56,9 @@ impl Script {
     {
         match command {
             Command::Gateway { number } => self.add_gateway(alloc, number),
+            Command::Predefine { number, id, name } => {
+                self.add_predefined(alloc, number, id, name)
+            }
             Command::Happens(event) => {
                 self.events.push(event)?;
                 Ok(())
@@ -80,6 +83,29 @@ impl Script {
         Ok(())
     }
 
+    /// Adds a predefined topic id.
+    fn add_predefined(
+        &mut self,
+        alloc: Global,
+        number: u8,
+        id: u16,
+        name: TopicName,
+    ) -> Result<(), LineFault>
+        ensures ok { OnOk result (Adds self.old (Predefine number id name) self.new) }
+        ensures refused { result ≡ Err LineFault.NotACommand → (after : Script) → Adds self.old (Predefine number id name) after → ⊥ }
+        ensures err { OnErr result (self.new ≡ self.old) }
+    {
+        if !self.events.is_empty() {
+            return Err(LineFault::NotACommand);
+        }
+        let Some(place) = place_of(self.configs.as_slice(), number) else {
+            return Err(LineFault::NotACommand);
+        };
+        let config = with_entry(alloc, &self.configs.as_slice()[place], id, name)?;
+        self.configs.replace(place, config);
+        Ok(())
+    }
+
     /// Whether there is a gateway of this number.
     fn has_gateway(&self, number: u8) -> bool
         ensures { result ≡ has_gateway self.now.configs number }
@@ -89,6 +115,53 @@ impl Script {
             .iter()
             .any(|config| config.gateway == number)
     }
+}
+
+/// The place of the gateway of this number.
+fn place_of(configs: &[Config], number: u8) -> Option<usize>
+    ensures { result ≡ position (λ config. number == config.gateway) configs.now }
+{
+    configs.iter().position(|config| number == config.gateway)
+}
+
+/// The config with one more predefined topic id.
+fn with_entry(
+    alloc: Global,
+    config: &Config,
+    id: u16,
+    name: TopicName,
+) -> Result<Config, LineFault>
+    ensures ok { IfOk result (λ made. IsTrue (is_table (config.now.predefined ++ (id, name) ∷ [])) × (made ≡ record config.now { predefined = config.now.predefined ++ (id, name) ∷ [] })) }
+    ensures refused { result ≡ Err LineFault.NotACommand → IsFalse (is_table (config.now.predefined ++ (id, name) ∷ [])) }
+{
+    let mut entries = copy_entries(alloc, config.predefined.entries())?;
+    entries.push((id, name))?;
+    match Predefined::new(alloc, entries) {
+        Ok(predefined) => Ok(Config {
+            gateway: config.gateway,
+            predefined,
+        }),
+        Err(TopicFault::Memory) => Err(LineFault::Memory),
+        Err(_) => Err(LineFault::NotACommand),
+    }
+}
+
+/// Equal entries.
+fn copy_entries(
+    alloc: Global,
+    entries: &[(u16, TopicName)],
+) -> Result<Vec<(u16, TopicName)>, LineFault>
+    ensures ok { IfOk result (λ made. made.items ≡ entries.now) }
+    ensures err { IfErr result (λ fault. fault ≡ LineFault.Memory) }
+{
+    let mut made = Vec::with_capacity(alloc, entries.len() + 1)?;
+    for (id, name) in entries {
+        let Ok(name) = name.copy(alloc) else {
+            return Err(LineFault::Memory);
+        };
+        made.push((*id, name))?;
+    }
+    Ok(made)
 }
 
 /// The table without an entry.
