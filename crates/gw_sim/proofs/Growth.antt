@@ -1,7 +1,8 @@
 -- A script grows line by line.
-use Rattle.std.proofs.Common.{◌≡◌, ◌≢◌, ℕ, ◌+◌, ◌-◌, ◌<◌, inl, inr, List, [], ◌∷◌, ◌++◌, length, get_or, map, take, Bor, Some, ap, sym, subst, ◌∙◌, arith, Bool, true, false, ◌==◌}
-use Rattle.std.specs.Prelude.{Result, Err, slice_get}
-use Rattle.std.proofs.lemmas.List.{take_more, get_or-map, length-map}
+use Rattle.std.proofs.Common.{◌≡◌, ◌≢◌, ℕ, ◌+◌, ◌-◌, ◌<◌, inl, inr, List, [], ◌∷◌, ◌++◌, zero, suc, length, set, get_or, refl, map, take, Bor, Some, ap, sym, subst, ◌∙◌, arith, Bool, true, false, ◌==◌}
+use Rattle.std.specs.Prelude.{Result, Err, slice_get, position, IsTrue}
+use Rattle.sn_topic.specs.Table.{is_table}
+use Rattle.std.proofs.lemmas.List.{take_more, get_or-map, length-map, length-set}
 use Rattle.std.proofs.lemmas.Option.{slice_get-get_or}
 use Rattle.gw_sim.specs.declared.command.Command.{Command}
 use Rattle.gw_sim.specs.declared.fault.LineFault.{LineFault}
@@ -9,13 +10,13 @@ use Rattle.gw_sim.specs.declared.fault.LineFault.TheVariants as faults
 use Rattle.gw_sim.specs.declared.script.Script.{Script}
 use Rattle.gw_sim.specs.Commands.{Spells, Reads}
 use Rattle.std.proofs.Common.{rules}
-use Rattle.std.proofs.lemmas.Bool.{eq-eqb}
+use Rattle.std.proofs.lemmas.Bool.{eq-eqb, eqb-true}
 use Rattle.std.proofs.lemmas.List.Elements.{All-nil, All-push}
 use Rattle.std.proofs.lemmas.List.Folds.{list_any_at}
 use Rattle.std.proofs.lemmas.List.Quantifiers.{all_pairs_push}
 use Rattle.sn_flow.specs.declared.config.Config.{Config}
 use Rattle.gw_sim.specs.declared.command.Command.TheVariants as commands
-use Rattle.gw_sim.specs.Scripts.{AreGateways, config_of, has_gateway, Extends, IsScriptOf, IsBadLine}
+use Rattle.gw_sim.specs.Scripts.{AreGateways, Adds, config_of, has_gateway, Extends, IsScriptOf, IsBadLine}
 use Rattle.gw_sim.specs.Scripts.IsScriptOf.{none, more}
 
 -- the octets of lines
@@ -75,6 +76,36 @@ others configs number k d absent within same =
     let found : has_gateway configs number ≡ true = list_any_at test configs k d within (eq-eqb _ _ same) in
     cc
 
+-- the script says one predefined id more
+pub tells : (before : Script) (number id : ℕ) (name : List ℕ) (place : ℕ) (config made : Config) (configs : List Config) → before.events ≡ []
+    → position (λ (c : Config). c.gateway == number) before.configs ≡ Some place → slice_get before.configs place ≡ Some config
+    → IsTrue (is_table (config.predefined ++ (id, name) ∷ [])) → made ≡ record config { predefined = config.predefined ++ (id, name) ∷ [] }
+    → configs ≡ set before.configs place made → Adds before (commands.Predefine number id name) (record { configs = configs; events = before.events })
+tells before number id name place config made configs quiet at there table is changed =
+    (quiet, place, config, at, there, table, λ i. record { configs = (changed ∙ ap (λ (m : Config). set before.configs place m) is) i; events = quiet i })
+
+-- where a list is not said to have an item, it has none
+pub has_none : {X : Type 0} (xs : List X) (r : Bool) → r ≡ (length xs == 0) → r ≡ true → xs ≡ []
+has_none [] r e f = refl
+has_none (x ∷ xs) r e f = absurd (omega (arith, eqb-true (length (x ∷ xs)) 0 (sym e ∙ f)))
+
+-- a gateway that is told more keeps its number, and so do the others
+numbers_stay : (configs : List Config) (place : ℕ) (old new : Config) → slice_get configs place ≡ Some old → new.gateway ≡ old.gateway
+    → (k : ℕ) (d : Config) → (get_or (set configs place new) k d).gateway ≡ (get_or configs k d).gateway
+numbers_stay [] place old new there same k d = refl
+numbers_stay (config ∷ configs) zero old new there same zero d = let is : config ≡ old = cc in same ∙ ap (λ (c : Config). c.gateway) (sym is)
+numbers_stay (config ∷ configs) zero old new there same (suc k) d = refl
+numbers_stay (config ∷ configs) (suc place) old new there same zero d = refl
+numbers_stay (config ∷ configs) (suc place) old new there same (suc k) d = numbers_stay configs place old new there same k d
+
+told_more : (configs : List Config) (place : ℕ) (old new : Config) → slice_get configs place ≡ Some old → new.gateway ≡ old.gateway
+    → AreGateways configs → AreGateways (set configs place new)
+told_more configs place old new there same are = record {
+    some = λ k d within zero_. are.some k d (rw length-set at within) (sym (numbers_stay configs place old new there same k d) ∙ zero_);
+    different = λ i j d below within equal. are.different i j d below (rw length-set at within)
+      (sym (numbers_stay configs place old new there same i d) ∙ (equal ∙ numbers_stay configs place old new there same j d));
+  }
+
 -- the gateways of a script are such as a field may have
 pub gateways : (lines : List (List ℕ)) (script : Script) → IsScriptOf lines script → AreGateways script.configs
 gateways lines script none = record { some = All-nil _; different = search rules }
@@ -87,5 +118,8 @@ gateways lines script (more earlier line before after read (inr (commands.Gatewa
       some = All-push (λ (config : Config). config.gateway ≢ 0) before.configs (config_of number) old.some adds.1;
       different = all_pairs_push (λ (a b : Config). a.gateway ≢ b.gateway) before.configs (config_of number) old.different (λ k d within. others before.configs number k d adds.2 within);
     })
+gateways lines script (more earlier line before after read (inr (commands.Predefine number id name, spells, adds))) =
+    let P : Script → Type 0 = λ s. AreGateways s.configs in
+    subst P (sym adds.6) (told_more before.configs adds.1 adds.2 (record adds.2 { predefined = adds.2.predefined ++ (id, name) ∷ [] }) adds.4 refl (gateways earlier before read))
 gateways lines script (more earlier line before after read (inr (commands.Happens event, spells, adds))) =
     let P : Script → Type 0 = λ s. AreGateways s.configs in subst P (sym adds) (gateways earlier before read)

@@ -12,6 +12,7 @@ use Rattle.gw_sim.specs.declared.command.Command.TheVariants as commands
 use Rattle.gw_sim.specs.Commands.{fields_of, text_of, IsAddress, Says, Spells, Reads}
 use Rattle.gw_sim.specs.Numbers.{IsNumber, value_of}
 use Rattle.gw_sim.specs.Octets.{IsHex}
+use Rattle.sn_topic.specs.Topics.{IsName}
 use Rattle.hex.specs.Hex.{decode_of}
 use Rattle.hex.specs.declared.error.FromHexError.TheVariants.{OddLength}
 use Rattle.sn_flow.specs.declared.config.Addr.{Addr}
@@ -22,10 +23,12 @@ word_at text =
     cond (bytes_eq text (codes "gateway")) (Some words.Gateway) (
     cond (bytes_eq text (codes "frame")) (Some words.Frame) (
     cond (bytes_eq text (codes "take")) (Some words.Take) (
-    cond (bytes_eq text (codes "show")) (Some words.Show) None)))
+    cond (bytes_eq text (codes "predefine")) (Some words.Predefine) (
+    cond (bytes_eq text (codes "show")) (Some words.Show) None))))
 
 word_at-text : (word : Word) → word_at (text_of word) ≡ Some word
 word_at-text words.Gateway = refl
+word_at-text words.Predefine = refl
 word_at-text words.Frame = refl
 word_at-text words.Take = refl
 word_at-text words.Show = refl
@@ -57,6 +60,13 @@ pub no_octets : (fields : List (Bor (List ℕ))) (d : Bor (List ℕ)) → ((octe
 no_octets (a ∷ b ∷ c ∷ octets ∷ []) d none (commands.Happens (events.Frame gateway from bytes now)) said = none bytes said.3
 no_octets (a ∷ b ∷ c ∷ octets ∷ []) d none command said = said
 no_octets fields d none command said = said
+
+-- where the third field writes no octets, or none of a name, the fields say no predefined id
+pub no_name : (fields : List (Bor (List ℕ))) (d : Bor (List ℕ)) → ((octets : List ℕ) → IsHex (get_or fields 2 d).now octets → IsName octets → ⊥)
+    → (command : Command) → Says words.Predefine (map (λ (field : Bor (List ℕ)). field.now) fields) command → ⊥
+no_name (a ∷ b ∷ octets ∷ []) d none (commands.Predefine gateway id name) said = none name said.2 said.3
+no_name (a ∷ b ∷ octets ∷ []) d none command said = said
+no_name fields d none command said = said
 
 -- a text writes one number
 one_number : (bits : ℕ) (a b : List ℕ) (m n : ℕ) → a ≡ b → IsNumber bits a m → IsNumber bits b n → m ≡ n
@@ -99,6 +109,12 @@ show_says : (fields : List (List ℕ)) (c : Command) → Says words.Show fields 
 show_says (text ∷ []) (commands.Happens (events.Show g)) said = (text, g, refl, refl, said)
 show_says fields c said = absurd said
 
+predefine_says : (fields : List (List ℕ)) (c : Command) → Says words.Predefine fields c
+    → (a b o : List ℕ) × (g i : ℕ) × (name : List ℕ) × (fields ≡ a ∷ b ∷ o ∷ []) × (c ≡ commands.Predefine g i name)
+      × IsNumber 8 a g × IsNumber 16 b i × IsHex o name × IsName name
+predefine_says (a ∷ b ∷ o ∷ []) (commands.Predefine g i name) said = (a, b, o, g, i, name, refl, refl, said.0, said.1, said.2, said.3)
+predefine_says fields c said = absurd said
+
 -- behind a word, fields say one command
 one_saying : (word : Word) (fields : List (List ℕ)) (c d : Command) → Says word fields c → Says word fields d → c ≡ d
 one_saying words.Gateway fields c d p q =
@@ -114,6 +130,13 @@ one_saying words.Frame fields c d p q =
     let from : x.5 ≡ y.5 = one_address x.1 y.1 x.5 y.5 (cc) x.11 y.11 in
     let now : x.7 ≡ y.7 = one_number 64 x.2 y.2 x.7 y.7 (cc) x.12 y.12 in
     let bytes : x.6 ≡ y.6 = one_hex x.3 y.3 x.6 y.6 (cc) x.13 y.13 in cc
+one_saying words.Predefine fields c d p q =
+    let x = predefine_says fields c p in
+    let y = predefine_says fields d q in
+    let e = x.6 in let f = y.6 in let h = x.7 in let k = y.7 in
+    let g : x.3 ≡ y.3 = one_number 8 x.0 y.0 x.3 y.3 (cc) x.8 y.8 in
+    let i : x.4 ≡ y.4 = one_number 16 x.1 y.1 x.4 y.4 (cc) x.9 y.9 in
+    let name : x.5 ≡ y.5 = one_hex x.2 y.2 x.5 y.5 (cc) x.10 y.10 in cc
 one_saying words.Take fields c d p q =
     let x = take_says fields c p in
     let y = take_says fields d q in

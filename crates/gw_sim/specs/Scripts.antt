@@ -1,5 +1,5 @@
 -- A script: gateways, and then events.
-use Rattle.std.specs.Prelude.{◌≡◌, ◌≢◌, ◌==◌, ℕ, ◌-◌, ◌<◌, ◌⊎◌, Bool, false, List, [], ◌∷◌, ◌++◌, take, length, slice_get, slice_set, Some, All, AllPairs, IsTrue}
+use Rattle.std.specs.Prelude.{◌≡◌, ◌≢◌, ◌==◌, ℕ, ◌-◌, ◌<◌, ◌⊎◌, Bool, false, List, [], ◌∷◌, ◌++◌, take, position, slice_get, slice_set, Some, All, AllPairs, IsTrue}
 use Rattle.std.specs.List.{list_any}
 use Rattle.sn_topic.specs.Table.{is_table}
 use Rattle.sn_flow.specs.declared.config.Config.{Config}
@@ -15,10 +15,6 @@ config_of number = record { gateway = number; predefined = [] }
 -- whether a gateway has the number
 abbrev pub has_gateway : List Config → ℕ → Bool
 has_gateway configs number = list_any (λ config. config.gateway == number) configs
-
--- the gateway in this place has the number
-abbrev pub HasNumber : List Config → ℕ → ℕ → Type 0
-HasNumber configs place number = (place < length configs) × ((config : Config) × (slice_get configs place ≡ Some config) × (config.gateway ≡ number))
 
 -- gateways as a field may have them: each has a number that is not 0, and no two have the same
 pub record AreGateways (configs : List Config) : Type 0 where
@@ -37,7 +33,7 @@ Adds before (commands.Gateway number) after =
     (before.events ≡ []) × (number ≢ 0) × (has_gateway before.configs number ≡ false)
     × (after ≡ record { configs = before.configs ++ config_of number ∷ []; events = [] })
 Adds before (commands.Predefine number id name) after =
-    (before.events ≡ []) × (place : ℕ) × (config : Config) × (slice_get before.configs place ≡ Some config) × (config.gateway ≡ number)
+    (before.events ≡ []) × (place : ℕ) × (config : Config) × (position (λ (c : Config). c.gateway == number) before.configs ≡ Some place) × (slice_get before.configs place ≡ Some config)
     × IsTrue (is_table (config.predefined ++ (id, name) ∷ []))
     × (after ≡ record { configs = slice_set before.configs place (record config { predefined = config.predefined ++ (id, name) ∷ [] }); events = [] })
 Adds before (commands.Happens event) after =

@@ -1,8 +1,9 @@
 //! What the lines of a script say together.
 
-ghost use Rattle.std.specs.Prelude.{◌≡◌, ℕ, [], IfOk};
+ghost use Rattle.std.specs.Prelude.{◌≡◌, ◌∷◌, ◌++◌, ◌==◌, [], ℕ, Err, IfOk, IfErr, IsTrue, IsFalse, IfSome, length, ◌<◌, position};
+ghost use Rattle.sn_topic.specs.Table.{is_table};
 ghost use Rattle.gw_sim.specs.Commands.{lines_of};
-ghost use Rattle.gw_sim.specs.Scripts.{AreGateways, HasNumber, IsScriptOf, IsBadLine};
+ghost use Rattle.gw_sim.specs.Scripts.{AreGateways, IsScriptOf, IsBadLine};
 
 use super::command::{Command, cut, read_command};
 use super::fault::{LineFault, ScriptFault};
@@ -119,9 +120,10 @@ impl Script {
 
 /// The place of the gateway of this number.
 fn place_of(configs: &[Config], number: u8) -> Option<usize>
-    ensures { result ≡ position (λ config. number == config.gateway) configs.now }
+    ensures place { result ≡ position (λ config. config.gateway == number) configs.now }
+    ensures within { IfSome result (λ place. place < length configs.now) }
 {
-    configs.iter().position(|config| number == config.gateway)
+    configs.iter().position(|config| config.gateway == number)
 }
 
 /// The config with one more predefined topic id.
