@@ -13,9 +13,8 @@ trap 'rm -rf "$work"' EXIT
 millions=${1:-10}
 deltas=${2:-200}
 program=$top/crates/codec_bench/out/codec_bench
-if [ ! -x "$program" ] || [ -n "$(find "$top/crates" -name '*.rt' -newer "$program" | head -n 1)" ]; then
-    (cd "$top/crates/codec_bench" && rt run <stdin >/dev/null) || true
-fi
+# rt builds nothing anew where the program is that of the sources.
+(cd "$top/crates/codec_bench" && rt run <stdin >/dev/null)
 for name in frames deltas; do
     gcc -O2 -Wall -o "$work/$name" "$top/bench/$name.c"
 done
