@@ -14,7 +14,10 @@ millions=${1:-10}
 deltas=${2:-200}
 program=$top/crates/codec_bench/out/codec_bench
 # rt builds nothing anew where the program is that of the sources.
-(cd "$top/crates/codec_bench" && rt run <stdin >/dev/null)
+if ! (cd "$top/crates/codec_bench" && rt run <stdin >"$work/built" 2>&1); then
+    tail -n 20 "$work/built"
+    exit 1
+fi
 for name in frames deltas; do
     gcc -O2 -Wall -o "$work/$name" "$top/bench/$name.c"
 done
