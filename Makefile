@@ -2,8 +2,9 @@
 #
 #   make run    runs the simulator on the scripts of examples/ and shows script and output side by side
 #   make test   proves every crate from nothing, tries the edits that must fail, runs every test and program
+#   make bench  times the simulator, and the two codecs beside plain C
 #
-# Both need the Rattle kit's command `rt` and nothing else.
+# All need the Rattle kit's command `rt`; make bench needs gcc and python3 as well.
 
 .PHONY: run test bench clean
 
@@ -15,6 +16,7 @@ test:
 
 bench:
 	@sh bench/play.sh
+	@sh bench/codecs.sh
 
 clean:
 	rm -rf crates/*/out

@@ -1,0 +1,42 @@
+//! Work for the two codecs, so that a stopwatch outside can time it.
+//!
+//! Each line of standard input names a work and how often it is done, as `frames 100` or `deltas 20`.
+//! The program makes its own data, the same in each run, and prints counts and a checksum of what the
+//! codec wrote. It reads no clock. The folder bench/ has the stopwatch, and the same work in C.
+//!
+//! - `numbers`: a sequence of numbers that is the same in each run (`Numbers`, `checksum`).
+//! - `datagrams`: a mixed stream of datagrams.
+//! - `frames`: each datagram of the stream decoded and encoded again.
+//! - `operations`: the operations of a delta of about 8 MiB.
+//! - `deltas`: that delta encoded and decoded again.
+#![tactic(auto)]
+
+mod datagrams;
+mod deltas;
+mod frames;
+mod numbers;
+mod operations;
+
+use anyhow::{Context, Result, bail};
+use std::alloc::Global;
+
+fn main(rt: HostRuntime) -> Result<()> {
+    for line in rt.lines(rt.alloc()) {
+        let done = work(rt.alloc(), line?.as_str())?;
+        rt.println(done)?;
+    }
+    Ok(())
+}
+
+/// What a line asks for.
+fn work(alloc: Global, line: &str) -> Result<String> {
+    let (codec, rounds) = line
+        .split_once(' ')
+        .context("a line is a work and a number")?;
+    let rounds = rounds.parse::<u32>()?;
+    match codec {
+        "frames" => frames::run(alloc, rounds),
+        "deltas" => deltas::run(alloc, rounds),
+        _ => bail!("the works are frames and deltas"),
+    }
+}
