@@ -22,7 +22,8 @@ pub(super) fn octets_of(n: u16) -> [u8; 2]
 pub(super) fn joined(alloc: Global, head: &[u8], tail: &[u8]) -> Result<Vec<u8>, AllocError>
     ensures { IfOk result (λ all. all.items ≡ head.now ++ tail.now) }
 {
-    let mut all = Vec::from_slice(alloc, head)?;
+    let mut all = Vec::with_capacity(alloc, head.len().saturating_add(tail.len()))?;
+    all.extend_from_slice(head)?;
     all.extend_from_slice(tail)?;
     Ok(all)
 }
