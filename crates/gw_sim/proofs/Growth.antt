@@ -101,10 +101,10 @@ numbers_stay (config ∷ configs) (suc place) old new there same (suc k) d = num
 told_more : (configs : List Config) (place : ℕ) (old new : Config) → slice_get configs place ≡ Some old → new.gateway ≡ old.gateway
     → AreGateways configs → AreGateways (set configs place new)
 told_more configs place old new there same are = record {
-    some = λ k d within zero_. are.some k d (rw length-set at within) (sym (numbers_stay configs place old new there same k d) ∙ zero_);
-    different = λ i j d below within equal. are.different i j d below (rw length-set at within)
+  some = λ k d within zero_. are.some k d (rw length-set at within) (sym (numbers_stay configs place old new there same k d) ∙ zero_);
+  different = λ i j d below within equal. are.different i j d below (rw length-set at within)
       (sym (numbers_stay configs place old new there same i d) ∙ (equal ∙ numbers_stay configs place old new there same j d));
-  }
+}
 
 -- the gateways of a script are such as a field may have
 pub gateways : (lines : List (List ℕ)) (script : Script) → IsScriptOf lines script → AreGateways script.configs

@@ -111,7 +111,7 @@ show_says fields c said = absurd said
 
 predefine_says : (fields : List (List ℕ)) (c : Command) → Says words.Predefine fields c
     → (a b o : List ℕ) × (g i : ℕ) × (name : List ℕ) × (fields ≡ a ∷ b ∷ o ∷ []) × (c ≡ commands.Predefine g i name)
-      × IsNumber 8 a g × IsNumber 16 b i × IsHex o name × IsName name
+    × IsNumber 8 a g × IsNumber 16 b i × IsHex o name × IsName name
 predefine_says (a ∷ b ∷ o ∷ []) (commands.Predefine g i name) said = (a, b, o, g, i, name, refl, refl, said.0, said.1, said.2, said.3)
 predefine_says fields c said = absurd said
 

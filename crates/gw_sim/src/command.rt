@@ -18,7 +18,9 @@ use std::alloc::{AllocError, Global};
 #[derive(Debug, Drop, PartialEq, Eq)]
 pub enum Command {
     /// There is a gateway of this number.
-    Gateway { number: u8 },
+    Gateway {
+        number: u8,
+    },
     /// The gateway of this number has a predefined topic id.
     Predefine {
         number: u8,

@@ -127,12 +127,7 @@ fn place_of(configs: &[Config], number: u8) -> Option<usize>
 }
 
 /// The config with one more predefined topic id.
-fn with_entry(
-    alloc: Global,
-    config: &Config,
-    id: u16,
-    name: TopicName,
-) -> Result<Config, LineFault>
+fn with_entry(alloc: Global, config: &Config, id: u16, name: TopicName) -> Result<Config, LineFault>
     ensures ok { IfOk result (λ made. IsTrue (is_table (config.now.predefined ++ (id, name) ∷ [])) × (made ≡ record config.now { predefined = config.now.predefined ++ (id, name) ∷ [] })) }
     ensures refused { result ≡ Err LineFault.NotACommand → IsFalse (is_table (config.now.predefined ++ (id, name) ∷ [])) }
 {

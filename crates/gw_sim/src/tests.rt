@@ -67,6 +67,15 @@ fn bad_lines_are_printed_alone(rt: HostRuntime) -> Result<(), Fail> {
         ("show 1\n\n\nshow 1 1\n", 4),
         ("tick 1 1\n", 1),
         ("#\n", 1),
+        ("predefine 1 5 742f61\n", 1),
+        ("gateway 1\npredefine 1 0 61\n", 2),
+        ("gateway 1\npredefine 1 65535 61\n", 2),
+        ("gateway 1\npredefine 1 65536 61\n", 2),
+        ("gateway 1\npredefine 1 5 61\npredefine 1 5 62\n", 3),
+        ("gateway 1\npredefine 1 5 742f23\n", 2),
+        ("gateway 1\npredefine 1 5 -\n", 2),
+        ("gateway 1\npredefine 1 5\n", 2),
+        ("gateway 1\nshow 1\npredefine 1 5 61\n", 3),
     ] {
         let printed = format!(in rt.alloc(); "line {number}: not a command\n")?;
         check_row(&rt, rt.alloc(), script, printed.as_str(), 1)?;
@@ -350,4 +359,55 @@ fn rows_are_played(rt: HostRuntime) -> Result<(), Fail> {
     check_row(&rt, alloc, "gateway 1\ntake 1 1\n", "event 1: E2\n", 1)?;
     check_row(&rt, alloc, "gateway 1\nshow 1", "empty\n", 0)?;
     check_row(&rt, alloc, "", "", 0)
+}
+
+#[test]
+fn datagrams_are_answered(rt: HostRuntime) -> Result<(), Fail> {
+    let alloc = rt.alloc();
+    // Datagrams that are no frames, each with its fault, and a frame from nowhere.
+    check_row(
+        &rt,
+        alloc,
+        "gateway 1\nframe 1 7 0 -\nframe 1 7 0 00\nframe 1 7 0 010003\nframe 1 7 0 021673\nframe 1 7 0 04fe00aa0216\nframe 1 7 0 020b\nframe 1 7 0 0203\nframe 1 7 0 0216\n",
+        "refused N1 F1\nrefused N1 F2\nrefused N1 F2\nrefused N1 F2\nrefused N1 F3\nrefused N1 F5\nrefused N1 F4\nto 7 0218\n",
+        0,
+    )?;
+    // Two datagrams, in both orders.
+    check_row(
+        &rt,
+        alloc,
+        "gateway 1\nframe 1 7 0 08040401003c7331\nframe 1 9 0 030100\n",
+        "to 7 030500\ndelta 1\nto 9 030201\n",
+        0,
+    )?;
+    check_row(
+        &rt,
+        alloc,
+        "gateway 1\nframe 1 9 0 030100\nframe 1 7 0 08040401003c7331\n",
+        "to 9 030201\nto 7 030500\ndelta 1\n",
+        0,
+    )?;
+    // Two gateways have topic ids of their own.
+    check_row(
+        &rt,
+        alloc,
+        "gateway 1\npredefine 1 5 742f61\ngateway 2\npredefine 2 5 61\npredefine 1 6 742f61\nshow 1\n",
+        "empty\n",
+        0,
+    )
+}
+
+#[test]
+fn a_stamp_rolls_over(rt: HostRuntime) -> Result<(), Fail> {
+    let alloc = rt.alloc();
+    let mut script = String::from_str(alloc, "gateway 1\nframe 1 7 0 08040401003c7331\n")?;
+    let mut printed = String::from_str(alloc, "to 7 030500\ndelta 1\n")?;
+    for number in 2..258u32 {
+        script.push_str("frame 1 7 1 0418012c\n")?;
+        let told = format!(in alloc; "to 7 0218\ndelta {number}\n")?;
+        printed.push_str(told.as_str())?;
+    }
+    script.push_str("show 1\n")?;
+    printed.push_str("client 7331 stamp 2.1 prefix 2 asleep clean 300 next 1\n")?;
+    check_row(&rt, alloc, script.as_str(), printed.as_str(), 0)
 }

@@ -1,11 +1,9 @@
 //! What a gateway is told, and what it sends.
 
-use std::alloc::Global;
-
+use super::fault::StepFault;
 use octets::Octets;
 use sn_topic::Predefined;
-
-use super::fault::StepFault;
+use std::alloc::Global;
 
 /// An address of the transport below: a host and a port.
 #[derive(Clone, Copy, Debug, PartialEq, Eq)]
