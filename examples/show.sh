@@ -2,17 +2,30 @@
 # Builds gw_sim, plays the scripts of this folder, and shows script and output side by side.
 set -eu
 top=$(cd "$(dirname "$0")/.." && pwd)
-program=$top/crates/gw_sim/out/gw_sim
 work=$(mktemp -d)
 trap 'rm -rf "$work"' EXIT
-if [ ! -x "$program" ] || [ -n "$(find "$top/crates" \( -name '*.rt' -o -name '*.antt' \) -newer "$program" | head -n 1)" ]; then
-    echo "Proving and building gw_sim; the first time takes some minutes." >&2
-    (cd "$top/crates/gw_sim" && rt run </dev/null >"$work/build" 2>&1) || true
-    [ -x "$program" ] || { cat "$work/build" >&2; exit 1; }
+echo "Proving and building gw_sim; the first time takes some minutes." >&2
+(cd "$top/crates/gw_sim" && rt run <stdin >"$work/built" 2>"$work/told") || true
+program=$top/crates/gw_sim/out/gw_sim
+if ! cmp -s "$work/built" "$top/crates/gw_sim/stdout"; then
+    cat "$work/told" "$work/built" >&2
+    exit 1
 fi
 for script in "$top"/examples/*.script; do
-    "$program" <"$script" >"$work/printed" || true
     echo "== $(basename "$script" .script)"
-    paste -d '\t' "$script" "$work/printed" 2>/dev/null >"$work/both" || true
-    awk 'BEGIN { FS = "\t" } { printf "  %-50s %s\n", $1, $2 }' "$work/both"
+    seen=0
+    number=0
+    # What a line prints is what the script up to it prints more than the script before it.
+    while IFS= read -r line; do
+        number=$((number + 1))
+        head -n "$number" "$script" | "$program" >"$work/printed" || true
+        tail -n +"$((seen + 1))" "$work/printed" >"$work/more"
+        seen=$(wc -l <"$work/printed")
+        left=$line
+        if [ ! -s "$work/more" ]; then echo >"$work/more"; fi
+        while IFS= read -r answer; do
+            printf '  %-40s %s\n' "$left" "$answer"
+            left=
+        done <"$work/more"
+    done <"$script"
 done
