@@ -1,1 +1,4 @@
+pub mod Fault
+pub mod Tables
+pub mod Topics
 pub mod Session

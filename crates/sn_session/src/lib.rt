@@ -7,6 +7,9 @@
 
 mod fault;
 mod session;
+mod table;
+mod topics;
 
 pub use fault::SessionFault;
 pub use session::{Presence, Session, SessionOp};
+pub use topics::{TopicEntry, Topics};

@@ -1,0 +1,4 @@
+pub mod Ascending
+pub mod Places
+pub mod Numbers
+pub mod TopicPlaces
