@@ -32,6 +32,12 @@ module _ {E : Type 0} where
     Ascends [] = Unit {0}
     Ascends (x ∷ xs) = AllByRecursion (λ y. cmp x y ≡ Less) xs × Ascends xs
 
+    -- fewer than two entries ascend
+    pub short : (xs : List E) → length xs < 2 → is_ascending cmp xs ≡ true
+    short [] lt = refl
+    short (x ∷ []) lt = refl
+    short (x ∷ y ∷ rest) lt = absurd (omega arith)
+
     -- one more below the first
     pub test_cons : (x : E) (xs : List E) → AllByRecursion (λ y. cmp x y ≡ Less) xs → is_ascending cmp xs ≡ true → is_ascending cmp (x ∷ xs) ≡ true
     test_cons x [] h t = refl
