@@ -3,3 +3,6 @@ pub mod Places
 pub mod Numbers
 pub mod TopicPlaces
 pub mod Unused
+pub mod ReceivedPlaces
+pub mod SubscriptionPlaces
+pub mod Greatest

@@ -1,14 +1,14 @@
 -- where an entry stands in a table, or would go
-use Rattle.std.proofs.Common.{◌≡◌, ℕ, zero, suc, ◌+◌, ◌<◌, ◌≤◌, Bool, true, false, not, cond, ◌&&◌, List, [], ◌∷◌, ◌++◌, IsTrue, length, length-set, take, drop, get_or, set, Option, Some, None, Result, Ok, Err, refl, sym, ap, subst, ◌∙◌, add-one, arith}
+use Rattle.std.proofs.Common.{◌≡◌, ℕ, zero, suc, ◌<◌, ◌≤◌, Bool, true, false, not, cond, List, [], ◌∷◌, IsTrue, length, length-set, get_or, set, Some, None, Result, Ok, Err, refl, sym, ap, subst, ◌∙◌, add-one, arith}
 use Rattle.std.specs.declared.cmp.Ordering.{Ordering}
 use Rattle.std.specs.declared.cmp.Ordering.TheVariants.{Less, Equal, Greater}
 use Rattle.std.specs.Ordering.{is_lt, ordering_reverse, ordering_index}
 use Rattle.std.specs.Cmp.{IsTotalOrder, alike_right, on_total}
 use Rattle.std.specs.List.{AllByRecursion, filter, find, insert, remove}
-use Rattle.std.specs.List.Sorted.{IsSearchInRange, IsBinarySearchResult, IsNonDecreasingBy, IsSortedBy}
+use Rattle.std.specs.List.Sorted.{IsSearchInRange, IsBinarySearchResult, IsNonDecreasingBy}
 use Rattle.std.proofs.lemmas.List.Sorted.{searchable_from_sorted}
 use Rattle.std.proofs.lemmas.List.Edits.{length-insert}
-use Rattle.sn_session.specs.Tables.{is_ascending, with_entry, by_order, AllAbove, IsAt, IsGap, IsPlace, IsTable}
+use Rattle.sn_session.specs.Tables.{is_ascending, with_entry, AllAbove, IsAt, IsGap, IsPlace, IsTable}
 use Rattle.sn_session.proofs.Ascending.{Ascends, all_weaker, from_test, to_test, ascends_with, ascends_filter}
 
 -- neighbours of a list that ascends do not go down
@@ -39,6 +39,12 @@ module _ {E : Type 0} (sought : E → Ordering) where
   at_within [] i h = absurd h
   at_within (x ∷ xs) zero h = omega arith
   at_within (x ∷ xs) (suc i) h = let lt = at_within xs i h.1 in omega arith
+
+  -- what stands there is what is sought
+  pub at_equal : (xs : List E) (i : ℕ) (d : E) → IsAt sought xs i → sought (get_or xs i d) ≡ Equal
+  at_equal [] i d h = absurd h
+  at_equal (x ∷ xs) zero d h = h.0
+  at_equal (x ∷ xs) (suc i) d h = at_equal xs i d h.1
 
   -- a test that passes what is sought and nothing else
   module _ (test : E → Bool) (passes : (x : E) → sought x ≡ Equal → test x ≡ true) (below : (x : E) → sought x ≡ Less → test x ≡ false) (above : (x : E) → sought x ≡ Greater → test x ≡ false) where

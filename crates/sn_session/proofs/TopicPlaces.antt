@@ -1,14 +1,13 @@
 -- what a search among topic ids finds, and what a change at that place makes
-use Rattle.std.proofs.Common.{◌≡◌, ℕ, ◌<◌, ◌≤◌, Bool, true, false, ◌&&◌, ◌==◌, List, length, get_or, set, Option, Some, None, is_none, IsTrue, refl, nat_le, sym, subst, ◌∙◌, arith}
+use Rattle.std.proofs.Common.{◌≡◌, ℕ, ◌<◌, ◌≤◌, false, ◌==◌, List, length, get_or, set, Some, None, is_none, sym, ap}
 use Rattle.std.specs.declared.cmp.Ordering.{Ordering}
 use Rattle.std.specs.Ordering.{nat_cmp, ordering_reverse}
 use Rattle.std.specs.Cmp.{nat_cmp_total, on_total, IsTotalOrder}
 use Rattle.std.specs.List.{insert}
-use Rattle.std.proofs.lemmas.Bool.Decides.{nat_tests}
 use Rattle.sn_session.specs.declared.topics.TopicEntry.{TopicEntry}
-use Rattle.sn_session.specs.Tables.{IsTable, IsAt, IsGap, is_full}
+use Rattle.sn_session.specs.Tables.{IsTable, IsAt, IsGap}
 use Rattle.sn_session.specs.Topics.{topic_cmp, with_topic, topic_of, has_no_room}
-use Rattle.sn_session.proofs.Numbers.{tied, lower, higher}
+use Rattle.sn_session.proofs.Numbers.{tied, lower, higher, room_left}
 use Rattle.sn_session.proofs.Places.{find_at, find_gap, with_at, with_gap, table_set, table_insert}
 
 pub topic_total : IsTotalOrder topic_cmp
@@ -30,13 +29,7 @@ module _ (xs : List TopicEntry) (i : ℕ) where
 
   -- a gap in a table that has room for the entry
   pub room : (id : ℕ) → IsGap (by_id id) xs i → has_no_room id xs ≡ false → length xs < 256
-  room id h free = below (length xs) (sym (and_true (is_full xs)) ∙ (let P : Option TopicEntry → Type 0 = λ o. (is_full xs && is_none o) ≡ false in subst P (absent id h) free))
-    where
-      and_true : (b : Bool) → (b && true) ≡ b
-      and_true true = refl
-      and_true false = refl
-      below : (n : ℕ) → nat_le 256 n ≡ false → n < 256
-      below n h = grind (arith, nat_tests, h)
+  room id h free = room_left (length xs) (is_none (topic_of id xs)) free (ap is_none (absent id h))
 
   pub set_is : (e : TopicEntry) → IsAt (by_id e.id) xs i → set xs i e ≡ with_topic e xs
   set_is e h = sym (with_at (by_id e.id) topic_cmp e (turns e) xs i h)

@@ -1,13 +1,12 @@
 -- the least id that is not in use
-use Rattle.std.proofs.Common.{◌≡◌, ℕ, ◌+◌, ◌<◌, ◌≤◌, ◌==◌, ◌⊎◌, inl, inr, Bool, true, false, if◌then◌else◌, nat_lt, List, [], ◌∷◌, Some, None, IsSome, refl, subst, arith}
+use Rattle.std.proofs.Common.{◌≡◌, ℕ, ◌+◌, ◌<◌, ◌≤◌, ◌==◌, Bool, true, false, if◌then◌else◌, nat_lt, List, [], ◌∷◌, Some, None, IsSome, refl, arith}
 use Rattle.std.specs.declared.cmp.Ordering.TheVariants.{Less}
-use Rattle.std.specs.Ordering.{nat_cmp}
 use Rattle.std.specs.List.{AllByRecursion}
 use Rattle.std.proofs.lemmas.Cmp.{ranked}
 use Rattle.std.proofs.lemmas.Bool.Decides.{nat_tests}
 use Rattle.std.proofs.Common.{sym}
 use Rattle.sn_session.specs.declared.topics.TopicEntry.{TopicEntry}
-use Rattle.sn_session.specs.Tables.{is_ascending, IsTable}
+use Rattle.sn_session.specs.Tables.{IsTable}
 use Rattle.sn_session.specs.Topics.{topic_cmp, topic_of, least_unused, IsLeastUnused}
 use Rattle.sn_session.proofs.Ascending.{Ascends, from_test}
 use Rattle.sn_session.proofs.TopicPlaces.{topic_total}

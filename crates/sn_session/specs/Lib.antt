@@ -1,4 +1,6 @@
 pub mod Fault
 pub mod Tables
 pub mod Topics
+pub mod Subscriptions
+pub mod Received
 pub mod Session

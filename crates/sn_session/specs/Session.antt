@@ -1,6 +1,5 @@
 -- What an operation makes of a session.
 use Rattle.std.specs.Prelude.{Bool, true, false}
-use Rattle.sn_session.specs.declared.session.Presence.{Presence}
 use Rattle.sn_session.specs.declared.session.Presence.TheVariants.{Active}
 use Rattle.sn_session.specs.declared.session.Session.{Session}
 use Rattle.sn_session.specs.declared.session.SessionOp.{SessionOp}

@@ -1,5 +1,5 @@
 -- The topic ids of a session: a table of entries ascending by id.
-use Rattle.std.specs.Prelude.{◌≡◌, ℕ, ◌+◌, ◌<◌, ◌≤◌, IsSome, ◌==◌, Bool, if◌then◌else◌, nat_lt, not, ◌&&◌, List, [], ◌∷◌, length, Option, Some, None, is_none, bytes_eq, nat_eq}
+use Rattle.std.specs.Prelude.{◌≡◌, ℕ, ◌+◌, ◌<◌, ◌≤◌, IsSome, ◌==◌, Bool, if◌then◌else◌, nat_lt, ◌&&◌, List, [], ◌∷◌, Option, Some, None, is_none, bytes_eq, nat_eq}
 use mathlib.Core.Bool.{beq}
 use Rattle.std.specs.Option.{option_map}
 use Rattle.std.specs.declared.cmp.Ordering.{Ordering}

@@ -6,10 +6,14 @@
 #![tactic(auto)]
 
 mod fault;
+mod received;
 mod session;
+mod subscriptions;
 mod table;
 mod topics;
 
 pub use fault::SessionFault;
 pub use session::{Presence, Session, SessionOp};
+pub use received::Received;
+pub use subscriptions::{Subscription, Subscriptions};
 pub use topics::{TopicEntry, Topics};

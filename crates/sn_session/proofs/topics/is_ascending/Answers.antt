@@ -1,4 +1,4 @@
-use Rattle.std.proofs.Common.{◌≡◌, sym, ◌∙◌}
+use Rattle.std.proofs.Common.{sym, ◌∙◌}
 use Rattle.sn_session.specs.Topics.{topic_cmp}
 use Rattle.sn_session.proofs.Ascending.{short}
 use Rattle.sn_session.proofs.topics.is_ascending.Goals as goal

@@ -1,7 +1,3 @@
-use Rattle.std.proofs.Common.{◌≡◌, List, sym, subst}
-use Rattle.sn_session.specs.declared.topics.TopicEntry.{TopicEntry}
-use Rattle.sn_session.specs.Tables.{IsTable}
-use Rattle.sn_session.specs.Topics.{topic_cmp}
 use Rattle.sn_session.proofs.Unused.{least_in_table}
 use Rattle.sn_session.proofs.topics.Topics.free_id.Goals as goal
 

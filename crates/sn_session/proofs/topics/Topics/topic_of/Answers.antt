@@ -1,4 +1,4 @@
-use Rattle.std.proofs.Common.{◌≡◌, Some, sym, ap, ◌∙◌}
+use Rattle.std.proofs.Common.{Some, sym, ap, ◌∙◌}
 use Rattle.sn_session.proofs.TopicPlaces.{found, absent}
 use Rattle.sn_session.proofs.topics.Topics.topic_of.Goals as goal
 
