@@ -6,7 +6,7 @@ use Rattle.std.specs.Cmp.{nat_cmp_total, on_total, IsTotalOrder}
 use Rattle.std.specs.List.{insert}
 use Rattle.sn_session.specs.declared.topics.TopicEntry.{TopicEntry}
 use Rattle.sn_session.specs.Tables.{IsTable, IsAt, IsGap}
-use Rattle.sn_session.specs.Topics.{topic_cmp, with_topic, topic_of, has_no_room}
+use Rattle.sn_session.specs.Topics.{topic_cmp, with_topic, topic_of, topic_has_no_room}
 use Rattle.sn_session.proofs.Numbers.{tied, lower, higher, room_left}
 use Rattle.sn_session.proofs.Places.{find_at, find_gap, with_at, with_gap, table_set, table_insert}
 
@@ -28,7 +28,7 @@ module _ (xs : List TopicEntry) (i : ℕ) where
   absent id h = find_gap (by_id id) (λ e. e.id == id) (λ e. tied e.id id) (λ e. lower e.id id) (λ e. higher e.id id) xs i h
 
   -- a gap in a table that has room for the entry
-  pub room : (id : ℕ) → IsGap (by_id id) xs i → has_no_room id xs ≡ false → length xs < 256
+  pub room : (id : ℕ) → IsGap (by_id id) xs i → topic_has_no_room id xs ≡ false → length xs < 256
   room id h free = room_left (length xs) (is_none (topic_of id xs)) free (ap is_none (absent id h))
 
   pub set_is : (e : TopicEntry) → IsAt (by_id e.id) xs i → set xs i e ≡ with_topic e xs

@@ -3,4 +3,5 @@ pub mod Tables
 pub mod Topics
 pub mod Subscriptions
 pub mod Received
+pub mod Wills
 pub mod Session

@@ -2,7 +2,7 @@
 use Rattle.std.specs.Prelude.{ℕ, ◌==◌, Bool, not, ◌&&◌, List, filter}
 use Rattle.std.specs.List.{list_any}
 use Rattle.std.specs.Ordering.{nat_cmp}
-use Rattle.sn_session.specs.Tables.{is_full, with_entry}
+use Rattle.sn_session.specs.Tables.{is_table_full, with_entry}
 
 -- the table with an id
 abbrev pub with_received : ℕ → List ℕ → List ℕ
@@ -18,4 +18,4 @@ is_received id ids = list_any (λ n. n == id) ids
 
 -- this id cannot be added: it would be one more than there is room for
 abbrev pub id_has_no_room : ℕ → List ℕ → Bool
-id_has_no_room id ids = is_full ids && not (is_received id ids)
+id_has_no_room id ids = is_table_full ids && not (is_received id ids)

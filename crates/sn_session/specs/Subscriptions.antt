@@ -8,7 +8,7 @@ use Rattle.std.specs.Cmp.Lexicographic.{slice_cmp, pointwise, nat_list_eq_equiv}
 use Rattle.std.specs.List.{find}
 use Rattle.sn_topic.specs.Matching.{is_match}
 use Rattle.sn_session.specs.declared.subscriptions.Subscription.{Subscription}
-use Rattle.sn_session.specs.Tables.{is_full, with_entry}
+use Rattle.sn_session.specs.Tables.{is_table_full, with_entry}
 
 -- filters are ordered by their octets, as words in a dictionary
 abbrev pub filter_cmp : List ℕ → List ℕ → Ordering
@@ -36,7 +36,7 @@ qos_of asked subscriptions = option_map (λ s. s.qos) (subscription_of asked sub
 
 -- this filter cannot be set: it would be one more than there is room for
 abbrev pub filter_has_no_room : List ℕ → List Subscription → Bool
-filter_has_no_room asked subscriptions = is_full subscriptions && is_none (subscription_of asked subscriptions)
+filter_has_no_room asked subscriptions = is_table_full subscriptions && is_none (subscription_of asked subscriptions)
 
 -- the qualities of service of the filters that ask for a topic
 abbrev pub asked_qos : List ℕ → List Subscription → List ℕ

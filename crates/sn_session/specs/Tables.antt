@@ -16,8 +16,8 @@ abbrev pub IsTable : {E : Type 0} → (E → E → Ordering) → List E → Type
 IsTable cmp entries = IsTrue (is_ascending cmp entries) × (length entries ≤ 256)
 
 -- no entry can be added
-abbrev pub is_full : {E : Type 0} → List E → Bool
-is_full entries = nat_le 256 (length entries)
+abbrev pub is_table_full : {E : Type 0} → List E → Bool
+is_table_full entries = nat_le 256 (length entries)
 
 -- the first, second or third, where the first is less than the second, equal or greater
 abbrev pub by_order : {A : Type 0} → Ordering → A → A → A → A

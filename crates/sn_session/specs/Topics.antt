@@ -8,7 +8,7 @@ use Rattle.std.specs.Cmp.{IsEquivalence, and_equiv, on_equiv, nat_eq_equiv, bool
 use Rattle.std.specs.Cmp.Lexicographic.{pointwise, nat_list_eq_equiv}
 use Rattle.std.specs.List.{find}
 use Rattle.sn_session.specs.declared.topics.TopicEntry.{TopicEntry}
-use Rattle.sn_session.specs.Tables.{is_full, with_entry}
+use Rattle.sn_session.specs.Tables.{is_table_full, with_entry}
 
 -- entries are ordered by id
 abbrev pub topic_cmp : TopicEntry → TopicEntry → Ordering
@@ -31,8 +31,8 @@ abbrev pub topic_id : List ℕ → List TopicEntry → Option ℕ
 topic_id name topics = option_map (λ entry. entry.id) (topic_named name topics)
 
 -- an entry for this id cannot be set: it would be one more than there is room for
-abbrev pub has_no_room : ℕ → List TopicEntry → Bool
-has_no_room id topics = is_full topics && is_none (topic_of id topics)
+abbrev pub topic_has_no_room : ℕ → List TopicEntry → Bool
+topic_has_no_room id topics = is_table_full topics && is_none (topic_of id topics)
 
 -- the least number from n on that is not the id of an entry
 abbrev pub least_unused : ℕ → List TopicEntry → ℕ
@@ -41,7 +41,7 @@ least_unused n (entry ∷ rest) = if nat_lt n entry.id then n else least_unused 
 
 -- the least id from 1 on that is not in use, while there is room for one more
 abbrev pub free_id : List TopicEntry → Option ℕ
-free_id topics = if is_full topics then None else Some (least_unused 1 topics)
+free_id topics = if is_table_full topics then None else Some (least_unused 1 topics)
 
 -- a number from 1 on that is no id, while each smaller one is
 pub record IsLeastUnused (topics : List TopicEntry) (n : ℕ) : Type 0 where

@@ -1,6 +1,6 @@
 //! The message ids that a client sent at quality of service 2 and has not released.
 
-ghost use Rattle.std.specs.Prelude.{◌≡◌, ◌==◌, ◌<◌, ◌≤◌, ◌↔◌, [], length, IfOk, IfErr, MatchOption, OnOk, OnErr, IsErrOf, IsTrue};
+ghost use Rattle.std.specs.Prelude.{◌≡◌, ◌==◌, ◌<◌, ◌≤◌, ◌↔◌, [], length, IfOk, IfErr, MatchOption, OnOk, OnErr, IsErrOf, IsTrue, false};
 ghost use Rattle.std.specs.Ordering.{nat_cmp};
 ghost use Rattle.sn_session.specs.Tables.{IsTable, IsPlace, is_ascending as ascending_test};
 ghost use Rattle.sn_session.specs.Received.{with_received, without_received, is_received, id_has_no_room};
@@ -90,6 +90,7 @@ impl Received {
         ensures ok { OnOk result (self.new ≡ with_received id self.old) }
         ensures err { OnErr result (self.new ≡ self.old) }
         ensures full { IsErrOf result SessionFault.Full ↔ IsTrue (id_has_no_room id self.old) }
+        ensures fits { OnOk result (id_has_no_room id self.old ≡ false) }
     {
         if self.has_no_room(id) {
             return Err(SessionFault::Full);

@@ -1,6 +1,6 @@
 //! The subscriptions of a session.
 
-ghost use Rattle.std.specs.Prelude.{◌≡◌, ◌==◌, ◌<◌, ◌≤◌, ◌↔◌, [], length, IfOk, IfErr, IfSome, MatchOption, OnOk, OnErr, IsErrOf, IsTrue, Some};
+ghost use Rattle.std.specs.Prelude.{◌≡◌, ◌==◌, ◌<◌, ◌≤◌, ◌↔◌, [], length, IfOk, IfErr, IfSome, MatchOption, OnOk, OnErr, IsErrOf, IsTrue, false, Some};
 ghost use Rattle.sn_session.specs.Tables.{IsTable, IsPlace, is_ascending as ascending_test};
 ghost use Rattle.sn_session.specs.Subscriptions.{filter_cmp, subscription_cmp, with_subscription, without_filter, qos_of, filter_has_no_room, asked_qos, subscribed_qos, or_greater as greater_test, IsGreatest};
 
@@ -134,6 +134,7 @@ impl Subscriptions {
         ensures ok { OnOk result (self.new ≡ with_subscription (record { filter = filter.now; qos = qos }) self.old) }
         ensures err { OnErr result (self.new ≡ self.old) }
         ensures full { IsErrOf result SessionFault.Full ↔ IsTrue (filter_has_no_room filter.now self.old) }
+        ensures fits { OnOk result (filter_has_no_room filter.now self.old ≡ false) }
     {
         if self.has_no_room(filter) {
             return Err(SessionFault::Full);

@@ -1,9 +1,9 @@
 //! The topic ids of a session.
 
-ghost use Rattle.std.specs.Prelude.{◌≡◌, ◌==◌, ◌<◌, ◌≤◌, ◌↔◌, [], ◌∷◌, length, is_some, IfOk, IfErr, IfSome, MatchOption, OnOk, OnErr, IsErrOf, IsTrue, option_copied};
+ghost use Rattle.std.specs.Prelude.{◌≡◌, ◌==◌, ◌<◌, ◌≤◌, ◌↔◌, [], ◌∷◌, length, is_some, IfOk, IfErr, IfSome, MatchOption, OnOk, OnErr, IsErrOf, IsTrue, false, option_copied};
 ghost use Rattle.std.specs.Ordering.{nat_cmp};
 ghost use Rattle.sn_session.specs.Tables.{IsTable, IsPlace, is_ascending as ascending_test};
-ghost use Rattle.sn_session.specs.Topics.{topic_cmp, with_topic, topic_of, topic_named, topic_id, has_no_room, free_id, least_unused, IsLeastUnused};
+ghost use Rattle.sn_session.specs.Topics.{topic_cmp, with_topic, topic_of, topic_named, topic_id, topic_has_no_room, free_id, least_unused, IsLeastUnused};
 
 use crate::fault::SessionFault;
 use crate::table::{MAX_ENTRIES, insert_at};
@@ -109,7 +109,7 @@ impl Topics {
 
     /// Whether an entry for this id would be the 257th.
     pub fn has_no_room(&self, id: u16) -> bool
-        ensures { result ≡ has_no_room id self.now }
+        ensures { result ≡ topic_has_no_room id self.now }
     {
         self.entries.len() >= MAX_ENTRIES && self.topic_of(id).is_none()
     }
@@ -140,7 +140,8 @@ impl Topics {
     pub fn set(&mut self, alloc: Global, id: u16, name: &TopicName, known: bool) -> Result<(), SessionFault>
         ensures ok { OnOk result (self.new ≡ with_topic (record { id = id; name = name.now; known = known }) self.old) }
         ensures err { OnErr result (self.new ≡ self.old) }
-        ensures full { IsErrOf result SessionFault.Full ↔ IsTrue (has_no_room id self.old) }
+        ensures full { IsErrOf result SessionFault.Full ↔ IsTrue (topic_has_no_room id self.old) }
+        ensures fits { OnOk result (topic_has_no_room id self.old ≡ false) }
     {
         if self.has_no_room(id) {
             return Err(SessionFault::Full);

@@ -1,6 +1,6 @@
 use Rattle.std.proofs.Common.{◌≡◌, sym, subst, false, List}
 use Rattle.sn_session.specs.declared.topics.TopicEntry.{TopicEntry}
-use Rattle.sn_session.specs.Topics.{has_no_room}
+use Rattle.sn_session.specs.Topics.{topic_has_no_room}
 use Rattle.sn_session.proofs.TopicPlaces.{room, set_is, insert_is, set_table, insert_table}
 use Rattle.sn_session.proofs.topics.Topics.set.Goals as goal
 
@@ -18,7 +18,7 @@ returns-in-Ok-clause-ok c =
 pub invariant_of-self-in-Continue-branch-2 : goal.invariant_of-self-in-Continue-branch-2
 invariant_of-self-in-Continue-branch-2 c =
     let place = rw c.as_slice.ensures.value at c.in-Err.ensures in
-    let P : List TopicEntry → Type 0 = λ entries. has_no_room c.args.id entries ≡ false in
+    let P : List TopicEntry → Type 0 = λ entries. topic_has_no_room c.args.id entries ≡ false in
     let free = subst P (sym c.self.view_is) (sym c.if-has_no_room.ensures) in
     rw c.in_ok-insert_at-in-Err.ensures.ok (insert_table _ _ _ c.self.invariant place.0 (room _ _ _ place.1 free) place.1)
 
