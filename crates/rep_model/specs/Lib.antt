@@ -1,5 +1,6 @@
 pub mod Views
 pub mod Fresh
 pub mod Keep
+pub mod Ranges
 pub mod Limits
 pub mod Taking

@@ -5,17 +5,26 @@
 //! wait. Nothing else counts: not the order in which the operations came, nor how often.
 //!
 //! - `view`: the view of a client, as a value (`ClientView`).
+//! - `laws`: the laws of sets and views, proved of all sets.
 //! - `fault`: why a replica refuses a delta.
 //! - `replica`: what every replica of a set promises (`Replica`), however it keeps it.
 //!
 //! The definitions are in `specs/`: `Views` (visible stamp, prefix, session, pending), `Fresh` (the next
-//! epoch and sequence number), `Keep` (what may not be forgotten), `Limits` (how much a replica holds).
+//! epoch and sequence number), `Keep` (what may not be forgotten), `Ranges` (of acknowledgements), `Limits`
+//! (how much a replica holds). The lemmas that crates above cite are in `proofs/`: `Joins`, `Thin`,
+//! `Ranges`, `Named`, `Fresh`, `Limits`, `Agreeing`.
 #![tactic(auto)]
 
 mod fault;
+mod laws;
 mod replica;
+#[cfg(test)]
+mod tests;
 mod view;
 
 pub use fault::{Limit, TakeFault};
+pub use laws::{
+    client_laws, consistency, count_laws, join_laws, keep_laws, leaves_only, order_laws, range_laws,
+};
 pub use replica::Replica;
 pub use view::{ClientView, Puts};

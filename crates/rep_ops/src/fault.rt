@@ -2,9 +2,11 @@
 
 ghost use Rattle.std.specs.Prelude.{◌≡◌};
 ghost use Rattle.rep_ops.specs.declared.fault.OpsFault.TheVariants.{Memory};
+ghost use Rattle.rep_ops.specs.Faults.{fault_of_topic};
 
 use sn_session::SessionFault;
-use std::alloc::AllocError;
+use sn_topic::TopicFault;
+use std::alloc::{AllocError, AllocFailed};
 use thiserror::Error;
 
 /// Why operations, or the bytes of a delta, are refused.
@@ -44,12 +46,32 @@ impl From<AllocError> for OpsFault {
     }
 }
 
+impl<T: Drop> From<AllocFailed<T>> for OpsFault {
+    ghost from_gives = { λ _ e. e ≡ Memory };
+
+    fn from(_error: AllocFailed<T>) -> OpsFault {
+        OpsFault::Memory
+    }
+}
+
 impl From<SessionFault> for OpsFault {
     ghost from_gives = { λ _ e. e ≡ Memory };
 
     fn from(error: SessionFault) -> OpsFault {
         match error {
             SessionFault::Memory => OpsFault::Memory,
+        }
+    }
+}
+
+impl From<TopicFault> for OpsFault {
+    ghost from_gives = { λ t e. e ≡ fault_of_topic t };
+
+    fn from(error: TopicFault) -> OpsFault {
+        match error {
+            TopicFault::Memory => OpsFault::Memory,
+            TopicFault::Empty | TopicFault::TooLong | TopicFault::Wildcard | TopicFault::Id =>
+                OpsFault::Kind,
         }
     }
 }

@@ -16,9 +16,12 @@
 mod client_id;
 mod delta;
 mod fault;
+mod join;
 mod op;
+mod order;
+mod size;
 
 pub use client_id::ClientId;
-pub use delta::Delta;
+pub use delta::{Delta, one_delta};
 pub use fault::OpsFault;
 pub use op::{Op, Put, Stamp};

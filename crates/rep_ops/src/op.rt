@@ -6,7 +6,8 @@ ghost use Rattle.rep_ops.specs.Orders.{stamp_cmp, client_of};
 use super::client_id::ClientId;
 use super::fault::OpsFault;
 use octets::Octets;
-use sn_session::{SessionFault, SessionOp};
+use sn_session::SessionOp;
+use sn_topic::TopicName;
 use std::alloc::Global;
 use std::cmp::Ordering;
 
@@ -26,7 +27,7 @@ pub struct Put {
     /// The how manieth message of that gateway for the client, from 1.
     pub seq: u64,
     /// The name that it was published under.
-    pub topic: Octets,
+    pub topic: TopicName,
     /// Its quality of service, 0 to 2.
     pub qos: u8,
     /// What was published.

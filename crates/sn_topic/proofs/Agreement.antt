@@ -2,7 +2,7 @@
 use Rattle.std.proofs.Common.{◌≡◌, ℕ, ◌<◌, Bor, Option, Some, None, MatchOption, length, ◌==◌, ◌||◌, ◌&&◌, Bool, true, false, cond, List, [], ◌∷◌, refl, sym, subst, arith}
 use Rattle.std.specs.List.{onto_first}
 use Rattle.std.proofs.lemmas.Bool.Decides.{nat_tests}
-use Rattle.sn_topic.specs.Levels.{levels, is_hash, is_only}
+use Rattle.sn_topic.specs.Levels.{levels, is_hash}
 use Rattle.sn_topic.specs.Matching.{level_agrees, levels_match, no_level}
 use Rattle.sn_topic.proofs.Cuts.{levels_some}
 

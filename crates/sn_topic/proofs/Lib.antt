@@ -1,3 +1,6 @@
 pub mod Cuts
 pub mod Agreement
 pub mod Rule
+pub mod Least
+pub mod Examples
+pub mod Decides

@@ -1,5 +1,5 @@
 -- the rule of matching, and the test that computes it
-use Rattle.std.proofs.Common.{◌≡◌, ℕ, ◌==◌, ◌||◌, ◌&&◌, not, ◌⊎◌, inl, inr, ◌↔◌, IsTrue, Bool, true, false, List, [], ◌∷◌, ◌++◌, refl, sym, ap, subst}
+use Rattle.std.proofs.Common.{◌≡◌, ℕ, ◌&&◌, not, ◌⊎◌, inl, inr, ◌↔◌, IsTrue, Bool, true, false, List, [], ◌∷◌, ◌++◌, refl, sym, ap, subst}
 use Rattle.std.specs.Str.{bytes_eq}
 use Rattle.std.proofs.lemmas.Bool.{and_parts, and_from, or_cases, or_left, or_right, eqb-true}
 use Rattle.std.proofs.lemmas.Slice.Eq.{bytes_eq-Decides}
@@ -44,10 +44,11 @@ rule_from [] (given ∷ others) h = cc
 rule_from (asked ∷ rest) [] h = inr (hash_last asked rest [] h)
 rule_from (asked ∷ rest) (given ∷ others) h =
     elim (or_cases (is_hash asked && no_level rest) (level_agrees asked given && levels_match rest others) h) as (λ _. AgreeOneByOne (asked ∷ rest) (given ∷ others) ⊎ AgreeUpToHash (asked ∷ rest) (given ∷ others)) [
-      inl hash ↦ inr (hash_last asked rest (given ∷ others) hash)
-    | inr both ↦
-      let parts = and_parts (level_agrees asked given) (levels_match rest others) both in
-      one_more asked given rest others (agrees_from asked given parts.0) (rule_from rest others parts.1) ]
+      | inl hash ↦ inr (hash_last asked rest (given ∷ others) hash)
+      | inr both ↦
+          let parts = and_parts (level_agrees asked given) (levels_match rest others) both in
+          one_more asked given rest others (agrees_from asked given parts.0) (rule_from rest others parts.1)
+    ]
 
 -- levels that agree one by one pass the test
 one_by_one_to : (asked given : List (List ℕ)) → AgreeOneByOne asked given → levels_match asked given ≡ true
@@ -88,7 +89,8 @@ both_not false dollar h = refl
 
 -- the test computes the rule
 pub is_match-Matches : (filter name : List ℕ) → IsTrue (is_match filter name) ↔ Matches filter name
-is_match-Matches filter name =
-    ( λ h. let parts = and_parts (not (begins_with_wildcard filter && begins_with_dollar name)) (levels_match (levels filter) (levels name)) h in
-           (rule_from (levels filter) (levels name) parts.1, not_both (begins_with_wildcard filter) (begins_with_dollar name) parts.0)
-    , λ h. and_from (not (begins_with_wildcard filter && begins_with_dollar name)) (levels_match (levels filter) (levels name)) (both_not (begins_with_wildcard filter) (begins_with_dollar name) h.1) (rule_to (levels filter) (levels name) h.0))
+is_match-Matches filter name = (
+  λ h. let parts = and_parts (not (begins_with_wildcard filter && begins_with_dollar name)) (levels_match (levels filter) (levels name)) h in
+      (rule_from (levels filter) (levels name) parts.1, not_both (begins_with_wildcard filter) (begins_with_dollar name) parts.0),
+  λ h. and_from (not (begins_with_wildcard filter && begins_with_dollar name)) (levels_match (levels filter) (levels name)) (both_not (begins_with_wildcard filter) (begins_with_dollar name) h.1) (rule_to (levels filter) (levels name) h.0),
+)

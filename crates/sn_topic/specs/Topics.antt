@@ -1,5 +1,5 @@
 -- which octets are topic names and which are filters
-use Rattle.std.specs.Prelude.{ℕ, ◌<◌, ◌≤◌, List, length, IsTrue, IsFalse}
+use Rattle.std.specs.Prelude.{ℕ, ◌<◌, ◌≤◌, Bool, ◌&&◌, not, nat_lt, nat_le, List, length, IsTrue, IsFalse}
 use Rattle.sn_topic.specs.Levels.{has_wildcard, levels, wildcards_stand_alone}
 
 -- a topic has 1 to 256 octets
@@ -13,3 +13,15 @@ IsName octets = IsTopicSize octets × IsFalse (has_wildcard octets)
 -- a filter has wildcards only where they may stand
 abbrev pub IsFilter : List ℕ → Type 0
 IsFilter octets = IsTopicSize octets × IsTrue (wildcards_stand_alone (levels octets))
+
+-- `IsTopicSize` as a test
+abbrev pub is_topic_size : List ℕ → Bool
+is_topic_size octets = nat_lt 0 (length octets) && nat_le (length octets) 256
+
+-- `IsName` as a test
+abbrev pub is_name : List ℕ → Bool
+is_name octets = is_topic_size octets && not (has_wildcard octets)
+
+-- `IsFilter` as a test
+abbrev pub is_filter : List ℕ → Bool
+is_filter octets = is_topic_size octets && wildcards_stand_alone (levels octets)

@@ -4,7 +4,7 @@ ghost use Rattle.std.specs.Prelude.{◌≡◌};
 ghost use Rattle.sn_topic.specs.Fault.{number_of};
 ghost use Rattle.sn_topic.specs.declared.fault.TopicFault.TheVariants as faults;
 
-use std::alloc::AllocError;
+use std::alloc::{AllocError, AllocFailed};
 use thiserror::Error;
 
 /// Why octets are no topic name or filter, or entries no table of predefined ids.
@@ -41,6 +41,14 @@ impl From<AllocError> for TopicFault {
     ghost from_gives = { λ _ e. e ≡ faults.Memory };
 
     fn from(_e: AllocError) -> TopicFault {
+        TopicFault::Memory
+    }
+}
+
+impl<T: Drop> From<AllocFailed<T>> for TopicFault {
+    ghost from_gives = { λ _ e. e ≡ faults.Memory };
+
+    fn from(_e: AllocFailed<T>) -> TopicFault {
         TopicFault::Memory
     }
 }

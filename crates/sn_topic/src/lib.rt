@@ -1,4 +1,5 @@
-//! Topic names, topic filters and the ids that are agreed on beforehand (MQTT-SN 1.2 sections 3 and 5.3.11).
+//! Topic names, topic filters and the ids that are agreed on beforehand (MQTT-SN 1.2 sections
+//! 5.3.11, 5.3.12 and 6.7).
 //!
 //! A topic is a row of levels with `/` between them. `TopicName` is the name of one topic, `Filter`
 //! may have the wildcards `+` (any one level) and `#` (all levels that are left), and `matches` says
@@ -11,8 +12,13 @@ mod filter;
 mod level;
 mod matching;
 mod name;
+mod predefined;
 
 pub use fault::TopicFault;
 pub use filter::Filter;
 pub use matching::matches;
 pub use name::TopicName;
+pub use predefined::Predefined;
+
+#[cfg(test)]
+mod tests;

@@ -1,4 +1,4 @@
-use Rattle.std.proofs.Common.{◌≡◌, ℕ, ◌-◌, ◌+◌, ◌<◌, length, drop, take, sym, arith}
+use Rattle.std.proofs.Common.{sym, arith}
 use Rattle.std.proofs.lemmas.Grind.{common_steps}
 use Rattle.sn_topic.proofs.Cuts.{levels_whole, levels_cut}
 use Rattle.sn_topic.proofs.level.first_level.Goals as goal

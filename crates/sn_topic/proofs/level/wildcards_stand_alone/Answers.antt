@@ -1,6 +1,5 @@
-use Rattle.std.proofs.Common.{◌≡◌, false, sym, ◌∙◌, arith}
+use Rattle.std.proofs.Common.{arith}
 use Rattle.std.proofs.lemmas.Grind.{common_steps}
-use Rattle.sn_topic.specs.Levels.{levels, wildcards_stand_alone}
 use Rattle.sn_topic.proofs.Cuts.{stand_alone-next}
 use Rattle.sn_topic.proofs.level.wildcards_stand_alone.Goals as goal
 

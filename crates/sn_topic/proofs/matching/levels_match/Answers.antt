@@ -1,7 +1,7 @@
-use Rattle.std.proofs.Common.{◌≡◌, [], false, sym, ◌∙◌, arith}
+use Rattle.std.proofs.Common.{[], arith}
 use Rattle.std.proofs.lemmas.Grind.{common_steps}
 use Rattle.sn_topic.specs.Levels.{levels}
-use Rattle.sn_topic.proofs.Agreement.{match_last, match_short, match_next, match_end, levels_head}
+use Rattle.sn_topic.proofs.Agreement.{match_short, match_next, match_end, levels_head}
 use Rattle.sn_topic.proofs.matching.levels_match.Goals as goal
 
 pub returns-else-is_none : goal.returns-else-is_none

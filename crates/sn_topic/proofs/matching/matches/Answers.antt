@@ -1,5 +1,4 @@
-use Rattle.std.proofs.Common.{◌≡◌, ◌↔◌, IsTrue, Bool, sym, subst, arith, rules}
-use Rattle.std.proofs.lemmas.Grind.{common_steps}
+use Rattle.std.proofs.Common.{◌≡◌, ◌↔◌, IsTrue, Bool, sym, subst, rules}
 use Rattle.sn_topic.specs.Matching.{Matches, is_match}
 use Rattle.sn_topic.proofs.Rule.{is_match-Matches}
 use Rattle.sn_topic.proofs.matching.matches.Goals as goal

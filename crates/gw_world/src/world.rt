@@ -1,0 +1,41 @@
+//! The result of a run.
+
+ghost use Rattle.std.specs.Prelude.{◌≡◌};
+ghost use Rattle.gw_world.specs.declared.world.WorldFault.TheVariants.{Memory};
+
+use super::event::Answer;
+use octets::Sequence;
+use rep_ops::Delta;
+use std::alloc::AllocError;
+use thiserror::Error;
+
+/// The result of a run: an answer for each event, the deltas made, numbered from 1, and the gateways in
+/// the order of their configs.
+#[derive(Drop)]
+pub struct World<R> {
+    pub answers: Sequence<Answer>,
+    pub deltas: Sequence<Delta>,
+    pub gateways: Sequence<R>,
+}
+
+/// Why a run has no result. Events are numbered from 1.
+#[derive(Clone, Copy, Debug, PartialEq, Eq, Error)]
+pub enum WorldFault {
+    /// Fault 1: the event names no gateway.
+    #[error("event {event} names a gateway that is not there")]
+    NoGateway { event: u64 },
+    /// Fault 2: the event names no delta.
+    #[error("event {event} names a delta that was not made yet")]
+    NoDelta { event: u64 },
+    /// Fault 3: memory ran out.
+    #[error("out of memory")]
+    Memory,
+}
+
+impl From<AllocError> for WorldFault {
+    ghost from_gives = { λ _ e. e ≡ Memory };
+
+    fn from(_error: AllocError) -> WorldFault {
+        WorldFault::Memory
+    }
+}

@@ -1,0 +1,51 @@
+//! That copies of views can be made.
+
+use super::*;
+use octets::Octets;
+use rep_ops::{Put, Stamp};
+use sn_session::{Presence, Session};
+use std::alloc::Global;
+use std::test::Fail;
+
+/// The message of this number that waits.
+fn message(alloc: Global, seq: u64) -> Result<Put, Fail> {
+    Ok(Put {
+        origin: 1,
+        seq,
+        topic: Octets::from_slice(alloc, b"t/1")?,
+        qos: 1,
+        body: Octets::from_slice(alloc, b"21.5")?,
+    })
+}
+
+#[test]
+fn a_view_is_copied(rt: HostRuntime) -> Result<(), Fail> {
+    let alloc = rt.alloc();
+    let mut waiting = Vec::new(alloc);
+    waiting.push(message(alloc, 1)?)?;
+    waiting.push(message(alloc, 2)?)?;
+    let view = ClientView {
+        stamp: Some(Stamp {
+            epoch: 3,
+            gateway: 2,
+        }),
+        prefix: 2,
+        session: Some(Session {
+            presence: Presence::Asleep,
+            clean: false,
+            duration: 600,
+            next_id: 7,
+        }),
+        pending: Puts::new(waiting),
+    };
+    let copy = view.copy(alloc)?;
+    assert_eq!(rt; copy.stamp, view.stamp);
+    assert_eq!(rt; copy.prefix, 2);
+    assert_eq!(rt; copy.session, view.session);
+    assert_eq!(rt; copy.pending.len(), 2);
+    assert!(rt; !copy.pending.is_empty());
+    assert_eq!(rt; copy.pending.as_slice(), view.pending.as_slice());
+    let pending = copy.pending.copy(alloc)?;
+    assert_eq!(rt; pending.as_slice(), view.pending.as_slice());
+    Ok(())
+}

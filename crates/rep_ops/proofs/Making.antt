@@ -1,0 +1,64 @@
+-- Sorted and joined, operations are the delta of their set.
+use Rattle.std.proofs.Common.{◌≡◌, List, length, Result, Ok, Err, subst, sym}
+use Rattle.std.specs.Prelude.{IfOk, IfErr}
+use Rattle.std.specs.Global.{Vec}
+use Rattle.std.specs.List.{AllAdjacentBelow}
+use Rattle.std.specs.List.Sorted.{IsPermutation, IsSortedBy}
+use Rattle.std.specs.Ordering.{is_lt}
+use Rattle.std.specs.Prelude.{IsTrue}
+use Rattle.std.proofs.lemmas.List.Elements.{All-from_recursion, recursion_from_All}
+use Rattle.std.proofs.lemmas.List.Sorted.{All-permutation, IsPermutation-sym}
+use Rattle.rep_ops.specs.declared.fault.OpsFault.{OpsFault}
+use Rattle.rep_ops.specs.declared.fault.OpsFault.TheVariants.{Memory, Twice}
+use Rattle.rep_ops.specs.declared.op.Op.{Op}
+use Rattle.rep_ops.specs.Deltas.{ShareName}
+use Rattle.rep_ops.specs.Joining.{joined}
+use Rattle.rep_ops.specs.Making.{AreWellMade, AreApart, IsDeltaOf}
+use Rattle.rep_ops.specs.Orders.{name_cmp}
+use Rattle.rep_ops.specs.WellMade.{is_well_made}
+use Rattle.rep_ops.proofs.Joined.{delta_joined, same_joined}
+use Rattle.rep_ops.proofs.Rising.{rising_from, rising_apart}
+use Rattle.rep_ops.proofs.Sets.{twice_permutation, same_permutation, Same-sym, Same-trans}
+
+made_permutation : (xs ys : List Op) → IsPermutation xs ys → AreWellMade xs → AreWellMade ys
+made_permutation xs ys p h =
+    recursion_from_All (λ op. IsTrue (is_well_made op)) ys (All-permutation (λ op. IsTrue (is_well_made op)) xs ys p (All-from_recursion (λ op. IsTrue (is_well_made op)) xs h))
+
+pub record Sorted (xs ys : List Op) : Type 0 where
+  pub made : AreWellMade xs
+  pub same : IsPermutation xs ys
+  pub sorted : IsSortedBy (λ a b. is_lt (name_cmp a b)) ys
+  pub once : AllAdjacentBelow (λ a b. ¬ (ShareName a b)) ys (length ys)
+
+pub sorted_apart : (xs ys : List Op) → Sorted xs ys → AreApart xs
+sorted_apart xs ys s =
+    let up = rising_from ys (made_permutation xs ys s.same s.made) s.sorted s.once in
+    record { well_made = s.made; once = λ t. rising_apart 0 ys up (twice_permutation ys xs (IsPermutation-sym xs ys s.same) t) }
+
+pub sorted_delta : (xs ys : List Op) → Sorted xs ys → IsDeltaOf xs (joined ys)
+sorted_delta xs ys s =
+    let made = made_permutation xs ys s.same s.made in
+    let up = rising_from ys made s.sorted s.once in
+    let apart = sorted_apart xs ys s in
+    record {
+      delta = delta_joined ys made up;
+      same = Same-trans (joined ys) ys xs (same_joined ys made) (Same-sym xs ys (same_permutation xs ys s.same apart.once));
+    }
+
+pub ok_made : (xs ys : List Op) → Sorted xs ys → (r : Result (Vec Op) OpsFault) → IfOk r (λ out. out.items ≡ joined ys) → IfOk r (λ d. AreApart xs × IsDeltaOf xs d.items)
+ok_made xs ys s (Ok out) h = (sorted_apart xs ys s, subst (λ (d : List Op). IsDeltaOf xs d) (sym h) (sorted_delta xs ys s))
+ok_made xs ys s (Err e) h = tt
+
+pub memory_alone : {T : Type 0} (r : Result T OpsFault) → IfErr r (λ fault. fault ≡ Memory) → r ≡ Err Twice → ⊥
+memory_alone (Ok x) h e = absurd cc
+memory_alone (Err f) h e = absurd cc
+
+-- what the two tests and the sort say
+pub sorted_from : (xs seen ys again : List Op) → seen ≡ xs → AreWellMade seen → IsPermutation xs ys → IsSortedBy (λ a b. is_lt (name_cmp a b)) ys
+    → again ≡ ys → AllAdjacentBelow (λ a b. ¬ (ShareName a b)) again (length again) → Sorted xs ys
+sorted_from xs seen ys again e made same sorted f once = record {
+  made = subst AreWellMade e made;
+  same = same;
+  sorted = sorted;
+  once = subst (λ (zs : List Op). AllAdjacentBelow (λ a b. ¬ (ShareName a b)) zs (length zs)) f once;
+}

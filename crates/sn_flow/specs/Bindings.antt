@@ -1,0 +1,38 @@
+-- Which address is which client.
+use Rattle.std.specs.Prelude.{ℕ, ◌==◌, Bool, true, false, ◌&&◌, ◌||◌, not, if◌then◌else◌, List, [], ◌∷◌, ◌++◌, filter, fold, length, Option, Some, None}
+use Rattle.rep_ops.specs.Sets.{same_client}
+use Rattle.sn_flow.specs.declared.config.Addr.{Addr}
+use Rattle.sn_flow.specs.declared.local.Binding.{Binding}
+use Rattle.sn_flow.specs.declared.local.LocalChange.{LocalChange}
+use Rattle.sn_flow.specs.declared.local.LocalChange.TheVariants.{Bind, Unbind}
+
+abbrev pub same_address : Addr → Addr → Bool
+same_address a b = (a.host == b.host) && (a.port == b.port)
+
+-- whether a binding has neither the address nor the client
+abbrev pub is_apart : Addr → List ℕ → Binding → Bool
+is_apart a c binding = not (same_address binding.address a) && not (same_client binding.client c)
+
+-- a new binding replaces all others of its address and of its client
+abbrev pub bound : Addr → List ℕ → List Binding → List Binding
+bound a c bindings = filter (is_apart a c) bindings ++ record { address = a; client = c } ∷ []
+
+abbrev pub is_of_other : List ℕ → Binding → Bool
+is_of_other c binding = not (same_client binding.client c)
+
+-- the client has no binding any more
+abbrev pub unbound : List ℕ → List Binding → List Binding
+unbound c bindings = filter (is_of_other c) bindings
+
+abbrev pub after_local : List Binding → LocalChange → List Binding
+after_local bindings (Bind a c moment) = bound a c bindings
+after_local bindings (Unbind c) = unbound c bindings
+
+-- the bindings after these changes
+abbrev pub after_all : List Binding → List LocalChange → List Binding
+after_all bindings changes = fold after_local bindings changes
+
+-- the client of an address
+abbrev pub client_at : Addr → List Binding → Option (List ℕ)
+client_at a [] = None
+client_at a (binding ∷ rest) = if same_address binding.address a then Some binding.client else client_at a rest

@@ -1,0 +1,78 @@
+//! The list of bindings and its changes.
+
+ghost use Rattle.std.specs.Prelude.{◌≡◌, ◌+◌, ◌≤◌, filter, length, vec_len};
+ghost use Rattle.std.specs.Vec.{vec_capacity};
+ghost use Rattle.sn_flow.specs.Bindings.{after_local, after_all, bound, unbound, is_apart as is_apart_from, is_of_other as is_of_another};
+
+use rep_ops::ClientId;
+
+use super::config::Addr;
+use super::local::{Binding, LocalChange};
+
+/// Whether a binding has neither the address nor the client.
+fn is_apart(address: Addr, client: &ClientId, binding: &Binding) -> bool
+    ensures { result ≡ is_apart_from address client.now binding.now }
+{
+    binding.address != address && binding.client != *client
+}
+
+/// Whether a binding is of another client.
+fn is_of_other(client: &ClientId, binding: &Binding) -> bool
+    ensures { result ≡ is_of_another client.now binding.now }
+{
+    binding.client != *client
+}
+
+/// Drops the bindings of the address and of the client.
+fn release(bindings: &mut Vec<Binding>, address: Addr, client: &ClientId)
+    ensures items { bindings.new.items ≡ filter (is_apart_from address client.now) bindings.old.items }
+    ensures capacity { vec_capacity bindings.new ≡ vec_capacity bindings.old }
+    ensures len { vec_len bindings.new ≤ vec_len bindings.old }
+{
+    bindings.retain(|binding| is_apart(address, client, binding));
+}
+
+/// The client has no address any more.
+fn unbind(bindings: &mut Vec<Binding>, client: &ClientId)
+    ensures items { bindings.new.items ≡ unbound client.now bindings.old.items }
+    ensures capacity { vec_capacity bindings.new ≡ vec_capacity bindings.old }
+    ensures len { vec_len bindings.new ≤ vec_len bindings.old }
+{
+    bindings.retain(|binding| is_of_other(client, binding));
+}
+
+/// The address and the client belong together now, and neither to another. There is room for one more.
+fn bind(bindings: &mut Vec<Binding>, address: Addr, client: ClientId)
+    requires { vec_len bindings.old + 1 ≤ vec_capacity bindings.old }
+    ensures items { bindings.new.items ≡ bound address client bindings.old.items }
+    ensures capacity { vec_capacity bindings.old ≤ vec_capacity bindings.new }
+    ensures len { vec_len bindings.new ≤ vec_len bindings.old + 1 }
+{
+    release(bindings, address, &client);
+    bindings.push(Binding { address, client }).unwrap();
+}
+
+/// Carries out one change.
+fn commit_one(bindings: &mut Vec<Binding>, change: LocalChange)
+    requires { vec_len bindings.old + 1 ≤ vec_capacity bindings.old }
+    ensures items { bindings.new.items ≡ after_local bindings.old.items change }
+    ensures capacity { vec_capacity bindings.old ≤ vec_capacity bindings.new }
+    ensures len { vec_len bindings.new ≤ vec_len bindings.old + 1 }
+{
+    match change {
+        LocalChange::Bind {
+            address, client, ..
+        } => bind(bindings, address, client),
+        LocalChange::Unbind { client } => unbind(bindings, &client),
+    }
+}
+
+/// Carries out the changes, one after the other.
+pub fn commit_all(bindings: &mut Vec<Binding>, changes: Vec<LocalChange>)
+    requires { vec_len bindings.old + length changes.items ≤ vec_capacity bindings.old }
+    ensures { bindings.new.items ≡ after_all bindings.old.items changes.items }
+{
+    for change in changes {
+        commit_one(bindings, change);
+    }
+}

@@ -1,0 +1,128 @@
+//! What a row of the step table says.
+
+ghost use Rattle.std.specs.Prelude.{◌≡◌, ◌≤◌, ◌++◌, [], map, OnOk, Err};
+ghost use Rattle.sn_flow.specs.Names.{name_of};
+ghost use Rattle.sn_frame.specs.Bodies.{IsMessage};
+ghost use Rattle.sn_frame.specs.Grammar.{total_of};
+
+use super::config::{Addr, Send};
+use super::fault::StepFault;
+use super::local::LocalChange;
+use octets::Octets;
+use rep_ops::{ClientId, Put};
+use sn_frame::{Frame, encode};
+use sn_session::SessionOp;
+use std::alloc::{AllocError, Global};
+use std::marker::Model;
+use std::mem;
+
+/// A message for a client, before it has a sequence number.
+#[derive(Debug, Drop)]
+pub struct NewPut {
+    pub client: ClientId,
+    pub topic: Octets,
+    pub qos: u8,
+    pub body: Octets,
+}
+
+/// What a step does, before its operations have names. Contracts see the five lists (`Drafted`).
+#[derive(Debug, Drop)]
+pub struct Draft {
+    pub(crate) changes: Vec<SessionOp>,
+    pub(crate) acks: Vec<(u64, u8)>,
+    pub(crate) puts: Vec<NewPut>,
+    pub(crate) sends: Vec<Send>,
+    pub(crate) local: Vec<LocalChange>,
+}
+
+impl Model for Draft {
+    ghost use Rattle.sn_flow.specs.Drafts.{Drafted};
+
+    ghost Value = { Drafted };
+
+    ghost view = { λ d. record { changes = d.changes.items; acks = d.acks.items; puts = d.puts.items; sends = d.sends.items; local = d.local.items } };
+}
+
+impl Draft {
+    ghost use Rattle.sn_flow.specs.Drafts.{nothing, changed, acked, acked_all, sent, moved};
+
+    /// A step that does nothing.
+    pub fn new(alloc: Global) -> Draft
+        ensures { result ≡ nothing }
+    {
+        Draft {
+            changes: Vec::new(alloc),
+            acks: Vec::new(alloc),
+            puts: Vec::new(alloc),
+            sends: Vec::new(alloc),
+            local: Vec::new(alloc),
+        }
+    }
+
+    /// The changes of the session, which the draft then has no more.
+    pub(crate) fn take_changes(&mut self, alloc: Global) -> Vec<SessionOp>
+        ensures taken { result.items ≡ self.old.changes }
+        ensures left { self.new ≡ record self.old { changes = [] } }
+    {
+        mem::replace(&mut self.changes, Vec::new(alloc))
+    }
+
+    /// And then this change of the session.
+    pub fn change(&mut self, change: SessionOp) -> Result<(), AllocError>
+        ensures { OnOk result (self.new ≡ changed change self.old) }
+    {
+        self.changes.push(change)?;
+        Ok(())
+    }
+
+    /// And then the acknowledgement of the client's put with this sequence number and origin.
+    pub fn ack(&mut self, seq: u64, origin: u8) -> Result<(), AllocError>
+        ensures { OnOk result (self.new ≡ acked (seq, origin) self.old) }
+    {
+        self.acks.push((seq, origin))?;
+        Ok(())
+    }
+
+    /// And then the acknowledgements of these puts.
+    pub fn ack_all(&mut self, puts: &[Put]) -> Result<(), AllocError>
+        ensures { OnOk result (self.new ≡ acked_all (map name_of puts.now) self.old) }
+    {
+        extend_names(&mut self.acks, puts)
+    }
+
+    /// And then this frame.
+    pub fn send(&mut self, alloc: Global, to: Addr, frame: &Frame) -> Result<(), StepFault>
+        requires message { IsMessage frame.now }
+        requires size { total_of frame.now ≤ 65535 }
+        ensures ok { OnOk result (self.new ≡ sent to frame.now self.old) }
+        ensures err { result ≡ Err StepFault.Exhausted → ⊥ }
+    {
+        let mut bytes = Vec::new(alloc);
+        if encode(alloc, frame, &mut bytes).is_err() {
+            return Err(StepFault::Memory);
+        }
+        self.sends.push(Send {
+            to,
+            bytes: Octets::new(bytes),
+        })?;
+        Ok(())
+    }
+
+    /// And then this change of the local state.
+    pub fn note(&mut self, change: LocalChange) -> Result<(), AllocError>
+        ensures { OnOk result (self.new ≡ moved change self.old) }
+    {
+        self.local.push(change)?;
+        Ok(())
+    }
+}
+
+/// Appends the names of these puts.
+fn extend_names(names: &mut Vec<(u64, u8)>, puts: &[Put]) -> Result<(), AllocError>
+    ensures { OnOk result (names.new.items ≡ names.old.items ++ map name_of puts.now) }
+{
+    for put in puts {
+        names.push((put.seq, put.origin))?;
+    }
+    Ok(())
+}

@@ -1,0 +1,61 @@
+//! Why a step has no plan.
+
+ghost use Rattle.std.specs.Prelude.{◌≡◌};
+ghost use Rattle.sn_flow.specs.declared.fault.StepFault.TheVariants.{Memory};
+
+use rep_model::TakeFault;
+use rep_ops::OpsFault;
+use sn_session::SessionFault;
+use std::alloc::{AllocError, AllocFailed};
+use thiserror::Error;
+
+/// Why a step has no plan. Nothing was changed.
+#[derive(Clone, Copy, Debug, PartialEq, Eq, Error)]
+pub enum StepFault {
+    /// Fault 1: the step needs an epoch or a sequence number after the last one.
+    #[error("an epoch or a sequence number is at its last value")]
+    Exhausted,
+    /// Fault 2: memory ran out.
+    #[error("out of memory")]
+    Memory,
+}
+
+impl From<AllocError> for StepFault {
+    ghost from_gives = { λ _ e. e ≡ Memory };
+
+    fn from(_error: AllocError) -> StepFault {
+        StepFault::Memory
+    }
+}
+
+impl<T: Drop> From<AllocFailed<T>> for StepFault {
+    ghost from_gives = { λ _ e. e ≡ Memory };
+
+    fn from(_error: AllocFailed<T>) -> StepFault {
+        StepFault::Memory
+    }
+}
+
+impl From<OpsFault> for StepFault {
+    ghost from_gives = { λ _ e. e ≡ Memory };
+
+    fn from(_error: OpsFault) -> StepFault {
+        StepFault::Memory
+    }
+}
+
+impl From<SessionFault> for StepFault {
+    ghost from_gives = { λ _ e. e ≡ Memory };
+
+    fn from(_error: SessionFault) -> StepFault {
+        StepFault::Memory
+    }
+}
+
+impl From<TakeFault> for StepFault {
+    ghost from_gives = { λ _ e. e ≡ Memory };
+
+    fn from(_error: TakeFault) -> StepFault {
+        StepFault::Memory
+    }
+}

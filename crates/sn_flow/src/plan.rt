@@ -1,0 +1,110 @@
+//! The plan of a step.
+
+ghost use Rattle.std.specs.Prelude.{◌≡◌, IfOk, IfErr};
+ghost use Rattle.rep_model.specs.Views.{view};
+ghost use Rattle.rep_model.specs.Fresh.{next_epoch, next_seq};
+ghost use Rattle.sn_flow.specs.Numbering.{start_of, rest_of as defined_rest};
+ghost use Rattle.sn_flow.specs.Plans.{Gives, seen_of, plan_of as defined_plan, plan_without as defined_without};
+
+use std::alloc::Global;
+
+use octets::Sequence;
+use rep_model::Replica;
+use rep_ops::{ClientId, Op};
+
+use super::config::Send;
+use super::draft::Draft;
+use super::fault::StepFault;
+use super::local::LocalChange;
+use super::numbering::{Writer, append_acks, number_puts};
+
+/// What a step does. Nothing of it is done yet.
+#[derive(Debug, Drop)]
+pub struct Plan {
+    /// The operations, under names that no operation has had.
+    pub ops: Sequence<Op>,
+    /// The datagrams, in their order.
+    pub sends: Sequence<Send>,
+    /// The changes of the local state, in their order.
+    pub local: Sequence<LocalChange>,
+}
+
+/// The writer of a client's session operations, at the start of a step.
+fn writer_of<R: Replica>(
+    alloc: Global,
+    gateway: u8,
+    replica: &R,
+    client: &ClientId,
+) -> Result<Writer, StepFault>
+    ensures ok { IfOk result (λ writer. writer ≡ start_of gateway (view client.now (R.kept replica.now)) (next_epoch client.now (R.kept replica.now))) }
+    ensures err { IfErr result (λ fault. fault ≡ StepFault.Memory) }
+{
+    let next = replica.next_epoch(client);
+    match replica.view_of(client) {
+        Some(view) => Writer::start(alloc, gateway, view, next),
+        None => Ok(Writer::start_unseen(alloc, next)),
+    }
+}
+
+/// The plan once the session operations are written.
+fn rest_of<R: Replica>(
+    alloc: Global,
+    gateway: u8,
+    replica: &R,
+    client: &ClientId,
+    writer: Writer,
+    draft: Draft,
+) -> Result<Plan, StepFault>
+    ensures { Gives result (defined_rest gateway client.now (λ e. next_seq e gateway (R.kept replica.now)) draft writer) }
+{
+    let Draft {
+        changes: _,
+        acks,
+        puts,
+        sends,
+        local,
+    } = draft;
+    let mut ops = writer.into_ops();
+    append_acks(alloc, client, acks.as_slice(), &mut ops)?;
+    number_puts(gateway, replica, puts, &mut ops)?;
+    Ok(Plan {
+        ops: Sequence::new(ops),
+        sends: Sequence::new(sends),
+        local: Sequence::new(local),
+    })
+}
+
+/// The plan of a draft for a client.
+#[tactic(auto, unfolding(crate::specs::Numbering::planned))]
+pub fn plan_of<R: Replica>(
+    alloc: Global,
+    gateway: u8,
+    replica: &R,
+    client: &ClientId,
+    mut draft: Draft,
+) -> Result<Plan, StepFault>
+    ensures { Gives result (defined_plan gateway client.now (seen_of (R.kept replica.now)) draft) }
+{
+    let mut writer = writer_of(alloc, gateway, replica, client)?;
+    let changes = draft.take_changes(alloc);
+    writer.write_all(alloc, gateway, client, changes)?;
+    rest_of(alloc, gateway, replica, client, writer, draft)
+}
+
+/// The plan of a draft without changes, acknowledgements and puts.
+pub fn plan_without(alloc: Global, draft: Draft) -> Plan
+    ensures { result ≡ defined_without draft }
+{
+    let Draft {
+        changes: _,
+        acks: _,
+        puts: _,
+        sends,
+        local,
+    } = draft;
+    Plan {
+        ops: Sequence::empty(alloc),
+        sends: Sequence::new(sends),
+        local: Sequence::new(local),
+    }
+}

@@ -1,0 +1,6 @@
+pub mod Bodies
+pub mod Faults
+pub mod FlagBits
+pub mod Grammar
+pub mod Reading
+pub mod Types

@@ -1,0 +1,39 @@
+-- the table of predefined ids
+use Rattle.std.specs.Prelude.{ℕ, Bool, true, ◌==◌, ◌&&◌, not, nat_lt, List, [], ◌∷◌, map, filter, find, fold, Option, min, None, Some}
+use Rattle.std.specs.List.{list_any}
+use Rattle.std.specs.Option.{option_map}
+use Rattle.std.specs.Str.{bytes_eq}
+
+-- the entries of a table: ids with the octets of their names
+abbrev pub Entries : Type 0
+Entries = List (ℕ × List ℕ)
+
+-- 0 and 65535 are reserved
+abbrev pub may_name : ℕ → Bool
+may_name id = nat_lt 0 id && nat_lt id 65535
+
+-- whether an id stands in the table
+abbrev pub has_id : ℕ → Entries → Bool
+has_id id entries = list_any (λ entry. entry.0 == id) entries
+
+-- no id is reserved, and none stands twice
+abbrev pub is_table : Entries → Bool
+is_table [] = true
+is_table (entry ∷ later) = may_name entry.0 && not (has_id entry.0 later) && is_table later
+
+-- the name that an id stands for
+abbrev pub name_of : ℕ → Entries → Option (List ℕ)
+name_of id entries = option_map (λ entry. entry.1) (find (λ entry. entry.0 == id) entries)
+
+-- the ids that stand for a name
+abbrev pub ids_of : List ℕ → Entries → List ℕ
+ids_of name entries = map (λ entry. entry.0) (filter (λ entry. bytes_eq entry.1 name) entries)
+
+-- the lesser of the number that is known so far and another
+abbrev pub lesser : Option ℕ → ℕ → Option ℕ
+lesser None n = Some n
+lesser (Some known) n = Some (min known n)
+
+-- the least of some numbers
+abbrev pub least : List ℕ → Option ℕ
+least numbers = fold lesser None numbers
