@@ -1,8 +1,8 @@
 -- Small sets, and what they say.
 use Rattle.std.proofs.Common.{◌≡◌, ℕ, ◌-◌, ◌^◌, false, List, [], ◌∷◌, Some, None, refl}
-use Rattle.sn_session.specs.declared.session.Presence.TheVariants.{Active, Asleep, Lost}
+use Rattle.sn_session.specs.declared.presence.Presence.TheVariants.{Active, Asleep, Lost}
 use Rattle.sn_session.specs.declared.session.Session.{Session}
-use Rattle.sn_session.specs.declared.session.SessionOp.TheVariants.{Take, Presence as SetPresence}
+use Rattle.sn_session.specs.declared.change.SessionOp.TheVariants.{Take, Presence as SetPresence}
 use Rattle.rep_ops.specs.declared.op.Stamp.{Stamp}
 use Rattle.rep_ops.specs.declared.op.Put.{Put}
 use Rattle.rep_ops.specs.declared.op.Op.{Op}

@@ -1,5 +1,6 @@
 -- How long a part of a spelling is.
-use Rattle.std.proofs.Common.{◌≡◌, ℕ, ◌+◌, ◌<◌, ◌≤◌, List, length, take, get_or}
+use Rattle.std.proofs.Common.{◌≡◌, ℕ, ◌+◌, ◌*◌, ◌<◌, ◌≤◌, List, [], ◌∷◌, length, take, get_or, refl, arith}
+use Rattle.byteorder.specs.Endian.{big_bytes}
 use Rattle.std.specs.List.{flat_map}
 use Rattle.std.proofs.lemmas.List.Folds.{length-flat_map-take}
 use Rattle.rep_ops.specs.declared.op.Op.{Op}
@@ -8,3 +9,8 @@ use Rattle.rep_ops.specs.Spelling.{op_octets}
 pub length_more : (ops : List Op) (i : ℕ) (op : Op) → i < length ops → op ≡ get_or ops i op
     → length (flat_map op_octets (take i ops)) + length (op_octets op) ≤ length (flat_map op_octets ops)
 length_more ops i op lt e = rw e (length-flat_map-take op_octets ops i op lt)
+
+-- each id is two octets
+pub length_ids : (ids : List ℕ) → length (flat_map (big_bytes 2) ids) ≡ 2 * length ids
+length_ids [] = refl
+length_ids (id ∷ ids) = let rest = length_ids ids in omega arith

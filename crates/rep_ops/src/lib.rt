@@ -19,6 +19,8 @@ mod fault;
 mod join;
 mod op;
 mod order;
+mod range;
+mod session_size;
 mod size;
 
 pub use client_id::ClientId;

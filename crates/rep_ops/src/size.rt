@@ -2,10 +2,12 @@
 
 ghost use Rattle.std.specs.Prelude.{◌≡◌, ◌≤◌, ◌↔◌, length, IsTrue};
 ghost use Rattle.rep_ops.specs.Making.{AreWellMade};
-ghost use Rattle.rep_ops.specs.Spelling.{op_octets, change_octets, put_octets, spelling, IsWithinLimit};
-ghost use Rattle.rep_ops.specs.WellMade.{is_stamp as stamp_test, is_change as change_test, is_counted as count_test, is_put as put_test, is_well_made as made_test};
+ghost use Rattle.rep_ops.specs.Spelling.{op_octets, put_octets, spelling, IsWithinLimit};
+ghost use Rattle.rep_ops.specs.WellMade.{is_stamp as stamp_test, is_counted as count_test, is_put as put_test, is_well_made as made_test};
 
 use super::op::{Op, Put, Stamp};
+use super::range::is_change;
+use super::session_size::change_size;
 use sn_session::SessionOp;
 
 /// The most octets of a delta.
@@ -21,23 +23,14 @@ fn is_stamp(stamp: Stamp) -> bool
     stamp.epoch >= 1 && stamp.gateway >= 1
 }
 
-/// Whether the values of a change are in range.
-fn is_change(change: &SessionOp) -> bool
-    ensures { result ≡ change_test change.now }
-{
-    match change {
-        SessionOp::Take(session) => session.next_id >= 1,
-        SessionOp::Presence { .. } => true,
-    }
-}
-
 /// Whether counter 0 is a Take, and no other counter.
 fn is_counted(counter: u8, change: &SessionOp) -> bool
     ensures { result ≡ count_test counter change.now }
 {
-    match change {
-        SessionOp::Take(_) => counter == 0,
-        SessionOp::Presence { .. } => counter > 0,
+    if change.is_take() {
+        counter == 0
+    } else {
+        counter > 0
     }
 }
 
@@ -81,16 +74,6 @@ pub fn are_well_made(ops: &[Op]) -> bool
     true
 }
 
-/// How many octets a change is spelled in.
-fn change_size(change: &SessionOp) -> usize
-    ensures { result ≡ length (change_octets change.now) }
-{
-    match change {
-        SessionOp::Take(_) => 15,
-        SessionOp::Presence { .. } => 4,
-    }
-}
-
 /// How many octets a message is spelled in.
 fn put_size(put: &Put) -> usize
     requires { IsTrue (put_test put.now) }
@@ -104,7 +87,7 @@ fn put_size(put: &Put) -> usize
 fn op_size(op: &Op) -> usize
     requires { IsTrue (made_test op.now) }
     ensures size { result ≡ length (op_octets op.now) }
-    ensures small { result ≤ 4391 }
+    ensures small { result ≤ 150000 }
 {
     match op {
         Op::Session { client, change, .. } => 12 + client.bytes().len() + change_size(change),

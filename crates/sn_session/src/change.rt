@@ -1,7 +1,7 @@
 //! The operations that change a session.
 
 ghost use Rattle.std.specs.Prelude.{◌≡◌, ◌↔◌, IfOk, IfErr, OnOk, OnErr, IsErrOf, IsTrue};
-ghost use Rattle.sn_session.specs.Session.{applied, is_full};
+ghost use Rattle.sn_session.specs.Session.{applied, is_full, is_take};
 
 use crate::fault::SessionFault;
 use crate::outbound::Outbound;
@@ -38,6 +38,13 @@ pub enum SessionOp {
 }
 
 impl SessionOp {
+    /// Whether the operation holds a whole session.
+    pub fn is_take(&self) -> bool
+        ensures { result ≡ is_take self.now }
+    {
+        matches!(self, SessionOp::Take(_))
+    }
+
     /// An equal operation.
     pub fn copy(&self, alloc: Global) -> Result<SessionOp, SessionFault>
         ensures ok { IfOk result (λ made. made ≡ self.now) }
