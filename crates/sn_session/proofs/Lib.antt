@@ -6,3 +6,5 @@ pub mod Unused
 pub mod ReceivedPlaces
 pub mod SubscriptionPlaces
 pub mod Greatest
+pub mod Named
+mod Examples

@@ -6,7 +6,7 @@ use Rattle.std.specs.declared.cmp.Ordering.{Ordering}
 use Rattle.std.specs.Ordering.{nat_cmp, on, eq_of_both}
 use Rattle.std.specs.Cmp.{IsEquivalence, and_equiv, on_equiv, nat_eq_equiv, bool_eq_equiv}
 use Rattle.std.specs.Cmp.Lexicographic.{pointwise, nat_list_eq_equiv}
-use Rattle.std.specs.List.{find}
+use Rattle.std.specs.List.{AllByRecursion, find}
 use Rattle.sn_session.specs.declared.topics.TopicEntry.{TopicEntry}
 use Rattle.sn_session.specs.Tables.{is_table_full, with_entry}
 
@@ -48,6 +48,11 @@ pub record IsLeastUnused (topics : List TopicEntry) (n : ℕ) : Type 0 where
   pub from_one : 1 ≤ n
   pub unused : topic_of n topics ≡ None
   pub least : (k : ℕ) → 1 ≤ k → k < n → IsSome (topic_of k topics)
+
+-- the id of an entry with the name, while no entry with the name has a smaller one
+pub record IsLeastIdOf (name : List ℕ) (topics : List TopicEntry) (id : ℕ) : Type 0 where
+  pub named : (entry : TopicEntry) × (topic_of id topics ≡ Some entry) × (entry.name ≡ name)
+  pub least : AllByRecursion (λ entry. entry.name ≡ name → id ≤ entry.id) topics
 
 -- equality of entries as a test
 abbrev pub topic_eq : TopicEntry → TopicEntry → Bool

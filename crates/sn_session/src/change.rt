@@ -18,23 +18,42 @@ pub enum SessionOp {
     /// A gateway takes the client over, with this session.
     Take(Session),
     /// The client is elsewhere now, for a duration in seconds.
-    Presence { presence: Presence, duration: u16 },
+    Presence {
+        presence: Presence,
+        duration: u16,
+    },
     /// The id stands for this name now.
-    Register { id: u16, name: TopicName, known: bool },
+    Register {
+        id: u16,
+        name: TopicName,
+        known: bool,
+    },
     /// The client asks for these topics, at this quality of service at most.
-    Subscribe { filter: Filter, qos: u8 },
+    Subscribe {
+        filter: Filter,
+        qos: u8,
+    },
     /// The client no longer asks for these topics.
-    Unsubscribe { filter: Filter },
+    Unsubscribe {
+        filter: Filter,
+    },
     /// The will has another topic, or there is none from now on.
     WillTopic(Option<WillTopic>),
     /// The will, if there is one, has another message.
     WillMsg(Octets),
     /// The client sent a message of quality of service 2 under this id.
-    Received { id: u16 },
+    Received {
+        id: u16,
+    },
     /// The client released the message of this id.
-    Released { id: u16 },
+    Released {
+        id: u16,
+    },
     /// The gateway began an exchange, took it further or ended it; the next one has this message id.
-    Outbound { exchange: Option<Outbound>, next_id: u16 },
+    Outbound {
+        exchange: Option<Outbound>,
+        next_id: u16,
+    },
 }
 
 impl SessionOp {

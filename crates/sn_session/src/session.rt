@@ -2,7 +2,7 @@
 
 ghost use Rattle.std.specs.Prelude.{◌≡◌, ◌≤◌, IfOk, IfErr, IfSome, option_copied};
 ghost use Rattle.sn_session.specs.Session.{empty_session};
-ghost use Rattle.sn_session.specs.Topics.{topic_of, topic_named, topic_id, free_id, IsLeastUnused};
+ghost use Rattle.sn_session.specs.Topics.{topic_of, topic_named, topic_id, free_id, IsLeastUnused, IsLeastIdOf};
 ghost use Rattle.sn_session.specs.Subscriptions.{qos_of, asked_qos, subscribed_qos, IsGreatest};
 ghost use Rattle.sn_session.specs.Received.{is_received};
 
@@ -73,7 +73,8 @@ impl Session {
 
     /// The least id of a topic name.
     pub fn topic_id(&self, name: &TopicName) -> Option<u16>
-        ensures { result ≡ topic_id name.now self.now.topics }
+        ensures value { result ≡ topic_id name.now self.now.topics }
+        ensures least { IfSome result (IsLeastIdOf name.now self.now.topics) }
     {
         self.topics.topic_id(name)
     }

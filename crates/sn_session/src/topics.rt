@@ -3,7 +3,7 @@
 ghost use Rattle.std.specs.Prelude.{◌≡◌, ◌==◌, ◌<◌, ◌≤◌, ◌↔◌, [], ◌∷◌, length, is_some, IfOk, IfErr, IfSome, MatchOption, OnOk, OnErr, IsErrOf, IsTrue, false, option_copied};
 ghost use Rattle.std.specs.Ordering.{nat_cmp};
 ghost use Rattle.sn_session.specs.Tables.{IsTable, IsPlace, is_ascending as ascending_test};
-ghost use Rattle.sn_session.specs.Topics.{topic_cmp, with_topic, topic_of, topic_named, topic_id, topic_has_no_room, free_id, least_unused, IsLeastUnused};
+ghost use Rattle.sn_session.specs.Topics.{topic_cmp, with_topic, topic_of, topic_named, topic_id, topic_has_no_room, free_id, least_unused, IsLeastUnused, IsLeastIdOf};
 
 use crate::fault::SessionFault;
 use crate::table::{MAX_ENTRIES, insert_at};
@@ -118,26 +118,28 @@ impl Topics {
     pub fn topic_named(&self, name: &TopicName) -> Option<&TopicEntry>
         ensures { option_copied result ≡ topic_named name.now self.now }
     {
-        for entry in self.entries.as_slice() {
-            if entry.name == *name {
-                return Some(entry);
-            }
-        }
-        None
+        entry_named(self.entries.as_slice(), name)
     }
 
     /// The least id of a name.
     pub fn topic_id(&self, name: &TopicName) -> Option<u16>
-        ensures { result ≡ topic_id name.now self.now }
+        ensures value { result ≡ topic_id name.now self.now }
+        ensures least { IfSome result (IsLeastIdOf name.now self.now) }
     {
-        match self.topic_named(name) {
+        match entry_named(self.entries.as_slice(), name) {
             None => None,
             Some(entry) => Some(entry.id),
         }
     }
 
     /// Sets the entry of an id. `Full` exactly where it would be the 257th entry; on an error the table is as it was.
-    pub fn set(&mut self, alloc: Global, id: u16, name: &TopicName, known: bool) -> Result<(), SessionFault>
+    pub fn set(
+        &mut self,
+        alloc: Global,
+        id: u16,
+        name: &TopicName,
+        known: bool,
+    ) -> Result<(), SessionFault>
         ensures ok { OnOk result (self.new ≡ with_topic (record { id = id; name = name.now; known = known }) self.old) }
         ensures err { OnErr result (self.new ≡ self.old) }
         ensures full { IsErrOf result SessionFault.Full ↔ IsTrue (topic_has_no_room id self.old) }
@@ -188,6 +190,18 @@ impl Topics {
         }
         Some(Topics { entries })
     }
+}
+
+/// The first entry of a name.
+fn entry_named<'a>(entries: &'a [TopicEntry], name: &TopicName) -> Option<&'a TopicEntry>
+    ensures { option_copied result ≡ topic_named name.now entries.now }
+{
+    for entry in entries {
+        if entry.name == *name {
+            return Some(entry);
+        }
+    }
+    None
 }
 
 /// Whether the ids strictly ascend.

@@ -63,7 +63,11 @@ impl Will {
 
 /// Sets the topic of a will: a new will has an empty message, one that is there keeps its message. No topic deletes
 /// the will. On an error it is as it was.
-pub fn set_topic(will: &mut Option<Will>, alloc: Global, asked: &Option<WillTopic>) -> Result<(), SessionFault>
+pub fn set_topic(
+    will: &mut Option<Will>,
+    alloc: Global,
+    asked: &Option<WillTopic>,
+) -> Result<(), SessionFault>
     ensures ok { OnOk result (will.new ≡ with_will_topic asked.now will.old) }
     ensures err { OnErr result (will.new ≡ will.old) }
     ensures memory { IfErr result (λ fault. fault ≡ SessionFault.Memory) }
@@ -92,7 +96,11 @@ pub fn set_topic(will: &mut Option<Will>, alloc: Global, asked: &Option<WillTopi
 }
 
 /// Sets the message of a will, if there is one. On an error it is as it was.
-pub fn set_message(will: &mut Option<Will>, alloc: Global, message: &Octets) -> Result<(), SessionFault>
+pub fn set_message(
+    will: &mut Option<Will>,
+    alloc: Global,
+    message: &Octets,
+) -> Result<(), SessionFault>
     ensures ok { OnOk result (will.new ≡ with_will_message message.now will.old) }
     ensures err { OnErr result (will.new ≡ will.old) }
     ensures memory { IfErr result (λ fault. fault ≡ SessionFault.Memory) }
