@@ -28,6 +28,22 @@ pub enum Event {
     },
 }
 
+impl Event {
+    ghost use Rattle.std.specs.Prelude.{◌≡◌};
+    ghost use Rattle.gw_world.specs.Field.{gateway_of};
+
+    /// The number of the gateway that the event is at.
+    pub fn gateway(&self) -> u8
+        ensures { result ≡ gateway_of self.now }
+    {
+        match self {
+            Event::Frame { gateway, .. } => *gateway,
+            Event::Take { gateway, .. } => *gateway,
+            Event::Show { gateway } => *gateway,
+        }
+    }
+}
+
 /// What a gateway did at an event.
 #[derive(Debug, Drop)]
 pub struct Out {

@@ -11,6 +11,8 @@
 #![tactic(auto)]
 
 mod event;
+mod field;
+mod node;
 mod running;
 mod world;
 

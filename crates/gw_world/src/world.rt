@@ -5,8 +5,8 @@ ghost use Rattle.gw_world.specs.declared.world.WorldFault.TheVariants.{Memory};
 
 use super::event::Answer;
 use octets::Sequence;
-use rep_ops::Delta;
-use std::alloc::AllocError;
+use rep_ops::{Delta, OpsFault};
+use std::alloc::{AllocError, AllocFailed};
 use thiserror::Error;
 
 /// The result of a run: an answer for each event, the deltas made, numbered from 1, and the gateways in
@@ -36,6 +36,22 @@ impl From<AllocError> for WorldFault {
     ghost from_gives = { λ _ e. e ≡ Memory };
 
     fn from(_error: AllocError) -> WorldFault {
+        WorldFault::Memory
+    }
+}
+
+impl<T: Drop> From<AllocFailed<T>> for WorldFault {
+    ghost from_gives = { λ _ e. e ≡ Memory };
+
+    fn from(_error: AllocFailed<T>) -> WorldFault {
+        WorldFault::Memory
+    }
+}
+
+impl From<OpsFault> for WorldFault {
+    ghost from_gives = { λ _ e. e ≡ Memory };
+
+    fn from(_error: OpsFault) -> WorldFault {
         WorldFault::Memory
     }
 }

@@ -4,6 +4,7 @@ use super::*;
 use octets::Octets;
 use rep_ops::{Put, Stamp};
 use sn_session::{Presence, Session};
+use sn_topic::TopicName;
 use std::alloc::Global;
 use std::test::Fail;
 
@@ -12,7 +13,7 @@ fn message(alloc: Global, seq: u64) -> Result<Put, Fail> {
     Ok(Put {
         origin: 1,
         seq,
-        topic: Octets::from_slice(alloc, b"t/1")?,
+        topic: TopicName::new(alloc, b"t/1")?,
         qos: 1,
         body: Octets::from_slice(alloc, b"21.5")?,
     })

@@ -1,10 +1,12 @@
 -- Which address is which client.
-use Rattle.std.specs.Prelude.{ℕ, ◌==◌, Bool, true, false, ◌&&◌, ◌||◌, not, if◌then◌else◌, List, [], ◌∷◌, ◌++◌, filter, fold, length, Option, Some, None}
+use Rattle.std.specs.Prelude.{ℕ, ◌==◌, Bool, false, ◌&&◌, not, if◌then◌else◌, List, [], ◌∷◌, ◌++◌, filter, fold, Option, Some, None}
+use Rattle.rep_ops.specs.declared.op.Stamp.{Stamp}
 use Rattle.rep_ops.specs.Sets.{same_client}
 use Rattle.sn_flow.specs.declared.config.Addr.{Addr}
 use Rattle.sn_flow.specs.declared.local.Binding.{Binding}
 use Rattle.sn_flow.specs.declared.local.LocalChange.{LocalChange}
 use Rattle.sn_flow.specs.declared.local.LocalChange.TheVariants.{Bind, Unbind}
+use Rattle.sn_flow.specs.Plans.{Seen}
 
 abbrev pub same_address : Addr → Addr → Bool
 same_address a b = (a.host == b.host) && (a.port == b.port)
@@ -36,3 +38,18 @@ after_all bindings changes = fold after_local bindings changes
 abbrev pub client_at : Addr → List Binding → Option (List ℕ)
 client_at a [] = None
 client_at a (binding ∷ rest) = if same_address binding.address a then Some binding.client else client_at a rest
+
+abbrev pub is_stamp_of : ℕ → Option Stamp → Bool
+is_stamp_of g None = false
+is_stamp_of g (Some stamp) = stamp.gateway == g
+
+-- whether the gateway owns the client: the visible stamp has its number
+abbrev pub is_owned : ℕ → Seen → List ℕ → Bool
+is_owned g seen c = is_stamp_of g (seen.of c).stamp
+
+abbrev pub has_owned : ℕ → Seen → Binding → Bool
+has_owned g seen binding = is_owned g seen binding.client
+
+-- the bindings of the clients that the gateway owns
+abbrev pub owned : ℕ → Seen → List Binding → List Binding
+owned g seen bindings = filter (has_owned g seen) bindings

@@ -2,8 +2,10 @@
 
 ghost use Rattle.std.specs.Prelude.{◌≡◌, ◌+◌, ◌≤◌, filter, length, vec_len};
 ghost use Rattle.std.specs.Vec.{vec_capacity};
-ghost use Rattle.sn_flow.specs.Bindings.{after_local, after_all, bound, unbound, is_apart as is_apart_from, is_of_other as is_of_another};
+ghost use Rattle.sn_flow.specs.Bindings.{after_local, after_all, bound, unbound, is_apart as is_apart_from, is_of_other as is_of_another, has_owned as has_owned_client, owned};
+ghost use Rattle.sn_flow.specs.Plans.{seen_of};
 
+use rep_model::Replica;
 use rep_ops::ClientId;
 
 use super::config::Addr;
@@ -75,4 +77,24 @@ pub fn commit_all(bindings: &mut Vec<Binding>, changes: Vec<LocalChange>)
     for change in changes {
         commit_one(bindings, change);
     }
+}
+
+/// Whether the gateway owns the client of a binding.
+fn has_owned<R: Replica>(gateway: u8, replica: &R, binding: &Binding) -> bool
+    ensures { result ≡ has_owned_client gateway (seen_of (R.kept replica.now)) binding.now }
+{
+    match replica.view_of(&binding.client) {
+        Some(view) => match view.stamp {
+            Some(stamp) => stamp.gateway == gateway,
+            None => false,
+        },
+        None => false,
+    }
+}
+
+/// Drops the bindings of clients that the gateway does not own.
+pub fn keep_owned<R: Replica>(bindings: &mut Vec<Binding>, gateway: u8, replica: &R)
+    ensures { bindings.new.items ≡ owned gateway (seen_of (R.kept replica.now)) bindings.old.items }
+{
+    bindings.retain(|binding| has_owned(gateway, replica, binding));
 }

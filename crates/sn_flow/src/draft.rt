@@ -12,6 +12,7 @@ use octets::Octets;
 use rep_ops::{ClientId, Put};
 use sn_frame::{Frame, encode};
 use sn_session::SessionOp;
+use sn_topic::TopicName;
 use std::alloc::{AllocError, Global};
 use std::marker::Model;
 use std::mem;
@@ -20,7 +21,7 @@ use std::mem;
 #[derive(Debug, Drop)]
 pub struct NewPut {
     pub client: ClientId,
-    pub topic: Octets,
+    pub topic: TopicName,
     pub qos: u8,
     pub body: Octets,
 }

@@ -6,9 +6,10 @@ use std::alloc::{AllocError, Global};
 use std::marker::Model;
 
 use octets::Sequence;
+use rep_model::Replica;
 use rep_ops::ClientId;
 
-use super::bindings::commit_all;
+use super::bindings::{commit_all, keep_owned};
 use super::config::Addr;
 
 /// An address and the client that speaks from it.
@@ -49,7 +50,8 @@ impl Model for Dialogs {
 }
 
 impl Dialogs {
-    ghost use Rattle.sn_flow.specs.Bindings.{after_all, client_at};
+    ghost use Rattle.sn_flow.specs.Bindings.{after_all, client_at, owned};
+    ghost use Rattle.sn_flow.specs.Plans.{seen_of};
     ghost use Rattle.std.specs.Prelude.{[]};
     ghost use Rattle.std.specs.Option.{option_copied};
 
@@ -76,6 +78,13 @@ impl Dialogs {
         ensures { self.new.bindings ≡ after_all self.old.bindings changes }
     {
         commit_all(&mut self.bindings, changes.into_vec())
+    }
+
+    /// Drops the bindings of clients that the gateway does not own.
+    pub fn keep_owned<R: Replica>(&mut self, gateway: u8, replica: &R)
+        ensures { self.new.bindings ≡ owned gateway (seen_of (R.kept replica.now)) self.old.bindings }
+    {
+        keep_owned(&mut self.bindings, gateway, replica);
     }
 
     /// The client of an address.

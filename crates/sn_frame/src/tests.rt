@@ -2,7 +2,7 @@
 
 use super::*;
 use octets::Octets;
-use std::alloc::Global;
+use std::alloc::{AllocError, Global};
 use std::process::Abort;
 use std::test::Fail;
 
@@ -391,6 +391,8 @@ fn the_first_fault_is_named(rt: HostRuntime) -> Result<(), Fail> {
         FrameFault::Memory.number(),
     ];
     assert_eq!(rt; numbers, [1, 2, 3, 4, 5, 6]);
+    assert_eq!(rt; FrameFault::from(AllocError), FrameFault::Memory);
+    assert_eq!(rt; EncodeFault::from(AllocError), EncodeFault::Memory);
     let text = format!(in alloc; "{}", FrameFault::Length { said: 2, held: 3 })?;
     let wanted =
         "Length says 2 octets in all and the datagram has 3: both must be equal, with room for MsgType";

@@ -1,0 +1,3 @@
+pub mod Occurring
+pub mod Held
+pub mod Moving

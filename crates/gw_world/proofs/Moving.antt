@@ -1,0 +1,50 @@
+-- What one gateway does in its place in the list of gateways.
+use Rattle.std.proofs.Common.{◌≡◌, ℕ, List, map, set, Option, Some, slice_get, Result, refl, sym, ap, ◌∙◌}
+use Rattle.std.specs.Option.{option_map}
+use Rattle.std.proofs.lemmas.Option.{slice_get-map}
+use Rattle.std.proofs.lemmas.List.{map-set}
+use Rattle.rep_ops.specs.declared.op.Op.{Op}
+use Rattle.sn_flow.specs.declared.config.Addr.{Addr}
+use Rattle.gw_world.specs.declared.event.Out.{Out}
+use Rattle.gw_world.specs.declared.event.NodeFault.{NodeFault}
+use Rattle.gw_world.specs.declared.node.Trouble.{Trouble}
+use Rattle.gw_world.specs.declared.node.Trouble.TheVariants.{Refused, Memory}
+use Rattle.gw_world.specs.declared.event.Event.{Event}
+use Rattle.gw_world.specs.declared.world.WorldFault.{WorldFault}
+use Rattle.gw_world.specs.declared.world.WorldFault.TheVariants as stops
+use Rattle.gw_world.specs.Gateways.{Gateway, place_of}
+use Rattle.gw_world.specs.Field.{gateway_of}
+use Rattle.gw_world.specs.Plans.{FrameKept, TakeKept, OnRefusal}
+use Rattle.gw_world.specs.Events.{Moves, FrameAt, TakeAt, IsMissing, IsStopKept}
+
+pub on_refusal : (trouble : Trouble) (P Q : NodeFault → Type 0) → ((fault : NodeFault) → P fault → Q fault) → OnRefusal trouble P → OnRefusal trouble Q
+on_refusal (Refused fault) P Q f h = f fault h
+on_refusal Memory P Q f h = tt
+
+module _ {N : Type 0} (f : N → Gateway) (nodes : List N) (i : ℕ) (old new : N) (place : slice_get nodes i ≡ Some old) (numbered : (f new).number ≡ (f old).number) where
+  pub moves_in_place : Moves (map f nodes) i (f old) (f new) (map f (set nodes i new))
+  moves_in_place = record {
+      place = slice_get-map f nodes i ∙ ap (λ (x : Option N). option_map f x) place;
+      numbered = numbered;
+      moved = map-set f nodes i new;
+    }
+
+  pub frame_in_place : (from : Addr) (bytes : List ℕ) (now : ℕ) (answer : Result Out NodeFault)
+      → FrameKept (f old).number (f old).taken (f old).bindings from bytes now answer (f new).taken (f new).bindings
+      → FrameAt (map f nodes) i from bytes now answer (map f (set nodes i new))
+  frame_in_place from bytes now answer h = (f old, f new, moves_in_place, h)
+
+  pub take_in_place : (delta : List Op) (answer : Result Out NodeFault)
+      → TakeKept (f old).number (f old).taken (f old).bindings delta answer (f new).taken (f new).bindings
+      → TakeAt (map f nodes) i delta answer (map f (set nodes i new))
+  take_in_place delta answer h = (f old, f new, moves_in_place, h)
+
+pub there_in_place : {N : Type 0} (f : N → Gateway) (nodes : List N) (i : ℕ) (node : N) → slice_get nodes i ≡ Some node → slice_get (map f nodes) i ≡ Some (f node)
+there_in_place {N} f nodes i node place = slice_get-map f nodes i ∙ ap (λ (x : Option N). option_map f x) place
+
+
+pub missing_stops : (olds : List Gateway) (deltas : List (List Op)) (event : Event) (n : ℕ) (fault : WorldFault) (i : ℕ)
+    → place_of (gateway_of event) olds ≡ Some i → IsMissing deltas event n fault → IsStopKept olds deltas event n fault
+missing_stops olds deltas event n (stops.NoGateway m) i place h = absurd h
+missing_stops olds deltas event n (stops.NoDelta m) i place h = ((i, place), h)
+missing_stops olds deltas event n stops.Memory i place h = tt

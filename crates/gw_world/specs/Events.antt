@@ -1,0 +1,82 @@
+-- What an event does to what the gateways keep. `olds` and `news` have for each gateway what its replica keeps in the place of
+-- what it has taken.
+use Rattle.std.specs.Prelude.{◌≡◌, ℕ, ◌-◌, ◌≤◌, List, [], ◌∷◌, ◌++◌, Option, Some, None, Result, Ok, Err, slice_get, slice_set}
+use Rattle.std.specs.Option.{option_to_list}
+use Rattle.rep_ops.specs.declared.op.Op.{Op}
+use Rattle.sn_flow.specs.declared.config.Addr.{Addr}
+use Rattle.gw_world.specs.declared.event.Event.{Event}
+use Rattle.gw_world.specs.declared.event.Event.TheVariants.{Frame, Take, Show}
+use Rattle.gw_world.specs.declared.event.Out.{Out}
+use Rattle.gw_world.specs.declared.event.NodeFault.{NodeFault}
+use Rattle.gw_world.specs.declared.event.Answer.{Answer}
+use Rattle.gw_world.specs.declared.event.Answer.TheVariants.{Node, Views}
+use Rattle.gw_world.specs.declared.world.WorldFault.{WorldFault}
+use Rattle.gw_world.specs.declared.world.WorldFault.TheVariants as stops
+use Rattle.gw_world.specs.Gateways.{Gateway, place_of}
+use Rattle.gw_world.specs.Plans.{FrameKept, TakeKept}
+use Rattle.gw_world.specs.Field.{shown, gateway_of}
+
+-- the delta that an answer tells of
+abbrev pub made_of : Result Out NodeFault → List (List Op)
+made_of (Ok out) = option_to_list out.made
+made_of (Err fault) = []
+
+-- the i-th gateway became another; its number stays
+pub record Moves (olds : List Gateway) (i : ℕ) (old new : Gateway) (news : List Gateway) : Type 0 where
+  pub place : slice_get olds i ≡ Some old
+  pub numbered : new.number ≡ old.number
+  pub moved : news ≡ slice_set olds i new
+
+abbrev pub FrameAt : List Gateway → ℕ → Addr → List ℕ → ℕ → Result Out NodeFault → List Gateway → Type 0
+FrameAt olds i from bytes now answer news =
+    (old : Gateway) × (new : Gateway) × Moves olds i old new news
+    × FrameKept old.number old.taken old.bindings from bytes now answer new.taken new.bindings
+
+abbrev pub TakeAt : List Gateway → ℕ → List Op → Result Out NodeFault → List Gateway → Type 0
+TakeAt olds i delta answer news =
+    (old : Gateway) × (new : Gateway) × Moves olds i old new news
+    × TakeKept old.number old.taken old.bindings delta answer new.taken new.bindings
+
+-- the answer to a datagram, and the list of deltas after it
+abbrev pub FrameAnswered : List Gateway → List (List Op) → ℕ → Addr → List ℕ → ℕ → List Gateway → List (List Op) → Answer → Type 0
+FrameAnswered olds deltas i from bytes now news next (Node answer) = FrameAt olds i from bytes now answer news × (next ≡ deltas ++ made_of answer)
+FrameAnswered olds deltas i from bytes now news next (Views views) = ⊥
+
+-- the answer to a delta
+abbrev pub TakeAnswered : List Gateway → ℕ → List Op → List Gateway → Answer → Type 0
+TakeAnswered olds i delta news (Node answer) = TakeAt olds i delta answer news
+TakeAnswered olds i delta news (Views views) = ⊥
+
+-- what a gateway shows
+abbrev pub ShowAnswered : List Gateway → ℕ → Answer → Type 0
+ShowAnswered olds i (Node answer) = ⊥
+ShowAnswered olds i (Views views) = (gateway : Gateway) × (slice_get olds i ≡ Some gateway) × (views ≡ shown gateway.taken)
+
+-- the delta of this number; the first has number 1
+abbrev pub IsListed : List (List Op) → ℕ → List Op → Type 0
+IsListed deltas number delta = (1 ≤ number) × (slice_get deltas (number - 1) ≡ Some delta)
+
+-- an event at the gateway in this place, its answer, and what the gateways keep after it
+abbrev pub EventAt : List Gateway → List (List Op) → ℕ → Event → List Gateway → List (List Op) → Answer → Type 0
+EventAt olds deltas i (Frame number from bytes now) news next answer = FrameAnswered olds deltas i from bytes now news next answer
+EventAt olds deltas i (Take number delta) news next answer =
+    (ops : List Op) × IsListed deltas delta ops × TakeAnswered olds i ops news answer × (next ≡ deltas)
+EventAt olds deltas i (Show number) news next answer = ShowAnswered olds i answer × (news ≡ olds) × (next ≡ deltas)
+
+abbrev pub EventKept : List Gateway → List (List Op) → Event → List Gateway → List (List Op) → Answer → Type 0
+EventKept olds deltas event news next answer = (i : ℕ) × (place_of (gateway_of event) olds ≡ Some i) × EventAt olds deltas i event news next answer
+
+-- why the event at a gateway has no answer: it names no delta of the list; or memory ran out
+abbrev pub IsMissing : List (List Op) → Event → ℕ → WorldFault → Type 0
+IsMissing deltas event number (stops.NoGateway n) = ⊥
+IsMissing deltas (Take gateway delta) number (stops.NoDelta n) = (n ≡ number) × ((ops : List Op) → IsListed deltas delta ops → ⊥)
+IsMissing deltas (Frame gateway from bytes now) number (stops.NoDelta n) = ⊥
+IsMissing deltas (Show gateway) number (stops.NoDelta n) = ⊥
+IsMissing deltas event number stops.Memory = Unit {0}
+
+-- why the event of this number stops a run
+abbrev pub IsStopKept : List Gateway → List (List Op) → Event → ℕ → WorldFault → Type 0
+IsStopKept olds deltas event number (stops.NoGateway n) = (n ≡ number) × (place_of (gateway_of event) olds ≡ None)
+IsStopKept olds deltas event number (stops.NoDelta n) =
+    ((i : ℕ) × (place_of (gateway_of event) olds ≡ Some i)) × IsMissing deltas event number (stops.NoDelta n)
+IsStopKept olds deltas event number stops.Memory = Unit {0}

@@ -1,0 +1,74 @@
+-- A field of gateways, and what a list of events may do to it.
+use Rattle.std.specs.Prelude.{◌≡◌, ℕ, ◌-◌, ◌≤◌, List, [], ◌∷◌, ◌++◌, map, Option, Some, None, Result, slice_get, slice_set}
+use Rattle.rep_ops.specs.declared.op.Op.{Op}
+use Rattle.rep_model.specs.declared.view.ClientView.{ClientView}
+use Rattle.rep_model.specs.Views.{view, clients}
+use Rattle.sn_flow.specs.declared.config.Config.{Config}
+use Rattle.gw_world.specs.declared.event.Event.{Event}
+use Rattle.gw_world.specs.declared.event.Event.TheVariants.{Frame, Take, Show}
+use Rattle.gw_world.specs.declared.event.Answer.{Answer}
+use Rattle.gw_world.specs.declared.event.Answer.TheVariants.{Node, Views}
+use Rattle.gw_world.specs.Gateways.{Gateway, new_gateway, place_of}
+use Rattle.gw_world.specs.Steps.{FrameStep, TakeStep}
+
+-- the gateways, and the deltas made, in the order of making
+pub record Field : Type 0 where
+  pub gateways : List Gateway
+  pub deltas : List (List Op)
+
+-- at the start
+abbrev pub new_field : List Config → Field
+new_field configs = record { gateways = map new_gateway configs; deltas = [] }
+
+-- the gateway that an event at this number is at
+abbrev pub IsAt : Field → ℕ → ℕ → Gateway → Type 0
+IsAt field number i gateway = (place_of number field.gateways ≡ Some i) × (slice_get field.gateways i ≡ Some gateway)
+
+-- the i-th gateway became another, and these deltas were made
+abbrev pub changed : Field → ℕ → Gateway → List (List Op) → Field
+changed field i gateway made = record { gateways = slice_set field.gateways i gateway; deltas = field.deltas ++ made }
+
+-- the delta of this number; the first has number 1
+abbrev pub IsDeltaAt : Field → ℕ → List Op → Type 0
+IsDeltaAt field number delta = (1 ≤ number) × (slice_get field.deltas (number - 1) ≡ Some delta)
+
+-- the clients that the set names, with their views
+abbrev pub shown : List Op → List (List ℕ × ClientView)
+shown taken = map (λ c. (c, view c taken)) (clients taken)
+
+-- what one event may do: its answer, and the field after it
+abbrev pub After : Field → Event → Answer → Field → Type 0
+After old (Frame number from bytes now) (Node answer) new =
+    (i : ℕ) × (gateway : Gateway) × (next : Gateway) × (made : List (List Op))
+    × IsAt old number i gateway × FrameStep gateway from bytes now answer next made × (new ≡ changed old i next made)
+After old (Take number delta) (Node answer) new =
+    (i : ℕ) × (gateway : Gateway) × (next : Gateway) × (made : List (List Op)) × (ops : List Op)
+    × IsAt old number i gateway × IsDeltaAt old delta ops × TakeStep gateway ops answer next made × (new ≡ changed old i next made)
+After old (Show number) (Views views) new =
+    (i : ℕ) × (gateway : Gateway) × IsAt old number i gateway × (views ≡ shown gateway.taken) × (new ≡ old)
+After old (Frame number from bytes now) (Views views) new = ⊥
+After old (Take number delta) (Views views) new = ⊥
+After old (Show number) (Node answer) new = ⊥
+
+-- what a list of events may do, one after the other
+abbrev pub Run : Field → List Event → List Answer → Field → Type 0
+Run old [] [] new = new ≡ old
+Run old (event ∷ events) (answer ∷ answers) new = (mid : Field) × After old event answer mid × Run mid events answers new
+Run old [] (answer ∷ answers) new = ⊥
+Run old (event ∷ events) [] new = ⊥
+
+-- no gateway of the field has the number
+abbrev pub NoGateway : Field → ℕ → Type 0
+NoGateway field number = place_of number field.gateways ≡ None
+
+-- the gateway that an event is at
+abbrev pub gateway_of : Event → ℕ
+gateway_of (Frame number from bytes now) = number
+gateway_of (Take number delta) = number
+gateway_of (Show number) = number
+
+-- the event names a gateway that is there, and a delta that is not
+abbrev pub NamesNoDelta : Field → Event → Type 0
+NamesNoDelta field (Take number delta) = ((i : ℕ) × (place_of number field.gateways ≡ Some i)) × ((ops : List Op) → IsDeltaAt field delta ops → ⊥)
+NamesNoDelta field (Frame number from bytes now) = ⊥
+NamesNoDelta field (Show number) = ⊥

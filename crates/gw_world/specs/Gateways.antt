@@ -1,0 +1,22 @@
+-- A gateway as the field sees it: its number, the set of operations that it has made and taken, and which address is which client.
+use Rattle.std.specs.Prelude.{ℕ, ◌+◌, ◌==◌, if◌then◌else◌, List, [], ◌∷◌, Option, Some, None}
+use Rattle.rep_ops.specs.declared.op.Op.{Op}
+use Rattle.sn_flow.specs.declared.config.Config.{Config}
+use Rattle.sn_flow.specs.declared.local.Binding.{Binding}
+
+pub record Gateway : Type 0 where
+  pub number : ℕ
+  pub taken : List Op
+  pub bindings : List Binding
+
+-- at the start it has taken nothing
+abbrev pub new_gateway : Config → Gateway
+new_gateway config = record { number = config.gateway; taken = []; bindings = [] }
+
+abbrev pub place_from : ℕ → ℕ → List Gateway → Option ℕ
+place_from number i [] = None
+place_from number i (gateway ∷ rest) = if gateway.number == number then Some i else place_from number (i + 1) rest
+
+-- the place of the gateway of this number; the first, where two have it
+abbrev pub place_of : ℕ → List Gateway → Option ℕ
+place_of number gateways = place_from number 0 gateways

@@ -1,0 +1,6 @@
+pub mod Gateways
+pub mod Steps
+pub mod Events
+pub mod Field
+pub mod Keeping
+pub mod Plans

@@ -1,0 +1,97 @@
+-- What one event may do at one gateway: its answer, the gateway after it, and the delta that it makes, if it makes one. Want of
+-- memory is no answer: it ends a run.
+use Rattle.std.specs.Prelude.{◌≡◌, ◌≢◌, ◌⊎◌, ℕ, List, [], ◌∷◌, ◌++◌, Option, Some, None, Result, Ok, Err, Contains}
+use Rattle.rep_ops.specs.declared.op.Op.{Op}
+use Rattle.rep_ops.specs.declared.fault.OpsFault.{OpsFault}
+use Rattle.rep_ops.specs.declared.fault.OpsFault.TheVariants as ops_faults
+use Rattle.rep_ops.specs.Orders.{client_of}
+use Rattle.rep_ops.specs.Deltas.{ShareName}
+use Rattle.rep_ops.specs.Making.{IsDeltaOf, IsRefusal}
+use Rattle.rep_model.specs.declared.fault.Limit.{Limit}
+use Rattle.rep_model.specs.Keep.{keep}
+use Rattle.rep_model.specs.Taking.{AllAgree}
+use Rattle.rep_model.specs.Limits.{first_passed}
+use Rattle.sn_frame.specs.declared.frame.Frame.{Frame}
+use Rattle.sn_frame.specs.declared.fault.FrameFault.{FrameFault}
+use Rattle.sn_frame.specs.Bodies.{IsValue}
+use Rattle.sn_frame.specs.Grammar.{Spells}
+use Rattle.sn_frame.specs.Faults.{IsFirstFault}
+use Rattle.sn_flow.specs.declared.config.Addr.{Addr}
+use Rattle.sn_flow.specs.declared.plan.Plan.{Plan}
+use Rattle.sn_flow.specs.Plans.{seen_of}
+use Rattle.sn_flow.specs.Bindings.{after_all, owned}
+use Rattle.sn_flow.specs.Steps.{step}
+use Rattle.gw_world.specs.declared.event.Out.{Out}
+use Rattle.gw_world.specs.declared.event.NodeFault.{NodeFault}
+use Rattle.gw_world.specs.declared.event.NodeFault.TheVariants as faults
+use Rattle.gw_world.specs.Gateways.{Gateway}
+
+-- the delta contradicts the set: an operation of the client in it differs from one in the set that has its name
+pub record IsConflict (taken delta : List Op) (client : List ℕ) : Type 0 where
+  pub new : Op
+  pub is_new : Contains delta new
+  pub is_of : client_of new ≡ client
+  pub old : Op
+  pub is_old : Contains taken old
+  pub named : ShareName old new
+  pub differs : old ≢ new
+
+-- the set has room for the delta, and what must be kept of it does not contradict it
+pub record IsTakable (taken delta : List Op) : Type 0 where
+  pub agrees : AllAgree (keep taken) delta
+  pub room : first_passed (taken ++ delta) ≡ None
+
+-- the gateway refuses the delta: for a conflict, or because more would be held than a limit allows
+abbrev pub IsRefused : List Op → List Op → NodeFault → Type 0
+IsRefused taken delta (faults.Conflict client) = IsConflict taken delta client
+IsRefused taken delta faults.Full = AllAgree (keep taken) delta × ((limit : Limit) × (first_passed (taken ++ delta) ≡ Some limit))
+IsRefused taken delta fault = ⊥
+
+-- nothing changed, and no delta was made
+pub record IsUnchanged (old new : Gateway) (made : List (List Op)) : Type 0 where
+  pub same : new ≡ old
+  pub none : made ≡ []
+
+-- The plan was carried out: what it says was sent and noted, and its operations, if there are any, are one delta that the
+-- gateway took.
+abbrev pub IsMade : List Op → Gateway → Plan → Option (List Op) → Gateway → List (List Op) → Type 0
+IsMade [] old plan (Some delta) new made = ⊥
+IsMade [] old plan None new made = (made ≡ []) × (new ≡ record old { bindings = after_all old.bindings plan.local })
+IsMade (op ∷ ops) old plan None new made = ⊥
+IsMade (op ∷ ops) old plan (Some delta) new made =
+    IsDeltaOf (op ∷ ops) delta × IsTakable old.taken delta × (made ≡ delta ∷ [])
+    × (new ≡ record old { taken = old.taken ++ delta; bindings = after_all old.bindings plan.local })
+
+abbrev pub IsCarriedOut : Gateway → Plan → Out → Gateway → List (List Op) → Type 0
+IsCarriedOut old plan out new made = (out.sends ≡ plan.sends) × IsMade plan.ops old plan out.made new made
+
+-- the step table's plan for the frame of these bytes
+abbrev pub IsPlan : Gateway → Addr → List ℕ → ℕ → Option Plan → Type 0
+IsPlan old from bytes now plan =
+    (frame : Frame) × IsValue frame × Spells bytes frame × (step old.number (seen_of old.taken) old.bindings from frame now ≡ plan)
+
+-- the operations of a plan cannot be taken: they make no delta, or the gateway refuses it
+abbrev pub IsTooMuch : Gateway → Plan → NodeFault → Type 0
+IsTooMuch old plan fault = (delta : List Op) × IsDeltaOf plan.ops delta × IsRefused old.taken delta fault
+
+abbrev pub HasNoDelta : Plan → Type 0
+HasNoDelta plan = (fault : OpsFault) × (fault ≢ ops_faults.Memory) × IsRefusal plan.ops fault
+
+-- A datagram comes. It is no frame; or its step needs a number after the last; or its operations cannot be taken; or the plan
+-- of the step table is carried out.
+abbrev pub FrameStep : Gateway → Addr → List ℕ → ℕ → Result Out NodeFault → Gateway → List (List Op) → Type 0
+FrameStep old from bytes now (Ok out) new made = (plan : Plan) × IsPlan old from bytes now (Some plan) × IsCarriedOut old plan out new made
+FrameStep old from bytes now (Err (faults.Frame fault)) new made = IsFirstFault bytes fault × IsUnchanged old new made
+FrameStep old from bytes now (Err faults.Exhausted) new made = IsPlan old from bytes now None × IsUnchanged old new made
+FrameStep old from bytes now (Err (faults.Conflict client)) new made =
+    (plan : Plan) × IsPlan old from bytes now (Some plan) × IsTooMuch old plan (faults.Conflict client) × IsUnchanged old new made
+FrameStep old from bytes now (Err faults.Full) new made =
+    (plan : Plan) × IsPlan old from bytes now (Some plan) × (IsTooMuch old plan faults.Full ⊎ HasNoDelta plan) × IsUnchanged old new made
+
+-- A delta comes. It is taken, nothing is sent, and clients that another gateway now owns have no address here any more; or it is
+-- refused.
+abbrev pub TakeStep : Gateway → List Op → Result Out NodeFault → Gateway → List (List Op) → Type 0
+TakeStep old delta (Ok out) new made =
+    (out.sends ≡ []) × (out.made ≡ None) × IsTakable old.taken delta × (made ≡ [])
+    × (new ≡ record old { taken = old.taken ++ delta; bindings = owned old.number (seen_of (old.taken ++ delta)) old.bindings })
+TakeStep old delta (Err fault) new made = IsRefused old.taken delta fault × IsUnchanged old new made
