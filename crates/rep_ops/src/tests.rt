@@ -1,6 +1,6 @@
 use super::*;
 use octets::Octets;
-use sn_session::{Presence, Session, SessionOp};
+use sn_session::{Session, SessionOp};
 use sn_topic::TopicName;
 use std::alloc::Global;
 use std::process::Abort;

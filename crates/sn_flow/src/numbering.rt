@@ -117,7 +117,7 @@ impl Writer {
         requires { self.old.counter < 256 }
         ensures { Becomes result self.new (Some (another client.now gateway change self.old)) }
     {
-        self.session.apply(alloc, &change)?;
+        apply(&mut self.session, alloc, &change)?;
         let op = Op::Session {
             client: client.copy(alloc)?,
             stamp: Stamp {
