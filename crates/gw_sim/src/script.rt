@@ -1,6 +1,6 @@
 //! What the lines of a script say together.
 
-ghost use Rattle.std.specs.Prelude.{◌≡◌, ℕ, IfOk};
+ghost use Rattle.std.specs.Prelude.{◌≡◌, ℕ, [], IfOk};
 ghost use Rattle.gw_sim.specs.Commands.{lines_of};
 ghost use Rattle.gw_sim.specs.Scripts.{AreGateways, IsScriptOf, IsBadLine};
 
@@ -9,6 +9,7 @@ use super::fault::{LineFault, ScriptFault};
 use gw_world::Event;
 use octets::Sequence;
 use sn_flow::Config;
+use sn_topic::Predefined;
 use std::alloc::Global;
 
 /// What a script says: which gateways there are, and then what happens.
@@ -44,17 +45,17 @@ impl Script {
             return Ok(());
         }
         let command = read_command(alloc, line)?;
-        self.add(command)
+        self.add(alloc, command)
     }
 
     /// Adds a command. On an error the script is as it was.
-    pub fn add(&mut self, command: Command) -> Result<(), LineFault>
+    pub fn add(&mut self, alloc: Global, command: Command) -> Result<(), LineFault>
         ensures ok { OnOk result (Adds self.old command self.new) }
         ensures refused { result ≡ Err LineFault.NotACommand → (after : Script) → Adds self.old command after → ⊥ }
         ensures err { OnErr result (self.new ≡ self.old) }
     {
         match command {
-            Command::Gateway { number } => self.add_gateway(number),
+            Command::Gateway { number } => self.add_gateway(alloc, number),
             Command::Happens(event) => {
                 self.events.push(event)?;
                 Ok(())
@@ -63,7 +64,7 @@ impl Script {
     }
 
     /// Adds a gateway.
-    fn add_gateway(&mut self, number: u8) -> Result<(), LineFault>
+    fn add_gateway(&mut self, alloc: Global, number: u8) -> Result<(), LineFault>
         ensures ok { OnOk result (Adds self.old (Gateway number) self.new) }
         ensures refused { result ≡ Err LineFault.NotACommand → (after : Script) → Adds self.old (Gateway number) after → ⊥ }
         ensures err { OnErr result (self.new ≡ self.old) }
@@ -71,7 +72,11 @@ impl Script {
         if number == 0 || !self.events.is_empty() || self.has_gateway(number) {
             return Err(LineFault::NotACommand);
         }
-        self.configs.push(Config { gateway: number })?;
+        let predefined = no_entries(alloc);
+        self.configs.push(Config {
+            gateway: number,
+            predefined,
+        })?;
         Ok(())
     }
 
@@ -83,6 +88,16 @@ impl Script {
             .as_slice()
             .iter()
             .any(|config| config.gateway == number)
+    }
+}
+
+/// The table without an entry.
+fn no_entries(alloc: Global) -> Predefined
+    ensures { result ≡ [] }
+{
+    match Predefined::new(alloc, Vec::new(alloc)) {
+        Ok(table) => table,
+        Err(_) => unreachable!(),
     }
 }
 

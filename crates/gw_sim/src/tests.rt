@@ -13,6 +13,7 @@ use rep_ops::{ClientId, Put, Stamp};
 use sn_flow::{Addr, Send};
 use sn_frame::FrameFault;
 use sn_session::{Presence, Session};
+use sn_topic::TopicName;
 use std::alloc::Global;
 use std::io::{self, Read, Write};
 use std::process::Abort;
@@ -176,7 +177,7 @@ fn views_are_printed(rt: HostRuntime) -> Result<(), Fail> {
     pending.push(Put {
         origin: 2,
         seq: 1,
-        topic: octets(alloc, b"ab")?,
+        topic: TopicName::new(alloc, b"ab")?,
         qos: 2,
         body: octets(alloc, b"")?,
     })?;
@@ -309,4 +310,44 @@ fn a_failed_write_is_a_failure(rt: HostRuntime) -> Result<(), Fail> {
         assert_eq!(rt; writer.room, 0);
     }
     Ok(())
+}
+
+#[test]
+fn rows_are_played(rt: HostRuntime) -> Result<(), Fail> {
+    let alloc = rt.alloc();
+    // A client connects.
+    check_row(
+        &rt,
+        alloc,
+        "gateway 1\nframe 1 7 0 08040401003c7331\nshow 1\n",
+        "to 7 030500\ndelta 1\nclient 7331 stamp 1.1 prefix 1 active clean 60 next 1\n",
+        0,
+    )?;
+    // Two gateways take a client over at once; who hears of both agrees, in either order.
+    check_row(
+        &rt,
+        alloc,
+        "gateway 1\ngateway 2\ngateway 3\ngateway 4\nframe 1 7 0 08040401003c7331\nframe 2 7 0 08040401005a7331\ntake 3 1\ntake 3 2\ntake 4 2\ntake 4 1\nshow 3\nshow 4\n",
+        "to 7 030500\ndelta 1\nto 7 030500\ndelta 2\nquiet\nquiet\nquiet\nquiet\nclient 7331 stamp 1.2 prefix 1 active clean 90 next 1\nclient 7331 stamp 1.2 prefix 1 active clean 90 next 1\n",
+        0,
+    )?;
+    // An operation waits for the one before it.
+    check_row(
+        &rt,
+        alloc,
+        "gateway 1\ngateway 2\nframe 1 7 0 08040001003c7331\nframe 1 7 1 0418012c\nframe 1 7 2 04180258\ntake 2 1\nshow 2\ntake 2 3\nshow 2\ntake 2 2\nshow 2\n",
+        "to 7 030500\ndelta 1\nto 7 0218\ndelta 2\nto 7 0218\ndelta 3\nquiet\nclient 7331 stamp 1.1 prefix 1 active kept 60 next 1\nquiet\nclient 7331 stamp 1.1 prefix 1 active kept 60 next 1\nquiet\nclient 7331 stamp 1.1 prefix 3 asleep kept 600 next 1\n",
+        0,
+    )?;
+    // Events that name what is not there end the run.
+    check_row(
+        &rt,
+        alloc,
+        "gateway 1\nshow 1\nshow 2\n",
+        "event 2: E1\n",
+        1,
+    )?;
+    check_row(&rt, alloc, "gateway 1\ntake 1 1\n", "event 1: E2\n", 1)?;
+    check_row(&rt, alloc, "gateway 1\nshow 1", "empty\n", 0)?;
+    check_row(&rt, alloc, "", "", 0)
 }
