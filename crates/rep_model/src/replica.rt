@@ -5,6 +5,7 @@ ghost use Rattle.rep_ops.specs.declared.op.Op.{Op};
 ghost use Rattle.rep_model.specs.Views.{view, clients, is_named};
 ghost use Rattle.rep_model.specs.Fresh.{next_epoch, next_seq};
 ghost use Rattle.rep_model.specs.Keep.{IsKeptOf};
+ghost use Rattle.rep_model.specs.Held.{IsHeld};
 
 use super::fault::TakeFault;
 use super::view::ClientView;
@@ -65,4 +66,11 @@ pub trait Replica: Drop {
     /// The sequence number of a gateway's next message for the client; nothing after the last.
     fn next_seq(&self, client: &ClientId, gateway: u8) -> Option<u64>
         ensures { result ≡ next_seq client.now gateway (kept self.now) };
+
+    /// The operations that must be kept, in the order of their names, as deltas that are as full as they
+    /// can be: a new one begins where the next operation does not fit. Where nothing must be kept there is
+    /// no delta. Want of memory is the only fault.
+    fn held(&self, alloc: Global) -> Result<Vec<Delta>, TakeFault>
+        ensures ok { IfOk result (λ deltas. IsHeld (kept self.now) deltas.items) }
+        ensures err { IfErr result (λ fault. fault ≡ Memory) };
 }

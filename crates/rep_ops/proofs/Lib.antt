@@ -5,6 +5,8 @@ pub mod Sizes
 pub mod Sets
 pub mod Joined
 pub mod Making
+pub mod Splitting
+pub mod Stable
 pub mod Canonical
 pub mod Writing
 pub mod Laws

@@ -1,5 +1,5 @@
 -- Sorted and joined, operations are the delta of their set.
-use Rattle.std.proofs.Common.{◌≡◌, List, length, Result, Ok, Err, subst, sym, true}
+use Rattle.std.proofs.Common.{◌≡◌, List, length, Result, Ok, Err, subst, sym, arith}
 use Rattle.std.specs.Prelude.{IfOk, IfErr}
 use Rattle.std.specs.Global.{Vec}
 use Rattle.std.specs.List.{AllAdjacentBelow}
@@ -13,28 +13,29 @@ use Rattle.rep_ops.specs.declared.fault.OpsFault.TheVariants.{Memory, Twice}
 use Rattle.rep_ops.specs.declared.op.Op.{Op}
 use Rattle.rep_ops.specs.Deltas.{ShareName}
 use Rattle.rep_ops.specs.declared.op.Op.TheVariants.{Session as OfSession, Put as OfPut, Ack}
-use Rattle.rep_ops.specs.Joining.{touches, merged, joined}
+use Rattle.rep_ops.specs.Joining.{united, joined}
 use Rattle.rep_ops.specs.Making.{AreWellMade, AreApart, IsDeltaOf}
 use Rattle.rep_ops.specs.Orders.{name_cmp}
 use Rattle.rep_ops.specs.Values.{IsValue, AreValues}
 use Rattle.rep_ops.specs.WellMade.{is_well_made}
-use Rattle.rep_ops.proofs.Joined.{all_joined, delta_joined, same_joined}
+use Rattle.rep_ops.proofs.Joining.{all_joined}
+use Rattle.rep_ops.proofs.Joined.{delta_joined, same_joined}
 use Rattle.rep_ops.proofs.Rising.{rising_from, rising_apart}
 use Rattle.rep_ops.proofs.Sets.{twice_permutation, same_permutation, Same-sym, Same-trans}
 
-made_permutation : (xs ys : List Op) → IsPermutation xs ys → AreWellMade xs → AreWellMade ys
+pub made_permutation : (xs ys : List Op) → IsPermutation xs ys → AreWellMade xs → AreWellMade ys
 made_permutation xs ys p h =
     recursion_from_All (λ op. IsTrue (is_well_made op)) ys (All-permutation (λ op. IsTrue (is_well_made op)) xs ys p (All-from_recursion (λ op. IsTrue (is_well_made op)) xs h))
 
 values_permutation : (xs ys : List Op) → IsPermutation xs ys → AreValues xs → AreValues ys
 values_permutation xs ys p h = recursion_from_All IsValue ys (All-permutation IsValue xs ys p (All-from_recursion IsValue xs h))
 
-merged_value : (a b : Op) → touches a b ≡ true → IsValue a → IsValue b → IsValue (merged a b)
-merged_value (OfSession c s i o) b e ha hb = ha
-merged_value (OfPut c p) b e ha hb = ha
-merged_value (Ack c r f l) (OfSession d t j o) e ha hb = ha
-merged_value (Ack c r f l) (OfPut d q) e ha hb = ha
-merged_value (Ack c r f l) (Ack d s g m) e ha hb = (ha.0, ha.1, ha.2, hb.3)
+united_value : (a b : Op) → IsValue a → IsValue b → IsValue (united a b)
+united_value (OfSession c s i o) b ha hb = ha
+united_value (OfPut c p) b ha hb = ha
+united_value (Ack c r f l) (OfSession d t j o) ha hb = ha
+united_value (Ack c r f l) (OfPut d q) ha hb = ha
+united_value (Ack c r f l) (Ack d s g m) ha hb = (ha.0, ha.1, ha.2, let x = ha.3 in let y = hb.3 in omega arith)
 
 pub record Sorted (xs ys : List Op) : Type 0 where
   pub made : AreWellMade xs
@@ -51,15 +52,14 @@ sorted_apart xs ys s =
 pub sorted_delta : (xs ys : List Op) → Sorted xs ys → IsDeltaOf xs (joined ys)
 sorted_delta xs ys s =
     let made = made_permutation xs ys s.same s.made in
-    let up = rising_from ys made s.sorted s.once in
     let apart = sorted_apart xs ys s in
     record {
-      delta = delta_joined ys made up;
-      same = Same-trans (joined ys) ys xs (same_joined ys made) (Same-sym xs ys (same_permutation xs ys s.same apart.once));
+      delta = delta_joined ys made s.sorted;
+      same = Same-trans (joined ys) ys xs (same_joined ys made s.sorted) (Same-sym xs ys (same_permutation xs ys s.same apart.once));
     }
 
 sorted_values : (xs ys : List Op) → Sorted xs ys → AreValues (joined ys)
-sorted_values xs ys s = all_joined IsValue merged_value ys (values_permutation xs ys s.same s.values)
+sorted_values xs ys s = all_joined IsValue united_value ys (values_permutation xs ys s.same s.values)
 
 pub ok_made : (xs ys : List Op) → Sorted xs ys → (r : Result (Vec Op) OpsFault) → IfOk r (λ out. out.items ≡ joined ys) → IfOk r (λ d. AreApart xs × IsDeltaOf xs d.items × AreValues d.items)
 ok_made xs ys s (Ok out) h = (sorted_apart xs ys s, subst (λ (d : List Op). IsDeltaOf xs d) (sym h) (sorted_delta xs ys s), subst AreValues (sym h) (sorted_values xs ys s))

@@ -1,28 +1,26 @@
--- Joining ranges of acknowledgements that touch, in operations that are in the order of their names.
-use Rattle.std.specs.Prelude.{◌+◌, ◌==◌, Bool, false, ◌&&◌, if◌then◌else◌, List, [], ◌∷◌, bytes_eq}
+-- Joining operations that are in the order of their names: of one name the first stays, and ranges of acknowledgements that
+-- overlap or touch are one.
+use Rattle.std.specs.Prelude.{◌+◌, ◌==◌, Bool, ◌&&◌, if◌then◌else◌, List, [], ◌∷◌, bytes_eq, nat_le, max}
+use Rattle.std.specs.Ordering.{is_eq}
 use Rattle.rep_ops.specs.declared.op.Op.{Op}
 use Rattle.rep_ops.specs.declared.op.Op.TheVariants.{Ack}
+use Rattle.rep_ops.specs.Orders.{name_cmp}
 
--- two ranges of one client and origin, of which the second begins right behind the first
-abbrev pub touches : Op → Op → Bool
-touches (Ack c origin first last) (Ack d other start end) = bytes_eq c d && (origin == other) && (last + 1 == start)
-touches a b = false
+-- the second operation has the name of the first, or is a range of its client and origin that begins within it or right behind
+abbrev pub joins : Op → Op → Bool
+joins (Ack c origin first last) (Ack d other start end) = bytes_eq c d && (origin == other) && nat_le start (last + 1)
+joins a b = is_eq (name_cmp a b)
 
--- the first range, as far as the second goes
-abbrev pub merged : Op → Op → Op
-merged (Ack c origin first last) (Ack d other start end) = Ack c origin first end
-merged a b = a
+-- the first operation; of ranges, as far as both of them go
+abbrev pub united : Op → Op → Op
+united (Ack c origin first last) (Ack d other start end) = Ack c origin first (max last end)
+united a b = a
 
--- an operation in front of others, joined with the first of them where they touch
-abbrev pub put_front : Op → List Op → List Op
-put_front a [] = a ∷ []
-put_front a (b ∷ rest) = if touches a b then merged a b ∷ rest else a ∷ b ∷ rest
+-- an operation in front of others, joined with each of them that joins it
+abbrev pub united_from : Op → List Op → List Op
+united_from a [] = a ∷ []
+united_from a (b ∷ rest) = if joins a b then united_from (united a b) rest else a ∷ united_from b rest
 
 abbrev pub joined : List Op → List Op
 joined [] = []
-joined (a ∷ rest) = put_front a (joined rest)
-
--- joined one by one from the last to the first, in front of what is there
-abbrev pub joined_onto : List Op → List Op → List Op
-joined_onto [] made = made
-joined_onto (a ∷ rest) made = put_front a (joined_onto rest made)
+joined (a ∷ rest) = united_from a rest

@@ -7,6 +7,7 @@ pub mod Deltas
 pub mod Spelling
 pub mod Making
 pub mod Joining
+pub mod Splitting
 pub mod Writing
 pub mod Reading
 pub mod Values

@@ -12,7 +12,7 @@ ghost use Rattle.rep_ops.specs.Spelling.{spelling, IsWithinLimit};
 ghost use Rattle.rep_ops.specs.declared.op.Op.{Op};
 
 use super::fault::OpsFault;
-use super::join::{has_twice, join_ranges, sort_by_name};
+use super::join::{has_twice, join_names, sort_by_name};
 use super::op::Op;
 use super::read::read_delta;
 use super::size::{are_well_made, is_within_limit};
@@ -24,7 +24,7 @@ use std::marker::Model;
 /// is spelled in at most 8,388,608 octets. Contracts see the list of its operations.
 #[derive(Debug, Drop)]
 pub struct Delta {
-    ops: Vec<Op>,
+    pub(crate) ops: Vec<Op>,
 }
 
 impl Model for Delta {
@@ -148,7 +148,7 @@ fn canonical(alloc: Global, ops: Vec<Op>) -> Result<Vec<Op>, OpsFault>
     if has_twice(sorted.as_slice()) {
         return Err(OpsFault::Twice);
     }
-    join_ranges(alloc, sorted)
+    join_names(alloc, sorted)
 }
 
 /// Equal operations.

@@ -1,11 +1,12 @@
 //! What makes a list of operations the list of a delta: order, no name twice, ranges joined.
 
-ghost use Rattle.std.specs.Prelude.{◌≡◌, ◌<◌, ◌+◌, ℕ, IsTrue, IsFalse, OnOk, IfOk, IfErr, OnErr, reverse, length};
+ghost use Rattle.std.specs.Prelude.{◌≡◌, ◌<◌, ◌+◌, ℕ, IsTrue, IsFalse, OnOk, IfOk, IfErr, OnErr, length, List, [], ◌∷◌, ◌++◌};
 ghost use Rattle.std.specs.List.{AllAdjacentBelow};
-ghost use Rattle.std.specs.List.Sorted.{IsPermutation, IsSortedBy};
+ghost use Rattle.std.specs.List.Sorted.{IsPermutation, IsSortedBy, IsStableBy};
 ghost use Rattle.std.specs.Ordering.{is_lt};
 ghost use Rattle.rep_ops.specs.Deltas.{ShareName, HasTwice};
-ghost use Rattle.rep_ops.specs.Joining.{touches as touch_test, merged as merged_range, put_front as with_front, joined as all_joined, joined_onto};
+ghost use Rattle.rep_ops.specs.declared.op.Op.{Op};
+ghost use Rattle.rep_ops.specs.Joining.{joins as join_test, united as united_op, joined as all_joined};
 ghost use Rattle.rep_ops.specs.Orders.{name_cmp};
 
 use super::fault::OpsFault;
@@ -21,6 +22,17 @@ pub fn sort_by_name(ops: &mut Vec<Op>)
     ops.sort_unstable_by(|a, b| name_order(a, b));
 }
 
+/// Sorts operations by their names; those of one name stay in the order that they have.
+pub fn sort_stably(ops: &mut Vec<Op>) -> Result<(), OpsFault>
+    ensures same { IsPermutation ops.old.items ops.new.items }
+    ensures sorted { OnOk result (IsSortedBy (λ a b. is_lt (name_cmp a b)) ops.new.items) }
+    ensures stable { IsStableBy (λ a b. is_lt (name_cmp a b)) ops.old.items ops.new.items }
+    ensures err { IfErr result (λ fault. fault ≡ OpsFault.Memory) }
+{
+    ops.sort_by(|a, b| name_order(a, b))?;
+    Ok(())
+}
+
 /// Whether two neighbours have a name in common.
 pub fn has_twice(ops: &[Op]) -> bool
     ensures twice { IsTrue result → HasTwice ops.now }
@@ -34,9 +46,9 @@ pub fn has_twice(ops: &[Op]) -> bool
     false
 }
 
-/// Whether the second is a range right behind the first.
-fn touches(a: &Op, b: &Op) -> bool
-    ensures { result ≡ touch_test a.now b.now }
+/// Whether the second has the name of the first, or is a range that begins within it or right behind.
+fn joins(a: &Op, b: &Op) -> bool
+    ensures { result ≡ join_test a.now b.now }
 {
     match (a, b) {
         (
@@ -52,14 +64,14 @@ fn touches(a: &Op, b: &Op) -> bool
                 first: start,
                 ..
             },
-        ) => client == other && origin == later && *last < *start && *start - *last == 1,
-        _ => false,
+        ) => { client == other && origin == later && (*start <= *last || *start - *last == 1) }
+        _ => name_order(a, b).is_eq(),
     }
 }
 
-/// The first range as far as the second goes.
-fn merged(a: Op, b: Op) -> Op
-    ensures { result ≡ merged_range a b }
+/// The first of two operations that join; of ranges, as far as both go.
+fn united(a: Op, b: Op) -> Op
+    ensures { result ≡ united_op a b }
 {
     match (a, b) {
         (
@@ -67,48 +79,47 @@ fn merged(a: Op, b: Op) -> Op
                 client,
                 origin,
                 first,
-                ..
+                last,
             },
-            Op::Ack { last, .. },
+            Op::Ack { last: end, .. },
         ) => Op::Ack {
             client,
             origin,
             first,
-            last,
+            last: last.max(end),
         },
         (a, _) => a,
     }
 }
 
-/// Puts an operation in front of others, which stand the last of them first.
-fn put_front(backwards: &mut Vec<Op>, op: Op) -> Result<(), OpsFault>
-    ensures ok { OnOk result (reverse backwards.new.items ≡ with_front op (reverse backwards.old.items)) }
+/// Puts an operation behind those that are joined, or joins it with the last of them.
+fn put_behind(out: &mut Vec<Op>, op: Op) -> Result<(), OpsFault>
+    ensures ok { (S : List Op) → out.old.items ≡ all_joined S → OnOk result (out.new.items ≡ all_joined (S ++ op ∷ [])) }
     ensures err { IfErr result (λ fault. fault ≡ OpsFault.Memory) }
 {
-    match backwards.pop() {
-        None => backwards.push(op)?,
-        Some(next) => {
-            if touches(&op, &next) {
-                backwards.push(merged(op, next))?;
+    match out.pop() {
+        None => out.push(op)?,
+        Some(last) => {
+            if joins(&last, &op) {
+                out.push(united(last, op))?;
             } else {
-                backwards.push(next)?;
-                backwards.push(op)?;
+                out.push(last)?;
+                out.push(op)?;
             }
         }
     }
     Ok(())
 }
 
-/// Joins the ranges that touch, in operations that are in the order of their names.
-pub fn join_ranges(alloc: Global, ops: Vec<Op>) -> Result<Vec<Op>, OpsFault>
+/// Joins operations that are in the order of their names: of one name the first stays, and ranges that
+/// overlap or touch are one.
+pub fn join_names(alloc: Global, ops: Vec<Op>) -> Result<Vec<Op>, OpsFault>
     ensures ok { IfOk result (λ out. out.items ≡ all_joined ops.items) }
     ensures err { IfErr result (λ fault. fault ≡ OpsFault.Memory) }
 {
-    let mut left = ops;
-    let mut out = Vec::with_capacity(alloc, left.len())?;
-    while let Some(op) = left.pop() {
-        put_front(&mut out, op)?;
+    let mut out = Vec::with_capacity(alloc, ops.len())?;
+    for op in ops {
+        put_behind(&mut out, op)?;
     }
-    out.reverse();
     Ok(out)
 }

@@ -9,12 +9,13 @@
 //! - `delta`: a set of operations that travels in one piece (`Delta`): made of operations, copied, written
 //!   as octets and read again.
 //! - `order`, `join`, `size`: names and their order, ranges joined, what a delta may hold.
+//! - `split`: a set of any size as deltas that fit (`deltas_of`).
 //! - `write`, `read`: the format, one function for each type of it.
 //! - `fault`: why operations or octets are refused.
 //!
 //! The definitions are in `specs/`: `Orders` (names and their order), `Sets` (what a set has under a
 //! name, equal sets, consistent sets), `WellMade` and `Deltas` (what a delta may hold), `Making` (which
-//! operations make one), `Spelling` (the octets of a delta), `Reading` (what octets say, up to the first
+//! operations make one), `Splitting` (a set as deltas that fit), `Spelling` (the octets of a delta), `Reading` (what octets say, up to the first
 //! fault). `one_delta`, `one_reading` and `no_prefix` state the laws: a set has one delta, a delta one
 //! spelling, and no spelling begins another.
 #![tactic(auto)]
@@ -27,12 +28,14 @@ mod op;
 mod order;
 mod read;
 mod size;
+mod split;
 mod write;
 
 pub use client_id::ClientId;
 pub use delta::{Delta, no_prefix, one_delta, one_reading};
 pub use fault::OpsFault;
 pub use op::{Op, Put, Stamp};
+pub use split::deltas_of;
 
 #[cfg(test)]
 mod tests;

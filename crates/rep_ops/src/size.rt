@@ -92,7 +92,7 @@ fn change_is_value(change: &SessionOp)
 }
 
 /// What the types of an operation promise of its parts.
-fn is_value(op: &Op)
+pub fn is_value(op: &Op)
     ensures { IsValue op.now }
 {
     match op {
@@ -168,7 +168,7 @@ fn put_size(put: &Put) -> usize
 }
 
 /// How many octets an operation is spelled in.
-fn op_size(op: &Op) -> usize
+pub fn op_size(op: &Op) -> usize
     requires { IsTrue (made_test op.now) }
     ensures size { result ≡ length (op_octets op.now) }
     ensures small { result ≤ 4391 }

@@ -260,3 +260,66 @@ fn operations_refused(rt: HostRuntime) -> Result<(), Fail> {
     assert!(rt; matches!(ClientId::new(alloc, b""), Err(OpsFault::Kind)));
     Ok(())
 }
+
+/// The deltas of these operations, which are to be well made.
+fn parts(alloc: Global, ops: Vec<Op>) -> Result<Vec<Delta>, OpsFault> {
+    if !size::are_well_made(ops.as_slice()) {
+        return Err(OpsFault::Kind);
+    }
+    deltas_of(alloc, ops)
+}
+
+#[test]
+fn nothing_makes_no_delta(rt: HostRuntime) -> Result<(), Fail> {
+    let alloc = rt.alloc();
+    assert_eq!(rt; parts(alloc, Vec::new(alloc))?.len(), 0);
+    Ok(())
+}
+
+#[test]
+fn what_overlaps_is_one(rt: HostRuntime) -> Result<(), Fail> {
+    let alloc = rt.alloc();
+    let deltas = parts(
+        alloc,
+        vec![in alloc;
+            ack(alloc, 3, 8)?,
+            ack(alloc, 20, 20)?,
+            take(alloc, 0)?,
+            ack(alloc, 1, 5)?,
+            take(alloc, 0)?,
+            ack(alloc, 9, 9)?,
+        ]?,
+    )?;
+    assert_eq!(rt; deltas.len(), 1);
+    for delta in &deltas {
+        assert_eq!(rt; delta.ops().len(), 3);
+        assert!(rt; delta.ops()[0] == take(alloc, 0)?);
+        assert!(rt; delta.ops()[1] == ack(alloc, 1, 9)?);
+        assert!(rt; delta.ops()[2] == ack(alloc, 20, 20)?);
+    }
+    Ok(())
+}
+
+#[test]
+fn more_than_the_limit(rt: HostRuntime) -> Result<(), Fail> {
+    let alloc = rt.alloc();
+    let mut ops = Vec::new(alloc);
+    for below in 0..2100u64 {
+        ops.push(Op::Put {
+            client: ClientId::new(alloc, b"s1")?,
+            put: Put {
+                origin: 1,
+                seq: below + 1,
+                topic: TopicName::new(alloc, b"t/a")?,
+                qos: 1,
+                body: Octets::from_slice(alloc, &[0x61; 4096])?,
+            },
+        })?;
+    }
+    // 5 octets, and 4,117 for each message
+    let deltas = parts(alloc, ops)?;
+    assert_eq!(rt; deltas.len(), 2);
+    assert_eq!(rt; deltas[0].ops().len(), 2037);
+    assert_eq!(rt; deltas[1].ops().len(), 63);
+    Ok(())
+}

@@ -65,7 +65,7 @@ all_put R exact P k v (e ∷ es) here h =
 
 -- ---- the operations of one client
 
-named_client : (d : List ℕ) (op : Op) → named op ≡ Some (d, d) → client_of op ≡ d
+pub named_client : (d : List ℕ) (op : Op) → named op ≡ Some (d, d) → client_of op ≡ d
 named_client d (OfSession c stamp counter change) e = ap (λ (x : Option (List ℕ × List ℕ)). elim x [ None ↦ c | Some p ↦ p.0 ]) e
 named_client d (OfPut c p) e = ap (λ (x : Option (List ℕ × List ℕ)). elim x [ None ↦ c | Some p ↦ p.0 ]) e
 named_client d (Ack c origin low high) e =
@@ -80,12 +80,12 @@ same_itself c = sym (is_eq-slice_cmp c c) ∙ ap is_eq (tied_itself client_total
 own_all : (c : List ℕ) (ops : List Op) → IsOwn c ops → of_client c ops ≡ ops
 own_all c [] h = refl
 own_all c (op ∷ ops) h =
-    ap (λ b. cond b (op ∷ of_client c ops) (of_client c ops)) (ap (same_client c) (named_client c op h.0) ∙ same_itself c) ∙ ap (λ rest. op ∷ rest) (own_all c ops h.1)
+    ap (λ b. cond b (op ∷ of_client c ops) (of_client c ops)) (ap (same_client c) (named_client c op h.0.0) ∙ same_itself c) ∙ ap (λ rest. op ∷ rest) (own_all c ops h.1)
 
 own_other : (c d : List ℕ) (ops : List Op) → IsOwn d ops → same_client c d ≡ false → of_client c ops ≡ []
 own_other c d [] h e = refl
 own_other c d (op ∷ ops) h e =
-    ap (λ b. cond b (op ∷ of_client c ops) (of_client c ops)) (ap (same_client c) (named_client d op h.0) ∙ e) ∙ own_other c d ops h.1 e
+    ap (λ b. cond b (op ∷ of_client c ops) (of_client c ops)) (ap (same_client c) (named_client d op h.0.0) ∙ e) ∙ own_other c d ops h.1 e
 
 tail_rows : (row : List ℕ × List Op) (rows : List (List ℕ × List Op)) → AreRows (row ∷ rows) → AreRows rows
 tail_rows row rows h = record { sorted = second (below_all client_cmp row.0 rows) (is_sorted client_cmp rows) h.sorted; owned = h.owned.1 }
@@ -129,7 +129,7 @@ put_again c es = ap (λ r. by_order r ((c, c) ∷ (c, c) ∷ es) ((c, c) ∷ es)
 with_row : (c : List ℕ) (ops S : List Op) (es : List (List ℕ × List ℕ)) → IsOwn c ops → T (below_all client_cmp c es) → in_order client_cmp (filter_map named S) ≡ es → in_order client_cmp (filter_map named (ops ++ S)) ≡ cond (has_any ops) ((c, c) ∷ es) es
 with_row c [] S es own below h = h
 with_row c (op ∷ ops) S es own below h =
-    ap (λ o. in_order client_cmp (cons_option o (filter_map named (ops ++ S)))) own.0
+    ap (λ o. in_order client_cmp (cons_option o (filter_map named (ops ++ S)))) own.0.0
     ∙ ap (put client_cmp c c) (with_row c ops S es own.1 below h)
     ∙ elim ops as (λ rest. put client_cmp c c (cond (has_any rest) ((c, c) ∷ es) es) ≡ (c, c) ∷ es) [
       | [] ↦ put_front c es below
@@ -173,7 +173,7 @@ names_own c (Ack d origin low high) e =
 
 pub named_any : (c : List ℕ) (ops : List Op) → IsOwn c ops → is_named c ops ≡ has_any ops
 named_any c [] h = refl
-named_any c (op ∷ ops) h = ap (λ b. b || is_named c ops) (names_own c op h.0)
+named_any c (op ∷ ops) h = ap (λ b. b || is_named c ops) (names_own c op h.0.0)
 
 pub found_own : (c : List ℕ) (rows : List (List ℕ × List Op)) → AllByRecursion (λ row. IsOwn row.0 row.1) rows → IsOwn c (own c rows)
 found_own c [] h = tt

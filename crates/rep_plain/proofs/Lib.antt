@@ -11,3 +11,4 @@ pub mod Found
 pub mod Growing
 pub mod Moves
 pub mod Prepared
+pub mod Kept

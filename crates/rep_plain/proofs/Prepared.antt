@@ -19,7 +19,7 @@ use Rattle.rep_model.proofs.Thin.{thin-same}
 use Rattle.rep_model.proofs.Limits.{first_passed-thin}
 use Rattle.rep_plain.specs.declared.entry.Entry.{Entry}
 use Rattle.rep_plain.specs.Entries.{IsWorkedOut}
-use Rattle.rep_plain.specs.Rows.{flat, own, moved, has_any, count_named, count_new, IsOwn, AreRows, of_client, grown, IsGrown}
+use Rattle.rep_plain.specs.Rows.{flat, own, moved, has_any, count_named, count_new, IsOwn, IsOwnOp, AreRows, of_client, grown, IsGrown}
 use Rattle.rep_plain.specs.Tables.{rows_of, AreEntries, IsTable, IsRoomier, is_known, passed_by, too_many_pending, too_many_parked, too_many_exceptions}
 use Rattle.rep_plain.proofs.Flat.{of_flat, found_own}
 use Rattle.rep_plain.proofs.Found.{table_rows}
@@ -29,19 +29,22 @@ use Rattle.rep_plain.proofs.Counting.{AreFresh, all_found, count_moved, first_pa
 -- ---- each operation of a delta names its client
 
 IsNamed : Op → Type 0
-IsNamed op = named op ≡ Some (client_of op, client_of op)
+IsNamed op = (named op ≡ Some (client_of op, client_of op)) × IsTrue (is_well_made op)
 
 and_last : (a b : Bool) → IsTrue (a && b) → b ≡ true
 and_last true b h = h
 and_last false b h = absurd (true≢false (sym h))
 
+named_forward : (c : List ℕ) (origin low high : ℕ) → IsTrue (is_well_made (Ack c origin low high)) → named (Ack c origin low high) ≡ Some (c, c)
+named_forward c origin low high h = ap (λ b. if◌then◌else◌ {A = Option (List ℕ × List ℕ)} b (Some (c, c)) None) (and_last (nat_le 1 origin && nat_le 1 low) (nat_le low high) h)
+
 well_named : (op : Op) → IsTrue (is_well_made op) → IsNamed op
 unfolding IsNamed
-well_named (OfSession c stamp counter change) h = refl
-well_named (OfPut c p) h = refl
-well_named (Ack c origin low high) h = ap (λ b. if◌then◌else◌ {A = Option (List ℕ × List ℕ)} b (Some (c, c)) None) (and_last (nat_le 1 origin && nat_le 1 low) (nat_le low high) h)
+well_named (OfSession c stamp counter change) h = (refl, h)
+well_named (OfPut c p) h = (refl, h)
+well_named (Ack c origin low high) h = (named_forward c origin low high h, h)
 
-all_filter : {A : Type 0} (P : A → Type 0) (p : A → Bool) (xs : List A) → AllByRecursion P xs → AllByRecursion P (filter p xs)
+pub all_filter : {A : Type 0} (P : A → Type 0) (p : A → Bool) (xs : List A) → AllByRecursion P xs → AllByRecursion P (filter p xs)
 all_filter P p [] h = tt
 all_filter P p (x ∷ xs) h =
     let rest = all_filter P p xs h.1 in
@@ -53,7 +56,7 @@ own_of c [] h = tt
 own_of c (op ∷ N) h =
     let rest = own_of c N h.1 in
     elim (same_client c (client_of op)) as (λ b. same_client c (client_of op) ≡ b → IsOwn c (cond b (op ∷ of_client c N) (of_client c N))) [
-      | true ↦ λ t. (subst (λ x. named op ≡ Some (x, x)) (sym (same_client-true c (client_of op) t)) h.0, rest)
+      | true ↦ λ t. ((subst (λ x. named op ≡ Some (x, x)) (sym (same_client-true c (client_of op) t)) h.0.0, h.0.1), rest)
       | false ↦ λ _. rest
     ] refl
 
@@ -69,7 +72,7 @@ grown_some rows N c ops are each is =
     elim (has_any (of_client c N)) as (λ b. has_any (of_client c N) ≡ b → (if b then Some (own c rows ++ of_client c N) else None) ≡ Some ops → IsOwn c ops × (has_any ops ≡ true)) [
       | true ↦ λ any is.
           let same = same_Some (own c rows ++ of_client c N) ops is in (
-            subst (IsOwn c) same (all-both (λ op. named op ≡ Some (c, c)) (own c rows) (of_client c N) (found_own c rows are.owned) (own_of c N each)),
+            subst (IsOwn c) same (all-both (IsOwnOp c) (own c rows) (of_client c N) (found_own c rows are.owned) (own_of c N each)),
             ap has_any (sym same) ∙ any_right (own c rows) (of_client c N) any,
           )
       | false ↦ λ _ is. none_some ops is

@@ -1,16 +1,23 @@
 -- Clients with their operations, in the order of the clients.
-use Rattle.std.specs.Prelude.{◌≡◌, ℕ, Bool, true, false, List, [], ◌∷◌, ◌++◌, Option, Some, None, T, length, map, filter, count_by, not, if◌then◌else◌}
+use Rattle.std.specs.Prelude.{◌≡◌, ℕ, Bool, true, false, List, [], ◌∷◌, ◌++◌, Option, Some, None, T, length, map, filter, count_by, not, if◌then◌else◌, IsTrue}
 use Rattle.std.specs.List.{AllByRecursion}
 use Rattle.std.specs.FinMap.{find, put, is_sorted}
 use Rattle.rep_ops.specs.declared.op.Op.{Op}
 use Rattle.rep_ops.specs.Orders.{client_cmp, client_of}
 use Rattle.rep_ops.specs.Sets.{same_client}
+use Rattle.rep_ops.specs.WellMade.{is_well_made}
 use Rattle.rep_model.specs.Views.{named}
+use Rattle.rep_model.specs.Keep.{keep}
 
 -- all operations, client by client
 abbrev pub flat : List (List ℕ × List Op) → List Op
 flat [] = []
 flat (row ∷ rows) = row.1 ++ flat rows
+
+-- what must be kept of each client
+abbrev pub kept_rows : List (List ℕ × List Op) → List Op
+kept_rows [] = []
+kept_rows (row ∷ rows) = keep row.1 ++ kept_rows rows
 
 abbrev pub or_nothing : Option (List Op) → List Op
 or_nothing None = []
@@ -37,9 +44,12 @@ count_named rows = length (filter (λ row. has_any row.1) rows)
 abbrev pub named_rows : List (List ℕ × List Op) → List (List ℕ)
 named_rows rows = map (λ row. row.0) (filter (λ row. has_any row.1) rows)
 
--- each operation names the client
+-- a well made operation that names the client
+abbrev pub IsOwnOp : List ℕ → Op → Type 0
+IsOwnOp c op = (named op ≡ Some (c, c)) × IsTrue (is_well_made op)
+
 abbrev pub IsOwn : List ℕ → List Op → Type 0
-IsOwn c ops = AllByRecursion (λ op. named op ≡ Some (c, c)) ops
+IsOwn c ops = AllByRecursion (IsOwnOp c) ops
 
 -- in the order of the clients, each with operations of its own
 pub record AreRows (rows : List (List ℕ × List Op)) : Type 0 where

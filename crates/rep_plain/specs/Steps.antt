@@ -1,5 +1,5 @@
 -- Steps from one operation to the next.
-use Rattle.std.specs.Prelude.{ℕ, ◌-◌, ◌^◌, ◌==◌, Bool, not, ◌&&◌, if◌then◌else◌, nat_le, List, Option, Some, None, min, filter}
+use Rattle.std.specs.Prelude.{ℕ, ◌-◌, ◌^◌, ◌==◌, Bool, true, not, ◌&&◌, if◌then◌else◌, nat_le, List, Option, Some, None, min, filter}
 use Rattle.std.specs.List.{filter_map, list_any}
 use Rattle.rep_ops.specs.declared.op.Stamp.{Stamp}
 use Rattle.rep_ops.specs.declared.op.Put.{Put}
@@ -44,3 +44,9 @@ capped n = min n (2 ^ 64 - 1)
 -- the acknowledgements above a gap, of the origins 1 to n
 unfoldable pub above_gaps : List Range → ℕ → ℕ
 above_gaps ranges n = sum_to (λ origin. above_a_gap (joined (filter_map (numbers origin) ranges))) n
+
+-- whether the operation must be kept, by the visible stamp and the acknowledgements of its client
+abbrev pub must_stay : Option Stamp → List Range → Op → Bool
+must_stay seen ranges (OfSession c stamp counter change) = not (is_below stamp seen)
+must_stay seen ranges (OfPut c put) = not (list_any (covers (put.seq, put.origin)) ranges)
+must_stay seen ranges (Ack c origin first last) = true

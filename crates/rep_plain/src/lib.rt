@@ -9,6 +9,7 @@
 //! - `plain`: the replica and what it promises (`Plain`, `Staged`).
 //! - `table`, `room`: the table of clients, the limits, and the move of fresh entries.
 //! - `news`, `fresh`: what of a delta is new, and the entries that it makes.
+//! - `held`: what must be kept, as deltas.
 //! - `entry`: a client's operations and what they come to.
 //! - `reading`, `replay`, `waiting`, `ranges`: visible stamp, prefix and session, messages that wait,
 //!   acknowledgements.
@@ -21,6 +22,7 @@
 mod entry;
 mod fault;
 mod fresh;
+mod held;
 mod news;
 mod plain;
 mod ranges;

@@ -4,6 +4,7 @@ ghost use Rattle.std.specs.Prelude.{◌≡◌};
 
 use super::entry::Entry;
 use super::fresh::{grown, worked_out};
+use super::held::held;
 use super::news::news;
 use super::reading::{greatest_epoch, greatest_seq};
 use super::room::{make_room, move_in};
@@ -114,5 +115,9 @@ impl Replica for Plain {
 
     fn next_seq(&self, client: &ClientId, gateway: u8) -> Option<u64> {
         greatest_seq(own_ops(&self.table, client), client, gateway).checked_add(1)
+    }
+
+    fn held(&self, alloc: Global) -> Result<Vec<Delta>, TakeFault> {
+        Ok(held(alloc, &self.table)?)
     }
 }

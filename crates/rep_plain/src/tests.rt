@@ -288,3 +288,62 @@ fn too_many_clients(rt: HostRuntime) -> Result<(), Fail> {
     );
     Ok(())
 }
+
+#[test]
+fn what_must_be_kept_is_held(rt: HostRuntime) -> Result<(), Fail> {
+    let alloc = rt.alloc();
+    let mut replica = Plain::empty(alloc)?;
+    assert_eq!(rt; replica.held(alloc)?.len(), 0);
+    // below the visible stamp, visible, parked in the visible stamp, and under a stamp without a Take
+    take_one(alloc, &mut replica, claim(alloc, 1, 1, 60)?)?;
+    take_one(alloc, &mut replica, asleep(alloc, 3, 1, 300)?)?;
+    take_one(alloc, &mut replica, claim(alloc, 2, 1, 90)?)?;
+    take_one(alloc, &mut replica, asleep(alloc, 2, 2, 400)?)?;
+    // of the messages 1 to 4 all but the fourth are acknowledged
+    for below in 0..4u64 {
+        take_one(alloc, &mut replica, message(alloc, below + 1)?)?;
+    }
+    take_one(alloc, &mut replica, acknowledged(alloc, 1, 2)?)?;
+    take_one(alloc, &mut replica, acknowledged(alloc, 2, 3)?)?;
+    take_one(alloc, &mut replica, acknowledged(alloc, 7, 7)?)?;
+    let deltas = replica.held(alloc)?;
+    assert_eq!(rt; deltas.len(), 1);
+    for delta in &deltas {
+        assert_eq!(rt; delta.ops().len(), 6);
+        assert!(rt; delta.ops()[0] == claim(alloc, 2, 1, 90)?);
+        assert!(rt; delta.ops()[1] == asleep(alloc, 2, 2, 400)?);
+        assert!(rt; delta.ops()[2] == asleep(alloc, 3, 1, 300)?);
+        assert!(rt; delta.ops()[3] == message(alloc, 4)?);
+        assert!(rt; delta.ops()[4] == acknowledged(alloc, 1, 3)?);
+        assert!(rt; delta.ops()[5] == acknowledged(alloc, 7, 7)?);
+    }
+    Ok(())
+}
+
+#[test]
+fn more_than_one_delta_is_held(rt: HostRuntime) -> Result<(), Fail> {
+    let alloc = rt.alloc();
+    let mut replica = Plain::empty(alloc)?;
+    for half in 0..2u64 {
+        let mut ops = Vec::new(alloc);
+        for below in 0..1050u64 {
+            ops.push(Op::Put {
+                client: s1(alloc)?,
+                put: Put {
+                    origin: 2,
+                    seq: half * 1050 + below + 1,
+                    topic: TopicName::new(alloc, b"t/a")?,
+                    qos: 1,
+                    body: Octets::from_slice(alloc, &[0x61; 4096])?,
+                },
+            })?;
+        }
+        assert_eq!(rt; take_all(alloc, &mut replica, ops)?, None);
+    }
+    // 5 octets, and 4,117 for each message
+    let deltas = replica.held(alloc)?;
+    assert_eq!(rt; deltas.len(), 2);
+    assert_eq!(rt; deltas[0].ops().len(), 2037);
+    assert_eq!(rt; deltas[1].ops().len(), 63);
+    Ok(())
+}

@@ -16,13 +16,13 @@ returns-clause-ok c =
     let s = sorted_from c.args.ops.items c.as_slice.result.now c.sort_by_name.new.ops.items c.as_slice-2.result.now
     c.as_slice.ensures.value (c.if-not-are_well_made.ensures.made.0 refl) (c.if-not-are_well_made.ensures.values refl) c.sort_by_name.ensures.same c.sort_by_name.ensures.sorted
     c.as_slice-2.ensures.value (c.has_twice.ensures.once c.if-has_twice.false) in
-    ok_made c.args.ops.items c.sort_by_name.new.ops.items s c.join_ranges.result c.join_ranges.ensures.ok
+    ok_made c.args.ops.items c.sort_by_name.new.ops.items s c.join_names.result c.join_names.ensures.ok
 
 pub returns-clause-twice : goal.returns-clause-twice
 returns-clause-twice c =
     let s = sorted_from c.args.ops.items c.as_slice.result.now c.sort_by_name.new.ops.items c.as_slice-2.result.now
     c.as_slice.ensures.value (c.if-not-are_well_made.ensures.made.0 refl) (c.if-not-are_well_made.ensures.values refl) c.sort_by_name.ensures.same c.sort_by_name.ensures.sorted
     c.as_slice-2.ensures.value (c.has_twice.ensures.once c.if-has_twice.false) in (
-      λ e. absurd (memory_alone c.join_ranges.result c.join_ranges.ensures.err e),
+      λ e. absurd (memory_alone c.join_names.result c.join_names.ensures.err e),
       λ h. absurd ((sorted_apart c.args.ops.items c.sort_by_name.new.ops.items s).once h.1),
     )

@@ -1,0 +1,36 @@
+-- A set as deltas, each but the last as full as it can be.
+use Rattle.std.specs.Prelude.{◌≡◌, ◌≢◌, ◌<◌, List, [], ◌∷◌, ◌++◌, length}
+use Rattle.std.specs.List.{AllByRecursion, flat_map}
+use Rattle.rep_ops.specs.declared.op.Op.{Op}
+use Rattle.rep_ops.specs.Making.{IsDeltaOf}
+use Rattle.rep_ops.specs.Spelling.{spelling, max_octets, IsWithinLimit}
+
+-- the operations of the deltas, one delta after the other
+abbrev pub all_of : List (List Op) → List Op
+all_of deltas = flat_map (λ d. d) deltas
+
+-- a part has operations, and no more of them than fit
+pub record IsPart (d : List Op) : Type 0 where
+  pub some : d ≢ []
+  pub within : IsWithinLimit d
+
+-- with the first operation of the next part, the part would pass the limit
+abbrev pub IsFull : List Op → List Op → Type 0
+IsFull d [] = ⊥
+IsFull d (op ∷ rest) = max_octets < length (spelling (d ++ op ∷ []))
+
+-- each part but the last is full
+abbrev pub AreFull : List (List Op) → Type 0
+AreFull [] = Unit {0}
+AreFull (d ∷ []) = Unit {0}
+AreFull (d ∷ next ∷ rest) = IsFull d next × AreFull (next ∷ rest)
+
+-- a list of operations in parts
+pub record IsSplit (ops : List Op) (deltas : List (List Op)) : Type 0 where
+  pub whole : all_of deltas ≡ ops
+  pub parts : AllByRecursion IsPart deltas
+  pub full : AreFull deltas
+
+-- one after the other, the deltas are the one delta of the set, but that its size has no limit
+abbrev pub AreDeltasOf : List Op → List (List Op) → Type 0
+AreDeltasOf S deltas = (whole : List Op) × IsDeltaOf S whole × IsSplit whole deltas

@@ -1,0 +1,67 @@
+//! A set as deltas: as few as can be where each is at most 8,388,608 octets.
+
+ghost use Rattle.std.specs.Prelude.{◌≡◌, IfOk, IfErr};
+ghost use Rattle.rep_ops.specs.Deltas.{IsDelta};
+ghost use Rattle.rep_ops.specs.Making.{AreWellMade, IsDeltaOf};
+ghost use Rattle.rep_ops.specs.Splitting.{IsSplit, AreDeltasOf};
+
+use super::delta::Delta;
+use super::fault::OpsFault;
+use super::join::{join_names, sort_stably};
+use super::op::Op;
+use super::size::{MAX_OCTETS, is_value, op_size};
+use std::alloc::Global;
+use std::mem;
+
+/// The octets of a delta without operations.
+const NO_OCTETS: usize = 5;
+
+/// The deltas that together are the set of these operations, in the order of their names: of one name
+/// the first counts, and ranges of acknowledgements that overlap or touch are one. A new delta begins
+/// where the next operation does not fit into 8,388,608 octets. Of no operations there is no delta.
+///
+/// `Memory` is the only fault.
+pub fn deltas_of(alloc: Global, ops: Vec<Op>) -> Result<Vec<Delta>, OpsFault>
+    requires { AreWellMade ops.items }
+    ensures ok { IfOk result (λ deltas. AreDeltasOf ops.items deltas.items) }
+    ensures err { IfErr result (λ fault. fault ≡ OpsFault.Memory) }
+{
+    split(alloc, whole(alloc, ops)?)
+}
+
+/// The operations of the delta that is the set of these, however large; of one name the first counts.
+fn whole(alloc: Global, ops: Vec<Op>) -> Result<Vec<Op>, OpsFault>
+    requires { AreWellMade ops.items }
+    ensures ok { IfOk result (λ d. IsDeltaOf ops.items d.items) }
+    ensures err { IfErr result (λ fault. fault ≡ OpsFault.Memory) }
+{
+    let mut sorted = ops;
+    sort_stably(&mut sorted)?;
+    join_names(alloc, sorted)
+}
+
+/// The operations of a delta, in parts that fit.
+fn split(alloc: Global, ops: Vec<Op>) -> Result<Vec<Delta>, OpsFault>
+    requires { IsDelta ops.items }
+    ensures ok { IfOk result (λ deltas. IsSplit ops.items deltas.items) }
+    ensures err { IfErr result (λ fault. fault ≡ OpsFault.Memory) }
+{
+    let mut deltas = Vec::new(alloc);
+    let mut part = Vec::new(alloc);
+    let mut size = NO_OCTETS;
+    for op in ops {
+        is_value(&op);
+        let more = op_size(&op);
+        if size + more > MAX_OCTETS {
+            let full = mem::replace(&mut part, Vec::new(alloc));
+            deltas.push(Delta { ops: full })?;
+            size = NO_OCTETS;
+        }
+        part.push(op)?;
+        size += more;
+    }
+    if !part.is_empty() {
+        deltas.push(Delta { ops: part })?;
+    }
+    Ok(deltas)
+}

@@ -1,0 +1,92 @@
+//! What must be kept of all clients, as deltas.
+
+ghost use Rattle.std.specs.Prelude.{◌≡◌, ◌++◌, filter, IfOk, OnOk};
+ghost use Rattle.rep_model.specs.Held.{IsHeld};
+ghost use Rattle.rep_model.specs.Keep.{keep, is_below};
+ghost use Rattle.rep_plain.specs.Rows.{flat, kept_rows, AreRows};
+ghost use Rattle.rep_plain.specs.Steps.{must_stay};
+ghost use Rattle.rep_plain.specs.Tables.{rows_of, IsEntry, AreEntries};
+
+use super::entry::Entry;
+use super::fault::NoMemory;
+use super::news::push_copy;
+use super::ranges::{Range, is_covered, ranges_of};
+use super::table::Table;
+use rep_ops::{ClientId, Delta, Op, Stamp, deltas_of};
+use std::alloc::Global;
+
+/// The operations that must be kept, as deltas.
+pub(crate) fn held(alloc: Global, table: &Table) -> Result<Vec<Delta>, NoMemory>
+    requires entries { AreEntries table.now.entries }
+    requires rows { AreRows (rows_of table.now.entries) }
+    ensures { IfOk result (λ deltas. IsHeld (flat (rows_of table.now.entries)) deltas.items) }
+{
+    let kept = kept_ops(alloc, table)?;
+    Ok(deltas_of(alloc, kept)?)
+}
+
+/// The operations that must be kept, client by client.
+fn kept_ops(alloc: Global, table: &Table) -> Result<Vec<Op>, NoMemory>
+    requires { AreEntries table.now.entries }
+    ensures { IfOk result (λ kept. kept.items ≡ kept_rows (rows_of table.now.entries)) }
+{
+    let mut kept = Vec::new(alloc);
+    for (client, entry) in table {
+        add_kept(alloc, &mut kept, client, entry)?;
+    }
+    Ok(kept)
+}
+
+/// Copies the operations of a client that must be kept behind the others.
+fn add_kept(
+    alloc: Global,
+    kept: &mut Vec<Op>,
+    client: &ClientId,
+    entry: &Entry,
+) -> Result<(), NoMemory>
+    requires { IsEntry client.now entry.now }
+    ensures { OnOk result (kept.new.items ≡ kept.old.items ++ keep entry.now.ops.items) }
+{
+    let ops = entry.ops.as_slice();
+    let ranges = ranges_of(alloc, ops, client)?;
+    push_kept(alloc, kept, ops, entry.seen.stamp, ranges.as_slice())
+}
+
+/// Copies the operations behind the others that the visible stamp and the acknowledgements leave.
+fn push_kept(
+    alloc: Global,
+    kept: &mut Vec<Op>,
+    ops: &[Op],
+    visible: Option<Stamp>,
+    ranges: &[Range],
+) -> Result<(), NoMemory>
+    ensures { OnOk result (kept.new.items ≡ kept.old.items ++ filter (must_stay visible ranges.now) ops.now) }
+{
+    for op in ops {
+        if must_stay(op, visible, ranges) {
+            push_copy(alloc, kept, op)?;
+        }
+    }
+    Ok(())
+}
+
+/// Whether an operation must be kept, by the visible stamp and the acknowledgements of its client.
+fn must_stay(op: &Op, visible: Option<Stamp>, ranges: &[Range]) -> bool
+    ensures { result ≡ must_stay visible ranges.now op.now }
+{
+    match op {
+        Op::Session { stamp, .. } => !is_below(*stamp, visible),
+        Op::Put { put, .. } => !is_covered(ranges, put.seq, put.origin),
+        Op::Ack { .. } => true,
+    }
+}
+
+/// Whether a stamp is below the visible one.
+fn is_below(stamp: Stamp, visible: Option<Stamp>) -> bool
+    ensures { result ≡ is_below stamp visible }
+{
+    match visible {
+        Some(seen) => stamp < seen,
+        None => false,
+    }
+}
