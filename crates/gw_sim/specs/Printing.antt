@@ -3,8 +3,8 @@ use Rattle.std.specs.Prelude.{ℕ, ◌+◌, ◌∷◌, List, [], ◌++◌, Optio
 use Rattle.std.specs.Fmt.{decimal}
 use Rattle.hex.specs.Hex.{encode_lower}
 use Rattle.sn_frame.specs.Faults.{fault_number}
-use Rattle.sn_session.specs.declared.session.Presence.{Presence}
-use Rattle.sn_session.specs.declared.session.Presence.TheVariants as presences
+use Rattle.sn_session.specs.declared.presence.Presence.{Presence}
+use Rattle.sn_session.specs.declared.presence.Presence.TheVariants as presences
 use Rattle.sn_session.specs.declared.session.Session.{Session}
 use Rattle.rep_ops.specs.declared.op.Op.{Op}
 use Rattle.rep_ops.specs.declared.op.Put.{Put}

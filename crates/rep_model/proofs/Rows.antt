@@ -1,8 +1,9 @@
 -- Small sets, and what they say.
 use Rattle.std.proofs.Common.{◌≡◌, ℕ, ◌-◌, ◌^◌, false, List, [], ◌∷◌, Some, None, refl}
-use Rattle.sn_session.specs.declared.session.Presence.TheVariants.{Active, Asleep, Lost}
+use Rattle.sn_session.specs.declared.presence.Presence.TheVariants.{Active, Asleep, Lost}
 use Rattle.sn_session.specs.declared.session.Session.{Session}
-use Rattle.sn_session.specs.declared.session.SessionOp.TheVariants.{Take, Presence as SetPresence}
+use Rattle.sn_session.specs.Session.{empty_session}
+use Rattle.sn_session.specs.declared.change.SessionOp.TheVariants.{Take, Presence as SetPresence}
 use Rattle.rep_ops.specs.declared.op.Stamp.{Stamp}
 use Rattle.rep_ops.specs.declared.op.Put.{Put}
 use Rattle.rep_ops.specs.declared.op.Op.{Op}
@@ -28,7 +29,7 @@ stamp epoch gateway = record { epoch = epoch; gateway = gateway }
 
 -- a session with this next message id
 abbrev active : ℕ → Session
-active next = record { presence = Active; clean = false; duration = 60; next_id = next }
+active next = record empty_session { duration = 60; next_id = next }
 
 abbrev taken : ℕ → ℕ → Op
 taken epoch gateway = OfSession client (stamp epoch gateway) 0 (Take (active gateway))
@@ -56,7 +57,7 @@ unfolding gapless
 gap = refl
 
 -- and counts once the gap is filled
-gap_filled : view client (lost 1 1 2 ∷ taken 1 1 ∷ asleep 1 1 1 ∷ []) ≡ record { stamp = Some (stamp 1 1); prefix = 3; session = Some (record { presence = Lost; clean = false; duration = 0; next_id = 1 }); pending = [] }
+gap_filled : view client (lost 1 1 2 ∷ taken 1 1 ∷ asleep 1 1 1 ∷ []) ≡ record { stamp = Some (stamp 1 1); prefix = 3; session = Some (record empty_session { presence = Lost; duration = 0; next_id = 1 }); pending = [] }
 unfolding gapless
 gap_filled = refl
 

@@ -5,8 +5,8 @@ use Rattle.std.specs.Ordering.{is_lt}
 use Rattle.std.specs.List.{filter_map, list_any}
 use Rattle.std.specs.FinMap.{find, put}
 use Rattle.sn_session.specs.declared.session.Session.{Session}
-use Rattle.sn_session.specs.declared.session.SessionOp.{SessionOp}
-use Rattle.sn_session.specs.declared.session.SessionOp.TheVariants.{Take, Presence as SetPresence}
+use Rattle.sn_session.specs.declared.change.SessionOp.{SessionOp}
+use Rattle.sn_session.specs.declared.change.SessionOp.TheVariants.{Take}
 use Rattle.sn_session.specs.Session.{applied}
 use Rattle.rep_ops.specs.declared.op.Stamp.{Stamp}
 use Rattle.rep_ops.specs.declared.op.Put.{Put}
@@ -57,7 +57,7 @@ history c S = history_at (operation_at c S) (visible c S)
 -- a session after one more operation: a Take begins it
 abbrev pub after_change : Option Session → SessionOp → Option Session
 after_change None (Take taken) = Some taken
-after_change None (SetPresence presence duration) = None
+after_change None change = None
 after_change (Some session) change = Some (applied session change)
 
 -- the session that these operations make, one after the other

@@ -25,18 +25,17 @@ fn a_view_is_copied(rt: HostRuntime) -> Result<(), Fail> {
     let mut waiting = Vec::new(alloc);
     waiting.push(message(alloc, 1)?)?;
     waiting.push(message(alloc, 2)?)?;
+    let mut session = Session::empty(alloc);
+    session.presence = Presence::Asleep;
+    session.duration = 600;
+    session.next_id = 7;
     let view = ClientView {
         stamp: Some(Stamp {
             epoch: 3,
             gateway: 2,
         }),
         prefix: 2,
-        session: Some(Session {
-            presence: Presence::Asleep,
-            clean: false,
-            duration: 600,
-            next_id: 7,
-        }),
+        session: Some(session),
         pending: Puts::new(waiting),
     };
     let copy = view.copy(alloc)?;

@@ -1,7 +1,8 @@
 -- Worked examples of the definitions.
 use Rattle.std.proofs.Common.{◌≡◌, ℕ, List, [], ◌∷◌, Ok, Err, refl, true}
-use Rattle.sn_session.specs.declared.session.Presence.TheVariants.{Active}
-use Rattle.sn_session.specs.declared.session.SessionOp.TheVariants.{Take}
+use Rattle.sn_session.specs.declared.presence.Presence.TheVariants.{Active}
+use Rattle.sn_session.specs.declared.change.SessionOp.TheVariants.{Take}
+use Rattle.sn_session.specs.Session.{empty_session}
 use Rattle.rep_ops.specs.declared.fault.OpsFault.TheVariants as faults
 use Rattle.rep_ops.specs.declared.op.Op.{Op}
 use Rattle.rep_ops.specs.declared.op.Op.TheVariants.{Session as OfSession, Ack}
@@ -15,7 +16,7 @@ s1 = 0x73 ∷ 0x31 ∷ []
 
 -- it connected for 60 seconds with a clean session
 abbrev connected : Op
-connected = OfSession s1 (record { epoch = 1; gateway = 1 }) 0 (Take (record { presence = Active; clean = true; duration = 60; next_id = 1 }))
+connected = OfSession s1 (record { epoch = 1; gateway = 1 }) 0 (Take (record empty_session { clean = true; duration = 60 }))
 
 abbrev connected_octets : List ℕ
 connected_octets =

@@ -11,7 +11,11 @@ pub mod Canonical
 pub mod Writing
 pub mod Laws
 pub mod Loop
+pub mod Many
+pub mod Tables
 pub mod Fields
+pub mod Parts
+pub mod Changes
 pub mod Operations
 pub mod Format
 pub mod Examples

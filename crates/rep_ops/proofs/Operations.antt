@@ -5,16 +5,19 @@ use Rattle.std.specs.Int.{w64, to_be_bytes}
 use Rattle.std.proofs.lemmas.Bool.{cases_Bool, and_parts, and_from, leb-true, le-leb, eqb-true, eqb-false}
 use Rattle.byteorder.specs.Endian.{big_bytes}
 use Rattle.sn_topic.specs.Topics.{IsName}
-use Rattle.sn_session.specs.declared.session.SessionOp.{SessionOp}
+use Rattle.sn_session.specs.declared.change.SessionOp.{SessionOp}
 use Rattle.rep_ops.specs.ClientIds.{IsClientId}
 use Rattle.rep_ops.specs.declared.op.Op.{Op}
 use Rattle.rep_ops.specs.declared.op.Op.TheVariants.{Session as OfSession, Put as OfPut, Ack}
 use Rattle.rep_ops.specs.Reading.{Reader, both, by_first, ranged, octet_at, number_at, is_counted, client_at, topic_at, body_at, change_at, session_op_of, session_op_at, put_op_of, put_op_at, ack_of, range_at, ack_at, of_kind_at, op_at}
-use Rattle.rep_ops.specs.Spelling.{client_octets, text_octets, change_octets, put_octets, op_octets}
+use Rattle.rep_ops.specs.Spelling.{client_octets, put_octets, op_octets}
+use Rattle.rep_ops.specs.Sessions.{text_octets, change_octets}
 use Rattle.rep_ops.specs.Values.{IsValue}
 use Rattle.rep_ops.specs.WellMade.{is_well_made}
 use Rattle.rep_ops.proofs.Laws.{IsBytes, Taken, IsStable, Law, bind_ok, bind_stable, by_first_law, both_law, made_law, ranged_law, octet_law, wide64, number_law}
-use Rattle.rep_ops.proofs.Fields.{one_octet, IsOctet, client_law, topic_law, body_law, FitsChange, change_law}
+use Rattle.rep_ops.proofs.Fields.{one_octet, IsOctet, client_law, topic_law, body_law}
+use Rattle.rep_ops.proofs.Parts.{IsEight, eight_law, IsOne, one_law}
+use Rattle.rep_ops.proofs.Changes.{FitsChange, change_law}
 
 -- what has a spelling that is read again
 pub record FitsOp (op : Op) : Type 0 where
@@ -41,19 +44,6 @@ abbrev FitsAck : Op → Type 0
 FitsAck (OfSession c s i o) = ⊥
 FitsAck (OfPut c p) = ⊥
 FitsAck (Ack c r f l) = FitsOp (Ack c r f l)
-
--- numbers from 1 on
-abbrev IsEight : ℕ → Type 0
-IsEight n = (n < 2 ^ 64) × (is_counted n ≡ true)
-
-eight_law : Law (ranged is_counted (number_at w64)) (to_be_bytes w64) IsEight
-eight_law = ranged_law is_counted (number_at w64) (to_be_bytes w64) (λ n. n < 2 ^ 64) (number_law w64 (2 ^ 64) wide64)
-
-abbrev IsOne : ℕ → Type 0
-IsOne n = IsOctet n × (is_counted n ≡ true)
-
-one_law : Law (ranged is_counted octet_at) one_octet IsOne
-one_law = ranged_law is_counted octet_at one_octet IsOctet octet_law
 
 -- ---- session operations
 

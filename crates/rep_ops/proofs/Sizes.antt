@@ -1,5 +1,6 @@
 -- How long a part of a spelling is.
-use Rattle.std.proofs.Common.{◌≡◌, ℕ, ◌+◌, ◌<◌, ◌≤◌, List, length, take, get_or}
+use Rattle.std.proofs.Common.{◌≡◌, ℕ, ◌+◌, ◌*◌, ◌<◌, ◌≤◌, List, [], ◌∷◌, length, take, get_or, refl, arith}
+use Rattle.byteorder.specs.Endian.{big_bytes}
 use Rattle.std.specs.List.{flat_map}
 use Rattle.std.proofs.lemmas.List.Folds.{length-flat_map-take}
 use Rattle.rep_ops.specs.declared.op.Op.{Op}
@@ -25,3 +26,8 @@ length_ops (op ∷ rest) =
     let one = some_octet op in
     let sum = length-append (op_octets op) (flat_map op_octets rest) in
     omega arith
+
+-- each id is two octets
+pub length_ids : (ids : List ℕ) → length (flat_map (big_bytes 2) ids) ≡ 2 * length ids
+length_ids [] = refl
+length_ids (id ∷ ids) = let rest = length_ids ids in omega arith

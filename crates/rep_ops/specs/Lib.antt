@@ -2,6 +2,8 @@ pub mod ClientIds
 pub mod Faults
 pub mod Orders
 pub mod Sets
+pub mod Ranges
+pub mod Sessions
 pub mod WellMade
 pub mod Deltas
 pub mod Spelling

@@ -5,7 +5,7 @@
 use Rattle.std.specs.Prelude.{◌≡◌, ℕ, ◌≤◌, ◌==◌, Bool, true, false, ◌&&◌, if◌then◌else◌, nat_le, List, Option, Some, None, IsTrue, IfSome, bytes_eq}
 use Rattle.std.specs.List.{filter_map, list_any, AllByRecursion}
 use Rattle.std.specs.FinMap.{find}
-use Rattle.sn_session.specs.declared.session.SessionOp.{SessionOp}
+use Rattle.sn_session.specs.declared.change.SessionOp.{SessionOp}
 use Rattle.rep_ops.specs.declared.op.Stamp.{Stamp}
 use Rattle.rep_ops.specs.declared.op.Put.{Put}
 use Rattle.rep_ops.specs.declared.op.Op.{Op}

@@ -1,8 +1,8 @@
 -- Which operations a delta may hold.
-use Rattle.std.specs.Prelude.{ℕ, ◌==◌, Bool, true, ◌&&◌, if◌then◌else◌, nat_le, nat_lt, length}
-use Rattle.sn_session.specs.declared.session.SessionOp.{SessionOp}
-use Rattle.sn_session.specs.declared.session.SessionOp.TheVariants.{Take, Presence as SetPresence}
+use Rattle.std.specs.Prelude.{ℕ, ◌==◌, Bool, ◌&&◌, if◌then◌else◌, nat_le, nat_lt, length}
+use Rattle.sn_session.specs.declared.change.SessionOp.{SessionOp}
 use Rattle.sn_session.specs.Session.{is_take}
+use Rattle.rep_ops.specs.Ranges.{is_change}
 use Rattle.rep_ops.specs.declared.op.Stamp.{Stamp}
 use Rattle.rep_ops.specs.declared.op.Put.{Put}
 use Rattle.rep_ops.specs.declared.op.Op.{Op}
@@ -11,11 +11,6 @@ use Rattle.rep_ops.specs.declared.op.Op.TheVariants.{Session as OfSession, Put a
 -- epochs, gateways and sequence numbers begin at 1
 abbrev pub is_stamp : Stamp → Bool
 is_stamp stamp = nat_le 1 stamp.epoch && nat_le 1 stamp.gateway
-
--- the values of a change are in range: the next message id is not 0
-abbrev pub is_change : SessionOp → Bool
-is_change (Take session) = nat_le 1 session.next_id
-is_change (SetPresence presence duration) = true
 
 -- counter 0 is a Take, and no other counter is
 abbrev pub is_counted : ℕ → SessionOp → Bool

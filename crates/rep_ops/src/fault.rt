@@ -54,13 +54,12 @@ impl<T: Drop> From<AllocFailed<T>> for OpsFault {
     }
 }
 
+// Operations only copy sessions, and a copy is refused for want of memory alone.
 impl From<SessionFault> for OpsFault {
     ghost from_gives = { λ _ e. e ≡ Memory };
 
-    fn from(error: SessionFault) -> OpsFault {
-        match error {
-            SessionFault::Memory => OpsFault::Memory,
-        }
+    fn from(_error: SessionFault) -> OpsFault {
+        OpsFault::Memory
     }
 }
 

@@ -26,10 +26,14 @@ mod fault;
 mod join;
 mod op;
 mod order;
+mod range;
 mod read;
+mod session_size;
 mod size;
 mod split;
+mod value;
 mod write;
+mod write_session;
 
 pub use client_id::ClientId;
 pub use delta::{Delta, no_prefix, one_delta, one_reading};

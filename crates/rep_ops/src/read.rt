@@ -3,6 +3,8 @@
 mod delta;
 mod field;
 mod op;
+mod part;
 mod session;
+mod table;
 
 pub use delta::read_delta;

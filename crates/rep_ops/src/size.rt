@@ -2,12 +2,15 @@
 
 ghost use Rattle.std.specs.Prelude.{◌≡◌, ◌≤◌, ◌↔◌, length, IsTrue};
 ghost use Rattle.rep_ops.specs.Making.{AreWellMade};
-ghost use Rattle.rep_ops.specs.Spelling.{op_octets, change_octets, put_octets, spelling, IsWithinLimit};
-ghost use Rattle.rep_ops.specs.Values.{IsChangeValue, IsValue, AreValues};
-ghost use Rattle.rep_ops.specs.WellMade.{is_stamp as stamp_test, is_change as change_test, is_counted as count_test, is_put as put_test, is_well_made as made_test};
+ghost use Rattle.rep_ops.specs.Values.{AreValues};
+ghost use Rattle.rep_ops.specs.Spelling.{op_octets, put_octets, spelling, IsWithinLimit};
+ghost use Rattle.rep_ops.specs.WellMade.{is_stamp as stamp_test, is_counted as count_test, is_put as put_test, is_well_made as made_test};
 
 use super::op::{Op, Put, Stamp};
-use sn_session::{Session, SessionOp};
+use super::range::is_change;
+use super::session_size::change_size;
+use super::value::is_value;
+use sn_session::SessionOp;
 
 /// The most octets of a delta.
 pub const MAX_OCTETS: usize = 8_388_608;
@@ -22,23 +25,14 @@ fn is_stamp(stamp: Stamp) -> bool
     stamp.epoch >= 1 && stamp.gateway >= 1
 }
 
-/// Whether the values of a change are in range.
-fn is_change(change: &SessionOp) -> bool
-    ensures { result ≡ change_test change.now }
-{
-    match change {
-        SessionOp::Take(session) => session.next_id >= 1,
-        SessionOp::Presence { .. } => true,
-    }
-}
-
 /// Whether counter 0 is a Take, and no other counter.
 fn is_counted(counter: u8, change: &SessionOp) -> bool
     ensures { result ≡ count_test counter change.now }
 {
-    match change {
-        SessionOp::Take(_) => counter == 0,
-        SessionOp::Presence { .. } => counter > 0,
+    if change.is_take() {
+        counter == 0
+    } else {
+        counter > 0
     }
 }
 
@@ -70,70 +64,6 @@ pub fn is_well_made(op: &Op) -> bool
     }
 }
 
-/// What the types of a change promise of its numbers.
-fn change_is_value(change: &SessionOp)
-    ensures { IsChangeValue change.now }
-{
-    match change {
-        SessionOp::Take(
-            Session {
-                duration,
-                next_id,
-                ..
-            },
-        ) => {
-            let _duration = *duration;
-            let _next_id = *next_id;
-        }
-        SessionOp::Presence { duration, .. } => {
-            let _number = *duration;
-        }
-    }
-}
-
-/// What the types of an operation promise of its parts.
-pub fn is_value(op: &Op)
-    ensures { IsValue op.now }
-{
-    match op {
-        Op::Session {
-            client,
-            stamp,
-            counter,
-            change,
-        } => {
-            let _name = client.bytes();
-            let _epoch = stamp.epoch;
-            let _gateway = stamp.gateway;
-            let _counter = *counter;
-            change_is_value(change);
-        }
-        Op::Put { client, put } => {
-            let _name = client.bytes();
-            let Put {
-                origin,
-                seq,
-                topic,
-                ..
-            } = put;
-            let _topic = topic.bytes();
-            let _origin = *origin;
-            let _seq = *seq;
-        }
-        Op::Ack {
-            client,
-            origin,
-            first,
-            last,
-        } => {
-            let _name = client.bytes();
-            let _origin = *origin;
-            let _first = *first;
-            let _last = *last;
-        }
-    }
-}
-
 /// Whether a delta may hold the operations.
 pub fn are_well_made(ops: &[Op]) -> bool
     ensures made { IsTrue result ↔ AreWellMade ops.now }
@@ -146,16 +76,6 @@ pub fn are_well_made(ops: &[Op]) -> bool
         }
     }
     true
-}
-
-/// How many octets a change is spelled in.
-fn change_size(change: &SessionOp) -> usize
-    ensures { result ≡ length (change_octets change.now) }
-{
-    match change {
-        SessionOp::Take(_) => 15,
-        SessionOp::Presence { .. } => 4,
-    }
 }
 
 /// How many octets a message is spelled in.
@@ -171,7 +91,7 @@ fn put_size(put: &Put) -> usize
 pub fn op_size(op: &Op) -> usize
     requires { IsTrue (made_test op.now) }
     ensures size { result ≡ length (op_octets op.now) }
-    ensures small { result ≤ 4391 }
+    ensures small { result ≤ 150000 }
 {
     match op {
         Op::Session { client, change, .. } => 12 + client.bytes().len() + change_size(change),

@@ -9,7 +9,8 @@ use super::delta::Delta;
 use super::fault::OpsFault;
 use super::join::{join_names, sort_stably};
 use super::op::Op;
-use super::size::{MAX_OCTETS, is_value, op_size};
+use super::size::{MAX_OCTETS, op_size};
+use super::value::is_value;
 use std::alloc::Global;
 use std::mem;
 

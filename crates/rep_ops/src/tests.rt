@@ -1,6 +1,6 @@
 use super::*;
 use octets::Octets;
-use sn_session::{Presence, Session, SessionOp};
+use sn_session::{Session, SessionOp};
 use sn_topic::TopicName;
 use std::alloc::Global;
 use std::process::Abort;
@@ -27,6 +27,9 @@ const PUT: [u8; 28] = [
 ];
 
 fn take(alloc: Global, counter: u8) -> Result<Op, OpsFault> {
+    let mut session = Session::empty(alloc);
+    session.clean = true;
+    session.duration = 60;
     Ok(Op::Session {
         client: ClientId::new(alloc, b"s1")?,
         stamp: Stamp {
@@ -34,12 +37,7 @@ fn take(alloc: Global, counter: u8) -> Result<Op, OpsFault> {
             gateway: 1,
         },
         counter,
-        change: SessionOp::Take(Session {
-            presence: Presence::Active,
-            clean: true,
-            duration: 60,
-            next_id: 1,
-        }),
+        change: SessionOp::Take(session),
     })
 }
 

@@ -2,34 +2,21 @@
 
 #![tactic(auto, using(crate::proofs::Writing::keeps_itself, crate::proofs::Writing::keeps_more, crate::proofs::Writing::keeps_through))]
 
-ghost use Rattle.std.specs.Prelude.{◌≡◌, ◌<◌, ◌^◌, length, IsTrue};
+ghost use Rattle.std.specs.Prelude.{IsTrue};
 ghost use Rattle.std.specs.List.{flat_map};
 ghost use Rattle.rep_ops.specs.Making.{AreWellMade};
-ghost use Rattle.rep_ops.specs.Spelling.{client_octets, text_octets, presence_octet, session_octets, change_octets, put_octets, op_octets, spelling, IsWithinLimit};
+ghost use Rattle.rep_ops.specs.Spelling.{client_octets, put_octets, op_octets, spelling, IsWithinLimit};
 ghost use Rattle.rep_ops.specs.WellMade.{is_put as put_test, is_well_made as made_test};
 ghost use Rattle.rep_ops.specs.Writing.{Writes};
 
 use super::client_id::ClientId;
 use super::fault::OpsFault;
 use super::op::{Op, Put};
-use octets::{append_u16, append_u32, append_u64};
-use sn_session::{Presence, Session, SessionOp};
+use super::write_session::{write_change, write_text};
+use octets::{append_u32, append_u64};
 
 /// The version of the format.
 const VERSION: u8 = 1;
-
-/// The octet of a presence.
-fn presence_code(presence: Presence) -> u8
-    ensures { result ≡ presence_octet presence }
-{
-    match presence {
-        Presence::Active => 0,
-        Presence::Asleep => 1,
-        Presence::Awake => 2,
-        Presence::Disconnected => 3,
-        Presence::Lost => 4,
-    }
-}
 
 /// Writes a client.
 fn write_client(out: &mut Vec<u8>, client: &ClientId) -> Result<(), OpsFault>
@@ -38,44 +25,6 @@ fn write_client(out: &mut Vec<u8>, client: &ClientId) -> Result<(), OpsFault>
     let name = client.bytes();
     out.push(name.len() as u8)?;
     out.extend_from_slice(name)?;
-    Ok(())
-}
-
-/// Writes a text.
-fn write_text(out: &mut Vec<u8>, text: &[u8]) -> Result<(), OpsFault>
-    requires { length text.now < 2 ^ 16 }
-    ensures { Writes (text_octets text.now) out.old.items out.new.items result }
-{
-    append_u16(out, text.len() as u16)?;
-    out.extend_from_slice(text)?;
-    Ok(())
-}
-
-/// Writes a session.
-fn write_session(out: &mut Vec<u8>, session: &Session) -> Result<(), OpsFault>
-    ensures { Writes (session_octets session.now) out.old.items out.new.items result }
-{
-    out.extend_from_slice(&[presence_code(session.presence), session.clean as u8])?;
-    append_u16(out, session.duration)?;
-    append_u16(out, session.next_id)?;
-    out.extend_from_slice(&[0; 8])?;
-    Ok(())
-}
-
-/// Writes a change of a session.
-fn write_change(out: &mut Vec<u8>, change: &SessionOp) -> Result<(), OpsFault>
-    ensures { Writes (change_octets change.now) out.old.items out.new.items result }
-{
-    match change {
-        SessionOp::Take(session) => {
-            out.push(0)?;
-            write_session(out, session)?;
-        }
-        SessionOp::Presence { presence, duration } => {
-            out.extend_from_slice(&[1, presence_code(*presence)])?;
-            append_u16(out, *duration)?;
-        }
-    }
     Ok(())
 }
 

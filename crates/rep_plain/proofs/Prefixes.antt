@@ -1,7 +1,7 @@
 -- The operations of a stamp, one after the other.
 use Rattle.std.proofs.Common.{◌≡◌, ℕ, suc, ◌+◌, ◌^◌, min, ◌-◌, ◌<◌, List, [], length, fold, Some, None, Option, refl, sym, ap, ◌∙◌, arith}
 use Rattle.sn_session.specs.declared.session.Session.{Session}
-use Rattle.sn_session.specs.declared.session.SessionOp.{SessionOp}
+use Rattle.sn_session.specs.declared.change.SessionOp.{SessionOp}
 use Rattle.std.specs.List.{filter_map}
 use Rattle.rep_model.specs.Views.{gapless, then_more, after_change, session_of}
 use Rattle.rep_model.specs.Limits.{joined, above_a_gap}

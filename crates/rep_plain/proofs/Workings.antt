@@ -4,7 +4,7 @@ use Rattle.std.specs.List.{filter_map}
 use Rattle.std.specs.FinMap.{find}
 use Rattle.std.specs.Map.{keys_of}
 use Rattle.std.proofs.lemmas.List.Sums.{length-filter}
-use Rattle.sn_session.specs.declared.session.SessionOp.{SessionOp}
+use Rattle.sn_session.specs.declared.change.SessionOp.{SessionOp}
 use Rattle.rep_ops.specs.declared.op.Stamp.{Stamp}
 use Rattle.rep_ops.specs.declared.op.Op.{Op}
 use Rattle.rep_ops.specs.Orders.{operation_cmp}

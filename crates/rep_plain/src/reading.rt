@@ -116,6 +116,13 @@ fn put_named<'a>(op: &'a Op, client: &ClientId, name: (u64, u8)) -> Option<&'a P
     }
 }
 
+/// Whether two changes are equal.
+fn is_same_change(a: &SessionOp, b: &SessionOp) -> bool
+    ensures { IsTrue result ↔ (a.now ≡ b.now) }
+{
+    a == b
+}
+
 /// Whether an operation contradicts none of these under its name.
 pub(crate) fn agrees(ops: &[Op], op: &Op) -> bool
     ensures { IsTrue result ↔ Agrees ops.now op.now }
@@ -127,7 +134,7 @@ pub(crate) fn agrees(ops: &[Op], op: &Op) -> bool
             counter,
             change,
         } => match operation_at(ops, client, (*stamp, *counter)) {
-            Some(kept) => kept == change,
+            Some(kept) => is_same_change(kept, change),
             None => true,
         },
         Op::Put { client, put } => match put_at(ops, client, (put.seq, put.origin)) {

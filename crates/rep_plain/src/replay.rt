@@ -12,7 +12,7 @@ ghost use Rattle.rep_plain.specs.Steps.{waits};
 
 use super::fault::NoMemory;
 use rep_ops::{ClientId, Op, Stamp};
-use sn_session::{Session, SessionOp};
+use sn_session::{Session, SessionFault, SessionOp};
 use std::alloc::Global;
 use std::cmp::Ordering;
 use std::collections::BTreeMap;
@@ -79,7 +79,7 @@ pub(crate) fn replay(
     Ok((256, session))
 }
 
-/// A session after one more operation; a Take begins it.
+/// A session after one more operation; a Take begins it. One that finds its table full leaves it as it was.
 fn changed(
     alloc: Global,
     session: Option<Session>,
@@ -89,8 +89,10 @@ fn changed(
 {
     match session {
         Some(mut session) => {
-            session.apply(alloc, change)?;
-            Ok(Some(session))
+            match session.apply(alloc, change) {
+                Ok(()) | Err(SessionFault::Full) => Ok(Some(session)),
+                Err(SessionFault::Memory) => Err(NoMemory),
+            }
         }
         None => match change {
             SessionOp::Take(taken) => Ok(Some(taken.copy(alloc)?)),

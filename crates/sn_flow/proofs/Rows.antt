@@ -1,8 +1,8 @@
 -- Worked steps: what the step table says of single frames, computed from sets of operations.
 use Rattle.std.proofs.Common.{◌≡◌, ℕ, List, [], ◌∷◌, Some, None, refl, true, false}
-use Rattle.sn_session.specs.declared.session.Presence.TheVariants.{Active, Asleep}
+use Rattle.sn_session.specs.declared.presence.Presence.TheVariants.{Active, Asleep}
 use Rattle.sn_session.specs.declared.session.Session.{Session}
-use Rattle.sn_session.specs.declared.session.SessionOp.TheVariants.{Take, Presence}
+use Rattle.sn_session.specs.declared.change.SessionOp.TheVariants.{Take, Presence}
 use Rattle.rep_ops.specs.declared.op.Stamp.{Stamp}
 use Rattle.rep_ops.specs.declared.op.Op.{Op}
 use Rattle.rep_ops.specs.declared.op.Op.TheVariants.{Session as OfSession}

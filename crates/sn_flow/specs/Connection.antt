@@ -1,8 +1,8 @@
 -- The rows of CONNECT and DISCONNECT (MQTT-SN 1.2 sections 6.2, 6.12 and 6.14).
 use Rattle.std.specs.Prelude.{ℕ, ◌==◌, ◌^◌, Bool, true, false, ◌&&◌, not, if◌then◌else◌, nat_le, List, [], map, length, Option, Some, None, bit_and, unwrap_or}
-use Rattle.sn_session.specs.declared.session.Presence.TheVariants.{Active, Asleep, Disconnected}
+use Rattle.sn_session.specs.declared.presence.Presence.TheVariants.{Active, Asleep, Disconnected}
 use Rattle.sn_session.specs.declared.session.Session.{Session}
-use Rattle.sn_session.specs.declared.session.SessionOp.TheVariants.{Take, Presence}
+use Rattle.sn_session.specs.declared.change.SessionOp.TheVariants.{Take, Presence}
 use Rattle.sn_session.specs.Session.{empty_session}
 use Rattle.rep_ops.specs.declared.op.Put.{Put}
 use Rattle.rep_model.specs.declared.view.ClientView.{ClientView}

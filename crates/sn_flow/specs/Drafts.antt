@@ -1,6 +1,6 @@
 -- What a row of the step table says, in seven words.
 use Rattle.std.specs.Prelude.{ℕ, List, [], ◌∷◌, ◌++◌, Option, Some, None}
-use Rattle.sn_session.specs.declared.session.SessionOp.{SessionOp}
+use Rattle.sn_session.specs.declared.change.SessionOp.{SessionOp}
 use Rattle.sn_frame.specs.declared.frame.Frame.{Frame}
 use Rattle.sn_frame.specs.Grammar.{spelling}
 use Rattle.sn_flow.specs.declared.config.Addr.{Addr}

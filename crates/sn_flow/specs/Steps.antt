@@ -5,8 +5,8 @@ use Rattle.sn_frame.specs.declared.frame.Frame.TheVariants as frames
 use Rattle.sn_frame.specs.declared.flags.Qos.{Qos}
 use Rattle.sn_frame.specs.declared.flags.Qos.TheVariants as levels
 use Rattle.sn_frame.specs.FlagBits.{qos_of}
-use Rattle.sn_session.specs.declared.session.Presence.{Presence}
-use Rattle.sn_session.specs.declared.session.Presence.TheVariants.{Active, Asleep, Awake, Disconnected, Lost}
+use Rattle.sn_session.specs.declared.presence.Presence.{Presence}
+use Rattle.sn_session.specs.declared.presence.Presence.TheVariants.{Active, Asleep, Awake, Disconnected, Lost}
 use Rattle.sn_session.specs.declared.session.Session.{Session}
 use Rattle.sn_flow.specs.declared.config.Addr.{Addr}
 use Rattle.sn_flow.specs.declared.local.Binding.{Binding}

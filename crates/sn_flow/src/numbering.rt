@@ -2,6 +2,7 @@
 
 ghost use Rattle.std.specs.Prelude.{◌≡◌, ℕ, ◌<◌, ◌∷◌, ◌++◌, [], Some, OnOk, IfOk, IfErr, map};
 ghost use Rattle.rep_model.specs.Fresh.{one_more as next_number, next_seq};
+ghost use Rattle.sn_session.specs.Session.{applied};
 ghost use Rattle.sn_flow.specs.Numbering.{with_puts, ack_of};
 ghost use Rattle.sn_flow.specs.Plans.{Becomes};
 
@@ -9,7 +10,7 @@ use super::draft::NewPut;
 use super::fault::StepFault;
 use rep_model::{ClientView, Replica};
 use rep_ops::{ClientId, Op, Put, Stamp};
-use sn_session::{Session, SessionOp};
+use sn_session::{Session, SessionFault, SessionOp};
 use std::alloc::{AllocError, Global};
 use std::marker::Model;
 
@@ -32,6 +33,17 @@ impl Model for Writer {
     ghost Value = { Written };
 
     ghost view = { λ w. record { epoch = w.epoch; counter = w.counter; next = w.next; session = w.session; ops = w.ops.items } };
+}
+
+/// Changes the session. An operation that finds its table full leaves it as it was.
+fn apply(session: &mut Session, alloc: Global, change: &SessionOp) -> Result<(), StepFault>
+    ensures ok { OnOk result (session.new ≡ applied session.old change.now) }
+    ensures err { IfErr result (λ fault. fault ≡ StepFault.Memory) }
+{
+    match session.apply(alloc, change) {
+        Ok(()) | Err(SessionFault::Full) => Ok(()),
+        Err(SessionFault::Memory) => Err(StepFault::Memory),
+    }
 }
 
 fn push(ops: &mut Vec<Op>, op: Op) -> Result<(), AllocError>
@@ -117,7 +129,7 @@ impl Writer {
         requires { self.old.counter < 256 }
         ensures { Becomes result self.new (Some (another client.now gateway change self.old)) }
     {
-        self.session.apply(alloc, &change)?;
+        apply(&mut self.session, alloc, &change)?;
         let op = Op::Session {
             client: client.copy(alloc)?,
             stamp: Stamp {

@@ -1,1 +1,7 @@
+pub mod Fault
+pub mod Tables
+pub mod Topics
+pub mod Subscriptions
+pub mod Received
+pub mod Wills
 pub mod Session

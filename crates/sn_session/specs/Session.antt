@@ -1,21 +1,60 @@
 -- What an operation makes of a session.
-use Rattle.std.specs.Prelude.{Bool, true, false}
-use Rattle.sn_session.specs.declared.session.Presence.{Presence}
-use Rattle.sn_session.specs.declared.session.Presence.TheVariants.{Active}
+use Rattle.std.specs.Prelude.{Bool, true, false, if◌then◌else◌, [], None}
+use Rattle.sn_session.specs.declared.presence.Presence.TheVariants.{Active}
 use Rattle.sn_session.specs.declared.session.Session.{Session}
-use Rattle.sn_session.specs.declared.session.SessionOp.{SessionOp}
-use Rattle.sn_session.specs.declared.session.SessionOp.TheVariants.{Take, Presence as SetPresence}
+use Rattle.sn_session.specs.declared.change.SessionOp.{SessionOp}
+use Rattle.sn_session.specs.declared.change.SessionOp.TheVariants.{Take, Presence as SetPresence, Register, Subscribe, Unsubscribe, WillTopic, WillMsg, Received, Released, Outbound}
+use Rattle.sn_session.specs.Topics.{with_topic, topic_has_no_room}
+use Rattle.sn_session.specs.Subscriptions.{with_subscription, without_filter, filter_has_no_room}
+use Rattle.sn_session.specs.Received.{with_received, without_received, id_has_no_room}
+use Rattle.sn_session.specs.Wills.{with_will_topic, with_will_message}
 
 -- the session of a client of which nothing is known
 abbrev pub empty_session : Session
-empty_session = record { presence = Active; clean = false; duration = 0; next_id = 1 }
+empty_session =
+    record { presence = Active; clean = false; duration = 0; next_id = 1; topics = []; subscriptions = []; will = None; received = []; outbound = None }
 
--- the session after one more operation
+-- whether the operation finds the table full that it would make grow
+abbrev pub is_full : Session → SessionOp → Bool
+is_full session (Take taken) = false
+is_full session (SetPresence presence duration) = false
+is_full session (Register id name known) = topic_has_no_room id session.topics
+is_full session (Subscribe filter qos) = filter_has_no_room filter session.subscriptions
+is_full session (Unsubscribe filter) = false
+is_full session (WillTopic asked) = false
+is_full session (WillMsg message) = false
+is_full session (Received id) = id_has_no_room id session.received
+is_full session (Released id) = false
+is_full session (Outbound exchange next_id) = false
+
+-- the session after one more operation that finds room
+abbrev pub changed : Session → SessionOp → Session
+changed session (Take taken) = taken
+changed session (SetPresence presence duration) = record session { presence = presence; duration = duration }
+changed session (Register id name known) =
+    record session { topics = with_topic (record { id = id; name = name; known = known }) session.topics }
+changed session (Subscribe filter qos) =
+    record session { subscriptions = with_subscription (record { filter = filter; qos = qos }) session.subscriptions }
+changed session (Unsubscribe filter) = record session { subscriptions = without_filter filter session.subscriptions }
+changed session (WillTopic asked) = record session { will = with_will_topic asked session.will }
+changed session (WillMsg message) = record session { will = with_will_message message session.will }
+changed session (Received id) = record session { received = with_received id session.received }
+changed session (Released id) = record session { received = without_received id session.received }
+changed session (Outbound exchange next_id) = record session { outbound = exchange; next_id = next_id }
+
+-- the session after one more operation: one that finds its table full leaves the session as it was
 abbrev pub applied : Session → SessionOp → Session
-applied session (Take taken) = taken
-applied session (SetPresence presence duration) = record session { presence = presence; duration = duration }
+applied session change = if is_full session change then session else changed session change
 
 -- whether the operation holds a whole session
 abbrev pub is_take : SessionOp → Bool
 is_take (Take taken) = true
 is_take (SetPresence presence duration) = false
+is_take (Register id name known) = false
+is_take (Subscribe filter qos) = false
+is_take (Unsubscribe filter) = false
+is_take (WillTopic asked) = false
+is_take (WillMsg message) = false
+is_take (Received id) = false
+is_take (Released id) = false
+is_take (Outbound exchange next_id) = false

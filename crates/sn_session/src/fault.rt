@@ -1,23 +1,49 @@
 //! Why an operation was not applied.
 
 ghost use Rattle.std.specs.Prelude.{◌≡◌};
-ghost use Rattle.sn_session.specs.declared.fault.SessionFault.TheVariants.{Memory};
+ghost use Rattle.sn_session.specs.Fault.{number_of};
+ghost use Rattle.sn_session.specs.declared.fault.SessionFault.TheVariants as faults;
 
+use sn_topic::TopicFault;
 use std::alloc::AllocError;
 use thiserror::Error;
 
-/// Why an operation was not applied.
+/// Why an operation was not applied. The session is as it was.
 #[derive(Clone, Copy, Debug, PartialEq, Eq, Error)]
 pub enum SessionFault {
-    /// Memory ran out; the session is as it was.
+    /// A table would have more than 256 entries.
+    #[error("a table of a session is full")]
+    Full,
+    /// Memory ran out.
     #[error("out of memory while a session was changed or copied")]
     Memory,
 }
 
+impl SessionFault {
+    /// The number by which reports name the fault, 1 or 2.
+    pub fn number(&self) -> u8
+        ensures { result ≡ number_of self.now }
+    {
+        match self {
+            SessionFault::Full => 1,
+            SessionFault::Memory => 2,
+        }
+    }
+}
+
 impl From<AllocError> for SessionFault {
-    ghost from_gives = { λ _ e. e ≡ Memory };
+    ghost from_gives = { λ _ e. e ≡ faults.Memory };
 
     fn from(_error: AllocError) -> SessionFault {
+        SessionFault::Memory
+    }
+}
+
+// A session only copies topics, and a copy is refused for want of memory alone.
+impl From<TopicFault> for SessionFault {
+    ghost from_gives = { λ _ e. e ≡ faults.Memory };
+
+    fn from(_error: TopicFault) -> SessionFault {
         SessionFault::Memory
     }
 }

@@ -1,25 +1,20 @@
-//! The session and its operations.
+//! What a gateway knows of a client.
 
-ghost use Rattle.std.specs.Prelude.{◌≡◌, IfOk, OnOk, OnErr};
-ghost use Rattle.sn_session.specs.Session.{applied, empty_session};
+ghost use Rattle.std.specs.Prelude.{◌≡◌, ◌≤◌, IfOk, IfErr, IfSome, option_copied};
+ghost use Rattle.sn_session.specs.Session.{empty_session};
+ghost use Rattle.sn_session.specs.Topics.{topic_of, topic_named, topic_id, free_id, IsLeastUnused, IsLeastIdOf};
+ghost use Rattle.sn_session.specs.Subscriptions.{qos_of, asked_qos, subscribed_qos, IsGreatest};
+ghost use Rattle.sn_session.specs.Received.{is_received};
 
-use super::fault::SessionFault;
+use crate::fault::SessionFault;
+use crate::outbound::Outbound;
+use crate::presence::Presence;
+use crate::received::Received;
+use crate::subscriptions::Subscriptions;
+use crate::topics::{TopicEntry, Topics};
+use crate::will::Will;
+use sn_topic::{Filter, TopicName};
 use std::alloc::Global;
-
-/// Where a client is (MQTT-SN 1.2 section 6.14).
-#[derive(Clone, Copy, Debug, PartialEq, Eq)]
-pub enum Presence {
-    /// It is connected and its messages are sent to it.
-    Active,
-    /// It sleeps; its messages are buffered.
-    Asleep,
-    /// It woke up by a PINGREQ and is being sent what was buffered.
-    Awake,
-    /// It has disconnected.
-    Disconnected,
-    /// Nothing was heard of it for too long.
-    Lost,
-}
 
 /// What a gateway knows of a client.
 #[derive(Debug, Drop, PartialEq, Eq)]
@@ -32,20 +27,21 @@ pub struct Session {
     pub duration: u16,
     /// The message id of the next exchange that the gateway begins; never 0.
     pub next_id: u16,
-}
-
-/// A change of a session.
-#[derive(Debug, Drop, PartialEq, Eq)]
-pub enum SessionOp {
-    /// A gateway takes the client over, with this session.
-    Take(Session),
-    /// The client is elsewhere now, for a duration in seconds.
-    Presence { presence: Presence, duration: u16 },
+    /// The topic ids that gateway and client agreed on.
+    pub topics: Topics,
+    /// What the client asked for.
+    pub subscriptions: Subscriptions,
+    /// What is published when the client is lost.
+    pub will: Option<Will>,
+    /// The ids of messages of quality of service 2 that the client sent and has not released.
+    pub received: Received,
+    /// The exchange that the gateway has begun.
+    pub outbound: Option<Outbound>,
 }
 
 impl Session {
     /// The session of a client of which nothing is known.
-    pub fn empty(_alloc: Global) -> Session
+    pub fn empty(alloc: Global) -> Session
         ensures { result ≡ empty_session }
     {
         Session {
@@ -53,50 +49,86 @@ impl Session {
             clean: false,
             duration: 0,
             next_id: 1,
+            topics: Topics::empty(alloc),
+            subscriptions: Subscriptions::empty(alloc),
+            will: None,
+            received: Received::empty(alloc),
+            outbound: None,
         }
     }
 
-    /// Changes the session by one operation. On an error it is as it was.
-    pub fn apply(&mut self, alloc: Global, change: &SessionOp) -> Result<(), SessionFault>
-        ensures ok { OnOk result (self.new ≡ applied self.old change.now) }
-        ensures err { OnErr result (self.new ≡ self.old) }
+    /// The entry of a topic id.
+    pub fn topic_of(&self, id: u16) -> Option<&TopicEntry>
+        ensures { option_copied result ≡ topic_of id self.now.topics }
     {
-        match change {
-            SessionOp::Take(taken) => {
-                *self = taken.copy(alloc)?;
-            }
-            SessionOp::Presence { presence, duration } => {
-                self.presence = *presence;
-                self.duration = *duration;
-            }
-        }
-        Ok(())
+        self.topics.topic_of(id)
+    }
+
+    /// The entry of a topic name; of several that with the least id.
+    pub fn topic_named(&self, name: &TopicName) -> Option<&TopicEntry>
+        ensures { option_copied result ≡ topic_named name.now self.now.topics }
+    {
+        self.topics.topic_named(name)
+    }
+
+    /// The least id of a topic name.
+    pub fn topic_id(&self, name: &TopicName) -> Option<u16>
+        ensures value { result ≡ topic_id name.now self.now.topics }
+        ensures least { IfSome result (IsLeastIdOf name.now self.now.topics) }
+    {
+        self.topics.topic_id(name)
+    }
+
+    /// The least topic id from 1 on that is not in use; nothing where 256 are. So it is at most 257.
+    pub fn free_id(&self) -> Option<u16>
+        ensures value { result ≡ free_id self.now.topics }
+        ensures least { IfSome result (IsLeastUnused self.now.topics) }
+        ensures limit { IfSome result (λ id. id ≤ 257) }
+    {
+        self.topics.free_id()
+    }
+
+    /// The quality of service of a filter that the client subscribed to.
+    pub fn subscription(&self, filter: &Filter) -> Option<u8>
+        ensures { result ≡ qos_of filter.now self.now.subscriptions }
+    {
+        self.subscriptions.qos_of(filter)
+    }
+
+    /// The greatest quality of service of the filters that ask for a topic; nothing where none does.
+    pub fn subscribed_qos(&self, name: &TopicName) -> Option<u8>
+        ensures value { result ≡ subscribed_qos name.now self.now.subscriptions }
+        ensures greatest { IfSome result (IsGreatest (asked_qos name.now self.now.subscriptions)) }
+    {
+        self.subscriptions.subscribed_qos(name)
+    }
+
+    /// Whether a message of this id was received and is not released.
+    pub fn is_received(&self, id: u16) -> bool
+        ensures { result ≡ is_received id self.now.received }
+    {
+        self.received.contains(id)
     }
 
     /// An equal session.
-    pub fn copy(&self, _alloc: Global) -> Result<Session, SessionFault>
-        ensures { IfOk result (λ made. made ≡ self.now) }
+    pub fn copy(&self, alloc: Global) -> Result<Session, SessionFault>
+        ensures ok { IfOk result (λ made. made ≡ self.now) }
+        ensures err { IfErr result (λ fault. fault ≡ SessionFault.Memory) }
     {
+        let will = match &self.will {
+            None => None,
+            Some(will) => Some(will.copy(alloc)?),
+        };
         Ok(Session {
             presence: self.presence,
             clean: self.clean,
             duration: self.duration,
             next_id: self.next_id,
+            topics: self.topics.copy(alloc)?,
+            subscriptions: self.subscriptions.copy(alloc)?,
+            will,
+            received: self.received.copy(alloc)?,
+            outbound: self.outbound,
         })
-    }
-}
-
-impl SessionOp {
-    /// An equal operation.
-    pub fn copy(&self, alloc: Global) -> Result<SessionOp, SessionFault>
-        ensures { IfOk result (λ made. made ≡ self.now) }
-    {
-        match self {
-            SessionOp::Take(taken) => Ok(SessionOp::Take(taken.copy(alloc)?)),
-            SessionOp::Presence { presence, duration } => Ok(SessionOp::Presence {
-                presence: *presence,
-                duration: *duration,
-            }),
-        }
     }
 }

@@ -2,10 +2,12 @@
 
 ghost use Rattle.std.specs.Prelude.{◌≡◌};
 ghost use Rattle.std.specs.Int.{w16, w32, w64};
+ghost use Rattle.rep_ops.specs.Ranges.{is_topic_id as id_test};
 ghost use Rattle.rep_ops.specs.Reading.{Gives, octet_at, octets_at, number_at, is_counted as counted_test, ranged, client_at, topic_at, body_at};
 
 use crate::client_id::ClientId;
 use crate::fault::OpsFault;
+use crate::range::is_topic_id;
 use crate::size::MAX_BODY;
 use octets::{Octets, read_u16, read_u32, read_u64};
 use sn_topic::TopicName;
@@ -33,7 +35,7 @@ pub fn read_counted_octet(bytes: &[u8]) -> Result<(u8, &[u8]), OpsFault>
 }
 
 /// So many octets.
-fn read_octets(count: usize, bytes: &[u8]) -> Result<(&[u8], &[u8]), OpsFault>
+pub fn read_octets(count: usize, bytes: &[u8]) -> Result<(&[u8], &[u8]), OpsFault>
     ensures { Gives (λ x. (x.0.now, x.1.now)) result (octets_at count bytes.now) }
 {
     if bytes.len() < count {
@@ -81,6 +83,17 @@ pub fn read_counted_two(bytes: &[u8]) -> Result<(u16, &[u8]), OpsFault>
         return Err(OpsFault::Kind);
     }
     Ok((number, rest))
+}
+
+/// A topic id that is not reserved.
+pub fn read_topic_id(bytes: &[u8]) -> Result<(u16, &[u8]), OpsFault>
+    ensures { Gives (λ x. (x.0, x.1.now)) result (ranged id_test (number_at w16) bytes.now) }
+{
+    let (id, rest) = read_two(bytes)?;
+    if !is_topic_id(id) {
+        return Err(OpsFault::Kind);
+    }
+    Ok((id, rest))
 }
 
 /// A number of eight octets that is not 0.

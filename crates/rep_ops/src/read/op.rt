@@ -21,7 +21,7 @@ fn read_session_op(alloc: Global, bytes: &[u8]) -> Result<(Op, &[u8]), OpsFault>
     let (epoch, rest) = read_counted_eight(rest)?;
     let (gateway, rest) = read_counted_octet(rest)?;
     let (counter, rest) = read_octet(rest)?;
-    let (change, rest) = read_change(counter, rest)?;
+    let (change, rest) = read_change(alloc, counter, rest)?;
     let op = Op::Session {
         client,
         stamp: Stamp { epoch, gateway },

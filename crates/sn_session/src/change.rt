@@ -1,0 +1,159 @@
+//! The operations that change a session.
+
+ghost use Rattle.std.specs.Prelude.{◌≡◌, ◌↔◌, IfOk, IfErr, OnOk, OnErr, IsErrOf, IsTrue};
+ghost use Rattle.sn_session.specs.Session.{applied, is_full, is_take};
+
+use crate::fault::SessionFault;
+use crate::outbound::Outbound;
+use crate::presence::Presence;
+use crate::session::Session;
+use crate::will::{WillTopic, set_message, set_topic};
+use octets::Octets;
+use sn_topic::{Filter, TopicName};
+use std::alloc::Global;
+
+/// A change of a session.
+#[derive(Debug, Drop, PartialEq, Eq)]
+pub enum SessionOp {
+    /// A gateway takes the client over, with this session.
+    Take(Session),
+    /// The client is elsewhere now, for a duration in seconds.
+    Presence {
+        presence: Presence,
+        duration: u16,
+    },
+    /// The id stands for this name now.
+    Register {
+        id: u16,
+        name: TopicName,
+        known: bool,
+    },
+    /// The client asks for these topics, at this quality of service at most.
+    Subscribe {
+        filter: Filter,
+        qos: u8,
+    },
+    /// The client no longer asks for these topics.
+    Unsubscribe {
+        filter: Filter,
+    },
+    /// The will has another topic, or there is none from now on.
+    WillTopic(Option<WillTopic>),
+    /// The will, if there is one, has another message.
+    WillMsg(Octets),
+    /// The client sent a message of quality of service 2 under this id.
+    Received {
+        id: u16,
+    },
+    /// The client released the message of this id.
+    Released {
+        id: u16,
+    },
+    /// The gateway began an exchange, took it further or ended it; the next one has this message id.
+    Outbound {
+        exchange: Option<Outbound>,
+        next_id: u16,
+    },
+}
+
+impl SessionOp {
+    /// Whether the operation holds a whole session.
+    pub fn is_take(&self) -> bool
+        ensures { result ≡ is_take self.now }
+    {
+        matches!(self, SessionOp::Take(_))
+    }
+
+    /// An equal operation.
+    pub fn copy(&self, alloc: Global) -> Result<SessionOp, SessionFault>
+        ensures ok { IfOk result (λ made. made ≡ self.now) }
+        ensures err { IfErr result (λ fault. fault ≡ SessionFault.Memory) }
+    {
+        match self {
+            SessionOp::Take(taken) => Ok(SessionOp::Take(taken.copy(alloc)?)),
+            SessionOp::Presence { presence, duration } => Ok(SessionOp::Presence {
+                presence: *presence,
+                duration: *duration,
+            }),
+            SessionOp::Register { id, name, known } => Ok(SessionOp::Register {
+                id: *id,
+                name: name.copy(alloc)?,
+                known: *known,
+            }),
+            SessionOp::Subscribe { filter, qos } => Ok(SessionOp::Subscribe {
+                filter: filter.copy(alloc)?,
+                qos: *qos,
+            }),
+            SessionOp::Unsubscribe { filter } => Ok(SessionOp::Unsubscribe {
+                filter: filter.copy(alloc)?,
+            }),
+            SessionOp::WillTopic(None) => Ok(SessionOp::WillTopic(None)),
+            SessionOp::WillTopic(Some(asked)) => Ok(SessionOp::WillTopic(Some(asked.copy(alloc)?))),
+            SessionOp::WillMsg(message) => Ok(SessionOp::WillMsg(message.copy(alloc)?)),
+            SessionOp::Received { id } => Ok(SessionOp::Received { id: *id }),
+            SessionOp::Released { id } => Ok(SessionOp::Released { id: *id }),
+            SessionOp::Outbound { exchange, next_id } => Ok(SessionOp::Outbound {
+                exchange: *exchange,
+                next_id: *next_id,
+            }),
+        }
+    }
+}
+
+impl Session {
+    /// Whether the operation would make a table of 256 entries grow.
+    pub fn is_full(&self, change: &SessionOp) -> bool
+        ensures { result ≡ is_full self.now change.now }
+    {
+        match change {
+            SessionOp::Register { id, .. } => self.topics.has_no_room(*id),
+            SessionOp::Subscribe { filter, .. } => self.subscriptions.has_no_room(filter),
+            SessionOp::Received { id } => self.received.has_no_room(*id),
+            SessionOp::Take(_)
+            | SessionOp::Presence { .. }
+            | SessionOp::Unsubscribe { .. }
+            | SessionOp::WillTopic(_)
+            | SessionOp::WillMsg(_)
+            | SessionOp::Released { .. }
+            | SessionOp::Outbound { .. } => false,
+        }
+    }
+
+    /// Changes the session by one operation. `Full` exactly where a table of 256 entries would grow. On an error the
+    /// session is as it was.
+    pub fn apply(&mut self, alloc: Global, change: &SessionOp) -> Result<(), SessionFault>
+        ensures ok { OnOk result (self.new ≡ applied self.old change.now) }
+        ensures err { OnErr result (self.new ≡ self.old) }
+        ensures full { IsErrOf result SessionFault.Full ↔ IsTrue (is_full self.old change.now) }
+    {
+        match change {
+            SessionOp::Take(taken) => {
+                *self = taken.copy(alloc)?;
+                Ok(())
+            }
+            SessionOp::Presence { presence, duration } => {
+                self.presence = *presence;
+                self.duration = *duration;
+                Ok(())
+            }
+            SessionOp::Register { id, name, known } => self.topics.set(alloc, *id, name, *known),
+            SessionOp::Subscribe { filter, qos } => self.subscriptions.set(alloc, filter, *qos),
+            SessionOp::Unsubscribe { filter } => {
+                self.subscriptions.remove(filter);
+                Ok(())
+            }
+            SessionOp::WillTopic(asked) => set_topic(&mut self.will, alloc, asked),
+            SessionOp::WillMsg(message) => set_message(&mut self.will, alloc, message),
+            SessionOp::Received { id } => self.received.add(*id),
+            SessionOp::Released { id } => {
+                self.received.remove(*id);
+                Ok(())
+            }
+            SessionOp::Outbound { exchange, next_id } => {
+                self.outbound = *exchange;
+                self.next_id = *next_id;
+                Ok(())
+            }
+        }
+    }
+}

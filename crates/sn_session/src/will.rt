@@ -1,0 +1,113 @@
+//! The will of a client: what is published when the client is lost (MQTT-SN 1.2 section 6.3).
+
+ghost use Rattle.std.specs.Prelude.{◌≡◌, IfOk, IfErr, OnOk, OnErr};
+ghost use Rattle.sn_session.specs.Wills.{with_will_topic, with_will_message};
+
+use crate::fault::SessionFault;
+use octets::Octets;
+use sn_topic::TopicName;
+use std::alloc::Global;
+
+/// What a client says of its will by WILLTOPIC or WILLTOPICUPD.
+#[derive(Debug, Drop, PartialEq, Eq)]
+pub struct WillTopic {
+    /// Where the will is published.
+    pub topic: TopicName,
+    /// Its quality of service, 0 to 2.
+    pub qos: u8,
+    /// Whether it is to be retained.
+    pub retain: bool,
+}
+
+/// A will.
+#[derive(Debug, Drop, PartialEq, Eq)]
+pub struct Will {
+    /// Where it is published.
+    pub topic: TopicName,
+    /// Its quality of service, 0 to 2.
+    pub qos: u8,
+    /// Whether it is to be retained.
+    pub retain: bool,
+    /// What is published.
+    pub message: Octets,
+}
+
+impl WillTopic {
+    /// An equal value.
+    pub fn copy(&self, alloc: Global) -> Result<WillTopic, SessionFault>
+        ensures ok { IfOk result (λ made. made ≡ self.now) }
+        ensures err { IfErr result (λ fault. fault ≡ SessionFault.Memory) }
+    {
+        Ok(WillTopic {
+            topic: self.topic.copy(alloc)?,
+            qos: self.qos,
+            retain: self.retain,
+        })
+    }
+}
+
+impl Will {
+    /// An equal will.
+    pub fn copy(&self, alloc: Global) -> Result<Will, SessionFault>
+        ensures ok { IfOk result (λ made. made ≡ self.now) }
+        ensures err { IfErr result (λ fault. fault ≡ SessionFault.Memory) }
+    {
+        Ok(Will {
+            topic: self.topic.copy(alloc)?,
+            qos: self.qos,
+            retain: self.retain,
+            message: self.message.copy(alloc)?,
+        })
+    }
+}
+
+/// Sets the topic of a will: a new will has an empty message, one that is there keeps its message. No topic deletes
+/// the will. On an error it is as it was.
+pub fn set_topic(
+    will: &mut Option<Will>,
+    alloc: Global,
+    asked: &Option<WillTopic>,
+) -> Result<(), SessionFault>
+    ensures ok { OnOk result (will.new ≡ with_will_topic asked.now will.old) }
+    ensures err { OnErr result (will.new ≡ will.old) }
+    ensures memory { IfErr result (λ fault. fault ≡ SessionFault.Memory) }
+{
+    let Some(asked) = asked else {
+        *will = None;
+        return Ok(());
+    };
+    let topic = asked.topic.copy(alloc)?;
+    match will {
+        None => {
+            *will = Some(Will {
+                topic,
+                qos: asked.qos,
+                retain: asked.retain,
+                message: Octets::new(Vec::new(alloc)),
+            });
+        }
+        Some(will) => {
+            will.topic = topic;
+            will.qos = asked.qos;
+            will.retain = asked.retain;
+        }
+    }
+    Ok(())
+}
+
+/// Sets the message of a will, if there is one. On an error it is as it was.
+pub fn set_message(
+    will: &mut Option<Will>,
+    alloc: Global,
+    message: &Octets,
+) -> Result<(), SessionFault>
+    ensures ok { OnOk result (will.new ≡ with_will_message message.now will.old) }
+    ensures err { OnErr result (will.new ≡ will.old) }
+    ensures memory { IfErr result (λ fault. fault ≡ SessionFault.Memory) }
+{
+    match will {
+        None => {}
+        Some(will) => will.message = message.copy(alloc)?,
+    }
+    Ok(())
+}
