@@ -23,6 +23,8 @@ mod printing;
 mod replica;
 mod script;
 mod session_lines;
+#[cfg(test)]
+mod session_rows;
 mod source;
 #[cfg(test)]
 mod tests;

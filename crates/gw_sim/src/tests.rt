@@ -20,7 +20,7 @@ use std::process::Abort;
 use std::test::Fail;
 
 /// Plays a script, and looks at what is printed and at the status.
-fn check_row(
+pub fn check_row(
     rt: &impl Abort,
     alloc: Global,
     script: &str,
