@@ -23,9 +23,9 @@ use Rattle.gw_world.proofs.Shown.{keeping, frame_taken, take_taken}
 pub place_shown : (n i : ℕ) (gs ks : List Gateway) → AreShown gs ks → place_from n i gs ≡ place_from n i ks
 place_shown n i [] [] s = refl
 place_shown n i (g ∷ gs) (k ∷ ks) s =
-    let number : g.number ≡ k.number = sym s.0.numbered in
+    let config : g.config ≡ k.config = sym s.0.configured in
     let rest : place_from n (i + 1) gs ≡ place_from n (i + 1) ks = place_shown n (i + 1) gs ks s.1 in
-    λ j. if number j == n then Some i else rest j
+    λ j. if (config j).gateway == n then Some i else rest j
 place_shown n i [] (k ∷ ks) s = absurd s
 place_shown n i (g ∷ gs) [] s = absurd s
 
@@ -61,16 +61,16 @@ module _ (field : Field) (ks : List Gateway) (s : AreShown field.gateways ks) wh
   place_there n i e = place_shown n 0 field.gateways ks s ∙ e
 
   -- one gateway moves in its place
-  moved : (i : ℕ) (old new next : Gateway) (news : List Gateway) → Moves ks i old new news → IsShown next (keeping old new.taken new.bindings) → AreShown (set field.gateways i next) news
+  moved : (i : ℕ) (old new next : Gateway) (news : List Gateway) → Moves ks i old new news → IsShown next (keeping old new.taken new.local) → AreShown (set field.gateways i next) news
   moved i old new next news moves shown =
       subst (λ xs. AreShown (set field.gateways i next) xs) (sym moves.moved)
-      (shown_set field.gateways ks i next new s (record { numbered = moves.numbered ∙ shown.numbered; bound = shown.bound; keeps = shown.keeps }))
+      (shown_set field.gateways ks i next new s (record { configured = moves.configured ∙ shown.configured; bound = shown.bound; keeps = shown.keeps }))
 
   pub event_reaches : (deltas : List (List Op)) (listed : field.deltas ≡ deltas) (event : Event) (news : List Gateway) (next : List (List Op)) (answer : Answer)
       → EventKept ks deltas event news next answer → Reaches field event answer news next
   event_reaches deltas listed (Frame n from bytes now) news next (Node answer) (i, place, ((old, new, moves, kept), is_next)) =
       let at = shown_at field.gateways ks i old s moves.place in
-      let leads = frame_taken at.gateway old at.shown from bytes now answer new.taken new.bindings kept in
+      let leads = frame_taken at.gateway old at.shown from bytes now answer new.taken new.local kept in
       record {
         new = record { gateways = set field.gateways i leads.next; deltas = field.deltas ++ made_of answer };
         after = (i, at.gateway, leads.next, made_of answer, (place_there n i place, at.place), leads.step, refl);
@@ -79,7 +79,7 @@ module _ (field : Field) (ks : List Gateway) (s : AreShown field.gateways ks) wh
       }
   event_reaches deltas listed (Take n delta) news next (Node answer) (i, place, (ops, (one, there), (old, new, moves, kept), is_next)) =
       let at = shown_at field.gateways ks i old s moves.place in
-      let leads = take_taken at.gateway old at.shown ops answer new.taken new.bindings kept in
+      let leads = take_taken at.gateway old at.shown ops answer new.taken new.local kept in
       record {
         new = record { gateways = set field.gateways i leads.next; deltas = field.deltas ++ [] };
         after = (i, at.gateway, leads.next, [], ops, (place_there n i place, at.place), (one, ap (λ ds. slice_get ds (delta - 1)) listed ∙ there), leads.step, refl);
@@ -111,7 +111,7 @@ run_more old mid new (e ∷ events) [] event answer run after = absurd run
 -- at the start every gateway keeps nothing
 pub shown_at_start : (configs : List Config) → AreShown (map new_gateway configs) (map new_gateway configs)
 shown_at_start [] = tt
-shown_at_start (config ∷ configs) = (record { numbered = refl; bound = refl; keeps = keeps_nothing }, shown_at_start configs)
+shown_at_start (config ∷ configs) = (record { configured = refl; bound = refl; keeps = keeps_nothing }, shown_at_start configs)
 
 -- what is kept after one more event
 pub kept_more : (olds : List Gateway) (ds : List (List Op)) (events : List Event) (answers : List Answer) (ks : List Gateway) (deltas : List (List Op))

@@ -21,21 +21,21 @@ pub on_refusal : (trouble : Trouble) (P Q : NodeFault → Type 0) → ((fault : 
 on_refusal (Refused fault) P Q f h = f fault h
 on_refusal Memory P Q f h = tt
 
-module _ {N : Type 0} (f : N → Gateway) (nodes : List N) (i : ℕ) (old new : N) (place : slice_get nodes i ≡ Some old) (numbered : (f new).number ≡ (f old).number) where
+module _ {N : Type 0} (f : N → Gateway) (nodes : List N) (i : ℕ) (old new : N) (place : slice_get nodes i ≡ Some old) (configured : (f new).config ≡ (f old).config) where
   pub moves_in_place : Moves (map f nodes) i (f old) (f new) (map f (set nodes i new))
   moves_in_place = record {
     place = slice_get-map f nodes i ∙ ap (λ (x : Option N). option_map f x) place;
-    numbered = numbered;
+    configured = configured;
     moved = map-set f nodes i new;
   }
 
   pub frame_in_place : (from : Addr) (bytes : List ℕ) (now : ℕ) (answer : Result Out NodeFault)
-      → FrameKept (f old).number (f old).taken (f old).bindings from bytes now answer (f new).taken (f new).bindings
+      → FrameKept (f old).config (f old).taken (f old).local from bytes now answer (f new).taken (f new).local
       → FrameAt (map f nodes) i from bytes now answer (map f (set nodes i new))
   frame_in_place from bytes now answer h = (f old, f new, moves_in_place, h)
 
   pub take_in_place : (delta : List Op) (answer : Result Out NodeFault)
-      → TakeKept (f old).number (f old).taken (f old).bindings delta answer (f new).taken (f new).bindings
+      → TakeKept (f old).config (f old).taken (f old).local delta answer (f new).taken (f new).local
       → TakeAt (map f nodes) i delta answer (map f (set nodes i new))
   take_in_place delta answer h = (f old, f new, moves_in_place, h)
 

@@ -3,10 +3,10 @@ use Rattle.std.proofs.Common.{◌≡◌, ℕ, List, [], ◌∷◌, ◌++◌, Opt
 use Rattle.std.specs.Option.{option_to_list}
 use Rattle.rep_ops.specs.declared.op.Op.{Op}
 use Rattle.sn_flow.specs.declared.config.Addr.{Addr}
-use Rattle.sn_flow.specs.declared.local.Binding.{Binding}
+use Rattle.sn_flow.specs.Locals.{Local}
 use Rattle.sn_flow.specs.declared.plan.Plan.{Plan}
 use Rattle.sn_flow.specs.Plans.{seen_of}
-use Rattle.sn_flow.specs.Bindings.{after_all, owned}
+use Rattle.sn_flow.specs.Locals.{after_all, owned}
 use Rattle.sn_flow.specs.Steps.{step}
 use Rattle.gw_world.specs.declared.event.Out.{Out}
 use Rattle.gw_world.specs.declared.event.NodeFault.{NodeFault}
@@ -19,29 +19,29 @@ use Rattle.gw_world.specs.Keeping.{Keeps, IsShown}
 use Rattle.gw_world.proofs.Held.{keeps_more, seen_same, takable, conflict_with_taken, full_for_taken}
 
 -- a gateway whose replica keeps this
-abbrev pub keeping : Gateway → List Op → List Binding → Gateway
-keeping k kept bindings = record { number = k.number; taken = kept; bindings = bindings }
+abbrev pub keeping : Gateway → List Op → Local → Gateway
+keeping k kept local = record { config = k.config; taken = kept; local = local }
 
 -- what one event at one gateway leads to: a step of its definition, after which the gateway still keeps as it should
-pub record Leads (Step : Gateway → List (List Op) → Type 0) (k : Gateway) (kept : List Op) (bindings : List Binding) (made : List (List Op)) : Type 0 where
+pub record Leads (Step : Gateway → List (List Op) → Type 0) (k : Gateway) (kept : List Op) (local : Local) (made : List (List Op)) : Type 0 where
   pub next : Gateway
   pub step : Step next made
-  pub shown : IsShown next (keeping k kept bindings)
+  pub shown : IsShown next (keeping k kept local)
 
 module _ (g k : Gateway) (s : IsShown g k) where
   -- the plan by what is kept is the plan by what was taken
-  plan_taken : (from : Addr) (bytes : List ℕ) (now : ℕ) (plan : Option Plan) → IsPlanFor k.number k.taken k.bindings from bytes now plan → IsPlan g from bytes now plan
+  plan_taken : (from : Addr) (bytes : List ℕ) (now : ℕ) (plan : Option Plan) → IsPlanFor k.config k.taken k.local from bytes now plan → IsPlan g from bytes now plan
   plan_taken from bytes now plan (frame, value, spells, is) =
       let seen : seen_of k.taken ≡ seen_of g.taken = seen_same g.taken k.taken s.keeps.counts in
-      let same : step k.number (seen_of k.taken) k.bindings from frame now ≡ step g.number (seen_of g.taken) g.bindings from frame now =
-      λ i. step (s.numbered i) (seen i) (s.bound i) from frame now in
+      let same : step k.config (seen_of k.taken) k.local from frame now ≡ step g.config (seen_of g.taken) g.local from frame now =
+      λ i. step (s.configured i) (seen i) (s.bound i) from frame now in
       (frame, value, spells, sym same ∙ is)
 
   -- nothing changed
-  stays : (kept : List Op) (bindings : List Binding) → kept ≡ k.taken → bindings ≡ k.bindings → IsShown g (keeping k kept bindings)
-  stays kept bindings same_kept same_bindings = record {
-    numbered = s.numbered;
-    bound = same_bindings ∙ s.bound;
+  stays : (kept : List Op) (local : Local) → kept ≡ k.taken → local ≡ k.local → IsShown g (keeping k kept local)
+  stays kept local same_kept same_local = record {
+    configured = s.configured;
+    bound = same_local ∙ s.bound;
     keeps = subst (λ K. Keeps g.taken K) (sym same_kept) s.keeps;
   }
 
@@ -49,18 +49,18 @@ module _ (g k : Gateway) (s : IsShown g k) where
   unchanged = record { same = refl; none = refl }
 
   made_taken : (plan : Plan) (ops : List Op) (made : Option (List Op)) (kept : List Op) → Makes ops made k.taken kept
-      → Leads (λ next mades. IsMade ops g plan made next mades) k kept (after_all k.bindings plan.local) (option_to_list made)
+      → Leads (λ next mades. IsMade ops g plan made next mades) k kept (after_all k.local plan.local) (option_to_list made)
   made_taken plan [] None kept h = record {
-    next = record g { bindings = after_all g.bindings plan.local };
+    next = record g { local = after_all g.local plan.local };
     step = (refl, refl);
-    shown = record { numbered = s.numbered; bound = ap (λ b. after_all b plan.local) s.bound; keeps = subst (λ K. Keeps g.taken K) (sym h) s.keeps };
+    shown = record { configured = s.configured; bound = ap (λ b. after_all b plan.local) s.bound; keeps = subst (λ K. Keeps g.taken K) (sym h) s.keeps };
   }
   made_taken plan [] (Some delta) kept h = absurd h
   made_taken plan (op ∷ ops) None kept h = absurd h
   made_taken plan (op ∷ ops) (Some delta) kept (is_delta, fits, keeps) = record {
-    next = record g { taken = g.taken ++ delta; bindings = after_all g.bindings plan.local };
+    next = record g { taken = g.taken ++ delta; local = after_all g.local plan.local };
     step = (is_delta, takable g.taken k.taken delta s.keeps fits, refl, refl);
-    shown = record { numbered = s.numbered; bound = ap (λ b. after_all b plan.local) s.bound; keeps = keeps_more g.taken k.taken delta kept s.keeps keeps };
+    shown = record { configured = s.configured; bound = ap (λ b. after_all b plan.local) s.bound; keeps = keeps_more g.taken k.taken delta kept s.keeps keeps };
   }
 
   refused_taken : (delta : List Op) (fault : NodeFault) → IsRefusedFor k.taken delta fault → IsRefused g.taken delta fault
@@ -70,59 +70,59 @@ module _ (g k : Gateway) (s : IsShown g k) where
   refused_taken delta faults.Exhausted h = absurd h
 
   -- what a datagram does by what is kept is a step by what was taken
-  pub frame_taken : (from : Addr) (bytes : List ℕ) (now : ℕ) (answer : Result Out NodeFault) (kept : List Op) (bindings : List Binding)
-      → FrameKept k.number k.taken k.bindings from bytes now answer kept bindings
-      → Leads (λ next mades. FrameStep g from bytes now answer next mades) k kept bindings (made_of answer)
-  frame_taken from bytes now (Ok out) kept bindings (plan, is_plan, sends, bound, makes) =
+  pub frame_taken : (from : Addr) (bytes : List ℕ) (now : ℕ) (answer : Result Out NodeFault) (kept : List Op) (local : Local)
+      → FrameKept k.config k.taken k.local from bytes now answer kept local
+      → Leads (λ next mades. FrameStep g from bytes now answer next mades) k kept local (made_of answer)
+  frame_taken from bytes now (Ok out) kept local (plan, is_plan, sends, bound, makes) =
       let made = made_taken plan plan.ops out.made kept makes in
       record {
         next = made.next;
         step = (plan, plan_taken from bytes now (Some plan) is_plan, (sends, made.step));
-        shown = record { numbered = made.shown.numbered; bound = bound ∙ made.shown.bound; keeps = made.shown.keeps };
+        shown = record { configured = made.shown.configured; bound = bound ∙ made.shown.bound; keeps = made.shown.keeps };
       }
-  frame_taken from bytes now (Err (faults.Frame f)) kept bindings (same_kept, same_bindings, inl first) =
-      record { next = g; step = (first, unchanged); shown = stays kept bindings same_kept same_bindings }
-  frame_taken from bytes now (Err (faults.Frame f)) kept bindings (same_kept, same_bindings, inr (plan, is_plan, inl (delta, is_delta, h))) = absurd h
-  frame_taken from bytes now (Err (faults.Frame f)) kept bindings (same_kept, same_bindings, inr (plan, is_plan, inr (e, h))) = absurd (cc)
-  frame_taken from bytes now (Err (faults.Conflict c)) kept bindings (same_kept, same_bindings, inl first) = absurd first
-  frame_taken from bytes now (Err (faults.Conflict c)) kept bindings (same_kept, same_bindings, inr (plan, is_plan, inl (delta, is_delta, h))) =
+  frame_taken from bytes now (Err (faults.Frame f)) kept local (same_kept, same_local, inl first) =
+      record { next = g; step = (first, unchanged); shown = stays kept local same_kept same_local }
+  frame_taken from bytes now (Err (faults.Frame f)) kept local (same_kept, same_local, inr (plan, is_plan, inl (delta, is_delta, h))) = absurd h
+  frame_taken from bytes now (Err (faults.Frame f)) kept local (same_kept, same_local, inr (plan, is_plan, inr (e, h))) = absurd (cc)
+  frame_taken from bytes now (Err (faults.Conflict c)) kept local (same_kept, same_local, inl first) = absurd first
+  frame_taken from bytes now (Err (faults.Conflict c)) kept local (same_kept, same_local, inr (plan, is_plan, inl (delta, is_delta, h))) =
       record {
         next = g;
         step = (plan, plan_taken from bytes now (Some plan) is_plan, (delta, is_delta, refused_taken delta (faults.Conflict c) h), unchanged);
-        shown = stays kept bindings same_kept same_bindings;
+        shown = stays kept local same_kept same_local;
       }
-  frame_taken from bytes now (Err (faults.Conflict c)) kept bindings (same_kept, same_bindings, inr (plan, is_plan, inr (e, h))) = absurd (cc)
-  frame_taken from bytes now (Err faults.Full) kept bindings (same_kept, same_bindings, inl first) = absurd first
-  frame_taken from bytes now (Err faults.Full) kept bindings (same_kept, same_bindings, inr (plan, is_plan, inl (delta, is_delta, h))) =
+  frame_taken from bytes now (Err (faults.Conflict c)) kept local (same_kept, same_local, inr (plan, is_plan, inr (e, h))) = absurd (cc)
+  frame_taken from bytes now (Err faults.Full) kept local (same_kept, same_local, inl first) = absurd first
+  frame_taken from bytes now (Err faults.Full) kept local (same_kept, same_local, inr (plan, is_plan, inl (delta, is_delta, h))) =
       record {
         next = g;
         step = (plan, plan_taken from bytes now (Some plan) is_plan, inl (delta, is_delta, refused_taken delta faults.Full h), unchanged);
-        shown = stays kept bindings same_kept same_bindings;
+        shown = stays kept local same_kept same_local;
       }
-  frame_taken from bytes now (Err faults.Full) kept bindings (same_kept, same_bindings, inr (plan, is_plan, inr (e, h))) =
+  frame_taken from bytes now (Err faults.Full) kept local (same_kept, same_local, inr (plan, is_plan, inr (e, h))) =
       record {
         next = g;
         step = (plan, plan_taken from bytes now (Some plan) is_plan, inr h, unchanged);
-        shown = stays kept bindings same_kept same_bindings;
+        shown = stays kept local same_kept same_local;
       }
-  frame_taken from bytes now (Err faults.Exhausted) kept bindings (same_kept, same_bindings, inl none) =
-      record { next = g; step = (plan_taken from bytes now None none, unchanged); shown = stays kept bindings same_kept same_bindings }
-  frame_taken from bytes now (Err faults.Exhausted) kept bindings (same_kept, same_bindings, inr (plan, is_plan, inl (delta, is_delta, h))) = absurd h
-  frame_taken from bytes now (Err faults.Exhausted) kept bindings (same_kept, same_bindings, inr (plan, is_plan, inr (e, h))) = absurd (cc)
+  frame_taken from bytes now (Err faults.Exhausted) kept local (same_kept, same_local, inl none) =
+      record { next = g; step = (plan_taken from bytes now None none, unchanged); shown = stays kept local same_kept same_local }
+  frame_taken from bytes now (Err faults.Exhausted) kept local (same_kept, same_local, inr (plan, is_plan, inl (delta, is_delta, h))) = absurd h
+  frame_taken from bytes now (Err faults.Exhausted) kept local (same_kept, same_local, inr (plan, is_plan, inr (e, h))) = absurd (cc)
 
   -- and so for a delta
-  pub take_taken : (delta : List Op) (answer : Result Out NodeFault) (kept : List Op) (bindings : List Binding)
-      → TakeKept k.number k.taken k.bindings delta answer kept bindings
-      → Leads (λ next mades. TakeStep g delta answer next mades) k kept bindings []
-  take_taken delta (Ok out) kept bindings (sends, made, fits, keeps, bound) =
+  pub take_taken : (delta : List Op) (answer : Result Out NodeFault) (kept : List Op) (local : Local)
+      → TakeKept k.config k.taken k.local delta answer kept local
+      → Leads (λ next mades. TakeStep g delta answer next mades) k kept local []
+  take_taken delta (Ok out) kept local (sends, made, fits, keeps, bound) =
       let more = keeps_more g.taken k.taken delta kept s.keeps keeps in
       let seen : seen_of kept ≡ seen_of (g.taken ++ delta) = seen_same (g.taken ++ delta) kept more.counts in
-      let same : owned k.number (seen_of kept) k.bindings ≡ owned g.number (seen_of (g.taken ++ delta)) g.bindings =
-      λ i. owned (s.numbered i) (seen i) (s.bound i) in
+      let same : owned k.config.gateway (seen_of kept) k.local ≡ owned g.config.gateway (seen_of (g.taken ++ delta)) g.local =
+      λ i. owned (s.configured i).gateway (seen i) (s.bound i) in
       record {
-        next = record g { taken = g.taken ++ delta; bindings = owned g.number (seen_of (g.taken ++ delta)) g.bindings };
+        next = record g { taken = g.taken ++ delta; local = owned g.config.gateway (seen_of (g.taken ++ delta)) g.local };
         step = (sends, made, takable g.taken k.taken delta s.keeps fits, refl, refl);
-        shown = record { numbered = s.numbered; bound = bound ∙ same; keeps = more };
+        shown = record { configured = s.configured; bound = bound ∙ same; keeps = more };
       }
-  take_taken delta (Err fault) kept bindings (same_kept, same_bindings, h) =
-      record { next = g; step = (refused_taken delta fault h, unchanged); shown = stays kept bindings same_kept same_bindings }
+  take_taken delta (Err fault) kept local (same_kept, same_local, h) =
+      record { next = g; step = (refused_taken delta fault h, unchanged); shown = stays kept local same_kept same_local }

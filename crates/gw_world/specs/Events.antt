@@ -23,21 +23,21 @@ abbrev pub made_of : Result Out NodeFault → List (List Op)
 made_of (Ok out) = option_to_list out.made
 made_of (Err fault) = []
 
--- the i-th gateway became another; its number stays
+-- the i-th gateway became another; what it was told stays
 pub record Moves (olds : List Gateway) (i : ℕ) (old new : Gateway) (news : List Gateway) : Type 0 where
   pub place : slice_get olds i ≡ Some old
-  pub numbered : new.number ≡ old.number
+  pub configured : new.config ≡ old.config
   pub moved : news ≡ slice_set olds i new
 
 abbrev pub FrameAt : List Gateway → ℕ → Addr → List ℕ → ℕ → Result Out NodeFault → List Gateway → Type 0
 FrameAt olds i from bytes now answer news =
     (old : Gateway) × (new : Gateway) × Moves olds i old new news
-    × FrameKept old.number old.taken old.bindings from bytes now answer new.taken new.bindings
+    × FrameKept old.config old.taken old.local from bytes now answer new.taken new.local
 
 abbrev pub TakeAt : List Gateway → ℕ → List Op → Result Out NodeFault → List Gateway → Type 0
 TakeAt olds i delta answer news =
     (old : Gateway) × (new : Gateway) × Moves olds i old new news
-    × TakeKept old.number old.taken old.bindings delta answer new.taken new.bindings
+    × TakeKept old.config old.taken old.local delta answer new.taken new.local
 
 -- the answer to a datagram, and the list of deltas after it
 abbrev pub FrameAnswered : List Gateway → List (List Op) → ℕ → Addr → List ℕ → ℕ → List Gateway → List (List Op) → Answer → Type 0

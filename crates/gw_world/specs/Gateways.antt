@@ -1,21 +1,21 @@
--- A gateway as the field sees it: its number, the set of operations that it has made and taken, and which address is which client.
+-- A gateway as the field sees it: what it was told, the set of operations that it has made and taken, and what else it knows.
 use Rattle.std.specs.Prelude.{ℕ, ◌+◌, ◌==◌, if◌then◌else◌, List, [], ◌∷◌, Option, Some, None}
 use Rattle.rep_ops.specs.declared.op.Op.{Op}
 use Rattle.sn_flow.specs.declared.config.Config.{Config}
-use Rattle.sn_flow.specs.declared.local.Binding.{Binding}
+use Rattle.sn_flow.specs.Locals.{Local, no_local}
 
 pub record Gateway : Type 0 where
-  pub number : ℕ
+  pub config : Config
   pub taken : List Op
-  pub bindings : List Binding
+  pub local : Local
 
 -- at the start it has taken nothing
 abbrev pub new_gateway : Config → Gateway
-new_gateway config = record { number = config.gateway; taken = []; bindings = [] }
+new_gateway config = record { config = config; taken = []; local = no_local }
 
 abbrev pub place_from : ℕ → ℕ → List Gateway → Option ℕ
 place_from number i [] = None
-place_from number i (gateway ∷ rest) = if gateway.number == number then Some i else place_from number (i + 1) rest
+place_from number i (gateway ∷ rest) = if gateway.config.gateway == number then Some i else place_from number (i + 1) rest
 
 -- the place of the gateway of this number; the first, where two have it
 abbrev pub place_of : ℕ → List Gateway → Option ℕ

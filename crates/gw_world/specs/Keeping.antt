@@ -17,8 +17,8 @@ pub record Keeps (taken kept : List Op) : Type 0 where
 
 -- `kept` is the gateway with what its replica keeps in the place of what it has taken
 pub record IsShown (gateway kept : Gateway) : Type 0 where
-  pub numbered : kept.number ≡ gateway.number
-  pub bound : kept.bindings ≡ gateway.bindings
+  pub configured : kept.config ≡ gateway.config
+  pub bound : kept.local ≡ gateway.local
   pub keeps : Keeps gateway.taken kept.taken
 
 -- and so for each gateway

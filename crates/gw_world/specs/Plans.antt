@@ -13,10 +13,11 @@ use Rattle.sn_frame.specs.Bodies.{IsValue}
 use Rattle.sn_frame.specs.Grammar.{Spells}
 use Rattle.sn_frame.specs.Faults.{IsFirstFault}
 use Rattle.sn_flow.specs.declared.config.Addr.{Addr}
-use Rattle.sn_flow.specs.declared.local.Binding.{Binding}
+use Rattle.sn_flow.specs.declared.config.Config.{Config}
+use Rattle.sn_flow.specs.Locals.{Local}
 use Rattle.sn_flow.specs.declared.plan.Plan.{Plan}
 use Rattle.sn_flow.specs.Plans.{seen_of}
-use Rattle.sn_flow.specs.Bindings.{after_all, owned}
+use Rattle.sn_flow.specs.Locals.{after_all, owned}
 use Rattle.sn_flow.specs.Steps.{step}
 use Rattle.gw_world.specs.declared.event.Out.{Out}
 use Rattle.gw_world.specs.declared.event.NodeFault.{NodeFault}
@@ -25,19 +26,19 @@ use Rattle.gw_world.specs.declared.node.Trouble.{Trouble}
 use Rattle.gw_world.specs.declared.node.Trouble.TheVariants.{Refused, Memory}
 
 -- the step table's plan for the frame that the bytes spell
-abbrev pub IsPlanFor : ℕ → List Op → List Binding → Addr → List ℕ → ℕ → Option Plan → Type 0
-IsPlanFor number kept bindings from bytes now plan =
-    (frame : Frame) × IsValue frame × Spells bytes frame × (step number (seen_of kept) bindings from frame now ≡ plan)
+abbrev pub IsPlanFor : Config → List Op → Local → Addr → List ℕ → ℕ → Option Plan → Type 0
+IsPlanFor config kept local from bytes now plan =
+    (frame : Frame) × IsValue frame × Spells bytes frame × (step config (seen_of kept) local from frame now ≡ plan)
 
 -- why there is no plan: the bytes spell no frame, or a number is needed that was the last
-abbrev pub IsNoPlanBy : ℕ → List Op → List Binding → Addr → List ℕ → ℕ → NodeFault → Type 0
-IsNoPlanBy number kept bindings from bytes now (faults.Frame fault) = IsFirstFault bytes fault
-IsNoPlanBy number kept bindings from bytes now faults.Exhausted = IsPlanFor number kept bindings from bytes now None
-IsNoPlanBy number kept bindings from bytes now fault = ⊥
+abbrev pub IsNoPlanBy : Config → List Op → Local → Addr → List ℕ → ℕ → NodeFault → Type 0
+IsNoPlanBy config kept local from bytes now (faults.Frame fault) = IsFirstFault bytes fault
+IsNoPlanBy config kept local from bytes now faults.Exhausted = IsPlanFor config kept local from bytes now None
+IsNoPlanBy config kept local from bytes now fault = ⊥
 
-abbrev pub IsNoPlan : ℕ → List Op → List Binding → Addr → List ℕ → ℕ → Trouble → Type 0
-IsNoPlan number kept bindings from bytes now (Refused fault) = IsNoPlanBy number kept bindings from bytes now fault
-IsNoPlan number kept bindings from bytes now Memory = Unit {0}
+abbrev pub IsNoPlan : Config → List Op → Local → Addr → List ℕ → ℕ → Trouble → Type 0
+IsNoPlan config kept local from bytes now (Refused fault) = IsNoPlanBy config kept local from bytes now fault
+IsNoPlan config kept local from bytes now Memory = Unit {0}
 
 -- why a delta is not taken
 abbrev pub IsRefusedFor : List Op → List Op → NodeFault → Type 0
@@ -68,22 +69,22 @@ Makes [] (Some delta) kept next = ⊥
 Makes (op ∷ ops) None kept next = ⊥
 Makes (op ∷ ops) (Some delta) kept next = IsDeltaOf (op ∷ ops) delta × Fits kept delta × IsKeptOf (kept ++ delta) next
 
--- what a datagram does to what is kept and to the bindings
-abbrev pub FrameKept : ℕ → List Op → List Binding → Addr → List ℕ → ℕ → Result Out NodeFault → List Op → List Binding → Type 0
-FrameKept number kept bindings from bytes now (Ok out) next next_bindings =
-    (plan : Plan) × IsPlanFor number kept bindings from bytes now (Some plan)
-    × (out.sends ≡ plan.sends) × (next_bindings ≡ after_all bindings plan.local) × Makes plan.ops out.made kept next
-FrameKept number kept bindings from bytes now (Err fault) next next_bindings =
-    (next ≡ kept) × (next_bindings ≡ bindings)
-    × (IsNoPlanBy number kept bindings from bytes now fault
-    ⊎ ((plan : Plan) × IsPlanFor number kept bindings from bytes now (Some plan) × IsNotMade plan.ops kept fault))
+-- what a datagram does to what is kept and to the local state
+abbrev pub FrameKept : Config → List Op → Local → Addr → List ℕ → ℕ → Result Out NodeFault → List Op → Local → Type 0
+FrameKept config kept local from bytes now (Ok out) next after =
+    (plan : Plan) × IsPlanFor config kept local from bytes now (Some plan)
+    × (out.sends ≡ plan.sends) × (after ≡ after_all local plan.local) × Makes plan.ops out.made kept next
+FrameKept config kept local from bytes now (Err fault) next after =
+    (next ≡ kept) × (after ≡ local)
+    × (IsNoPlanBy config kept local from bytes now fault
+    ⊎ ((plan : Plan) × IsPlanFor config kept local from bytes now (Some plan) × IsNotMade plan.ops kept fault))
 
 -- what a delta does to them
-abbrev pub TakeKept : ℕ → List Op → List Binding → List Op → Result Out NodeFault → List Op → List Binding → Type 0
-TakeKept number kept bindings delta (Ok out) next next_bindings =
+abbrev pub TakeKept : Config → List Op → Local → List Op → Result Out NodeFault → List Op → Local → Type 0
+TakeKept config kept local delta (Ok out) next after =
     (out.sends ≡ []) × (out.made ≡ None) × Fits kept delta × IsKeptOf (kept ++ delta) next
-    × (next_bindings ≡ owned number (seen_of next) bindings)
-TakeKept number kept bindings delta (Err fault) next next_bindings = (next ≡ kept) × (next_bindings ≡ bindings) × IsRefusedFor kept delta fault
+    × (after ≡ owned config.gateway (seen_of next) local)
+TakeKept config kept local delta (Err fault) next after = (next ≡ kept) × (after ≡ local) × IsRefusedFor kept delta fault
 
 -- what holds of a refusal, want of memory apart
 abbrev pub OnRefusal : Trouble → (NodeFault → Type 0) → Type 0

@@ -18,7 +18,7 @@ use Rattle.sn_frame.specs.Faults.{IsFirstFault}
 use Rattle.sn_flow.specs.declared.config.Addr.{Addr}
 use Rattle.sn_flow.specs.declared.plan.Plan.{Plan}
 use Rattle.sn_flow.specs.Plans.{seen_of}
-use Rattle.sn_flow.specs.Bindings.{after_all, owned}
+use Rattle.sn_flow.specs.Locals.{after_all, owned}
 use Rattle.sn_flow.specs.Steps.{step}
 use Rattle.gw_world.specs.declared.event.Out.{Out}
 use Rattle.gw_world.specs.declared.event.NodeFault.{NodeFault}
@@ -55,11 +55,11 @@ pub record IsUnchanged (old new : Gateway) (made : List (List Op)) : Type 0 wher
 -- gateway took.
 abbrev pub IsMade : List Op → Gateway → Plan → Option (List Op) → Gateway → List (List Op) → Type 0
 IsMade [] old plan (Some delta) new made = ⊥
-IsMade [] old plan None new made = (made ≡ []) × (new ≡ record old { bindings = after_all old.bindings plan.local })
+IsMade [] old plan None new made = (made ≡ []) × (new ≡ record old { local = after_all old.local plan.local })
 IsMade (op ∷ ops) old plan None new made = ⊥
 IsMade (op ∷ ops) old plan (Some delta) new made =
     IsDeltaOf (op ∷ ops) delta × IsTakable old.taken delta × (made ≡ delta ∷ [])
-    × (new ≡ record old { taken = old.taken ++ delta; bindings = after_all old.bindings plan.local })
+    × (new ≡ record old { taken = old.taken ++ delta; local = after_all old.local plan.local })
 
 abbrev pub IsCarriedOut : Gateway → Plan → Out → Gateway → List (List Op) → Type 0
 IsCarriedOut old plan out new made = (out.sends ≡ plan.sends) × IsMade plan.ops old plan out.made new made
@@ -67,7 +67,7 @@ IsCarriedOut old plan out new made = (out.sends ≡ plan.sends) × IsMade plan.o
 -- the step table's plan for the frame of these bytes
 abbrev pub IsPlan : Gateway → Addr → List ℕ → ℕ → Option Plan → Type 0
 IsPlan old from bytes now plan =
-    (frame : Frame) × IsValue frame × Spells bytes frame × (step old.number (seen_of old.taken) old.bindings from frame now ≡ plan)
+    (frame : Frame) × IsValue frame × Spells bytes frame × (step old.config (seen_of old.taken) old.local from frame now ≡ plan)
 
 -- the operations of a plan cannot be taken: they make no delta, or the gateway refuses it
 abbrev pub IsTooMuch : Gateway → Plan → NodeFault → Type 0
@@ -92,5 +92,5 @@ FrameStep old from bytes now (Err faults.Full) new made =
 abbrev pub TakeStep : Gateway → List Op → Result Out NodeFault → Gateway → List (List Op) → Type 0
 TakeStep old delta (Ok out) new made =
     (out.sends ≡ []) × (out.made ≡ None) × IsTakable old.taken delta × (made ≡ [])
-    × (new ≡ record old { taken = old.taken ++ delta; bindings = owned old.number (seen_of (old.taken ++ delta)) old.bindings })
+    × (new ≡ record old { taken = old.taken ++ delta; local = owned old.config.gateway (seen_of (old.taken ++ delta)) old.local })
 TakeStep old delta (Err fault) new made = IsRefused old.taken delta fault × IsUnchanged old new made

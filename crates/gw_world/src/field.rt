@@ -16,7 +16,7 @@ use std::alloc::Global;
 
 /// The place of the gateway of this number.
 pub fn place_of<R: Replica>(nodes: &[Node<R>], number: u8) -> Option<usize>
-    ensures place { result ≡ gateway_place number (map (λ node. record { number = node.config.gateway; taken = R.kept node.replica; bindings = node.dialogs.bindings }) nodes.now) }
+    ensures place { result ≡ gateway_place number (map (λ node. record { config = node.config; taken = R.kept node.replica; local = node.dialogs.local }) nodes.now) }
     ensures within { IfSome result (λ place. place < length nodes.now) }
 {
     for place in 0..nodes.len() {
@@ -37,8 +37,8 @@ pub fn frame_at<R: Replica>(
     now: u64,
 ) -> Result<Out, Trouble>
     requires { place < vec_len nodes.old }
-    ensures ok { IfOk result (λ out. FrameAt (map (λ node. record { number = node.config.gateway; taken = R.kept node.replica; bindings = node.dialogs.bindings }) nodes.old.items) place from bytes.now now (Ok out) (map (λ node. record { number = node.config.gateway; taken = R.kept node.replica; bindings = node.dialogs.bindings }) nodes.new.items)) }
-    ensures err { IfErr result (λ trouble. OnRefusal trouble (λ fault. FrameAt (map (λ node. record { number = node.config.gateway; taken = R.kept node.replica; bindings = node.dialogs.bindings }) nodes.old.items) place from bytes.now now (Err fault) (map (λ node. record { number = node.config.gateway; taken = R.kept node.replica; bindings = node.dialogs.bindings }) nodes.new.items))) }
+    ensures ok { IfOk result (λ out. FrameAt (map (λ node. record { config = node.config; taken = R.kept node.replica; local = node.dialogs.local }) nodes.old.items) place from bytes.now now (Ok out) (map (λ node. record { config = node.config; taken = R.kept node.replica; local = node.dialogs.local }) nodes.new.items)) }
+    ensures err { IfErr result (λ trouble. OnRefusal trouble (λ fault. FrameAt (map (λ node. record { config = node.config; taken = R.kept node.replica; local = node.dialogs.local }) nodes.old.items) place from bytes.now now (Err fault) (map (λ node. record { config = node.config; taken = R.kept node.replica; local = node.dialogs.local }) nodes.new.items))) }
 {
     let node = &mut nodes[place];
     node.frame(alloc, from, bytes, now)
@@ -52,8 +52,8 @@ pub fn take_at<R: Replica>(
     delta: &Delta,
 ) -> Result<Out, Trouble>
     requires { place < vec_len nodes.old }
-    ensures ok { IfOk result (λ out. TakeAt (map (λ node. record { number = node.config.gateway; taken = R.kept node.replica; bindings = node.dialogs.bindings }) nodes.old.items) place delta.now (Ok out) (map (λ node. record { number = node.config.gateway; taken = R.kept node.replica; bindings = node.dialogs.bindings }) nodes.new.items)) }
-    ensures err { IfErr result (λ trouble. OnRefusal trouble (λ fault. TakeAt (map (λ node. record { number = node.config.gateway; taken = R.kept node.replica; bindings = node.dialogs.bindings }) nodes.old.items) place delta.now (Err fault) (map (λ node. record { number = node.config.gateway; taken = R.kept node.replica; bindings = node.dialogs.bindings }) nodes.new.items))) }
+    ensures ok { IfOk result (λ out. TakeAt (map (λ node. record { config = node.config; taken = R.kept node.replica; local = node.dialogs.local }) nodes.old.items) place delta.now (Ok out) (map (λ node. record { config = node.config; taken = R.kept node.replica; local = node.dialogs.local }) nodes.new.items)) }
+    ensures err { IfErr result (λ trouble. OnRefusal trouble (λ fault. TakeAt (map (λ node. record { config = node.config; taken = R.kept node.replica; local = node.dialogs.local }) nodes.old.items) place delta.now (Err fault) (map (λ node. record { config = node.config; taken = R.kept node.replica; local = node.dialogs.local }) nodes.new.items))) }
 {
     let node = &mut nodes[place];
     node.take(alloc, delta)

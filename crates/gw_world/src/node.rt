@@ -1,6 +1,6 @@
 //! One gateway of the field.
 
-ghost use Rattle.sn_flow.specs.Bindings.{after_all};
+ghost use Rattle.sn_flow.specs.Locals.{after_all};
 ghost use Rattle.std.specs.Prelude.{◌≡◌, ◌++◌, Some, IfOk, IfErr, OnOk, OnErr};
 ghost use Rattle.rep_ops.specs.declared.op.Op.{Op};
 ghost use Rattle.rep_model.specs.Taking.{Fits, IsFaultOf};
@@ -81,8 +81,8 @@ fn plan_for<R: Replica>(
     bytes: &[u8],
     now: u64,
 ) -> Result<Plan, Trouble>
-    ensures ok { IfOk result (λ plan. IsPlanFor node.now.config.gateway (R.kept node.now.replica) node.now.dialogs.bindings from bytes.now now (Some plan)) }
-    ensures err { IfErr result (IsNoPlan node.now.config.gateway (R.kept node.now.replica) node.now.dialogs.bindings from bytes.now now) }
+    ensures ok { IfOk result (λ plan. IsPlanFor node.now.config (R.kept node.now.replica) node.now.dialogs.local from bytes.now now (Some plan)) }
+    ensures err { IfErr result (IsNoPlan node.now.config (R.kept node.now.replica) node.now.dialogs.local from bytes.now now) }
 {
     let frame = match decode(alloc, bytes) {
         Ok(frame) => frame,
@@ -154,10 +154,10 @@ fn make<R: Replica>(alloc: Global, replica: &mut R, ops: Vec<Op>) -> Result<Opti
 fn carry_out<R: Replica>(alloc: Global, node: &mut Node<R>, plan: Plan) -> Result<Out, Trouble>
     ensures config { node.new.config ≡ node.old.config }
     ensures sends { IfOk result (λ out. out.sends ≡ plan.sends) }
-    ensures local { OnOk result (node.new.dialogs.bindings ≡ after_all node.old.dialogs.bindings plan.local) }
+    ensures local { OnOk result (node.new.dialogs.local ≡ after_all node.old.dialogs.local plan.local) }
     ensures made { IfOk result (λ out. Makes plan.ops out.made (R.kept node.old.replica) (R.kept node.new.replica)) }
     ensures kept { OnErr result (R.kept node.new.replica ≡ R.kept node.old.replica) }
-    ensures bindings { OnErr result (node.new.dialogs.bindings ≡ node.old.dialogs.bindings) }
+    ensures noted { OnErr result (node.new.dialogs.local ≡ node.old.dialogs.local) }
     ensures refused { IfErr result (IsNotMadeBy plan.ops (R.kept node.old.replica)) }
 {
     let Plan { ops, sends, local } = plan;
@@ -179,8 +179,8 @@ impl<R: Replica> Node<R> {
         now: u64,
     ) -> Result<Out, Trouble>
         ensures config { self.new.config ≡ self.old.config }
-        ensures ok { IfOk result (λ out. FrameKept self.old.config.gateway (R.kept self.old.replica) self.old.dialogs.bindings from bytes.now now (Ok out) (R.kept self.new.replica) self.new.dialogs.bindings) }
-        ensures err { IfErr result (λ trouble. OnRefusal trouble (λ fault. FrameKept self.old.config.gateway (R.kept self.old.replica) self.old.dialogs.bindings from bytes.now now (Err fault) (R.kept self.new.replica) self.new.dialogs.bindings)) }
+        ensures ok { IfOk result (λ out. FrameKept self.old.config (R.kept self.old.replica) self.old.dialogs.local from bytes.now now (Ok out) (R.kept self.new.replica) self.new.dialogs.local) }
+        ensures err { IfErr result (λ trouble. OnRefusal trouble (λ fault. FrameKept self.old.config (R.kept self.old.replica) self.old.dialogs.local from bytes.now now (Err fault) (R.kept self.new.replica) self.new.dialogs.local)) }
     {
         let plan = plan_for(alloc, self, from, bytes, now)?;
         carry_out(alloc, self, plan)
@@ -189,8 +189,8 @@ impl<R: Replica> Node<R> {
     /// A delta comes.
     pub fn take(&mut self, alloc: Global, delta: &Delta) -> Result<Out, Trouble>
         ensures config { self.new.config ≡ self.old.config }
-        ensures ok { IfOk result (λ out. TakeKept self.old.config.gateway (R.kept self.old.replica) self.old.dialogs.bindings delta.now (Ok out) (R.kept self.new.replica) self.new.dialogs.bindings) }
-        ensures err { IfErr result (λ trouble. OnRefusal trouble (λ fault. TakeKept self.old.config.gateway (R.kept self.old.replica) self.old.dialogs.bindings delta.now (Err fault) (R.kept self.new.replica) self.new.dialogs.bindings)) }
+        ensures ok { IfOk result (λ out. TakeKept self.old.config (R.kept self.old.replica) self.old.dialogs.local delta.now (Ok out) (R.kept self.new.replica) self.new.dialogs.local) }
+        ensures err { IfErr result (λ trouble. OnRefusal trouble (λ fault. TakeKept self.old.config (R.kept self.old.replica) self.old.dialogs.local delta.now (Err fault) (R.kept self.new.replica) self.new.dialogs.local)) }
     {
         take_in(alloc, &mut self.replica, delta)?;
         self.dialogs.keep_owned(self.config.gateway, &self.replica);

@@ -39,7 +39,7 @@ fn play_frame<R: Replica>(
     now: u64,
 ) -> Result<Answer, WorldFault>
     requires { place < vec_len nodes.old }
-    ensures ok { IfOk result (FrameAnswered (map (λ node. record { number = node.config.gateway; taken = R.kept node.replica; bindings = node.dialogs.bindings }) nodes.old.items) deltas.old.items place from bytes.now now (map (λ node. record { number = node.config.gateway; taken = R.kept node.replica; bindings = node.dialogs.bindings }) nodes.new.items) deltas.new.items) }
+    ensures ok { IfOk result (FrameAnswered (map (λ node. record { config = node.config; taken = R.kept node.replica; local = node.dialogs.local }) nodes.old.items) deltas.old.items place from bytes.now now (map (λ node. record { config = node.config; taken = R.kept node.replica; local = node.dialogs.local }) nodes.new.items) deltas.new.items) }
     ensures err { IfErr result (λ fault. fault ≡ WorldFault.Memory) }
 {
     match frame_at(alloc, nodes, place, from, bytes, now) {
@@ -60,7 +60,7 @@ fn play_take<R: Replica>(
     delta: &Delta,
 ) -> Result<Answer, WorldFault>
     requires { place < vec_len nodes.old }
-    ensures ok { IfOk result (TakeAnswered (map (λ node. record { number = node.config.gateway; taken = R.kept node.replica; bindings = node.dialogs.bindings }) nodes.old.items) place delta.now (map (λ node. record { number = node.config.gateway; taken = R.kept node.replica; bindings = node.dialogs.bindings }) nodes.new.items)) }
+    ensures ok { IfOk result (TakeAnswered (map (λ node. record { config = node.config; taken = R.kept node.replica; local = node.dialogs.local }) nodes.old.items) place delta.now (map (λ node. record { config = node.config; taken = R.kept node.replica; local = node.dialogs.local }) nodes.new.items)) }
     ensures err { IfErr result (λ fault. fault ≡ WorldFault.Memory) }
 {
     match take_at(alloc, nodes, place, delta) {
@@ -77,7 +77,7 @@ fn play_show<R: Replica>(
     place: usize,
 ) -> Result<Answer, WorldFault>
     requires { place < vec_len nodes.now }
-    ensures ok { IfOk result (ShowAnswered (map (λ node. record { number = node.config.gateway; taken = R.kept node.replica; bindings = node.dialogs.bindings }) nodes.now.items) place) }
+    ensures ok { IfOk result (ShowAnswered (map (λ node. record { config = node.config; taken = R.kept node.replica; local = node.dialogs.local }) nodes.now.items) place) }
     ensures err { IfErr result (λ fault. fault ≡ WorldFault.Memory) }
 {
     match show_at(alloc, &nodes[place].replica) {
@@ -106,7 +106,7 @@ fn play_at<R: Replica>(
     number: u64,
 ) -> Result<Answer, WorldFault>
     requires { place < vec_len nodes.old }
-    ensures ok { IfOk result (EventAt (map (λ node. record { number = node.config.gateway; taken = R.kept node.replica; bindings = node.dialogs.bindings }) nodes.old.items) deltas.old.items place event.now (map (λ node. record { number = node.config.gateway; taken = R.kept node.replica; bindings = node.dialogs.bindings }) nodes.new.items) deltas.new.items) }
+    ensures ok { IfOk result (EventAt (map (λ node. record { config = node.config; taken = R.kept node.replica; local = node.dialogs.local }) nodes.old.items) deltas.old.items place event.now (map (λ node. record { config = node.config; taken = R.kept node.replica; local = node.dialogs.local }) nodes.new.items) deltas.new.items) }
     ensures err { IfErr result (IsMissing deltas.old.items event.now number) }
 {
     match event {
@@ -132,8 +132,8 @@ fn play_event<R: Replica>(
     event: &Event,
     number: u64,
 ) -> Result<Answer, WorldFault>
-    ensures ok { IfOk result (EventKept (map (λ node. record { number = node.config.gateway; taken = R.kept node.replica; bindings = node.dialogs.bindings }) nodes.old.items) deltas.old.items event.now (map (λ node. record { number = node.config.gateway; taken = R.kept node.replica; bindings = node.dialogs.bindings }) nodes.new.items) deltas.new.items) }
-    ensures err { IfErr result (IsStopKept (map (λ node. record { number = node.config.gateway; taken = R.kept node.replica; bindings = node.dialogs.bindings }) nodes.old.items) deltas.old.items event.now number) }
+    ensures ok { IfOk result (EventKept (map (λ node. record { config = node.config; taken = R.kept node.replica; local = node.dialogs.local }) nodes.old.items) deltas.old.items event.now (map (λ node. record { config = node.config; taken = R.kept node.replica; local = node.dialogs.local }) nodes.new.items) deltas.new.items) }
+    ensures err { IfErr result (IsStopKept (map (λ node. record { config = node.config; taken = R.kept node.replica; local = node.dialogs.local }) nodes.old.items) deltas.old.items event.now number) }
 {
     match place_of(nodes.as_slice(), event.gateway()) {
         Some(place) => play_at(alloc, nodes, deltas, place, event, number),
@@ -143,7 +143,7 @@ fn play_event<R: Replica>(
 
 /// The gateways of these configs, each of which has taken nothing.
 fn new_nodes<R: Replica>(alloc: Global, configs: &[Config]) -> Result<Vec<Node<R>>, WorldFault>
-    ensures ok { IfOk result (λ nodes. (map (λ node. record { number = node.config.gateway; taken = R.kept node.replica; bindings = node.dialogs.bindings }) nodes.items) ≡ map new_gateway configs.now) }
+    ensures ok { IfOk result (λ nodes. (map (λ node. record { config = node.config; taken = R.kept node.replica; local = node.dialogs.local }) nodes.items) ≡ map new_gateway configs.now) }
     ensures err { IfErr result (λ fault. fault ≡ WorldFault.Memory) }
 {
     let mut nodes = Vec::with_capacity(alloc, configs.len())?;
@@ -177,8 +177,8 @@ fn play_all<R: Replica>(
     deltas: &mut Vec<Delta>,
     events: &[Event],
 ) -> Result<Vec<Answer>, WorldFault>
-    ensures ok { IfOk result (PlayedKept (map (λ node. record { number = node.config.gateway; taken = R.kept node.replica; bindings = node.dialogs.bindings }) nodes.old.items) deltas.old.items events.now (map (λ node. record { number = node.config.gateway; taken = R.kept node.replica; bindings = node.dialogs.bindings }) nodes.new.items) deltas.new.items) }
-    ensures err { IfErr result (StopsKept (map (λ node. record { number = node.config.gateway; taken = R.kept node.replica; bindings = node.dialogs.bindings }) nodes.old.items) deltas.old.items events.now) }
+    ensures ok { IfOk result (PlayedKept (map (λ node. record { config = node.config; taken = R.kept node.replica; local = node.dialogs.local }) nodes.old.items) deltas.old.items events.now (map (λ node. record { config = node.config; taken = R.kept node.replica; local = node.dialogs.local }) nodes.new.items) deltas.new.items) }
+    ensures err { IfErr result (StopsKept (map (λ node. record { config = node.config; taken = R.kept node.replica; local = node.dialogs.local }) nodes.old.items) deltas.old.items events.now) }
 {
     let mut answers = Vec::with_capacity(alloc, events.len())?;
     for (index, event) in events.iter().enumerate() {

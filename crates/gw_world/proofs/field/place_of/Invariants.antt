@@ -5,5 +5,5 @@ use Rattle.gw_world.proofs.field.place_of.Given as goal
 
 abbrev pub invariant-loop-place : goal.invariant-loop-place
 invariant-loop-place g l =
-    place_from l.number l.place (map {B = Gateway} (λ node. record { number = node.config.gateway; taken = g.R.Replica.kept node.replica; bindings = node.dialogs.bindings }) (drop l.place l.nodes))
-    ≡ place_from l.number 0 (map {B = Gateway} (λ node. record { number = node.config.gateway; taken = g.R.Replica.kept node.replica; bindings = node.dialogs.bindings }) l.nodes)
+    place_from l.number l.place (map {B = Gateway} (λ node. record { config = node.config; taken = g.R.Replica.kept node.replica; local = node.dialogs.local }) (drop l.place l.nodes))
+    ≡ place_from l.number 0 (map {B = Gateway} (λ node. record { config = node.config; taken = g.R.Replica.kept node.replica; local = node.dialogs.local }) l.nodes)

@@ -4,4 +4,4 @@ use Rattle.gw_world.proofs.running.new_nodes.Given as goal
 
 abbrev pub invariant-loop-config : goal.invariant-loop-config
 invariant-loop-config g l =
-    map {B = Gateway} (λ node. record { number = node.config.gateway; taken = g.R.Replica.kept node.replica; bindings = node.dialogs.bindings }) l.nodes.items ≡ map new_gateway (take l.config-index l.configs)
+    map {B = Gateway} (λ node. record { config = node.config; taken = g.R.Replica.kept node.replica; local = node.dialogs.local }) l.nodes.items ≡ map new_gateway (take l.config-index l.configs)

@@ -6,5 +6,5 @@ use Rattle.gw_world.proofs.running.play_all.Given as goal
 
 abbrev pub invariant-loop-index : goal.invariant-loop-index
 invariant-loop-index g l =
-    RunKept (map {B = Gateway} (λ node. record { number = node.config.gateway; taken = g.R.Replica.kept node.replica; bindings = node.dialogs.bindings }) l.fn.nodes.items) l.fn.deltas.items (take l.index l.events) l.answers.items
-    (map {B = Gateway} (λ node. record { number = node.config.gateway; taken = g.R.Replica.kept node.replica; bindings = node.dialogs.bindings }) l.nodes.items) l.deltas.items
+    RunKept (map {B = Gateway} (λ node. record { config = node.config; taken = g.R.Replica.kept node.replica; local = node.dialogs.local }) l.fn.nodes.items) l.fn.deltas.items (take l.index l.events) l.answers.items
+    (map {B = Gateway} (λ node. record { config = node.config; taken = g.R.Replica.kept node.replica; local = node.dialogs.local }) l.nodes.items) l.deltas.items
