@@ -10,6 +10,7 @@ ghost use Rattle.rep_model.specs.Views.{visible};
 ghost use Rattle.rep_plain.specs.Steps.{first_of_two};
 ghost use Rattle.rep_model.specs.Fresh.{greatest_epoch, seq_of, largest};
 
+use super::same::is_same_change;
 use rep_ops::{ClientId, Op, Put, Stamp};
 use sn_session::SessionOp;
 
@@ -114,13 +115,6 @@ fn put_named<'a>(op: &'a Op, client: &ClientId, name: (u64, u8)) -> Option<&'a P
         Op::Put { client: owner, put } if owner == client && has_put_name(name, put) => Some(put),
         _ => None,
     }
-}
-
-/// Whether two changes are equal.
-fn is_same_change(a: &SessionOp, b: &SessionOp) -> bool
-    ensures { IsTrue result ↔ (a.now ≡ b.now) }
-{
-    a == b
 }
 
 /// Whether an operation contradicts none of these under its name.
