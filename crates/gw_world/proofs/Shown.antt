@@ -33,8 +33,8 @@ module _ (g k : Gateway) (s : IsShown g k) where
   plan_taken : (from : Addr) (bytes : List ℕ) (now : ℕ) (plan : Option Plan) → IsPlanFor k.config k.taken k.local from bytes now plan → IsPlan g from bytes now plan
   plan_taken from bytes now plan (frame, value, spells, is) =
       let seen : seen_of k.taken ≡ seen_of g.taken = seen_same g.taken k.taken s.keeps.counts in
-      let same : step k.config (seen_of k.taken) k.local from frame now ≡ step g.config (seen_of g.taken) g.local from frame now =
-      λ i. step (s.configured i) (seen i) (s.bound i) from frame now in
+      let same : step k.config.gateway k.config.predefined (seen_of k.taken) k.local from frame now ≡ step g.config.gateway g.config.predefined (seen_of g.taken) g.local from frame now =
+      λ i. step (s.configured i).gateway (s.configured i).predefined (seen i) (s.bound i) from frame now in
       (frame, value, spells, sym same ∙ is)
 
   -- nothing changed

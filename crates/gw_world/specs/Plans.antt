@@ -28,7 +28,7 @@ use Rattle.gw_world.specs.declared.node.Trouble.TheVariants.{Refused, Memory}
 -- the step table's plan for the frame that the bytes spell
 abbrev pub IsPlanFor : Config → List Op → Local → Addr → List ℕ → ℕ → Option Plan → Type 0
 IsPlanFor config kept local from bytes now plan =
-    (frame : Frame) × IsValue frame × Spells bytes frame × (step config (seen_of kept) local from frame now ≡ plan)
+    (frame : Frame) × IsValue frame × Spells bytes frame × (step config.gateway config.predefined (seen_of kept) local from frame now ≡ plan)
 
 -- why there is no plan: the bytes spell no frame, or a number is needed that was the last
 abbrev pub IsNoPlanBy : Config → List Op → Local → Addr → List ℕ → ℕ → NodeFault → Type 0

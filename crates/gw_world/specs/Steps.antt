@@ -67,7 +67,7 @@ IsCarriedOut old plan out new made = (out.sends ≡ plan.sends) × IsMade plan.o
 -- the step table's plan for the frame of these bytes
 abbrev pub IsPlan : Gateway → Addr → List ℕ → ℕ → Option Plan → Type 0
 IsPlan old from bytes now plan =
-    (frame : Frame) × IsValue frame × Spells bytes frame × (step old.config (seen_of old.taken) old.local from frame now ≡ plan)
+    (frame : Frame) × IsValue frame × Spells bytes frame × (step old.config.gateway old.config.predefined (seen_of old.taken) old.local from frame now ≡ plan)
 
 -- the operations of a plan cannot be taken: they make no delta, or the gateway refuses it
 abbrev pub IsTooMuch : Gateway → Plan → NodeFault → Type 0
