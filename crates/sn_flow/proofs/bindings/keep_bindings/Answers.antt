@@ -2,7 +2,7 @@ use Rattle.std.proofs.Common.{rules}
 use Rattle.std.proofs.lemmas.Fn.{filter_same}
 use Rattle.sn_flow.specs.Plans.{seen_of}
 use Rattle.sn_flow.specs.Bindings.{has_owned}
-use Rattle.sn_flow.proofs.bindings.keep_owned.Goals as goal
+use Rattle.sn_flow.proofs.bindings.keep_bindings.Goals as goal
 
 pub returns : goal.returns
 returns g c =
