@@ -1,5 +1,6 @@
 -- a table of which the client knows nothing any more is a table
-use Rattle.std.proofs.Common.{◌≡◌, ℕ, zero, suc, ◌<◌, Bool, List, [], ◌∷◌, ◌++◌, length, map, take, drop, get_or, set, ◌&&◌, refl, ap, arith}
+use Rattle.std.proofs.Common.{◌≡◌, ℕ, zero, suc, ◌<◌, ◌≤◌, Bool, List, [], ◌∷◌, ◌++◌, length, map, take, drop, get_or, set, ◌&&◌, refl, ap, arith}
+use Rattle.std.proofs.lemmas.List.{take_all, drop_all, append-nil}
 use Rattle.std.specs.Ordering.{is_lt}
 use Rattle.sn_session.specs.declared.topics.TopicEntry.{TopicEntry}
 use Rattle.sn_session.specs.Topics.{topic_cmp, unknown}
@@ -23,3 +24,7 @@ pub unknown_next : (old : List TopicEntry) (i : ℕ) (d : TopicEntry) → i < le
 unknown_next [] i d lt = absurd (omega arith)
 unknown_next (x ∷ rest) zero d lt = refl
 unknown_next (x ∷ rest) (suc i) d lt = ap (λ xs. unknown x ∷ xs) (unknown_next rest i d (omega arith))
+
+-- after the last entry all are unknown
+pub all_unknown : (old : List TopicEntry) (i : ℕ) → length old ≤ i → map unknown (take i old) ++ drop i old ≡ map unknown old
+all_unknown old i le = rw (take_all i old le, drop_all i old le) (append-nil (map unknown old))
