@@ -1,3 +1,4 @@
+pub mod Asking
 pub mod Bindings
 pub mod Connection
 pub mod Drafts
@@ -5,4 +6,7 @@ pub mod Locals
 pub mod Names
 pub mod Numbering
 pub mod Plans
+pub mod Registration
 pub mod Steps
+pub mod Subscription
+pub mod WillUpdate

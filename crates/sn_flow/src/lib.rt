@@ -10,10 +10,12 @@
 //! - `local`: what a gateway knows that is in no set: which address is which client (`Dialogs`).
 //! - `draft`: what a row says (`Draft`).
 //! - `numbering`, `plan`: from a draft to a plan (`Plan`).
-//! - `connection`, `other`: the rows.
+//! - `connection`, `registration`, `subscription`, `will_update`: the rows; `asking` and `codes` are what they share.
 #![tactic(auto)]
 
+mod asking;
 mod bindings;
+mod codes;
 mod config;
 mod connection;
 mod draft;
@@ -21,7 +23,10 @@ mod fault;
 mod local;
 mod numbering;
 mod plan;
+mod registration;
+mod subscription;
 mod table;
+mod will_update;
 
 pub use config::{Addr, Config, Send};
 pub use connection::{connect, disconnect, turn_away};
