@@ -1,4 +1,4 @@
--- How a client is accepted, and when it is not (MQTT-SN 1.2 sections 6.2 and 6.3).
+-- How a client is accepted (MQTT-SN 1.2 sections 6.2 and 6.3).
 use Rattle.std.specs.Prelude.{ℕ, Bool, true, false, ◌&&◌, not, if◌then◌else◌, nat_le, List, [], map, length, Option, Some, None}
 use Rattle.sn_session.specs.declared.presence.Presence.TheVariants.{Active}
 use Rattle.sn_session.specs.declared.session.Session.{Session}
@@ -9,16 +9,16 @@ use Rattle.sn_session.specs.Topics.{unknown}
 use Rattle.rep_ops.specs.declared.op.Put.{Put}
 use Rattle.rep_model.specs.declared.view.ClientView.{ClientView}
 use Rattle.sn_frame.specs.declared.frame.Frame.TheVariants as frames
-use Rattle.sn_flow.specs.declared.config.Addr.{Addr}
 use Rattle.sn_flow.specs.declared.accept.GivenWill.{GivenWill}
 use Rattle.sn_flow.specs.declared.accept.GivenWill.TheVariants.{AsItIs, Deleted, Replaced}
-use Rattle.sn_flow.specs.declared.accept.Request.{Request}
+use Rattle.sn_flow.specs.declared.local.Request.{Request}
 use Rattle.sn_flow.specs.declared.local.LocalChange.TheVariants.{EndDialog}
 use Rattle.sn_flow.specs.Names.{name_of}
-use Rattle.sn_flow.specs.Drafts.{Drafted, nothing, changed, acked_all, sent, moved, bound_to}
+use Rattle.sn_flow.specs.Drafts.{Drafted, nothing, changed, acked_all, sent, moved}
 use Rattle.sn_flow.specs.Plans.{Seen}
+use Rattle.sn_flow.specs.Bound.{bound_to}
 
--- the will that a session has once the client has said what becomes of it
+-- the will of a session, once the client has said what becomes of it
 abbrev pub will_after : GivenWill → Option Will → Option Will
 will_after AsItIs will = will
 will_after Deleted will = None
@@ -28,19 +28,20 @@ will_after (Replaced given) will = Some given
 abbrev pub unknowing : Session → Session
 unknowing s = record s { topics = map unknown s.topics }
 
--- the session that goes on: none for a clean one
+-- the session that goes on; a clean one begins anew
 abbrev pub going_on : Bool → Option Session → Session
 going_on clean None = empty_session
 going_on true (Some s) = empty_session
 going_on false (Some s) = unknowing s
 
--- the session that an accepted client has, by the one that goes on
-abbrev pub accepted_from : Session → Request → GivenWill → Session
-accepted_from s request given =
+-- an accepted client is Active; the rest is as it asked
+abbrev pub as_asked : Request → GivenWill → Session → Session
+as_asked request given s =
     record s { presence = Active; clean = request.clean; duration = request.duration; will = will_after given s.will }
 
+-- the session that an accepted client has
 abbrev pub accepted : Request → GivenWill → Option Session → Session
-accepted request given session = accepted_from (going_on request.clean session) request given
+accepted request given session = as_asked request given (going_on request.clean session)
 
 -- a clean session acknowledges all that waits
 abbrev pub cleared : Bool → List Put → List (ℕ × ℕ)

@@ -1,5 +1,7 @@
+pub mod Accept
 pub mod Asking
 pub mod Bindings
+pub mod Bound
 pub mod Connection
 pub mod Drafts
 pub mod Locals
@@ -9,4 +11,8 @@ pub mod Plans
 pub mod Registration
 pub mod Steps
 pub mod Subscription
+pub mod Timers
+pub mod TopicRows
+pub mod WillDialogs
 pub mod WillUpdate
+pub mod Wills

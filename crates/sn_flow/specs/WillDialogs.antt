@@ -7,7 +7,7 @@ use Rattle.sn_flow.specs.declared.local.LocalChange.TheVariants.{Bind, Unbind, T
 use Rattle.sn_flow.specs.Bindings.{same_address}
 
 abbrev pub is_elsewhere : Addr → WillDialog → Bool
-is_elsewhere a dialog = not (same_address dialog.address a)
+is_elsewhere a dialog = not (same_address dialog.request.address a)
 
 -- the dialogs of all other addresses
 abbrev pub dialogs_elsewhere : Addr → List WillDialog → List WillDialog
@@ -15,7 +15,7 @@ dialogs_elsewhere a dialogs = filter (is_elsewhere a) dialogs
 
 -- a dialog replaces any other of its address
 abbrev pub asked : WillDialog → List WillDialog → List WillDialog
-asked dialog dialogs = dialogs_elsewhere dialog.address dialogs ++ dialog ∷ []
+asked dialog dialogs = dialogs_elsewhere dialog.request.address dialogs ++ dialog ∷ []
 
 abbrev pub dialog_change : List WillDialog → LocalChange → List WillDialog
 dialog_change dialogs (Bind a c) = dialogs
@@ -32,7 +32,7 @@ dialogs_after dialogs changes = fold dialog_change dialogs changes
 -- the dialog of an address
 abbrev pub dialog_at : Addr → List WillDialog → Option WillDialog
 dialog_at a [] = None
-dialog_at a (dialog ∷ rest) = if same_address dialog.address a then Some dialog else dialog_at a rest
+dialog_at a (dialog ∷ rest) = if same_address dialog.request.address a then Some dialog else dialog_at a rest
 
 -- whether 1,024 other addresses have a dialog, so that there is no room for one more
 abbrev pub is_crowded : Addr → List WillDialog → Bool

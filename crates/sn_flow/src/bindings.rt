@@ -1,6 +1,7 @@
 //! The list of bindings and its changes.
 
-ghost use Rattle.std.specs.Prelude.{◌≡◌, ◌+◌, ◌≤◌, filter, option_copied, vec_len};
+ghost use Rattle.std.specs.Prelude.{◌≡◌, ◌+◌, ◌≤◌, filter, vec_len};
+ghost use Rattle.std.specs.Option.{option_copied};
 ghost use Rattle.std.specs.Vec.{vec_capacity};
 ghost use Rattle.sn_flow.specs.Bindings.{client_at as client_of_address, bound, unbound, is_apart as is_apart_from, is_of_other as is_of_another, is_owned as is_owned_at, has_owned as has_owned_client, owned_bindings};
 ghost use Rattle.sn_flow.specs.Plans.{seen_of};

@@ -1,6 +1,6 @@
 //! What a row of the step table says.
 
-ghost use Rattle.std.specs.Prelude.{◌≡◌, ◌≤◌, ◌++◌, [], map, OnOk, IfOk, IfErr, Err};
+ghost use Rattle.std.specs.Prelude.{◌≡◌, ◌≤◌, ◌++◌, [], map, OnOk, IfOk, IfErr, IsTrue, ◌↔◌, Err};
 ghost use Rattle.sn_flow.specs.Names.{name_of};
 ghost use Rattle.sn_frame.specs.Bodies.{IsMessage};
 ghost use Rattle.sn_frame.specs.Grammar.{total_of};
@@ -70,6 +70,13 @@ impl Draft {
         let mut draft = Draft::new(alloc);
         draft.send(alloc, to, frame)?;
         Ok(draft)
+    }
+
+    /// Whether the session stays as it is.
+    pub(crate) fn changes_nothing(&self) -> bool
+        ensures { IsTrue result ↔ (self.now.changes ≡ []) }
+    {
+        self.changes.is_empty()
     }
 
     /// The changes of the session, which the draft then has no more.

@@ -1,10 +1,12 @@
 //! What a gateway knows that is in no set of operations.
 
-ghost use Rattle.std.specs.Prelude.{◌≡◌, length, OnOk, option_copied};
+ghost use Rattle.std.specs.Prelude.{◌≡◌, length, IfOk, IfErr, OnOk};
+ghost use Rattle.std.specs.Option.{option_copied};
 
 use super::bindings::{client_at, keep_bindings};
 use super::changes::commit_all;
 use super::config::Addr;
+use super::fault::StepFault;
 use super::timers::keep_timers;
 use super::will_dialogs::{dialog_at, is_crowded};
 use octets::Sequence;
@@ -30,18 +32,40 @@ pub enum Awaited {
     Message(WillTopic),
 }
 
+/// What a CONNECT asks for.
+#[derive(Debug, Drop)]
+pub struct Request {
+    /// Where it came from.
+    pub address: Addr,
+    /// Who connects.
+    pub client: ClientId,
+    /// Whether the session is to be a clean one.
+    pub clean: bool,
+    /// The duration of the keep alive, in seconds.
+    pub duration: u16,
+}
+
+impl Request {
+    /// An equal request.
+    pub fn copy(&self, alloc: Global) -> Result<Request, StepFault>
+        ensures ok { IfOk result (λ made. made ≡ self.now) }
+        ensures err { IfErr result (λ fault. fault ≡ StepFault.Memory) }
+    {
+        Ok(Request {
+            address: self.address,
+            client: self.client.copy(alloc)?,
+            clean: self.clean,
+            duration: self.duration,
+        })
+    }
+}
+
 /// A CONNECT with a will that is not accepted yet: the client is asked for its will first (MQTT-SN 1.2
 /// section 6.2).
 #[derive(Debug, Drop)]
 pub struct WillDialog {
-    /// Where the CONNECT came from.
-    pub address: Addr,
-    /// Who connects.
-    pub client: ClientId,
-    /// Whether it asked for a clean session.
-    pub clean: bool,
-    /// The duration of its keep alive, in seconds.
-    pub duration: u16,
+    /// What the CONNECT asks for.
+    pub request: Request,
     /// The moment of the CONNECT, in seconds.
     pub begun: u64,
     /// What the gateway waits for.

@@ -1,6 +1,7 @@
 //! The list of timers and its changes.
 
-ghost use Rattle.std.specs.Prelude.{◌≡◌, ◌+◌, ◌≤◌, filter, option_copied, vec_len};
+ghost use Rattle.std.specs.Prelude.{◌≡◌, ◌+◌, ◌≤◌, filter, vec_len};
+ghost use Rattle.std.specs.Option.{option_copied};
 ghost use Rattle.std.specs.Vec.{vec_capacity};
 ghost use Rattle.sn_flow.specs.Timers.{is_of_another as is_of_other, timed, timer_of as timer_of_client, heard_at as heard_timer, heard, times_owned as times_owned_client, owned_timers};
 ghost use Rattle.sn_flow.specs.Plans.{seen_of};

@@ -1,6 +1,7 @@
 //! The list of will dialogs and its changes.
 
-ghost use Rattle.std.specs.Prelude.{◌≡◌, ◌+◌, ◌≤◌, length, option_copied, vec_len};
+ghost use Rattle.std.specs.Prelude.{◌≡◌, ◌+◌, ◌≤◌, length, vec_len};
+ghost use Rattle.std.specs.Option.{option_copied};
 ghost use Rattle.std.specs.Vec.{vec_capacity};
 ghost use Rattle.sn_flow.specs.WillDialogs.{is_elsewhere as is_from_elsewhere, dialogs_elsewhere, asked, dialog_at as dialog_of_address, is_crowded as is_crowded_at};
 
@@ -14,7 +15,7 @@ const MAX_DIALOGS: usize = 1024;
 fn is_elsewhere(address: Addr, dialog: &WillDialog) -> bool
     ensures { result ≡ is_from_elsewhere address dialog.now }
 {
-    dialog.address != address
+    dialog.request.address != address
 }
 
 /// The address has no dialog any more.
@@ -33,7 +34,7 @@ pub fn ask(dialogs: &mut Vec<WillDialog>, dialog: WillDialog)
     ensures capacity { vec_capacity dialogs.old ≤ vec_capacity dialogs.new }
     ensures len { vec_len dialogs.new ≤ vec_len dialogs.old + 1 }
 {
-    end_dialog(dialogs, dialog.address);
+    end_dialog(dialogs, dialog.request.address);
     dialogs.push(dialog).unwrap();
 }
 
@@ -42,7 +43,7 @@ pub fn dialog_at(dialogs: &[WillDialog], address: Addr) -> Option<&WillDialog>
     ensures { option_copied result ≡ dialog_of_address address dialogs.now }
 {
     for dialog in dialogs {
-        if dialog.address == address {
+        if dialog.request.address == address {
             return Some(dialog);
         }
     }

@@ -16,7 +16,7 @@ use sn_topic::TopicName;
 use std::alloc::Global;
 
 /// The most octets that the message of a will may have.
-const MAX_MESSAGE: usize = 4096;
+pub const MAX_MESSAGE: usize = 4096;
 
 /// Whether the will is to be retained.
 fn is_retained(flags: Flags) -> bool
@@ -36,7 +36,7 @@ fn topic_from(name: Option<TopicName>, qos: Option<u8>, retain: bool) -> Option<
 }
 
 /// The topic that is asked for with these flags and octets.
-fn topic_asked(alloc: Global, will: &Will) -> Result<Option<WillTopic>, StepFault>
+pub fn topic_asked(alloc: Global, will: &Will) -> Result<Option<WillTopic>, StepFault>
     ensures ok { IfOk result (λ topic. topic ≡ topic_asked_for will.now) }
     ensures err { IfErr result (λ fault. fault ≡ StepFault.Memory) }
 {
