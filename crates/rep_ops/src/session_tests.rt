@@ -78,42 +78,67 @@ fn check_kind(rt: &impl Abort, alloc: Global, counter: u8, change: &[u8]) -> Res
 /// The session of the octets above.
 fn full_session(alloc: Global) -> Result<Session, Fail> {
     let mut session = Session::empty(alloc);
-    for change in [
-        SessionOp::Presence {
-            presence: Presence::Asleep,
-            duration: 300,
-        },
-        SessionOp::Register {
-            id: 65534,
-            name: TopicName::new(alloc, b"a")?,
-            known: false,
-        },
-        SessionOp::Register {
-            id: 1,
-            name: TopicName::new(alloc, b"t/a")?,
-            known: true,
-        },
-        SessionOp::Subscribe {
-            filter: Filter::new(alloc, b"t/#")?,
-            qos: 2,
-        },
-        SessionOp::WillTopic(Some(will_topic(alloc)?)),
-        SessionOp::WillMsg(Octets::from_slice(alloc, b"x")?),
-        SessionOp::Received { id: 6 },
-        SessionOp::Received { id: 5 },
-        SessionOp::Outbound {
-            exchange: Some(Outbound {
-                origin: 2,
-                seq: 7,
-                msg_id: 1,
-                phase: Phase::Registering,
-            }),
-            next_id: 2,
-        },
-    ] {
-        session.apply(alloc, &change)?;
-    }
+    session.presence = Presence::Asleep;
+    session.duration = 300;
+    set_topics(alloc, &mut session)?;
+    set_subscriptions(alloc, &mut session)?;
+    set_will(alloc, &mut session)?;
+    set_exchanges(alloc, &mut session)?;
     Ok(session)
+}
+
+/// Two topic ids, the greater one first.
+fn set_topics(alloc: Global, session: &mut Session) -> Result<(), Fail> {
+    let greater = SessionOp::Register {
+        id: 65534,
+        name: TopicName::new(alloc, b"a")?,
+        known: false,
+    };
+    session.apply(alloc, &greater)?;
+    let least = SessionOp::Register {
+        id: 1,
+        name: TopicName::new(alloc, b"t/a")?,
+        known: true,
+    };
+    session.apply(alloc, &least)?;
+    Ok(())
+}
+
+/// A subscription.
+fn set_subscriptions(alloc: Global, session: &mut Session) -> Result<(), Fail> {
+    let subscribe = SessionOp::Subscribe {
+        filter: Filter::new(alloc, b"t/#")?,
+        qos: 2,
+    };
+    session.apply(alloc, &subscribe)?;
+    Ok(())
+}
+
+/// A will with a message.
+fn set_will(alloc: Global, session: &mut Session) -> Result<(), Fail> {
+    let topic = SessionOp::WillTopic(Some(will_topic(alloc)?));
+    session.apply(alloc, &topic)?;
+    let message = SessionOp::WillMsg(Octets::from_slice(alloc, b"x")?);
+    session.apply(alloc, &message)?;
+    Ok(())
+}
+
+/// Two ids that were received, and an exchange.
+fn set_exchanges(alloc: Global, session: &mut Session) -> Result<(), Fail> {
+    for id in [6, 5] {
+        session.apply(alloc, &SessionOp::Received { id })?;
+    }
+    let begun = SessionOp::Outbound {
+        exchange: Some(Outbound {
+            origin: 2,
+            seq: 7,
+            msg_id: 1,
+            phase: Phase::Registering,
+        }),
+        next_id: 2,
+    };
+    session.apply(alloc, &begun)?;
+    Ok(())
 }
 
 /// A will's topic `ab` at quality of service 1, to be retained.
