@@ -3,6 +3,7 @@ use Rattle.std.proofs.Common.{◌≡◌, ℕ, List, [], ◌∷◌, Some, None, r
 use Rattle.sn_session.specs.declared.presence.Presence.TheVariants.{Active, Asleep}
 use Rattle.sn_session.specs.declared.session.Session.{Session}
 use Rattle.sn_session.specs.declared.change.SessionOp.TheVariants.{Take, Presence}
+use Rattle.sn_session.specs.Session.{empty_session}
 use Rattle.rep_ops.specs.declared.op.Stamp.{Stamp}
 use Rattle.rep_ops.specs.declared.op.Op.{Op}
 use Rattle.rep_ops.specs.declared.op.Op.TheVariants.{Session as OfSession}
@@ -25,7 +26,7 @@ abbrev pub seven : Addr
 seven = record { host = 0; port = 7 }
 
 abbrev pub session_of_s1 : Session
-session_of_s1 = record { presence = Active; clean = true; duration = 60; next_id = 1 }
+session_of_s1 = record empty_session { clean = true; duration = 60 }
 
 -- the Take that the first CONNECT makes
 abbrev pub first_take : Op
