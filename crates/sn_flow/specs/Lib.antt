@@ -7,6 +7,7 @@ pub mod Names
 pub mod Numbering
 pub mod Plans
 pub mod Registration
+pub mod RequestLaws
 pub mod Steps
 pub mod Subscription
 pub mod WillUpdate
