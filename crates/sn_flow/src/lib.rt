@@ -35,5 +35,7 @@ pub use draft::{Draft, NewPut};
 pub use fault::StepFault;
 pub use local::{Binding, Dialogs, LocalChange};
 pub use plan::{Plan, plan_of, plan_without};
-pub use request_laws::{given_id_stands, requests_keep_messages, subscribe_lasts, unsubscribe_ends};
+pub use request_laws::{
+    given_id_stands, requests_keep_messages, subscribe_lasts, unsubscribe_ends,
+};
 pub use table::step;
