@@ -9,6 +9,7 @@ pub mod Names
 pub mod Numbering
 pub mod Plans
 pub mod Registration
+pub mod RequestLaws
 pub mod Steps
 pub mod Subscription
 pub mod Timers

@@ -31,6 +31,7 @@ mod local;
 mod numbering;
 mod plan;
 mod registration;
+mod request_laws;
 mod subscription;
 mod table;
 mod timers;
@@ -46,6 +47,9 @@ pub use draft::{Draft, NewPut};
 pub use fault::StepFault;
 pub use local::{Awaited, Binding, Dialogs, LocalChange, Request, Timer, WillDialog};
 pub use plan::{Plan, plan_of, plan_without};
+pub use request_laws::{
+    given_id_stands, requests_keep_messages, subscribe_lasts, unsubscribe_ends,
+};
 pub use table::{other, step};
 pub use topic_rows::{register, subscribe, unsubscribe};
 pub use wills::{will_msg, will_msg_update, will_topic, will_topic_update};
