@@ -1,8 +1,10 @@
 pub mod Bindings
 pub mod Connection
 pub mod Drafts
+pub mod Flush
 pub mod Locals
 pub mod Names
 pub mod Numbering
+pub mod Own
 pub mod Plans
 pub mod Steps

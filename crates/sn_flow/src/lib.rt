@@ -18,6 +18,7 @@ mod config;
 mod connection;
 mod draft;
 mod fault;
+mod laws;
 mod local;
 mod numbering;
 mod plan;
@@ -27,6 +28,9 @@ pub use config::{Addr, Config, Send};
 pub use connection::{connect, disconnect, turn_away};
 pub use draft::{Draft, NewPut};
 pub use fault::StepFault;
+pub use laws::{
+    fresh_names, one_binding, only_acknowledged, own_names, reads_back, stays_flush,
+};
 pub use local::{Binding, Dialogs, LocalChange};
 pub use plan::{Plan, plan_of, plan_without};
 pub use table::step;

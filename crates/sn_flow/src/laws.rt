@@ -1,0 +1,69 @@
+//! The laws of plans. Each function does nothing; its contract is a law, proved for every draft, so for
+//! every row of the step table.
+
+ghost use Rattle.std.specs.Prelude.{◌≡◌, ℕ, ◌++◌, ◌⊎◌, [], List, Some, true, Contains};
+ghost use Rattle.std.specs.List.{AllByRecursion};
+ghost use Rattle.rep_ops.specs.declared.op.Op.{Op};
+ghost use Rattle.rep_ops.specs.declared.op.Put.{Put};
+ghost use Rattle.rep_ops.specs.Sets.{is_acknowledged};
+ghost use Rattle.rep_model.specs.Views.{pending_at, view};
+ghost use Rattle.rep_model.specs.Fresh.{next_epoch};
+ghost use Rattle.sn_flow.specs.declared.config.Addr.{Addr};
+ghost use Rattle.sn_flow.specs.declared.local.Binding.{Binding};
+ghost use Rattle.sn_flow.specs.declared.plan.Plan.{Plan};
+ghost use Rattle.sn_flow.specs.Bindings.{bound, client_at};
+ghost use Rattle.sn_flow.specs.Drafts.{Drafted};
+ghost use Rattle.sn_flow.specs.Numbering.{Written, start_of, written};
+ghost use Rattle.sn_flow.specs.Plans.{Seen, seen_of, plan_of};
+ghost use Rattle.sn_flow.specs.Own.{IsOwn, IsForeign, AreFresh, IsUnacknowledged, IsOneEach};
+ghost use Rattle.sn_flow.specs.Flush.{IsFlush, Shows, session_with};
+
+/// A gateway writes under names of its own: the session operations of a plan are of the client that the
+/// plan is for and under stamps with the gateway's number, the messages have the gateway as origin, and
+/// the acknowledgements are of that client. So two gateways never write one name.
+pub fn own_names()
+    ensures { (g : ℕ) (c : List ℕ) (seen : Seen) (d : Drafted) (plan : Plan) → plan_of g c seen d ≡ Some plan → AllByRecursion (IsOwn g c) plan.ops }
+{}
+
+/// No step loses a message: what waits for a client waits after the step, or the step itself has the
+/// acknowledgement of it. Messages for other clients than the plan's all go on waiting. A draft that
+/// changes nothing makes no operations, and then nobody's view changes.
+pub fn only_acknowledged()
+    ensures leaves { (g : ℕ) (c : List ℕ) (S : List Op) (d : Drafted) (plan : Plan) → plan_of g c (seen_of S) d ≡ Some plan → (e : List ℕ) (name : ℕ × ℕ) (put : Put) → pending_at e S name ≡ Some put → (pending_at e (S ++ plan.ops) name ≡ Some put) ⊎ ((e ≡ c) × (is_acknowledged c plan.ops name ≡ true) × Contains d.acks name) }
+    ensures quiet { (g : ℕ) (c : List ℕ) (S : List Op) (d : Drafted) (plan : Plan) → plan_of g c (seen_of S) d ≡ Some plan → d.changes ≡ [] → d.acks ≡ [] → d.puts ≡ [] → plan.ops ≡ [] }
+    ensures unchanged { (S : List Op) (plan : Plan) → plan.ops ≡ [] → (e : List ℕ) → view e (S ++ plan.ops) ≡ view e S }
+{}
+
+/// What a step writes is what the client's view then says. Where the gateway's own operations of the
+/// client are flush, the session after the step is the one before it with the changes of the draft applied in order,
+/// the visible stamp is the one that the numbering reached, and the prefix its counter. Without changes
+/// stamp, prefix and session stay, and those of other clients stay always.
+pub fn reads_back()
+    ensures written { (g : ℕ) (c : List ℕ) (S : List Op) (d : Drafted) (plan : Plan) → IsFlush g c S → plan_of g c (seen_of S) d ≡ Some plan → ¬ (d.changes ≡ []) → (w : Written) × (written c g d.changes (start_of g (view c S) (next_epoch c S)) ≡ Some w) × Shows g w (view c (S ++ plan.ops)) }
+    ensures session { (g : ℕ) (c : List ℕ) (S : List Op) (d : Drafted) (plan : Plan) → IsFlush g c S → plan_of g c (seen_of S) d ≡ Some plan → (view c (S ++ plan.ops)).session ≡ session_with (view c S).session d.changes }
+    ensures unchanged { (g : ℕ) (c : List ℕ) (S : List Op) (d : Drafted) (plan : Plan) → plan_of g c (seen_of S) d ≡ Some plan → d.changes ≡ [] → ((view c (S ++ plan.ops)).stamp ≡ (view c S).stamp) × ((view c (S ++ plan.ops)).prefix ≡ (view c S).prefix) }
+    ensures others { (g : ℕ) (c : List ℕ) (S : List Op) (d : Drafted) (plan : Plan) → plan_of g c (seen_of S) d ≡ Some plan → (e : List ℕ) → ¬ (e ≡ c) → ((view e (S ++ plan.ops)).stamp ≡ (view e S).stamp) × ((view e (S ++ plan.ops)).prefix ≡ (view e S).prefix) × ((view e (S ++ plan.ops)).session ≡ (view e S).session) }
+{}
+
+/// No name is used twice: neither is a session operation or message of a plan written under a name that
+/// stands in the set, nor under one that stands before it in the plan; and no message is acknowledged
+/// before it is made.
+pub fn fresh_names()
+    ensures fresh { (g : ℕ) (c : List ℕ) (S : List Op) (d : Drafted) (plan : Plan) → IsFlush g c S → IsOneEach d.puts → plan_of g c (seen_of S) d ≡ Some plan → AreFresh S plan.ops }
+    ensures unacknowledged { (g : ℕ) (c : List ℕ) (S : List Op) (d : Drafted) (plan : Plan) → plan_of g c (seen_of S) d ≡ Some plan → AllByRecursion (IsUnacknowledged S) plan.ops }
+{}
+
+/// A gateway stays flush: it is at the start, after each step of its own, and after it takes operations
+/// of others, none of which is under a stamp of its own.
+pub fn stays_flush()
+    ensures start { (g : ℕ) (c : List ℕ) → IsFlush g c [] }
+    ensures step { (g : ℕ) (c : List ℕ) (S : List Op) (d : Drafted) (plan : Plan) → IsFlush g c S → plan_of g c (seen_of S) d ≡ Some plan → (e : List ℕ) → IsFlush g e S → IsFlush g e (S ++ plan.ops) }
+    ensures taken { (g : ℕ) (c : List ℕ) (S D : List Op) → IsFlush g c S → AllByRecursion (IsForeign g) D → IsFlush g c (S ++ D) }
+{}
+
+/// A binding joins one address and one client: the address is that client's, the binding stands in the
+/// list, and no other has the address or the client.
+pub fn one_binding()
+    ensures client { (a : Addr) (c : List ℕ) (bindings : List Binding) → client_at a (bound a c bindings) ≡ Some c }
+    ensures alone { (a : Addr) (c : List ℕ) (bindings : List Binding) (binding : Binding) → Contains (bound a c bindings) binding → (binding.address ≡ a) ⊎ (binding.client ≡ c) → (binding.address ≡ a) × (binding.client ≡ c) }
+{}
