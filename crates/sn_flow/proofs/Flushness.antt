@@ -1,27 +1,23 @@
 -- A gateway stays flush.
-use Rattle.std.proofs.Common.{◌≡◌, ℕ, ◌≤◌, true, false, if◌then◌else◌, List, [], ◌∷◌, ◌++◌, length, Option, Some, None, is_some, IfSome, refl, sym, ap, ◌∙◌, subst, true≢false}
-use Rattle.std.specs.List.{AllByRecursion}
+use Rattle.std.proofs.Common.{◌≡◌, ℕ, ◌≤◌, true, false, List, [], ◌∷◌, ◌++◌, length, Option, Some, is_some, IfSome, refl, sym, ap, ◌∙◌, subst, true≢false}
 use Rattle.std.specs.FinMap.{find}
 use Rattle.std.proofs.lemmas.Option.{same_Some}
 use Rattle.sn_session.specs.declared.change.SessionOp.{SessionOp}
 use Rattle.sn_session.specs.declared.session.Session.{Session}
-use Rattle.rep_ops.specs.declared.op.Stamp.{Stamp}
 use Rattle.rep_ops.specs.declared.op.Op.{Op}
-use Rattle.rep_ops.specs.declared.op.Op.TheVariants.{Session as OfSession, Put as OfPut, Ack}
 use Rattle.rep_ops.specs.Orders.{stamp_cmp, operation_cmp}
-use Rattle.rep_ops.specs.Sets.{same_client, operation_of, operations, operation_at}
-use Rattle.rep_model.specs.Views.{visible, gapless, history, session_of}
-use Rattle.rep_model.proofs.Lookup.{or_else, find-all}
+use Rattle.rep_ops.specs.Sets.{Same, same_client, operations, operation_at}
+use Rattle.rep_model.specs.Views.{visible, gapless, history_at, history, session_of}
+use Rattle.rep_model.proofs.Lookup.{or_else}
 use Rattle.rep_model.proofs.Greatest.{has, same_greatest}
-use Rattle.rep_model.proofs.Readers.{stamp_total, stamp_exact, operation_exact, same_client-true, operation_at_both, takes, has_take}
+use Rattle.rep_model.proofs.Readers.{stamp_total, stamp_exact, same_client-true, operation_at_both, takes, has_take}
 use Rattle.rep_model.proofs.Thin.{some_left}
 use Rattle.sn_flow.specs.declared.plan.Plan.{Plan}
 use Rattle.sn_flow.specs.Drafts.{Drafted}
 use Rattle.sn_flow.specs.Plans.{seen_of, plan_of}
-use Rattle.sn_flow.specs.Own.{IsForeign}
+use Rattle.sn_flow.specs.Own.{HasNoneOf}
 use Rattle.sn_flow.specs.Flush.{stamp_of, IsFlush}
-use Rattle.sn_flow.proofs.Lists.{all-weaken}
-use Rattle.sn_flow.proofs.Entries.{same_client-itself, or_none, visible-by, visible-there, history-by}
+use Rattle.sn_flow.proofs.Entries.{visible-same, same_client-itself, or_none, visible-by, visible-there, history-by}
 use Rattle.sn_flow.proofs.Reached.{At, history-own}
 use Rattle.sn_flow.proofs.Outcomes.{parts, operations-else, operations-plan, operations-unchanged, reached}
 
@@ -59,25 +55,10 @@ module _ (g : ℕ) (c : List ℕ) (S : List Op) (d : Drafted) (plan : Plan) (pla
     | false ↦ λ f. flush-by g e S (S ++ plan.ops) (sym (operations-else g c S d plan planned e (λ same. true≢false (sym (same_client-itself e) ∙ ap (same_client e) same ∙ f)))) other
   ] refl
 
-foreign-entry : (g : ℕ) (c : List ℕ) (op : Op) → IsForeign g op → IfSome (operation_of c op) (λ e. ¬ (e.0.0.gateway ≡ g))
-foreign-entry g c (OfSession d stamp counter change) h =
-    elim (same_client c d) as (λ b. IfSome {T = (Stamp × ℕ) × SessionOp} (if b then Some ((stamp, counter), change) else None) (λ e. ¬ (e.0.0.gateway ≡ g))) [
-      | true ↦ h
-      | false ↦ tt
-    ]
-foreign-entry g c (OfPut d p) h = tt
-foreign-entry g c (Ack d origin first last) h = tt
-
-not_if : {X : Type 0} {P : Type 0} (o : Option X) → IfSome o (λ _. ¬ P) → P → o ≡ None
-not_if None h p = refl
-not_if (Some x) h p = absurd (h p)
-
-module _ (g : ℕ) (c : List ℕ) (S D : List Op) (foreign : AllByRecursion (IsForeign g) D) where
+module _ (g : ℕ) (c : List ℕ) (S D : List Op) (none : HasNoneOf g c D) where
   -- at the gateway's own stamps nothing is new
   own-same : (epoch k : ℕ) → operation_at c (S ++ D) (stamp_of epoch g, k) ≡ operation_at c S (stamp_of epoch g, k)
-  own-same epoch k =
-      let none : operation_at c D (stamp_of epoch g, k) ≡ None = not_if {P = g ≡ g} (operation_at c D (stamp_of epoch g, k)) (find-all operation_cmp operation_exact (operation_of c) (λ n x. ¬ (n.0.gateway ≡ g)) D (all-weaken (IsForeign g) (λ op. IfSome (operation_of c op) (λ e. ¬ (e.0.0.gateway ≡ g))) (foreign-entry g c) D foreign) (stamp_of epoch g, k)) refl in
-      operation_at_both c S D (stamp_of epoch g, k) ∙ ap (or_else (operation_at c S (stamp_of epoch g, k))) none ∙ or_none (operation_at c S (stamp_of epoch g, k))
+  own-same epoch k = operation_at_both c S D (stamp_of epoch g, k) ∙ ap (or_else (operation_at c S (stamp_of epoch g, k))) (none epoch k) ∙ or_none (operation_at c S (stamp_of epoch g, k))
 
   -- where the gateway's own stamp is the visible one, it was before
   seen-before : (epoch : ℕ) → visible c (S ++ D) ≡ Some (stamp_of epoch g) → visible c S ≡ visible c (S ++ D)
@@ -103,3 +84,13 @@ flush-start g c = record {
   begun = λ epoch e. absurd (true≢false (sym (ap is_some e)));
   nothing_behind = λ epoch k e _. refl;
 }
+
+-- equal sets
+pub flush-same : (g : ℕ) (c : List ℕ) (A B : List Op) → Same A B → IsFlush g c A → IsFlush g c B
+flush-same g c A B same flush =
+    let seen : visible c A ≡ visible c B = visible-same c A B (λ s. ap is_some (same.operations_same c (s, 0))) in
+    let done : history c A ≡ history c B = λ i. history_at (λ name. same.operations_same c name i) (seen i) in
+    record {
+      begun = λ epoch e. ap (λ h. is_some (session_of h)) (sym done) ∙ flush.begun epoch (seen ∙ e);
+      nothing_behind = λ epoch k e le. sym (same.operations_same c (stamp_of epoch g, k)) ∙ flush.nothing_behind epoch k (seen ∙ e) (subst (λ h. length h ≤ k) (sym done) le);
+    }

@@ -14,7 +14,7 @@ use Rattle.sn_flow.specs.declared.plan.Plan.{Plan}
 use Rattle.sn_flow.specs.Drafts.{Drafted}
 use Rattle.sn_flow.specs.Numbering.{put_at_seq, with_puts, ack_of}
 use Rattle.sn_flow.specs.Plans.{seen_of, plan_of}
-use Rattle.sn_flow.specs.Own.{AreFresh, IsUnacknowledged, IsOneEach}
+use Rattle.sn_flow.specs.Own.{AreFresh, IsOneEach}
 use Rattle.sn_flow.specs.Flush.{IsFlush}
 use Rattle.sn_flow.proofs.Lists.{and_then-some, all-append, all-weaken, all-map, all-both, all-given, none_pass}
 use Rattle.sn_flow.proofs.Entries.{same_client-apart, by_some, puts-other}
@@ -22,6 +22,12 @@ use Rattle.sn_flow.proofs.Planned.{IsNumbered, puts-behind, Parts, planned-parts
 use Rattle.sn_flow.proofs.Names.{IsWritten, start-written}
 use Rattle.sn_flow.proofs.Reached.{one_more-is}
 use Rattle.sn_flow.proofs.Carried.{fresh-append, written-fresh}
+
+-- the set does not acknowledge the message
+abbrev pub IsUnacknowledged : List Op → Op → Type 0
+IsUnacknowledged S (OfSession c stamp counter change) = Unit {0}
+IsUnacknowledged S (OfPut c put) = is_acknowledged c S (put.seq, put.origin) ≡ false
+IsUnacknowledged S (Ack c origin first last) = Unit {0}
 
 by_test : (b : Bool) → (b ≡ true → ⊥) → b ≡ false
 by_test true f = absurd (f refl)

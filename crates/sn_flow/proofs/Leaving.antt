@@ -50,7 +50,7 @@ one-acked c e name own h =
 contains-first : {X : Type 0} (x : X) (xs : List X) → Contains (x ∷ xs) x
 contains-first x xs = Contains-append_left (x ∷ []) xs x (Contains-push [] x)
 
-names-acked : (c e : List ℕ) (name : ℕ × ℕ) (names : List (ℕ × ℕ)) → is_acknowledged e (map (ack_of c) names) name ≡ true → (e ≡ c) × Contains names name
+pub names-acked : (c e : List ℕ) (name : ℕ × ℕ) (names : List (ℕ × ℕ)) → is_acknowledged e (map (ack_of c) names) name ≡ true → (e ≡ c) × Contains names name
 names-acked c e name [] h = absurd (true≢false (sym h))
 names-acked c e name (own ∷ names) h =
     elim (or_cases (acknowledges e name (ack_of c own)) (is_acknowledged e (map (ack_of c) names) name) h) [
@@ -77,7 +77,7 @@ module _ (g : ℕ) (c : List ℕ) (S : List Op) (d : Drafted) (plan : Plan) (pla
   cut : Parts g c (view c S) (next_epoch c S) (λ e. next_seq e g S) d plan.ops
   cut = planned-parts g c (view c S) (next_epoch c S) (λ e. next_seq e g S) d plan planned
 
-  acked-plan : (e : List ℕ) (name : ℕ × ℕ) → is_acknowledged e plan.ops name ≡ is_acknowledged e (map (ack_of c) d.acks) name
+  pub acked-plan : (e : List ℕ) (name : ℕ × ℕ) → is_acknowledged e plan.ops name ≡ is_acknowledged e (map (ack_of c) d.acks) name
   acked-plan e name =
       let acks : List Op = map (ack_of c) d.acks in
       let before : List Op = cut.w.ops ++ acks in

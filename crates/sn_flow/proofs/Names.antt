@@ -1,15 +1,21 @@
 -- The names that a plan writes under are the gateway's own.
-use Rattle.std.proofs.Common.{◌≡◌, ℕ, List, ◌++◌, map, Option, Some, refl, sym, subst}
+use Rattle.std.proofs.Common.{◌≡◌, ℕ, List, ◌++◌, map, Option, Some, refl, sym, subst, true, false, if◌then◌else◌, None, IfSome}
 use Rattle.std.specs.List.{AllByRecursion}
 use Rattle.sn_session.specs.declared.change.SessionOp.{SessionOp}
 use Rattle.rep_ops.specs.declared.op.Op.{Op}
 use Rattle.rep_ops.specs.declared.op.Op.TheVariants.{Session as OfSession, Put as OfPut, Ack}
+use Rattle.rep_ops.specs.declared.op.Stamp.{Stamp}
+use Rattle.rep_ops.specs.Orders.{operation_cmp}
+use Rattle.rep_ops.specs.Sets.{same_client, operation_of, operation_at}
+use Rattle.rep_model.proofs.Lookup.{find-all}
+use Rattle.rep_model.proofs.Readers.{operation_exact}
 use Rattle.rep_model.specs.declared.view.ClientView.{ClientView}
 use Rattle.sn_flow.specs.declared.plan.Plan.{Plan}
 use Rattle.sn_flow.specs.Drafts.{Drafted}
 use Rattle.sn_flow.specs.Numbering.{Written, written, ack_of, start_of}
 use Rattle.sn_flow.specs.Plans.{Seen, plan_of}
-use Rattle.sn_flow.specs.Own.{IsOwn}
+use Rattle.sn_flow.specs.Own.{IsOwn, HasNoneOf}
+use Rattle.sn_flow.specs.Flush.{stamp_of}
 use Rattle.sn_flow.proofs.Lists.{all-append, all-weaken, all-map}
 use Rattle.sn_flow.proofs.Planned.{written-keeps, IsNumbered, puts-behind, planned-parts}
 
@@ -49,3 +55,22 @@ module _ (g : ℕ) (c : List ℕ) where
       let b = puts-behind g (λ e. seen.seq e g) d.puts before plan.ops parts.is_numbered in
       let own : AllOwn before = all-append (IsOwn g c) parts.w.ops (map (ack_of c) d.acks) (all-weaken (IsWritten g c) (IsOwn g c) is_own parts.w.ops (start-written (seen.of c) (seen.epoch c) d.changes parts.w parts.is_written)) (all-map (IsOwn g c) (ack_of c) (λ name. refl) d.acks) in
       subst AllOwn (sym b.1) (all-append (IsOwn g c) before b.0 own (all-weaken (IsNumbered g (λ e. seen.seq e g)) (IsOwn g c) (numbered-own (λ e. seen.seq e g)) b.0 b.2))
+
+own-entry : (g : ℕ) (c e : List ℕ) (op : Op) → IsOwn g c op → IfSome (operation_of e op) (λ x. x.0.0.gateway ≡ g)
+own-entry g c e (OfSession d stamp counter change) h =
+    elim (same_client e d) as (λ b. IfSome {T = (Stamp × ℕ) × SessionOp} (if b then Some ((stamp, counter), change) else None) (λ x. x.0.0.gateway ≡ g)) [
+      | true ↦ h.1
+      | false ↦ tt
+    ]
+own-entry g c e (OfPut d p) h = tt
+own-entry g c e (Ack d origin first last) h = tt
+
+none_if : {X : Type 0} (P : Type 0) (o : Option X) → IfSome o (λ _. P) → ¬ P → o ≡ None
+none_if P None h k = refl
+none_if P (Some x) h k = absurd (k h)
+
+pub plan-apart : (g : ℕ) (c : List ℕ) (seen : Seen) (d : Drafted) (plan : Plan) → plan_of g c seen d ≡ Some plan → (other : ℕ) (e : List ℕ) → ¬ (other ≡ g) → HasNoneOf other e plan.ops
+plan-apart g c seen d plan planned other e h epoch counter =
+    none_if (other ≡ g) (operation_at e plan.ops (stamp_of epoch other, counter))
+      (find-all operation_cmp operation_exact (operation_of e) (λ n x. n.0.gateway ≡ g) plan.ops (all-weaken (IsOwn g c) (λ op. IfSome (operation_of e op) (λ x. x.0.0.gateway ≡ g)) (own-entry g c e) plan.ops (plan-own g c seen d plan planned)) (stamp_of epoch other, counter))
+      h

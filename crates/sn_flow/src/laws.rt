@@ -5,9 +5,11 @@ ghost use Rattle.std.specs.Prelude.{◌≡◌, ℕ, ◌++◌, ◌⊎◌, [], Lis
 ghost use Rattle.std.specs.List.{AllByRecursion};
 ghost use Rattle.rep_ops.specs.declared.op.Op.{Op};
 ghost use Rattle.rep_ops.specs.declared.op.Put.{Put};
-ghost use Rattle.rep_ops.specs.Sets.{is_acknowledged};
+ghost use Rattle.rep_ops.specs.Sets.{is_acknowledged, IsConsistent, Same};
 ghost use Rattle.rep_model.specs.Views.{pending_at, view};
 ghost use Rattle.rep_model.specs.Fresh.{next_epoch};
+ghost use Rattle.rep_model.specs.Keep.{keep};
+ghost use Rattle.rep_model.specs.Taking.{AllAgree};
 ghost use Rattle.sn_flow.specs.declared.config.Addr.{Addr};
 ghost use Rattle.sn_flow.specs.declared.local.Binding.{Binding};
 ghost use Rattle.sn_flow.specs.declared.plan.Plan.{Plan};
@@ -15,14 +17,16 @@ ghost use Rattle.sn_flow.specs.Bindings.{bound, client_at};
 ghost use Rattle.sn_flow.specs.Drafts.{Drafted};
 ghost use Rattle.sn_flow.specs.Numbering.{Written, start_of, written};
 ghost use Rattle.sn_flow.specs.Plans.{Seen, seen_of, plan_of};
-ghost use Rattle.sn_flow.specs.Own.{IsOwn, IsForeign, AreFresh, IsUnacknowledged, IsOneEach};
+ghost use Rattle.sn_flow.specs.Own.{IsOwn, HasNoneOf, AreFresh, IsOneEach, Waits, messages};
 ghost use Rattle.sn_flow.specs.Flush.{IsFlush, Shows, session_with};
 
 /// A gateway writes under names of its own: the session operations of a plan are of the client that the
 /// plan is for and under stamps with the gateway's number, the messages have the gateway as origin, and
-/// the acknowledgements are of that client. So two gateways never write one name.
+/// the acknowledgements are of that client. So nothing that a gateway writes stands under a stamp of
+/// another.
 pub fn own_names()
-    ensures { (g : ℕ) (c : List ℕ) (seen : Seen) (d : Drafted) (plan : Plan) → plan_of g c seen d ≡ Some plan → AllByRecursion (IsOwn g c) plan.ops }
+    ensures own { (g : ℕ) (c : List ℕ) (seen : Seen) (d : Drafted) (plan : Plan) → plan_of g c seen d ≡ Some plan → AllByRecursion (IsOwn g c) plan.ops }
+    ensures apart { (g : ℕ) (c : List ℕ) (seen : Seen) (d : Drafted) (plan : Plan) → plan_of g c seen d ≡ Some plan → (other : ℕ) (e : List ℕ) → ¬ (other ≡ g) → HasNoneOf other e plan.ops }
 {}
 
 /// No step loses a message: what waits for a client waits after the step, or the step itself has the
@@ -46,19 +50,29 @@ pub fn reads_back()
 {}
 
 /// No name is used twice: neither is a session operation or message of a plan written under a name that
-/// stands in the set, nor under one that stands before it in the plan; and no message is acknowledged
-/// before it is made.
+/// stands in the set, nor under one that stands before it in the plan. So the set stays consistent, and
+/// a gateway never refuses what it made itself for a conflict.
 pub fn fresh_names()
     ensures fresh { (g : ℕ) (c : List ℕ) (S : List Op) (d : Drafted) (plan : Plan) → IsFlush g c S → IsOneEach d.puts → plan_of g c (seen_of S) d ≡ Some plan → AreFresh S plan.ops }
-    ensures unacknowledged { (g : ℕ) (c : List ℕ) (S : List Op) (d : Drafted) (plan : Plan) → plan_of g c (seen_of S) d ≡ Some plan → AllByRecursion (IsUnacknowledged S) plan.ops }
+    ensures fits { (g : ℕ) (c : List ℕ) (S : List Op) (d : Drafted) (plan : Plan) → IsFlush g c S → IsOneEach d.puts → plan_of g c (seen_of S) d ≡ Some plan → (delta : List Op) → Same delta plan.ops → AllAgree S delta × AllAgree (keep S) delta }
+    ensures consistent { (g : ℕ) (c : List ℕ) (S : List Op) (d : Drafted) (plan : Plan) → IsFlush g c S → IsOneEach d.puts → plan_of g c (seen_of S) d ≡ Some plan → IsConsistent S → IsConsistent (S ++ plan.ops) }
 {}
 
-/// A gateway stays flush: it is at the start, after each step of its own, and after it takes operations
-/// of others, none of which is under a stamp of its own.
+/// Every message of a draft is written, and waits for its client after the step, unless the draft
+/// acknowledges it as well.
+pub fn messages_wait()
+    ensures all { (g : ℕ) (c : List ℕ) (seen : Seen) (d : Drafted) (plan : Plan) → plan_of g c seen d ≡ Some plan → messages plan.ops ≡ d.puts }
+    ensures waiting { (g : ℕ) (c : List ℕ) (S : List Op) (d : Drafted) (plan : Plan) → IsFlush g c S → IsOneEach d.puts → plan_of g c (seen_of S) d ≡ Some plan → AllByRecursion (Waits (S ++ plan.ops) c d.acks) plan.ops }
+{}
+
+/// A gateway stays flush: it is at the start, after each step of its own, for the client of the step and
+/// for all others, and after it takes operations of which none is under a stamp of its own. Equal sets
+/// are flush alike, so it does not matter how the operations travel.
 pub fn stays_flush()
     ensures start { (g : ℕ) (c : List ℕ) → IsFlush g c [] }
     ensures step { (g : ℕ) (c : List ℕ) (S : List Op) (d : Drafted) (plan : Plan) → IsFlush g c S → plan_of g c (seen_of S) d ≡ Some plan → (e : List ℕ) → IsFlush g e S → IsFlush g e (S ++ plan.ops) }
-    ensures taken { (g : ℕ) (c : List ℕ) (S D : List Op) → IsFlush g c S → AllByRecursion (IsForeign g) D → IsFlush g c (S ++ D) }
+    ensures taken { (g : ℕ) (c : List ℕ) (S D : List Op) → IsFlush g c S → HasNoneOf g c D → IsFlush g c (S ++ D) }
+    ensures equal { (g : ℕ) (c : List ℕ) (A B : List Op) → Same A B → IsFlush g c A → IsFlush g c B }
 {}
 
 /// A binding joins one address and one client: the address is that client's, the binding stands in the

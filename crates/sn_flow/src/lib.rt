@@ -11,6 +11,7 @@
 //! - `draft`: what a row says (`Draft`).
 //! - `numbering`, `plan`: from a draft to a plan (`Plan`).
 //! - `connection`, `other`: the rows.
+//! - `laws`: what holds of every plan, proved for every draft and so for every row.
 #![tactic(auto)]
 
 mod bindings;
@@ -29,7 +30,7 @@ pub use connection::{connect, disconnect, turn_away};
 pub use draft::{Draft, NewPut};
 pub use fault::StepFault;
 pub use laws::{
-    fresh_names, one_binding, only_acknowledged, own_names, reads_back, stays_flush,
+    fresh_names, messages_wait, one_binding, only_acknowledged, own_names, reads_back, stays_flush,
 };
 pub use local::{Binding, Dialogs, LocalChange};
 pub use plan::{Plan, plan_of, plan_without};

@@ -1,5 +1,5 @@
 use Rattle.sn_flow.proofs.laws.own_names.Goals as goal
-use Rattle.sn_flow.proofs.Names.{plan-own}
+use Rattle.sn_flow.proofs.Names.{plan-own, plan-apart}
 
 pub returns : goal.returns
-returns c = plan-own
+returns c = record { own = plan-own; apart = plan-apart }
