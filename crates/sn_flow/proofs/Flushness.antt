@@ -1,5 +1,5 @@
 -- A gateway stays flush.
-use Rattle.std.proofs.Common.{◌≡◌, ℕ, ◌≤◌, true, false, List, [], ◌∷◌, ◌++◌, length, Option, Some, is_some, IfSome, refl, sym, ap, ◌∙◌, subst, true≢false}
+use Rattle.std.proofs.Common.{◌≡◌, ℕ, ◌≤◌, true, false, List, [], ◌∷◌, ◌++◌, length, Option, Some, None, is_some, IfSome, refl, sym, ap, ◌∙◌, subst, true≢false}
 use Rattle.std.specs.FinMap.{find}
 use Rattle.std.proofs.lemmas.Option.{same_Some}
 use Rattle.sn_session.specs.declared.change.SessionOp.{SessionOp}
@@ -15,9 +15,9 @@ use Rattle.rep_model.proofs.Thin.{some_left}
 use Rattle.sn_flow.specs.declared.plan.Plan.{Plan}
 use Rattle.sn_flow.specs.Drafts.{Drafted}
 use Rattle.sn_flow.specs.Plans.{seen_of, plan_of}
-use Rattle.sn_flow.specs.Own.{HasNoneOf}
+use Rattle.sn_flow.specs.Own.{AddsNone}
 use Rattle.sn_flow.specs.Flush.{stamp_of, IsFlush}
-use Rattle.sn_flow.proofs.Entries.{visible-same, same_client-itself, or_none, visible-by, visible-there, history-by}
+use Rattle.sn_flow.proofs.Entries.{visible-same, same_client-itself, visible-by, visible-there, history-by}
 use Rattle.sn_flow.proofs.Reached.{At, history-own}
 use Rattle.sn_flow.proofs.Outcomes.{parts, operations-else, operations-plan, operations-unchanged, reached}
 
@@ -55,10 +55,15 @@ module _ (g : ℕ) (c : List ℕ) (S : List Op) (d : Drafted) (plan : Plan) (pla
     | false ↦ λ f. flush-by g e S (S ++ plan.ops) (sym (operations-else g c S d plan planned e (λ same. true≢false (sym (same_client-itself e) ∙ ap (same_client e) same ∙ f)))) other
   ] refl
 
-module _ (g : ℕ) (c : List ℕ) (S D : List Op) (none : HasNoneOf g c D) where
+known : {X : Type 0} (a b : Option X) → ((x : X) → b ≡ Some x → a ≡ Some x) → or_else a b ≡ a
+known (Some x) b f = refl
+known None None f = refl
+known None (Some y) f = sym (f y refl)
+
+module _ (g : ℕ) (c : List ℕ) (S D : List Op) (none : AddsNone g c S D) where
   -- at the gateway's own stamps nothing is new
   own-same : (epoch k : ℕ) → operation_at c (S ++ D) (stamp_of epoch g, k) ≡ operation_at c S (stamp_of epoch g, k)
-  own-same epoch k = operation_at_both c S D (stamp_of epoch g, k) ∙ ap (or_else (operation_at c S (stamp_of epoch g, k))) (none epoch k) ∙ or_none (operation_at c S (stamp_of epoch g, k))
+  own-same epoch k = operation_at_both c S D (stamp_of epoch g, k) ∙ known (operation_at c S (stamp_of epoch g, k)) (operation_at c D (stamp_of epoch g, k)) (none epoch k)
 
   -- where the gateway's own stamp is the visible one, it was before
   seen-before : (epoch : ℕ) → visible c (S ++ D) ≡ Some (stamp_of epoch g) → visible c S ≡ visible c (S ++ D)

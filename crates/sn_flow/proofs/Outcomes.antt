@@ -2,6 +2,7 @@
 use Rattle.std.proofs.Common.{◌≡◌, ℕ, if◌then◌else◌, List, [], ◌∷◌, ◌++◌, map, length, fold, Option, Some, None, unwrap_or, refl, sym, ap, ◌∙◌, append_assoc, append-nil}
 use Rattle.std.specs.List.{AllByRecursion}
 use Rattle.std.proofs.lemmas.Option.{same_Some}
+use Rattle.std.proofs.lemmas.List.Elements.{filter_map-append}
 use Rattle.sn_session.specs.declared.change.SessionOp.{SessionOp}
 use Rattle.sn_session.specs.Session.{applied, empty_session}
 use Rattle.rep_ops.specs.declared.op.Op.{Op}
@@ -47,14 +48,16 @@ module _ (g : ℕ) (c : List ℕ) (S : List Op) (d : Drafted) (plan : Plan) (pla
   operations-else e h = operations-same e S plan.ops (none_pass (operation_of e) plan.ops (all-weaken (IsOwn g c) (IsElse e) (own-else g c e h) plan.ops (plan-own g c (seen_of S) d plan planned)))
 
   -- of session operations, the plan has those that were written
-  pub operations-plan : (e : List ℕ) (p : Parts g c (view c S) (next_epoch c S) (λ e. next_seq e g S) d plan.ops) → operations e (S ++ plan.ops) ≡ operations e (S ++ p.w.ops)
-  operations-plan e p =
+  pub operations-alone : (e : List ℕ) (p : Parts g c (view c S) (next_epoch c S) (λ e. next_seq e g S) d plan.ops) → operations e plan.ops ≡ operations e p.w.ops
+  operations-alone e p =
       let before : List Op = p.w.ops ++ map (ack_of c) d.acks in
       let b = puts-behind g seq d.puts before plan.ops p.is_numbered in
       let rest : List Op = map (ack_of c) d.acks ++ b.0 in
-      let whole : S ++ plan.ops ≡ (S ++ p.w.ops) ++ rest = ap (λ ops. S ++ ops) (b.1 ∙ append_assoc p.w.ops (map (ack_of c) d.acks) b.0) ∙ sym (append_assoc S p.w.ops rest) in
       let none : AllByRecursion (IsElse e) rest = all-append (IsElse e) (map (ack_of c) d.acks) b.0 (all-map (IsElse e) (ack_of c) (λ name. refl) d.acks) (all-weaken (IsNumbered g seq) (IsElse e) (numbered-else g seq e) b.0 b.2) in
-      ap (operations e) whole ∙ operations-same e (S ++ p.w.ops) rest (none_pass (operation_of e) rest none)
+      ap (operations e) (b.1 ∙ append_assoc p.w.ops (map (ack_of c) d.acks) b.0) ∙ operations-same e p.w.ops rest (none_pass (operation_of e) rest none)
+
+  pub operations-plan : (e : List ℕ) (p : Parts g c (view c S) (next_epoch c S) (λ e. next_seq e g S) d plan.ops) → operations e (S ++ plan.ops) ≡ operations e (S ++ p.w.ops)
+  operations-plan e p = filter_map-append (operation_of e) S plan.ops ∙ ap (λ es. operations e S ++ es) (operations-alone e p) ∙ sym (filter_map-append (operation_of e) S p.w.ops)
 
   -- without changes nothing is written
   pub operations-unchanged : d.changes ≡ [] → operations c (S ++ plan.ops) ≡ operations c S

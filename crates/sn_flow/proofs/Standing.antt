@@ -115,11 +115,13 @@ none_kept : {X : Type 0} (b : Bool) (o : Option X) → o ≡ None → cond b o N
 none_kept true o e = e
 none_kept false o e = refl
 
+-- what stands in fresh operations does not stand in the set
+pub fresh-absent : (S ops : List Op) → AreFresh S ops → (c : List ℕ) (name : Stamp × ℕ) → IfSome (operation_at c ops name) (λ _. operation_at c S name ≡ None)
+fresh-absent S ops f c name = find-all operation_cmp operation_exact (operation_of c) (λ n x. operation_at c S n ≡ None) ops (all-weaken (IsFresh S) (λ op. IfSome (operation_of c op) (λ e. operation_at c S e.0 ≡ None)) (fresh-operation S c) ops (all-fresh S ops f)) name
+
 module _ (S ops : List Op) (f : AreFresh S ops) (delta : List Op) (same : Same delta ops) where
   new-operation : (c : List ℕ) (name : Stamp × ℕ) → is_some (operation_at c delta name) ≡ true → operation_at c S name ≡ None
-  new-operation c name = if_there (operation_at c ops name) (operation_at c delta name) (operation_at c S name)
-      (find-all operation_cmp operation_exact (operation_of c) (λ n x. operation_at c S n ≡ None) ops (all-weaken (IsFresh S) (λ op. IfSome (operation_of c op) (λ e. operation_at c S e.0 ≡ None)) (fresh-operation S c) ops (all-fresh S ops f)) name)
-      (same.operations_same c name)
+  new-operation c name = if_there (operation_at c ops name) (operation_at c delta name) (operation_at c S name) (fresh-absent S ops f c name) (same.operations_same c name)
 
   new-put : (c : List ℕ) (name : ℕ × ℕ) → is_some (put_at c delta name) ≡ true → put_at c S name ≡ None
   new-put c name = if_there (put_at c ops name) (put_at c delta name) (put_at c S name)

@@ -1,6 +1,7 @@
 -- Whose the names of operations are, and whether they were used before.
 use Rattle.std.specs.Prelude.{◌≡◌, ℕ, ◌⊎◌, List, [], ◌∷◌, ◌++◌, Option, Some, None, Contains}
 use Rattle.std.specs.List.{AllByRecursion, filter_map}
+use Rattle.sn_session.specs.declared.change.SessionOp.{SessionOp}
 use Rattle.rep_ops.specs.declared.op.Op.{Op}
 use Rattle.rep_ops.specs.declared.op.Op.TheVariants.{Session as OfSession, Put as OfPut, Ack}
 use Rattle.rep_ops.specs.Sets.{operation_at, put_at}
@@ -17,6 +18,10 @@ IsOwn g c (Ack d origin first last) = d ≡ c
 -- none of the client's session operations in the set is under a stamp of the gateway
 abbrev pub HasNoneOf : ℕ → List ℕ → List Op → Type 0
 HasNoneOf g c D = (epoch counter : ℕ) → operation_at c D (stamp_of epoch g, counter) ≡ None
+
+-- of the client's session operations under stamps of the gateway, D has none that S has not
+abbrev pub AddsNone : ℕ → List ℕ → List Op → List Op → Type 0
+AddsNone g c S D = (epoch counter : ℕ) (change : SessionOp) → operation_at c D (stamp_of epoch g, counter) ≡ Some change → operation_at c S (stamp_of epoch g, counter) ≡ Some change
 
 -- the set has nothing under the name of the session operation or message
 abbrev pub IsFresh : List Op → Op → Type 0

@@ -17,7 +17,7 @@ ghost use Rattle.sn_flow.specs.Bindings.{bound, client_at};
 ghost use Rattle.sn_flow.specs.Drafts.{Drafted};
 ghost use Rattle.sn_flow.specs.Numbering.{Written, start_of, written};
 ghost use Rattle.sn_flow.specs.Plans.{Seen, seen_of, plan_of};
-ghost use Rattle.sn_flow.specs.Own.{IsOwn, HasNoneOf, AreFresh, IsOneEach, Waits, messages};
+ghost use Rattle.sn_flow.specs.Own.{IsOwn, HasNoneOf, AddsNone, AreFresh, IsOneEach, Waits, messages};
 ghost use Rattle.sn_flow.specs.Flush.{IsFlush, Shows, session_with};
 
 /// A gateway writes under names of its own: the session operations of a plan are of the client that the
@@ -66,13 +66,23 @@ pub fn messages_wait()
 {}
 
 /// A gateway stays flush: it is at the start, after each step of its own, for the client of the step and
-/// for all others, and after it takes operations of which none is under a stamp of its own. Equal sets
-/// are flush alike, so it does not matter how the operations travel.
+/// for all others, and after it takes what others made, also where its own operations come back to it.
+/// Equal sets are flush alike, so it does not matter how the operations travel.
 pub fn stays_flush()
     ensures start { (g : ℕ) (c : List ℕ) → IsFlush g c [] }
     ensures step { (g : ℕ) (c : List ℕ) (S : List Op) (d : Drafted) (plan : Plan) → IsFlush g c S → plan_of g c (seen_of S) d ≡ Some plan → (e : List ℕ) → IsFlush g e S → IsFlush g e (S ++ plan.ops) }
-    ensures taken { (g : ℕ) (c : List ℕ) (S D : List Op) → IsFlush g c S → HasNoneOf g c D → IsFlush g c (S ++ D) }
+    ensures taken { (g : ℕ) (c : List ℕ) (S D : List Op) → IsFlush g c S → AddsNone g c S D → IsFlush g c (S ++ D) }
     ensures equal { (g : ℕ) (c : List ℕ) (A B : List Op) → Same A B → IsFlush g c A → IsFlush g c B }
+{}
+
+/// In a field where each gateway has a number of its own, a gateway never learns of its own session operations from
+/// another: what a step made stands in the set of the gateway that made it, for ever, and is under no
+/// stamp of another. So each delta of the field is one of which `stays_flush` speaks.
+pub fn adds_none()
+    ensures own { (g : ℕ) (c : List ℕ) (S : List Op) (d : Drafted) (plan : Plan) → IsFlush g c S → plan_of g c (seen_of S) d ≡ Some plan → (delta : List Op) → Same delta plan.ops → (e : List ℕ) → AddsNone g e (S ++ delta) delta }
+    ensures others { (g : ℕ) (c : List ℕ) (seen : Seen) (d : Drafted) (plan : Plan) → plan_of g c seen d ≡ Some plan → (delta : List Op) → Same delta plan.ops → (other : ℕ) → ¬ (other ≡ g) → (e : List ℕ) (S : List Op) → AddsNone other e S delta }
+    ensures stays { (g : ℕ) (c : List ℕ) (S D more : List Op) → AddsNone g c S D → AddsNone g c (S ++ more) D }
+    ensures together { (S ops delta : List Op) → Same delta ops → Same (S ++ delta) (S ++ ops) }
 {}
 
 /// A binding joins one address and one client: the address is that client's, the binding stands in the

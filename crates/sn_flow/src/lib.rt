@@ -30,7 +30,8 @@ pub use connection::{connect, disconnect, turn_away};
 pub use draft::{Draft, NewPut};
 pub use fault::StepFault;
 pub use laws::{
-    fresh_names, messages_wait, one_binding, only_acknowledged, own_names, reads_back, stays_flush,
+    adds_none, fresh_names, messages_wait, one_binding, only_acknowledged, own_names, reads_back,
+    stays_flush,
 };
 pub use local::{Binding, Dialogs, LocalChange};
 pub use plan::{Plan, plan_of, plan_without};
