@@ -1,8 +1,9 @@
 -- Worked steps: what the step table says of single frames, computed from sets of operations.
 use Rattle.std.proofs.Common.{◌≡◌, ℕ, List, [], ◌∷◌, Some, None, refl, true, false}
-use Rattle.sn_session.specs.declared.presence.Presence.TheVariants.{Active, Asleep}
+use Rattle.sn_session.specs.declared.presence.Presence.TheVariants.{Asleep}
 use Rattle.sn_session.specs.declared.session.Session.{Session}
 use Rattle.sn_session.specs.declared.change.SessionOp.TheVariants.{Take, Presence}
+use Rattle.sn_session.specs.Session.{empty_session}
 use Rattle.rep_ops.specs.declared.op.Stamp.{Stamp}
 use Rattle.rep_ops.specs.declared.op.Op.{Op}
 use Rattle.rep_ops.specs.declared.op.Op.TheVariants.{Session as OfSession}
@@ -11,10 +12,12 @@ use Rattle.rep_model.specs.Views.{gapless, clients, is_named, view}
 use Rattle.rep_model.specs.Fresh.{next_epoch, next_seq}
 use Rattle.sn_frame.specs.declared.frame.Frame.TheVariants as frames
 use Rattle.sn_flow.specs.declared.config.Addr.{Addr}
-use Rattle.sn_flow.specs.declared.local.LocalChange.TheVariants.{Bind, Unbind}
+use Rattle.sn_flow.specs.declared.local.LocalChange.TheVariants.{Bind, Time, Heard, Ask, EndDialog}
 use Rattle.sn_flow.specs.declared.plan.Plan.{Plan}
 use Rattle.sn_flow.specs.Numbering.{write, planned}
 use Rattle.sn_flow.specs.Plans.{Seen, seen_of}
+use Rattle.sn_flow.specs.Locals.{Local, no_local}
+use Rattle.sn_flow.specs.Timers.{started}
 use Rattle.sn_flow.specs.Steps.{step}
 
 -- the client `s1`
@@ -25,28 +28,32 @@ abbrev pub seven : Addr
 seven = record { host = 0; port = 7 }
 
 abbrev pub session_of_s1 : Session
-session_of_s1 = record { presence = Active; clean = true; duration = 60; next_id = 1 }
+session_of_s1 = record empty_session { clean = true; duration = 60 }
+
+-- the client is bound to that address
+abbrev pub bound_seven : Local
+bound_seven = record no_local { bindings = record { address = seven; client = s1 } ∷ [] }
 
 -- the Take that the first CONNECT makes
 abbrev pub first_take : Op
 first_take = OfSession s1 (record { epoch = 1; gateway = 1 }) 0 (Take session_of_s1)
 
 -- CONNECT of a new client with a clean session: one Take under stamp 1.1, CONNACK 0, and the binding
-connects : step 1 (seen_of []) [] seven (frames.Connect (record { bits = 4 }) 1 60 s1) 0
+connects : step 1 [] (seen_of []) no_local seven (frames.Connect (record { bits = 4 }) 1 60 s1) 0
     ≡ Some (record {
       ops = first_take ∷ [];
       sends = record { to = seven; bytes = 3 ∷ 5 ∷ 0 ∷ [] } ∷ [];
-      local = Bind seven s1 0 ∷ [];
+      local = Bind seven s1 ∷ Time (started s1 0) ∷ EndDialog seven ∷ [];
     })
 unfolding gapless write planned
 connects = refl
 
 -- DISCONNECT with 300 s: the second operation under that stamp, and DISCONNECT
-falls_asleep : step 1 (seen_of (first_take ∷ [])) (record { address = seven; client = s1 } ∷ []) seven (frames.Disconnect (Some 300)) 1
+falls_asleep : step 1 [] (seen_of (first_take ∷ [])) bound_seven seven (frames.Disconnect (Some 300)) 1
     ≡ Some (record {
       ops = OfSession s1 (record { epoch = 1; gateway = 1 }) 1 (Presence Asleep 300) ∷ [];
       sends = record { to = seven; bytes = 2 ∷ 0x18 ∷ [] } ∷ [];
-      local = [];
+      local = Heard s1 1 ∷ [];
     })
 unfolding gapless write planned
 falls_asleep = refl
@@ -63,30 +70,30 @@ full =
     }
 
 -- the next operation goes under a new stamp, behind a Take of the session so far, in the same delta
-rolls_over : step 1 full (record { address = seven; client = s1 } ∷ []) seven (frames.Disconnect (Some 300)) 1
+rolls_over : step 1 [] full bound_seven seven (frames.Disconnect (Some 300)) 1
     ≡ Some (record {
       ops = OfSession s1 (record { epoch = 2; gateway = 1 }) 0 (Take session_of_s1) ∷ OfSession s1 (record { epoch = 2; gateway = 1 }) 1 (Presence Asleep 300) ∷ [];
       sends = record { to = seven; bytes = 2 ∷ 0x18 ∷ [] } ∷ [];
-      local = [];
+      local = Heard s1 1 ∷ [];
     })
 unfolding write planned
 rolls_over = refl
 
 -- at the last epoch a CONNECT has no plan
-exhausted : step 1 (record full { epoch = λ c. None }) [] seven (frames.Connect (record { bits = 4 }) 1 60 s1) 0 ≡ None
+exhausted : step 1 [] (record full { epoch = λ c. None }) no_local seven (frames.Connect (record { bits = 4 }) 1 60 s1) 0 ≡ None
 unfolding write planned
 exhausted = refl
 
 -- another protocol, a frame from nowhere, a gateway that is looked for
-another_protocol : step 1 (seen_of []) [] seven (frames.Connect (record { bits = 4 }) 2 60 s1) 0
+another_protocol : step 1 [] (seen_of []) no_local seven (frames.Connect (record { bits = 4 }) 2 60 s1) 0
     ≡ Some (record { ops = []; sends = record { to = seven; bytes = 3 ∷ 5 ∷ 3 ∷ [] } ∷ []; local = [] })
 unfolding gapless write planned
 another_protocol = refl
 
-from_nowhere : step 1 (seen_of []) [] seven (frames.PingReq []) 0
+from_nowhere : step 1 [] (seen_of []) no_local seven (frames.PingReq []) 0
     ≡ Some (record { ops = []; sends = record { to = seven; bytes = 2 ∷ 0x18 ∷ [] } ∷ []; local = [] })
 from_nowhere = refl
 
-looked_for : step 1 (seen_of []) [] seven (frames.SearchGw 0) 0
+looked_for : step 1 [] (seen_of []) no_local seven (frames.SearchGw 0) 0
     ≡ Some (record { ops = []; sends = record { to = seven; bytes = 3 ∷ 2 ∷ 1 ∷ [] } ∷ []; local = [] })
 looked_for = refl

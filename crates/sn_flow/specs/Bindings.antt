@@ -5,7 +5,7 @@ use Rattle.rep_ops.specs.Sets.{same_client}
 use Rattle.sn_flow.specs.declared.config.Addr.{Addr}
 use Rattle.sn_flow.specs.declared.local.Binding.{Binding}
 use Rattle.sn_flow.specs.declared.local.LocalChange.{LocalChange}
-use Rattle.sn_flow.specs.declared.local.LocalChange.TheVariants.{Bind, Unbind}
+use Rattle.sn_flow.specs.declared.local.LocalChange.TheVariants.{Bind, Unbind, Time, Heard, Ask, EndDialog}
 use Rattle.sn_flow.specs.Plans.{Seen}
 
 abbrev pub same_address : Addr → Addr → Bool
@@ -26,13 +26,17 @@ is_of_other c binding = not (same_client binding.client c)
 abbrev pub unbound : List ℕ → List Binding → List Binding
 unbound c bindings = filter (is_of_other c) bindings
 
-abbrev pub after_local : List Binding → LocalChange → List Binding
-after_local bindings (Bind a c moment) = bound a c bindings
-after_local bindings (Unbind c) = unbound c bindings
+abbrev pub binding_change : List Binding → LocalChange → List Binding
+binding_change bindings (Bind a c) = bound a c bindings
+binding_change bindings (Unbind c) = unbound c bindings
+binding_change bindings (Time timer) = bindings
+binding_change bindings (Heard c now) = bindings
+binding_change bindings (Ask dialog) = bindings
+binding_change bindings (EndDialog a) = bindings
 
 -- the bindings after these changes
-abbrev pub after_all : List Binding → List LocalChange → List Binding
-after_all bindings changes = fold after_local bindings changes
+abbrev pub bindings_after : List Binding → List LocalChange → List Binding
+bindings_after bindings changes = fold binding_change bindings changes
 
 -- the client of an address
 abbrev pub client_at : Addr → List Binding → Option (List ℕ)
@@ -51,5 +55,5 @@ abbrev pub has_owned : ℕ → Seen → Binding → Bool
 has_owned g seen binding = is_owned g seen binding.client
 
 -- the bindings of the clients that the gateway owns
-abbrev pub owned : ℕ → Seen → List Binding → List Binding
-owned g seen bindings = filter (has_owned g seen) bindings
+abbrev pub owned_bindings : ℕ → Seen → List Binding → List Binding
+owned_bindings g seen bindings = filter (has_owned g seen) bindings

@@ -1,60 +1,58 @@
 -- The rows of CONNECT and DISCONNECT (MQTT-SN 1.2 sections 6.2, 6.12 and 6.14).
-use Rattle.std.specs.Prelude.{ℕ, ◌==◌, ◌^◌, Bool, true, false, ◌&&◌, not, if◌then◌else◌, nat_le, List, [], map, length, Option, Some, None, bit_and, unwrap_or}
-use Rattle.sn_session.specs.declared.presence.Presence.TheVariants.{Active, Asleep, Disconnected}
+use Rattle.std.specs.Prelude.{ℕ, ◌==◌, ◌^◌, Bool, ◌&&◌, not, if◌then◌else◌, List, Option, Some, None, bit_and}
+use Rattle.sn_session.specs.declared.presence.Presence.TheVariants.{Asleep, Disconnected}
 use Rattle.sn_session.specs.declared.session.Session.{Session}
-use Rattle.sn_session.specs.declared.change.SessionOp.TheVariants.{Take, Presence}
-use Rattle.sn_session.specs.Session.{empty_session}
-use Rattle.rep_ops.specs.declared.op.Put.{Put}
+use Rattle.sn_session.specs.declared.change.SessionOp.TheVariants.{Presence}
 use Rattle.rep_model.specs.declared.view.ClientView.{ClientView}
 use Rattle.sn_frame.specs.declared.frame.Frame.TheVariants as frames
 use Rattle.sn_flow.specs.declared.config.Addr.{Addr}
+use Rattle.sn_flow.specs.declared.accept.GivenWill.TheVariants.{AsItIs}
+use Rattle.sn_flow.specs.declared.local.Awaited.TheVariants.{Topic}
+use Rattle.sn_flow.specs.declared.local.Request.{Request}
+use Rattle.sn_flow.specs.declared.local.WillDialog.{WillDialog}
+use Rattle.sn_flow.specs.declared.local.LocalChange.TheVariants.{Unbind, Ask}
 use Rattle.sn_flow.specs.declared.plan.Plan.{Plan}
-use Rattle.sn_flow.specs.declared.local.LocalChange.TheVariants.{Bind, Unbind}
-use Rattle.sn_flow.specs.Names.{name_of}
-use Rattle.sn_flow.specs.Drafts.{Drafted, nothing, changed, acked_all, sent, moved}
-use Rattle.sn_flow.specs.Plans.{Seen, plan_of, plan_without}
+use Rattle.sn_flow.specs.Drafts.{Drafted, nothing, changed, sent, moved}
+use Rattle.sn_flow.specs.Plans.{Seen}
+use Rattle.sn_flow.specs.Bindings.{client_at}
+use Rattle.sn_flow.specs.WillDialogs.{is_crowded}
+use Rattle.sn_flow.specs.Locals.{Local}
+use Rattle.sn_flow.specs.Bound.{plan_heard, turned_away, session_of}
+use Rattle.sn_flow.specs.Accept.{accept, has_no_room}
 
 -- whether bit k of the flags is set
 abbrev pub has_bit : ℕ → ℕ → Bool
 has_bit bits k = not (bit_and bits (2 ^ k) == 0)
 
--- the session that a CONNECT leaves: a clean one begins anew, another goes on from the session as seen, if there is one
-abbrev pub accepted : Bool → ℕ → Option Session → Session
-accepted clean duration None = record empty_session { clean = clean; duration = duration }
-accepted true duration (Some s) = record empty_session { clean = true; duration = duration }
-accepted false duration (Some s) = record s { presence = Active; clean = false; duration = duration }
+-- what a CONNECT asks for
+abbrev pub request_of : Addr → ℕ → ℕ → List ℕ → Request
+request_of a flags duration c = record { address = a; client = c; clean = has_bit flags 2; duration = duration }
 
--- a clean session acknowledges all that waits
-abbrev pub cleared : Bool → List Put → List (ℕ × ℕ)
-cleared clean waiting = if clean then map name_of waiting else []
-
--- the client is taken over with that session and bound to the address
-abbrev pub accept : Addr → List ℕ → Option Session → List Put → Bool → ℕ → ℕ → Drafted
-accept a c session waiting clean duration now =
-    sent a (frames.ConnAck 0)
-    (moved (Bind a c now)
-    (acked_all (cleared clean waiting)
-    (changed (Take (accepted clean duration session)) nothing)))
-
--- whether there is no room for the client: it is new, and 1,024 are there
-abbrev pub has_no_room : Seen → List ℕ → Bool
-has_no_room seen c = not (seen.is_there c) && nat_le 1024 (length seen.all)
-
--- protocol 1 is the only one; a client beyond the 1,024th has to wait; wills are not supported
-abbrev pub refusal_of : Seen → List ℕ → ℕ → ℕ → Option ℕ
-refusal_of seen c flags protocol =
+-- protocol 1 is the only one; a client beyond the 1,024th has to wait, and so has a will behind those of 1,024 other addresses
+abbrev pub refusal_of : Seen → List WillDialog → Addr → List ℕ → ℕ → ℕ → Option ℕ
+refusal_of seen dialogs a c flags protocol =
     if not (protocol == 1) then Some 3
     else (if has_no_room seen c then Some 1
-    else (if has_bit flags 3 then Some 3 else None))
+    else (if has_bit flags 3 && is_crowded a dialogs then Some 1 else None))
 
-abbrev pub connect_draft : Addr → List ℕ → ClientView → ℕ → ℕ → ℕ → Option ℕ → Drafted
-connect_draft a c v flags duration now (Some code) = sent a (frames.ConnAck code) nothing
-connect_draft a c v flags duration now None = accept a c v.session v.pending (has_bit flags 2) duration now
+-- the client is asked for the topic of its will
+abbrev pub ask_topic : Request → ℕ → Drafted
+ask_topic request now =
+    sent request.address frames.WillTopicReq (moved (Ask (record { request = request; begun = now; awaited = Topic })) nothing)
+
+-- a CONNECT that is not refused: without a will it is accepted, and the session keeps the will that it has
+abbrev pub welcomed : Request → Bool → ClientView → ℕ → Drafted
+welcomed request will v now = if will then ask_topic request now else accept request AsItIs v now
+
+abbrev pub connect_draft : Request → Bool → ClientView → ℕ → Option ℕ → Drafted
+connect_draft request will v now (Some code) = sent request.address (frames.ConnAck code) nothing
+connect_draft request will v now None = welcomed request will v now
 
 -- CONNECT
-abbrev pub connect : ℕ → Seen → Addr → ℕ → ℕ → ℕ → List ℕ → ℕ → Option Plan
-connect g seen a flags protocol duration c now =
-    plan_of g c seen (connect_draft a c (seen.of c) flags duration now (refusal_of seen c flags protocol))
+abbrev pub connect : ℕ → Seen → Local → Addr → ℕ → ℕ → ℕ → List ℕ → ℕ → Option Plan
+connect g seen local a flags protocol duration c now =
+    plan_heard g seen c (client_at a local.bindings) now
+    (connect_draft (request_of a flags duration c) (has_bit flags 3) (seen.of c) now (refusal_of seen local.dialogs a c flags protocol))
 
 -- the client says good-bye: its session stays as it is
 abbrev pub leave : Addr → List ℕ → Session → Drafted
@@ -68,11 +66,10 @@ abbrev pub disconnect_draft : Addr → List ℕ → Session → Option ℕ → D
 disconnect_draft a c s None = leave a c s
 disconnect_draft a c s (Some duration) = if duration == 0 then leave a c s else fall_asleep a duration
 
--- from an address without binding every frame that asks for one is answered by DISCONNECT
-abbrev pub turned_away : Addr → Plan
-turned_away a = plan_without (sent a (frames.Disconnect None) nothing)
+abbrev pub disconnect_of : ℕ → Seen → Addr → Option (List ℕ) → Option ℕ → ℕ → Option Plan
+disconnect_of g seen a None duration now = Some (turned_away a)
+disconnect_of g seen a (Some c) duration now = plan_heard g seen c (Some c) now (disconnect_draft a c (session_of seen c) duration)
 
 -- DISCONNECT
-abbrev pub disconnect : ℕ → Seen → Addr → Option (List ℕ) → Option ℕ → Option Plan
-disconnect g seen a None duration = Some (turned_away a)
-disconnect g seen a (Some c) duration = plan_of g c seen (disconnect_draft a c (unwrap_or (seen.of c).session empty_session) duration)
+abbrev pub disconnect : ℕ → Seen → Local → Addr → Option ℕ → ℕ → Option Plan
+disconnect g seen local a duration now = disconnect_of g seen a (client_at a local.bindings) duration now

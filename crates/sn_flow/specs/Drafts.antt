@@ -1,4 +1,4 @@
--- What a row of the step table says, in seven words.
+-- What a row of the step table says, in a few words.
 use Rattle.std.specs.Prelude.{ℕ, List, [], ◌∷◌, ◌++◌, Option, Some, None}
 use Rattle.sn_session.specs.declared.change.SessionOp.{SessionOp}
 use Rattle.sn_frame.specs.declared.frame.Frame.{Frame}

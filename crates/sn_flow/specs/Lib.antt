@@ -1,4 +1,7 @@
+pub mod Accept
+pub mod Asking
 pub mod Bindings
+pub mod Bound
 pub mod Connection
 pub mod Drafts
 pub mod Flush
@@ -7,4 +10,11 @@ pub mod Names
 pub mod Numbering
 pub mod Own
 pub mod Plans
+pub mod Registration
 pub mod Steps
+pub mod Subscription
+pub mod Timers
+pub mod TopicRows
+pub mod WillDialogs
+pub mod WillUpdate
+pub mod Wills

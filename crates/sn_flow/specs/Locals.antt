@@ -1,8 +1,49 @@
--- The local state of a gateway.
-use Rattle.std.specs.Prelude.{ℕ, List}
+-- The local state of a gateway: what it knows that is in no set of operations.
+use Rattle.std.specs.Prelude.{ℕ, ◌≤◌, List, []}
 use Rattle.sn_flow.specs.declared.local.Binding.{Binding}
+use Rattle.sn_flow.specs.declared.local.WillDialog.{WillDialog}
+use Rattle.sn_flow.specs.declared.local.Timer.{Timer}
+use Rattle.sn_flow.specs.declared.local.LocalChange.{LocalChange}
+use Rattle.sn_flow.specs.Plans.{Seen}
+use Rattle.sn_flow.specs.Bindings.{bindings_after, owned_bindings}
+use Rattle.sn_flow.specs.WillDialogs.{dialogs_after}
+use Rattle.sn_flow.specs.Timers.{timers_after, owned_timers}
 
--- which address is which client, and for how many more bindings there is room
+-- which address is which client, from which addresses a will is awaited, and when which client was last heard of
 pub record Local : Type 0 where
   pub bindings : List Binding
-  pub room : ℕ
+  pub dialogs : List WillDialog
+  pub timers : List Timer
+
+-- a gateway that has just started
+abbrev pub no_local : Local
+no_local = record { bindings = []; dialogs = []; timers = [] }
+
+-- the local state after these changes
+abbrev pub after_all : Local → List LocalChange → Local
+after_all local changes =
+    record {
+      bindings = bindings_after local.bindings changes;
+      dialogs = dialogs_after local.dialogs changes;
+      timers = timers_after local.timers changes;
+    }
+
+-- the bindings and the timers of the clients that the gateway owns, and all dialogs
+abbrev pub owned : ℕ → Seen → Local → Local
+owned g seen local =
+    record { bindings = owned_bindings g seen local.bindings; dialogs = local.dialogs; timers = owned_timers g seen local.timers }
+
+-- for how many more entries of each list there is room
+pub record Room : Type 0 where
+  pub bindings : ℕ
+  pub dialogs : ℕ
+  pub timers : ℕ
+
+-- the local state, with room for more
+pub record Roomy : Type 0 where
+  pub local : Local
+  pub room : Room
+
+-- there is room for n changes: each adds at most one entry to a list
+abbrev pub IsRoomFor : ℕ → Room → Type 0
+IsRoomFor n room = (n ≤ room.bindings) × (n ≤ room.dialogs) × (n ≤ room.timers)

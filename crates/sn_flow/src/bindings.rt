@@ -1,12 +1,13 @@
 //! The list of bindings and its changes.
 
-ghost use Rattle.std.specs.Prelude.{◌≡◌, ◌+◌, ◌≤◌, filter, length, vec_len};
+ghost use Rattle.std.specs.Prelude.{◌≡◌, ◌+◌, ◌≤◌, filter, vec_len};
+ghost use Rattle.std.specs.Option.{option_copied};
 ghost use Rattle.std.specs.Vec.{vec_capacity};
-ghost use Rattle.sn_flow.specs.Bindings.{after_local, after_all, bound, unbound, is_apart as is_apart_from, is_of_other as is_of_another, has_owned as has_owned_client, owned};
+ghost use Rattle.sn_flow.specs.Bindings.{client_at as client_of_address, bound, unbound, is_apart as is_apart_from, is_of_other as is_of_another, is_owned as is_owned_at, has_owned as has_owned_client, owned_bindings};
 ghost use Rattle.sn_flow.specs.Plans.{seen_of};
 
 use super::config::Addr;
-use super::local::{Binding, LocalChange};
+use super::local::Binding;
 use rep_model::Replica;
 use rep_ops::ClientId;
 
@@ -34,7 +35,7 @@ fn release(bindings: &mut Vec<Binding>, address: Addr, client: &ClientId)
 }
 
 /// The client has no address any more.
-fn unbind(bindings: &mut Vec<Binding>, client: &ClientId)
+pub fn unbind(bindings: &mut Vec<Binding>, client: &ClientId)
     ensures items { bindings.new.items ≡ unbound client.now bindings.old.items }
     ensures capacity { vec_capacity bindings.new ≡ vec_capacity bindings.old }
     ensures len { vec_len bindings.new ≤ vec_len bindings.old }
@@ -43,7 +44,7 @@ fn unbind(bindings: &mut Vec<Binding>, client: &ClientId)
 }
 
 /// The address and the client belong together now, and neither to another. There is room for one more.
-fn bind(bindings: &mut Vec<Binding>, address: Addr, client: ClientId)
+pub fn bind(bindings: &mut Vec<Binding>, address: Addr, client: ClientId)
     requires { vec_len bindings.old + 1 ≤ vec_capacity bindings.old }
     ensures items { bindings.new.items ≡ bound address client bindings.old.items }
     ensures capacity { vec_capacity bindings.old ≤ vec_capacity bindings.new }
@@ -53,38 +54,23 @@ fn bind(bindings: &mut Vec<Binding>, address: Addr, client: ClientId)
     bindings.push(Binding { address, client }).unwrap();
 }
 
-/// Carries out one change.
-fn commit_one(bindings: &mut Vec<Binding>, change: LocalChange)
-    requires { vec_len bindings.old + 1 ≤ vec_capacity bindings.old }
-    ensures items { bindings.new.items ≡ after_local bindings.old.items change }
-    ensures capacity { vec_capacity bindings.old ≤ vec_capacity bindings.new }
-    ensures len { vec_len bindings.new ≤ vec_len bindings.old + 1 }
+/// The client of an address.
+pub fn client_at(bindings: &[Binding], address: Addr) -> Option<&ClientId>
+    ensures { option_copied result ≡ client_of_address address bindings.now }
 {
-    match change {
-        LocalChange::Bind {
-            address,
-            client,
-            ..
-        } => bind(bindings, address, client),
-        LocalChange::Unbind { client } => unbind(bindings, &client),
+    for binding in bindings {
+        if binding.address == address {
+            return Some(&binding.client);
+        }
     }
+    None
 }
 
-/// Carries out the changes, one after the other.
-pub fn commit_all(bindings: &mut Vec<Binding>, changes: Vec<LocalChange>)
-    requires { vec_len bindings.old + length changes.items ≤ vec_capacity bindings.old }
-    ensures { bindings.new.items ≡ after_all bindings.old.items changes.items }
+/// Whether the gateway owns the client.
+pub fn is_owned<R: Replica>(gateway: u8, replica: &R, client: &ClientId) -> bool
+    ensures { result ≡ is_owned_at gateway (seen_of (R.kept replica.now)) client.now }
 {
-    for change in changes {
-        commit_one(bindings, change);
-    }
-}
-
-/// Whether the gateway owns the client of a binding.
-fn has_owned<R: Replica>(gateway: u8, replica: &R, binding: &Binding) -> bool
-    ensures { result ≡ has_owned_client gateway (seen_of (R.kept replica.now)) binding.now }
-{
-    match replica.view_of(&binding.client) {
+    match replica.view_of(client) {
         Some(view) => match view.stamp {
             Some(stamp) => stamp.gateway == gateway,
             None => false,
@@ -93,9 +79,16 @@ fn has_owned<R: Replica>(gateway: u8, replica: &R, binding: &Binding) -> bool
     }
 }
 
+/// Whether the gateway owns the client of a binding.
+fn has_owned<R: Replica>(gateway: u8, replica: &R, binding: &Binding) -> bool
+    ensures { result ≡ has_owned_client gateway (seen_of (R.kept replica.now)) binding.now }
+{
+    is_owned(gateway, replica, &binding.client)
+}
+
 /// Drops the bindings of clients that the gateway does not own.
-pub fn keep_owned<R: Replica>(bindings: &mut Vec<Binding>, gateway: u8, replica: &R)
-    ensures { bindings.new.items ≡ owned gateway (seen_of (R.kept replica.now)) bindings.old.items }
+pub fn keep_bindings<R: Replica>(bindings: &mut Vec<Binding>, gateway: u8, replica: &R)
+    ensures { bindings.new.items ≡ owned_bindings gateway (seen_of (R.kept replica.now)) bindings.old.items }
 {
     bindings.retain(|binding| has_owned(gateway, replica, binding));
 }

@@ -1,6 +1,6 @@
 //! What a row of the step table says.
 
-ghost use Rattle.std.specs.Prelude.{◌≡◌, ◌≤◌, ◌++◌, [], map, OnOk, Err};
+ghost use Rattle.std.specs.Prelude.{◌≡◌, ◌≤◌, ◌++◌, [], map, OnOk, IfOk, IfErr, IsTrue, ◌↔◌, Err};
 ghost use Rattle.sn_flow.specs.Names.{name_of};
 ghost use Rattle.sn_frame.specs.Bodies.{IsMessage};
 ghost use Rattle.sn_frame.specs.Grammar.{total_of};
@@ -45,7 +45,7 @@ impl Model for Draft {
 }
 
 impl Draft {
-    ghost use Rattle.sn_flow.specs.Drafts.{nothing, changed, acked, acked_all, sent, moved};
+    ghost use Rattle.sn_flow.specs.Drafts.{nothing, changed, changed_if, acked, acked_all, sent, moved};
 
     /// A step that does nothing.
     pub fn new(alloc: Global) -> Draft
@@ -58,6 +58,25 @@ impl Draft {
             sends: Vec::new(alloc),
             local: Vec::new(alloc),
         }
+    }
+
+    /// A step that sends this frame and does nothing else.
+    pub fn reply(alloc: Global, to: Addr, frame: &Frame) -> Result<Draft, StepFault>
+        requires message { IsMessage frame.now }
+        requires size { total_of frame.now ≤ 65535 }
+        ensures ok { IfOk result (λ draft. draft ≡ sent to frame.now nothing) }
+        ensures err { IfErr result (λ fault. fault ≡ StepFault.Memory) }
+    {
+        let mut draft = Draft::new(alloc);
+        draft.send(alloc, to, frame)?;
+        Ok(draft)
+    }
+
+    /// Whether the session stays as it is.
+    pub(crate) fn changes_nothing(&self) -> bool
+        ensures { IsTrue result ↔ (self.now.changes ≡ []) }
+    {
+        self.changes.is_empty()
     }
 
     /// The changes of the session, which the draft then has no more.
@@ -74,6 +93,16 @@ impl Draft {
     {
         self.changes.push(change)?;
         Ok(())
+    }
+
+    /// And then this change of the session, if there is one.
+    pub fn change_if(&mut self, change: Option<SessionOp>) -> Result<(), AllocError>
+        ensures { OnOk result (self.new ≡ changed_if change self.old) }
+    {
+        match change {
+            None => Ok(()),
+            Some(change) => self.change(change),
+        }
     }
 
     /// And then the acknowledgement of the client's put with this sequence number and origin.

@@ -6,6 +6,7 @@ ghost use Rattle.sn_flow.specs.declared.fault.StepFault.TheVariants.{Memory};
 use rep_model::TakeFault;
 use rep_ops::OpsFault;
 use sn_session::SessionFault;
+use sn_topic::TopicFault;
 use std::alloc::{AllocError, AllocFailed};
 use thiserror::Error;
 
@@ -48,6 +49,15 @@ impl From<SessionFault> for StepFault {
     ghost from_gives = { λ _ e. e ≡ Memory };
 
     fn from(_error: SessionFault) -> StepFault {
+        StepFault::Memory
+    }
+}
+
+// A step only copies topics, and a copy is refused for want of memory alone.
+impl From<TopicFault> for StepFault {
+    ghost from_gives = { λ _ e. e ≡ Memory };
+
+    fn from(_error: TopicFault) -> StepFault {
         StepFault::Memory
     }
 }

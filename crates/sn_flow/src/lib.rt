@@ -7,14 +7,23 @@
 //! Nothing of it is done here: who carries it out journals the operations first.
 //!
 //! - `config`: what a gateway is told (`Config`), addresses (`Addr`), what is sent (`Send`).
-//! - `local`: what a gateway knows that is in no set: which address is which client (`Dialogs`).
+//! - `local`: what a gateway knows that is in no set: which address is which client, from which addresses a
+//!   will is awaited, when which client was heard of (`Dialogs`). `bindings`, `will_dialogs`, `timers` are its
+//!   three lists, and `changes` carries changes out.
 //! - `draft`: what a row says (`Draft`).
 //! - `numbering`, `plan`: from a draft to a plan (`Plan`).
-//! - `connection`, `other`: the rows.
+//! - `connection`, `accept`, `wills`, `topic_rows`, `table`: the rows, as plans; `bound` is what they share.
+//! - `registration`, `subscription`, `will_update`: rows of a bound client, as drafts; `asking` and `codes` are
+//!   what they share.
 //! - `laws`: what holds of every plan, proved for every draft and so for every row.
 #![tactic(auto)]
 
+mod accept;
+mod asking;
 mod bindings;
+mod bound;
+mod changes;
+mod codes;
 mod config;
 mod connection;
 mod draft;
@@ -23,16 +32,26 @@ mod laws;
 mod local;
 mod numbering;
 mod plan;
+mod registration;
+mod subscription;
 mod table;
+mod timers;
+mod topic_rows;
+mod will_dialogs;
+mod will_update;
+mod wills;
 
+pub use accept::GivenWill;
 pub use config::{Addr, Config, Send};
-pub use connection::{connect, disconnect, turn_away};
+pub use connection::{connect, disconnect};
 pub use draft::{Draft, NewPut};
 pub use fault::StepFault;
 pub use laws::{
     adds_none, fresh_names, messages_wait, one_binding, only_acknowledged, own_names, reads_back,
     stays_flush,
 };
-pub use local::{Binding, Dialogs, LocalChange};
+pub use local::{Awaited, Binding, Dialogs, LocalChange, Request, Timer, WillDialog};
 pub use plan::{Plan, plan_of, plan_without};
-pub use table::step;
+pub use table::{other, step};
+pub use topic_rows::{register, subscribe, unsubscribe};
+pub use wills::{will_msg, will_msg_update, will_topic, will_topic_update};

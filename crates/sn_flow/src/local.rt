@@ -1,12 +1,18 @@
 //! What a gateway knows that is in no set of operations.
 
-ghost use Rattle.std.specs.Prelude.{◌≡◌, ◌≤◌, length, OnOk};
+ghost use Rattle.std.specs.Prelude.{◌≡◌, length, IfOk, IfErr, OnOk};
+ghost use Rattle.std.specs.Option.{option_copied};
 
-use super::bindings::{commit_all, keep_owned};
+use super::bindings::{client_at, keep_bindings};
+use super::changes::commit_all;
 use super::config::Addr;
+use super::fault::StepFault;
+use super::timers::keep_timers;
+use super::will_dialogs::{dialog_at, is_crowded};
 use octets::Sequence;
 use rep_model::Replica;
 use rep_ops::ClientId;
+use sn_session::WillTopic;
 use std::alloc::{AllocError, Global};
 use std::marker::Model;
 
@@ -17,6 +23,67 @@ pub struct Binding {
     pub client: ClientId,
 }
 
+/// What a will dialog waits for.
+#[derive(Debug, Drop)]
+pub enum Awaited {
+    /// The topic of the will.
+    Topic,
+    /// The message of the will, whose topic was given.
+    Message(WillTopic),
+}
+
+/// What a CONNECT asks for.
+#[derive(Debug, Drop)]
+pub struct Request {
+    /// Where it came from.
+    pub address: Addr,
+    /// Who connects.
+    pub client: ClientId,
+    /// Whether the session is to be a clean one.
+    pub clean: bool,
+    /// The duration of the keep alive, in seconds.
+    pub duration: u16,
+}
+
+impl Request {
+    /// An equal request.
+    pub fn copy(&self, alloc: Global) -> Result<Request, StepFault>
+        ensures ok { IfOk result (λ made. made ≡ self.now) }
+        ensures err { IfErr result (λ fault. fault ≡ StepFault.Memory) }
+    {
+        Ok(Request {
+            address: self.address,
+            client: self.client.copy(alloc)?,
+            clean: self.clean,
+            duration: self.duration,
+        })
+    }
+}
+
+/// A CONNECT with a will that is not accepted yet: the client is asked for its will first (MQTT-SN 1.2
+/// section 6.2).
+#[derive(Debug, Drop)]
+pub struct WillDialog {
+    /// What the CONNECT asks for.
+    pub request: Request,
+    /// The moment of the CONNECT, in seconds.
+    pub begun: u64,
+    /// What the gateway waits for.
+    pub awaited: Awaited,
+}
+
+/// The moments of a client, in seconds.
+#[derive(Debug, Drop)]
+pub struct Timer {
+    pub client: ClientId,
+    /// When it was last heard of.
+    pub heard: u64,
+    /// When a frame of its open exchange was last sent.
+    pub sent: u64,
+    /// How often that frame was sent again.
+    pub tries: u8,
+}
+
 /// A change of a gateway's local state.
 #[derive(Debug, Drop)]
 pub enum LocalChange {
@@ -24,78 +91,122 @@ pub enum LocalChange {
     Bind {
         address: Addr,
         client: ClientId,
-        moment: u64,
     },
-    /// The client has no address any more.
+    /// The client has no address any more. Its timer stays.
     Unbind {
         client: ClientId,
     },
+    /// The timer of its client is this one.
+    Time {
+        timer: Timer,
+    },
+    /// The client was heard of at a moment. Where it has no timer yet, one begins.
+    Heard {
+        client: ClientId,
+        moment: u64,
+    },
+    /// The dialog of its address is this one.
+    Ask {
+        dialog: WillDialog,
+    },
+    /// The address has no dialog any more.
+    EndDialog {
+        address: Addr,
+    },
 }
 
-/// The local state of a gateway: which address is which client. It begins empty, and is gone when the
-/// gateway stops.
+/// The local state of a gateway: which address is which client, from which addresses a will is awaited,
+/// and when which client was heard of. It begins empty, and is gone when the gateway stops.
 #[derive(Debug, Drop)]
 pub struct Dialogs {
     bindings: Vec<Binding>,
+    dialogs: Vec<WillDialog>,
+    timers: Vec<Timer>,
 }
 
 impl Model for Dialogs {
-    ghost use Rattle.sn_flow.specs.Locals.{Local};
+    ghost use Rattle.sn_flow.specs.Locals.{Roomy};
     ghost use Rattle.std.specs.Prelude.{◌-◌};
     ghost use Rattle.std.specs.Vec.{vec_len, vec_capacity};
 
-    ghost Value = { Local };
+    ghost Value = { Roomy };
 
-    ghost view = { λ d. record { bindings = d.bindings.items; room = vec_capacity d.bindings - vec_len d.bindings } };
+    ghost view = { λ d. record {
+        local = record { bindings = d.bindings.items; dialogs = d.dialogs.items; timers = d.timers.items };
+        room = record {
+            bindings = vec_capacity d.bindings - vec_len d.bindings;
+            dialogs = vec_capacity d.dialogs - vec_len d.dialogs;
+            timers = vec_capacity d.timers - vec_len d.timers
+        }
+    } };
 }
 
 impl Dialogs {
-    ghost use Rattle.sn_flow.specs.Bindings.{after_all, client_at, owned};
+    ghost use Rattle.sn_flow.specs.Bindings.{client_at as client_of};
+    ghost use Rattle.sn_flow.specs.WillDialogs.{dialog_at as dialog_of, is_crowded as has_no_room};
+    ghost use Rattle.sn_flow.specs.Locals.{after_all, no_local, owned, IsRoomFor};
     ghost use Rattle.sn_flow.specs.Plans.{seen_of};
-    ghost use Rattle.std.specs.Prelude.{[]};
-    ghost use Rattle.std.specs.Option.{option_copied};
 
-    /// No binding.
+    /// The local state of a gateway that has just started.
     pub fn empty(alloc: Global) -> Dialogs
-        ensures { result.bindings ≡ [] }
+        ensures { result.local ≡ no_local }
     {
         Dialogs {
             bindings: Vec::new(alloc),
+            dialogs: Vec::new(alloc),
+            timers: Vec::new(alloc),
         }
     }
 
     /// Makes room for these changes. The state stays.
     pub fn prepare(&mut self, changes: &[LocalChange]) -> Result<(), AllocError>
-        ensures unchanged { self.new.bindings ≡ self.old.bindings }
-        ensures room { OnOk result (length changes.now ≤ self.new.room) }
+        ensures unchanged { self.new.local ≡ self.old.local }
+        ensures room { OnOk result (IsRoomFor (length changes.now) self.new.room) }
     {
-        self.bindings.reserve(changes.len())
+        self.bindings.reserve(changes.len())?;
+        self.dialogs.reserve(changes.len())?;
+        self.timers.reserve(changes.len())
     }
 
-    /// Carries out changes for which there is room.
+    /// Carries out changes for which there is room. It takes no memory.
     pub fn commit(&mut self, changes: Sequence<LocalChange>)
-        requires { length changes ≤ self.old.room }
-        ensures { self.new.bindings ≡ after_all self.old.bindings changes }
+        requires { IsRoomFor (length changes) self.old.room }
+        ensures { self.new.local ≡ after_all self.old.local changes }
     {
-        commit_all(&mut self.bindings, changes.into_vec())
+        commit_all(
+            &mut self.bindings,
+            &mut self.dialogs,
+            &mut self.timers,
+            changes.into_vec(),
+        )
     }
 
-    /// Drops the bindings of clients that the gateway does not own.
+    /// Drops the bindings and the timers of clients that the gateway does not own. Will dialogs stay.
     pub fn keep_owned<R: Replica>(&mut self, gateway: u8, replica: &R)
-        ensures { self.new.bindings ≡ owned gateway (seen_of (R.kept replica.now)) self.old.bindings }
+        ensures { self.new.local ≡ owned gateway (seen_of (R.kept replica.now)) self.old.local }
     {
-        keep_owned(&mut self.bindings, gateway, replica);
+        keep_bindings(&mut self.bindings, gateway, replica);
+        keep_timers(&mut self.timers, gateway, replica);
     }
 
     /// The client of an address.
     pub fn client_at(&self, address: Addr) -> Option<&ClientId>
-        ensures { option_copied result ≡ client_at address self.now.bindings }
+        ensures { option_copied result ≡ client_of address self.now.local.bindings }
     {
-        for binding in self.bindings.as_slice() {
-            if binding.address == address {
-                return Some(&binding.client);
-            }
-        }
-        None
+        client_at(self.bindings.as_slice(), address)
+    }
+
+    /// The will dialog of an address.
+    pub fn dialog_at(&self, address: Addr) -> Option<&WillDialog>
+        ensures { option_copied result ≡ dialog_of address self.now.local.dialogs }
+    {
+        dialog_at(self.dialogs.as_slice(), address)
+    }
+
+    /// Whether 1,024 other addresses have a will dialog, so that there is no room for one more.
+    pub(crate) fn is_crowded(&self, address: Addr) -> bool
+        ensures { result ≡ has_no_room address self.now.local.dialogs }
+    {
+        is_crowded(self.dialogs.as_slice(), address)
     }
 }

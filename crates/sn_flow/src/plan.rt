@@ -1,9 +1,10 @@
 //! The plan of a step.
 
-ghost use Rattle.std.specs.Prelude.{◌≡◌, IfOk, IfErr};
+ghost use Rattle.std.specs.Prelude.{◌≡◌, ◌++◌, map, IfOk, IfErr};
+ghost use Rattle.std.specs.Option.{option_map};
 ghost use Rattle.rep_model.specs.Views.{view};
 ghost use Rattle.rep_model.specs.Fresh.{next_epoch, next_seq};
-ghost use Rattle.sn_flow.specs.Numbering.{start_of, rest_of as defined_rest};
+ghost use Rattle.sn_flow.specs.Numbering.{start_of, with_puts, ack_of, plan_with};
 ghost use Rattle.sn_flow.specs.Plans.{Gives, seen_of, plan_of as defined_plan, plan_without as defined_without};
 
 use super::config::Send;
@@ -50,10 +51,10 @@ fn rest_of<R: Replica>(
     gateway: u8,
     replica: &R,
     client: &ClientId,
-    writer: Writer,
+    mut ops: Vec<Op>,
     draft: Draft,
 ) -> Result<Plan, StepFault>
-    ensures { Gives result (defined_rest gateway client.now (λ e. next_seq e gateway (R.kept replica.now)) draft writer) }
+    ensures { Gives result (option_map (plan_with draft) (with_puts gateway (λ e. next_seq e gateway (R.kept replica.now)) draft.puts (ops.items ++ map (ack_of client.now) draft.acks))) }
 {
     let Draft {
         changes: _,
@@ -62,7 +63,6 @@ fn rest_of<R: Replica>(
         sends,
         local,
     } = draft;
-    let mut ops = writer.into_ops();
     append_acks(alloc, client, acks.as_slice(), &mut ops)?;
     number_puts(gateway, replica, puts, &mut ops)?;
     Ok(Plan {
@@ -72,7 +72,7 @@ fn rest_of<R: Replica>(
     })
 }
 
-/// The plan of a draft for a client.
+/// The plan of a draft for a client. Where the session does not change it is not copied.
 #[tactic(auto, unfolding(crate::specs::Numbering::planned))]
 pub fn plan_of<R: Replica>(
     alloc: Global,
@@ -83,10 +83,13 @@ pub fn plan_of<R: Replica>(
 ) -> Result<Plan, StepFault>
     ensures { Gives result (defined_plan gateway client.now (seen_of (R.kept replica.now)) draft) }
 {
+    if draft.changes_nothing() {
+        return rest_of(alloc, gateway, replica, client, Vec::new(alloc), draft);
+    }
     let mut writer = writer_of(alloc, gateway, replica, client)?;
     let changes = draft.take_changes(alloc);
     writer.write_all(alloc, gateway, client, changes)?;
-    rest_of(alloc, gateway, replica, client, writer, draft)
+    rest_of(alloc, gateway, replica, client, writer.into_ops(), draft)
 }
 
 /// The plan of a draft without changes, acknowledgements and puts.

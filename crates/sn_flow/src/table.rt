@@ -3,19 +3,22 @@
 ghost use Rattle.std.specs.Prelude.{◌≡◌, ◌≤◌, length, Some, IfOk, IfErr};
 ghost use Rattle.std.specs.Option.{option_copied};
 ghost use Rattle.sn_flow.specs.Plans.{Gives, seen_of};
-ghost use Rattle.sn_flow.specs.Steps.{quiet as nothing_done, searched as searched_plan, asked_of as asked_plan, published as published_plan, pinged as pinged_plan, woken as woken_plan, step as defined_step, is_up as is_up_at, can_wake as can_wake_at};
+ghost use Rattle.sn_flow.specs.Steps.{searched as searched_plan, other as other_plan, published as published_plan, pinged as pinged_plan, wake_draft as drafted_wake, woken as woken_plan, step as defined_step, is_up as is_up_at, can_wake as can_wake_at};
 ghost use Rattle.sn_flow.specs.Connection.{connect as connect_plan};
 ghost use Rattle.sn_frame.specs.Bodies.{IsMessage};
 ghost use Rattle.sn_frame.specs.FlagBits.{qos_of};
 ghost use Rattle.rep_ops.specs.ClientIds.{IsClientId};
 ghost use Rattle.rep_model.specs.Views.{view};
 
+use super::bound::{hear_of, quiet, stray};
 use super::config::{Addr, Config};
-use super::connection::{connect, disconnect, turn_away};
+use super::connection::{connect, disconnect};
 use super::draft::Draft;
 use super::fault::StepFault;
 use super::local::Dialogs;
 use super::plan::{Plan, plan_without};
+use super::topic_rows::{register, subscribe, unsubscribe};
+use super::wills::{will_msg, will_msg_update, will_topic, will_topic_update};
 use octets::Octets;
 use rep_model::Replica;
 use rep_ops::ClientId;
@@ -23,20 +26,43 @@ use sn_frame::{Flags, Frame, Qos};
 use sn_session::Presence;
 use std::alloc::Global;
 
-/// Nothing is done.
-fn quiet(alloc: Global) -> Plan
-    ensures { result ≡ nothing_done }
+/// A SEARCHGW.
+fn searched(alloc: Global, config: &Config, to: Addr) -> Result<Plan, StepFault>
+    ensures { Gives result (Some (searched_plan config.now.gateway to)) }
 {
-    plan_without(alloc, Draft::new(alloc))
+    let address = Octets::new(Vec::new(alloc));
+    let answer = Frame::GwInfo {
+        gateway: config.gateway,
+        address,
+    };
+    let draft = Draft::reply(alloc, to, &answer)?;
+    Ok(plan_without(alloc, draft))
 }
 
-/// A frame of a connection that has no row of its own: from an address without binding it is turned away.
-fn asked_of(alloc: Global, from: Addr, bound: Option<&ClientId>) -> Result<Plan, StepFault>
-    ensures { Gives result (Some (asked_plan from (option_copied bound.entry))) }
+/// SEARCHGW, the frames that only go from a gateway to a client or between others, and every frame that no
+/// other call is for.
+pub fn other(
+    alloc: Global,
+    config: &Config,
+    dialogs: &Dialogs,
+    from: Addr,
+    frame: &Frame,
+    now: u64,
+) -> Result<Plan, StepFault>
+    ensures { Gives result (Some (other_plan config.now.gateway dialogs.now.local from frame.now now)) }
 {
-    match bound {
-        None => turn_away(alloc, from),
-        Some(_) => Ok(quiet(alloc)),
+    match frame {
+        Frame::SearchGw { .. } => searched(alloc, config, from),
+        Frame::Advertise { .. } => Ok(quiet(alloc)),
+        Frame::GwInfo { .. } => Ok(quiet(alloc)),
+        Frame::ConnAck { .. } => Ok(quiet(alloc)),
+        Frame::WillTopicReq => Ok(quiet(alloc)),
+        Frame::WillMsgReq => Ok(quiet(alloc)),
+        Frame::SubAck { .. } => Ok(quiet(alloc)),
+        Frame::UnsubAck { .. } => Ok(quiet(alloc)),
+        Frame::WillTopicResp { .. } => Ok(quiet(alloc)),
+        Frame::WillMsgResp { .. } => Ok(quiet(alloc)),
+        _ => stray(alloc, from, dialogs.client_at(from), now),
     }
 }
 
@@ -46,32 +72,16 @@ fn published(
     from: Addr,
     bound: Option<&ClientId>,
     flags: Flags,
+    now: u64,
 ) -> Result<Plan, StepFault>
-    ensures { Gives result (Some (published_plan from (option_copied bound.entry) (qos_of flags.bits))) }
+    ensures { Gives result (Some (published_plan from (option_copied bound.entry) (qos_of flags.bits) now)) }
 {
     match flags.qos() {
         Qos::MinusOne => Ok(quiet(alloc)),
-        Qos::Zero => asked_of(alloc, from, bound),
-        Qos::One => asked_of(alloc, from, bound),
-        Qos::Two => asked_of(alloc, from, bound),
+        Qos::Zero => stray(alloc, from, bound, now),
+        Qos::One => stray(alloc, from, bound, now),
+        Qos::Two => stray(alloc, from, bound, now),
     }
-}
-
-/// A SEARCHGW.
-fn searched(alloc: Global, config: &Config, to: Addr) -> Result<Plan, StepFault>
-    ensures { Gives result (Some (searched_plan config.now.gateway to)) }
-{
-    let mut draft = Draft::new(alloc);
-    let address = Octets::new(Vec::new(alloc));
-    draft.send(
-        alloc,
-        to,
-        &Frame::GwInfo {
-            gateway: config.gateway,
-            address,
-        },
-    )?;
-    Ok(plan_without(alloc, draft))
 }
 
 /// Whether a client is there: Active, Asleep or Awake.
@@ -112,22 +122,43 @@ fn client_id(alloc: Global, octets: &[u8]) -> Result<ClientId, StepFault>
     }
 }
 
+/// Whether a PINGREQ wakes the client of this name.
+fn wakes<R: Replica>(alloc: Global, replica: &R, client: &[u8]) -> Result<bool, StepFault>
+    requires { IsClientId client.now }
+    ensures ok { IfOk result (λ wakes. wakes ≡ can_wake_at (view client.now (R.kept replica.now)).session) }
+    ensures err { IfErr result (λ fault. fault ≡ StepFault.Memory) }
+{
+    let id = client_id(alloc, client)?;
+    Ok(can_wake(replica, &id))
+}
+
+/// Turns a client away that cannot wake.
+fn wake_draft(alloc: Global, to: Addr, wakes: bool) -> Result<Draft, StepFault>
+    ensures ok { IfOk result (λ draft. draft ≡ drafted_wake to wakes) }
+    ensures err { IfErr result (λ fault. fault ≡ StepFault.Memory) }
+{
+    if wakes {
+        return Ok(Draft::new(alloc));
+    }
+    Draft::reply(alloc, to, &Frame::Disconnect { duration: None })
+}
+
 /// A PINGREQ with the id of a client.
-fn pinged_client<R: Replica>(
+fn woken<R: Replica>(
     alloc: Global,
     replica: &R,
     from: Addr,
+    bound: Option<&ClientId>,
     client: &[u8],
+    now: u64,
 ) -> Result<Plan, StepFault>
     requires { IsClientId client.now }
-    ensures { Gives result (Some (woken_plan (seen_of (R.kept replica.now)) from client.now)) }
+    ensures { Gives result (Some (woken_plan (seen_of (R.kept replica.now)) from (option_copied bound.entry) client.now now)) }
 {
-    let client = client_id(alloc, client)?;
-    if can_wake(replica, &client) {
-        Ok(quiet(alloc))
-    } else {
-        turn_away(alloc, from)
-    }
+    let wakes = wakes(alloc, replica, client)?;
+    let mut draft = wake_draft(alloc, from, wakes)?;
+    hear_of(alloc, &mut draft, bound, now)?;
+    Ok(plan_without(alloc, draft))
 }
 
 /// A PINGREQ.
@@ -137,14 +168,15 @@ fn pinged<R: Replica>(
     from: Addr,
     bound: Option<&ClientId>,
     client: &[u8],
+    now: u64,
 ) -> Result<Plan, StepFault>
     requires { length client.now ≤ 23 }
-    ensures { Gives result (Some (pinged_plan (seen_of (R.kept replica.now)) from (option_copied bound.entry) client.now)) }
+    ensures { Gives result (Some (pinged_plan (seen_of (R.kept replica.now)) from (option_copied bound.entry) client.now now)) }
 {
     if client.is_empty() {
-        asked_of(alloc, from, bound)
+        stray(alloc, from, bound, now)
     } else {
-        pinged_client(alloc, replica, from, client)
+        woken(alloc, replica, from, bound, client, now)
     }
 }
 
@@ -153,6 +185,7 @@ fn connected<R: Replica>(
     alloc: Global,
     config: &Config,
     replica: &R,
+    dialogs: &Dialogs,
     from: Addr,
     flags: Flags,
     protocol: u8,
@@ -161,11 +194,11 @@ fn connected<R: Replica>(
     now: u64,
 ) -> Result<Plan, StepFault>
     requires { IsClientId client.now }
-    ensures { Gives result (connect_plan config.now.gateway (seen_of (R.kept replica.now)) from flags.bits protocol duration client.now now) }
+    ensures { Gives result (connect_plan config.now.gateway (seen_of (R.kept replica.now)) dialogs.now.local from flags.bits protocol duration client.now now) }
 {
     let client = client_id(alloc, client)?;
     connect(
-        alloc, config, replica, from, flags, protocol, duration, &client, now,
+        alloc, config, replica, dialogs, from, flags, protocol, duration, &client, now,
     )
 }
 
@@ -180,9 +213,8 @@ pub fn step<R: Replica>(
     now: u64,
 ) -> Result<Plan, StepFault>
     requires { IsMessage frame.now }
-    ensures { Gives result (defined_step config.now.gateway (seen_of (R.kept replica.now)) dialogs.now.bindings from frame.now now) }
+    ensures { Gives result (defined_step config.now.gateway config.now.predefined (seen_of (R.kept replica.now)) dialogs.now.local from frame.now now) }
 {
-    let bound = dialogs.client_at(from);
     match frame {
         Frame::Connect {
             flags,
@@ -193,6 +225,7 @@ pub fn step<R: Replica>(
             alloc,
             config,
             replica,
+            dialogs,
             from,
             *flags,
             *protocol,
@@ -200,33 +233,72 @@ pub fn step<R: Replica>(
             client.as_slice(),
             now,
         ),
-        Frame::Disconnect { duration } => {
-            disconnect(alloc, config, replica, from, bound, *duration)
+        Frame::WillTopic { will } => {
+            will_topic(alloc, config, replica, dialogs, from, will, now)
         }
-        Frame::SearchGw { .. } => searched(alloc, config, from),
-        Frame::Publish { flags, .. } => published(alloc, from, bound, *flags),
-        Frame::PingReq { client } => pinged(alloc, replica, from, bound, client.as_slice()),
-        Frame::Advertise { .. } => Ok(quiet(alloc)),
-        Frame::GwInfo { .. } => Ok(quiet(alloc)),
-        Frame::ConnAck { .. } => Ok(quiet(alloc)),
-        Frame::WillTopicReq => Ok(quiet(alloc)),
-        Frame::WillMsgReq => Ok(quiet(alloc)),
-        Frame::SubAck { .. } => Ok(quiet(alloc)),
-        Frame::UnsubAck { .. } => Ok(quiet(alloc)),
-        Frame::WillTopicResp { .. } => Ok(quiet(alloc)),
-        Frame::WillMsgResp { .. } => Ok(quiet(alloc)),
-        Frame::WillTopic { .. } => asked_of(alloc, from, bound),
-        Frame::WillMsg { .. } => asked_of(alloc, from, bound),
-        Frame::Register { .. } => asked_of(alloc, from, bound),
-        Frame::RegAck { .. } => asked_of(alloc, from, bound),
-        Frame::PubAck { .. } => asked_of(alloc, from, bound),
-        Frame::PubComp { .. } => asked_of(alloc, from, bound),
-        Frame::PubRec { .. } => asked_of(alloc, from, bound),
-        Frame::PubRel { .. } => asked_of(alloc, from, bound),
-        Frame::Subscribe { .. } => asked_of(alloc, from, bound),
-        Frame::Unsubscribe { .. } => asked_of(alloc, from, bound),
-        Frame::PingResp => asked_of(alloc, from, bound),
-        Frame::WillTopicUpd { .. } => asked_of(alloc, from, bound),
-        Frame::WillMsgUpd { .. } => asked_of(alloc, from, bound),
+        Frame::WillMsg { message } => {
+            will_msg(alloc, config, replica, dialogs, from, message.as_slice(), now)
+        }
+        Frame::Disconnect { duration } => {
+            disconnect(alloc, config, replica, dialogs, from, *duration, now)
+        }
+        Frame::Register { msg_id, name, .. } => register(
+            alloc,
+            config,
+            replica,
+            dialogs,
+            from,
+            *msg_id,
+            name.as_slice(),
+            now,
+        ),
+        Frame::Subscribe {
+            flags,
+            msg_id,
+            topic,
+        } => subscribe(
+            alloc,
+            config,
+            replica,
+            dialogs,
+            from,
+            *flags,
+            *msg_id,
+            topic.as_slice(),
+            now,
+        ),
+        Frame::Unsubscribe {
+            flags,
+            msg_id,
+            topic,
+        } => unsubscribe(
+            alloc,
+            config,
+            replica,
+            dialogs,
+            from,
+            *flags,
+            *msg_id,
+            topic.as_slice(),
+            now,
+        ),
+        Frame::WillTopicUpd { will } => {
+            will_topic_update(alloc, config, replica, dialogs, from, will, now)
+        }
+        Frame::WillMsgUpd { message } => {
+            will_msg_update(alloc, config, replica, dialogs, from, message.as_slice(), now)
+        }
+        Frame::Publish { flags, .. } => {
+            published(alloc, from, dialogs.client_at(from), *flags, now)
+        }
+        Frame::PingReq { client } => pinged(
+            alloc,
+            replica,
+            from,
+            dialogs.client_at(from),
+            client.as_slice(),
+            now,
+        ),
+        _ => other(alloc, config, dialogs, from, frame, now),
     }
 }

@@ -7,4 +7,5 @@ pub mod ReceivedPlaces
 pub mod SubscriptionPlaces
 pub mod Greatest
 pub mod Named
+pub mod Unknown
 mod Examples

@@ -1,5 +1,5 @@
 -- The topic ids of a session: a table of entries ascending by id.
-use Rattle.std.specs.Prelude.{◌≡◌, ℕ, ◌+◌, ◌<◌, ◌≤◌, IsSome, ◌==◌, Bool, if◌then◌else◌, nat_lt, ◌&&◌, List, [], ◌∷◌, Option, Some, None, is_none, bytes_eq, nat_eq}
+use Rattle.std.specs.Prelude.{◌≡◌, ℕ, ◌+◌, ◌<◌, ◌≤◌, IsSome, ◌==◌, Bool, false, if◌then◌else◌, nat_lt, ◌&&◌, List, [], ◌∷◌, Option, Some, None, is_none, bytes_eq, nat_eq}
 use mathlib.Core.Bool.{beq}
 use Rattle.std.specs.Option.{option_map}
 use Rattle.std.specs.declared.cmp.Ordering.{Ordering}
@@ -9,6 +9,10 @@ use Rattle.std.specs.Cmp.Lexicographic.{pointwise, nat_list_eq_equiv}
 use Rattle.std.specs.List.{AllByRecursion, find}
 use Rattle.sn_session.specs.declared.topics.TopicEntry.{TopicEntry}
 use Rattle.sn_session.specs.Tables.{is_table_full, with_entry}
+
+-- the entry, of which the client knows nothing any more
+abbrev pub unknown : TopicEntry → TopicEntry
+unknown entry = record entry { known = false }
 
 -- entries are ordered by id
 abbrev pub topic_cmp : TopicEntry → TopicEntry → Ordering

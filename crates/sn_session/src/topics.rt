@@ -1,9 +1,9 @@
 //! The topic ids of a session.
 
-ghost use Rattle.std.specs.Prelude.{◌≡◌, ◌==◌, ◌<◌, ◌≤◌, ◌↔◌, [], ◌∷◌, length, is_some, IfOk, IfErr, IfSome, MatchOption, OnOk, OnErr, IsErrOf, IsTrue, false, option_copied};
+ghost use Rattle.std.specs.Prelude.{◌≡◌, ◌==◌, ◌<◌, ◌≤◌, ◌↔◌, [], ◌∷◌, length, is_some, IfOk, IfErr, IfSome, MatchOption, OnOk, OnErr, IsErrOf, IsTrue, false, map, option_copied};
 ghost use Rattle.std.specs.Ordering.{nat_cmp};
 ghost use Rattle.sn_session.specs.Tables.{IsTable, IsPlace, is_ascending as ascending_test};
-ghost use Rattle.sn_session.specs.Topics.{topic_cmp, with_topic, topic_of, topic_named, topic_id, topic_has_no_room, free_id, least_unused, IsLeastUnused, IsLeastIdOf};
+ghost use Rattle.sn_session.specs.Topics.{topic_cmp, unknown, with_topic, topic_of, topic_named, topic_id, topic_has_no_room, free_id, least_unused, IsLeastUnused, IsLeastIdOf};
 
 use crate::fault::SessionFault;
 use crate::table::{MAX_ENTRIES, insert_at};
@@ -169,6 +169,13 @@ impl Topics {
         Some(least_unused(self.entries.as_slice()))
     }
 
+    /// From now on the client knows none of the ids. The entries stay.
+    pub fn forget(&mut self)
+        ensures { self.new ≡ map unknown self.old }
+    {
+        forget_all(&mut self.entries);
+    }
+
     /// An equal table.
     pub fn copy(&self, alloc: Global) -> Result<Topics, SessionFault>
         ensures ok { IfOk result (λ made. made ≡ self.now) }
@@ -189,6 +196,15 @@ impl Topics {
             return None;
         }
         Some(Topics { entries })
+    }
+}
+
+/// No entry is known any more.
+fn forget_all(entries: &mut Vec<TopicEntry>)
+    ensures { entries.new.items ≡ map unknown entries.old.items }
+{
+    for entry in entries.iter_mut() {
+        entry.known = false;
     }
 }
 

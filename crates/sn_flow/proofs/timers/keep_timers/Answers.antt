@@ -1,0 +1,9 @@
+use Rattle.std.proofs.Common.{rules}
+use Rattle.std.proofs.lemmas.Fn.{filter_same}
+use Rattle.sn_flow.specs.Plans.{seen_of}
+use Rattle.sn_flow.specs.Timers.{times_owned}
+use Rattle.sn_flow.proofs.timers.keep_timers.Goals as goal
+
+pub returns : goal.returns
+returns g c =
+    filter_same _ (times_owned c.args.gateway (seen_of (g.R.Replica.kept c.args.replica.now))) _ (λ timer kept after called. search rules) _ _ c.retain.ensures.filtered

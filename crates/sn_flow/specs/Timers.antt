@@ -1,0 +1,52 @@
+-- When a client was last heard of, and when a frame of its open exchange was last sent, how often again.
+use Rattle.std.specs.Prelude.{ℕ, Bool, not, if◌then◌else◌, List, [], ◌∷◌, ◌++◌, filter, fold, Option, Some, None}
+use Rattle.rep_ops.specs.Sets.{same_client}
+use Rattle.sn_flow.specs.declared.local.Timer.{Timer}
+use Rattle.sn_flow.specs.declared.local.LocalChange.{LocalChange}
+use Rattle.sn_flow.specs.declared.local.LocalChange.TheVariants.{Bind, Unbind, Time, Heard, Ask, EndDialog}
+use Rattle.sn_flow.specs.Plans.{Seen}
+use Rattle.sn_flow.specs.Bindings.{is_owned}
+
+abbrev pub is_of_another : List ℕ → Timer → Bool
+is_of_another c timer = not (same_client timer.client c)
+
+-- a timer replaces any other of its client
+abbrev pub timed : Timer → List Timer → List Timer
+timed timer timers = filter (is_of_another timer.client) timers ++ timer ∷ []
+
+-- the timer of a client
+abbrev pub timer_of : List ℕ → List Timer → Option Timer
+timer_of c [] = None
+timer_of c (timer ∷ rest) = if same_client timer.client c then Some timer else timer_of c rest
+
+-- a timer that begins at this moment
+abbrev pub started : List ℕ → ℕ → Timer
+started c now = record { client = c; heard = now; sent = now; tries = 0 }
+
+-- the timer of a client that is heard of at this moment
+abbrev pub heard_at : List ℕ → ℕ → Option Timer → Timer
+heard_at c now None = started c now
+heard_at c now (Some timer) = record { client = c; heard = now; sent = timer.sent; tries = timer.tries }
+
+-- the client was heard of at this moment
+abbrev pub heard : List ℕ → ℕ → List Timer → List Timer
+heard c now timers = timed (heard_at c now (timer_of c timers)) timers
+
+abbrev pub timer_change : List Timer → LocalChange → List Timer
+timer_change timers (Bind a c) = timers
+timer_change timers (Unbind c) = timers
+timer_change timers (Time timer) = timed timer timers
+timer_change timers (Heard c now) = heard c now timers
+timer_change timers (Ask dialog) = timers
+timer_change timers (EndDialog a) = timers
+
+-- the timers after these changes
+abbrev pub timers_after : List Timer → List LocalChange → List Timer
+timers_after timers changes = fold timer_change timers changes
+
+abbrev pub times_owned : ℕ → Seen → Timer → Bool
+times_owned g seen timer = is_owned g seen timer.client
+
+-- the timers of the clients that the gateway owns
+abbrev pub owned_timers : ℕ → Seen → List Timer → List Timer
+owned_timers g seen timers = filter (times_owned g seen) timers

@@ -1,0 +1,149 @@
+//! How a client is accepted (MQTT-SN 1.2 sections 6.2 and 6.3).
+
+ghost use Rattle.std.specs.Prelude.{◌≡◌, IfOk, IfErr, OnOk};
+ghost use Rattle.sn_flow.specs.Plans.{seen_of};
+ghost use Rattle.sn_flow.specs.Drafts.{acked_all};
+ghost use Rattle.sn_flow.specs.Accept.{will_after as will_from_then, unknowing as unknowing_session, going_on as session_going_on, accepted as accepted_session, cleared, accept as accept_draft, has_no_room as has_none};
+
+use super::bound::bind_to;
+use super::codes::ACCEPTED;
+use super::draft::Draft;
+use super::fault::StepFault;
+use super::local::{LocalChange, Request};
+use rep_model::{ClientView, Replica};
+use rep_ops::{ClientId, Put};
+use sn_frame::Frame;
+use sn_session::{Presence, Session, SessionOp, Will};
+use std::alloc::Global;
+
+/// How many clients a gateway admits.
+const MAX_CLIENTS: usize = 1024;
+
+/// What becomes of the will of a session.
+#[derive(Debug, Drop)]
+pub enum GivenWill {
+    /// It stays.
+    AsItIs,
+    /// There is none from now on.
+    Deleted,
+    /// It is this one.
+    Replaced(Will),
+}
+
+/// The will of a session, once the client has said what becomes of it.
+fn will_after(given: GivenWill, will: Option<Will>) -> Option<Will>
+    ensures { result ≡ will_from_then given will }
+{
+    match given {
+        GivenWill::AsItIs => will,
+        GivenWill::Deleted => None,
+        GivenWill::Replaced(given) => Some(given),
+    }
+}
+
+/// The session, in which the client knows none of the topic ids any more.
+fn unknowing(alloc: Global, session: &Session) -> Result<Session, StepFault>
+    ensures ok { IfOk result (λ made. made ≡ unknowing_session session.now) }
+    ensures err { IfErr result (λ fault. fault ≡ StepFault.Memory) }
+{
+    let mut made = session.copy(alloc)?;
+    made.topics.forget();
+    Ok(made)
+}
+
+/// The session that goes on; a clean one begins anew.
+fn going_on(
+    alloc: Global,
+    clean: bool,
+    session: &Option<Session>,
+) -> Result<Session, StepFault>
+    ensures ok { IfOk result (λ made. made ≡ session_going_on clean session.now) }
+    ensures err { IfErr result (λ fault. fault ≡ StepFault.Memory) }
+{
+    match session {
+        Some(session) if !clean => unknowing(alloc, session),
+        _ => Ok(Session::empty(alloc)),
+    }
+}
+
+/// The session that an accepted client has.
+fn accepted(
+    alloc: Global,
+    request: &Request,
+    given: GivenWill,
+    session: &Option<Session>,
+) -> Result<Session, StepFault>
+    ensures ok { IfOk result (λ made. made ≡ accepted_session request.now given session.now) }
+    ensures err { IfErr result (λ fault. fault ≡ StepFault.Memory) }
+{
+    let Session {
+        next_id,
+        topics,
+        subscriptions,
+        will,
+        received,
+        outbound,
+        ..
+    } = going_on(alloc, request.clean, session)?;
+    Ok(Session {
+        presence: Presence::Active,
+        clean: request.clean,
+        duration: request.duration,
+        next_id,
+        topics,
+        subscriptions,
+        will: will_after(given, will),
+        received,
+        outbound,
+    })
+}
+
+/// The names of these messages, if the session is clean.
+fn clear(draft: &mut Draft, clean: bool, waiting: &[Put]) -> Result<(), StepFault>
+    ensures ok { OnOk result (draft.new ≡ acked_all (cleared clean waiting.now) draft.old) }
+    ensures err { IfErr result (λ fault. fault ≡ StepFault.Memory) }
+{
+    if clean {
+        draft.ack_all(waiting)?;
+    }
+    Ok(())
+}
+
+/// Takes the client over and binds it to the address, whose dialog ends.
+pub fn accept(
+    alloc: Global,
+    request: &Request,
+    given: GivenWill,
+    view: &ClientView,
+    now: u64,
+) -> Result<Draft, StepFault>
+    ensures ok { IfOk result (λ draft. draft ≡ accept_draft request.now given view.now now) }
+    ensures err { IfErr result (λ fault. fault ≡ StepFault.Memory) }
+{
+    let session = accepted(alloc, request, given, &view.session)?;
+    let mut draft = Draft::new(alloc);
+    draft.change(SessionOp::Take(session))?;
+    clear(&mut draft, request.clean, view.pending.as_slice())?;
+    bind_to(alloc, &mut draft, request.address, &request.client, now)?;
+    draft.note(LocalChange::EndDialog {
+        address: request.address,
+    })?;
+    draft.send(alloc, request.address, &Frame::ConnAck { code: ACCEPTED })?;
+    Ok(draft)
+}
+
+/// Whether there is no room for the client.
+pub fn has_no_room<R: Replica>(
+    alloc: Global,
+    replica: &R,
+    client: &ClientId,
+) -> Result<bool, StepFault>
+    ensures ok { IfOk result (λ none. none ≡ has_none (seen_of (R.kept replica.now)) client.now) }
+    ensures err { IfErr result (λ fault. fault ≡ StepFault.Memory) }
+{
+    if replica.view_of(client).is_some() {
+        return Ok(false);
+    }
+    let all = replica.clients(alloc)?;
+    Ok(all.len() >= MAX_CLIENTS)
+}

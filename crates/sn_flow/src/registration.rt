@@ -1,0 +1,132 @@
+//! REGISTER (MQTT-SN 1.2 section 6.5), and the topic id of a name.
+
+ghost use Rattle.std.specs.Prelude.{◌≡◌, IfOk, IfErr};
+ghost use Rattle.sn_frame.specs.declared.frame.Frame.TheVariants.{RegAck};
+ghost use Rattle.sn_flow.specs.Drafts.{nothing, sent};
+ghost use Rattle.sn_flow.specs.Registration.{entry_id as id_of_entry, new_id as id_anew, id_for as id_of, registered as registered_draft, register_name as name_draft, register as register_draft};
+
+use super::asking::name_asked;
+use super::codes::{ACCEPTED, CONGESTION, NOT_SUPPORTED};
+use super::config::Addr;
+use super::draft::Draft;
+use super::fault::StepFault;
+use sn_frame::Frame;
+use sn_session::{Session, SessionOp, TopicEntry};
+use sn_topic::TopicName;
+use std::alloc::Global;
+
+/// The topic id of a name, and the change that the session needs for it, if it needs one.
+#[derive(Debug, Drop)]
+pub struct NamedId {
+    pub id: u16,
+    pub change: Option<SessionOp>,
+}
+
+/// The id of an entry of the name, which the client knows from now on.
+fn entry_id(alloc: Global, name: &TopicName, entry: &TopicEntry) -> Result<NamedId, StepFault>
+    ensures ok { IfOk result (λ named. named ≡ id_of_entry name.now entry.now) }
+    ensures err { IfErr result (λ fault. fault ≡ StepFault.Memory) }
+{
+    if entry.known {
+        return Ok(NamedId {
+            id: entry.id,
+            change: None,
+        });
+    }
+    new_id(alloc, name, entry.id)
+}
+
+/// A new id of the name.
+fn new_id(alloc: Global, name: &TopicName, id: u16) -> Result<NamedId, StepFault>
+    ensures ok { IfOk result (λ named. named ≡ id_anew name.now id) }
+    ensures err { IfErr result (λ fault. fault ≡ StepFault.Memory) }
+{
+    let name = name.copy(alloc)?;
+    Ok(NamedId {
+        id,
+        change: Some(SessionOp::Register {
+            id,
+            name,
+            known: true,
+        }),
+    })
+}
+
+/// The id of the name, and the change that the session needs for it: that of its entry, or else the least free one;
+/// nothing where no id is free.
+pub fn id_for(
+    alloc: Global,
+    session: &Session,
+    name: &TopicName,
+) -> Result<Option<NamedId>, StepFault>
+    ensures ok { IfOk result (λ named. named ≡ id_of session.now name.now) }
+    ensures err { IfErr result (λ fault. fault ≡ StepFault.Memory) }
+{
+    if let Some(entry) = session.topic_named(name) {
+        return Ok(Some(entry_id(alloc, name, entry)?));
+    }
+    match session.free_id() {
+        None => Ok(None),
+        Some(id) => Ok(Some(new_id(alloc, name, id)?)),
+    }
+}
+
+/// Answers with that id, and changes the session where it needs a change.
+fn registered(
+    alloc: Global,
+    to: Addr,
+    msg_id: u16,
+    named: Option<NamedId>,
+) -> Result<Draft, StepFault>
+    ensures ok { IfOk result (λ draft. draft ≡ registered_draft to msg_id named) }
+    ensures err { IfErr result (λ fault. fault ≡ StepFault.Memory) }
+{
+    match named {
+        None => refuse(alloc, to, msg_id, CONGESTION),
+        Some(named) => {
+            let mut draft = Draft::new(alloc);
+            draft.change_if(named.change)?;
+            let answer = Frame::RegAck {
+                topic_id: named.id,
+                msg_id,
+                code: ACCEPTED,
+            };
+            draft.send(alloc, to, &answer)?;
+            Ok(draft)
+        }
+    }
+}
+
+/// Refuses a REGISTER by this code.
+fn refuse(alloc: Global, to: Addr, msg_id: u16, code: u8) -> Result<Draft, StepFault>
+    ensures ok { IfOk result (λ draft. draft ≡ sent to (RegAck 0 msg_id code) nothing) }
+    ensures err { IfErr result (λ fault. fault ≡ StepFault.Memory) }
+{
+    let answer = Frame::RegAck {
+        topic_id: 0,
+        msg_id,
+        code,
+    };
+    Draft::reply(alloc, to, &answer)
+}
+
+/// REGISTER: the client gives a topic a name and asks for its id, which it knows from then on. REGACK has it, or says why
+/// there is none: the octets are no topic name, or 256 ids are in use.
+pub fn register(
+    alloc: Global,
+    to: Addr,
+    session: &Session,
+    msg_id: u16,
+    name: &[u8],
+) -> Result<Draft, StepFault>
+    ensures ok { IfOk result (λ draft. draft ≡ register_draft to session.now msg_id name.now) }
+    ensures err { IfErr result (λ fault. fault ≡ StepFault.Memory) }
+{
+    match name_asked(alloc, name)? {
+        None => refuse(alloc, to, msg_id, NOT_SUPPORTED),
+        Some(name) => {
+            let named = id_for(alloc, session, &name)?;
+            registered(alloc, to, msg_id, named)
+        }
+    }
+}

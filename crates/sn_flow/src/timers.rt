@@ -1,0 +1,97 @@
+//! The list of timers and its changes.
+
+ghost use Rattle.std.specs.Prelude.{◌≡◌, ◌+◌, ◌≤◌, filter, vec_len};
+ghost use Rattle.std.specs.Option.{option_copied};
+ghost use Rattle.std.specs.Vec.{vec_capacity};
+ghost use Rattle.sn_flow.specs.Timers.{is_of_another as is_of_other, timed, timer_of as timer_of_client, heard_at as heard_timer, heard, times_owned as times_owned_client, owned_timers};
+ghost use Rattle.sn_flow.specs.Plans.{seen_of};
+
+use super::bindings::is_owned;
+use super::local::Timer;
+use rep_model::Replica;
+use rep_ops::ClientId;
+
+/// Whether a timer is of another client.
+fn is_of_another(client: &ClientId, timer: &Timer) -> bool
+    ensures { result ≡ is_of_other client.now timer.now }
+{
+    timer.client != *client
+}
+
+/// Drops the timer of the client.
+fn forget(timers: &mut Vec<Timer>, client: &ClientId)
+    ensures items { timers.new.items ≡ filter (is_of_other client.now) timers.old.items }
+    ensures capacity { vec_capacity timers.new ≡ vec_capacity timers.old }
+    ensures len { vec_len timers.new ≤ vec_len timers.old }
+{
+    timers.retain(|timer| is_of_another(client, timer));
+}
+
+/// The timer of its client is this one. There is room for one more.
+pub fn set_timer(timers: &mut Vec<Timer>, timer: Timer)
+    requires { vec_len timers.old + 1 ≤ vec_capacity timers.old }
+    ensures items { timers.new.items ≡ timed timer timers.old.items }
+    ensures capacity { vec_capacity timers.old ≤ vec_capacity timers.new }
+    ensures len { vec_len timers.new ≤ vec_len timers.old + 1 }
+{
+    forget(timers, &timer.client);
+    timers.push(timer).unwrap();
+}
+
+/// The timer of a client.
+fn timer_of<'a>(timers: &'a [Timer], client: &ClientId) -> Option<&'a Timer>
+    ensures { option_copied result ≡ timer_of_client client.now timers.now }
+{
+    for timer in timers {
+        if timer.client == *client {
+            return Some(timer);
+        }
+    }
+    None
+}
+
+/// The timer of a client that is heard of at this moment.
+fn heard_at(client: ClientId, moment: u64, before: Option<&Timer>) -> Timer
+    ensures { result ≡ heard_timer client moment (option_copied before.entry) }
+{
+    match before {
+        None => Timer {
+            client,
+            heard: moment,
+            sent: moment,
+            tries: 0,
+        },
+        Some(timer) => Timer {
+            client,
+            heard: moment,
+            sent: timer.sent,
+            tries: timer.tries,
+        },
+    }
+}
+
+/// The client was heard of at this moment. There is room for one more timer.
+pub fn hear(timers: &mut Vec<Timer>, client: ClientId, moment: u64)
+    requires { vec_len timers.old + 1 ≤ vec_capacity timers.old }
+    ensures items { timers.new.items ≡ heard client moment timers.old.items }
+    ensures capacity { vec_capacity timers.old ≤ vec_capacity timers.new }
+    ensures len { vec_len timers.new ≤ vec_len timers.old + 1 }
+{
+    let before = timer_of(timers.as_slice(), &client);
+    let timer = heard_at(client, moment, before);
+    set_timer(timers, timer);
+}
+
+/// Whether the gateway owns the client of a timer.
+fn times_owned<R: Replica>(gateway: u8, replica: &R, timer: &Timer) -> bool
+    ensures { result ≡ times_owned_client gateway (seen_of (R.kept replica.now)) timer.now }
+{
+    is_owned(gateway, replica, &timer.client)
+}
+
+/// Drops the timers of clients that the gateway does not own.
+pub fn keep_timers<R: Replica>(timers: &mut Vec<Timer>, gateway: u8, replica: &R)
+    ensures { timers.new.items ≡ owned_timers gateway (seen_of (R.kept replica.now)) timers.old.items }
+{
+    timers.retain(|timer| times_owned(gateway, replica, timer));
+}

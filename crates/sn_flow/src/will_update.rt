@@ -1,0 +1,113 @@
+//! WILLTOPICUPD and WILLMSGUPD (MQTT-SN 1.2 section 6.4).
+
+ghost use Rattle.std.specs.Prelude.{◌≡◌, IfOk, IfErr};
+ghost use Rattle.sn_flow.specs.Connection.{has_bit};
+ghost use Rattle.sn_flow.specs.WillUpdate.{topic_from as topic_of_parts, topic_asked as topic_asked_for, topic_accepted, topic_set, has_no_place as is_without_place, will_topic_update as topic_update, will_msg_update as message_update};
+
+use super::asking::{name_asked, qos_asked};
+use super::codes::{ACCEPTED, NOT_SUPPORTED};
+use super::config::Addr;
+use super::draft::Draft;
+use super::fault::StepFault;
+use octets::Octets;
+use sn_frame::{Flags, Frame, Will};
+use sn_session::{Session, SessionOp, WillTopic};
+use sn_topic::TopicName;
+use std::alloc::Global;
+
+/// The most octets that the message of a will may have.
+pub const MAX_MESSAGE: usize = 4096;
+
+/// Whether the will is to be retained.
+fn is_retained(flags: Flags) -> bool
+    ensures { result ≡ has_bit flags.bits 4 }
+{
+    flags.retain()
+}
+
+/// The topic of a will, where its name and its quality of service are valid.
+fn topic_from(name: Option<TopicName>, qos: Option<u8>, retain: bool) -> Option<WillTopic>
+    ensures { result ≡ topic_of_parts name qos retain }
+{
+    match (name, qos) {
+        (Some(topic), Some(qos)) => Some(WillTopic { topic, qos, retain }),
+        _ => None,
+    }
+}
+
+/// The topic that is asked for with these flags and octets.
+pub fn topic_asked(alloc: Global, will: &Will) -> Result<Option<WillTopic>, StepFault>
+    ensures ok { IfOk result (λ topic. topic ≡ topic_asked_for will.now) }
+    ensures err { IfErr result (λ fault. fault ≡ StepFault.Memory) }
+{
+    let name = name_asked(alloc, will.topic.as_slice())?;
+    Ok(topic_from(name, qos_asked(will.flags.qos()), is_retained(will.flags)))
+}
+
+/// The will has this topic from now on, or none.
+fn accept_topic(alloc: Global, to: Addr, topic: Option<WillTopic>) -> Result<Draft, StepFault>
+    ensures ok { IfOk result (λ draft. draft ≡ topic_accepted to topic) }
+    ensures err { IfErr result (λ fault. fault ≡ StepFault.Memory) }
+{
+    let mut draft = Draft::new(alloc);
+    draft.change(SessionOp::WillTopic(topic))?;
+    draft.send(alloc, to, &Frame::WillTopicResp { code: ACCEPTED })?;
+    Ok(draft)
+}
+
+/// Gives the will this topic; refuses where there is none.
+fn set_topic(alloc: Global, to: Addr, topic: Option<WillTopic>) -> Result<Draft, StepFault>
+    ensures ok { IfOk result (λ draft. draft ≡ topic_set to topic) }
+    ensures err { IfErr result (λ fault. fault ≡ StepFault.Memory) }
+{
+    match topic {
+        None => Draft::reply(alloc, to, &Frame::WillTopicResp { code: NOT_SUPPORTED }),
+        Some(topic) => accept_topic(alloc, to, Some(topic)),
+    }
+}
+
+/// WILLTOPICUPD: the client gives its will another topic, or deletes it. WILLTOPICRESP says whether it is done: a topic that
+/// is no name, or a quality of service of bits 11, is refused.
+pub fn will_topic_update(
+    alloc: Global,
+    to: Addr,
+    will: &Option<Will>,
+) -> Result<Draft, StepFault>
+    ensures ok { IfOk result (λ draft. draft ≡ topic_update to will.now) }
+    ensures err { IfErr result (λ fault. fault ≡ StepFault.Memory) }
+{
+    match will {
+        None => accept_topic(alloc, to, None),
+        Some(will) => {
+            let topic = topic_asked(alloc, will)?;
+            set_topic(alloc, to, topic)
+        }
+    }
+}
+
+/// Whether the will cannot have this message: there is no will, or the message is too long.
+fn has_no_place(session: &Session, message: &[u8]) -> bool
+    ensures { result ≡ is_without_place session.now message.now }
+{
+    message.len() > MAX_MESSAGE || session.will.is_none()
+}
+
+/// WILLMSGUPD: the client gives its will another message. WILLMSGRESP says whether it is done: a message of more than 4,096
+/// octets is refused, and so is any without a will.
+pub fn will_msg_update(
+    alloc: Global,
+    to: Addr,
+    session: &Session,
+    message: &[u8],
+) -> Result<Draft, StepFault>
+    ensures ok { IfOk result (λ draft. draft ≡ message_update to session.now message.now) }
+    ensures err { IfErr result (λ fault. fault ≡ StepFault.Memory) }
+{
+    if has_no_place(session, message) {
+        return Draft::reply(alloc, to, &Frame::WillMsgResp { code: NOT_SUPPORTED });
+    }
+    let mut draft = Draft::new(alloc);
+    draft.change(SessionOp::WillMsg(Octets::from_slice(alloc, message)?))?;
+    draft.send(alloc, to, &Frame::WillMsgResp { code: ACCEPTED })?;
+    Ok(draft)
+}
