@@ -4,9 +4,11 @@ pub mod Bindings
 pub mod Bound
 pub mod Connection
 pub mod Drafts
+pub mod Flush
 pub mod Locals
 pub mod Names
 pub mod Numbering
+pub mod Own
 pub mod Plans
 pub mod Registration
 pub mod RequestLaws

@@ -15,6 +15,7 @@
 //! - `connection`, `accept`, `wills`, `topic_rows`, `table`: the rows, as plans; `bound` is what they share.
 //! - `registration`, `subscription`, `will_update`: rows of a bound client, as drafts; `asking` and `codes` are
 //!   what they share.
+//! - `laws`: what holds of every plan, proved for every draft and so for every row.
 #![tactic(auto)]
 
 mod accept;
@@ -27,6 +28,7 @@ mod config;
 mod connection;
 mod draft;
 mod fault;
+mod laws;
 mod local;
 mod numbering;
 mod plan;
@@ -45,6 +47,10 @@ pub use config::{Addr, Config, Send};
 pub use connection::{connect, disconnect};
 pub use draft::{Draft, NewPut};
 pub use fault::StepFault;
+pub use laws::{
+    adds_none, fresh_names, messages_wait, one_binding, only_acknowledged, own_names, reads_back,
+    stays_flush,
+};
 pub use local::{Awaited, Binding, Dialogs, LocalChange, Request, Timer, WillDialog};
 pub use plan::{Plan, plan_of, plan_without};
 pub use request_laws::{
