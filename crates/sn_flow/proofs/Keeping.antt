@@ -16,7 +16,7 @@ use Rattle.sn_flow.specs.declared.registration.NamedId.{NamedId}
 use Rattle.sn_flow.specs.Asking.{qos_asked, name_asked, topics_asked}
 use Rattle.sn_flow.specs.Drafts.{Drafted, nothing, changed_if, sent}
 use Rattle.sn_flow.specs.Registration.{id_for, registered, register_name, register}
-use Rattle.sn_flow.specs.Subscription.{refused, suback, subscribe_change, subscribed, subscribe_to, subscribe_asked, subscribe_at, subscribe, id_asked, unsubscribe_asked, unsubscribe}
+use Rattle.sn_flow.specs.Subscription.{refused, suback, subscribe_change, subscribed, subscribe_asked, subscribe_at, subscribe, id_asked, unsubscribe_asked, unsubscribe}
 use Rattle.sn_flow.specs.RequestLaws.{ChangesSessionOnly}
 use Rattle.sn_flow.specs.WillUpdate.{topic_asked, topic_set, has_no_place, will_topic_update, will_msg_update}
 

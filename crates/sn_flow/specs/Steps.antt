@@ -15,7 +15,7 @@ use Rattle.sn_flow.specs.Drafts.{Drafted, nothing, sent}
 use Rattle.sn_flow.specs.Plans.{Seen, plan_without}
 use Rattle.sn_flow.specs.Bindings.{client_at}
 use Rattle.sn_flow.specs.Locals.{Local}
-use Rattle.sn_flow.specs.Bound.{quiet, turned_away, stray, heard_of}
+use Rattle.sn_flow.specs.Bound.{quiet, stray, heard_of}
 use Rattle.sn_flow.specs.Connection.{connect, disconnect}
 use Rattle.sn_flow.specs.Wills.{will_topic, will_msg, will_topic_update, will_msg_update}
 use Rattle.sn_flow.specs.TopicRows.{register, subscribe, unsubscribe}

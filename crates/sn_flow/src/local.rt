@@ -88,31 +88,17 @@ pub struct Timer {
 #[derive(Debug, Drop)]
 pub enum LocalChange {
     /// From now on the address and the client belong together, and neither to another.
-    Bind {
-        address: Addr,
-        client: ClientId,
-    },
+    Bind { address: Addr, client: ClientId },
     /// The client has no address any more. Its timer stays.
-    Unbind {
-        client: ClientId,
-    },
+    Unbind { client: ClientId },
     /// The timer of its client is this one.
-    Time {
-        timer: Timer,
-    },
+    Time { timer: Timer },
     /// The client was heard of at a moment. Where it has no timer yet, one begins.
-    Heard {
-        client: ClientId,
-        moment: u64,
-    },
+    Heard { client: ClientId, moment: u64 },
     /// The dialog of its address is this one.
-    Ask {
-        dialog: WillDialog,
-    },
+    Ask { dialog: WillDialog },
     /// The address has no dialog any more.
-    EndDialog {
-        address: Addr,
-    },
+    EndDialog { address: Addr },
 }
 
 /// The local state of a gateway: which address is which client, from which addresses a will is awaited,
@@ -132,12 +118,12 @@ impl Model for Dialogs {
     ghost Value = { Roomy };
 
     ghost view = { λ d. record {
-        local = record { bindings = d.bindings.items; dialogs = d.dialogs.items; timers = d.timers.items };
-        room = record {
-            bindings = vec_capacity d.bindings - vec_len d.bindings;
-            dialogs = vec_capacity d.dialogs - vec_len d.dialogs;
-            timers = vec_capacity d.timers - vec_len d.timers
-        }
+      local = record { bindings = d.bindings.items; dialogs = d.dialogs.items; timers = d.timers.items };
+      room = record {
+        bindings = vec_capacity d.bindings - vec_len d.bindings;
+        dialogs = vec_capacity d.dialogs - vec_len d.dialogs;
+        timers = vec_capacity d.timers - vec_len d.timers;
+      };
     } };
 }
 

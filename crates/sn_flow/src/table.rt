@@ -237,7 +237,15 @@ pub fn step<R: Replica>(
             will_topic(alloc, config, replica, dialogs, from, will, now)
         }
         Frame::WillMsg { message } => {
-            will_msg(alloc, config, replica, dialogs, from, message.as_slice(), now)
+            will_msg(
+                alloc,
+                config,
+                replica,
+                dialogs,
+                from,
+                message.as_slice(),
+                now,
+            )
         }
         Frame::Disconnect { duration } => {
             disconnect(alloc, config, replica, dialogs, from, *duration, now)
@@ -286,7 +294,15 @@ pub fn step<R: Replica>(
             will_topic_update(alloc, config, replica, dialogs, from, will, now)
         }
         Frame::WillMsgUpd { message } => {
-            will_msg_update(alloc, config, replica, dialogs, from, message.as_slice(), now)
+            will_msg_update(
+                alloc,
+                config,
+                replica,
+                dialogs,
+                from,
+                message.as_slice(),
+                now,
+            )
         }
         Frame::Publish { flags, .. } => {
             published(alloc, from, dialogs.client_at(from), *flags, now)
