@@ -19,9 +19,9 @@ use Rattle.sn_flow.specs.declared.local.Awaited.TheVariants.{Topic, Message}
 use Rattle.sn_flow.specs.declared.local.Request.{Request}
 use Rattle.sn_flow.specs.declared.local.WillDialog.{WillDialog}
 use Rattle.sn_flow.specs.declared.plan.Plan.{Plan}
-use Rattle.sn_flow.specs.Drafts.{Drafted, nothing, sent}
+use Rattle.sn_flow.specs.Drafts.{Drafted}
 use Rattle.sn_flow.specs.Numbering.{planned}
-use Rattle.sn_flow.specs.Plans.{Seen, plan_of, plan_without}
+use Rattle.sn_flow.specs.Plans.{Seen}
 use Rattle.sn_flow.specs.Bindings.{client_at}
 use Rattle.sn_flow.specs.WillDialogs.{dialog_at}
 use Rattle.sn_flow.specs.Locals.{Local}
@@ -33,7 +33,7 @@ use Rattle.sn_flow.specs.WillUpdate.{topic_asked, will_topic_update, will_msg_up
 use Rattle.sn_flow.specs.Registration.{register}
 use Rattle.sn_flow.specs.Subscription.{subscribe, unsubscribe}
 use Rattle.sn_flow.specs.TopicRows.{register_of, subscribe_of, unsubscribe_of}
-use Rattle.sn_flow.specs.Steps.{other, published, woken, wake_draft, can_wake, pinged, step}
+use Rattle.sn_flow.specs.Steps.{other, published, woken, pinged, step}
 use Rattle.sn_flow.specs.Own.{IsOneEach, IsOfDraft}
 use Rattle.sn_flow.proofs.Keeping.{of_register, of_subscribe, of_unsubscribe, of_will_topic_update, of_will_msg_update}
 
