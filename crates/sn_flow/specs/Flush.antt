@@ -18,6 +18,10 @@ pub record IsFlush (g : ℕ) (c : List ℕ) (S : List Op) : Type 0 where
   pub begun : (epoch : ℕ) → visible c S ≡ Some (stamp_of epoch g) → is_some (session_of (history c S)) ≡ true
   pub nothing_behind : (epoch k : ℕ) → visible c S ≡ Some (stamp_of epoch g) → length (history c S) ≤ k → operation_at c S (stamp_of epoch g, k) ≡ None
 
+-- and so for every client
+abbrev pub AreFlush : ℕ → List Op → Type 0
+AreFlush g S = (c : List ℕ) → IsFlush g c S
+
 -- the session as seen, or the empty one, with these changes applied one after the other; without changes it is as it was
 abbrev pub session_with : Option Session → List SessionOp → Option Session
 session_with seen [] = seen

@@ -7,6 +7,9 @@ use Rattle.rep_ops.specs.declared.op.Op.TheVariants.{Session as OfSession, Put a
 use Rattle.rep_ops.specs.Sets.{operation_at, put_at}
 use Rattle.rep_model.specs.Views.{pending_at}
 use Rattle.sn_flow.specs.declared.draft.NewPut.{NewPut}
+use Rattle.sn_flow.specs.declared.plan.Plan.{Plan}
+use Rattle.sn_flow.specs.Drafts.{Drafted}
+use Rattle.sn_flow.specs.Plans.{Seen, plan_of}
 use Rattle.sn_flow.specs.Flush.{stamp_of}
 
 -- a session operation of the client under a stamp of the gateway; a message that the gateway made; an acknowledgement by the client
@@ -54,3 +57,10 @@ abbrev pub Waits : List Op → List ℕ → List (ℕ × ℕ) → Op → Type 0
 Waits S c acks (OfSession d stamp counter change) = Unit {0}
 Waits S c acks (OfPut d put) = (pending_at d S (put.seq, put.origin) ≡ Some put) ⊎ ((d ≡ c) × Contains acks (put.seq, put.origin))
 Waits S c acks (Ack d origin first last) = Unit {0}
+
+-- the plan is that of a draft for a client, with at most one message for each client
+pub record IsOfDraft (g : ℕ) (seen : Seen) (plan : Plan) : Type 0 where
+  pub client : List ℕ
+  pub draft : Drafted
+  pub one_each : IsOneEach draft.puts
+  pub is : plan_of g client seen draft ≡ Some plan

@@ -3,6 +3,8 @@
 
 ghost use Rattle.std.specs.Prelude.{◌≡◌, ℕ, ◌++◌, ◌⊎◌, [], List, Some, true, Contains};
 ghost use Rattle.std.specs.List.{AllByRecursion};
+ghost use Rattle.sn_topic.specs.Table.{Entries};
+ghost use Rattle.sn_frame.specs.declared.frame.Frame.{Frame};
 ghost use Rattle.rep_ops.specs.declared.op.Op.{Op};
 ghost use Rattle.rep_ops.specs.declared.op.Put.{Put};
 ghost use Rattle.rep_ops.specs.Sets.{is_acknowledged, IsConsistent, Same};
@@ -15,10 +17,12 @@ ghost use Rattle.sn_flow.specs.declared.local.Binding.{Binding};
 ghost use Rattle.sn_flow.specs.declared.plan.Plan.{Plan};
 ghost use Rattle.sn_flow.specs.Bindings.{bound, client_at};
 ghost use Rattle.sn_flow.specs.Drafts.{Drafted};
+ghost use Rattle.sn_flow.specs.Locals.{Local};
+ghost use Rattle.sn_flow.specs.Steps.{step};
 ghost use Rattle.sn_flow.specs.Numbering.{Written, start_of, written};
 ghost use Rattle.sn_flow.specs.Plans.{Seen, seen_of, plan_of};
-ghost use Rattle.sn_flow.specs.Own.{IsOwn, HasNoneOf, AddsNone, AreFresh, IsOneEach, Waits, messages};
-ghost use Rattle.sn_flow.specs.Flush.{IsFlush, Shows, session_with};
+ghost use Rattle.sn_flow.specs.Own.{IsOwn, HasNoneOf, AddsNone, AreFresh, IsOneEach, Waits, messages, IsOfDraft};
+ghost use Rattle.sn_flow.specs.Flush.{IsFlush, AreFlush, Shows, session_with};
 
 /// A gateway writes under names of its own: the session operations of a plan are of the client that the
 /// plan is for and under stamps with the gateway's number, the messages have the gateway as origin, and
@@ -83,6 +87,16 @@ pub fn adds_none()
     ensures others { (g : ℕ) (c : List ℕ) (seen : Seen) (d : Drafted) (plan : Plan) → plan_of g c seen d ≡ Some plan → (delta : List Op) → Same delta plan.ops → (other : ℕ) → ¬ (other ≡ g) → (e : List ℕ) (S : List Op) → AddsNone other e S delta }
     ensures stays { (g : ℕ) (c : List ℕ) (S D more : List Op) → AddsNone g c S D → AddsNone g c (S ++ more) D }
     ensures together { (S ops delta : List Op) → Same delta ops → Same (S ++ delta) (S ++ ops) }
+{}
+
+/// The laws hold of every step: each plan of the step table is the plan of a draft, with at most one
+/// message a client. So a gateway whose set is flush for all clients never refuses for a conflict
+/// what it made itself, stays flush when it takes it, and loses no message by it.
+pub fn every_step()
+    ensures drafted { (g : ℕ) (predefined : Entries) (seen : Seen) (local : Local) (a : Addr) (frame : Frame) (now : ℕ) (plan : Plan) → step g predefined seen local a frame now ≡ Some plan → IsOfDraft g seen plan }
+    ensures fits { (g : ℕ) (S : List Op) (plan : Plan) → AreFlush g S → IsOfDraft g (seen_of S) plan → (delta : List Op) → Same delta plan.ops → AllAgree S delta × AllAgree (keep S) delta }
+    ensures flush { (g : ℕ) (S : List Op) (plan : Plan) → AreFlush g S → IsOfDraft g (seen_of S) plan → (delta : List Op) → Same delta plan.ops → AreFlush g (S ++ delta) }
+    ensures leaves { (g : ℕ) (S : List Op) (plan : Plan) → IsOfDraft g (seen_of S) plan → (delta : List Op) → Same delta plan.ops → (c : List ℕ) (name : ℕ × ℕ) (put : Put) → pending_at c S name ≡ Some put → (pending_at c (S ++ delta) name ≡ Some put) ⊎ (is_acknowledged c delta name ≡ true) }
 {}
 
 /// A binding joins one address and one client: the address is that client's, the binding stands in the

@@ -48,8 +48,8 @@ pub use connection::{connect, disconnect};
 pub use draft::{Draft, NewPut};
 pub use fault::StepFault;
 pub use laws::{
-    adds_none, fresh_names, messages_wait, one_binding, only_acknowledged, own_names, reads_back,
-    stays_flush,
+    adds_none, every_step, fresh_names, messages_wait, one_binding, only_acknowledged, own_names,
+    reads_back, stays_flush,
 };
 pub use local::{Awaited, Binding, Dialogs, LocalChange, Request, Timer, WillDialog};
 pub use plan::{Plan, plan_of, plan_without};
