@@ -42,7 +42,7 @@ stands-new S (Ack c origin first last) h = λ seq lower upper.
     let from : (same_client c c && (origin == origin) && nat_le first seq) ≡ true = and_from (same_client c c && (origin == origin)) (nat_le first seq) own (le-leb first seq lower) in
     is_acknowledged_both c S (Ack c origin first last ∷ []) (seq, origin)
     ∙ or_right (is_acknowledged c S (seq, origin)) (is_acknowledged c (Ack c origin first last ∷ []) (seq, origin))
-        (or_left (acknowledges c (seq, origin) (Ack c origin first last)) false (and_from (same_client c c && (origin == origin) && nat_le first seq) (nat_le seq last) from (le-leb seq last upper)))
+    (or_left (acknowledges c (seq, origin) (Ack c origin first last)) false (and_from (same_client c c && (origin == origin) && nat_le first seq) (nat_le seq last) from (le-leb seq last upper)))
 
 pub fresh-stand : (S ops : List Op) → AreFresh S ops → AllByRecursion (Stands (S ++ ops)) ops
 fresh-stand S [] f = tt
