@@ -6,7 +6,6 @@ use Rattle.rep_ops.specs.declared.op.Put.{Put}
 use Rattle.rep_ops.specs.declared.op.Op.{Op}
 use Rattle.rep_ops.specs.declared.op.Op.TheVariants.{Session as OfSession, Put as OfPut, Ack}
 use Rattle.rep_ops.specs.Sets.{operation_at, put_at, is_acknowledged, Agrees, Same}
-use Rattle.rep_ops.specs.Deltas.{ShareName}
 use Rattle.rep_model.specs.declared.fault.Limit.{Limit}
 use Rattle.rep_model.specs.declared.fault.TakeFault.TheVariants as take_faults
 use Rattle.rep_model.specs.Views.{visible}
@@ -20,7 +19,7 @@ use Rattle.rep_model.proofs.Limits.{first_passed-more}
 use Rattle.rep_model.proofs.Lookup.{or_else}
 use Rattle.rep_model.proofs.Readers.{operation_at_both, put_at_both, operation_at_keep, put_at_keep}
 use Rattle.sn_flow.specs.Plans.{seen_of}
-use Rattle.gw_world.specs.Steps.{IsConflict, IsTakable}
+use Rattle.gw_world.specs.Steps.{HaveName, IsConflict, IsTakable}
 use Rattle.gw_world.specs.Keeping.{Keeps}
 use Rattle.gw_world.proofs.Occurring.{operation_occurs, put_occurs}
 
@@ -67,7 +66,7 @@ keeps_more S K D L k h = record {
 pub record Differs (S : List Op) (new : Op) : Type 0 where
   pub old : Op
   pub is_old : Contains S old
-  pub named : ShareName old new
+  pub named : HaveName old new
   pub differs : old ≢ new
 
 pub differs_from_taken : (S K : List Op) → Keeps S K → (new : Op) → ¬ (Agrees K new) → Differs S new

@@ -1,9 +1,11 @@
 -- A field stays steady.
-use Rattle.std.proofs.Common.{◌≡◌, ℕ, zero, suc, ◌-◌, ◌⊎◌, List, [], ◌∷◌, ◌++◌, slice_get, Option, Some, None, option_map, Result, Ok, Err, refl, sym, ap, ◌∙◌, subst, append-nil, inl, inr}
+use Rattle.std.proofs.Common.{◌≡◌, ℕ, zero, suc, ◌-◌, ◌⊎◌, List, [], ◌∷◌, ◌++◌, slice_get, Option, Some, None, is_some, option_map, true, Contains, true≢false, Result, Ok, Err, refl, sym, ap, ◌∙◌, subst, append-nil, inl, inr}
 use Rattle.std.specs.List.{AllByRecursion}
+use Rattle.std.proofs.lemmas.List.Elements.{All-from_recursion, All-contains}
 use Rattle.std.proofs.lemmas.Option.{none-some, same_Some, slice_get-map}
 use Rattle.rep_ops.specs.declared.op.Op.{Op}
-use Rattle.rep_ops.specs.Sets.{Same}
+use Rattle.rep_ops.specs.declared.op.Op.TheVariants.{Session as OfSession, Put as OfPut}
+use Rattle.rep_ops.specs.Sets.{operation_at, put_at, Same}
 use Rattle.rep_ops.specs.Making.{IsDeltaOf}
 use Rattle.rep_model.specs.Taking.{AllAgree}
 use Rattle.sn_flow.specs.declared.config.Addr.{Addr}
@@ -14,7 +16,8 @@ use Rattle.sn_flow.specs.Own.{IsOfDraft}
 use Rattle.sn_flow.specs.Flush.{IsFlush, AreFlush}
 use Rattle.sn_flow.proofs.Lists.{all-append, all-weaken}
 use Rattle.sn_flow.proofs.Drafting.{step-drafted}
-use Rattle.sn_flow.proofs.Stepping.{step-fits, step-flush, step-known, step-foreign}
+use Rattle.sn_flow.proofs.Stepping.{step-fits, step-flush, step-known, step-foreign, step-new_operation, step-new_put}
+use Rattle.sn_flow.proofs.Standing.{IsThere, all-there}
 use Rattle.sn_flow.proofs.Known.{known-stays}
 use Rattle.sn_flow.proofs.Flushness.{flush-start, flush-taken}
 use Rattle.gw_world.specs.declared.event.Event.{Event}
@@ -26,7 +29,7 @@ use Rattle.gw_world.specs.declared.event.NodeFault.{NodeFault}
 use Rattle.gw_world.specs.declared.event.NodeFault.TheVariants as faults
 use Rattle.gw_world.specs.Gateways.{Gateway, new_gateway}
 use Rattle.gw_world.specs.Field.{Field, new_field, IsAt, changed, After, Run}
-use Rattle.gw_world.specs.Steps.{IsUnchanged, IsMade, IsPlan, FrameStep, TakeStep}
+use Rattle.gw_world.specs.Steps.{HaveName, IsUnchanged, IsMade, IsPlan, FrameStep, TakeStep}
 use Rattle.gw_world.specs.Steady.{IsKnown, IsSteady}
 use Rattle.gw_world.proofs.Numbers.{First, place_of-first, first-number, first-set}
 
@@ -118,10 +121,10 @@ module _ (field : Field) (s : Steady field.gateways field.deltas) (n i : ℕ) (o
       let number : old.config.gateway ≡ n = first-number n i field.gateways old f is in
       let p : IsOfDraft n (seen_of old.taken) u.plan = subst (λ k. IsOfDraft k (seen_of old.taken) u.plan) number u.drafted in
       updated next made u.config
-        (λ c. subst (λ T. IsFlush n c T) (sym u.taken) (step-flush n old.taken u.plan p u.delta u.same flush-before c))
-        (subst (λ ds. AllByRecursion (IsKnown n next.taken) (field.deltas ++ ds)) (sym u.one) (subst (λ T. AllByRecursion (IsKnown n T) (field.deltas ++ u.delta ∷ [])) (sym u.taken)
-          (all-append (IsKnown n (old.taken ++ u.delta)) field.deltas (u.delta ∷ []) (known-more u.delta) (step-known n old.taken u.plan p u.delta u.same flush-before, tt))))
-        (λ m other T. subst (AllByRecursion (IsKnown m T)) (sym u.one) (λ c. step-foreign n old.taken u.plan p u.delta u.same m other c T, tt))
+      (λ c. subst (λ T. IsFlush n c T) (sym u.taken) (step-flush n old.taken u.plan p u.delta u.same flush-before c))
+      (subst (λ ds. AllByRecursion (IsKnown n next.taken) (field.deltas ++ ds)) (sym u.one) (subst (λ T. AllByRecursion (IsKnown n T) (field.deltas ++ u.delta ∷ [])) (sym u.taken)
+      (all-append (IsKnown n (old.taken ++ u.delta)) field.deltas (u.delta ∷ []) (known-more u.delta) (step-known n old.taken u.plan p u.delta u.same flush-before, tt))))
+      (λ m other T. subst (AllByRecursion (IsKnown m T)) (sym u.one) (λ c. step-foreign n old.taken u.plan p u.delta u.same m other c T, tt))
 
   updated-moved : (next : Gateway) (made : List (List Op)) → Still old next made ⊎ Stepped old next made → Steady (changed field i next made).gateways (changed field i next made).deltas
   updated-moved next made (inl u) = updated-still next made u
@@ -133,9 +136,9 @@ module _ (field : Field) (s : Steady field.gateways field.deltas) (n i : ℕ) (o
       let taken : next.taken ≡ old.taken ++ delta = ap (λ (x : Gateway). x.taken) h.4 in
       let news : IsKnown n old.taken delta = all-at (IsKnown n old.taken) field.deltas k delta known-before there in
       updated next made (ap (λ (x : Gateway). x.config) h.4)
-        (λ c. subst (λ T. IsFlush n c T) (sym taken) (flush-taken n c old.taken delta (news c) (flush-before c)))
-        (subst (λ ds. AllByRecursion (IsKnown n next.taken) (field.deltas ++ ds)) (sym h.3) (subst (AllByRecursion (IsKnown n next.taken)) (sym (append-nil field.deltas)) (subst (λ T. AllByRecursion (IsKnown n T) field.deltas) (sym taken) (known-more delta))))
-        (λ m _ T. subst (AllByRecursion (IsKnown m T)) (sym h.3) tt)
+      (λ c. subst (λ T. IsFlush n c T) (sym taken) (flush-taken n c old.taken delta (news c) (flush-before c)))
+      (subst (λ ds. AllByRecursion (IsKnown n next.taken) (field.deltas ++ ds)) (sym h.3) (subst (AllByRecursion (IsKnown n next.taken)) (sym (append-nil field.deltas)) (subst (λ T. AllByRecursion (IsKnown n T) field.deltas) (sym taken) (known-more delta))))
+      (λ m _ T. subst (AllByRecursion (IsKnown m T)) (sym h.3) tt)
 
 abbrev SteadyField : Field → Type 0
 SteadyField field = Steady field.gateways field.deltas
@@ -174,8 +177,34 @@ field-steady configs events answers field h =
       known = λ number i gateway at. s.known number i gateway (place_of-first number i field.gateways at.0) at.1;
     }
 
+is_there : (S : List Op) (op : Op) → Contains S op → IsThere S op
+is_there S op h = All-contains (IsThere S) S op (All-from_recursion (IsThere S) S (all-there S)) h
+
+some_none : {X : Type 0} (o : Option X) → is_some o ≡ true → o ≡ None → ⊥
+some_none o h e = true≢false (sym h ∙ ap is_some e)
+
+module _ (gateway : Gateway) (plan : Plan) (p : IsOfDraft gateway.config.gateway (seen_of gateway.taken) plan) (delta : List Op) (same : Same delta plan.ops) (flush : AreFlush gateway.config.gateway gateway.taken) where
+  -- an operation of the plan has the name of none that was taken
+  names-apart : (old new : Op) → Contains gateway.taken old → Contains delta new → HaveName old new → ⊥
+  names-apart (OfSession c s i o) (OfSession d t j q) before after named =
+      some_none (operation_at d gateway.taken (t, j))
+      (subst (λ k. is_some (operation_at d gateway.taken (t, k)) ≡ true) named.2 (subst (λ k. is_some (operation_at d gateway.taken (k, i)) ≡ true) named.1 (subst (λ e. is_some (operation_at e gateway.taken (s, i)) ≡ true) named.0 (is_there gateway.taken (OfSession c s i o) before))))
+      (step-new_operation gateway.config.gateway gateway.taken plan p delta same flush d (t, j) (is_there delta (OfSession d t j q) after))
+  names-apart (OfPut c x) (OfPut d y) before after named =
+      some_none (put_at d gateway.taken (y.seq, y.origin))
+      (subst (λ k. is_some (put_at d gateway.taken (k, y.origin)) ≡ true) named.2 (subst (λ k. is_some (put_at d gateway.taken (x.seq, k)) ≡ true) named.1 (subst (λ e. is_some (put_at e gateway.taken (x.seq, x.origin)) ≡ true) named.0 (is_there gateway.taken (OfPut c x) before))))
+      (step-new_put gateway.config.gateway gateway.taken plan p delta same flush d (y.seq, y.origin) (is_there delta (OfPut d y) after))
+  names-apart old new before after named = absurd named
+
 pub plan-agrees : (field : Field) (number i : ℕ) (gateway : Gateway) (from : Addr) (bytes : List ℕ) (now : ℕ) (plan : Plan) (delta : List Op) → IsSteady field → IsAt field number i gateway → IsPlan gateway from bytes now (Some plan) → IsDeltaOf plan.ops delta → AllAgree gateway.taken delta
 plan-agrees field number i gateway from bytes now plan delta s at h d =
     let own : gateway.config.gateway ≡ number = first-number number i field.gateways gateway (place_of-first number i field.gateways at.0) at.1 in
     (step-fits gateway.config.gateway gateway.taken plan (plan-drafted gateway from bytes now plan h) delta d.same
-      (λ c. subst (λ k. IsFlush k c gateway.taken) (sym own) (s.flush number i gateway at c))).0
+    (λ c. subst (λ k. IsFlush k c gateway.taken) (sym own) (s.flush number i gateway at c))).0
+
+pub no-conflict : (field : Field) (number i : ℕ) (gateway : Gateway) (from : Addr) (bytes : List ℕ) (now : ℕ) (client : List ℕ) (new : Gateway) (made : List (List Op)) → IsSteady field → IsAt field number i gateway → FrameStep gateway from bytes now (Err (faults.Conflict client)) new made → ⊥
+no-conflict field number i gateway from bytes now client new made s at h =
+    let own : gateway.config.gateway ≡ number = first-number number i field.gateways gateway (place_of-first number i field.gateways at.0) at.1 in
+    let conflict = h.2.2 in
+    names-apart gateway h.0 (plan-drafted gateway from bytes now h.0 h.1) h.2.0 h.2.1.same (λ c. subst (λ k. IsFlush k c gateway.taken) (sym own) (s.flush number i gateway at c))
+    conflict.old conflict.new conflict.is_old conflict.is_new conflict.named

@@ -2,10 +2,10 @@
 -- memory is no answer: it ends a run.
 use Rattle.std.specs.Prelude.{◌≡◌, ◌≢◌, ◌⊎◌, ℕ, List, [], ◌∷◌, ◌++◌, Option, Some, None, Result, Ok, Err, Contains}
 use Rattle.rep_ops.specs.declared.op.Op.{Op}
+use Rattle.rep_ops.specs.declared.op.Op.TheVariants.{Session as OfSession, Put as OfPut}
 use Rattle.rep_ops.specs.declared.fault.OpsFault.{OpsFault}
 use Rattle.rep_ops.specs.declared.fault.OpsFault.TheVariants as ops_faults
 use Rattle.rep_ops.specs.Orders.{client_of}
-use Rattle.rep_ops.specs.Deltas.{ShareName}
 use Rattle.rep_ops.specs.Making.{IsDeltaOf, IsRefusal}
 use Rattle.rep_model.specs.declared.fault.Limit.{Limit}
 use Rattle.rep_model.specs.Keep.{keep}
@@ -25,6 +25,12 @@ use Rattle.gw_world.specs.declared.event.NodeFault.{NodeFault}
 use Rattle.gw_world.specs.declared.event.NodeFault.TheVariants as faults
 use Rattle.gw_world.specs.Gateways.{Gateway}
 
+-- two session operations of one name, or two messages of one name; acknowledgements contradict nothing
+abbrev pub HaveName : Op → Op → Type 0
+HaveName (OfSession c s i o) (OfSession d t j p) = (c ≡ d) × (s ≡ t) × (i ≡ j)
+HaveName (OfPut c p) (OfPut d q) = (c ≡ d) × (p.origin ≡ q.origin) × (p.seq ≡ q.seq)
+HaveName a b = ⊥
+
 -- the delta contradicts the set: an operation of the client in it differs from one in the set that has its name
 pub record IsConflict (taken delta : List Op) (client : List ℕ) : Type 0 where
   pub new : Op
@@ -32,7 +38,7 @@ pub record IsConflict (taken delta : List Op) (client : List ℕ) : Type 0 where
   pub is_of : client_of new ≡ client
   pub old : Op
   pub is_old : Contains taken old
-  pub named : ShareName old new
+  pub named : HaveName old new
   pub differs : old ≢ new
 
 -- the set has room for the delta, and what must be kept of it does not contradict it

@@ -147,22 +147,22 @@ step-drafted g predefined seen local a (frames.WillMsg message) now plan e =
     message_at-drafted g seen plan a now (client_at a local.bindings) (dialog_at a local.dialogs) message e
 step-drafted g predefined seen local a (frames.Disconnect duration) now plan e =
     bound-drafted g seen plan a now (λ c. disconnect_draft a c (session_of seen c) duration) (λ c. disconnect-puts a c (session_of seen c) duration)
-      (client_at a local.bindings) (λ bound. disconnect_of g seen a bound duration now) refl (λ c. refl) e
+    (client_at a local.bindings) (λ bound. disconnect_of g seen a bound duration now) refl (λ c. refl) e
 step-drafted g predefined seen local a (frames.Register topic_id msg_id name) now plan e =
     bound-drafted g seen plan a now (λ c. register a (session_of seen c) msg_id name) (λ c. (of_register a (session_of seen c) msg_id name).puts)
-      (client_at a local.bindings) (λ bound. register_of g seen a bound msg_id name now) refl (λ c. refl) e
+    (client_at a local.bindings) (λ bound. register_of g seen a bound msg_id name now) refl (λ c. refl) e
 step-drafted g predefined seen local a (frames.Subscribe flags msg_id topic) now plan e =
     bound-drafted g seen plan a now (λ c. subscribe predefined a (session_of seen c) flags.bits msg_id topic) (λ c. (of_subscribe predefined a (session_of seen c) flags.bits msg_id topic).puts)
-      (client_at a local.bindings) (λ bound. subscribe_of g predefined seen a bound flags.bits msg_id topic now) refl (λ c. refl) e
+    (client_at a local.bindings) (λ bound. subscribe_of g predefined seen a bound flags.bits msg_id topic now) refl (λ c. refl) e
 step-drafted g predefined seen local a (frames.Unsubscribe flags msg_id topic) now plan e =
     bound-drafted g seen plan a now (λ c. unsubscribe predefined a (session_of seen c) flags.bits msg_id topic) (λ c. (of_unsubscribe predefined a (session_of seen c) flags.bits msg_id topic).puts)
-      (client_at a local.bindings) (λ bound. unsubscribe_of g predefined seen a bound flags.bits msg_id topic now) refl (λ c. refl) e
+    (client_at a local.bindings) (λ bound. unsubscribe_of g predefined seen a bound flags.bits msg_id topic now) refl (λ c. refl) e
 step-drafted g predefined seen local a (frames.WillTopicUpd will) now plan e =
     bound-drafted g seen plan a now (λ c. will_topic_update a will) (λ c. (of_will_topic_update a will).puts)
-      (client_at a local.bindings) (λ bound. topic_update_of g seen a bound will now) refl (λ c. refl) e
+    (client_at a local.bindings) (λ bound. topic_update_of g seen a bound will now) refl (λ c. refl) e
 step-drafted g predefined seen local a (frames.WillMsgUpd message) now plan e =
     bound-drafted g seen plan a now (λ c. will_msg_update a (session_of seen c) message) (λ c. (of_will_msg_update a (session_of seen c) message).puts)
-      (client_at a local.bindings) (λ bound. message_update_of g seen a bound message now) refl (λ c. refl) e
+    (client_at a local.bindings) (λ bound. message_update_of g seen a bound message now) refl (λ c. refl) e
 step-drafted g predefined seen local a (frames.Publish flags topic msg_id body) now plan e =
     quiet-drafted g seen plan (published a (client_at a local.bindings) (qos_of flags.bits) now) (published-quiet a (client_at a local.bindings) (qos_of flags.bits) now) e
 step-drafted g predefined seen local a (frames.PingReq client) now plan e =

@@ -70,15 +70,15 @@ module _ (g : ℕ) (c : List ℕ) (S D : List Op) (none : AddsNone g c S D) wher
   seen-before epoch e = same_greatest stamp_cmp stamp_total stamp_exact (takes c S) (takes c (S ++ D))
       (λ s h. has_take c (S ++ D) s ∙ ap is_some (operation_at_both c S D (s, 0)) ∙ some_left (operation_at c S (s, 0)) (operation_at c D (s, 0)) (sym (has_take c S s) ∙ h))
       (subst (λ v. IfSome v (λ s. has stamp_cmp s (takes c S) ≡ true)) (sym e)
-        (has_take c S (stamp_of epoch g) ∙ ap is_some (sym (own-same epoch 0)) ∙ visible-there c (S ++ D) (stamp_of epoch g) e))
+      (has_take c S (stamp_of epoch g) ∙ ap is_some (sym (own-same epoch 0)) ∙ visible-there c (S ++ D) (stamp_of epoch g) e))
 
   pub flush-taken : IsFlush g c S → IsFlush g c (S ++ D)
   flush-taken flush =
       let before : (epoch : ℕ) → visible c (S ++ D) ≡ Some (stamp_of epoch g) → visible c S ≡ Some (stamp_of epoch g) = λ epoch e. seen-before epoch e ∙ e in
       let done : (epoch : ℕ) → visible c (S ++ D) ≡ Some (stamp_of epoch g) → history c (S ++ D) ≡ history c S = λ epoch e.
-          history-own c (S ++ D) (stamp_of epoch g) e
-          ∙ ap (λ (at : ℕ → Option SessionOp). gapless at 256 0) (λ i k. own-same epoch k i)
-          ∙ sym (history-own c S (stamp_of epoch g) (before epoch e)) in
+      history-own c (S ++ D) (stamp_of epoch g) e
+      ∙ ap (λ (at : ℕ → Option SessionOp). gapless at 256 0) (λ i k. own-same epoch k i)
+      ∙ sym (history-own c S (stamp_of epoch g) (before epoch e)) in
       record {
         begun = λ epoch e. ap (λ h. is_some (session_of h)) (done epoch e) ∙ flush.begun epoch (before epoch e);
         nothing_behind = λ epoch k e le. own-same epoch k ∙ flush.nothing_behind epoch k (before epoch e) (subst (λ h. length h ≤ k) (done epoch e) le);

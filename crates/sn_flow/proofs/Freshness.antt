@@ -69,10 +69,10 @@ module _ (g : ℕ) (seq : List ℕ → Option ℕ) where
       let m = and_then-some (λ n. with_puts g seq rest (before ++ put_at_seq g p n ∷ [])) (seq p.client) after e in
       let longer : List Op = before ++ put_at_seq g p m.0 ∷ [] in
       puts-fresh S rest longer after one.1
-          (subst (λ A. AllByRecursion (IsFree A) rest) (append_assoc S before (put_at_seq g p m.0 ∷ []))
-            (all-both (λ (q : NewPut). ¬ (q.client ≡ p.client)) (IsFree (S ++ before)) (IsFree ((S ++ before) ++ put_at_seq g p m.0 ∷ [])) (still_free (S ++ before) p m.0) rest one.0 free.1))
-          (fresh-append S before (put_at_seq g p m.0 ∷ []) fresh (free.0 m.0 m.1, tt))
-          m.2
+      (subst (λ A. AllByRecursion (IsFree A) rest) (append_assoc S before (put_at_seq g p m.0 ∷ []))
+      (all-both (λ (q : NewPut). ¬ (q.client ≡ p.client)) (IsFree (S ++ before)) (IsFree ((S ++ before) ++ put_at_seq g p m.0 ∷ [])) (still_free (S ++ before) p m.0) rest one.0 free.1))
+      (fresh-append S before (put_at_seq g p m.0 ∷ []) fresh (free.0 m.0 m.1, tt))
+      m.2
 
 module _ (g : ℕ) (c : List ℕ) (S : List Op) (d : Drafted) (plan : Plan) (planned : plan_of g c (seen_of S) d ≡ Some plan) where
   abbrev seq_in : List ℕ → Option ℕ
@@ -88,8 +88,8 @@ module _ (g : ℕ) (c : List ℕ) (S : List Op) (d : Drafted) (plan : Plan) (pla
       let none : (e : List ℕ) → puts e before ≡ [] = λ e. none_pass (put_of e) before (all-append (λ op. put_of e op ≡ None) cut.w.ops acks (all-weaken (IsWritten g c) (λ op. put_of e op ≡ None) (written-puts g c e) cut.w.ops (start-written g c (view c S) (next_epoch c S) d.changes cut.w cut.is_written)) (all-map (λ op. put_of e op ≡ None) (ack_of c) (λ name. refl) d.acks)) in
       let free : AllByRecursion (IsFree g seq_in (S ++ before)) d.puts = all-given (IsFree g seq_in (S ++ before)) (λ p n next. puts-other p.client S before (n, g) (none p.client) ∙ unput p.client g S n next) d.puts in
       puts-fresh g seq_in S d.puts before plan.ops one free
-          (fresh-append S cut.w.ops acks (written-fresh g c S flush d.changes cut.w cut.is_written) (acks-fresh c (S ++ cut.w.ops) d.acks))
-          cut.is_numbered
+      (fresh-append S cut.w.ops acks (written-fresh g c S flush d.changes cut.w cut.is_written) (acks-fresh c (S ++ cut.w.ops) d.acks))
+      cut.is_numbered
 
   written-unacked : (op : Op) → IsWritten g c op → IsUnacknowledged S op
   written-unacked (OfSession e stamp counter change) h = tt
@@ -107,8 +107,8 @@ module _ (g : ℕ) (c : List ℕ) (S : List Op) (d : Drafted) (plan : Plan) (pla
       let before : List Op = cut.w.ops ++ acks in
       let b = puts-behind g seq_in d.puts before plan.ops cut.is_numbered in
       subst (AllByRecursion (IsUnacknowledged S)) (sym b.1)
-        (all-append (IsUnacknowledged S) before b.0
-          (all-append (IsUnacknowledged S) cut.w.ops acks
-            (all-weaken (IsWritten g c) (IsUnacknowledged S) written-unacked cut.w.ops (start-written g c (view c S) (next_epoch c S) d.changes cut.w cut.is_written))
-            (all-map (IsUnacknowledged S) (ack_of c) (λ name. tt) d.acks))
-          (all-weaken (IsNumbered g seq_in) (IsUnacknowledged S) numbered-unacked b.0 b.2))
+      (all-append (IsUnacknowledged S) before b.0
+      (all-append (IsUnacknowledged S) cut.w.ops acks
+      (all-weaken (IsWritten g c) (IsUnacknowledged S) written-unacked cut.w.ops (start-written g c (view c S) (next_epoch c S) d.changes cut.w cut.is_written))
+      (all-map (IsUnacknowledged S) (ack_of c) (λ name. tt) d.acks))
+      (all-weaken (IsNumbered g seq_in) (IsUnacknowledged S) numbered-unacked b.0 b.2))

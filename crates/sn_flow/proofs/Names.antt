@@ -72,5 +72,5 @@ none_if P (Some x) h k = absurd (k h)
 pub plan-apart : (g : ℕ) (c : List ℕ) (seen : Seen) (d : Drafted) (plan : Plan) → plan_of g c seen d ≡ Some plan → (other : ℕ) (e : List ℕ) → ¬ (other ≡ g) → HasNoneOf other e plan.ops
 plan-apart g c seen d plan planned other e h epoch counter =
     none_if (other ≡ g) (operation_at e plan.ops (stamp_of epoch other, counter))
-      (find-all operation_cmp operation_exact (operation_of e) (λ n x. n.0.gateway ≡ g) plan.ops (all-weaken (IsOwn g c) (λ op. IfSome (operation_of e op) (λ x. x.0.0.gateway ≡ g)) (own-entry g c e) plan.ops (plan-own g c seen d plan planned)) (stamp_of epoch other, counter))
-      h
+    (find-all operation_cmp operation_exact (operation_of e) (λ n x. n.0.gateway ≡ g) plan.ops (all-weaken (IsOwn g c) (λ op. IfSome (operation_of e op) (λ x. x.0.0.gateway ≡ g)) (own-entry g c e) plan.ops (plan-own g c seen d plan planned)) (stamp_of epoch other, counter))
+    h

@@ -62,10 +62,10 @@ module _ (g : ℕ) (c : List ℕ) (T : List Op) (epoch counter : ℕ) (next : Op
   history-more : history c longer ≡ history c T ++ change ∷ []
   history-more = history-own c longer own seen-more
       ∙ gapless-more (λ k. operation_at c longer (own, k)) (λ k. operation_at c T (own, k)) change 256 0 counter
-          (ap length (sym (history-own c T own at.seen)) ∙ at.prefix) lt
-          (ap (λ k. operation_at c longer (own, k)) (plain counter) ∙ here)
-          (ap (λ k. operation_at c longer (own, k)) after ∙ others (counter + 1) (λ e. omega (arith, e)) ∙ at.behind (counter + 1) (omega arith))
-          (λ j h. others j (λ e. h (e ∙ sym (plain counter))))
+      (ap length (sym (history-own c T own at.seen)) ∙ at.prefix) lt
+      (ap (λ k. operation_at c longer (own, k)) (plain counter) ∙ here)
+      (ap (λ k. operation_at c longer (own, k)) after ∙ others (counter + 1) (λ e. omega (arith, e)) ∙ at.behind (counter + 1) (omega arith))
+      (λ j h. others j (λ e. h (e ∙ sym (plain counter))))
       ∙ ap (λ h. h ++ change ∷ []) (sym (history-own c T own at.seen))
     where
       plain : (n : ℕ) → 0 + n ≡ n
@@ -114,6 +114,7 @@ module _ (g : ℕ) (c : List ℕ) (T : List Op) (e : ℕ) (session : Session) (i
     where
       itself : is_lt (stamp_cmp new new) ≡ false
       itself = not_below_itself new
+
       less : (a b : Stamp) → b.epoch < a.epoch → is_lt (stamp_cmp a b) ≡ false
       less a b h = elim (is_lt (stamp_cmp a b)) as (λ l. is_lt (stamp_cmp a b) ≡ l → l ≡ false) [ true ↦ λ e. absurd (omega (arith, h, below-epoch a b e)) | false ↦ λ _. refl ] refl
 

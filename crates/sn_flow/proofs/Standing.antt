@@ -42,7 +42,7 @@ stands-new S (Ack c origin first last) h = λ seq lower upper.
     let from : (same_client c c && (origin == origin) && nat_le first seq) ≡ true = and_from (same_client c c && (origin == origin)) (nat_le first seq) own (le-leb first seq lower) in
     is_acknowledged_both c S (Ack c origin first last ∷ []) (seq, origin)
     ∙ or_right (is_acknowledged c S (seq, origin)) (is_acknowledged c (Ack c origin first last ∷ []) (seq, origin))
-        (or_left (acknowledges c (seq, origin) (Ack c origin first last)) false (and_from (same_client c c && (origin == origin) && nat_le first seq) (nat_le seq last) from (le-leb seq last upper)))
+    (or_left (acknowledges c (seq, origin) (Ack c origin first last)) false (and_from (same_client c c && (origin == origin) && nat_le first seq) (nat_le seq last) from (le-leb seq last upper)))
 
 pub fresh-stand : (S ops : List Op) → AreFresh S ops → AllByRecursion (Stands (S ++ ops)) ops
 fresh-stand S [] f = tt
@@ -92,7 +92,7 @@ if_there None p q h e s = absurd (true≢false (sym s ∙ ap is_some e))
 if_there (Some x) p q h e s = h
 
 -- a list has something under the name of each of its operations
-abbrev IsThere : List Op → Op → Type 0
+abbrev pub IsThere : List Op → Op → Type 0
 IsThere D (OfSession c stamp counter change) = is_some (operation_at c D (stamp, counter)) ≡ true
 IsThere D (OfPut c p) = is_some (put_at c D (p.seq, p.origin)) ≡ true
 IsThere D (Ack c origin first last) = Unit {0}
@@ -107,7 +107,7 @@ there-first (OfSession c stamp counter change) D = ap is_some (operation_at_both
 there-first (OfPut c p) D = ap is_some (put_at_both c (OfPut c p ∷ []) D (p.seq, p.origin)) ∙ some_left (put_at c (OfPut c p ∷ []) (p.seq, p.origin)) (put_at c D (p.seq, p.origin)) (ap is_some (put-alone c p))
 there-first (Ack c origin first last) D = tt
 
-all-there : (D : List Op) → AllByRecursion (IsThere D) D
+pub all-there : (D : List Op) → AllByRecursion (IsThere D) D
 all-there [] = tt
 all-there (op ∷ D) = (there-first op D, all-weaken (IsThere D) (IsThere (op ∷ D)) (there-behind op D) D (all-there D))
 
@@ -120,10 +120,10 @@ pub fresh-absent : (S ops : List Op) → AreFresh S ops → (c : List ℕ) (name
 fresh-absent S ops f c name = find-all operation_cmp operation_exact (operation_of c) (λ n x. operation_at c S n ≡ None) ops (all-weaken (IsFresh S) (λ op. IfSome (operation_of c op) (λ e. operation_at c S e.0 ≡ None)) (fresh-operation S c) ops (all-fresh S ops f)) name
 
 module _ (S ops : List Op) (f : AreFresh S ops) (delta : List Op) (same : Same delta ops) where
-  new-operation : (c : List ℕ) (name : Stamp × ℕ) → is_some (operation_at c delta name) ≡ true → operation_at c S name ≡ None
+  pub new-operation : (c : List ℕ) (name : Stamp × ℕ) → is_some (operation_at c delta name) ≡ true → operation_at c S name ≡ None
   new-operation c name = if_there (operation_at c ops name) (operation_at c delta name) (operation_at c S name) (fresh-absent S ops f c name) (same.operations_same c name)
 
-  new-put : (c : List ℕ) (name : ℕ × ℕ) → is_some (put_at c delta name) ≡ true → put_at c S name ≡ None
+  pub new-put : (c : List ℕ) (name : ℕ × ℕ) → is_some (put_at c delta name) ≡ true → put_at c S name ≡ None
   new-put c name = if_there (put_at c ops name) (put_at c delta name) (put_at c S name)
       (find-all put_cmp put_exact (put_of c) (λ n x. put_at c S n ≡ None) ops (all-weaken (IsFresh S) (λ op. IfSome (put_of c op) (λ e. put_at c S e.0 ≡ None)) (fresh-put S c) ops (all-fresh S ops f)) name)
       (same.puts_same c name)

@@ -1,8 +1,9 @@
 -- What the laws of plans say of a plan that a gateway takes as a delta.
-use Rattle.std.proofs.Common.{◌≡◌, ℕ, ◌⊎◌, true, List, ◌++◌, Some, ap, ◌∙◌, inl, inr}
+use Rattle.std.proofs.Common.{◌≡◌, ℕ, ◌⊎◌, true, List, ◌++◌, Some, None, is_some, ap, ◌∙◌, inl, inr}
+use Rattle.rep_ops.specs.declared.op.Stamp.{Stamp}
 use Rattle.rep_ops.specs.declared.op.Put.{Put}
 use Rattle.rep_ops.specs.declared.op.Op.{Op}
-use Rattle.rep_ops.specs.Sets.{is_acknowledged, Same}
+use Rattle.rep_ops.specs.Sets.{operation_at, put_at, is_acknowledged, Same}
 use Rattle.rep_model.specs.Views.{pending_at}
 use Rattle.rep_model.specs.Keep.{keep}
 use Rattle.rep_model.specs.Taking.{AllAgree}
@@ -13,7 +14,7 @@ use Rattle.sn_flow.specs.Plans.{seen_of}
 use Rattle.sn_flow.specs.Own.{AddsNone, IsOfDraft}
 use Rattle.sn_flow.specs.Flush.{IsFlush, AreFlush}
 use Rattle.sn_flow.proofs.Freshness.{plan-fresh}
-use Rattle.sn_flow.proofs.Standing.{plan-fits}
+use Rattle.sn_flow.proofs.Standing.{plan-fits, new-operation, new-put}
 use Rattle.sn_flow.proofs.Leaving.{plan-leaves}
 use Rattle.sn_flow.proofs.Known.{known-own, known-others, same-behind}
 use Rattle.sn_flow.proofs.Flushness.{flush-step, flush-same}
@@ -38,3 +39,10 @@ module _ (g : ℕ) (S : List Op) (plan : Plan) (p : IsOfDraft g (seen_of S) plan
 
   pub step-foreign : (other : ℕ) → ¬ (other ≡ g) → (e : List ℕ) (T : List Op) → AddsNone other e T delta
   step-foreign other h e T = known-others g p.client (seen_of S) p.draft plan p.is delta same other h e T
+
+  -- what stands in it did not stand before
+  pub step-new_operation : AreFlush g S → (c : List ℕ) (name : Stamp × ℕ) → is_some (operation_at c delta name) ≡ true → operation_at c S name ≡ None
+  step-new_operation flush = new-operation S plan.ops (plan-fresh g p.client S p.draft plan p.is (flush p.client) p.one_each) delta same
+
+  pub step-new_put : AreFlush g S → (c : List ℕ) (name : ℕ × ℕ) → is_some (put_at c delta name) ≡ true → put_at c S name ≡ None
+  step-new_put flush = new-put S plan.ops (plan-fresh g p.client S p.draft plan p.is (flush p.client) p.one_each) delta same
