@@ -110,7 +110,7 @@ fn refuse(alloc: Global, to: Addr, msg_id: u16, code: u8) -> Result<Draft, StepF
     Draft::reply(alloc, to, &answer)
 }
 
-/// REGISTER: the client gives a topic a name and asks for its id, which it knows from then on. REGACK has it, or says why
+/// REGISTER: the client names a topic and asks for its id, which it knows from then on. REGACK has the id, or says why
 /// there is none: the octets are no topic name, or 256 ids are in use.
 pub fn register(
     alloc: Global,
