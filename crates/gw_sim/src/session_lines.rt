@@ -97,10 +97,16 @@ fn print_received(text: &mut String, ids: &[u16]) -> Result<(), AllocError>
     ensures { OnOk result (string_bytes text.new ≡ string_bytes text.old ++ flat_map received_line ids.now) }
 {
     for id in ids {
-        let id = *id;
-        writeln!(text, "  received {id}")?;
+        print_id(text, *id)?;
     }
     Ok(())
+}
+
+/// The line of a message id that was received.
+fn print_id(text: &mut String, id: u16) -> Result<(), AllocError>
+    ensures { OnOk result (string_bytes text.new ≡ string_bytes text.old ++ received_line id) }
+{
+    writeln!(text, "  received {id}")
 }
 
 /// The line of an exchange, if there is one.
