@@ -97,15 +97,16 @@ fn print_received(text: &mut String, ids: &[u16]) -> Result<(), AllocError>
     ensures { OnOk result (string_bytes text.new ≡ string_bytes text.old ++ flat_map received_line ids.now) }
 {
     for id in ids {
-        print_id(text, *id)?;
+        print_id(text, id)?;
     }
     Ok(())
 }
 
 /// The line of a message id that was received.
-fn print_id(text: &mut String, id: u16) -> Result<(), AllocError>
-    ensures { OnOk result (string_bytes text.new ≡ string_bytes text.old ++ received_line id) }
+fn print_id(text: &mut String, id: &u16) -> Result<(), AllocError>
+    ensures { OnOk result (string_bytes text.new ≡ string_bytes text.old ++ received_line id.now) }
 {
+    let id = *id;
     writeln!(text, "  received {id}")
 }
 
