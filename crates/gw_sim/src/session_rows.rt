@@ -90,7 +90,7 @@ fn there_is_room_for_256_subscriptions(rt: HostRuntime) -> Result<(), Fail> {
     for number in 0..256u16 {
         let filter = filter_of(alloc, number)?;
         let message = number + 1;
-        let octets = [(message >> 8) as u8, message as u8];
+        let octets = [(message / 256) as u8, (message % 256) as u8];
         let id = hexadecimal(alloc, &octets)?;
         let delta = number + 2;
         let line = format!(in alloc; "frame 1 7 1 0b1220{id}{filter}\n")?;

@@ -2,7 +2,7 @@
 
 use crate::{
     Outbound, Phase, Presence, Received, Session, SessionFault, SessionOp, Subscription,
-    Subscriptions, TopicEntry, Topics, Will, WillTopic,
+    Subscriptions, TopicEntry, Topics, WillTopic,
 };
 use octets::Octets;
 use sn_topic::{Filter, TopicName};
@@ -45,39 +45,76 @@ fn subscribe(rt: &impl Abort, alloc: Global, text: &str, qos: u8) -> SessionOp {
     }
 }
 
-// A session with something in each field.
-fn full_of_life(rt: &impl Abort, alloc: Global) -> Session {
+/// Changes a session. It has no clause, so that a test's proof does not grow with each change.
+fn change(rt: &impl Abort, alloc: Global, session: &mut Session, change: &SessionOp) {
+    assert!(rt; session.apply(alloc, change).is_ok());
+}
+
+/// Asks for a change that finds its table full.
+fn refuse(rt: &impl Abort, alloc: Global, session: &mut Session, change: &SessionOp) {
+    assert!(rt; matches!(session.apply(alloc, change), Err(SessionFault::Full)));
+}
+
+/// The id of a topic name.
+fn check_id(rt: &impl Abort, alloc: Global, session: &Session, text: &str, id: Option<u16>) {
+    assert!(rt; session.topic_id(&name(rt, alloc, text)) == id);
+}
+
+/// The quality of service of a filter.
+fn check_filter(rt: &impl Abort, alloc: Global, session: &Session, text: &str, qos: Option<u8>) {
+    assert!(rt; session.subscription(&filter(rt, alloc, text.as_bytes())) == qos);
+}
+
+/// The greatest quality of service that is asked for a topic.
+fn check_topic(rt: &impl Abort, alloc: Global, session: &Session, text: &str, qos: Option<u8>) {
+    assert!(rt; session.subscribed_qos(&name(rt, alloc, text)) == qos);
+}
+
+/// A session with two topic ids and two subscriptions.
+fn with_tables(rt: &impl Abort, alloc: Global) -> Session {
     let mut session = Session::empty(alloc);
-    let asked = WillTopic {
-        topic: name(rt, alloc, "w"),
+    change(rt, alloc, &mut session, &register(rt, alloc, 2, "t/a"));
+    change(rt, alloc, &mut session, &register(rt, alloc, 1, "t/b"));
+    change(rt, alloc, &mut session, &subscribe(rt, alloc, "t/#", 1));
+    change(rt, alloc, &mut session, &subscribe(rt, alloc, "+/a", 2));
+    session
+}
+
+/// The change to a will with this topic.
+fn will_topic(rt: &impl Abort, alloc: Global, text: &str) -> SessionOp {
+    SessionOp::WillTopic(Some(WillTopic {
+        topic: name(rt, alloc, text),
         qos: 1,
         retain: true,
-    };
-    let exchange = Outbound {
-        origin: 3,
-        seq: 7,
-        msg_id: 9,
-        phase: Phase::Published,
-    };
-    for change in [
-        SessionOp::Presence {
-            presence: Presence::Asleep,
-            duration: 300,
-        },
-        register(rt, alloc, 2, "t/a"),
-        register(rt, alloc, 1, "t/b"),
-        subscribe(rt, alloc, "t/#", 1),
-        subscribe(rt, alloc, "+/a", 2),
-        SessionOp::WillTopic(Some(asked)),
-        SessionOp::WillMsg(message(rt, alloc, "bye")),
-        SessionOp::Received { id: 5 },
-        SessionOp::Outbound {
-            exchange: Some(exchange),
-            next_id: 10,
-        },
-    ] {
-        assert_eq!(rt; session.apply(alloc, &change), Ok(()));
+    }))
+}
+
+/// The change to an exchange.
+fn begun() -> SessionOp {
+    SessionOp::Outbound {
+        exchange: Some(Outbound {
+            origin: 3,
+            seq: 7,
+            msg_id: 9,
+            phase: Phase::Published,
+        }),
+        next_id: 10,
     }
+}
+
+/// A session with something in each field.
+fn full_of_life(rt: &impl Abort, alloc: Global) -> Session {
+    let mut session = with_tables(rt, alloc);
+    let asleep = SessionOp::Presence {
+        presence: Presence::Asleep,
+        duration: 300,
+    };
+    change(rt, alloc, &mut session, &asleep);
+    change(rt, alloc, &mut session, &will_topic(rt, alloc, "w"));
+    let said = SessionOp::WillMsg(message(rt, alloc, "bye"));
+    change(rt, alloc, &mut session, &said);
+    change(rt, alloc, &mut session, &SessionOp::Received { id: 5 });
+    change(rt, alloc, &mut session, &begun());
     session
 }
 
@@ -85,37 +122,38 @@ fn full_of_life(rt: &impl Abort, alloc: Global) -> Session {
 fn operations_change_what_they_name(rt: HostRuntime) {
     let alloc = rt.alloc();
     let session = full_of_life(&rt, alloc);
-    assert_eq!(rt; session.presence, Presence::Asleep);
-    assert_eq!(rt; session.duration, 300);
-    assert_eq!(rt; session.next_id, 10);
-    assert_eq!(rt; session.topics.len(), 2);
-    assert_eq!(rt; session.topics.as_slice()[0].id, 1);
-    assert_eq!(rt; session.topic_id(&name(&rt, alloc, "t/a")), Some(2));
-    assert_eq!(rt; session.topic_id(&name(&rt, alloc, "t/c")), None);
-    assert_eq!(rt; session.subscription(&filter(&rt, alloc, b"+/a")), Some(2));
-    assert_eq!(rt; session.subscription(&filter(&rt, alloc, b"t/a")), None);
-    assert_eq!(rt; session.is_received(5), true);
-    assert_eq!(rt; session.is_received(6), false);
-    assert_eq!(rt; session.outbound.is_some(), true);
+    assert!(rt; session.presence == Presence::Asleep && session.duration == 300);
+    assert!(rt; session.next_id == 10 && session.outbound.is_some());
+    assert!(rt; session.is_received(5) && !session.is_received(6));
+    assert!(rt; session.topics.len() == 2);
+    check_id(&rt, alloc, &session, "t/a", Some(2));
+    check_id(&rt, alloc, &session, "t/c", None);
+    check_filter(&rt, alloc, &session, "+/a", Some(2));
+    check_filter(&rt, alloc, &session, "t/a", None);
+}
+
+/// An equal session.
+fn copied(rt: &impl Abort, alloc: Global, session: &Session) -> Session {
+    match session.copy(alloc) {
+        Ok(copied) => copied,
+        Err(_) => panic!(rt; "out of memory"),
+    }
+}
+
+/// Whether two sessions are equal, as `==` says.
+fn is_equal(a: &Session, b: &Session) -> bool {
+    a == b
 }
 
 #[test]
 fn copies_are_equal(rt: HostRuntime) {
     let alloc = rt.alloc();
     let session = full_of_life(&rt, alloc);
-    let Ok(copied) = session.copy(alloc) else {
-        panic!(rt; "out of memory");
-    };
-    assert!(rt; copied == session);
     let mut other = Session::empty(alloc);
-    assert!(rt; other != session);
-    let taken = SessionOp::Take(copied);
-    let Ok(again) = taken.copy(alloc) else {
-        panic!(rt; "out of memory");
-    };
-    assert!(rt; again == taken);
-    assert_eq!(rt; other.apply(alloc, &taken), Ok(()));
-    assert!(rt; other == session);
+    assert!(rt; !is_equal(&other, &session));
+    let taken = SessionOp::Take(copied(&rt, alloc, &session));
+    change(&rt, alloc, &mut other, &taken);
+    assert!(rt; is_equal(&other, &session));
 }
 
 #[test]
@@ -124,99 +162,77 @@ fn the_257th_is_refused(rt: HostRuntime) {
     let mut session = Session::empty(alloc);
     for first in 0..16u8 {
         for second in 0..16u8 {
-            let change = SessionOp::Subscribe {
+            let asked = SessionOp::Subscribe {
                 filter: filter(&rt, alloc, &[b'a' + first, b'a' + second]),
                 qos: 0,
             };
-            assert_eq!(rt; session.apply(alloc, &change), Ok(()));
+            change(&rt, alloc, &mut session, &asked);
         }
     }
     let next = subscribe(&rt, alloc, "zz", 1);
-    assert_eq!(rt; session.is_full(&next), true);
-    assert_eq!(rt; session.apply(alloc, &next), Err(SessionFault::Full));
-    assert_eq!(rt; session.subscriptions.len(), 256);
-    let there = subscribe(&rt, alloc, "aa", 1);
-    assert_eq!(rt; session.apply(alloc, &there), Ok(()));
+    refuse(&rt, alloc, &mut session, &next);
+    change(&rt, alloc, &mut session, &subscribe(&rt, alloc, "aa", 1));
     let gone = SessionOp::Unsubscribe {
         filter: filter(&rt, alloc, b"ab"),
     };
-    assert_eq!(rt; session.apply(alloc, &gone), Ok(()));
-    assert_eq!(rt; session.apply(alloc, &next), Ok(()));
-    assert_eq!(rt; session.subscription(&filter(&rt, alloc, b"aa")), Some(1));
-    assert_eq!(rt; SessionFault::Full.number(), 1);
+    change(&rt, alloc, &mut session, &gone);
+    change(&rt, alloc, &mut session, &next);
+    check_filter(&rt, alloc, &session, "aa", Some(1));
 }
 
 #[test]
 fn topic_ids_are_set_and_found(rt: HostRuntime) {
     let alloc = rt.alloc();
     let mut session = Session::empty(alloc);
-    assert_eq!(rt; session.free_id(), Some(1));
-    for change in [
-        register(&rt, alloc, 4, "t"),
-        register(&rt, alloc, 1, "a"),
-        register(&rt, alloc, 2, "t"),
-    ] {
-        assert_eq!(rt; session.apply(alloc, &change), Ok(()));
-    }
-    assert_eq!(rt; session.free_id(), Some(3));
-    assert_eq!(rt; session.topic_id(&name(&rt, alloc, "t")), Some(2));
-    assert_eq!(rt; session.apply(alloc, &register(&rt, alloc, 2, "b")), Ok(()));
-    assert_eq!(rt; session.topic_id(&name(&rt, alloc, "t")), Some(4));
-    assert_eq!(rt; session.topics.len(), 3);
+    change(&rt, alloc, &mut session, &register(&rt, alloc, 4, "t"));
+    change(&rt, alloc, &mut session, &register(&rt, alloc, 1, "a"));
+    change(&rt, alloc, &mut session, &register(&rt, alloc, 2, "t"));
+    assert!(rt; session.free_id() == Some(3));
+    check_id(&rt, alloc, &session, "t", Some(2));
+    change(&rt, alloc, &mut session, &register(&rt, alloc, 2, "b"));
+    check_id(&rt, alloc, &session, "t", Some(4));
     for id in 5..258u16 {
-        let change = register(&rt, alloc, id, "t");
-        assert_eq!(rt; session.apply(alloc, &change), Ok(()));
+        change(&rt, alloc, &mut session, &register(&rt, alloc, id, "t"));
     }
-    assert_eq!(rt; session.topics.len(), 256);
-    assert_eq!(rt; session.free_id(), None);
-    let next = register(&rt, alloc, 300, "t");
-    assert_eq!(rt; session.apply(alloc, &next), Err(SessionFault::Full));
+    assert!(rt; session.topics.len() == 256 && session.free_id().is_none());
+    refuse(&rt, alloc, &mut session, &register(&rt, alloc, 300, "t"));
 }
 
 #[test]
 fn the_greatest_quality_of_service_counts(rt: HostRuntime) {
     let alloc = rt.alloc();
-    let mut session = Session::empty(alloc);
-    for change in [
-        subscribe(&rt, alloc, "t/#", 2),
-        subscribe(&rt, alloc, "t/a", 0),
-        subscribe(&rt, alloc, "#", 1),
-    ] {
-        assert_eq!(rt; session.apply(alloc, &change), Ok(()));
+    let mut session = with_tables(&rt, alloc);
+    change(&rt, alloc, &mut session, &subscribe(&rt, alloc, "#", 0));
+    check_topic(&rt, alloc, &session, "t/a", Some(2));
+    check_topic(&rt, alloc, &session, "t/b", Some(1));
+    check_topic(&rt, alloc, &session, "x", Some(0));
+    check_topic(&rt, alloc, &session, "$x", None);
+}
+
+/// The will has this topic and this message.
+fn check_will(rt: &impl Abort, session: &Session, topic: &[u8], said: &[u8]) {
+    match &session.will {
+        Some(will) => {
+            assert!(rt; will.topic.bytes() == topic && will.message.as_slice() == said)
+        }
+        None => panic!(rt; "there is no will"),
     }
-    assert_eq!(rt; session.subscribed_qos(&name(&rt, alloc, "t/a")), Some(2));
-    assert_eq!(rt; session.subscribed_qos(&name(&rt, alloc, "x")), Some(1));
-    assert_eq!(rt; session.subscribed_qos(&name(&rt, alloc, "$x")), None);
 }
 
 #[test]
 fn a_will_keeps_its_message(rt: HostRuntime) {
     let alloc = rt.alloc();
     let mut session = Session::empty(alloc);
-    let early = SessionOp::WillMsg(message(&rt, alloc, "early"));
-    assert_eq!(rt; session.apply(alloc, &early), Ok(()));
-    assert_eq!(rt; session.will.is_none(), true);
-    for (text, said) in [("w", "bye"), ("v", "bye")] {
-        let asked = SessionOp::WillTopic(Some(WillTopic {
-            topic: name(&rt, alloc, text),
-            qos: 1,
-            retain: false,
-        }));
-        assert_eq!(rt; session.apply(alloc, &asked), Ok(()));
-        if text == "w" {
-            let change = SessionOp::WillMsg(message(&rt, alloc, said));
-            assert_eq!(rt; session.apply(alloc, &change), Ok(()));
-        }
-    }
-    let want = Will {
-        topic: name(&rt, alloc, "v"),
-        qos: 1,
-        retain: false,
-        message: message(&rt, alloc, "bye"),
-    };
-    assert!(rt; session.will == Some(want));
-    assert_eq!(rt; session.apply(alloc, &SessionOp::WillTopic(None)), Ok(()));
-    assert_eq!(rt; session.will.is_none(), true);
+    let said = SessionOp::WillMsg(message(&rt, alloc, "bye"));
+    change(&rt, alloc, &mut session, &said);
+    assert!(rt; session.will.is_none());
+    change(&rt, alloc, &mut session, &will_topic(&rt, alloc, "w"));
+    check_will(&rt, &session, b"w", b"");
+    change(&rt, alloc, &mut session, &said);
+    change(&rt, alloc, &mut session, &will_topic(&rt, alloc, "v"));
+    check_will(&rt, &session, b"v", b"bye");
+    change(&rt, alloc, &mut session, &SessionOp::WillTopic(None));
+    assert!(rt; session.will.is_none());
 }
 
 #[test]
@@ -224,11 +240,11 @@ fn received_ids_come_and_go(rt: HostRuntime) {
     let alloc = rt.alloc();
     let mut session = Session::empty(alloc);
     for id in [5, 3, 5, 9u16] {
-        assert_eq!(rt; session.apply(alloc, &SessionOp::Received { id }), Ok(()));
+        change(&rt, alloc, &mut session, &SessionOp::Received { id });
     }
     assert!(rt; session.received.as_slice() == [3, 5, 9].as_slice());
     for id in [5, 4u16] {
-        assert_eq!(rt; session.apply(alloc, &SessionOp::Released { id }), Ok(()));
+        change(&rt, alloc, &mut session, &SessionOp::Released { id });
     }
     assert!(rt; session.received.as_slice() == [3, 9].as_slice());
 }
