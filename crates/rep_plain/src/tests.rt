@@ -6,6 +6,7 @@ use rep_ops::{ClientId, Delta, Op, Put, Stamp};
 use sn_session::{Presence, Session, SessionOp};
 use sn_topic::TopicName;
 use std::alloc::Global;
+use std::process::Abort;
 use std::test::Fail;
 
 /// The client of the worked examples.
@@ -289,33 +290,57 @@ fn too_many_clients(rt: HostRuntime) -> Result<(), Fail> {
     Ok(())
 }
 
+/// Operations below the visible stamp, visible, parked in the visible stamp, and under a stamp without a
+/// Take.
+fn take_sessions(alloc: Global, replica: &mut Plain) -> Result<(), Fail> {
+    take_one(alloc, replica, claim(alloc, 1, 1, 60)?)?;
+    take_one(alloc, replica, asleep(alloc, 3, 1, 300)?)?;
+    take_one(alloc, replica, claim(alloc, 2, 1, 90)?)?;
+    take_one(alloc, replica, asleep(alloc, 2, 2, 400)?)?;
+    Ok(())
+}
+
+/// Of the messages 1 to 4 all but the fourth are acknowledged, and so is one that is not there.
+fn take_messages(alloc: Global, replica: &mut Plain) -> Result<(), Fail> {
+    for below in 0..4u64 {
+        take_one(alloc, replica, message(alloc, below + 1)?)?;
+    }
+    take_one(alloc, replica, acknowledged(alloc, 1, 2)?)?;
+    take_one(alloc, replica, acknowledged(alloc, 2, 3)?)?;
+    take_one(alloc, replica, acknowledged(alloc, 7, 7)?)?;
+    Ok(())
+}
+
+/// The sessions that must be kept.
+fn check_sessions(rt: &impl Abort, alloc: Global, ops: &[Op]) -> Result<(), Fail> {
+    assert_eq!(rt; ops.len(), 6);
+    assert!(rt; ops[0] == claim(alloc, 2, 1, 90)?);
+    assert!(rt; ops[1] == asleep(alloc, 2, 2, 400)?);
+    assert!(rt; ops[2] == asleep(alloc, 3, 1, 300)?);
+    Ok(())
+}
+
+/// The message and the acknowledgements that must be kept.
+fn check_messages(rt: &impl Abort, alloc: Global, ops: &[Op]) -> Result<(), Fail> {
+    assert_eq!(rt; ops.len(), 6);
+    assert!(rt; ops[3] == message(alloc, 4)?);
+    assert!(rt; ops[4] == acknowledged(alloc, 1, 3)?);
+    assert!(rt; ops[5] == acknowledged(alloc, 7, 7)?);
+    Ok(())
+}
+
 #[test]
 fn what_must_be_kept_is_held(rt: HostRuntime) -> Result<(), Fail> {
     let alloc = rt.alloc();
     let mut replica = Plain::empty(alloc)?;
     assert_eq!(rt; replica.held(alloc)?.len(), 0);
-    // below the visible stamp, visible, parked in the visible stamp, and under a stamp without a Take
-    take_one(alloc, &mut replica, claim(alloc, 1, 1, 60)?)?;
-    take_one(alloc, &mut replica, asleep(alloc, 3, 1, 300)?)?;
-    take_one(alloc, &mut replica, claim(alloc, 2, 1, 90)?)?;
-    take_one(alloc, &mut replica, asleep(alloc, 2, 2, 400)?)?;
-    // of the messages 1 to 4 all but the fourth are acknowledged
-    for below in 0..4u64 {
-        take_one(alloc, &mut replica, message(alloc, below + 1)?)?;
-    }
-    take_one(alloc, &mut replica, acknowledged(alloc, 1, 2)?)?;
-    take_one(alloc, &mut replica, acknowledged(alloc, 2, 3)?)?;
-    take_one(alloc, &mut replica, acknowledged(alloc, 7, 7)?)?;
+    take_sessions(alloc, &mut replica)?;
+    take_messages(alloc, &mut replica)?;
     let deltas = replica.held(alloc)?;
     assert_eq!(rt; deltas.len(), 1);
     for delta in &deltas {
-        assert_eq!(rt; delta.ops().len(), 6);
-        assert!(rt; delta.ops()[0] == claim(alloc, 2, 1, 90)?);
-        assert!(rt; delta.ops()[1] == asleep(alloc, 2, 2, 400)?);
-        assert!(rt; delta.ops()[2] == asleep(alloc, 3, 1, 300)?);
-        assert!(rt; delta.ops()[3] == message(alloc, 4)?);
-        assert!(rt; delta.ops()[4] == acknowledged(alloc, 1, 3)?);
-        assert!(rt; delta.ops()[5] == acknowledged(alloc, 7, 7)?);
+        check_sessions(&rt, alloc, delta.ops())?;
+        check_messages(&rt, alloc, delta.ops())?;
     }
     Ok(())
 }
