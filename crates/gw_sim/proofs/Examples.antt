@@ -9,7 +9,8 @@ use Rattle.gw_world.specs.declared.world.WorldFault.TheVariants as world_faults
 use Rattle.sn_frame.specs.declared.fault.FrameFault.TheVariants as frame_faults
 use Rattle.gw_sim.specs.Commands.{fields_of}
 use Rattle.gw_sim.specs.Numbers.{value_of}
-use Rattle.gw_sim.specs.Printing.{line_end, send_line, fault_line, put_line, client_text, answers_text, world_fault_line, bad_line_text}
+use Rattle.gw_sim.specs.Texts.{line_end}
+use Rattle.gw_sim.specs.Printing.{send_line, fault_line, put_line, client_text, answers_text, world_fault_line, bad_line_text}
 
 -- a field of leading zeros
 zeros : value_of (codes "0040") ≡ 40

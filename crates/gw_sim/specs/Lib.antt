@@ -4,3 +4,5 @@ pub mod Octets
 pub mod Printing
 pub mod Scripts
 pub mod Playing
+pub mod Sessions
+pub mod Texts

@@ -1,7 +1,6 @@
 -- What answers are printed as. Each line ends with a line feed.
 use Rattle.std.specs.Prelude.{ℕ, ◌+◌, ◌∷◌, List, [], ◌++◌, Option, Some, None, Ok, Err, Bool, true, false, if◌then◌else◌, codes, flat_map, is_some}
 use Rattle.std.specs.Fmt.{decimal}
-use Rattle.hex.specs.Hex.{encode_lower}
 use Rattle.sn_frame.specs.Faults.{fault_number}
 use Rattle.sn_session.specs.declared.presence.Presence.{Presence}
 use Rattle.sn_session.specs.declared.presence.Presence.TheVariants as presences
@@ -18,20 +17,8 @@ use Rattle.gw_world.specs.declared.event.NodeFault.TheVariants as node_faults
 use Rattle.gw_world.specs.declared.event.Out.{Out}
 use Rattle.gw_world.specs.declared.world.WorldFault.{WorldFault}
 use Rattle.gw_world.specs.declared.world.WorldFault.TheVariants as world_faults
-
-infixr 65 ◌▹◌
--- a text and then another
-abbrev pub ◌▹◌ : List ℕ → List ℕ → List ℕ
-a ▹ b = a ++ b
-
--- octets in lower-case hexadecimal digits, a dash for none
-abbrev pub hex_text : List ℕ → List ℕ
-hex_text [] = codes "-"
-hex_text (octet ∷ rest) = encode_lower (octet ∷ rest)
-
--- the end of a line
-abbrev pub line_end : List ℕ
-line_end = 10 ∷ []
+use Rattle.gw_sim.specs.Texts.{◌▹◌, hex_text, line_end}
+use Rattle.gw_sim.specs.Sessions.{tables_text}
 
 -- a datagram: its port and its octets
 abbrev pub send_line : Send → List ℕ
@@ -96,9 +83,14 @@ put_line put =
     codes "  put " ▹ decimal put.seq ▹ codes "." ▹ decimal put.origin ▹ codes " " ▹ decimal put.qos ▹ codes " " ▹ hex_text put.topic
     ▹ codes " " ▹ hex_text put.body ▹ line_end
 
--- a client with its messages
+-- the tables of the client's session, if it has one
+abbrev pub session_lines : Option Stamp → Option Session → List ℕ
+session_lines (Some stamp) (Some session) = tables_text session
+session_lines stamp session = []
+
+-- a client with its session and its messages
 abbrev pub client_text : List ℕ × ClientView → List ℕ
-client_text (client, view) = client_line client view ▹ flat_map put_line view.pending
+client_text (client, view) = client_line client view ▹ session_lines view.stamp view.session ▹ flat_map put_line view.pending
 
 -- the clients that a gateway knows
 abbrev pub views_text : List (List ℕ × ClientView) → List ℕ

@@ -8,7 +8,7 @@
 //! - `number`, `bytes`: fields of a line.
 //! - `command`: what a line says (`Command`).
 //! - `script`: what the lines say together (`Script`).
-//! - `printing`: answers as text.
+//! - `printing`, `session_lines`, `text`: answers as text.
 //! - `play`: all of it, up to the exit status.
 //! - `replica`: what the gateways keep their operations in.
 //! - `fault`: why a line, or a script, is refused.
@@ -22,9 +22,13 @@ mod play;
 mod printing;
 mod replica;
 mod script;
+mod session_lines;
+#[cfg(test)]
+mod session_rows;
 mod source;
 #[cfg(test)]
 mod tests;
+mod text;
 
 use play::play;
 use source::Counted;

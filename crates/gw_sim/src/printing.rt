@@ -3,8 +3,10 @@
 //! Each function appends lines to a text, and each line ends with a line feed.
 
 ghost use Rattle.std.specs.Prelude.{◌≡◌, ◌+◌, ◌^◌, ◌<◌, ◌++◌, IfOk, OnOk, flat_map, string_bytes};
-ghost use Rattle.gw_sim.specs.Printing.{answers_text, answer_text, deltas_after, out_text, send_line, fault_line, views_text, client_text, client_line, kind_word, stamp_text, session_text, put_line, hex_text, presence_word, world_fault_line, bad_line_text};
+ghost use Rattle.gw_sim.specs.Printing.{answers_text, answer_text, deltas_after, out_text, send_line, fault_line, views_text, client_text, client_line, kind_word, stamp_text, session_text, session_lines, put_line, presence_word, world_fault_line, bad_line_text};
 
+use super::session_lines::print_tables;
+use super::text::hexadecimal;
 use gw_world::{Answer, NodeFault, Out, WorldFault};
 use rep_model::ClientView;
 use rep_ops::{ClientId, Put, Stamp};
@@ -132,6 +134,7 @@ fn print_view(
 {
     let (client, view) = seen;
     print_client(alloc, text, client, view)?;
+    print_session(alloc, text, view)?;
     print_puts(alloc, text, view.pending.as_slice())
 }
 
@@ -153,6 +156,16 @@ fn print_client(
             writeln!(text, "client {id} stamp {stamp} prefix {prefix} {session}")
         }
         _ => writeln!(text, "client {id} stamp none"),
+    }
+}
+
+/// The lines of a client's session, if it has one.
+fn print_session(alloc: Global, text: &mut String, view: &ClientView) -> Result<(), AllocError>
+    ensures { OnOk result (string_bytes text.new ≡ string_bytes text.old ++ session_lines view.now.stamp view.now.session) }
+{
+    match (&view.stamp, &view.session) {
+        (Some(_), Some(session)) => print_tables(alloc, text, session),
+        _ => Ok(()),
     }
 }
 
@@ -215,16 +228,6 @@ fn print_put(alloc: Global, text: &mut String, put: &Put) -> Result<(), AllocErr
     let topic = hexadecimal(alloc, put.topic.bytes())?;
     let body = hexadecimal(alloc, put.body.as_slice())?;
     writeln!(text, "  put {seq}.{origin} {qos} {topic} {body}")
-}
-
-/// Octets in lower-case hexadecimal digits, `-` for none.
-fn hexadecimal(alloc: Global, octets: &[u8]) -> Result<String, AllocError>
-    ensures { IfOk result (λ text. string_bytes text ≡ hex_text octets.now) }
-{
-    match octets {
-        [] => String::from_str(alloc, "-"),
-        _ => hex::encode(alloc, octets),
-    }
 }
 
 /// The line of a run that has no result.

@@ -12,15 +12,15 @@ use rep_model::{ClientView, Puts};
 use rep_ops::{ClientId, Put, Stamp};
 use sn_flow::{Addr, Send};
 use sn_frame::FrameFault;
-use sn_session::{Presence, Session};
-use sn_topic::TopicName;
+use sn_session::{Outbound, Phase, Presence, Session, SessionOp, WillTopic};
+use sn_topic::{Filter, TopicName};
 use std::alloc::Global;
 use std::io::{self, Read, Write};
 use std::process::Abort;
 use std::test::Fail;
 
 /// Plays a script, and looks at what is printed and at the status.
-fn check_row(
+pub fn check_row(
     rt: &impl Abort,
     alloc: Global,
     script: &str,
@@ -172,16 +172,60 @@ fn answers_are_printed(rt: HostRuntime) -> Result<(), Fail> {
     Ok(())
 }
 
+/// A session with entries in all of its tables.
+fn full_session(alloc: Global) -> Result<Session, Fail> {
+    let mut session = Session::empty(alloc);
+    let topic = TopicName::new(alloc, b"ab")?;
+    for change in [
+        SessionOp::Presence {
+            presence: Presence::Disconnected,
+            duration: 65535,
+        },
+        SessionOp::Register {
+            id: 65534,
+            name: TopicName::new(alloc, b"t/a")?,
+            known: true,
+        },
+        SessionOp::Register {
+            id: 1,
+            name: TopicName::new(alloc, b"a")?,
+            known: false,
+        },
+        SessionOp::Subscribe {
+            filter: Filter::new(alloc, b"t/#")?,
+            qos: 0,
+        },
+        SessionOp::Subscribe {
+            filter: Filter::new(alloc, b"#")?,
+            qos: 2,
+        },
+        SessionOp::WillTopic(Some(WillTopic {
+            topic,
+            qos: 1,
+            retain: true,
+        })),
+        SessionOp::Received { id: 65535 },
+        SessionOp::Received { id: 0 },
+        SessionOp::Outbound {
+            exchange: Some(Outbound {
+                origin: 255,
+                seq: 1,
+                msg_id: 8,
+                phase: Phase::Registering,
+            }),
+            next_id: 9,
+        },
+    ] {
+        session.apply(alloc, &change)?;
+    }
+    Ok(session)
+}
+
 #[test]
 fn views_are_printed(rt: HostRuntime) -> Result<(), Fail> {
     let alloc = rt.alloc();
     let mut views = Sequence::empty(alloc);
-    let session = Session {
-        presence: Presence::Disconnected,
-        clean: false,
-        duration: 65535,
-        next_id: 1,
-    };
+    let session = full_session(alloc)?;
     let mut pending = Vec::new(alloc);
     pending.push(Put {
         origin: 2,
@@ -211,9 +255,12 @@ fn views_are_printed(rt: HostRuntime) -> Result<(), Fail> {
     answers.push(Answer::Views(views))?;
     let text = print_answers(alloc, answers.as_slice())?;
     let first =
-        "client 7331 stamp 18446744073709551615.255 prefix 256 disconnected kept 65535 next 1\n";
+        "client 7331 stamp 18446744073709551615.255 prefix 256 disconnected kept 65535 next 9\n";
+    let ids = "  topic 1 61 new\n  topic 65534 742f61 known\n";
+    let asked = "  sub 23 2\n  sub 742f23 0\n  will 1 6162 -\n";
+    let exchanges = "  received 0\n  received 65535\n  outbound 255.1 8 registering\n";
     let rest = "  put 1.2 2 6162 -\nclient 7a stamp none\n";
-    let lines = format!(in alloc; "{first}{rest}")?;
+    let lines = format!(in alloc; "{first}{ids}{asked}{exchanges}{rest}")?;
     assert_eq!(rt; text.as_str(), lines.as_str());
     Ok(())
 }

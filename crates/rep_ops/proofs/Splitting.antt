@@ -117,7 +117,7 @@ part_delta ops ds part rest size d h =
     let small = h.small in
     (delta_between (all_of ds) part rest (subst IsDelta (sym h.whole) d), omega (arith, len, is, small), h.values)
 
-some_part : (part : List Op) (size more : ℕ) → size ≡ 5 + octets part → more ≤ 4391 → 8388608 < size + more → part ≢ []
+some_part : (part : List Op) (size more : ℕ) → size ≡ 5 + octets part → more ≤ 150000 → 8388608 < size + more → part ≢ []
 unfolding octets
 some_part part size more is few full e = let none : octets part ≡ 0 = ap octets e in omega (arith, none, is)
 
@@ -126,7 +126,7 @@ within part size is small = let len = spelled part in omega (arith, len, is)
 
 -- the operation begins a part
 pub next_part : (ops : List Op) (ds : List (List Op)) (part rest : List Op) (size more : ℕ) (op : Op) (left : List Op) → AreParts ops ds part rest size → rest ≡ op ∷ left
-    → more ≡ length (op_octets op) → more ≤ 4391 → 8388608 < size + more → IsValue op → AreParts ops (ds ++ part ∷ []) (op ∷ []) left (5 + more)
+    → more ≡ length (op_octets op) → more ≤ 150000 → 8388608 < size + more → IsValue op → AreParts ops (ds ++ part ∷ []) (op ∷ []) left (5 + more)
 next_part ops ds part rest size more op left h e len few full value =
     let is = h.size_is in
     let sum = octets_more part op in

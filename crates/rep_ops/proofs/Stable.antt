@@ -8,8 +8,8 @@ use Rattle.std.specs.declared.cmp.Ordering.TheVariants.{Equal}
 use Rattle.std.proofs.lemmas.Bool.{cases_Bool, both_ways}
 use Rattle.std.proofs.lemmas.List.Sorted.{IsPermutation-sym}
 use Rattle.std.proofs.lemmas.Slice.Eq.{bytes_eq-Decides}
-use Rattle.sn_session.specs.declared.session.Presence.TheVariants as presences
-use Rattle.sn_session.specs.declared.session.SessionOp.TheVariants.{Presence as SetPresence}
+use Rattle.sn_session.specs.declared.presence.Presence.TheVariants as presences
+use Rattle.sn_session.specs.declared.change.SessionOp.TheVariants.{Presence as SetPresence}
 use Rattle.rep_ops.specs.declared.op.Stamp.{Stamp}
 use Rattle.rep_ops.specs.declared.op.Op.{Op}
 use Rattle.rep_ops.specs.declared.op.Op.TheVariants.{Session as OfSession, Put as OfPut, Ack}
