@@ -1,2 +1,4 @@
 pub mod Halves
 pub mod Pieces
+pub mod Loop
+pub mod Contents

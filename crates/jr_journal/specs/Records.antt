@@ -71,19 +71,22 @@ match_piece Seal whole seal torn bad = seal
 match_piece Torn whole seal torn bad = torn
 match_piece Bad whole seal torn bad = bad
 
+abbrev pub made : List (List Op) → Bool → ℕ → Bool → Found
+made deltas sealed whole bad = record { deltas = deltas; sealed = sealed; whole = whole; bad = bad }
+
 -- nothing more is there, or what comes next may not stand there
 abbrev pub ended : Bool → Bool → Found
-ended sealed bad = record { deltas = []; sealed = sealed; whole = 0; bad = bad }
+ended sealed bad = made [] sealed 0 bad
 
 -- what was found, and then what was found behind it
 abbrev pub joined : Found → Found → Found
-joined r q = record { deltas = r.deltas ++ q.deltas; sealed = q.sealed; whole = r.whole + q.whole; bad = q.bad }
+joined r q = made (r.deltas ++ q.deltas) q.sealed (r.whole + q.whole) q.bad
 
 abbrev pub one_record : List Op → ℕ → Bool → Found
-one_record delta size sealed = record { deltas = delta ∷ []; sealed = sealed; whole = 5 + size; bad = false }
+one_record delta size sealed = made (delta ∷ []) sealed (5 + size) false
 
 abbrev pub one_seal : Found
-one_seal = record { deltas = []; sealed = true; whole = 1; bad = false }
+one_seal = made [] true 1 false
 
 -- the whole pieces from a place on, past as many bytes of the one before it
 unfoldable pub found : ℕ → Bool → List ℕ → Found

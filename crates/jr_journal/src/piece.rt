@@ -2,7 +2,7 @@
 
 ghost use Rattle.std.specs.Prelude.{◌≡◌, ◌≤◌, ◌<◌, ◌+◌, false, length, take, drop, IfOk, IfErr, IfNone, IfSome};
 ghost use Rattle.std.specs.Int.{w32, from_be_bytes};
-ghost use Rattle.jr_journal.specs.Records.{delta_piece, body_at, record_at, piece_at, refusal};
+ghost use Rattle.jr_journal.specs.Records.{delta_piece, body_at, record_at, piece_at, refusal, made, found};
 
 use crate::fault::JournalFault;
 use octets::{Sequence, read_u32};
@@ -117,4 +117,54 @@ fn read_piece(alloc: Global, tag: u8, rest: &[u8]) -> Result<Piece, JournalFault
         SEAL => Ok(Piece::Seal),
         _ => Ok(Piece::Bad),
     }
+}
+
+/// The bytes behind a record with a delta of so many bytes; given are those behind its tag.
+fn behind_record(rest: &[u8], size: usize) -> &[u8]
+    requires { 4 + size ≤ length rest.now }
+    ensures { result.now ≡ drop (4 + size) rest.now }
+{
+    &rest[4 + size..]
+}
+
+/// The pieces so far, behind which nothing more counts.
+fn found_until(deltas: Sequence<Delta>, sealed: bool, whole: usize, bad: bool) -> Found
+    ensures { result ≡ made deltas sealed whole bad }
+{
+    Found {
+        deltas,
+        sealed,
+        whole,
+        bad,
+    }
+}
+
+/// The whole pieces of a slot, behind its header.
+pub(crate) fn read_pieces(alloc: Global, bytes: &[u8]) -> Result<Found, JournalFault>
+    ensures ok { IfOk result (λ f. f ≡ found 0 false bytes.now) }
+    ensures inside { IfOk result (λ f. f.whole ≤ length bytes.now) }
+    ensures err { IfErr result (λ fault. fault ≡ JournalFault.Memory) }
+{
+    let mut deltas = Sequence::empty(alloc);
+    let mut sealed = false;
+    let mut left = bytes;
+    'reading: while let Some((tag, rest)) = left.split_first() {
+        let whole = bytes.len() - left.len();
+        match read_piece(alloc, *tag, rest)? {
+            Piece::Whole { delta, size } => {
+                deltas.push(delta)?;
+                left = behind_record(rest, size);
+            }
+            Piece::Seal => {
+                if sealed {
+                    return Ok(found_until(deltas, sealed, whole, true));
+                }
+                sealed = true;
+                left = rest;
+            }
+            Piece::Torn => return Ok(found_until(deltas, sealed, whole, false)),
+            Piece::Bad => return Ok(found_until(deltas, sealed, whole, true)),
+        }
+    }
+    Ok(found_until(deltas, sealed, bytes.len(), false))
 }
