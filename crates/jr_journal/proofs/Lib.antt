@@ -2,3 +2,4 @@ pub mod Halves
 pub mod Pieces
 pub mod Loop
 pub mod Contents
+pub mod Append

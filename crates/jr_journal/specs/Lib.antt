@@ -1,3 +1,4 @@
 pub mod Disk
 pub mod Memory
 pub mod Records
+pub mod Journals
