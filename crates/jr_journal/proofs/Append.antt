@@ -14,7 +14,7 @@ use Rattle.rep_ops.specs.Spelling.{max_octets}
 use Rattle.jr_journal.specs.declared.piece.Piece.{Piece}
 use Rattle.jr_journal.specs.declared.piece.Piece.TheVariants.{Whole, Seal, Torn, Bad}
 use Rattle.jr_journal.specs.declared.piece.Found.{Found}
-use Rattle.jr_journal.specs.Records.{delta_bytes, written, body_at, record_at, piece_at, made, ended, joined, one_record, one_seal, found}
+use Rattle.jr_journal.specs.Records.{delta_bytes, IsReadable, written, body_at, record_at, piece_at, made, ended, joined, one_record, one_seal, found}
 use Rattle.jr_journal.proofs.Pieces.{IsRecord, record_shape, record_again, record_same, seal_same, found_record, found_seal, found_second_seal, found_torn, found_bad, found_nothing, found_passed, found_skip}
 
 -- ---- pieces behind pieces
@@ -122,11 +122,6 @@ found_cut zero s (b ∷ rest) r e good inside =
     ] refl
 
 -- ---- a record that was written
-
--- the delta can be written, and is read again
-pub record IsReadable (delta : List Op) : Type 0 where
-  pub read : reading (delta_bytes delta) ≡ Ok delta
-  pub limit : length (delta_bytes delta) ≤ max_octets
 
 abbrev behind_tag : List Op → List ℕ
 behind_tag delta = big_bytes 4 (length (delta_bytes delta)) ++ delta_bytes delta

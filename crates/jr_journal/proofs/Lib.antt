@@ -3,3 +3,6 @@ pub mod Pieces
 pub mod Loop
 pub mod Contents
 pub mod Append
+pub mod Settled
+pub mod Readable
+pub mod Appending

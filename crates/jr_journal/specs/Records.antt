@@ -1,5 +1,5 @@
 -- The bytes of a slot: a header, then records with one seal among them.
-use Rattle.std.specs.Prelude.{◌≡◌, ℕ, zero, suc, ◌+◌, ◌==◌, Bool, true, false, ◌&&◌, ◌||◌, if◌then◌else◌, nat_lt, min, List, [], ◌∷◌, ◌++◌, length, take, drop, Result, Ok, Err}
+use Rattle.std.specs.Prelude.{◌≡◌, ◌≤◌, ℕ, zero, suc, ◌+◌, ◌==◌, Bool, true, false, ◌&&◌, ◌||◌, if◌then◌else◌, nat_lt, min, List, [], ◌∷◌, ◌++◌, length, take, drop, Result, Ok, Err}
 use Rattle.std.specs.Int.{w32, w64, from_be_bytes}
 use Rattle.std.specs.Str.{bytes_eq}
 use Rattle.byteorder.specs.Endian.{big_bytes}
@@ -22,6 +22,11 @@ use Rattle.jr_journal.specs.Disk.{Image}
 -- the bytes of a delta
 unfoldable pub delta_bytes : List Op → List ℕ
 delta_bytes delta = spelling delta
+
+-- the delta is read again from its bytes, and a record can hold them
+pub record IsReadable (delta : List Op) : Type 0 where
+  pub read : reading (delta_bytes delta) ≡ Ok delta
+  pub limit : length (delta_bytes delta) ≤ max_octets
 
 -- a record: its tag, its length, the delta's bytes
 abbrev pub written : List Op → List ℕ

@@ -1,0 +1,76 @@
+//! The journal.
+
+ghost use Rattle.std.specs.Prelude.{IsTrue, ◌||◌};
+ghost use Rattle.jr_journal.specs.Journals.{is_settled};
+
+use crate::disk::{Disk, Slot};
+use crate::fault::JournalFault;
+use crate::record::record_of;
+use rep_ops::Delta;
+use std::alloc::Global;
+
+/// A journal on a disk.
+#[derive(Drop)]
+pub struct Journal<D: Disk> {
+    disk: D,
+    gateway: u8,
+    slot: Slot,
+    halted: bool,
+    ghost settled: { D.honest → IsTrue (halted || is_settled gateway slot (D.slots disk)) },
+}
+
+impl<D: Disk + Drop> Journal<D> {
+    ghost use Rattle.std.specs.Prelude.{◌≡◌, ◌<◌, ◌↔◌, true, false, [], ◌∷◌, ◌++◌, OnOk, OnErr, IsErrOf, IsTrue};
+    ghost use Rattle.jr_journal.specs.Disk.{image};
+    ghost use Rattle.jr_journal.specs.Records.{written, records};
+    ghost use Rattle.jr_journal.specs.Journals.{Leaves, LeavesOneMore, AppendedAs};
+
+    /// Adds a record. At `Ok` it is synced. After `Disk` the journal is halted, and a crash leaves the records
+    /// from before, or these and the new one.
+    ///
+    /// `Halted` where a write has failed before; else `Memory`, and nothing was written; else `Disk`.
+    pub fn append(&mut self, alloc: Global, delta: &Delta) -> Result<(), JournalFault>
+        ensures halted { IsErrOf result JournalFault.Halted ↔ (self.old.halted ≡ true) }
+        ensures same { (self.new.gateway ≡ self.old.gateway) × (self.new.slot ≡ self.old.slot) }
+        ensures goes_on { OnOk result (self.new.halted ≡ false) }
+        ensures halts { IsErrOf result JournalFault.Disk → self.new.halted ≡ true }
+        ensures cause { IsErrOf result JournalFault.Disk → D.failures self.old.disk < D.failures self.new.disk }
+        ensures refused { IsErrOf result JournalFault.Memory → (self.new.disk ≡ self.old.disk) × (self.new.halted ≡ self.old.halted) }
+        ensures stays { IsErrOf result JournalFault.Halted → self.new.disk ≡ self.old.disk }
+        ensures starved { D.starved self.old.disk ≡ true → D.starved self.new.disk ≡ true }
+        // After it every crash leaves the records from before and the new one.
+        ensures durable { D.honest → OnOk result (Leaves self.old.gateway (D.slots self.new.disk) (records self.old.gateway (image (D.slots self.old.disk)) ++ delta.now ∷ [])) }
+        // Where it failed, the new one may be missing.
+        ensures torn { D.honest → IsErrOf result JournalFault.Disk → LeavesOneMore self.old.gateway (D.slots self.new.disk) (records self.old.gateway (image (D.slots self.old.disk))) delta.now }
+        // Where it is known which failure is arranged, so are the outcome and the slots.
+        ensures known { D.honest → D.starved self.new.disk ≡ false → AppendedAs (D.outlook self.old.disk) (D.slots self.old.disk) self.old.slot (written delta.now) result (D.slots self.new.disk) (D.outlook self.new.disk) }
+    {
+        if self.halted {
+            return Err(JournalFault::Halted);
+        }
+        let bytes = record_of(alloc, delta)?;
+        self.halted = true;
+        if self.disk.append(self.slot, &bytes).is_err() {
+            return Err(JournalFault::Disk);
+        }
+        if self.disk.sync(self.slot).is_err() {
+            return Err(JournalFault::Disk);
+        }
+        self.halted = false;
+        Ok(())
+    }
+
+    /// The disk as it stands.
+    pub fn into_disk(self) -> D
+        ensures { result ≡ self.disk }
+    {
+        self.disk
+    }
+
+    /// Whether a write has failed since the journal was opened.
+    pub fn is_halted(&self) -> bool
+        ensures { result ≡ self.now.halted }
+    {
+        self.halted
+    }
+}
