@@ -2,3 +2,4 @@ pub mod Disk
 pub mod Memory
 pub mod Records
 pub mod Journals
+pub mod Opening

@@ -7,6 +7,7 @@ mod failures;
 mod fault;
 mod journal;
 mod memory;
+mod opening;
 mod piece;
 mod record;
 
