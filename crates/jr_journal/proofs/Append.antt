@@ -121,6 +121,41 @@ found_cut zero s (b ∷ rest) r e good inside =
           absurd (let clash : true ≡ false = bad_is ∙ good in cc)
     ] refl
 
+-- the whole pieces lie within the bytes
+pub found_inside : (k : ℕ) (s : Bool) (xs : List ℕ) (r : Found) → found k s xs ≡ r → k ≤ length xs → k + r.whole ≤ length xs
+found_inside k s [] r e inside =
+    let whole_is : 0 ≡ r.whole = ap (λ (f : Found). f.whole) (sym (found_nothing k s) ∙ e) in
+    omega arith
+found_inside (suc k) s (b ∷ rest) r e inside =
+    let more : k + r.whole ≤ length rest = found_inside k s rest r (sym (found_passed k s b rest) ∙ e) (omega arith) in
+    omega arith
+found_inside zero s (b ∷ rest) r e inside =
+    elim (piece_at b rest) as (λ (p : Piece). piece_at b rest ≡ p → 0 + r.whole ≤ length (b ∷ rest)) [
+      | Whole delta n ↦ λ is.
+          let q : Found = found (4 + n) s rest in
+          let whole_is : 5 + n + q.whole ≡ r.whole = ap (λ (f : Found). f.whole) (sym (found_record s b rest delta n is) ∙ e) in
+          let within = (record_shape b rest delta n is).inside in
+          let more : 4 + n + q.whole ≤ length rest = found_inside (4 + n) s rest q refl within in
+          omega arith
+      | Seal ↦ λ is.
+          elim s as (λ (t : Bool). s ≡ t → 0 + r.whole ≤ length (b ∷ rest)) [
+            | true ↦ λ flag.
+                let whole_is : 0 ≡ r.whole = ap (λ (f : Found). f.whole) (sym (found_second_seal b rest is) ∙ (ap (λ t. found 0 t (b ∷ rest)) (sym flag) ∙ e)) in
+                omega arith
+            | false ↦ λ flag.
+                let q : Found = found 0 true rest in
+                let whole_is : 1 + q.whole ≡ r.whole = ap (λ (f : Found). f.whole) (sym (found_seal b rest is) ∙ (ap (λ t. found 0 t (b ∷ rest)) (sym flag) ∙ e)) in
+                let more : 0 + q.whole ≤ length rest = found_inside zero true rest q refl (omega arith) in
+                omega arith
+          ] refl
+      | Torn ↦ λ is.
+          let whole_is : 0 ≡ r.whole = ap (λ (f : Found). f.whole) (sym (found_torn s b rest is) ∙ e) in
+          omega arith
+      | Bad ↦ λ is.
+          let whole_is : 0 ≡ r.whole = ap (λ (f : Found). f.whole) (sym (found_bad s b rest is) ∙ e) in
+          omega arith
+    ] refl
+
 -- ---- a record that was written
 
 abbrev behind_tag : List Op → List ℕ

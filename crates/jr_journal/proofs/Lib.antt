@@ -6,3 +6,4 @@ pub mod Append
 pub mod Settled
 pub mod Readable
 pub mod Appending
+pub mod Opened

@@ -11,7 +11,7 @@ use Rattle.jr_journal.specs.declared.content.SlotContent.{SlotContent}
 use Rattle.jr_journal.specs.declared.content.SlotContent.TheVariants.{Alien, Unsealed, Sealed, Broken}
 use Rattle.jr_journal.specs.declared.opening.Opening.{Opening}
 use Rattle.jr_journal.specs.declared.opening.Opening.TheVariants.{New, Held}
-use Rattle.jr_journal.specs.Disk.{SlotBytes, Slots, Image, all_synced, after_crash}
+use Rattle.jr_journal.specs.Disk.{SlotBytes, Slots, Image, replaced, bytes_of, all_synced, cut_to, after_crash}
 use Rattle.jr_journal.specs.Records.{new_journal, slot_content, records}
 use Rattle.jr_journal.specs.Journals.{is_nil}
 
@@ -103,6 +103,20 @@ opening_of (Sealed m f) size = Ok (Held f size)
 abbrev pub deltas_of : Opening → List (List Op)
 deltas_of New = []
 deltas_of (Held f size) = f.deltas
+
+-- the second slot is empty, and this is to be done with the first
+abbrev pub IsOpening : ℕ → Image → Opening → Type 0
+IsOpening gateway i opening = (i.second ≡ []) × (Ok opening ≡ opening_of (slot_content gateway i.first) (length i.first))
+
+-- it speaks of the first slot's bytes
+abbrev pub IsSized : Opening → Slots → Type 0
+IsSized New d = Unit {0}
+IsSized (Held f size) d = size ≡ length (bytes_of d.first)
+
+-- it is done
+abbrev pub settled : ℕ → Opening → Slots → Slots
+settled gateway New d = replaced d First (synced_bytes (new_journal gateway))
+settled gateway (Held f size) d = replaced d First (cut_to d.first (13 + f.whole))
 
 -- ---- an opening that failed
 

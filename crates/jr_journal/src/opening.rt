@@ -1,9 +1,9 @@
 //! Opening a journal: sync both slots, read them, cut a torn end away or begin a new journal.
 
 ghost use Rattle.std.specs.Prelude.{◌≡◌, ◌≢◌, ◌≤◌, ◌<◌, ◌⊎◌, ◌+◌, [], true, false, length, IfOk, IfErr, OnOk, OnErr, IsErrOf};
-ghost use Rattle.jr_journal.specs.Disk.{at, replaced, bytes_of, all_synced, cut_to};
+ghost use Rattle.jr_journal.specs.Disk.{at, replaced, bytes_of, image, all_synced, cut_to};
 ghost use Rattle.jr_journal.specs.Records.{new_journal, slot_content};
-ghost use Rattle.jr_journal.specs.Opening.{synced_bytes, synced_slots, opening_of, deltas_of};
+ghost use Rattle.jr_journal.specs.Opening.{synced_bytes, synced_slots, opening_of, deltas_of, IsOpening, IsSized, settled, IsFault, fault_of};
 
 use crate::content::{HEADER, MAGIC, SlotContent, read_content};
 use crate::disk::{Disk, Slot};
@@ -96,4 +96,52 @@ fn begin<D: Disk>(disk: &mut D, gateway: u8) -> Result<(), JournalFault>
         return Err(JournalFault::Disk);
     }
     Ok(())
+}
+
+/// Cuts away what stands behind the whole pieces of the first slot.
+#[tactic(auto, using(crate::proofs::Opened::cut_nothing))]
+fn cut_torn<D: Disk>(disk: &mut D, whole: usize, size: usize) -> Result<(), JournalFault>
+    ensures cause { D.failures disk.old ≤ D.failures disk.new }
+    ensures err { IfErr result (λ fault. (fault ≡ JournalFault.Disk) × (D.failures disk.old < D.failures disk.new)) }
+    ensures ok { D.honest → size ≡ length (bytes_of (D.slots disk.old).first) → OnOk result (D.slots disk.new ≡ replaced (D.slots disk.old) Slot.First (cut_to (D.slots disk.old).first (13 + whole))) }
+{
+    if size < HEADER || size - HEADER <= whole {
+        return Ok(());
+    }
+    if disk.cut(Slot::First, HEADER + whole).is_err() {
+        return Err(JournalFault::Disk);
+    }
+    Ok(())
+}
+
+/// Does what is to be done with the first slot.
+pub(crate) fn settle<D: Disk>(disk: &mut D, gateway: u8, opening: &Opening) -> Result<(), JournalFault>
+    ensures cause { D.failures disk.old ≤ D.failures disk.new }
+    ensures err { IfErr result (λ fault. (fault ≡ JournalFault.Disk) × (D.failures disk.old < D.failures disk.new)) }
+    ensures ok { D.honest → IsSized opening.now (D.slots disk.old) → OnOk result (D.slots disk.new ≡ settled gateway opening.now (D.slots disk.old)) }
+{
+    match opening {
+        Opening::New => begin(disk, gateway),
+        Opening::Held { found, size } => cut_torn(disk, found.whole, *size),
+    }
+}
+
+/// Reads both slots: what is to be done with the first, the second being empty.
+pub(crate) fn read_slots<D: Disk>(alloc: Global, disk: &mut D, gateway: u8) -> Result<Opening, JournalFault>
+    ensures cause { D.failures disk.old ≤ D.failures disk.new }
+    ensures err { IsErrOf result JournalFault.Disk → D.failures disk.old < D.failures disk.new }
+    ensures running { IsErrOf result JournalFault.Halted → ⊥ }
+    ensures same { D.honest → D.slots disk.new ≡ D.slots disk.old }
+    ensures opening { D.honest → IfOk result (λ opening. IsOpening gateway (image (D.slots disk.old)) opening × IsSized opening (D.slots disk.old)) }
+    ensures fault { D.honest → IfErr result (λ fault. IsFault (fault_of gateway (image (D.slots disk.old))) fault) }
+{
+    let Ok(beside) = disk.len(Slot::Second) else {
+        return Err(JournalFault::Disk);
+    };
+    if beside > 0 {
+        return Err(JournalFault::Foreign);
+    }
+    let bytes = read_slot(alloc, disk, Slot::First)?;
+    let content = read_content(alloc, gateway, &bytes)?;
+    judge(content, bytes.len())
 }
