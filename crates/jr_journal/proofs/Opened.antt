@@ -4,7 +4,7 @@ use Rattle.std.specs.Prelude.{nat_lt, IfOk, IfErr, IsTrue}
 use Rattle.std.specs.Str.{bytes_eq}
 use Rattle.std.proofs.Math.ListN.{drop_of_length-le}
 use Rattle.std.proofs.lemmas.Bool.{cases_lt, and_from, ltb-true, lt-ltb, le-ltb}
-use Rattle.std.proofs.lemmas.List.{append-nil, take_all, length-take, length-append, length-drop}
+use Rattle.std.proofs.lemmas.List.{append-nil, nil_from_length, take_all, length-take, length-append, length-drop}
 use Rattle.std.proofs.lemmas.Slice.Eq.{bytes_eq-Decides}
 use Rattle.rep_ops.specs.declared.op.Op.{Op}
 use Rattle.jr_journal.specs.declared.disk.Slot.TheVariants.{First, Second}
@@ -19,7 +19,7 @@ use Rattle.jr_journal.specs.declared.opening.Opening.TheVariants.{New, Held}
 use Rattle.jr_journal.specs.Disk.{SlotBytes, Slots, Image, bytes_of, image, cut_to}
 use Rattle.jr_journal.specs.Records.{new_journal, magic, piece_at, made, joined, one_seal, found, slot_content, chosen, records}
 use Rattle.jr_journal.specs.Journals.{is_nil, is_below, is_settled, Leaves}
-use Rattle.jr_journal.specs.Opening.{is_fresh, slots_fault, fault_of, IsFault, synced_bytes, synced_slots, reads_first, cut_end, recovered, opening_of, deltas_of, IsOpening, settled}
+use Rattle.jr_journal.specs.Opening.{is_fresh, slots_fault, fault_of, IsFault, synced_bytes, synced_slots, reads_first, cut_end, recovered, opening_of, deltas_of, IsOpening, IsSized, settled}
 use Rattle.jr_journal.proofs.Pieces.{found_seal, found_nothing}
 use Rattle.jr_journal.proofs.Append.{found_inside}
 use Rattle.jr_journal.proofs.Contents.{IsSealed, sealed_shape, sealed_cut}
@@ -263,3 +263,32 @@ cut_nothing s len le =
     let a : take len s.synced ≡ s.synced = take_all len s.synced (omega arith) in
     let b : take (len - length s.synced) s.unsynced ≡ s.unsynced = take_all (len - length s.synced) s.unsynced (omega arith) in
     λ j. record { synced = sym a j; unsynced = sym b j }
+
+pub judged_all : (gateway : ℕ) (d later : Slots) (content : SlotContent) (beside size : ℕ) (bytes : List ℕ) (r : Result Opening JournalFault) → beside ≡ length (bytes_of d.second) → beside ≤ 0 → later ≡ d → bytes ≡ bytes_of later.first
+    → content ≡ slot_content gateway bytes → size ≡ length bytes → r ≡ opening_of content size → IfErr r (λ e. IsFault (fault_of gateway (image d)) e)
+judged_all gateway d later content beside size bytes (Ok o) count none same read is number told = tt
+judged_all gateway d later content beside size bytes (Err e) count none same read is number told =
+    let at : bytes ≡ bytes_of d.first = read ∙ ap (λ (x : Slots). bytes_of x.first) same in
+    judged_fault gateway (image d) content size e (nil_from_length (bytes_of d.second) (omega arith)) (is ∙ ap (λ xs. slot_content gateway xs) at) (number ∙ ap length at) told
+
+-- the three steps of an opening
+pub record IsRecovered (gateway : ℕ) (old new : Slots) (o : Opening) : Type 0 where
+  pub known : new ≡ recovered gateway (image old)
+  pub opening : IsOpening gateway (image old) o
+
+pub all_steps : (gateway : ℕ) (old synced read new : Slots) (o : Opening) → synced ≡ synced_slots old → read ≡ synced → IsOpening gateway (image synced) o × IsSized o synced → (IsSized o read → new ≡ settled gateway o read)
+    → IsRecovered gateway old new o
+all_steps gateway old synced read new o e same h step =
+    let sized : IsSized o read = subst (λ (d : Slots). IsSized o d) (sym same) h.1 in
+    let is : new ≡ settled gateway o synced = step sized ∙ ap (λ d. settled gateway o d) same in
+    record {
+      known = settled_is gateway old synced new o e h.0 is;
+      opening = subst (λ (i : Image). IsOpening gateway i o) (ap image e ∙ synced_same old) h.0;
+    }
+
+pub steps_settled : (gateway : ℕ) (old new : Slots) (o : Opening) → IsRecovered gateway old new o → is_settled gateway First new ≡ true
+steps_settled gateway old new o h = ap (λ d. is_settled gateway First d) h.known ∙ recovered_settled gateway (image old) o h.opening
+
+pub steps_leave : (gateway : ℕ) (old new : Slots) (o : Opening) (deltas : List (List Op)) → IsRecovered gateway old new o → deltas ≡ deltas_of o → Leaves gateway new deltas
+steps_leave gateway old new o deltas h same =
+    subst (λ (d : Slots). Leaves gateway d deltas) (sym h.known) (subst (λ (xs : List (List Op)). Leaves gateway (recovered gateway (image old)) xs) (sym same) (recovered_leaves gateway (image old) o h.opening))

@@ -5,6 +5,7 @@ ghost use Rattle.jr_journal.specs.Journals.{is_settled};
 
 use crate::disk::{Disk, Slot};
 use crate::fault::JournalFault;
+use crate::opening::recover;
 use crate::record::record_of;
 use rep_ops::Delta;
 use std::alloc::Global;
@@ -20,10 +21,44 @@ pub struct Journal<D: Disk> {
 }
 
 impl<D: Disk + Drop> Journal<D> {
-    ghost use Rattle.std.specs.Prelude.{◌≡◌, ◌<◌, ◌↔◌, true, false, [], ◌∷◌, ◌++◌, OnOk, OnErr, IsErrOf, IsTrue};
+    ghost use Rattle.std.specs.Prelude.{◌≡◌, ◌≢◌, ◌<◌, ◌↔◌, true, false, None, [], ◌∷◌, ◌++◌, IfOk, IfErr, OnOk, IsErrOf, IsTrue};
     ghost use Rattle.jr_journal.specs.Disk.{image};
     ghost use Rattle.jr_journal.specs.Records.{written, records};
     ghost use Rattle.jr_journal.specs.Journals.{Leaves, LeavesOneMore, AppendedAs};
+    ghost use Rattle.jr_journal.specs.Opening.{recovered, IsFault, fault_of};
+
+    /// Opens the journal of a gateway on a disk, and gives the deltas of its records. First all bytes of both slots are
+    /// made durable, then they are read; a record that the end cuts is cut away, and on an empty disk a journal is begun.
+    ///
+    /// With a fault the disk comes back. `Foreign` and `BadRecord` are told of what is in the slots, `Disk` only where
+    /// the disk failed, `Memory` where memory ran out.
+    pub fn open(alloc: Global, disk: D, gateway: u8) -> Result<(Journal<D>, Vec<Delta>), (D, JournalFault)>
+        ensures starts { IfOk result (λ made. (made.0.halted ≡ false) × (made.0.gateway ≡ gateway) × (made.0.slot ≡ Slot.First)) }
+        ensures cause { IfErr result (λ refused. refused.1 ≡ JournalFault.Disk → D.failures disk < D.failures refused.0) }
+        ensures running { IfErr result (λ refused. refused.1 ≢ JournalFault.Halted) }
+        // The records are those of the slots as they were found.
+        ensures records { D.honest → IfOk result (λ made. made.1.items ≡ records gateway (image (D.slots disk))) }
+        ensures known { D.honest → IfOk result (λ made. D.slots made.0.disk ≡ recovered gateway (image (D.slots disk))) }
+        // What was given stands after every crash.
+        ensures durable { D.honest → IfOk result (λ made. Leaves gateway (D.slots made.0.disk) made.1.items) }
+        // It is refused exactly where the format says so, or the disk failed, or memory ran out.
+        ensures found { D.honest → OnOk result (fault_of gateway (image (D.slots disk)) ≡ None) }
+        ensures fault { D.honest → IfErr result (λ refused. IsFault (fault_of gateway (image (D.slots disk))) refused.1) }
+    {
+        let mut disk = disk;
+        match recover(alloc, &mut disk, gateway) {
+            Ok(deltas) => {
+                let journal = Journal {
+                    disk,
+                    gateway,
+                    slot: Slot::First,
+                    halted: false,
+                };
+                Ok((journal, deltas))
+            }
+            Err(fault) => Err((disk, fault)),
+        }
+    }
 
     /// Adds a record. At `Ok` it is synced. After `Disk` the journal is halted, and a crash leaves the records
     /// from before, or these and the new one.

@@ -1,9 +1,10 @@
 //! Opening a journal: sync both slots, read them, cut a torn end away or begin a new journal.
 
-ghost use Rattle.std.specs.Prelude.{◌≡◌, ◌≢◌, ◌≤◌, ◌<◌, ◌⊎◌, ◌+◌, [], true, false, length, IfOk, IfErr, OnOk, OnErr, IsErrOf};
+ghost use Rattle.std.specs.Prelude.{◌≡◌, ◌≢◌, ◌≤◌, ◌<◌, ◌⊎◌, ◌+◌, [], true, false, length, IfOk, IfErr, OnOk, OnErr, IsErrOf, IsTrue, None};
 ghost use Rattle.jr_journal.specs.Disk.{at, replaced, bytes_of, image, all_synced, cut_to};
-ghost use Rattle.jr_journal.specs.Records.{new_journal, slot_content};
-ghost use Rattle.jr_journal.specs.Opening.{synced_bytes, synced_slots, opening_of, deltas_of, IsOpening, IsSized, settled, IsFault, fault_of};
+ghost use Rattle.jr_journal.specs.Records.{new_journal, slot_content, records};
+ghost use Rattle.jr_journal.specs.Opening.{synced_bytes, synced_slots, opening_of, deltas_of, IsOpening, IsSized, settled, recovered, IsFault, fault_of};
+ghost use Rattle.jr_journal.specs.Journals.{is_settled, Leaves};
 
 use crate::content::{HEADER, MAGIC, SlotContent, read_content};
 use crate::disk::{Disk, Slot};
@@ -144,4 +145,33 @@ pub(crate) fn read_slots<D: Disk>(alloc: Global, disk: &mut D, gateway: u8) -> R
     let bytes = read_slot(alloc, disk, Slot::First)?;
     let content = read_content(alloc, gateway, &bytes)?;
     judge(content, bytes.len())
+}
+
+/// The deltas of a journal.
+fn deltas_in(alloc: Global, opening: Opening) -> Vec<Delta>
+    ensures { result.items ≡ deltas_of opening }
+{
+    match opening {
+        Opening::New => Vec::new(alloc),
+        Opening::Held { found, .. } => found.deltas.into_vec(),
+    }
+}
+
+/// The records of a journal, which is settled behind it: both slots are synced, a torn end is cut away, and where
+/// there was no journal one is begun.
+pub(crate) fn recover<D: Disk>(alloc: Global, disk: &mut D, gateway: u8) -> Result<Vec<Delta>, JournalFault>
+    ensures cause { D.failures disk.old ≤ D.failures disk.new }
+    ensures err { IsErrOf result JournalFault.Disk → D.failures disk.old < D.failures disk.new }
+    ensures running { IsErrOf result JournalFault.Halted → ⊥ }
+    ensures records { D.honest → IfOk result (λ deltas. deltas.items ≡ records gateway (image (D.slots disk.old))) }
+    ensures known { D.honest → OnOk result (D.slots disk.new ≡ recovered gateway (image (D.slots disk.old))) }
+    ensures settled { D.honest → OnOk result (IsTrue (is_settled gateway Slot.First (D.slots disk.new))) }
+    ensures durable { D.honest → IfOk result (λ deltas. Leaves gateway (D.slots disk.new) deltas.items) }
+    ensures found { D.honest → OnOk result (fault_of gateway (image (D.slots disk.old)) ≡ None) }
+    ensures fault { D.honest → IfErr result (λ fault. IsFault (fault_of gateway (image (D.slots disk.old))) fault) }
+{
+    sync_both(disk)?;
+    let opening = read_slots(alloc, disk, gateway)?;
+    settle(disk, gateway, &opening)?;
+    Ok(deltas_in(alloc, opening))
 }
