@@ -16,3 +16,6 @@ pub use failures::Failures;
 pub use fault::JournalFault;
 pub use journal::Journal;
 pub use memory::MemoryDisk;
+
+#[cfg(test)]
+mod tests;
