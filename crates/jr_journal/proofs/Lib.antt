@@ -7,3 +7,4 @@ pub mod Settled
 pub mod Readable
 pub mod Appending
 pub mod Opened
+pub mod Calm

@@ -1,5 +1,5 @@
 -- What opening a journal makes of the two slots.
-use Rattle.std.specs.Prelude.{Option, Some, None, ◌≡◌, ◌≢◌, ℕ, ◌+◌, Bool, true, false, ◌&&◌, not, if◌then◌else◌, nat_lt, List, [], length, take, Result, Ok, Err}
+use Rattle.std.specs.Prelude.{Option, Some, None, ◌≡◌, ◌≢◌, ℕ, ◌+◌, Bool, true, false, ◌&&◌, not, if◌then◌else◌, nat_lt, List, [], length, take, Result, Ok, Err, IsErrOf}
 use Rattle.rep_ops.specs.declared.op.Op.{Op}
 use Rattle.jr_journal.specs.declared.disk.Slot.{Slot}
 use Rattle.jr_journal.specs.declared.disk.Slot.TheVariants.{First, Second}
@@ -117,6 +117,24 @@ IsSized (Held f size) d = size ≡ length (bytes_of d.first)
 abbrev pub settled : ℕ → Opening → Slots → Slots
 settled gateway New d = replaced d First (synced_bytes (new_journal gateway))
 settled gateway (Held f size) d = replaced d First (cut_to d.first (13 + f.whole))
+
+-- ---- a failure that is arranged
+
+abbrev pub is_new : Opening → Bool
+is_new New = true
+is_new (Held f size) = false
+
+-- an opening does not meet it: it appends only where the journal is new
+abbrev pub is_quiet : Option (Option Plan) → Bool → Bool
+is_quiet None fresh = false
+is_quiet (Some None) fresh = true
+is_quiet (Some (Some (Stop k))) fresh = not fresh
+is_quiet (Some (Some KeepBack)) fresh = not fresh
+is_quiet (Some (Some FailSync)) fresh = false
+
+-- the disk is not to blame, and the same failure is arranged as before
+abbrev pub IsUnhurt : {T : Type 0} → Result T JournalFault → Option (Option Plan) → Option (Option Plan) → Type 0
+IsUnhurt result old new = (IsErrOf result Disk → ⊥) × (new ≡ old)
 
 -- ---- an opening that failed
 

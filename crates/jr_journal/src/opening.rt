@@ -1,9 +1,9 @@
 //! Opening a journal: sync both slots, read them, cut a torn end away or begin a new journal.
 
 ghost use Rattle.std.specs.Prelude.{◌≡◌, ◌≢◌, ◌≤◌, ◌<◌, ◌⊎◌, ◌+◌, [], true, false, length, IfOk, IfErr, OnOk, OnErr, IsErrOf, IsTrue, None};
-ghost use Rattle.jr_journal.specs.Disk.{at, replaced, bytes_of, image, all_synced, cut_to};
+ghost use Rattle.jr_journal.specs.Disk.{at, replaced, bytes_of, image, all_synced, cut_to, is_calm};
 ghost use Rattle.jr_journal.specs.Records.{new_journal, slot_content, records};
-ghost use Rattle.jr_journal.specs.Opening.{synced_bytes, synced_slots, opening_of, deltas_of, IsOpening, IsSized, settled, recovered, IsFault, fault_of};
+ghost use Rattle.jr_journal.specs.Opening.{synced_bytes, synced_slots, opening_of, deltas_of, IsOpening, IsSized, settled, recovered, is_fresh, is_new, is_quiet, IsUnhurt, IsFault, fault_of};
 ghost use Rattle.jr_journal.specs.Journals.{is_settled, Leaves};
 
 use crate::content::{HEADER, MAGIC, SlotContent, read_content};
@@ -26,8 +26,11 @@ pub enum Opening {
 }
 
 /// Makes all bytes of both slots durable.
+#[tactic(auto, using(crate::proofs::Calm::calm_sync, crate::proofs::Calm::calm_goes, crate::proofs::Calm::not_starved))]
 pub(crate) fn sync_both<D: Disk>(disk: &mut D) -> Result<(), JournalFault>
     ensures cause { D.failures disk.old ≤ D.failures disk.new }
+    ensures starved { D.starved disk.old ≡ true → D.starved disk.new ≡ true }
+    ensures calm { D.honest → D.starved disk.new ≡ false → IsTrue (is_calm (D.outlook disk.old)) → IsUnhurt result (D.outlook disk.old) (D.outlook disk.new) }
     ensures err { IfErr result (λ fault. (fault ≡ JournalFault.Disk) × (D.failures disk.old < D.failures disk.new)) }
     ensures ok { D.honest → OnOk result (D.slots disk.new ≡ synced_slots (D.slots disk.old)) }
     ensures part { D.honest → OnErr result ((D.slots disk.new ≡ D.slots disk.old) ⊎ (D.slots disk.new ≡ replaced (D.slots disk.old) Slot.First (all_synced (at (D.slots disk.old) Slot.First)))) }
@@ -44,6 +47,8 @@ pub(crate) fn sync_both<D: Disk>(disk: &mut D) -> Result<(), JournalFault>
 /// All bytes of a slot.
 fn read_slot<D: Disk>(alloc: Global, disk: &mut D, slot: Slot) -> Result<Vec<u8>, JournalFault>
     ensures cause { D.failures disk.old ≤ D.failures disk.new }
+    ensures starved { D.starved disk.old ≡ true → D.starved disk.new ≡ true }
+    ensures calm { D.honest → D.starved disk.new ≡ false → IsTrue (is_calm (D.outlook disk.old)) → IsUnhurt result (D.outlook disk.old) (D.outlook disk.new) }
     ensures err { IfErr result (λ fault. (fault ≡ JournalFault.Memory) ⊎ ((fault ≡ JournalFault.Disk) × (D.failures disk.old < D.failures disk.new))) }
     ensures same { D.honest → D.slots disk.new ≡ D.slots disk.old }
     ensures ok { D.honest → IfOk result (λ bytes. bytes.items ≡ bytes_of (at (D.slots disk.old) slot)) }
@@ -82,6 +87,8 @@ fn judge(content: SlotContent, size: usize) -> Result<Opening, JournalFault>
 /// Begins a journal in the first slot: a header of generation 1, and the seal.
 fn begin<D: Disk>(disk: &mut D, gateway: u8) -> Result<(), JournalFault>
     ensures cause { D.failures disk.old ≤ D.failures disk.new }
+    ensures starved { D.starved disk.old ≡ true → D.starved disk.new ≡ true }
+    ensures calm { D.honest → D.starved disk.new ≡ false → IsTrue (is_quiet (D.outlook disk.old) true) → IsUnhurt result (D.outlook disk.old) (D.outlook disk.new) }
     ensures err { IfErr result (λ fault. (fault ≡ JournalFault.Disk) × (D.failures disk.old < D.failures disk.new)) }
     ensures ok { D.honest → OnOk result (D.slots disk.new ≡ replaced (D.slots disk.old) Slot.First (synced_bytes (new_journal gateway))) }
 {
@@ -103,6 +110,8 @@ fn begin<D: Disk>(disk: &mut D, gateway: u8) -> Result<(), JournalFault>
 #[tactic(auto, using(crate::proofs::Opened::cut_nothing))]
 fn cut_torn<D: Disk>(disk: &mut D, whole: usize, size: usize) -> Result<(), JournalFault>
     ensures cause { D.failures disk.old ≤ D.failures disk.new }
+    ensures starved { D.starved disk.old ≡ true → D.starved disk.new ≡ true }
+    ensures calm { D.honest → D.starved disk.new ≡ false → IsTrue (is_calm (D.outlook disk.old)) → IsUnhurt result (D.outlook disk.old) (D.outlook disk.new) }
     ensures err { IfErr result (λ fault. (fault ≡ JournalFault.Disk) × (D.failures disk.old < D.failures disk.new)) }
     ensures ok { D.honest → size ≡ length (bytes_of (D.slots disk.old).first) → OnOk result (D.slots disk.new ≡ replaced (D.slots disk.old) Slot.First (cut_to (D.slots disk.old).first (13 + whole))) }
 {
@@ -118,6 +127,8 @@ fn cut_torn<D: Disk>(disk: &mut D, whole: usize, size: usize) -> Result<(), Jour
 /// Does what is to be done with the first slot.
 pub(crate) fn settle<D: Disk>(disk: &mut D, gateway: u8, opening: &Opening) -> Result<(), JournalFault>
     ensures cause { D.failures disk.old ≤ D.failures disk.new }
+    ensures starved { D.starved disk.old ≡ true → D.starved disk.new ≡ true }
+    ensures calm { D.honest → D.starved disk.new ≡ false → IsTrue (is_quiet (D.outlook disk.old) (is_new opening.now)) → IsUnhurt result (D.outlook disk.old) (D.outlook disk.new) }
     ensures err { IfErr result (λ fault. (fault ≡ JournalFault.Disk) × (D.failures disk.old < D.failures disk.new)) }
     ensures ok { D.honest → IsSized opening.now (D.slots disk.old) → OnOk result (D.slots disk.new ≡ settled gateway opening.now (D.slots disk.old)) }
 {
@@ -130,6 +141,8 @@ pub(crate) fn settle<D: Disk>(disk: &mut D, gateway: u8, opening: &Opening) -> R
 /// Reads both slots: what is to be done with the first, the second being empty.
 pub(crate) fn read_slots<D: Disk>(alloc: Global, disk: &mut D, gateway: u8) -> Result<Opening, JournalFault>
     ensures cause { D.failures disk.old ≤ D.failures disk.new }
+    ensures starved { D.starved disk.old ≡ true → D.starved disk.new ≡ true }
+    ensures calm { D.honest → D.starved disk.new ≡ false → IsTrue (is_calm (D.outlook disk.old)) → IsUnhurt result (D.outlook disk.old) (D.outlook disk.new) }
     ensures err { IsErrOf result JournalFault.Disk → D.failures disk.old < D.failures disk.new }
     ensures running { IsErrOf result JournalFault.Halted → ⊥ }
     ensures same { D.honest → D.slots disk.new ≡ D.slots disk.old }
@@ -161,6 +174,8 @@ fn deltas_in(alloc: Global, opening: Opening) -> Vec<Delta>
 /// there was no journal one is begun.
 pub(crate) fn recover<D: Disk>(alloc: Global, disk: &mut D, gateway: u8) -> Result<Vec<Delta>, JournalFault>
     ensures cause { D.failures disk.old ≤ D.failures disk.new }
+    ensures starved { D.starved disk.old ≡ true → D.starved disk.new ≡ true }
+    ensures calm { D.honest → D.starved disk.new ≡ false → IsTrue (is_quiet (D.outlook disk.old) (is_fresh (image (D.slots disk.old)))) → IsUnhurt result (D.outlook disk.old) (D.outlook disk.new) }
     ensures err { IsErrOf result JournalFault.Disk → D.failures disk.old < D.failures disk.new }
     ensures running { IsErrOf result JournalFault.Halted → ⊥ }
     ensures records { D.honest → IfOk result (λ deltas. deltas.items ≡ records gateway (image (D.slots disk.old))) }
