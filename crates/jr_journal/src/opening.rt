@@ -116,7 +116,11 @@ fn cut_torn<D: Disk>(disk: &mut D, whole: usize, size: usize) -> Result<(), Jour
 }
 
 /// Does what is to be done with the first slot.
-pub(crate) fn settle<D: Disk>(disk: &mut D, gateway: u8, opening: &Opening) -> Result<(), JournalFault>
+pub(crate) fn settle<D: Disk>(
+    disk: &mut D,
+    gateway: u8,
+    opening: &Opening,
+) -> Result<(), JournalFault>
     ensures cause { D.failures disk.old ≤ D.failures disk.new }
     ensures err { IfErr result (λ fault. (fault ≡ JournalFault.Disk) × (D.failures disk.old < D.failures disk.new)) }
     ensures ok { D.honest → IsSized opening.now (D.slots disk.old) → OnOk result (D.slots disk.new ≡ settled gateway opening.now (D.slots disk.old)) }
@@ -128,7 +132,11 @@ pub(crate) fn settle<D: Disk>(disk: &mut D, gateway: u8, opening: &Opening) -> R
 }
 
 /// Reads both slots: what is to be done with the first, the second being empty.
-pub(crate) fn read_slots<D: Disk>(alloc: Global, disk: &mut D, gateway: u8) -> Result<Opening, JournalFault>
+pub(crate) fn read_slots<D: Disk>(
+    alloc: Global,
+    disk: &mut D,
+    gateway: u8,
+) -> Result<Opening, JournalFault>
     ensures cause { D.failures disk.old ≤ D.failures disk.new }
     ensures err { IsErrOf result JournalFault.Disk → D.failures disk.old < D.failures disk.new }
     ensures running { IsErrOf result JournalFault.Halted → ⊥ }
@@ -159,7 +167,11 @@ fn deltas_in(alloc: Global, opening: Opening) -> Vec<Delta>
 
 /// The records of a journal, which is settled behind it: both slots are synced, a torn end is cut away, and where
 /// there was no journal one is begun.
-pub(crate) fn recover<D: Disk>(alloc: Global, disk: &mut D, gateway: u8) -> Result<Vec<Delta>, JournalFault>
+pub(crate) fn recover<D: Disk>(
+    alloc: Global,
+    disk: &mut D,
+    gateway: u8,
+) -> Result<Vec<Delta>, JournalFault>
     ensures cause { D.failures disk.old ≤ D.failures disk.new }
     ensures err { IsErrOf result JournalFault.Disk → D.failures disk.old < D.failures disk.new }
     ensures running { IsErrOf result JournalFault.Halted → ⊥ }
