@@ -31,10 +31,10 @@ cut_split n len m b t inside same low high =
           let long : n ≤ length t = omega (arith, size, length-take len b) in
           let at : m ≡ n = low long in
           let front : take m t ≡ take len (take n b) =
-              ap (λ k. take k t) at ∙ (ap (λ l. take n l) same ∙ (take-take n len b above ∙ sym (take_all len (take n b) (omega (arith, length-take-le n b inside))))) in
+          ap (λ k. take k t) at ∙ (ap (λ l. take n l) same ∙ (take-take n len b above ∙ sym (take_all len (take n b) (omega (arith, length-take-le n b inside))))) in
           let room : len - length (take n b) ≡ len - n = omega (arith, length-take-le n b inside) in
           let back : drop m t ≡ take (len - length (take n b)) (drop n b) =
-              ap (λ k. drop k t) at ∙ (ap (λ l. drop n l) same ∙ (ap (λ k. drop n (take k b)) whole ∙ (drop-take n (len - n) b ∙ sym (ap (λ k. take k (drop n b)) room)))) in
+          ap (λ k. drop k t) at ∙ (ap (λ l. drop n l) same ∙ (ap (λ k. drop n (take k b)) whole ∙ (drop-take n (len - n) b ∙ sym (ap (λ k. take k (drop n b)) room)))) in
           parts (take m t) (take len (take n b)) (drop m t) (take (len - length (take n b)) (drop n b)) front back
     ]
 
@@ -42,12 +42,12 @@ pub crash_split : (n kept k m : ℕ) (b t : List ℕ) → n ≤ length b → t �
     → split_at m t ≡ crashed kept (split_at n b)
 crash_split n kept k m b t inside same at low high =
     let left : take k (drop n b) ≡ take kept (drop n b) =
-        elim (cases_lt (length b - n) kept) [
-          | inl below ↦
-              let e : k ≡ length b - n = high (omega arith) in
-              take_all k (drop n b) (omega (arith, length-drop n b)) ∙ sym (take_all kept (drop n b) (omega (arith, length-drop n b)))
-          | inr above ↦ ap (λ j. take j (drop n b)) (low above)
-        ]
+    elim (cases_lt (length b - n) kept) [
+      | inl below ↦
+          let e : k ≡ length b - n = high (omega arith) in
+          take_all k (drop n b) (omega (arith, length-drop n b)) ∙ sym (take_all kept (drop n b) (omega (arith, length-drop n b)))
+      | inr above ↦ ap (λ j. take j (drop n b)) (low above)
+    ]
     in
     parts (take m t) (take n b ++ take kept (drop n b)) (drop m t) []
     (ap (λ k. take k t) at ∙ (take-length t ∙ (same ∙ (take-add n k b ∙ ap (λ xs. take n b ++ xs) left)))) (ap (λ k. drop k t) at ∙ drop-length t)

@@ -20,7 +20,7 @@ pub goes_on : (total : Found) (deltas : List (List Op)) (sealed : Bool) (whole m
 goes_on total deltas sealed whole more b rest delta n e count h =
     let q : Found = found 0 sealed (drop (4 + n) rest) in
     let one : found 0 sealed (b ∷ rest) ≡ joined (one_record delta n sealed) q =
-        found_record sealed b rest delta n e ∙ ap (λ (r : Found). joined (one_record delta n sealed) r) (found_skip (4 + n) sealed rest)
+    found_record sealed b rest delta n e ∙ ap (λ (r : Found). joined (one_record delta n sealed) r) (found_skip (4 + n) sealed rest)
     in
     h ∙ (ap (λ (r : Found). joined (made deltas sealed whole false) r) one ∙
     made_same (deltas ++ (delta ∷ q.deltas)) ((deltas ++ delta ∷ []) ++ q.deltas) q.sealed (whole + (5 + n + q.whole)) (more + q.whole) q.bad

@@ -173,10 +173,10 @@ settled_is gateway old synced new o e h is =
     let now : new ≡ settled gateway o (synced_slots old) = is ∙ ap (λ d. settled gateway o d) e in
     now ∙ go o (ruled o (slot_content gateway i.first) (length i.first) here.1) here.0
   where
-  go : (o : Opening) → Ruled o (slot_content gateway (image old).first) (length (image old).first) → (image old).second ≡ [] → settled gateway o (synced_slots old) ≡ recovered gateway (image old)
-  go New r none = sym (recovered_new gateway (image old) none r.1)
-  go (Held f n) r none =
-      ap (λ s. pair s (synced_bytes (image old).second)) (cut_synced (bytes_of old.first) (13 + f.whole)) ∙ sym (recovered_held gateway (image old) r.0 f none r.1.0)
+    go : (o : Opening) → Ruled o (slot_content gateway (image old).first) (length (image old).first) → (image old).second ≡ [] → settled gateway o (synced_slots old) ≡ recovered gateway (image old)
+    go New r none = sym (recovered_new gateway (image old) none r.1)
+    go (Held f n) r none =
+        ap (λ s. pair s (synced_bytes (image old).second)) (cut_synced (bytes_of old.first) (13 + f.whole)) ∙ sym (recovered_held gateway (image old) r.0 f none r.1.0)
 
 -- ---- its records
 
@@ -244,6 +244,7 @@ pub opening_records : (gateway : ℕ) (i : Image) (o : Opening) → IsOpening ga
 opening_records gateway i o h = go o (ruled o (slot_content gateway i.first) (length i.first) h.1) where
   beside : slot_content gateway i.second ≡ Unsealed
   beside = ap (λ xs. slot_content gateway xs) h.0 ∙ empty_unsealed gateway
+
   go : (o : Opening) → Ruled o (slot_content gateway i.first) (length i.first) → deltas_of o ≡ records gateway i
   go New r = sym (ap (λ a. chosen a (slot_content gateway i.second)) r.0 ∙ ap (λ b. chosen Unsealed b) beside)
   go (Held f n) r = sym (ap (λ a. chosen a (slot_content gateway i.second)) r.1.0 ∙ ap (λ b. chosen (Sealed r.0 f) b) beside)

@@ -113,10 +113,10 @@ record_again tag rest delta n h =
 pub record_same : (tag : ℕ) (xs ys : List ℕ) (delta : List Op) (n : ℕ) → IsRecord tag xs delta n → 4 + n ≤ length ys → take (4 + n) ys ≡ take (4 + n) xs → IsRecord tag ys delta n
 record_same tag xs ys delta n h inside same =
     let front : take 4 ys ≡ take 4 xs =
-        sym (take-take 4 (4 + n) ys (omega arith)) ∙ (ap (λ zs. take 4 zs) same ∙ take-take 4 (4 + n) xs (omega arith))
+    sym (take-take 4 (4 + n) ys (omega arith)) ∙ (ap (λ zs. take 4 zs) same ∙ take-take 4 (4 + n) xs (omega arith))
     in
     let back : take n (drop 4 ys) ≡ take n (drop 4 xs) =
-        sym (drop-take 4 n ys) ∙ (ap (λ zs. drop 4 zs) same ∙ drop-take 4 n xs)
+    sym (drop-take 4 n ys) ∙ (ap (λ zs. drop 4 zs) same ∙ drop-take 4 n xs)
     in
     record {
       tag_is = h.tag_is;

@@ -19,6 +19,6 @@ spelled delta bytes e = e
 pub written_by : (delta : List Op) (body tagged counted bytes : List ℕ) (n : ℕ) → body ≡ delta_bytes delta → tagged ≡ 68 ∷ [] → n ≡ length body → counted ≡ tagged ++ big_bytes 4 n → bytes ≡ counted ++ body → bytes ≡ written delta
 written_by delta body tagged counted bytes n is tag size count all =
     let front : counted ≡ 68 ∷ big_bytes 4 (length (delta_bytes delta)) =
-        count ∙ (ap (λ xs. xs ++ big_bytes 4 n) tag ∙ ap (λ k. 68 ∷ big_bytes 4 k) (size ∙ ap length is))
+    count ∙ (ap (λ xs. xs ++ big_bytes 4 n) tag ∙ ap (λ k. 68 ∷ big_bytes 4 k) (size ∙ ap length is))
     in
     all ∙ (ap (λ xs. xs ++ body) front ∙ ap (λ xs. (68 ∷ big_bytes 4 (length (delta_bytes delta))) ++ xs) is)

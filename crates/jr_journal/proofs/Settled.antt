@@ -66,14 +66,19 @@ pub settled_shape : (gateway : ℕ) (slot : Slot) (d : Slots) → is_settled gat
 settled_shape gateway slot d e =
     let p = and_parts _ _ e in
     let q = and_parts _ _ p.0 in
-    let l = leads_shape (slot_content gateway (at d slot).synced) (length (at d slot).synced) (slot_content gateway (at d (other slot)).synced) p.1 in
-    (l.0, (l.1.0, record {
-      first_clean = nil_is d.first.unsynced q.0;
-      second_clean = nil_is d.second.unsynced q.1;
-      sealed = sealed_shape gateway (at d slot).synced l.0 l.1.0 l.1.1;
-      full = l.1.2;
-      below = l.1.3;
-    }))
+    let l = leads_shape (slot_content gateway (at d slot).synced) (length (at d slot).synced) (slot_content gateway (at d (other slot)).synced) p.1 in (
+      l.0,
+      (
+        l.1.0,
+        record {
+          first_clean = nil_is d.first.unsynced q.0;
+          second_clean = nil_is d.second.unsynced q.1;
+          sealed = sealed_shape gateway (at d slot).synced l.0 l.1.0 l.1.1;
+          full = l.1.2;
+          below = l.1.3;
+        },
+      ),
+    )
 
 pub settled_again : (gateway : ℕ) (slot : Slot) (d : Slots) (m : ℕ) (f : Found) → IsUsed gateway slot d m f → is_settled gateway slot d ≡ true
 settled_again gateway slot d m f h =
@@ -81,7 +86,7 @@ settled_again gateway slot d m f h =
     let size = (at d slot).synced in
     let beside = slot_content gateway (at d (other slot)).synced in
     let leading : leads (slot_content gateway (at d slot).synced) (length size) beside ≡ true =
-        ap (λ x. leads x (length size) beside) content ∙ and_from _ _ (eq-eqb (13 + f.whole) (length size) h.full) h.below in
+    ap (λ x. leads x (length size) beside) content ∙ and_from _ _ (eq-eqb (13 + f.whole) (length size) h.full) h.below in
     and_from _ _ (and_from _ _ (is_nil_at d.first.unsynced h.first_clean) (is_nil_at d.second.unsynced h.second_clean)) leading
 
 -- ---- crashes
@@ -154,9 +159,12 @@ front_sealed gateway xs m f delta n h full readable =
           (joined f (ended true false), sealed_more gateway xs (take n (written delta)) m f (ended true false) h full (found_front true delta n readable lt) refl refl, inl (append-nil f.deltas))
       | inr le ↦
           let all : take n (written delta) ≡ written delta = take_all n (written delta) le in
-          let one = one_record delta (length (delta_bytes delta)) true in
-          (joined f one, sealed_at gateway (xs ++ written delta) (xs ++ take n (written delta)) m (joined f one) (ap (λ ys. xs ++ ys) all)
-          (sealed_more gateway xs (written delta) m f one h full (found_written true delta readable) refl refl), inr refl)
+          let one = one_record delta (length (delta_bytes delta)) true in (
+            joined f one,
+            sealed_at gateway (xs ++ written delta) (xs ++ take n (written delta)) m (joined f one) (ap (λ ys. xs ++ ys) all)
+                (sealed_more gateway xs (written delta) m f one h full (found_written true delta readable) refl refl),
+            inr refl,
+          )
     ]
 
 pub more_leaves : (gateway : ℕ) (slot : Slot) (d : Slots) (m : ℕ) (f : Found) (delta : List Op) (w : ℕ) → IsUsed gateway slot d m f → IsReadable delta
@@ -167,9 +175,9 @@ more_leaves gateway slot d m f delta w h readable = λ k l.
     let front : image_at (after_crash k l new) slot ≡ (at d slot).synced ++ take (min c.0 w) (written delta) = c.1 ∙ ap (λ ys. (at d slot).synced ++ ys) (take_both c.0 w (written delta)) in
     let s = front_sealed gateway (at d slot).synced m f delta (min c.0 w) h.sealed h.full readable in
     let now : records gateway (after_crash k l new) ≡ s.0.deltas =
-        records_at gateway slot (after_crash k l new) m s.0
-        (sealed_at gateway ((at d slot).synced ++ take (min c.0 w) (written delta)) (image_at (after_crash k l new) slot) m s.0 front s.1)
-        (below_at gateway (at d (other slot)).synced (image_at (after_crash k l new) (other slot)) m c.2 h.below) in
+    records_at gateway slot (after_crash k l new) m s.0
+    (sealed_at gateway ((at d slot).synced ++ take (min c.0 w) (written delta)) (image_at (after_crash k l new) slot) m s.0 front s.1)
+    (below_at gateway (at d (other slot)).synced (image_at (after_crash k l new) (other slot)) m c.2 h.below) in
     let before : f.deltas ≡ records gateway (image d) = sym (used_records gateway slot d m f h) in
     elim s.2 [
       | inl same ↦ inl (now ∙ (same ∙ before))

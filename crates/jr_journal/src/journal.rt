@@ -32,7 +32,11 @@ impl<D: Disk + Drop> Journal<D> {
     ///
     /// With a fault the disk comes back. `Foreign` and `BadRecord` are told of what is in the slots, `Disk` only where
     /// the disk failed, `Memory` where memory ran out.
-    pub fn open(alloc: Global, disk: D, gateway: u8) -> Result<(Journal<D>, Vec<Delta>), (D, JournalFault)>
+    pub fn open(
+        alloc: Global,
+        disk: D,
+        gateway: u8,
+    ) -> Result<(Journal<D>, Vec<Delta>), (D, JournalFault)>
         ensures starts { IfOk result (λ made. (made.0.halted ≡ false) × (made.0.gateway ≡ gateway) × (made.0.slot ≡ Slot.First)) }
         ensures cause { IfErr result (λ refused. refused.1 ≡ JournalFault.Disk → D.failures disk < D.failures refused.0) }
         ensures running { IfErr result (λ refused. refused.1 ≢ JournalFault.Halted) }

@@ -195,7 +195,11 @@ impl MemoryDisk {
     pub fn fail_next(&mut self, bytes: usize, sync: bool)
         ensures { self.new ≡ failing bytes sync self.old }
     {
-        self.plan = if sync { Some(Plan::KeepBack) } else { Some(Plan::Stop { after: bytes }) };
+        self.plan = if sync {
+            Some(Plan::KeepBack)
+        } else {
+            Some(Plan::Stop { after: bytes })
+        };
     }
 
     /// A call failed.

@@ -125,7 +125,11 @@ fn cut_torn<D: Disk>(disk: &mut D, whole: usize, size: usize) -> Result<(), Jour
 }
 
 /// Does what is to be done with the first slot.
-pub(crate) fn settle<D: Disk>(disk: &mut D, gateway: u8, opening: &Opening) -> Result<(), JournalFault>
+pub(crate) fn settle<D: Disk>(
+    disk: &mut D,
+    gateway: u8,
+    opening: &Opening,
+) -> Result<(), JournalFault>
     ensures cause { D.failures disk.old ≤ D.failures disk.new }
     ensures starved { D.starved disk.old ≡ true → D.starved disk.new ≡ true }
     ensures calm { D.honest → D.starved disk.new ≡ false → IsTrue (is_quiet (D.outlook disk.old) (is_new opening.now)) → IsUnhurt result (D.outlook disk.old) (D.outlook disk.new) }
@@ -139,7 +143,11 @@ pub(crate) fn settle<D: Disk>(disk: &mut D, gateway: u8, opening: &Opening) -> R
 }
 
 /// Reads both slots: what is to be done with the first, the second being empty.
-pub(crate) fn read_slots<D: Disk>(alloc: Global, disk: &mut D, gateway: u8) -> Result<Opening, JournalFault>
+pub(crate) fn read_slots<D: Disk>(
+    alloc: Global,
+    disk: &mut D,
+    gateway: u8,
+) -> Result<Opening, JournalFault>
     ensures cause { D.failures disk.old ≤ D.failures disk.new }
     ensures starved { D.starved disk.old ≡ true → D.starved disk.new ≡ true }
     ensures calm { D.honest → D.starved disk.new ≡ false → IsTrue (is_calm (D.outlook disk.old)) → IsUnhurt result (D.outlook disk.old) (D.outlook disk.new) }
@@ -172,7 +180,11 @@ fn deltas_in(alloc: Global, opening: Opening) -> Vec<Delta>
 
 /// The records of a journal, which is settled behind it: both slots are synced, a torn end is cut away, and where
 /// there was no journal one is begun.
-pub(crate) fn recover<D: Disk>(alloc: Global, disk: &mut D, gateway: u8) -> Result<Vec<Delta>, JournalFault>
+pub(crate) fn recover<D: Disk>(
+    alloc: Global,
+    disk: &mut D,
+    gateway: u8,
+) -> Result<Vec<Delta>, JournalFault>
     ensures cause { D.failures disk.old ≤ D.failures disk.new }
     ensures starved { D.starved disk.old ≡ true → D.starved disk.new ≡ true }
     ensures calm { D.honest → D.starved disk.new ≡ false → IsTrue (is_quiet (D.outlook disk.old) (is_fresh (image (D.slots disk.old)))) → IsUnhurt result (D.outlook disk.old) (D.outlook disk.new) }

@@ -64,7 +64,11 @@ fn open_on(alloc: Global, disk: MemoryDisk) -> Result<(usize, Vec<u8>), JournalF
 }
 
 /// The fault of a disk with these bytes in its slots, or none.
-fn fault_on(alloc: Global, first: &[u8], second: &[u8]) -> Result<Option<JournalFault>, JournalFault> {
+fn fault_on(
+    alloc: Global,
+    first: &[u8],
+    second: &[u8],
+) -> Result<Option<JournalFault>, JournalFault> {
     match open_on(alloc, disk_with(alloc, first, second)?) {
         Ok(_) => Ok(None),
         Err(fault) => Ok(Some(fault)),
@@ -116,7 +120,10 @@ fn what_is_no_journal(rt: HostRuntime) -> Result<(), Fail> {
         slot: Slot::First,
         at: 14,
     });
-    assert_eq!(rt; fault_on(alloc, &altered(alloc, 14, 0x45)?, &[])?, no_record);
+    assert_eq!(rt;
+        fault_on(alloc, &altered(alloc, 14, 0x45)?, &[])?,
+        no_record
+    );
     let mut too_long = altered(alloc, 16, 0x80)?;
     if too_long.len() > 18 {
         too_long[18] = 0x01;
@@ -164,10 +171,22 @@ fn a_write_that_fails(rt: HostRuntime) -> Result<(), Fail> {
     let failed = Err(JournalFault::Disk);
     let halted = Err(JournalFault::Halted);
     let size = JOURNAL.len() - BEGUN;
-    assert_eq!(rt; after_failure(alloc, size - 1, false, size)?, (failed, halted, 0));
-    assert_eq!(rt; after_failure(alloc, size, false, size - 1)?, (failed, halted, 0));
-    assert_eq!(rt; after_failure(alloc, size, false, size)?, (failed, halted, 1));
-    assert_eq!(rt; after_failure(alloc, 0, true, size - 1)?, (failed, halted, 0));
+    assert_eq!(rt;
+        after_failure(alloc, size - 1, false, size)?,
+        (failed, halted, 0)
+    );
+    assert_eq!(rt;
+        after_failure(alloc, size, false, size - 1)?,
+        (failed, halted, 0)
+    );
+    assert_eq!(rt;
+        after_failure(alloc, size, false, size)?,
+        (failed, halted, 1)
+    );
+    assert_eq!(rt;
+        after_failure(alloc, 0, true, size - 1)?,
+        (failed, halted, 0)
+    );
     assert_eq!(rt; after_failure(alloc, 0, true, size)?, (failed, halted, 1));
     Ok(())
 }

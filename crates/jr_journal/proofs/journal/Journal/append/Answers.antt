@@ -25,15 +25,16 @@ returns-then-is_err-2-clause-torn g c = λ honest told.
     (all_out s.slot old middle new bytes (on_ok c.append.result c.if-is_err.ensures.value (c.append.ensures.ok honest)) (on_err c.sync.result c.if-is_err-2.ensures.value (c.sync.ensures.err honest)))
 
 pub invariant_of-self-2 : goal.invariant_of-self-2
-invariant_of-self-2 g c = record { settled = λ honest.
-    let s = c.args.self.now in
-    let old = g.D.Disk.slots s.disk in
-    let middle = g.D.Disk.slots c.append.new.self in
-    let new = g.D.Disk.slots c.sync.new.self in
-    settles_after s.gateway s.slot s.halted old new c.args.delta.now (s.settled honest) c.if-self.false c.in_ok-bytes.ensures.readable
-    (synced_is s.slot old middle new c.args.delta.now c.deref.result.now (c.deref.ensures.value ∙ c.in_ok-bytes.ensures.ok)
-    (on_ok c.append.result c.if-is_err.ensures.value (c.append.ensures.ok honest)) (on_ok c.sync.result c.if-is_err-2.ensures.value (c.sync.ensures.ok honest)))
-  }
+invariant_of-self-2 g c = record {
+  settled = λ honest.
+      let s = c.args.self.now in
+      let old = g.D.Disk.slots s.disk in
+      let middle = g.D.Disk.slots c.append.new.self in
+      let new = g.D.Disk.slots c.sync.new.self in
+      settles_after s.gateway s.slot s.halted old new c.args.delta.now (s.settled honest) c.if-self.false c.in_ok-bytes.ensures.readable
+      (synced_is s.slot old middle new c.args.delta.now c.deref.result.now (c.deref.ensures.value ∙ c.in_ok-bytes.ensures.ok)
+      (on_ok c.append.result c.if-is_err.ensures.value (c.append.ensures.ok honest)) (on_ok c.sync.result c.if-is_err-2.ensures.value (c.sync.ensures.ok honest)));
+}
 
 pub returns-clause-durable : goal.returns-clause-durable
 returns-clause-durable g c = λ honest.
