@@ -8,3 +8,4 @@ pub mod Readable
 pub mod Appending
 pub mod Opened
 pub mod Calm
+pub mod Leaving

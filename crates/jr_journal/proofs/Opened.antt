@@ -153,7 +153,7 @@ recovered_held gateway i m f none is =
 synced_first : (d : Slots) → (image (synced_slots d)).first ≡ (image d).first
 synced_first d = append-nil (bytes_of d.first)
 
-synced_same : (d : Slots) → image (synced_slots d) ≡ image d
+pub synced_same : (d : Slots) → image (synced_slots d) ≡ image d
 synced_same d =
     let a : bytes_of d.first ++ [] ≡ bytes_of d.first = append-nil (bytes_of d.first) in
     let b : bytes_of d.second ++ [] ≡ bytes_of d.second = append-nil (bytes_of d.second) in
@@ -180,14 +180,14 @@ settled_is gateway old synced new o e h is =
 
 -- ---- its records
 
-begins_itself : (xs : List ℕ) → bytes_eq xs xs ≡ true
+pub begins_itself : (xs : List ℕ) → bytes_eq xs xs ≡ true
 begins_itself xs = (bytes_eq-Decides xs xs).1 refl
 
 seal_piece : piece_at 83 [] ≡ Seal
 unfolding piece_at
 seal_piece = refl
 
-new_sealed : (gateway : ℕ) → IsSealed gateway (new_journal gateway) 1 (made [] true 1 false)
+pub new_sealed : (gateway : ℕ) → IsSealed gateway (new_journal gateway) 1 (made [] true 1 false)
 new_sealed gateway = record {
   header = begins_itself (magic gateway);
   long = omega arith;

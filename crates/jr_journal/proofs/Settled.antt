@@ -143,7 +143,7 @@ crash_more : (slot : Slot) (d : Slots) (bytes : List ℕ) (k l : ℕ) → d.firs
 crash_more First d bytes k l a b = (k, left_more k d.first bytes a, left_clean l d.second b)
 crash_more Second d bytes k l a b = (l, left_more l d.second bytes b, left_clean k d.first a)
 
-take_both : (j w : ℕ) (xs : List ℕ) → take j (take w xs) ≡ take (min j w) xs
+pub take_both : (j w : ℕ) (xs : List ℕ) → take j (take w xs) ≡ take (min j w) xs
 take_both j w xs =
     elim (cases_lt w j) [
       | inl lt ↦ let m : min j w ≡ w = omega arith in take_all j (take w xs) (omega (arith, length-take w xs)) ∙ ap (λ k. take k xs) (sym m)

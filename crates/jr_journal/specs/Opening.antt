@@ -1,5 +1,5 @@
 -- What opening a journal makes of the two slots.
-use Rattle.std.specs.Prelude.{Option, Some, None, ◌≡◌, ◌≢◌, ℕ, ◌+◌, Bool, true, false, ◌&&◌, not, if◌then◌else◌, nat_lt, List, [], length, take, Result, Ok, Err, IsErrOf}
+use Rattle.std.specs.Prelude.{Option, Some, None, ◌≡◌, ◌≢◌, ◌⊎◌, ℕ, ◌+◌, Bool, true, false, ◌&&◌, not, if◌then◌else◌, nat_lt, List, [], length, take, Result, Ok, Err, IsErrOf}
 use Rattle.rep_ops.specs.declared.op.Op.{Op}
 use Rattle.jr_journal.specs.declared.disk.Slot.{Slot}
 use Rattle.jr_journal.specs.declared.disk.Slot.TheVariants.{First, Second}
@@ -137,6 +137,15 @@ abbrev pub IsUnhurt : {T : Type 0} → Result T JournalFault → Option (Option 
 IsUnhurt result old new = (IsErrOf result Disk → ⊥) × (new ≡ old)
 
 -- ---- an opening that failed
+
+-- a new journal was begun as far as this
+abbrev pub IsBegun : ℕ → Slots → Slots → Type 0
+IsBegun gateway old new = (new ≡ old) ⊎ ((w : ℕ) × (new ≡ replaced old First (record { synced = []; unsynced = take w (new_journal gateway) })))
+
+-- the last step was done, or in part, or not
+abbrev pub IsPartly : ℕ → Opening → Slots → Slots → Type 0
+IsPartly gateway New old new = IsBegun gateway old new
+IsPartly gateway (Held f size) old new = (new ≡ old) ⊎ (new ≡ replaced old First (cut_to old.first (13 + f.whole)))
 
 -- whatever a crash leaves now, a crash before would have left the same records
 abbrev pub LeavesNoMore : ℕ → Slots → Slots → Type 0

@@ -5,6 +5,7 @@ ghost use Rattle.jr_journal.specs.Journals.{is_settled};
 
 use crate::disk::{Disk, Slot};
 use crate::fault::JournalFault;
+use crate::memory::MemoryDisk;
 use crate::opening::recover;
 use crate::record::record_of;
 use rep_ops::Delta;
@@ -111,5 +112,14 @@ impl<D: Disk + Drop> Journal<D> {
         ensures { result ≡ self.now.halted }
     {
         self.halted
+    }
+}
+
+impl Journal<MemoryDisk> {
+    /// Whether memory was refused in the disk.
+    pub fn starved(&self) -> bool
+        ensures { result ≡ self.now.disk.starved }
+    {
+        self.disk.starved()
     }
 }

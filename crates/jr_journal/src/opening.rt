@@ -3,7 +3,7 @@
 ghost use Rattle.std.specs.Prelude.{◌≡◌, ◌≢◌, ◌≤◌, ◌<◌, ◌⊎◌, ◌+◌, [], true, false, length, IfOk, IfErr, OnOk, OnErr, IsErrOf, IsTrue, None};
 ghost use Rattle.jr_journal.specs.Disk.{at, replaced, bytes_of, image, all_synced, cut_to, is_calm};
 ghost use Rattle.jr_journal.specs.Records.{new_journal, slot_content, records};
-ghost use Rattle.jr_journal.specs.Opening.{synced_bytes, synced_slots, opening_of, deltas_of, IsOpening, IsSized, settled, recovered, is_fresh, is_new, is_quiet, IsUnhurt, IsFault, fault_of};
+ghost use Rattle.jr_journal.specs.Opening.{synced_bytes, synced_slots, opening_of, deltas_of, IsOpening, IsSized, settled, recovered, is_fresh, is_new, is_quiet, IsUnhurt, IsFault, fault_of, IsBegun, IsPartly, LeavesNoMore};
 ghost use Rattle.jr_journal.specs.Journals.{is_settled, Leaves};
 
 use crate::content::{HEADER, MAGIC, SlotContent, read_content};
@@ -91,6 +91,7 @@ fn begin<D: Disk>(disk: &mut D, gateway: u8) -> Result<(), JournalFault>
     ensures calm { D.honest → D.starved disk.new ≡ false → IsTrue (is_quiet (D.outlook disk.old) true) → IsUnhurt result (D.outlook disk.old) (D.outlook disk.new) }
     ensures err { IfErr result (λ fault. (fault ≡ JournalFault.Disk) × (D.failures disk.old < D.failures disk.new)) }
     ensures ok { D.honest → OnOk result (D.slots disk.new ≡ replaced (D.slots disk.old) Slot.First (synced_bytes (new_journal gateway))) }
+    ensures part { D.honest → OnErr result (IsBegun gateway (D.slots disk.old) (D.slots disk.new)) }
 {
     let [a, b, c, d] = MAGIC;
     let header = [a, b, c, d, gateway, 0, 0, 0, 0, 0, 0, 0, 1, SEAL];
@@ -114,6 +115,7 @@ fn cut_torn<D: Disk>(disk: &mut D, whole: usize, size: usize) -> Result<(), Jour
     ensures calm { D.honest → D.starved disk.new ≡ false → IsTrue (is_calm (D.outlook disk.old)) → IsUnhurt result (D.outlook disk.old) (D.outlook disk.new) }
     ensures err { IfErr result (λ fault. (fault ≡ JournalFault.Disk) × (D.failures disk.old < D.failures disk.new)) }
     ensures ok { D.honest → size ≡ length (bytes_of (D.slots disk.old).first) → OnOk result (D.slots disk.new ≡ replaced (D.slots disk.old) Slot.First (cut_to (D.slots disk.old).first (13 + whole))) }
+    ensures part { D.honest → OnErr result ((D.slots disk.new ≡ D.slots disk.old) ⊎ (D.slots disk.new ≡ replaced (D.slots disk.old) Slot.First (cut_to (D.slots disk.old).first (13 + whole)))) }
 {
     if size < HEADER || size - HEADER <= whole {
         return Ok(());
@@ -135,6 +137,7 @@ pub(crate) fn settle<D: Disk>(
     ensures calm { D.honest → D.starved disk.new ≡ false → IsTrue (is_quiet (D.outlook disk.old) (is_new opening.now)) → IsUnhurt result (D.outlook disk.old) (D.outlook disk.new) }
     ensures err { IfErr result (λ fault. (fault ≡ JournalFault.Disk) × (D.failures disk.old < D.failures disk.new)) }
     ensures ok { D.honest → IsSized opening.now (D.slots disk.old) → OnOk result (D.slots disk.new ≡ settled gateway opening.now (D.slots disk.old)) }
+    ensures part { D.honest → OnErr result (IsPartly gateway opening.now (D.slots disk.old) (D.slots disk.new)) }
 {
     match opening {
         Opening::New => begin(disk, gateway),
@@ -196,6 +199,8 @@ pub(crate) fn recover<D: Disk>(
     ensures durable { D.honest → IfOk result (λ deltas. Leaves gateway (D.slots disk.new) deltas.items) }
     ensures found { D.honest → OnOk result (fault_of gateway (image (D.slots disk.old)) ≡ None) }
     ensures fault { D.honest → IfErr result (λ fault. IsFault (fault_of gateway (image (D.slots disk.old))) fault) }
+    ensures kept { D.honest → IfErr result (λ fault. fault ≢ JournalFault.Disk → D.slots disk.new ≡ synced_slots (D.slots disk.old)) }
+    ensures leaves { D.honest → OnErr result (LeavesNoMore gateway (D.slots disk.old) (D.slots disk.new)) }
 {
     sync_both(disk)?;
     let opening = read_slots(alloc, disk, gateway)?;
