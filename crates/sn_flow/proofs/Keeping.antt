@@ -5,6 +5,7 @@ use Rattle.sn_session.specs.declared.session.Session.{Session}
 use Rattle.sn_session.specs.declared.change.SessionOp.{SessionOp}
 use Rattle.sn_session.specs.declared.will.WillTopic.{WillTopic}
 use Rattle.sn_frame.specs.declared.frame.Frame.{Frame}
+use Rattle.sn_frame.specs.declared.frame.Frame.TheVariants as frames
 use Rattle.sn_frame.specs.declared.frame.Will.{Will}
 use Rattle.sn_frame.specs.FlagBits.{qos_of, kind_of}
 use Rattle.sn_session.specs.Subscriptions.{qos_of as subscribed_at, filter_has_no_room}
@@ -36,7 +37,7 @@ of_nothing = record { acks = refl; puts = refl; local = refl }
 
 of_registered : (a : Addr) (msg_id : ℕ) (named : Option NamedId) → ChangesSessionOnly (registered a msg_id named)
 of_registered a msg_id None = record { acks = refl; puts = refl; local = refl }
-of_registered a msg_id (Some named) = of_sent a _ _ (of_changed_if named.change nothing of_nothing)
+of_registered a msg_id (Some named) = of_sent a (frames.RegAck named.id msg_id 0) _ (of_changed_if named.change nothing of_nothing)
 
 of_name : (a : Addr) (s : Session) (msg_id : ℕ) (name : Option (List ℕ)) → ChangesSessionOnly (register_name a s msg_id name)
 of_name a s msg_id None = record { acks = refl; puts = refl; local = refl }
@@ -48,7 +49,7 @@ of_register a s msg_id name = of_name a s msg_id (name_asked name)
 of_subscribed : (a : Addr) (s : Session) (bits msg_id : ℕ) (filter : List ℕ) (qos : ℕ) (named : Option NamedId) → ChangesSessionOnly (subscribed a s bits msg_id filter qos named)
 of_subscribed a s bits msg_id filter qos None = record { acks = refl; puts = refl; local = refl }
 of_subscribed a s bits msg_id filter qos (Some named) =
-    of_sent a _ _ (of_changed_if (subscribe_change filter qos (subscribed_at filter s.subscriptions)) _ (of_changed_if named.change nothing of_nothing))
+    of_sent a (suback bits named.id msg_id 0) _ (of_changed_if (subscribe_change filter qos (subscribed_at filter s.subscriptions)) _ (of_changed_if named.change nothing of_nothing))
 
 of_either : (test : Bool) (d e : Drafted) → ChangesSessionOnly d → ChangesSessionOnly e → ChangesSessionOnly (if test then d else e)
 of_either true d e h k = h
@@ -70,7 +71,7 @@ pub of_subscribe : (p : Entries) (a : Addr) (s : Session) (bits msg_id : ℕ) (f
 of_subscribe p a s bits msg_id field = of_quality p a s bits msg_id field (qos_asked (qos_of bits))
 
 pub of_unsubscribe : (p : Entries) (a : Addr) (s : Session) (bits msg_id : ℕ) (field : List ℕ) → ChangesSessionOnly (unsubscribe p a s bits msg_id field)
-of_unsubscribe p a s bits msg_id field = of_sent a _ _ (of_changed_if (unsubscribe_asked s (topics_asked p (kind_of bits) field)) nothing of_nothing)
+of_unsubscribe p a s bits msg_id field = of_sent a (frames.UnsubAck msg_id) _ (of_changed_if (unsubscribe_asked s (topics_asked p (kind_of bits) field)) nothing of_nothing)
 
 of_topic : (a : Addr) (topic : Option WillTopic) → ChangesSessionOnly (topic_set a topic)
 of_topic a None = record { acks = refl; puts = refl; local = refl }
