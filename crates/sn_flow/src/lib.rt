@@ -52,6 +52,6 @@ pub use fault::StepFault;
 pub use local::{Awaited, Binding, Dialogs, LocalChange, Request, Timer, WillDialog};
 pub use numbering::apply;
 pub use plan::{Plan, plan_of, plan_of_puts, plan_without};
-pub use table::{other, step};
+pub use table::{is_up, other, step};
 pub use topic_rows::{register, subscribe, unsubscribe};
 pub use wills::{will_msg, will_msg_update, will_topic, will_topic_update};
