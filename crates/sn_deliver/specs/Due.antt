@@ -64,8 +64,8 @@ due_view g local now c v =
     if is_stamp_of g v.stamp then due_session now v.pending (timer_of c local.timers) (address_of c local.bindings) v.session else None
 
 -- what is due with a client that the gateway owns
-abbrev pub due : ℕ → Seen → Local → ℕ → List ℕ → Option Due
-due g seen local now c = due_view g local now c (seen.of c)
+abbrev pub due_with : ℕ → Seen → Local → ℕ → List ℕ → Option Due
+due_with g seen local now c = due_view g local now c (seen.of c)
 
 abbrev pub or_later : Option (List ℕ × Due) → List ℕ → Option Due → Option (List ℕ × Due)
 or_later later c None = later
@@ -74,4 +74,4 @@ or_later later c (Some reason) = Some (c, reason)
 -- the first of these clients that is due, and for what
 abbrev pub first_due : ℕ → Seen → Local → ℕ → List (List ℕ) → Option (List ℕ × Due)
 first_due g seen local now [] = None
-first_due g seen local now (c ∷ rest) = or_later (first_due g seen local now rest) c (due g seen local now c)
+first_due g seen local now (c ∷ rest) = or_later (first_due g seen local now rest) c (due_with g seen local now c)

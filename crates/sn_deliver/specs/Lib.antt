@@ -3,6 +3,7 @@ pub mod Delivery
 pub mod Due
 pub mod Exchanges
 pub mod Forms
+pub mod Laws
 pub mod Publishing
 pub mod Recipients
 pub mod Resending

@@ -4,7 +4,7 @@ ghost use Rattle.std.specs.Prelude.{◌≡◌, ◌≤◌, IfOk};
 ghost use Rattle.std.specs.Option.{option_copied};
 ghost use Rattle.sn_flow.specs.Plans.{seen_of};
 ghost use Rattle.sn_flow.specs.Bindings.{is_stamp_of as is_stamp_of_gateway};
-ghost use Rattle.sn_deliver.specs.Due.{elapsed as time_elapsed, patience as patience_for, is_silent as is_silent_client, is_overdue as is_client_overdue, due_again as due_once_more, due_exchange as due_of_exchange, due_delivery as delivery_due, due_by as due_by_exchange, due_at as due_at_address, due_session as due_of_session, due_view as due_of_view, due as due_of_client, first_due as first_client_due};
+ghost use Rattle.sn_deliver.specs.Due.{elapsed as time_elapsed, patience as patience_for, is_silent as is_silent_client, is_overdue as is_client_overdue, due_again as due_once_more, due_exchange as due_of_exchange, due_delivery as delivery_due, due_by as due_by_exchange, due_at as due_at_address, due_session as due_of_session, due_view as due_of_view, due_with as due_of_client, first_due as first_client_due};
 
 use super::exchange::{is_awake, is_served, open_exchange};
 use rep_model::{ClientView, Replica};
@@ -186,7 +186,7 @@ fn due_view(
 }
 
 /// What is due with a client that the gateway owns.
-fn due<R: Replica>(
+fn due_with<R: Replica>(
     gateway: u8,
     replica: &R,
     dialogs: &Dialogs,
@@ -212,7 +212,7 @@ pub fn first_due<R: Replica>(
     ensures { result ≡ first_client_due gateway (seen_of (R.kept replica.now)) dialogs.now.local now clients.items }
 {
     for client in clients {
-        if let Some(reason) = due(gateway, replica, dialogs, now, &client) {
+        if let Some(reason) = due_with(gateway, replica, dialogs, now, &client) {
             return Some((client, reason));
         }
     }

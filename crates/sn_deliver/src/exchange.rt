@@ -12,11 +12,7 @@ use sn_session::{Outbound, Phase, Presence, Session, SessionOp};
 use std::alloc::Global;
 
 /// Changes the session by these operations, one after the other.
-fn apply_all(
-    alloc: Global,
-    session: &mut Session,
-    changes: &[SessionOp],
-) -> Result<(), StepFault>
+fn apply_all(alloc: Global, session: &mut Session, changes: &[SessionOp]) -> Result<(), StepFault>
     ensures ok { OnOk result (session.new ≡ fold applied session.old changes.now) }
     ensures err { IfErr result (λ fault. fault ≡ StepFault.Memory) }
 {
@@ -77,11 +73,7 @@ pub fn put_named(name: (u64, u8), pending: &[Put]) -> Option<&Put>
 }
 
 /// The message of a name, where it is left.
-pub fn put_left<'a>(
-    acks: &[(u64, u8)],
-    pending: &'a [Put],
-    name: (u64, u8),
-) -> Option<&'a Put>
+pub fn put_left<'a>(acks: &[(u64, u8)], pending: &'a [Put], name: (u64, u8)) -> Option<&'a Put>
     ensures { option_copied result ≡ left_put acks.now pending.now name }
 {
     if is_done(acks, name) {

@@ -149,5 +149,12 @@ pub fn puts_of_will<R: Replica>(
 {
     let mut clients = replica.clients(alloc)?;
     leave_out(&mut clients, client);
-    puts_among(alloc, replica, clients, &will.topic, will.qos, &will.message)
+    puts_among(
+        alloc,
+        replica,
+        clients,
+        &will.topic,
+        will.qos,
+        &will.message,
+    )
 }

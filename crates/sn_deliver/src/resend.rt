@@ -19,12 +19,7 @@ use sn_topic::Predefined;
 use std::alloc::Global;
 
 /// And then a frame of the exchange, again. Answers that it stops.
-fn again(
-    alloc: Global,
-    peer: &Peer,
-    frame: &Frame,
-    draft: &mut Draft,
-) -> Result<bool, StepFault>
+fn again(alloc: Global, peer: &Peer, frame: &Frame, draft: &mut Draft) -> Result<bool, StepFault>
     requires message { IsMessage frame.now }
     requires size { total_of frame.now ≤ 65535 }
     ensures ok { IfOk result (λ stops. (stops, draft.new) ≡ sent_again peer.now frame.now draft.old) }

@@ -6,16 +6,16 @@ ghost use Rattle.sn_flow.specs.Bindings.{client_at as client_of};
 ghost use Rattle.sn_deliver.specs.Publishing.{publish_unconnected as unconnected};
 ghost use Rattle.sn_deliver.specs.Serving.{with_delivery as with_delivery_behind, deliver_next as next_plan, served as served_plan, peer_at as peer_there, publish_of, publish_in as publish_plan, pubrel_of, pubrel_in as pubrel_plan, acknowledged as acknowledged_draft, ack_of, ack_in as ack_plan};
 
-use super::acknowledge::acknowledge;
+use super::acknowledging::acknowledge;
 use super::delivery::then_deliver;
 use super::peer::Peer;
-use super::publish::{publish, publish_unconnected, pubrel};
+use super::publishing::{publish, publish_unconnected, pubrel};
 use octets::Octets;
 use rep_model::Replica;
 use rep_ops::ClientId;
 use sn_flow::{
-    Addr, Config, Dialogs, Draft, LocalChange, Plan, StepFault, plan_of, plan_of_puts,
-    session_or, turn_away, unseen, view_or,
+    Addr, Config, Dialogs, Draft, LocalChange, Plan, StepFault, plan_of, plan_of_puts, session_or,
+    turn_away, unseen, view_or,
 };
 use sn_frame::{Flags, Frame, Qos};
 use sn_session::Session;
