@@ -58,12 +58,8 @@ fn name(alloc: Global, client: u8) -> Result<ClientId, OpsFault> {
 }
 
 fn take(alloc: Global, client: u8) -> Result<Op, OpsFault> {
-    let session = Session {
-        presence: Presence::Active,
-        clean: false,
-        duration: 60,
-        next_id: 1,
-    };
+    let mut session = Session::empty(alloc);
+    session.duration = 60;
     Ok(Op::Session {
         client: name(alloc, client)?,
         stamp: STAMP,

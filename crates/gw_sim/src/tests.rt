@@ -175,50 +175,74 @@ fn answers_are_printed(rt: HostRuntime) -> Result<(), Fail> {
 /// A session with entries in all of its tables.
 fn full_session(alloc: Global) -> Result<Session, Fail> {
     let mut session = Session::empty(alloc);
-    let topic = TopicName::new(alloc, b"ab")?;
-    for change in [
-        SessionOp::Presence {
-            presence: Presence::Disconnected,
-            duration: 65535,
-        },
-        SessionOp::Register {
-            id: 65534,
-            name: TopicName::new(alloc, b"t/a")?,
-            known: true,
-        },
-        SessionOp::Register {
-            id: 1,
-            name: TopicName::new(alloc, b"a")?,
-            known: false,
-        },
-        SessionOp::Subscribe {
-            filter: Filter::new(alloc, b"t/#")?,
-            qos: 0,
-        },
-        SessionOp::Subscribe {
-            filter: Filter::new(alloc, b"#")?,
-            qos: 2,
-        },
-        SessionOp::WillTopic(Some(WillTopic {
-            topic,
-            qos: 1,
-            retain: true,
-        })),
-        SessionOp::Received { id: 65535 },
-        SessionOp::Received { id: 0 },
-        SessionOp::Outbound {
-            exchange: Some(Outbound {
-                origin: 255,
-                seq: 1,
-                msg_id: 8,
-                phase: Phase::Registering,
-            }),
-            next_id: 9,
-        },
-    ] {
-        session.apply(alloc, &change)?;
-    }
+    session.presence = Presence::Disconnected;
+    session.duration = 65535;
+    set_topics(alloc, &mut session)?;
+    set_subscriptions(alloc, &mut session)?;
+    set_will(alloc, &mut session)?;
+    set_exchanges(alloc, &mut session)?;
     Ok(session)
+}
+
+/// Two topic ids, the greater one first.
+fn set_topics(alloc: Global, session: &mut Session) -> Result<(), Fail> {
+    let greater = SessionOp::Register {
+        id: 65534,
+        name: TopicName::new(alloc, b"t/a")?,
+        known: true,
+    };
+    session.apply(alloc, &greater)?;
+    let least = SessionOp::Register {
+        id: 1,
+        name: TopicName::new(alloc, b"a")?,
+        known: false,
+    };
+    session.apply(alloc, &least)?;
+    Ok(())
+}
+
+/// Two subscriptions, the greater filter first.
+fn set_subscriptions(alloc: Global, session: &mut Session) -> Result<(), Fail> {
+    let greater = SessionOp::Subscribe {
+        filter: Filter::new(alloc, b"t/#")?,
+        qos: 0,
+    };
+    session.apply(alloc, &greater)?;
+    let least = SessionOp::Subscribe {
+        filter: Filter::new(alloc, b"#")?,
+        qos: 2,
+    };
+    session.apply(alloc, &least)?;
+    Ok(())
+}
+
+/// A will without a message.
+fn set_will(alloc: Global, session: &mut Session) -> Result<(), Fail> {
+    let topic = SessionOp::WillTopic(Some(WillTopic {
+        topic: TopicName::new(alloc, b"ab")?,
+        qos: 1,
+        retain: true,
+    }));
+    session.apply(alloc, &topic)?;
+    Ok(())
+}
+
+/// Two ids that were received, and an exchange.
+fn set_exchanges(alloc: Global, session: &mut Session) -> Result<(), Fail> {
+    for id in [65535, 0] {
+        session.apply(alloc, &SessionOp::Received { id })?;
+    }
+    let begun = SessionOp::Outbound {
+        exchange: Some(Outbound {
+            origin: 255,
+            seq: 1,
+            msg_id: 8,
+            phase: Phase::Registering,
+        }),
+        next_id: 9,
+    };
+    session.apply(alloc, &begun)?;
+    Ok(())
 }
 
 #[test]

@@ -5,3 +5,4 @@ pub mod Events
 pub mod Field
 pub mod Keeping
 pub mod Plans
+pub mod Steady

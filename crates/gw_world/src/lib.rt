@@ -8,14 +8,17 @@
 //! - `event`: what can happen (`Event`), and what is answered (`Answer`, `Out`, `NodeFault`).
 //! - `world`: the result of a run (`World`), or why there is none (`WorldFault`).
 //! - `running`: the run.
+//! - `laws`: what holds of every run.
 #![tactic(auto)]
 
 mod event;
 mod field;
+mod laws;
 mod node;
 mod running;
 mod world;
 
 pub use event::{Answer, Event, NodeFault, Out};
+pub use laws::steady_field;
 pub use running::run;
 pub use world::{World, WorldFault};

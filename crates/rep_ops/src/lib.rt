@@ -42,4 +42,6 @@ pub use op::{Op, Put, Stamp};
 pub use split::deltas_of;
 
 #[cfg(test)]
+mod session_tests;
+#[cfg(test)]
 mod tests;

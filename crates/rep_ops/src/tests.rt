@@ -156,7 +156,8 @@ fn a_version_that_is_not_known(rt: HostRuntime) -> Result<(), Fail> {
 #[test]
 fn values_out_of_range(rt: HostRuntime) -> Result<(), Fail> {
     let alloc = rt.alloc();
-    // kind, size of the client, epoch, gateway, counter, tag, presence, flag, next id, topics, will
+    // kind, size of the client, epoch, gateway, counter, tag, presence, flag, next id, a topic id of 0,
+    // a filter without octets, flags of will and exchange
     let changes = [
         (5, 4),
         (6, 0),
@@ -169,7 +170,9 @@ fn values_out_of_range(rt: HostRuntime) -> Result<(), Fail> {
         (21, 2),
         (25, 0),
         (27, 1),
-        (30, 1),
+        (29, 1),
+        (30, 2),
+        (33, 2),
     ];
     for (at, octet) in changes {
         refused(

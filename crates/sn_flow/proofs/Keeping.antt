@@ -16,14 +16,9 @@ use Rattle.sn_flow.specs.declared.registration.NamedId.{NamedId}
 use Rattle.sn_flow.specs.Asking.{qos_asked, name_asked, topics_asked}
 use Rattle.sn_flow.specs.Drafts.{Drafted, nothing, changed_if, sent}
 use Rattle.sn_flow.specs.Registration.{id_for, registered, register_name, register}
-use Rattle.sn_flow.specs.Subscription.{refused, suback, subscribe_change, subscribed, subscribe_to, subscribe_asked, subscribe_at, subscribe, id_asked, unsubscribe_asked, unsubscribe}
+use Rattle.sn_flow.specs.Subscription.{refused, suback, subscribe_change, subscribed, subscribe_asked, subscribe_at, subscribe, id_asked, unsubscribe_asked, unsubscribe}
+use Rattle.sn_flow.specs.RequestLaws.{ChangesSessionOnly}
 use Rattle.sn_flow.specs.WillUpdate.{topic_asked, topic_set, has_no_place, will_topic_update, will_msg_update}
-
--- no acknowledgement, no message and no change of the local state
-pub record ChangesSessionOnly (d : Drafted) : Type 0 where
-  pub acks : d.acks ≡ []
-  pub puts : d.puts ≡ []
-  pub local : d.local ≡ []
 
 of_changed_if : (change : Option SessionOp) (d : Drafted) → ChangesSessionOnly d → ChangesSessionOnly (changed_if change d)
 of_changed_if None d h = h

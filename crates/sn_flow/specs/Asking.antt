@@ -1,5 +1,5 @@
 -- What a frame asks for by its flags and its topic field (MQTT-SN 1.2 sections 5.3.4, 5.3.11 and 5.3.12).
-use Rattle.std.specs.Prelude.{ℕ, ◌+◌, ◌*◌, if◌then◌else◌, List, [], ◌∷◌, Option, Some, None}
+use Rattle.std.specs.Prelude.{ℕ, ◌+◌, ◌*◌, if◌then◌else◌, List, ◌∷◌, Option, Some, None}
 use Rattle.sn_topic.specs.Table.{Entries, name_of}
 use Rattle.sn_topic.specs.Topics.{is_name, is_filter}
 use Rattle.sn_frame.specs.declared.flags.Qos.{Qos}

@@ -5,11 +5,14 @@ pub mod Bindings
 pub mod Bound
 pub mod Connection
 pub mod Drafts
+pub mod Flush
 pub mod Locals
 pub mod Names
 pub mod Numbering
+pub mod Own
 pub mod Plans
 pub mod Registration
+pub mod RequestLaws
 pub mod Steps
 pub mod Subscription
 pub mod Timers

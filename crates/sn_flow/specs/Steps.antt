@@ -11,11 +11,11 @@ use Rattle.sn_session.specs.declared.presence.Presence.TheVariants.{Active, Asle
 use Rattle.sn_session.specs.declared.session.Session.{Session}
 use Rattle.sn_flow.specs.declared.config.Addr.{Addr}
 use Rattle.sn_flow.specs.declared.plan.Plan.{Plan}
-use Rattle.sn_flow.specs.Drafts.{nothing, sent}
+use Rattle.sn_flow.specs.Drafts.{Drafted, nothing, sent}
 use Rattle.sn_flow.specs.Plans.{Seen, plan_without}
 use Rattle.sn_flow.specs.Bindings.{client_at}
 use Rattle.sn_flow.specs.Locals.{Local}
-use Rattle.sn_flow.specs.Bound.{quiet, turned_away, stray, heard_of}
+use Rattle.sn_flow.specs.Bound.{quiet, stray, heard_of}
 use Rattle.sn_flow.specs.Connection.{connect, disconnect}
 use Rattle.sn_flow.specs.Wills.{will_topic, will_msg, will_topic_update, will_msg_update}
 use Rattle.sn_flow.specs.TopicRows.{register, subscribe, unsubscribe}
@@ -57,11 +57,13 @@ published a bound levels.Zero now = stray a bound now
 published a bound levels.One now = stray a bound now
 published a bound levels.Two now = stray a bound now
 
--- a PINGREQ with a client that is there asks to wake; with another it is turned away. A client that is bound so far was heard of
+-- a client that cannot wake is turned away
+abbrev pub wake_draft : Addr → Bool → Drafted
+wake_draft a wakes = if wakes then nothing else sent a (frames.Disconnect None) nothing
+
+-- a PINGREQ with a client asks to wake; the client that is bound so far was heard of
 abbrev pub woken : Seen → Addr → Option (List ℕ) → List ℕ → ℕ → Plan
-woken seen a bound client now =
-    if can_wake (seen.of client).session then plan_without (heard_of bound now nothing)
-    else plan_without (heard_of bound now (sent a (frames.Disconnect None) nothing))
+woken seen a bound client now = plan_without (heard_of bound now (wake_draft a (can_wake (seen.of client).session)))
 
 -- a PINGREQ without a client is a sign of life
 abbrev pub pinged : Seen → Addr → Option (List ℕ) → List ℕ → ℕ → Plan

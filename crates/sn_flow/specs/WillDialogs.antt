@@ -1,5 +1,5 @@
 -- From which addresses a will is awaited: a CONNECT with a will is a dialog of several frames (MQTT-SN 1.2 section 6.2).
-use Rattle.std.specs.Prelude.{ℕ, Bool, not, if◌then◌else◌, nat_le, List, [], ◌∷◌, ◌++◌, filter, fold, length, Option, Some, None}
+use Rattle.std.specs.Prelude.{Bool, not, if◌then◌else◌, nat_le, List, [], ◌∷◌, ◌++◌, filter, fold, length, Option, Some, None}
 use Rattle.sn_flow.specs.declared.config.Addr.{Addr}
 use Rattle.sn_flow.specs.declared.local.WillDialog.{WillDialog}
 use Rattle.sn_flow.specs.declared.local.LocalChange.{LocalChange}

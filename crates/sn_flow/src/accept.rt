@@ -52,11 +52,7 @@ fn unknowing(alloc: Global, session: &Session) -> Result<Session, StepFault>
 }
 
 /// The session that goes on; a clean one begins anew.
-fn going_on(
-    alloc: Global,
-    clean: bool,
-    session: &Option<Session>,
-) -> Result<Session, StepFault>
+fn going_on(alloc: Global, clean: bool, session: &Option<Session>) -> Result<Session, StepFault>
     ensures ok { IfOk result (λ made. made ≡ session_going_on clean session.now) }
     ensures err { IfErr result (λ fault. fault ≡ StepFault.Memory) }
 {

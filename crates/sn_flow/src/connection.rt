@@ -158,12 +158,7 @@ pub fn connect<R: Replica>(
 }
 
 /// The client says good-bye: its session stays as it is.
-fn leave(
-    alloc: Global,
-    to: Addr,
-    client: &ClientId,
-    session: &Session,
-) -> Result<Draft, StepFault>
+fn leave(alloc: Global, to: Addr, client: &ClientId, session: &Session) -> Result<Draft, StepFault>
     ensures ok { IfOk result (λ draft. draft ≡ leave_draft to client.now session.now) }
     ensures err { IfErr result (λ fault. fault ≡ StepFault.Memory) }
 {
@@ -225,7 +220,15 @@ fn disconnect_bound<R: Replica>(
     let empty = Session::empty(alloc);
     let session = session_or(replica, client, &empty);
     let draft = disconnect_draft(alloc, from, client, session, duration)?;
-    plan_heard(alloc, config.gateway, replica, client, Some(client), now, draft)
+    plan_heard(
+        alloc,
+        config.gateway,
+        replica,
+        client,
+        Some(client),
+        now,
+        draft,
+    )
 }
 
 /// DISCONNECT: the client falls asleep, or leaves. From an address without binding it is answered and

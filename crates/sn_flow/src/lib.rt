@@ -15,6 +15,7 @@
 //! - `connection`, `accept`, `wills`, `topic_rows`, `table`: the rows, as plans; `bound` is what they share.
 //! - `registration`, `subscription`, `will_update`: rows of a bound client, as drafts; `asking` and `codes` are
 //!   what they share.
+//! - `laws`: what holds of every plan, proved for every draft and so for every row.
 #![tactic(auto)]
 
 mod accept;
@@ -27,10 +28,12 @@ mod config;
 mod connection;
 mod draft;
 mod fault;
+mod laws;
 mod local;
 mod numbering;
 mod plan;
 mod registration;
+mod request_laws;
 mod subscription;
 mod table;
 mod timers;
@@ -49,9 +52,16 @@ pub use config::{Addr, Config, Send};
 pub use connection::{connect, disconnect};
 pub use draft::{Draft, NewPut};
 pub use fault::StepFault;
+pub use laws::{
+    adds_none, every_step, fresh_names, messages_wait, one_binding, only_acknowledged, own_names,
+    reads_back, stays_flush,
+};
 pub use local::{Awaited, Binding, Dialogs, LocalChange, Request, Timer, WillDialog};
 pub use numbering::apply;
 pub use plan::{Plan, plan_of, plan_of_puts, plan_without};
+pub use request_laws::{
+    given_id_stands, requests_keep_messages, subscribe_lasts, unsubscribe_ends,
+};
 pub use table::{is_up, other, step};
 pub use topic_rows::{register, subscribe, unsubscribe};
 pub use wills::{will_msg, will_msg_update, will_topic, will_topic_update};

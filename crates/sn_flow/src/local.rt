@@ -88,50 +88,25 @@ pub struct Timer {
 #[derive(Debug, Drop)]
 pub enum LocalChange {
     /// From now on the address and the client belong together, and neither to another.
-    Bind {
-        address: Addr,
-        client: ClientId,
-    },
+    Bind { address: Addr, client: ClientId },
     /// The client has no address any more. Its timer stays.
-    Unbind {
-        client: ClientId,
-    },
+    Unbind { client: ClientId },
     /// The timer of its client is this one.
-    Time {
-        timer: Timer,
-    },
+    Time { timer: Timer },
     /// The client was heard of at a moment. Where it has no timer yet, one begins.
-    Heard {
-        client: ClientId,
-        moment: u64,
-    },
+    Heard { client: ClientId, moment: u64 },
     /// The first frame of a new exchange was sent to the client at a moment.
-    Sent {
-        client: ClientId,
-        moment: u64,
-    },
+    Sent { client: ClientId, moment: u64 },
     /// A frame of the open exchange was sent to the client again at a moment. The number of tries stays.
-    Resent {
-        client: ClientId,
-        moment: u64,
-    },
+    Resent { client: ClientId, moment: u64 },
     /// At a moment the frame of the open exchange was due to be sent again: there is one try more.
-    Retried {
-        client: ClientId,
-        moment: u64,
-    },
+    Retried { client: ClientId, moment: u64 },
     /// The dialog of its address is this one.
-    Ask {
-        dialog: WillDialog,
-    },
+    Ask { dialog: WillDialog },
     /// The address has no dialog any more.
-    EndDialog {
-        address: Addr,
-    },
+    EndDialog { address: Addr },
     /// The gateway advertised itself at a moment.
-    Advertised {
-        moment: u64,
-    },
+    Advertised { moment: u64 },
 }
 
 /// The local state of a gateway: which address is which client, from which addresses a will is awaited,
@@ -153,12 +128,12 @@ impl Model for Dialogs {
     ghost Value = { Roomy };
 
     ghost view = { λ d. record {
-        local = record { bindings = d.bindings.items; dialogs = d.dialogs.items; timers = d.timers.items; advertised = d.advertised };
-        room = record {
-            bindings = vec_capacity d.bindings - vec_len d.bindings;
-            dialogs = vec_capacity d.dialogs - vec_len d.dialogs;
-            timers = vec_capacity d.timers - vec_len d.timers
-        }
+      local = record { bindings = d.bindings.items; dialogs = d.dialogs.items; timers = d.timers.items; advertised = d.advertised };
+      room = record {
+        bindings = vec_capacity d.bindings - vec_len d.bindings;
+        dialogs = vec_capacity d.dialogs - vec_len d.dialogs;
+        timers = vec_capacity d.timers - vec_len d.timers;
+      };
     } };
 }
 

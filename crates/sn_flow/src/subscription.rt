@@ -158,7 +158,9 @@ fn subscribe_asked(
 {
     match asked {
         Asked::Refused(code) => refuse(alloc, to, flags, msg_id, code),
-        Asked::Topics(filter) => subscribe_to(alloc, to, session, flags, msg_id, field, filter, qos),
+        Asked::Topics(filter) => subscribe_to(
+            alloc, to, session, flags, msg_id, field, filter, qos,
+        ),
     }
 }
 

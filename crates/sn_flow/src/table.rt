@@ -3,7 +3,7 @@
 ghost use Rattle.std.specs.Prelude.{◌≡◌, ◌≤◌, length, Some, IfOk, IfErr};
 ghost use Rattle.std.specs.Option.{option_copied};
 ghost use Rattle.sn_flow.specs.Plans.{Gives, seen_of};
-ghost use Rattle.sn_flow.specs.Steps.{searched as searched_plan, other as other_plan, published as published_plan, pinged as pinged_plan, woken as woken_plan, step as defined_step, is_up as is_up_at, can_wake as can_wake_at};
+ghost use Rattle.sn_flow.specs.Steps.{searched as searched_plan, other as other_plan, published as published_plan, pinged as pinged_plan, wake_draft as drafted_wake, woken as woken_plan, step as defined_step, is_up as is_up_at, can_wake as can_wake_at};
 ghost use Rattle.sn_flow.specs.Connection.{connect as connect_plan};
 ghost use Rattle.sn_frame.specs.Bodies.{IsMessage};
 ghost use Rattle.sn_frame.specs.FlagBits.{qos_of};
@@ -122,6 +122,27 @@ fn client_id(alloc: Global, octets: &[u8]) -> Result<ClientId, StepFault>
     }
 }
 
+/// Whether a PINGREQ wakes the client of this name.
+fn wakes<R: Replica>(alloc: Global, replica: &R, client: &[u8]) -> Result<bool, StepFault>
+    requires { IsClientId client.now }
+    ensures ok { IfOk result (λ wakes. wakes ≡ can_wake_at (view client.now (R.kept replica.now)).session) }
+    ensures err { IfErr result (λ fault. fault ≡ StepFault.Memory) }
+{
+    let id = client_id(alloc, client)?;
+    Ok(can_wake(replica, &id))
+}
+
+/// Turns a client away that cannot wake.
+fn wake_draft(alloc: Global, to: Addr, wakes: bool) -> Result<Draft, StepFault>
+    ensures ok { IfOk result (λ draft. draft ≡ drafted_wake to wakes) }
+    ensures err { IfErr result (λ fault. fault ≡ StepFault.Memory) }
+{
+    if wakes {
+        return Ok(Draft::new(alloc));
+    }
+    Draft::reply(alloc, to, &Frame::Disconnect { duration: None })
+}
+
 /// A PINGREQ with the id of a client.
 fn woken<R: Replica>(
     alloc: Global,
@@ -134,12 +155,8 @@ fn woken<R: Replica>(
     requires { IsClientId client.now }
     ensures { Gives result (Some (woken_plan (seen_of (R.kept replica.now)) from (option_copied bound.entry) client.now now)) }
 {
-    let client = client_id(alloc, client)?;
-    let mut draft = if can_wake(replica, &client) {
-        Draft::new(alloc)
-    } else {
-        Draft::reply(alloc, from, &Frame::Disconnect { duration: None })?
-    };
+    let wakes = wakes(alloc, replica, client)?;
+    let mut draft = wake_draft(alloc, from, wakes)?;
     hear_of(alloc, &mut draft, bound, now)?;
     Ok(plan_without(alloc, draft))
 }
@@ -220,7 +237,15 @@ pub fn step<R: Replica>(
             will_topic(alloc, config, replica, dialogs, from, will, now)
         }
         Frame::WillMsg { message } => {
-            will_msg(alloc, config, replica, dialogs, from, message.as_slice(), now)
+            will_msg(
+                alloc,
+                config,
+                replica,
+                dialogs,
+                from,
+                message.as_slice(),
+                now,
+            )
         }
         Frame::Disconnect { duration } => {
             disconnect(alloc, config, replica, dialogs, from, *duration, now)
@@ -269,7 +294,15 @@ pub fn step<R: Replica>(
             will_topic_update(alloc, config, replica, dialogs, from, will, now)
         }
         Frame::WillMsgUpd { message } => {
-            will_msg_update(alloc, config, replica, dialogs, from, message.as_slice(), now)
+            will_msg_update(
+                alloc,
+                config,
+                replica,
+                dialogs,
+                from,
+                message.as_slice(),
+                now,
+            )
         }
         Frame::Publish { flags, .. } => {
             published(alloc, from, dialogs.client_at(from), *flags, now)

@@ -33,7 +33,15 @@ fn register_bound<R: Replica>(
     let empty = Session::empty(alloc);
     let session = session_or(replica, client, &empty);
     let draft = draft_register(alloc, from, session, msg_id, name)?;
-    plan_heard(alloc, config.gateway, replica, client, Some(client), now, draft)
+    plan_heard(
+        alloc,
+        config.gateway,
+        replica,
+        client,
+        Some(client),
+        now,
+        draft,
+    )
 }
 
 /// REGISTER: a bound client asks for the topic id of a name.
@@ -71,8 +79,24 @@ fn subscribe_bound<R: Replica>(
 {
     let empty = Session::empty(alloc);
     let session = session_or(replica, client, &empty);
-    let draft = draft_subscribe(alloc, &config.predefined, from, session, flags, msg_id, topic)?;
-    plan_heard(alloc, config.gateway, replica, client, Some(client), now, draft)
+    let draft = draft_subscribe(
+        alloc,
+        &config.predefined,
+        from,
+        session,
+        flags,
+        msg_id,
+        topic,
+    )?;
+    plan_heard(
+        alloc,
+        config.gateway,
+        replica,
+        client,
+        Some(client),
+        now,
+        draft,
+    )
 }
 
 /// SUBSCRIBE: a bound client asks for the topics of a filter.
@@ -113,8 +137,24 @@ fn unsubscribe_bound<R: Replica>(
 {
     let empty = Session::empty(alloc);
     let session = session_or(replica, client, &empty);
-    let draft = draft_unsubscribe(alloc, &config.predefined, from, session, flags, msg_id, topic)?;
-    plan_heard(alloc, config.gateway, replica, client, Some(client), now, draft)
+    let draft = draft_unsubscribe(
+        alloc,
+        &config.predefined,
+        from,
+        session,
+        flags,
+        msg_id,
+        topic,
+    )?;
+    plan_heard(
+        alloc,
+        config.gateway,
+        replica,
+        client,
+        Some(client),
+        now,
+        draft,
+    )
 }
 
 /// UNSUBSCRIBE: a bound client asks for the topics of a filter no more.

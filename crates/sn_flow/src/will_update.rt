@@ -61,18 +61,20 @@ fn set_topic(alloc: Global, to: Addr, topic: Option<WillTopic>) -> Result<Draft,
     ensures err { IfErr result (λ fault. fault ≡ StepFault.Memory) }
 {
     match topic {
-        None => Draft::reply(alloc, to, &Frame::WillTopicResp { code: NOT_SUPPORTED }),
+        None => Draft::reply(
+            alloc,
+            to,
+            &Frame::WillTopicResp {
+                code: NOT_SUPPORTED,
+            },
+        ),
         Some(topic) => accept_topic(alloc, to, Some(topic)),
     }
 }
 
 /// WILLTOPICUPD: the client gives its will another topic, or deletes it. WILLTOPICRESP says whether it is done: a topic that
 /// is no name, or a quality of service of bits 11, is refused.
-pub fn will_topic_update(
-    alloc: Global,
-    to: Addr,
-    will: &Option<Will>,
-) -> Result<Draft, StepFault>
+pub fn will_topic_update(alloc: Global, to: Addr, will: &Option<Will>) -> Result<Draft, StepFault>
     ensures ok { IfOk result (λ draft. draft ≡ topic_update to will.now) }
     ensures err { IfErr result (λ fault. fault ≡ StepFault.Memory) }
 {
@@ -104,7 +106,13 @@ pub fn will_msg_update(
     ensures err { IfErr result (λ fault. fault ≡ StepFault.Memory) }
 {
     if has_no_place(session, message) {
-        return Draft::reply(alloc, to, &Frame::WillMsgResp { code: NOT_SUPPORTED });
+        return Draft::reply(
+            alloc,
+            to,
+            &Frame::WillMsgResp {
+                code: NOT_SUPPORTED,
+            },
+        );
     }
     let mut draft = Draft::new(alloc);
     draft.change(SessionOp::WillMsg(Octets::from_slice(alloc, message)?))?;

@@ -13,7 +13,9 @@ use super::draft::Draft;
 use super::fault::StepFault;
 use super::local::{Awaited, Dialogs, LocalChange, Request, WillDialog};
 use super::plan::Plan;
-use super::will_update::{MAX_MESSAGE, topic_asked, will_msg_update as draft_message, will_topic_update as draft_topic};
+use super::will_update::{
+    MAX_MESSAGE, topic_asked, will_msg_update as draft_message, will_topic_update as draft_topic,
+};
 use octets::Octets;
 use rep_model::Replica;
 use rep_ops::ClientId;
@@ -52,11 +54,7 @@ fn concluded<R: Replica>(
 }
 
 /// Asks the client for the message of its will.
-fn ask_message(
-    alloc: Global,
-    dialog: &WillDialog,
-    topic: WillTopic,
-) -> Result<Draft, StepFault>
+fn ask_message(alloc: Global, dialog: &WillDialog, topic: WillTopic) -> Result<Draft, StepFault>
     ensures ok { IfOk result (λ draft. draft ≡ asked_message dialog.now topic) }
     ensures err { IfErr result (λ fault. fault ≡ StepFault.Memory) }
 {
@@ -256,7 +254,15 @@ fn update_topic<R: Replica>(
     ensures { Gives result (topic_update_of config.now.gateway (seen_of (R.kept replica.now)) from (Some client.now) will.now now) }
 {
     let draft = draft_topic(alloc, from, will)?;
-    plan_heard(alloc, config.gateway, replica, client, Some(client), now, draft)
+    plan_heard(
+        alloc,
+        config.gateway,
+        replica,
+        client,
+        Some(client),
+        now,
+        draft,
+    )
 }
 
 /// WILLTOPICUPD: the topic of a bound client's will is another one, or the will is deleted.
@@ -292,7 +298,15 @@ fn update_message<R: Replica>(
     let empty = Session::empty(alloc);
     let session = session_or(replica, client, &empty);
     let draft = draft_message(alloc, from, session, message)?;
-    plan_heard(alloc, config.gateway, replica, client, Some(client), now, draft)
+    plan_heard(
+        alloc,
+        config.gateway,
+        replica,
+        client,
+        Some(client),
+        now,
+        draft,
+    )
 }
 
 /// WILLMSGUPD: the message of a bound client's will is another one.

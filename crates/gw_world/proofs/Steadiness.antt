@@ -1,0 +1,181 @@
+-- A field stays steady.
+use Rattle.std.proofs.Common.{◌≡◌, ℕ, zero, suc, ◌-◌, ◌⊎◌, List, [], ◌∷◌, ◌++◌, slice_get, Option, Some, None, option_map, Result, Ok, Err, refl, sym, ap, ◌∙◌, subst, append-nil, inl, inr}
+use Rattle.std.specs.List.{AllByRecursion}
+use Rattle.std.proofs.lemmas.Option.{none-some, same_Some, slice_get-map}
+use Rattle.rep_ops.specs.declared.op.Op.{Op}
+use Rattle.rep_ops.specs.Sets.{Same}
+use Rattle.rep_ops.specs.Making.{IsDeltaOf}
+use Rattle.rep_model.specs.Taking.{AllAgree}
+use Rattle.sn_flow.specs.declared.config.Addr.{Addr}
+use Rattle.sn_flow.specs.declared.config.Config.{Config}
+use Rattle.sn_flow.specs.declared.plan.Plan.{Plan}
+use Rattle.sn_flow.specs.Plans.{seen_of}
+use Rattle.sn_flow.specs.Own.{IsOfDraft}
+use Rattle.sn_flow.specs.Flush.{IsFlush, AreFlush}
+use Rattle.sn_flow.proofs.Lists.{all-append, all-weaken}
+use Rattle.sn_flow.proofs.Drafting.{step-drafted}
+use Rattle.sn_flow.proofs.Stepping.{step-fits, step-flush, step-known, step-foreign}
+use Rattle.sn_flow.proofs.Known.{known-stays}
+use Rattle.sn_flow.proofs.Flushness.{flush-start, flush-taken}
+use Rattle.gw_world.specs.declared.event.Event.{Event}
+use Rattle.gw_world.specs.declared.event.Event.TheVariants.{Frame, Take, Show}
+use Rattle.gw_world.specs.declared.event.Answer.{Answer}
+use Rattle.gw_world.specs.declared.event.Answer.TheVariants.{Node, Views}
+use Rattle.gw_world.specs.declared.event.Out.{Out}
+use Rattle.gw_world.specs.declared.event.NodeFault.{NodeFault}
+use Rattle.gw_world.specs.declared.event.NodeFault.TheVariants as faults
+use Rattle.gw_world.specs.Gateways.{Gateway, new_gateway}
+use Rattle.gw_world.specs.Field.{Field, new_field, IsAt, changed, After, Run}
+use Rattle.gw_world.specs.Steps.{IsUnchanged, IsMade, IsPlan, FrameStep, TakeStep}
+use Rattle.gw_world.specs.Steady.{IsKnown, IsSteady}
+use Rattle.gw_world.proofs.Numbers.{First, place_of-first, first-number, first-set}
+
+-- a gateway that took nothing and made nothing
+pub record Still (old new : Gateway) (made : List (List Op)) : Type 0 where
+  pub config : new.config ≡ old.config
+  pub taken : new.taken ≡ old.taken
+  pub none : made ≡ []
+
+-- a gateway that took the delta of a plan of its own
+pub record Stepped (old new : Gateway) (made : List (List Op)) : Type 0 where
+  pub plan : Plan
+  pub drafted : IsOfDraft old.config.gateway (seen_of old.taken) plan
+  pub delta : List Op
+  pub same : Same delta plan.ops
+  pub config : new.config ≡ old.config
+  pub taken : new.taken ≡ old.taken ++ delta
+  pub one : made ≡ delta ∷ []
+
+still : (old new : Gateway) (made : List (List Op)) → IsUnchanged old new made → Still old new made
+still old new made u = record { config = ap (λ (x : Gateway). x.config) u.same; taken = ap (λ (x : Gateway). x.taken) u.same; none = u.none }
+
+made-moves : (old : Gateway) (plan : Plan) (ops : List Op) (delta : Option (List Op)) (new : Gateway) (made : List (List Op)) → IsOfDraft old.config.gateway (seen_of old.taken) plan → plan.ops ≡ ops → IsMade ops old plan delta new made → Still old new made ⊎ Stepped old new made
+made-moves old plan [] None new made p e h = inl (record { config = ap (λ (x : Gateway). x.config) h.1; taken = ap (λ (x : Gateway). x.taken) h.1; none = h.0 })
+made-moves old plan [] (Some delta) new made p e h = absurd h
+made-moves old plan (op ∷ ops) None new made p e h = absurd h
+made-moves old plan (op ∷ ops) (Some delta) new made p e h = inr (record {
+  plan = plan;
+  drafted = p;
+  delta = delta;
+  same = subst (Same delta) (sym e) h.0.same;
+  config = ap (λ (x : Gateway). x.config) h.3;
+  taken = ap (λ (x : Gateway). x.taken) h.3;
+  one = h.2;
+})
+
+plan-drafted : (old : Gateway) (from : Addr) (bytes : List ℕ) (now : ℕ) (plan : Plan) → IsPlan old from bytes now (Some plan) → IsOfDraft old.config.gateway (seen_of old.taken) plan
+plan-drafted old from bytes now plan h = step-drafted old.config.gateway old.config.predefined (seen_of old.taken) old.local from h.0 now plan h.3
+
+frame-moves : (old : Gateway) (from : Addr) (bytes : List ℕ) (now : ℕ) (answer : Result Out NodeFault) (new : Gateway) (made : List (List Op)) → FrameStep old from bytes now answer new made → Still old new made ⊎ Stepped old new made
+frame-moves old from bytes now (Ok out) new made h = made-moves old h.0 h.0.ops out.made new made (plan-drafted old from bytes now h.0 h.1) refl h.2.1
+frame-moves old from bytes now (Err (faults.Frame fault)) new made h = inl (still old new made h.1)
+frame-moves old from bytes now (Err faults.Exhausted) new made h = inl (still old new made h.1)
+frame-moves old from bytes now (Err (faults.Conflict client)) new made h = inl (still old new made h.3)
+frame-moves old from bytes now (Err faults.Full) new made h = inl (still old new made h.3)
+
+-- the same, by the first gateway of each number
+pub record Steady (gateways : List Gateway) (deltas : List (List Op)) : Type 0 where
+  pub flush : (n j : ℕ) (gateway : Gateway) → First n gateways j → slice_get gateways j ≡ Some gateway → AreFlush n gateway.taken
+  pub known : (n j : ℕ) (gateway : Gateway) → First n gateways j → slice_get gateways j ≡ Some gateway → AllByRecursion (IsKnown n gateway.taken) deltas
+
+all-at : {A : Type 0} (P : A → Type 0) (xs : List A) (k : ℕ) (x : A) → AllByRecursion P xs → slice_get xs k ≡ Some x → P x
+all-at P [] k x h e = absurd (none-some x e)
+all-at P (y ∷ xs) zero x h e = subst P (same_Some y x e) h.0
+all-at P (y ∷ xs) (suc k) x h e = all-at P xs k x h.1 e
+
+module _ (field : Field) (s : Steady field.gateways field.deltas) (n i : ℕ) (old : Gateway) (f : First n field.gateways i) (is : slice_get field.gateways i ≡ Some old) where
+  -- one gateway became another
+  updated : (next : Gateway) (made : List (List Op)) → next.config ≡ old.config → AreFlush n next.taken → AllByRecursion (IsKnown n next.taken) (field.deltas ++ made) → ((m : ℕ) → ¬ (m ≡ n) → (T : List Op) → AllByRecursion (IsKnown m T) made) → Steady (changed field i next made).gateways (changed field i next made).deltas
+  updated next made config flush known others = record {
+    flush = λ m j gateway h e. elim (first-set n m i j field.gateways old next gateway f is config h e) [
+      | inl own ↦ λ c. subst (λ k. IsFlush k c gateway.taken) (sym own.0) (subst (λ (x : Gateway). IsFlush n c x.taken) (sym own.1) (flush c))
+      | inr other ↦ s.flush m j gateway other.1 other.2
+    ];
+    known = λ m j gateway h e. elim (first-set n m i j field.gateways old next gateway f is config h e) [
+      | inl own ↦ subst (λ k. AllByRecursion (IsKnown k gateway.taken) (field.deltas ++ made)) (sym own.0) (subst (λ (x : Gateway). AllByRecursion (IsKnown n x.taken) (field.deltas ++ made)) (sym own.1) known)
+      | inr other ↦ all-append (IsKnown m gateway.taken) field.deltas made (s.known m j gateway other.1 other.2) (others m other.0 gateway.taken)
+    ];
+  }
+
+  flush-before : AreFlush n old.taken
+  flush-before = s.flush n i old f is
+
+  known-before : AllByRecursion (IsKnown n old.taken) field.deltas
+  known-before = s.known n i old f is
+
+  -- what was known is known of a larger set
+  known-more : (more : List Op) → AllByRecursion (IsKnown n (old.taken ++ more)) field.deltas
+  known-more more = all-weaken (IsKnown n old.taken) (IsKnown n (old.taken ++ more)) (λ D k c. known-stays n c old.taken D more (k c)) field.deltas known-before
+
+  updated-still : (next : Gateway) (made : List (List Op)) → Still old next made → Steady (changed field i next made).gateways (changed field i next made).deltas
+  updated-still next made u = updated next made u.config
+      (λ c. subst (λ T. IsFlush n c T) (sym u.taken) (flush-before c))
+      (subst (λ ds. AllByRecursion (IsKnown n next.taken) (field.deltas ++ ds)) (sym u.none) (subst (AllByRecursion (IsKnown n next.taken)) (sym (append-nil field.deltas)) (subst (λ T. AllByRecursion (IsKnown n T) field.deltas) (sym u.taken) known-before)))
+      (λ m _ T. subst (AllByRecursion (IsKnown m T)) (sym u.none) tt)
+
+  updated-stepped : (next : Gateway) (made : List (List Op)) → Stepped old next made → Steady (changed field i next made).gateways (changed field i next made).deltas
+  updated-stepped next made u =
+      let number : old.config.gateway ≡ n = first-number n i field.gateways old f is in
+      let p : IsOfDraft n (seen_of old.taken) u.plan = subst (λ k. IsOfDraft k (seen_of old.taken) u.plan) number u.drafted in
+      updated next made u.config
+        (λ c. subst (λ T. IsFlush n c T) (sym u.taken) (step-flush n old.taken u.plan p u.delta u.same flush-before c))
+        (subst (λ ds. AllByRecursion (IsKnown n next.taken) (field.deltas ++ ds)) (sym u.one) (subst (λ T. AllByRecursion (IsKnown n T) (field.deltas ++ u.delta ∷ [])) (sym u.taken)
+          (all-append (IsKnown n (old.taken ++ u.delta)) field.deltas (u.delta ∷ []) (known-more u.delta) (step-known n old.taken u.plan p u.delta u.same flush-before, tt))))
+        (λ m other T. subst (AllByRecursion (IsKnown m T)) (sym u.one) (λ c. step-foreign n old.taken u.plan p u.delta u.same m other c T, tt))
+
+  updated-moved : (next : Gateway) (made : List (List Op)) → Still old next made ⊎ Stepped old next made → Steady (changed field i next made).gateways (changed field i next made).deltas
+  updated-moved next made (inl u) = updated-still next made u
+  updated-moved next made (inr u) = updated-stepped next made u
+
+  updated-taken : (next : Gateway) (made : List (List Op)) (k : ℕ) (delta : List Op) (answer : Result Out NodeFault) → slice_get field.deltas k ≡ Some delta → TakeStep old delta answer next made → Steady (changed field i next made).gateways (changed field i next made).deltas
+  updated-taken next made k delta (Err fault) there h = updated-still next made (still old next made h.1)
+  updated-taken next made k delta (Ok out) there h =
+      let taken : next.taken ≡ old.taken ++ delta = ap (λ (x : Gateway). x.taken) h.4 in
+      let news : IsKnown n old.taken delta = all-at (IsKnown n old.taken) field.deltas k delta known-before there in
+      updated next made (ap (λ (x : Gateway). x.config) h.4)
+        (λ c. subst (λ T. IsFlush n c T) (sym taken) (flush-taken n c old.taken delta (news c) (flush-before c)))
+        (subst (λ ds. AllByRecursion (IsKnown n next.taken) (field.deltas ++ ds)) (sym h.3) (subst (AllByRecursion (IsKnown n next.taken)) (sym (append-nil field.deltas)) (subst (λ T. AllByRecursion (IsKnown n T) field.deltas) (sym taken) (known-more delta))))
+        (λ m _ T. subst (AllByRecursion (IsKnown m T)) (sym h.3) tt)
+
+abbrev SteadyField : Field → Type 0
+SteadyField field = Steady field.gateways field.deltas
+
+after-steady : (old : Field) (event : Event) (answer : Answer) (new : Field) → After old event answer new → SteadyField old → SteadyField new
+after-steady old (Frame number from bytes now) (Node answer) new h s =
+    subst SteadyField (sym h.6) (updated-moved old s number h.0 h.1 (place_of-first number h.0 old.gateways h.4.0) h.4.1 h.2 h.3 (frame-moves h.1 from bytes now answer h.2 h.3 h.5))
+after-steady old (Take number delta) (Node answer) new h s =
+    subst SteadyField (sym h.8) (updated-taken old s number h.0 h.1 (place_of-first number h.0 old.gateways h.5.0) h.5.1 h.2 h.3 (delta - 1) h.4 answer h.6.1 h.7)
+after-steady old (Show number) (Views views) new h s = subst SteadyField (sym h.4) s
+after-steady old (Frame number from bytes now) (Views views) new h s = absurd h
+after-steady old (Take number delta) (Views views) new h s = absurd h
+after-steady old (Show number) (Node answer) new h s = absurd h
+
+run-steady : (old : Field) (events : List Event) (answers : List Answer) (new : Field) → Run old events answers new → SteadyField old → SteadyField new
+run-steady old [] [] new h s = subst SteadyField (sym h) s
+run-steady old (event ∷ events) (answer ∷ answers) new h s = run-steady h.0 events answers new h.2 (after-steady old event answer h.0 h.1 s)
+run-steady old [] (answer ∷ answers) new h s = absurd h
+run-steady old (event ∷ events) [] new h s = absurd h
+
+start-steady : (configs : List Config) → SteadyField (new_field configs)
+start-steady configs = record {
+  flush = λ n j gateway f e c. empty (slice_get configs j) n c gateway (sym (slice_get-map new_gateway configs j) ∙ e);
+  known = λ n j gateway f e. tt;
+}
+  where
+    empty : (o : Option Config) (n : ℕ) (c : List ℕ) (gateway : Gateway) → option_map new_gateway o ≡ Some gateway → IsFlush n c gateway.taken
+    empty None n c gateway e = absurd (none-some gateway e)
+    empty (Some config) n c gateway e = subst (λ (x : Gateway). IsFlush n c x.taken) (same_Some (new_gateway config) gateway e) (flush-start n c)
+
+pub field-steady : (configs : List Config) (events : List Event) (answers : List Answer) (field : Field) → Run (new_field configs) events answers field → IsSteady field
+field-steady configs events answers field h =
+    let s = run-steady (new_field configs) events answers field h (start-steady configs) in
+    record {
+      flush = λ number i gateway at. s.flush number i gateway (place_of-first number i field.gateways at.0) at.1;
+      known = λ number i gateway at. s.known number i gateway (place_of-first number i field.gateways at.0) at.1;
+    }
+
+pub plan-agrees : (field : Field) (number i : ℕ) (gateway : Gateway) (from : Addr) (bytes : List ℕ) (now : ℕ) (plan : Plan) (delta : List Op) → IsSteady field → IsAt field number i gateway → IsPlan gateway from bytes now (Some plan) → IsDeltaOf plan.ops delta → AllAgree gateway.taken delta
+plan-agrees field number i gateway from bytes now plan delta s at h d =
+    let own : gateway.config.gateway ≡ number = first-number number i field.gateways gateway (place_of-first number i field.gateways at.0) at.1 in
+    (step-fits gateway.config.gateway gateway.taken plan (plan-drafted gateway from bytes now plan h) delta d.same
+      (λ c. subst (λ k. IsFlush k c gateway.taken) (sym own) (s.flush number i gateway at c))).0

@@ -1,0 +1,23 @@
+//! The laws of a field. Each function does nothing; its contract is a law, proved for all runs.
+
+ghost use Rattle.std.specs.Prelude.{ℕ, List, Some};
+ghost use Rattle.rep_ops.specs.declared.op.Op.{Op};
+ghost use Rattle.rep_ops.specs.Making.{IsDeltaOf};
+ghost use Rattle.rep_model.specs.Taking.{AllAgree};
+ghost use Rattle.sn_flow.specs.declared.config.Addr.{Addr};
+ghost use Rattle.sn_flow.specs.declared.config.Config.{Config};
+ghost use Rattle.sn_flow.specs.declared.plan.Plan.{Plan};
+ghost use Rattle.gw_world.specs.declared.event.Event.{Event};
+ghost use Rattle.gw_world.specs.declared.event.Answer.{Answer};
+ghost use Rattle.gw_world.specs.Gateways.{Gateway};
+ghost use Rattle.gw_world.specs.Field.{Field, new_field, IsAt, Run};
+ghost use Rattle.gw_world.specs.Steps.{IsPlan};
+ghost use Rattle.gw_world.specs.Steady.{IsSteady};
+
+/// Whatever happens in a field, each gateway stays flush, and what it wrote itself comes back to it as it
+/// wrote it. So the operations that it makes contradict nothing that it has taken: no datagram is
+/// refused because of what the gateway itself, or another, wrote before.
+pub fn steady_field()
+    ensures steady { (configs : List Config) (events : List Event) (answers : List Answer) (field : Field) → Run (new_field configs) events answers field → IsSteady field }
+    ensures agrees { (field : Field) (number i : ℕ) (gateway : Gateway) (from : Addr) (bytes : List ℕ) (now : ℕ) (plan : Plan) (delta : List Op) → IsSteady field → IsAt field number i gateway → IsPlan gateway from bytes now (Some plan) → IsDeltaOf plan.ops delta → AllAgree gateway.taken delta }
+{}
