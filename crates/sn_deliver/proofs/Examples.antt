@@ -2,27 +2,20 @@
 use Rattle.std.proofs.Common.{◌≡◌, ℕ, List, [], ◌∷◌, ◌++◌, Some, None, refl, true, false}
 use Rattle.std.specs.Prelude.{codes}
 use Rattle.sn_session.specs.declared.presence.Presence.TheVariants.{Lost}
-use Rattle.sn_session.specs.declared.outbound.Outbound.{Outbound as Exchange}
 use Rattle.sn_session.specs.declared.outbound.Phase.TheVariants.{Registering, Published}
-use Rattle.sn_session.specs.declared.session.Session.{Session}
 use Rattle.sn_session.specs.declared.change.SessionOp.{SessionOp}
-use Rattle.sn_session.specs.declared.change.SessionOp.TheVariants.{Take, Presence, Register, Subscribe, Received, Outbound}
-use Rattle.sn_session.specs.Session.{empty_session}
-use Rattle.rep_ops.specs.declared.op.Stamp.{Stamp}
+use Rattle.sn_session.specs.declared.change.SessionOp.TheVariants.{Presence, Register, Subscribe, Received, Outbound}
 use Rattle.rep_ops.specs.declared.op.Put.{Put}
 use Rattle.rep_ops.specs.declared.op.Op.{Op}
 use Rattle.rep_ops.specs.declared.op.Op.TheVariants.{Session as OfSession, Put as OfPut, Ack}
 use Rattle.rep_model.specs.Views.{gapless}
 use Rattle.sn_frame.specs.declared.frame.Frame.TheVariants as frames
-use Rattle.sn_flow.specs.declared.config.Addr.{Addr}
-use Rattle.sn_flow.specs.declared.local.Timer.{Timer}
 use Rattle.sn_flow.specs.declared.local.LocalChange.TheVariants.{Unbind, Heard, Sent, Resent, Retried}
-use Rattle.sn_flow.specs.declared.plan.Plan.{Plan}
 use Rattle.sn_flow.specs.Numbering.{write, planned}
 use Rattle.sn_flow.specs.Plans.{seen_of}
-use Rattle.sn_flow.specs.Locals.{Local, no_local}
+use Rattle.sn_flow.specs.Locals.{Local}
 use Rattle.sn_flow.specs.Timers.{started}
-use Rattle.sn_flow.proofs.Rows.{s1, seven, session_of_s1, bound_seven, first_take}
+use Rattle.sn_flow.proofs.Rows.{s1, seven, bound_seven, first_take}
 use Rattle.sn_deliver.specs.Serving.{publish_in, ack_in}
 use Rattle.sn_deliver.specs.Ticking.{tick}
 

@@ -1,5 +1,5 @@
 -- What Delivery is done with, what is put once, and what a tick does not do.
-use Rattle.std.proofs.Common.{◌≡◌, ℕ, ◌×◌, ◌⊎◌, ◌==◌, Bool, true, false, if◌then◌else◌, nat_le, List, [], ◌∷◌, ◌++◌, fold, Option, Some, None, Contains, refl, sym, ap, ◌∙◌, subst, true≢false, inl, inr, eqb-true, omega, arith}
+use Rattle.std.proofs.Common.{◌≡◌, ℕ, ◌×◌, ◌⊎◌, ◌==◌, Bool, true, false, if◌then◌else◌, nat_le, List, [], ◌∷◌, ◌++◌, fold, Option, Some, None, Contains, refl, sym, ap, ◌∙◌, subst, true≢false, inl, inr, eqb-true}
 use Rattle.std.proofs.lemmas.List.Elements.{Contains-push, Contains-push_cases, Contains-append_right, Contains-append_left}
 use Rattle.sn_topic.specs.Table.{Entries}
 use Rattle.sn_session.specs.declared.session.Session.{Session}
@@ -9,12 +9,11 @@ use Rattle.sn_session.specs.declared.presence.Presence.TheVariants.{Asleep}
 use Rattle.sn_session.specs.Received.{is_received}
 use Rattle.sn_frame.specs.declared.frame.Frame.TheVariants as frames
 use Rattle.rep_ops.specs.declared.op.Put.{Put}
-use Rattle.rep_model.specs.declared.view.ClientView.{ClientView}
 use Rattle.sn_flow.specs.declared.local.Timer.{Timer}
 use Rattle.sn_flow.specs.declared.local.WillDialog.{WillDialog}
 use Rattle.sn_flow.specs.declared.local.LocalChange.TheVariants.{Heard, EndDialog}
 use Rattle.sn_flow.specs.Names.{name_of}
-use Rattle.sn_flow.specs.Drafts.{Drafted, nothing, changed, changed_if, acked, sent, moved}
+use Rattle.sn_flow.specs.Drafts.{Drafted, nothing, changed, changed_if, sent, moved}
 use Rattle.sn_flow.specs.Plans.{Seen, plan_without}
 use Rattle.sn_flow.specs.Locals.{Local}
 use Rattle.sn_deliver.specs.declared.form.Form.{Form}
@@ -22,9 +21,9 @@ use Rattle.sn_deliver.specs.declared.peer.Peer.{Peer}
 use Rattle.sn_deliver.specs.declared.delivery.ToldId.{ToldId}
 use Rattle.sn_deliver.specs.Forms.{form_of}
 use Rattle.sn_deliver.specs.Exchanges.{is_awake}
-use Rattle.sn_deliver.specs.Delivery.{Stop, id_to_tell, register_first, publish_now, deliver_by, none_left, and_then, deliver}
+use Rattle.sn_deliver.specs.Delivery.{Stop, id_to_tell, register_first, deliver_by, none_left, and_then, deliver}
 use Rattle.sn_deliver.specs.Due.{elapsed, first_due}
-use Rattle.sn_deliver.specs.Ticking.{dialog_ended, dialogs_ended, needs_timer, timer_begun, cleaned, may_advertise, advertised, plan_if_due}
+use Rattle.sn_deliver.specs.Ticking.{dialog_ended, dialogs_ended, needs_timer, timer_begun, cleaned, advertised, plan_if_due}
 use Rattle.sn_deliver.specs.Laws.{IsDoneWith, IsOfOneDone, DeliveryKeeps, PutsOnce, TickIsQuiet}
 
 -- ---- a test that chooses between drafts
@@ -65,11 +64,13 @@ cleaned_sends g seen local now =
     ∙ fold_keeps (dialog_ended now) (λ d. d.sends) (dialog_sends now) local.dialogs nothing
 
 pub tick-quiet : TickIsQuiet
-tick-quiet g advertise field predefined seen local now no_advertise no_client =
-    (plan_without (cleaned g seen local now),
-    ap (λ (b : Bool). if b then Some (plan_without (advertised g advertise field now (cleaned g seen local now))) else plan_if_due g predefined seen now (cleaned g seen local now) (first_due g seen local now seen.all)) no_advertise
-    ∙ ap (plan_if_due g predefined seen now (cleaned g seen local now)) no_client,
-    refl, cleaned_sends g seen local now)
+tick-quiet g advertise field predefined seen local now no_advertise no_client = (
+  plan_without (cleaned g seen local now),
+  ap (λ (b : Bool). if b then Some (plan_without (advertised g advertise field now (cleaned g seen local now))) else plan_if_due g predefined seen now (cleaned g seen local now) (first_due g seen local now seen.all)) no_advertise
+      ∙ ap (plan_if_due g predefined seen now (cleaned g seen local now)) no_client,
+  refl,
+  cleaned_sends g seen local now,
+)
 
 -- ---- Delivery
 

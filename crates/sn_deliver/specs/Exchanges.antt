@@ -1,5 +1,5 @@
 -- The open exchange of a client: the message that it is being handed (MQTT-SN 1.2 sections 6.6 and 6.10).
-use Rattle.std.specs.Prelude.{ℕ, ◌==◌, Bool, true, false, ◌&&◌, not, if◌then◌else◌, nat_lt, is_some, is_none, List, find, filter, fold, Option, Some, None}
+use Rattle.std.specs.Prelude.{ℕ, ◌==◌, Bool, true, false, ◌&&◌, not, if◌then◌else◌, nat_lt, is_some, List, find, filter, fold, Option, Some, None}
 use Rattle.std.specs.List.{list_any}
 use Rattle.sn_session.specs.declared.presence.Presence.{Presence}
 use Rattle.sn_session.specs.declared.presence.Presence.TheVariants.{Active, Asleep, Awake, Disconnected, Lost}

@@ -1,5 +1,5 @@
 -- What holds of publications and of time, whatever the sessions and the messages.
-use Rattle.std.specs.Prelude.{◌≡◌, ℕ, ◌≤◌, Bool, true, false, ◌⊎◌, List, [], Option, Some, None, Contains}
+use Rattle.std.specs.Prelude.{◌≡◌, ℕ, ◌≤◌, true, false, ◌⊎◌, List, [], Some, None, Contains}
 use Rattle.sn_topic.specs.Table.{Entries}
 use Rattle.sn_session.specs.declared.session.Session.{Session}
 use Rattle.sn_session.specs.Received.{is_received}
@@ -10,7 +10,6 @@ use Rattle.sn_flow.specs.Names.{name_of}
 use Rattle.sn_flow.specs.Drafts.{Drafted}
 use Rattle.sn_flow.specs.Plans.{Seen}
 use Rattle.sn_flow.specs.Locals.{Local}
-use Rattle.sn_deliver.specs.declared.form.Form.{Form}
 use Rattle.sn_deliver.specs.declared.peer.Peer.{Peer}
 use Rattle.sn_deliver.specs.Forms.{form_of}
 use Rattle.sn_deliver.specs.Delivery.{id_to_tell, deliver}

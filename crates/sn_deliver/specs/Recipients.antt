@@ -1,5 +1,5 @@
 -- Who gets a publication, and at which quality of service (MQTT-SN 1.2 section 6.10).
-use Rattle.std.specs.Prelude.{ℕ, Bool, true, false, ◌||◌, ◌&&◌, not, if◌then◌else◌, nat_lt, min, List, length, filter, Option, Some, None, option_and_then}
+use Rattle.std.specs.Prelude.{ℕ, Bool, ◌||◌, ◌&&◌, not, if◌then◌else◌, nat_lt, min, List, length, filter, Option, Some, None, option_and_then}
 use Rattle.std.specs.Option.{option_map}
 use Rattle.std.specs.List.{filter_map}
 use Rattle.sn_session.specs.declared.presence.Presence.{Presence}

@@ -1,5 +1,5 @@
 -- Tick: what a gateway does as time goes by (MQTT-SN 1.2 sections 6.1, 6.3, 6.11 and 6.13).
-use Rattle.std.specs.Prelude.{ℕ, Bool, true, false, ◌&&◌, not, if◌then◌else◌, nat_lt, nat_le, is_none, List, [], fold, length, Option, Some, None}
+use Rattle.std.specs.Prelude.{ℕ, Bool, true, ◌&&◌, if◌then◌else◌, nat_lt, nat_le, is_none, List, [], fold, length, Option, Some, None}
 use Rattle.sn_topic.specs.Table.{Entries}
 use Rattle.sn_session.specs.declared.presence.Presence.TheVariants.{Lost}
 use Rattle.sn_session.specs.declared.session.Session.{Session}
