@@ -4,27 +4,30 @@ use Rattle.std.proofs.lemmas.List.Elements.{Contains-push, Contains-push_cases, 
 use Rattle.sn_topic.specs.Table.{Entries}
 use Rattle.sn_session.specs.declared.session.Session.{Session}
 use Rattle.sn_session.specs.declared.change.SessionOp.{SessionOp}
-use Rattle.sn_session.specs.declared.change.SessionOp.TheVariants.{Presence}
+use Rattle.sn_session.specs.declared.outbound.Phase.TheVariants.{Published}
+use Rattle.sn_session.specs.declared.change.SessionOp.TheVariants.{Presence, Received}
 use Rattle.sn_session.specs.declared.presence.Presence.TheVariants.{Asleep}
-use Rattle.sn_session.specs.Received.{is_received}
+use Rattle.sn_session.specs.Received.{is_received, id_has_no_room}
 use Rattle.sn_frame.specs.declared.frame.Frame.TheVariants as frames
 use Rattle.rep_ops.specs.declared.op.Put.{Put}
 use Rattle.sn_flow.specs.declared.local.Timer.{Timer}
 use Rattle.sn_flow.specs.declared.local.WillDialog.{WillDialog}
 use Rattle.sn_flow.specs.declared.local.LocalChange.TheVariants.{Heard, EndDialog}
 use Rattle.sn_flow.specs.Names.{name_of}
-use Rattle.sn_flow.specs.Drafts.{Drafted, nothing, changed, changed_if, sent, moved}
+use Rattle.sn_flow.specs.Drafts.{Drafted, nothing, changed, changed_if, acked, put_all, sent, moved}
 use Rattle.sn_flow.specs.Plans.{Seen, plan_without}
 use Rattle.sn_flow.specs.Locals.{Local}
 use Rattle.sn_deliver.specs.declared.form.Form.{Form}
 use Rattle.sn_deliver.specs.declared.peer.Peer.{Peer}
 use Rattle.sn_deliver.specs.declared.delivery.ToldId.{ToldId}
-use Rattle.sn_deliver.specs.Forms.{form_of}
+use Rattle.sn_deliver.specs.Forms.{form_of, publication}
+use Rattle.sn_deliver.specs.Recipients.{puts_for}
 use Rattle.sn_deliver.specs.Exchanges.{is_awake}
-use Rattle.sn_deliver.specs.Delivery.{Stop, id_to_tell, register_first, deliver_by, none_left, and_then, deliver}
+use Rattle.sn_deliver.specs.Delivery.{Stop, id_to_tell, begun, register_first, deliver_by, none_left, and_then, deliver}
+use Rattle.sn_deliver.specs.Resending.{publish_by}
 use Rattle.sn_deliver.specs.Due.{elapsed, first_due}
 use Rattle.sn_deliver.specs.Ticking.{dialog_ended, dialogs_ended, needs_timer, timer_begun, cleaned, advertised, plan_if_due}
-use Rattle.sn_deliver.specs.Laws.{IsDoneWith, IsOfOneDone, DeliveryKeeps, PutsOnce, TickIsQuiet}
+use Rattle.sn_deliver.specs.Laws.{IsDoneWith, IsOfOneDone, DeliveryKeeps, PutsOnce, ResentWithDup, TickIsQuiet}
 
 -- ---- a test that chooses between drafts
 
@@ -43,7 +46,16 @@ choose_puts false x y e none = absurd (true≢false (sym e))
 -- ---- a repeated publication
 
 pub puts-once : PutsOnce
-puts-once seen a s topic msg_id body name received = choose_puts (is_received msg_id s.received) _ _ received refl
+puts-once seen a s topic msg_id body name received =
+    choose_puts (is_received msg_id s.received) (sent a (frames.PubRec msg_id) nothing)
+    (if id_has_no_room msg_id s.received then sent a (frames.PubAck topic msg_id 1) nothing
+    else sent a (frames.PubRec msg_id) (changed (Received msg_id) (put_all (puts_for seen name 2 body) nothing)))
+    received refl
+
+-- ---- a PUBLISH that is sent again
+
+pub resent-with-dup : ResentWithDup
+resent-with-dup predefined peer s msg_id put form d is = ap (λ (found : Option Form). (publish_by peer s put msg_id found d).1.sends) is
 
 -- ---- a tick
 
@@ -115,7 +127,9 @@ module _ (predefined : Entries) (peer : Peer) (s : Session) where
   form_keeps : (put : Put) (rest : List Put) (d : Drafted) (name : ℕ × ℕ) (form : Option Form) → form_of predefined s put.topic ≡ form
       → Contains (deliver_by peer s put form d).1.acks name → Kept predefined s (put ∷ rest) d name
   form_keeps put rest d name None none there = register_keeps put rest d name (id_to_tell s put.topic) none refl there
-  form_keeps put rest d name (Some form) some there = publish_keeps put rest d name (put.qos == 0) _ _ refl refl refl there
+  form_keeps put rest d name (Some form) some there =
+      publish_keeps put rest d name (put.qos == 0) (acked (name_of put) (sent peer.address (publication false put 0 form) d))
+      (begun peer s put Published (publication false put s.next_id form) d) refl refl refl there
 
   deeper : (put : Put) (rest : List Put) (name : ℕ × ℕ) → IsOfOneDone predefined s rest name → IsOfOneDone predefined s (put ∷ rest) name
   deeper put rest name (other, among, is, done) = (other, Contains-append_right (put ∷ []) rest other among, is, done)

@@ -1,18 +1,21 @@
 -- What holds of publications and of time, whatever the sessions and the messages.
-use Rattle.std.specs.Prelude.{◌≡◌, ℕ, ◌≤◌, true, false, ◌⊎◌, List, [], Some, None, Contains}
+use Rattle.std.specs.Prelude.{◌≡◌, ℕ, ◌+◌, true, false, ◌⊎◌, List, [], Some, None, Contains}
 use Rattle.sn_topic.specs.Table.{Entries}
 use Rattle.sn_session.specs.declared.session.Session.{Session}
 use Rattle.sn_session.specs.Received.{is_received}
+use Rattle.sn_frame.specs.declared.frame.Frame.TheVariants as frames
 use Rattle.rep_ops.specs.declared.op.Put.{Put}
 use Rattle.sn_flow.specs.declared.config.Addr.{Addr}
 use Rattle.sn_flow.specs.declared.plan.Plan.{Plan}
 use Rattle.sn_flow.specs.Names.{name_of}
-use Rattle.sn_flow.specs.Drafts.{Drafted}
+use Rattle.sn_flow.specs.Drafts.{Drafted, sent}
 use Rattle.sn_flow.specs.Plans.{Seen}
 use Rattle.sn_flow.specs.Locals.{Local}
+use Rattle.sn_deliver.specs.declared.form.Form.{Form}
 use Rattle.sn_deliver.specs.declared.peer.Peer.{Peer}
-use Rattle.sn_deliver.specs.Forms.{form_of}
+use Rattle.sn_deliver.specs.Forms.{form_of, form_again, qos_bits, kind_bits}
 use Rattle.sn_deliver.specs.Delivery.{id_to_tell, deliver}
+use Rattle.sn_deliver.specs.Resending.{publish_again}
 use Rattle.sn_deliver.specs.Publishing.{spread_twice}
 use Rattle.sn_deliver.specs.Due.{first_due}
 use Rattle.sn_deliver.specs.Ticking.{may_advertise, tick}
@@ -38,6 +41,14 @@ abbrev pub PutsOnce : Type 0
 PutsOnce =
     (seen : Seen) (a : Addr) (s : Session) (topic msg_id : ℕ) (body name : List ℕ) → is_received msg_id s.received ≡ true
     → (spread_twice seen a s topic msg_id body name).puts ≡ []
+
+-- a PUBLISH that is sent again has DUP, and the message id of its exchange
+abbrev pub ResentWithDup : Type 0
+ResentWithDup =
+    (predefined : Entries) (peer : Peer) (s : Session) (msg_id : ℕ) (put : Put) (form : Form) (d : Drafted)
+    → form_again predefined s put.topic ≡ Some form
+    → (publish_again predefined peer s msg_id (Some put) d).1.sends
+      ≡ (sent peer.address (frames.Publish (record { bits = 128 + qos_bits put.qos + kind_bits form.kind }) form.topic msg_id put.body) d).sends
 
 -- a plan that makes no operation and sends no frame
 abbrev pub IsQuiet : Plan → Type 0
