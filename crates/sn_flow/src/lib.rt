@@ -45,9 +45,7 @@ mod wills;
 pub use accept::GivenWill;
 pub use asking::{name_asked, qos_asked};
 pub use bindings::is_owned;
-pub use bound::{
-    hear_of, plan_heard, quiet, session_or, stray, turn_away, unseen, view_or,
-};
+pub use bound::{hear_of, plan_heard, quiet, session_or, stray, turn_away, unseen, view_or};
 pub use config::{Addr, Config, Send};
 pub use connection::{connect, disconnect};
 pub use draft::{Draft, NewPut};

@@ -150,11 +150,7 @@ pub fn send_again(timers: &mut Vec<Timer>, client: ClientId, moment: u64)
 fn one_try_more(tries: u8) -> u8
     ensures { result ≡ try_more tries }
 {
-    if tries == 255 {
-        255
-    } else {
-        tries + 1
-    }
+    if tries == 255 { 255 } else { tries + 1 }
 }
 
 /// The timer of a client with which there was one more try.
