@@ -10,7 +10,7 @@ use Rattle.gw_sim.specs.Commands.{Spells}
 
 -- a gateway that is told nothing but its number
 abbrev pub config_of : ℕ → Config
-config_of number = record { gateway = number; predefined = [] }
+config_of number = record { gateway = number; advertise = 0; field = []; predefined = [] }
 
 -- whether a gateway has the number
 abbrev pub has_gateway : List Config → ℕ → Bool

@@ -79,6 +79,8 @@ impl Script {
         let predefined = no_entries(alloc);
         self.configs.push(Config {
             gateway: number,
+            advertise: 0,
+            field: Sequence::empty(alloc),
             predefined,
         })?;
         Ok(())
@@ -136,6 +138,8 @@ fn with_entry(alloc: Global, config: &Config, id: u16, name: TopicName) -> Resul
     match Predefined::new(alloc, entries) {
         Ok(predefined) => Ok(Config {
             gateway: config.gateway,
+            advertise: config.advertise,
+            field: Sequence::new(Vec::from_slice(alloc, config.field.as_slice())?),
             predefined,
         }),
         Err(TopicFault::Memory) => Err(LineFault::Memory),

@@ -142,5 +142,5 @@ takes_address = refl
 
 -- what such a step leaves in the local state: one binding, no dialog, and both timers
 leaves : after_all (after_all topic_asked_for (Bind seven (codes "s2") ∷ [])) (Bind seven s1 ∷ Time (started s1 5) ∷ EndDialog seven ∷ Heard (codes "s2") 5 ∷ [])
-    ≡ record { bindings = record { address = seven; client = s1 } ∷ []; dialogs = []; timers = started s1 5 ∷ started (codes "s2") 5 ∷ [] }
+    ≡ record { bindings = record { address = seven; client = s1 } ∷ []; dialogs = []; timers = started s1 5 ∷ started (codes "s2") 5 ∷ []; advertised = None }
 leaves = refl

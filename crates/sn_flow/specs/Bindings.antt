@@ -5,7 +5,7 @@ use Rattle.rep_ops.specs.Sets.{same_client}
 use Rattle.sn_flow.specs.declared.config.Addr.{Addr}
 use Rattle.sn_flow.specs.declared.local.Binding.{Binding}
 use Rattle.sn_flow.specs.declared.local.LocalChange.{LocalChange}
-use Rattle.sn_flow.specs.declared.local.LocalChange.TheVariants.{Bind, Unbind, Time, Heard, Ask, EndDialog}
+use Rattle.sn_flow.specs.declared.local.LocalChange.TheVariants.{Bind, Unbind, Time, Heard, Sent, Resent, Retried, Ask, EndDialog, Advertised}
 use Rattle.sn_flow.specs.Plans.{Seen}
 
 abbrev pub same_address : Addr → Addr → Bool
@@ -31,8 +31,12 @@ binding_change bindings (Bind a c) = bound a c bindings
 binding_change bindings (Unbind c) = unbound c bindings
 binding_change bindings (Time timer) = bindings
 binding_change bindings (Heard c now) = bindings
+binding_change bindings (Sent c now) = bindings
+binding_change bindings (Resent c now) = bindings
+binding_change bindings (Retried c now) = bindings
 binding_change bindings (Ask dialog) = bindings
 binding_change bindings (EndDialog a) = bindings
+binding_change bindings (Advertised now) = bindings
 
 -- the bindings after these changes
 abbrev pub bindings_after : List Binding → List LocalChange → List Binding
@@ -42,6 +46,11 @@ bindings_after bindings changes = fold binding_change bindings changes
 abbrev pub client_at : Addr → List Binding → Option (List ℕ)
 client_at a [] = None
 client_at a (binding ∷ rest) = if same_address binding.address a then Some binding.client else client_at a rest
+
+-- the address of a client
+abbrev pub address_of : List ℕ → List Binding → Option Addr
+address_of c [] = None
+address_of c (binding ∷ rest) = if same_client binding.client c then Some binding.address else address_of c rest
 
 abbrev pub is_stamp_of : ℕ → Option Stamp → Bool
 is_stamp_of g None = false

@@ -1,4 +1,5 @@
 pub mod Accept
+pub mod Advertising
 pub mod Asking
 pub mod Bindings
 pub mod Bound

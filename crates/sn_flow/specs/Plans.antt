@@ -1,5 +1,6 @@
 -- The plan of a step, and what a step reads.
 use Rattle.std.specs.Prelude.{◌≡◌, ℕ, Bool, List, [], Option, Some, None, Result, MatchResult, ⊤}
+use Rattle.std.specs.Option.{option_map}
 use Rattle.rep_ops.specs.declared.op.Op.{Op}
 use Rattle.rep_model.specs.declared.view.ClientView.{ClientView}
 use Rattle.rep_model.specs.Views.{view, is_named, clients}
@@ -8,7 +9,7 @@ use Rattle.sn_flow.specs.declared.fault.StepFault.{StepFault}
 use Rattle.sn_flow.specs.declared.fault.StepFault.TheVariants.{Exhausted, Memory}
 use Rattle.sn_flow.specs.declared.plan.Plan.{Plan}
 use Rattle.sn_flow.specs.Drafts.{Drafted}
-use Rattle.sn_flow.specs.Numbering.{planned}
+use Rattle.sn_flow.specs.Numbering.{planned, plan_with, with_puts}
 
 -- all that a step reads of a set of operations: the clients that it names, their views, and the numbers that are next
 pub record Seen : Type 0 where
@@ -28,6 +29,10 @@ plan_of g c seen d = planned g c (seen.of c) (seen.epoch c) (λ e. seen.seq e g)
 -- the plan of a draft without operations
 abbrev pub plan_without : Drafted → Plan
 plan_without d = record { ops = []; sends = d.sends; local = d.local }
+
+-- the plan of a draft without changes and acknowledgements: messages, frames and local changes
+abbrev pub plan_of_puts : ℕ → Seen → Drafted → Option Plan
+plan_of_puts g seen d = option_map (plan_with d) (with_puts g (λ e. seen.seq e g) d.puts [])
 
 -- Exhausted exactly where the definition has no plan; want of memory may come anywhere
 abbrev pub IsFault : {X : Type 0} → StepFault → Option X → Type 0

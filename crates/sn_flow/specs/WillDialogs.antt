@@ -3,7 +3,7 @@ use Rattle.std.specs.Prelude.{Bool, not, if◌then◌else◌, nat_le, List, [], 
 use Rattle.sn_flow.specs.declared.config.Addr.{Addr}
 use Rattle.sn_flow.specs.declared.local.WillDialog.{WillDialog}
 use Rattle.sn_flow.specs.declared.local.LocalChange.{LocalChange}
-use Rattle.sn_flow.specs.declared.local.LocalChange.TheVariants.{Bind, Unbind, Time, Heard, Ask, EndDialog}
+use Rattle.sn_flow.specs.declared.local.LocalChange.TheVariants.{Bind, Unbind, Time, Heard, Sent, Resent, Retried, Ask, EndDialog, Advertised}
 use Rattle.sn_flow.specs.Bindings.{same_address}
 
 abbrev pub is_elsewhere : Addr → WillDialog → Bool
@@ -22,8 +22,12 @@ dialog_change dialogs (Bind a c) = dialogs
 dialog_change dialogs (Unbind c) = dialogs
 dialog_change dialogs (Time timer) = dialogs
 dialog_change dialogs (Heard c now) = dialogs
+dialog_change dialogs (Sent c now) = dialogs
+dialog_change dialogs (Resent c now) = dialogs
+dialog_change dialogs (Retried c now) = dialogs
 dialog_change dialogs (Ask dialog) = asked dialog dialogs
 dialog_change dialogs (EndDialog a) = dialogs_elsewhere a dialogs
+dialog_change dialogs (Advertised now) = dialogs
 
 -- the dialogs after these changes
 abbrev pub dialogs_after : List WillDialog → List LocalChange → List WillDialog

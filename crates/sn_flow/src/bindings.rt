@@ -3,7 +3,7 @@
 ghost use Rattle.std.specs.Prelude.{◌≡◌, ◌+◌, ◌≤◌, filter, vec_len};
 ghost use Rattle.std.specs.Option.{option_copied};
 ghost use Rattle.std.specs.Vec.{vec_capacity};
-ghost use Rattle.sn_flow.specs.Bindings.{client_at as client_of_address, bound, unbound, is_apart as is_apart_from, is_of_other as is_of_another, is_owned as is_owned_at, has_owned as has_owned_client, owned_bindings};
+ghost use Rattle.sn_flow.specs.Bindings.{client_at as client_of_address, address_of as address_of_client, bound, unbound, is_apart as is_apart_from, is_of_other as is_of_another, is_owned as is_owned_at, has_owned as has_owned_client, owned_bindings};
 ghost use Rattle.sn_flow.specs.Plans.{seen_of};
 
 use super::config::Addr;
@@ -61,6 +61,18 @@ pub fn client_at(bindings: &[Binding], address: Addr) -> Option<&ClientId>
     for binding in bindings {
         if binding.address == address {
             return Some(&binding.client);
+        }
+    }
+    None
+}
+
+/// The address of a client.
+pub fn address_of(bindings: &[Binding], client: &ClientId) -> Option<Addr>
+    ensures { result ≡ address_of_client client.now bindings.now }
+{
+    for binding in bindings {
+        if binding.client == *client {
+            return Some(binding.address);
         }
     }
     None

@@ -5,10 +5,11 @@ ghost use Rattle.std.specs.Vec.{vec_capacity};
 ghost use Rattle.sn_flow.specs.Bindings.{binding_change, bindings_after};
 ghost use Rattle.sn_flow.specs.WillDialogs.{dialog_change, dialogs_after};
 ghost use Rattle.sn_flow.specs.Timers.{timer_change, timers_after};
+ghost use Rattle.sn_flow.specs.Advertising.{advertised_change, advertised_after};
 
 use super::bindings::{bind, unbind};
 use super::local::{Binding, LocalChange, Timer, WillDialog};
-use super::timers::{hear, set_timer};
+use super::timers::{hear, send_again, send_anew, set_timer, try_again};
 use super::will_dialogs::{ask, end_dialog};
 
 /// Carries out one change. There is room for one more entry in each list.
@@ -16,6 +17,7 @@ fn commit_one(
     bindings: &mut Vec<Binding>,
     dialogs: &mut Vec<WillDialog>,
     timers: &mut Vec<Timer>,
+    advertised: &mut Option<u64>,
     change: LocalChange,
 )
     requires bindings { vec_len bindings.old + 1 ≤ vec_capacity bindings.old }
@@ -24,6 +26,7 @@ fn commit_one(
     ensures bindings { bindings.new.items ≡ binding_change bindings.old.items change }
     ensures dialogs { dialogs.new.items ≡ dialog_change dialogs.old.items change }
     ensures timers { timers.new.items ≡ timer_change timers.old.items change }
+    ensures advertised { advertised.new ≡ advertised_change advertised.old change }
     ensures bindings_capacity { vec_capacity bindings.old ≤ vec_capacity bindings.new }
     ensures dialogs_capacity { vec_capacity dialogs.old ≤ vec_capacity dialogs.new }
     ensures timers_capacity { vec_capacity timers.old ≤ vec_capacity timers.new }
@@ -36,8 +39,12 @@ fn commit_one(
         LocalChange::Unbind { client } => unbind(bindings, &client),
         LocalChange::Time { timer } => set_timer(timers, timer),
         LocalChange::Heard { client, moment } => hear(timers, client, moment),
+        LocalChange::Sent { client, moment } => send_anew(timers, client, moment),
+        LocalChange::Resent { client, moment } => send_again(timers, client, moment),
+        LocalChange::Retried { client, moment } => try_again(timers, client, moment),
         LocalChange::Ask { dialog } => ask(dialogs, dialog),
         LocalChange::EndDialog { address } => end_dialog(dialogs, address),
+        LocalChange::Advertised { moment } => *advertised = Some(moment),
     }
 }
 
@@ -46,6 +53,7 @@ pub fn commit_all(
     bindings: &mut Vec<Binding>,
     dialogs: &mut Vec<WillDialog>,
     timers: &mut Vec<Timer>,
+    advertised: &mut Option<u64>,
     changes: Vec<LocalChange>,
 )
     requires bindings { vec_len bindings.old + length changes.items ≤ vec_capacity bindings.old }
@@ -54,8 +62,9 @@ pub fn commit_all(
     ensures bindings { bindings.new.items ≡ bindings_after bindings.old.items changes.items }
     ensures dialogs { dialogs.new.items ≡ dialogs_after dialogs.old.items changes.items }
     ensures timers { timers.new.items ≡ timers_after timers.old.items changes.items }
+    ensures advertised { advertised.new ≡ advertised_after advertised.old changes.items }
 {
     for change in changes {
-        commit_one(bindings, dialogs, timers, change);
+        commit_one(bindings, dialogs, timers, advertised, change);
     }
 }

@@ -1,7 +1,7 @@
 //! What a gateway is told, and what it sends.
 
 use super::fault::StepFault;
-use octets::Octets;
+use octets::{Octets, Sequence};
 use sn_topic::Predefined;
 use std::alloc::Global;
 
@@ -17,6 +17,10 @@ pub struct Addr {
 pub struct Config {
     /// Its number, 1 to 255; no other gateway of the field has it.
     pub gateway: u8,
+    /// After how many seconds it advertises itself again; 0 for never (MQTT-SN 1.2 section 6.1).
+    pub advertise: u16,
+    /// Where it advertises itself.
+    pub field: Sequence<Addr>,
     /// The topic ids that stand for names without registration.
     pub predefined: Predefined,
 }
@@ -35,6 +39,8 @@ impl Config {
         };
         Ok(Config {
             gateway: self.gateway,
+            advertise: self.advertise,
+            field: Sequence::new(Vec::from_slice(alloc, self.field.as_slice())?),
             predefined,
         })
     }

@@ -45,7 +45,7 @@ impl Model for Draft {
 }
 
 impl Draft {
-    ghost use Rattle.sn_flow.specs.Drafts.{nothing, changed, changed_if, acked, acked_all, sent, moved};
+    ghost use Rattle.sn_flow.specs.Drafts.{nothing, changed, changed_if, acked, acked_all, put_all, sent, moved};
 
     /// A step that does nothing.
     pub fn new(alloc: Global) -> Draft
@@ -70,6 +70,20 @@ impl Draft {
         let mut draft = Draft::new(alloc);
         draft.send(alloc, to, frame)?;
         Ok(draft)
+    }
+
+    /// The changes of the session so far.
+    pub fn changes(&self) -> &[SessionOp]
+        ensures { result.now ≡ self.now.changes }
+    {
+        self.changes.as_slice()
+    }
+
+    /// The puts that are acknowledged so far, by sequence number and origin.
+    pub fn acks(&self) -> &[(u64, u8)]
+        ensures { result.now ≡ self.now.acks }
+    {
+        self.acks.as_slice()
     }
 
     /// Whether the session stays as it is.
@@ -120,6 +134,13 @@ impl Draft {
         extend_names(&mut self.acks, puts)
     }
 
+    /// And then these messages.
+    pub fn put_all(&mut self, puts: Vec<NewPut>) -> Result<(), AllocError>
+        ensures { OnOk result (self.new ≡ put_all puts.items self.old) }
+    {
+        extend_puts(&mut self.puts, puts)
+    }
+
     /// And then this frame.
     pub fn send(&mut self, alloc: Global, to: Addr, frame: &Frame) -> Result<(), StepFault>
         requires message { IsMessage frame.now }
@@ -145,6 +166,16 @@ impl Draft {
         self.local.push(change)?;
         Ok(())
     }
+}
+
+/// Appends these messages.
+fn extend_puts(puts: &mut Vec<NewPut>, more: Vec<NewPut>) -> Result<(), AllocError>
+    ensures { OnOk result (puts.new.items ≡ puts.old.items ++ more.items) }
+{
+    for put in more {
+        puts.push(put)?;
+    }
+    Ok(())
 }
 
 /// Appends the names of these puts.

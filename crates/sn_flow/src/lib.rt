@@ -43,6 +43,9 @@ mod will_update;
 mod wills;
 
 pub use accept::GivenWill;
+pub use asking::{name_asked, qos_asked};
+pub use bindings::is_owned;
+pub use bound::{hear_of, plan_heard, quiet, session_or, stray, turn_away, unseen, view_or};
 pub use config::{Addr, Config, Send};
 pub use connection::{connect, disconnect};
 pub use draft::{Draft, NewPut};
@@ -52,10 +55,11 @@ pub use laws::{
     reads_back, stays_flush,
 };
 pub use local::{Awaited, Binding, Dialogs, LocalChange, Request, Timer, WillDialog};
-pub use plan::{Plan, plan_of, plan_without};
+pub use numbering::apply;
+pub use plan::{Plan, plan_of, plan_of_puts, plan_without};
 pub use request_laws::{
     given_id_stands, requests_keep_messages, subscribe_lasts, unsubscribe_ends,
 };
-pub use table::{other, step};
+pub use table::{is_up, other, step};
 pub use topic_rows::{register, subscribe, unsubscribe};
 pub use wills::{will_msg, will_msg_update, will_topic, will_topic_update};

@@ -3,11 +3,11 @@
 ghost use Rattle.std.specs.Prelude.{◌≡◌, length, IfOk, IfErr, OnOk};
 ghost use Rattle.std.specs.Option.{option_copied};
 
-use super::bindings::{client_at, keep_bindings};
+use super::bindings::{address_of, client_at, keep_bindings};
 use super::changes::commit_all;
 use super::config::Addr;
 use super::fault::StepFault;
-use super::timers::keep_timers;
+use super::timers::{keep_timers, timer_of};
 use super::will_dialogs::{dialog_at, is_crowded};
 use octets::Sequence;
 use rep_model::Replica;
@@ -95,19 +95,29 @@ pub enum LocalChange {
     Time { timer: Timer },
     /// The client was heard of at a moment. Where it has no timer yet, one begins.
     Heard { client: ClientId, moment: u64 },
+    /// The first frame of a new exchange was sent to the client at a moment.
+    Sent { client: ClientId, moment: u64 },
+    /// A frame of the open exchange was sent to the client again at a moment. The number of tries stays.
+    Resent { client: ClientId, moment: u64 },
+    /// At a moment the frame of the open exchange was due to be sent again: there is one try more.
+    Retried { client: ClientId, moment: u64 },
     /// The dialog of its address is this one.
     Ask { dialog: WillDialog },
     /// The address has no dialog any more.
     EndDialog { address: Addr },
+    /// The gateway advertised itself at a moment.
+    Advertised { moment: u64 },
 }
 
 /// The local state of a gateway: which address is which client, from which addresses a will is awaited,
-/// and when which client was heard of. It begins empty, and is gone when the gateway stops.
+/// when which client was heard of, and when the gateway advertised itself. It begins empty, and is gone when
+/// the gateway stops.
 #[derive(Debug, Drop)]
 pub struct Dialogs {
     bindings: Vec<Binding>,
     dialogs: Vec<WillDialog>,
     timers: Vec<Timer>,
+    advertised: Option<u64>,
 }
 
 impl Model for Dialogs {
@@ -118,7 +128,7 @@ impl Model for Dialogs {
     ghost Value = { Roomy };
 
     ghost view = { λ d. record {
-      local = record { bindings = d.bindings.items; dialogs = d.dialogs.items; timers = d.timers.items };
+      local = record { bindings = d.bindings.items; dialogs = d.dialogs.items; timers = d.timers.items; advertised = d.advertised };
       room = record {
         bindings = vec_capacity d.bindings - vec_len d.bindings;
         dialogs = vec_capacity d.dialogs - vec_len d.dialogs;
@@ -128,7 +138,8 @@ impl Model for Dialogs {
 }
 
 impl Dialogs {
-    ghost use Rattle.sn_flow.specs.Bindings.{client_at as client_of};
+    ghost use Rattle.sn_flow.specs.Bindings.{client_at as client_of, address_of as address_of_client};
+    ghost use Rattle.sn_flow.specs.Timers.{timer_of as timer_of_client};
     ghost use Rattle.sn_flow.specs.WillDialogs.{dialog_at as dialog_of, is_crowded as has_no_room};
     ghost use Rattle.sn_flow.specs.Locals.{after_all, no_local, owned, IsRoomFor};
     ghost use Rattle.sn_flow.specs.Plans.{seen_of};
@@ -141,6 +152,7 @@ impl Dialogs {
             bindings: Vec::new(alloc),
             dialogs: Vec::new(alloc),
             timers: Vec::new(alloc),
+            advertised: None,
         }
     }
 
@@ -163,6 +175,7 @@ impl Dialogs {
             &mut self.bindings,
             &mut self.dialogs,
             &mut self.timers,
+            &mut self.advertised,
             changes.into_vec(),
         )
     }
@@ -180,6 +193,34 @@ impl Dialogs {
         ensures { option_copied result ≡ client_of address self.now.local.bindings }
     {
         client_at(self.bindings.as_slice(), address)
+    }
+
+    /// The address of a client.
+    pub fn address_of(&self, client: &ClientId) -> Option<Addr>
+        ensures { result ≡ address_of_client client.now self.now.local.bindings }
+    {
+        address_of(self.bindings.as_slice(), client)
+    }
+
+    /// The timer of a client.
+    pub fn timer_of(&self, client: &ClientId) -> Option<&Timer>
+        ensures { option_copied result ≡ timer_of_client client.now self.now.local.timers }
+    {
+        timer_of(self.timers.as_slice(), client)
+    }
+
+    /// The will dialogs.
+    pub fn dialogs(&self) -> &[WillDialog]
+        ensures { result.now ≡ self.now.local.dialogs }
+    {
+        self.dialogs.as_slice()
+    }
+
+    /// When the gateway advertised itself last, if it did.
+    pub fn advertised(&self) -> Option<u64>
+        ensures { result ≡ self.now.local.advertised }
+    {
+        self.advertised
     }
 
     /// The will dialog of an address.

@@ -36,7 +36,7 @@ impl Model for Writer {
 }
 
 /// Changes the session. An operation that finds its table full leaves it as it was.
-fn apply(session: &mut Session, alloc: Global, change: &SessionOp) -> Result<(), StepFault>
+pub fn apply(session: &mut Session, alloc: Global, change: &SessionOp) -> Result<(), StepFault>
     ensures ok { OnOk result (session.new ≡ applied session.old change.now) }
     ensures err { IfErr result (λ fault. fault ≡ StepFault.Memory) }
 {

@@ -5,7 +5,7 @@ ghost use Rattle.std.specs.Option.{option_map};
 ghost use Rattle.rep_model.specs.Views.{view};
 ghost use Rattle.rep_model.specs.Fresh.{next_epoch, next_seq};
 ghost use Rattle.sn_flow.specs.Numbering.{start_of, with_puts, ack_of, plan_with};
-ghost use Rattle.sn_flow.specs.Plans.{Gives, seen_of, plan_of as defined_plan, plan_without as defined_without};
+ghost use Rattle.sn_flow.specs.Plans.{Gives, seen_of, plan_of as defined_plan, plan_without as defined_without, plan_of_puts as plan_of_messages};
 
 use super::config::Send;
 use super::draft::Draft;
@@ -90,6 +90,31 @@ pub fn plan_of<R: Replica>(
     let changes = draft.take_changes(alloc);
     writer.write_all(alloc, gateway, client, changes)?;
     rest_of(alloc, gateway, replica, client, writer.into_ops(), draft)
+}
+
+/// The plan of a draft without changes and acknowledgements: of messages, frames and local changes.
+pub fn plan_of_puts<R: Replica>(
+    alloc: Global,
+    gateway: u8,
+    replica: &R,
+    draft: Draft,
+) -> Result<Plan, StepFault>
+    ensures { Gives result (plan_of_messages gateway (seen_of (R.kept replica.now)) draft) }
+{
+    let Draft {
+        changes: _,
+        acks: _,
+        puts,
+        sends,
+        local,
+    } = draft;
+    let mut ops = Vec::new(alloc);
+    number_puts(gateway, replica, puts, &mut ops)?;
+    Ok(Plan {
+        ops: Sequence::new(ops),
+        sends: Sequence::new(sends),
+        local: Sequence::new(local),
+    })
 }
 
 /// The plan of a draft without changes, acknowledgements and puts.

@@ -85,7 +85,7 @@ fn published(
 }
 
 /// Whether a client is there: Active, Asleep or Awake.
-fn is_up(presence: Presence) -> bool
+pub fn is_up(presence: Presence) -> bool
     ensures { result ≡ is_up_at presence }
 {
     match presence {

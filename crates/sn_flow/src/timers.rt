@@ -3,7 +3,7 @@
 ghost use Rattle.std.specs.Prelude.{◌≡◌, ◌+◌, ◌≤◌, filter, vec_len};
 ghost use Rattle.std.specs.Option.{option_copied};
 ghost use Rattle.std.specs.Vec.{vec_capacity};
-ghost use Rattle.sn_flow.specs.Timers.{is_of_another as is_of_other, timed, timer_of as timer_of_client, heard_at as heard_timer, heard, times_owned as times_owned_client, owned_timers};
+ghost use Rattle.sn_flow.specs.Timers.{is_of_another as is_of_other, timed, timer_of as timer_of_client, heard_at as heard_timer, heard, one_try_more as try_more, sent_at as sent_timer, resent_at as resent_timer, retried_at as retried_timer, sent_anew, sent_again, tried_again, times_owned as times_owned_client, owned_timers};
 ghost use Rattle.sn_flow.specs.Plans.{seen_of};
 
 use super::bindings::is_owned;
@@ -39,7 +39,7 @@ pub fn set_timer(timers: &mut Vec<Timer>, timer: Timer)
 }
 
 /// The timer of a client.
-fn timer_of<'a>(timers: &'a [Timer], client: &ClientId) -> Option<&'a Timer>
+pub fn timer_of<'a>(timers: &'a [Timer], client: &ClientId) -> Option<&'a Timer>
     ensures { option_copied result ≡ timer_of_client client.now timers.now }
 {
     for timer in timers {
@@ -79,6 +79,109 @@ pub fn hear(timers: &mut Vec<Timer>, client: ClientId, moment: u64)
 {
     let before = timer_of(timers.as_slice(), &client);
     let timer = heard_at(client, moment, before);
+    set_timer(timers, timer);
+}
+
+/// The timer of a client whose frame is sent anew at this moment.
+fn sent_at(client: ClientId, moment: u64, before: Option<&Timer>) -> Timer
+    ensures { result ≡ sent_timer client moment (option_copied before.entry) }
+{
+    match before {
+        None => Timer {
+            client,
+            heard: moment,
+            sent: moment,
+            tries: 0,
+        },
+        Some(timer) => Timer {
+            client,
+            heard: timer.heard,
+            sent: moment,
+            tries: 0,
+        },
+    }
+}
+
+/// The first frame of a new exchange was sent to the client at this moment. There is room for one more timer.
+pub fn send_anew(timers: &mut Vec<Timer>, client: ClientId, moment: u64)
+    requires { vec_len timers.old + 1 ≤ vec_capacity timers.old }
+    ensures items { timers.new.items ≡ sent_anew client moment timers.old.items }
+    ensures capacity { vec_capacity timers.old ≤ vec_capacity timers.new }
+    ensures len { vec_len timers.new ≤ vec_len timers.old + 1 }
+{
+    let before = timer_of(timers.as_slice(), &client);
+    let timer = sent_at(client, moment, before);
+    set_timer(timers, timer);
+}
+
+/// The timer of a client whose frame is sent again at this moment.
+fn resent_at(client: ClientId, moment: u64, before: Option<&Timer>) -> Timer
+    ensures { result ≡ resent_timer client moment (option_copied before.entry) }
+{
+    match before {
+        None => Timer {
+            client,
+            heard: moment,
+            sent: moment,
+            tries: 0,
+        },
+        Some(timer) => Timer {
+            client,
+            heard: timer.heard,
+            sent: moment,
+            tries: timer.tries,
+        },
+    }
+}
+
+/// A frame of the open exchange was sent to the client again at this moment. There is room for one more timer.
+pub fn send_again(timers: &mut Vec<Timer>, client: ClientId, moment: u64)
+    requires { vec_len timers.old + 1 ≤ vec_capacity timers.old }
+    ensures items { timers.new.items ≡ sent_again client moment timers.old.items }
+    ensures capacity { vec_capacity timers.old ≤ vec_capacity timers.new }
+    ensures len { vec_len timers.new ≤ vec_len timers.old + 1 }
+{
+    let before = timer_of(timers.as_slice(), &client);
+    let timer = resent_at(client, moment, before);
+    set_timer(timers, timer);
+}
+
+/// One try more; a timer counts to 255.
+fn one_try_more(tries: u8) -> u8
+    ensures { result ≡ try_more tries }
+{
+    if tries == 255 { 255 } else { tries + 1 }
+}
+
+/// The timer of a client with which there was one more try.
+fn retried_at(client: ClientId, moment: u64, before: Option<&Timer>) -> Timer
+    ensures { result ≡ retried_timer client moment (option_copied before.entry) }
+{
+    match before {
+        None => Timer {
+            client,
+            heard: moment,
+            sent: moment,
+            tries: 0,
+        },
+        Some(timer) => Timer {
+            client,
+            heard: timer.heard,
+            sent: timer.sent,
+            tries: one_try_more(timer.tries),
+        },
+    }
+}
+
+/// There was one more try at this moment. There is room for one more timer.
+pub fn try_again(timers: &mut Vec<Timer>, client: ClientId, moment: u64)
+    requires { vec_len timers.old + 1 ≤ vec_capacity timers.old }
+    ensures items { timers.new.items ≡ tried_again client moment timers.old.items }
+    ensures capacity { vec_capacity timers.old ≤ vec_capacity timers.new }
+    ensures len { vec_len timers.new ≤ vec_len timers.old + 1 }
+{
+    let before = timer_of(timers.as_slice(), &client);
+    let timer = retried_at(client, moment, before);
     set_timer(timers, timer);
 }
 

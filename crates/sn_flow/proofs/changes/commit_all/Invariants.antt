@@ -5,6 +5,7 @@ use Rattle.std.specs.Vec.Iter.{into_iter_items}
 use Rattle.sn_flow.specs.Bindings.{bindings_after}
 use Rattle.sn_flow.specs.WillDialogs.{dialogs_after}
 use Rattle.sn_flow.specs.Timers.{timers_after}
+use Rattle.sn_flow.specs.Advertising.{advertised_after}
 use Rattle.sn_flow.proofs.changes.commit_all.Given as goal
 
 abbrev pub invariant-loop-change : goal.invariant-loop-change
@@ -15,4 +16,5 @@ invariant-loop-change l = record {
   bindings : bindings_after l.bindings.items (into_iter_items l.change-iterator) ≡ bindings_after l.fn.bindings.items l.fn.changes.items;
   dialogs : dialogs_after l.dialogs.items (into_iter_items l.change-iterator) ≡ dialogs_after l.fn.dialogs.items l.fn.changes.items;
   timers : timers_after l.timers.items (into_iter_items l.change-iterator) ≡ timers_after l.fn.timers.items l.fn.changes.items;
+  advertised : advertised_after l.advertised (into_iter_items l.change-iterator) ≡ advertised_after l.fn.advertised l.fn.changes.items;
 }

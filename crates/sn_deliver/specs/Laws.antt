@@ -1,0 +1,62 @@
+-- What holds of publications and of time, whatever the sessions and the messages.
+use Rattle.std.specs.Prelude.{◌≡◌, ℕ, ◌+◌, true, false, ◌⊎◌, List, [], Some, None, Contains}
+use Rattle.sn_topic.specs.Table.{Entries}
+use Rattle.sn_session.specs.declared.session.Session.{Session}
+use Rattle.sn_session.specs.Received.{is_received}
+use Rattle.sn_frame.specs.declared.frame.Frame.TheVariants as frames
+use Rattle.rep_ops.specs.declared.op.Put.{Put}
+use Rattle.sn_flow.specs.declared.config.Addr.{Addr}
+use Rattle.sn_flow.specs.declared.plan.Plan.{Plan}
+use Rattle.sn_flow.specs.Names.{name_of}
+use Rattle.sn_flow.specs.Drafts.{Drafted, sent}
+use Rattle.sn_flow.specs.Plans.{Seen}
+use Rattle.sn_flow.specs.Locals.{Local}
+use Rattle.sn_deliver.specs.declared.form.Form.{Form}
+use Rattle.sn_deliver.specs.declared.peer.Peer.{Peer}
+use Rattle.sn_deliver.specs.Forms.{form_of, form_again, qos_bits, kind_bits}
+use Rattle.sn_deliver.specs.Delivery.{id_to_tell, deliver}
+use Rattle.sn_deliver.specs.Resending.{publish_again}
+use Rattle.sn_deliver.specs.Publishing.{spread_twice}
+use Rattle.sn_deliver.specs.Due.{first_due}
+use Rattle.sn_deliver.specs.Ticking.{may_advertise, tick}
+
+-- a message that Delivery is done with: it was sent at quality of service 0, or no id is left for its topic
+abbrev pub IsDoneWith : Entries → Session → Put → Type 0
+IsDoneWith predefined s put = (put.qos ≡ 0) ⊎ ((form_of predefined s put.topic ≡ None) × (id_to_tell s put.topic ≡ None))
+
+-- the name of such a message among these
+abbrev pub IsOfOneDone : Entries → Session → List Put → ℕ × ℕ → Type 0
+IsOfOneDone predefined s pending name =
+    (put : Put) × Contains pending put × (name ≡ name_of put) × IsDoneWith predefined s put
+
+-- Delivery acknowledges no other message
+abbrev pub DeliveryKeeps : Type 0
+DeliveryKeeps =
+    (predefined : Entries) (peer : Peer) (s : Session) (pending : List Put) (d : Drafted) (name : ℕ × ℕ)
+    → Contains (deliver predefined peer s pending d).acks name
+    → Contains d.acks name ⊎ IsOfOneDone predefined s pending name
+
+-- a publication at quality of service 2 whose message id was received and not released makes no message
+abbrev pub PutsOnce : Type 0
+PutsOnce =
+    (seen : Seen) (a : Addr) (s : Session) (topic msg_id : ℕ) (body name : List ℕ) → is_received msg_id s.received ≡ true
+    → (spread_twice seen a s topic msg_id body name).puts ≡ []
+
+-- a PUBLISH that is sent again has DUP, and the message id of its exchange
+abbrev pub ResentWithDup : Type 0
+ResentWithDup =
+    (predefined : Entries) (peer : Peer) (s : Session) (msg_id : ℕ) (put : Put) (form : Form) (d : Drafted)
+    → form_again predefined s put.topic ≡ Some form
+    → (publish_again predefined peer s msg_id (Some put) d).1.sends
+      ≡ (sent peer.address (frames.Publish (record { bits = 128 + qos_bits put.qos + kind_bits form.kind }) form.topic msg_id put.body) d).sends
+
+-- a plan that makes no operation and sends no frame
+abbrev pub IsQuiet : Plan → Type 0
+IsQuiet plan = (plan.ops ≡ []) × (plan.sends ≡ [])
+
+-- a tick that finds nothing due makes nothing and sends nothing
+abbrev pub TickIsQuiet : Type 0
+TickIsQuiet =
+    (g advertise : ℕ) (field : List Addr) (predefined : Entries) (seen : Seen) (local : Local) (now : ℕ)
+    → may_advertise advertise field now local.advertised ≡ false → first_due g seen local now seen.all ≡ None
+    → (plan : Plan) × (tick g advertise field predefined seen local now ≡ Some plan) × IsQuiet plan

@@ -1,0 +1,11 @@
+pub mod Acknowledging
+pub mod Delivery
+pub mod Due
+pub mod Exchanges
+pub mod Forms
+pub mod Laws
+pub mod Publishing
+pub mod Recipients
+pub mod Resending
+pub mod Serving
+pub mod Ticking

@@ -1,0 +1,160 @@
+//! Who gets a publication, and at which quality of service (MQTT-SN 1.2 section 6.10).
+
+ghost use Rattle.std.specs.Prelude.{◌≡◌, filter, IfOk, IfErr};
+ghost use Rattle.sn_flow.specs.Plans.{seen_of};
+ghost use Rattle.rep_model.specs.Views.{view};
+ghost use Rattle.sn_deliver.specs.Recipients.{admitted as qos_admitted, qos_at as qos_at_asked, qos_in as qos_in_session, qos_for as qos_for_view, put_for as put_for_client, puts_among as puts_among_clients, puts_for as puts_for_all, is_another as is_another_client, puts_of_will as puts_of_this_will};
+
+use octets::Octets;
+use rep_model::{ClientView, Replica};
+use rep_ops::{ClientId, Put};
+use sn_flow::{NewPut, StepFault, is_up};
+use sn_session::{Presence, Session, Will};
+use sn_topic::TopicName;
+use std::alloc::Global;
+
+/// How many messages may wait for a client before it is no recipient any more.
+const MAX_PENDING: usize = 1024;
+
+/// At this quality of service, where there is room and the client is there or gets the message at least once.
+fn admitted(pending: &[Put], presence: Presence, qos: u8) -> Option<u8>
+    ensures { result ≡ qos_admitted pending.now presence qos }
+{
+    if pending.len() < MAX_PENDING && (is_up(presence) || 0 < qos) {
+        Some(qos)
+    } else {
+        None
+    }
+}
+
+/// At the smaller of the two qualities of service.
+fn qos_at(pending: &[Put], qos: u8, session: &Session, asked: u8) -> Option<u8>
+    ensures { result ≡ qos_at_asked pending.now qos session.now asked }
+{
+    admitted(pending, session.presence, qos.min(asked))
+}
+
+/// At the quality of service that the client subscribed to, at most.
+fn qos_in(pending: &[Put], topic: &TopicName, qos: u8, session: &Session) -> Option<u8>
+    ensures { result ≡ qos_in_session pending.now topic.now qos session.now }
+{
+    match session.subscribed_qos(topic) {
+        None => None,
+        Some(asked) => qos_at(pending, qos, session, asked),
+    }
+}
+
+/// The quality of service at which a client gets the publication; nothing where it is no recipient.
+fn qos_for(topic: &TopicName, qos: u8, view: &ClientView) -> Option<u8>
+    ensures { result ≡ qos_for_view topic.now qos view.now }
+{
+    match &view.session {
+        None => None,
+        Some(session) => qos_in(view.pending.as_slice(), topic, qos, session),
+    }
+}
+
+/// The quality of service at which this client gets the publication.
+fn qos_of<R: Replica>(replica: &R, topic: &TopicName, qos: u8, client: &ClientId) -> Option<u8>
+    ensures { result ≡ qos_for_view topic.now qos (view client.now (R.kept replica.now)) }
+{
+    match replica.view_of(client) {
+        None => None,
+        Some(view) => qos_for(topic, qos, view),
+    }
+}
+
+/// The message for a client, where it is a recipient.
+fn put_for<R: Replica>(
+    alloc: Global,
+    replica: &R,
+    topic: &TopicName,
+    qos: u8,
+    body: &Octets,
+    client: ClientId,
+) -> Result<Option<NewPut>, StepFault>
+    ensures ok { IfOk result (λ put. put ≡ put_for_client (seen_of (R.kept replica.now)) topic.now qos body.now client) }
+    ensures err { IfErr result (λ fault. fault ≡ StepFault.Memory) }
+{
+    match qos_of(replica, topic, qos, &client) {
+        None => Ok(None),
+        Some(qos) => Ok(Some(NewPut {
+            client,
+            topic: topic.copy(alloc)?,
+            qos,
+            body: body.copy(alloc)?,
+        })),
+    }
+}
+
+/// A message for each recipient among these clients, in their order.
+fn puts_among<R: Replica>(
+    alloc: Global,
+    replica: &R,
+    clients: Vec<ClientId>,
+    topic: &TopicName,
+    qos: u8,
+    body: &Octets,
+) -> Result<Vec<NewPut>, StepFault>
+    ensures ok { IfOk result (λ puts. puts.items ≡ puts_among_clients (seen_of (R.kept replica.now)) clients.items topic.now qos body.now) }
+    ensures err { IfErr result (λ fault. fault ≡ StepFault.Memory) }
+{
+    let mut puts = Vec::new(alloc);
+    for client in clients {
+        if let Some(put) = put_for(alloc, replica, topic, qos, body, client)? {
+            puts.push(put)?;
+        }
+    }
+    Ok(puts)
+}
+
+/// A message for each recipient of the publication, in the order of the clients.
+pub fn puts_for<R: Replica>(
+    alloc: Global,
+    replica: &R,
+    topic: &TopicName,
+    qos: u8,
+    body: &Octets,
+) -> Result<Vec<NewPut>, StepFault>
+    ensures ok { IfOk result (λ puts. puts.items ≡ puts_for_all (seen_of (R.kept replica.now)) topic.now qos body.now) }
+    ensures err { IfErr result (λ fault. fault ≡ StepFault.Memory) }
+{
+    let clients = replica.clients(alloc)?;
+    puts_among(alloc, replica, clients, topic, qos, body)
+}
+
+/// Whether it is another client.
+fn is_another(client: &ClientId, other: &ClientId) -> bool
+    ensures { result ≡ is_another_client client.now other.now }
+{
+    *other != *client
+}
+
+/// Leaves a client out.
+fn leave_out(clients: &mut Vec<ClientId>, client: &ClientId)
+    ensures { clients.new.items ≡ filter (is_another_client client.now) clients.old.items }
+{
+    clients.retain(|other| is_another(client, other));
+}
+
+/// A message for each recipient of a will, but not for the client whose will it is.
+pub fn puts_of_will<R: Replica>(
+    alloc: Global,
+    replica: &R,
+    client: &ClientId,
+    will: &Will,
+) -> Result<Vec<NewPut>, StepFault>
+    ensures ok { IfOk result (λ puts. puts.items ≡ puts_of_this_will (seen_of (R.kept replica.now)) client.now will.now) }
+    ensures err { IfErr result (λ fault. fault ≡ StepFault.Memory) }
+{
+    let mut clients = replica.clients(alloc)?;
+    leave_out(&mut clients, client);
+    puts_among(
+        alloc,
+        replica,
+        clients,
+        &will.topic,
+        will.qos,
+        &will.message,
+    )
+}
