@@ -16,6 +16,7 @@ use Rattle.sn_flow.specs.Plans.{seen_of}
 use Rattle.sn_flow.specs.Locals.{Local}
 use Rattle.sn_flow.specs.Timers.{started}
 use Rattle.sn_flow.proofs.Rows.{s1, seven, bound_seven, first_take}
+use Rattle.sn_deliver.specs.Following.{deliver_next}
 use Rattle.sn_deliver.specs.Serving.{publish_in, ack_in}
 use Rattle.sn_deliver.specs.Ticking.{tick}
 
@@ -28,7 +29,7 @@ abbrev there : Local
 there = record bound_seven { timers = started s1 1 ∷ [] }
 
 -- PUBLISH with an id that the session does not have: PUBACK 2
-unknown_id : publish_in 1 [] (seen_of (first_take ∷ [])) bound_seven seven 0x20 9 7 (5 ∷ []) 1
+unknown_id : deliver_next 1 [] (seen_of (first_take ∷ [])) seven 1 (publish_in [] (seen_of (first_take ∷ [])) bound_seven seven 0x20 9 7 (5 ∷ []) 1)
     ≡ Some (record { ops = []; sends = record { to = seven; bytes = 7 ∷ 0x0d ∷ 0 ∷ 9 ∷ 0 ∷ 7 ∷ 2 ∷ [] } ∷ []; local = Heard s1 1 ∷ [] })
 unfolding gapless write planned
 unknown_id = refl
@@ -41,7 +42,7 @@ abbrev x_on_ab : ℕ → Put
 x_on_ab qos = record { origin = 1; seq = 1; topic = codes "ab"; qos = qos; body = codes "x" }
 
 -- PUBLISH without a connection: the client gets it, nothing is answered
-unconnected : publish_in 1 [] (seen_of asks_for_ab) bound_seven (record { host = 0; port = 99 }) 0x62 0x6162 0 (codes "x") 2
+unconnected : deliver_next 1 [] (seen_of asks_for_ab) (record { host = 0; port = 99 }) 2 (publish_in [] (seen_of asks_for_ab) bound_seven (record { host = 0; port = 99 }) 0x62 0x6162 0 (codes "x") 2)
     ≡ Some (record { ops = OfPut s1 (x_on_ab 0) ∷ []; sends = []; local = [] })
 unfolding gapless write planned
 unconnected = refl
@@ -57,7 +58,7 @@ unfolding gapless write planned
 sent_once = refl
 
 -- PUBLISH at quality of service 2 by the client itself: it gets the message later, the message id is received, PUBREC
-published_twice : publish_in 1 [] (seen_of asks_for_ab) bound_seven seven 0x42 0x6162 5 (codes "x") 2
+published_twice : deliver_next 1 [] (seen_of asks_for_ab) seven 2 (publish_in [] (seen_of asks_for_ab) bound_seven seven 0x42 0x6162 5 (codes "x") 2)
     ≡ Some (record {
       ops = at 2 (Received 5) ∷ OfPut s1 (x_on_ab 2) ∷ [];
       sends = record { to = seven; bytes = 4 ∷ 0x0f ∷ 0 ∷ 5 ∷ [] } ∷ [];
@@ -93,7 +94,7 @@ abbrev publishing : SessionOp
 publishing = Outbound (Some (record { origin = 1; seq = 1; msg_id = 2; phase = Published })) 3
 
 -- REGACK 0: the client knows the id, and Delivery sends the message
-registered : ack_in 1 [] (seen_of registering) bound_seven seven (frames.RegAck 1 1 0) 3
+registered : deliver_next 1 [] (seen_of registering) seven 3 (ack_in [] (seen_of registering) bound_seven seven (frames.RegAck 1 1 0) 3)
     ≡ Some (record {
       ops = at 4 (Register 1 (codes "t/b") true) ∷ at 5 (Outbound None 2) ∷ at 6 publishing ∷ [];
       sends = record { to = seven; bytes = 8 ∷ 0x0c ∷ 0x20 ∷ 0 ∷ 1 ∷ 0 ∷ 2 ∷ codes "H" } ∷ [];
@@ -106,7 +107,7 @@ abbrev published : List Op
 published = registering ++ at 4 (Register 1 (codes "t/b") true) ∷ at 5 (Outbound None 2) ∷ at 6 publishing ∷ []
 
 -- PUBACK 0: the message is acknowledged, and nothing is left
-acknowledged : ack_in 1 [] (seen_of published) bound_seven seven (frames.PubAck 1 2 0) 4
+acknowledged : deliver_next 1 [] (seen_of published) seven 4 (ack_in [] (seen_of published) bound_seven seven (frames.PubAck 1 2 0) 4)
     ≡ Some (record { ops = at 7 (Outbound None 3) ∷ Ack s1 1 1 1 ∷ []; sends = []; local = Heard s1 4 ∷ [] })
 unfolding gapless write planned
 acknowledged = refl

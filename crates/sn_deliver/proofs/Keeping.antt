@@ -60,7 +60,7 @@ resent-with-dup predefined peer s msg_id put form d is = ap (λ (found : Option 
 -- ---- a tick
 
 -- a fold keeps what each of its steps keeps
-fold_keeps : {A B C : Type 0} (f : A → B → A) (of : A → C) → ((a : A) (b : B) → of (f a b) ≡ of a) → (bs : List B) (a : A) → of (fold f a bs) ≡ of a
+pub fold_keeps : {A B C : Type 0} (f : A → B → A) (of : A → C) → ((a : A) (b : B) → of (f a b) ≡ of a) → (bs : List B) (a : A) → of (fold f a bs) ≡ of a
 fold_keeps f of keeps [] a = refl
 fold_keeps f of keeps (b ∷ bs) a = fold_keeps f of keeps bs (f a b) ∙ keeps a b
 

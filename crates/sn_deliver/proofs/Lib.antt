@@ -1,2 +1,3 @@
+pub mod Drafting
 mod Examples
 pub mod Keeping

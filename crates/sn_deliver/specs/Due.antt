@@ -11,7 +11,7 @@ use Rattle.sn_flow.specs.Plans.{Seen}
 use Rattle.sn_flow.specs.Bindings.{address_of, is_stamp_of}
 use Rattle.sn_flow.specs.Timers.{timer_of}
 use Rattle.sn_flow.specs.Locals.{Local}
-use Rattle.sn_flow.specs.Steps.{is_up}
+use Rattle.sn_flow.specs.Others.{is_up}
 use Rattle.sn_deliver.specs.declared.due.Due.{Due}
 use Rattle.sn_deliver.specs.declared.due.Due.TheVariants.{Loss, Retry, Delivery}
 use Rattle.sn_deliver.specs.Exchanges.{open_exchange, is_served, is_awake}

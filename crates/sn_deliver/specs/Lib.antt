@@ -2,10 +2,13 @@ pub mod Acknowledging
 pub mod Delivery
 pub mod Due
 pub mod Exchanges
+pub mod Following
 pub mod Forms
 pub mod Laws
 pub mod Publishing
 pub mod Recipients
 pub mod Resending
 pub mod Serving
+pub mod Steps
 pub mod Ticking
+pub mod Waking

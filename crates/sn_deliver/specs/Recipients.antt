@@ -11,7 +11,7 @@ use Rattle.rep_ops.specs.Sets.{same_client}
 use Rattle.rep_model.specs.declared.view.ClientView.{ClientView}
 use Rattle.sn_flow.specs.declared.draft.NewPut.{NewPut}
 use Rattle.sn_flow.specs.Plans.{Seen}
-use Rattle.sn_flow.specs.Steps.{is_up}
+use Rattle.sn_flow.specs.Others.{is_up}
 
 -- at this quality of service, where fewer than 1,024 messages wait for the client, and where it is Active, Asleep or Awake or gets
 -- the message at least once

@@ -19,13 +19,13 @@ use Rattle.sn_flow.specs.Bindings.{is_stamp_of}
 use Rattle.sn_flow.specs.Timers.{timer_of}
 use Rattle.sn_flow.specs.Locals.{Local}
 use Rattle.sn_flow.specs.Bound.{session_of}
-use Rattle.sn_flow.specs.Steps.{can_wake}
-use Rattle.sn_deliver.specs.declared.peer.Peer.{Peer}
+use Rattle.sn_flow.specs.Others.{can_wake}
+use Rattle.sn_flow.specs.Rows.{row_of}
+use Rattle.sn_flow.specs.declared.row.Follow.TheVariants as follows
 use Rattle.sn_deliver.specs.declared.due.Due.{Due}
 use Rattle.sn_deliver.specs.declared.due.Due.TheVariants.{Loss, Retry, Delivery}
 use Rattle.sn_deliver.specs.Recipients.{puts_of_will}
-use Rattle.sn_deliver.specs.Resending.{then_resend}
-use Rattle.sn_deliver.specs.Serving.{deliver_next, peer_at}
+use Rattle.sn_deliver.specs.Following.{deliver_next}
 use Rattle.sn_deliver.specs.Due.{elapsed, first_due}
 
 -- and then no dialog at this address, where its CONNECT is a minute ago
@@ -75,16 +75,12 @@ will_puts seen c (Some will) = puts_of_will seen c will
 abbrev pub lost : Seen → List ℕ → Session → Drafted → Drafted
 lost seen c s d = moved (Unbind c) (changed (Presence Lost s.duration) (put_all (will_puts seen c s.will) d))
 
--- and then one try more: Resend, where an exchange is open, else Delivery
-abbrev pub retried : Entries → Seen → Peer → Drafted → Drafted
-retried predefined seen peer d =
-    then_resend predefined peer (session_of seen peer.client) (seen.of peer.client).pending (moved (Retried peer.client peer.moment) d)
-
--- the plan of what is due with a client
+-- the plan of what is due with a client: it is lost; or there is one try more, and Resend; or Delivery
 abbrev pub plan_due : ℕ → Entries → Seen → ℕ → Drafted → List ℕ → Due → Option Plan
 plan_due g predefined seen now d c Loss = plan_of g c seen (lost seen c (session_of seen c) d)
-plan_due g predefined seen now d c (Retry a) = plan_of g c seen (retried predefined seen (peer_at a c now) d)
-plan_due g predefined seen now d c (Delivery a) = deliver_next g predefined seen (peer_at a c now) d
+plan_due g predefined seen now d c (Retry a) =
+    deliver_next g predefined seen a now (row_of follows.Resend c (moved (Retried c now) d))
+plan_due g predefined seen now d c (Delivery a) = deliver_next g predefined seen a now (row_of follows.Delivery c d)
 
 abbrev pub plan_if_due : ℕ → Entries → Seen → ℕ → Drafted → Option (List ℕ × Due) → Option Plan
 plan_if_due g predefined seen now d None = Some (plan_without d)

@@ -1,5 +1,16 @@
 //! Laws of publications and of time. Each function does nothing; its contract is a law, proved for all sessions and messages.
 
+ghost use Rattle.std.specs.Prelude.{◌≡◌, ℕ, List, Some};
+ghost use Rattle.sn_topic.specs.Table.{Entries};
+ghost use Rattle.sn_frame.specs.declared.frame.Frame.{Frame};
+ghost use Rattle.rep_ops.specs.declared.op.Op.{Op};
+ghost use Rattle.sn_flow.specs.declared.config.Addr.{Addr};
+ghost use Rattle.sn_flow.specs.declared.plan.Plan.{Plan};
+ghost use Rattle.sn_flow.specs.Locals.{Local};
+ghost use Rattle.sn_flow.specs.Plans.{seen_of};
+ghost use Rattle.sn_flow.specs.Own.{IsOfDraft};
+ghost use Rattle.sn_deliver.specs.Steps.{step};
+ghost use Rattle.sn_deliver.specs.Ticking.{tick};
 ghost use Rattle.sn_deliver.specs.Laws.{DeliveryKeeps, PutsOnce, ResentWithDup, TickIsQuiet};
 
 /// Delivery loses no message: it acknowledges none but those that it sends at quality of service 0, and those for whose topic
@@ -21,4 +32,12 @@ pub fn resent_with_dup()
 /// A tick that finds nothing due makes no operation and sends no frame.
 pub fn tick_is_quiet()
     ensures { TickIsQuiet }
+{}
+
+/// The laws of `sn_flow` hold of every step and of every tick: each of their plans is the plan of a draft with at most one message
+/// a client. So no step loses a message but by an acknowledgement of its own, and a gateway whose set is flush never refuses for a
+/// conflict what it made itself.
+pub fn every_step()
+    ensures steps { (g : ℕ) (predefined : Entries) (S : List Op) (local : Local) (a : Addr) (frame : Frame) (now : ℕ) (plan : Plan) → step g predefined (seen_of S) local a frame now ≡ Some plan → IsOfDraft g (seen_of S) plan }
+    ensures ticks { (g advertise : ℕ) (field : List Addr) (predefined : Entries) (S : List Op) (local : Local) (now : ℕ) (plan : Plan) → tick g advertise field predefined (seen_of S) local now ≡ Some plan → IsOfDraft g (seen_of S) plan }
 {}

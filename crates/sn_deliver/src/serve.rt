@@ -1,93 +1,32 @@
-//! Publications and acknowledgements as steps: the row of the frame, and then Delivery.
+//! Publications and acknowledgements as rows.
 
-ghost use Rattle.std.specs.Prelude.{◌≡◌, Some, IfOk, IfErr, OnOk};
-ghost use Rattle.sn_flow.specs.Plans.{Gives, seen_of, plan_of_puts as plan_of_messages};
+ghost use Rattle.std.specs.Prelude.{◌≡◌, Some, IfOk, IfErr};
+ghost use Rattle.sn_flow.specs.Plans.{seen_of};
 ghost use Rattle.sn_flow.specs.Bindings.{client_at as client_of};
-ghost use Rattle.sn_deliver.specs.Publishing.{publish_unconnected as unconnected};
-ghost use Rattle.sn_deliver.specs.Serving.{with_delivery as with_delivery_behind, deliver_next as next_plan, served as served_plan, peer_at as peer_there, publish_of, publish_in as publish_plan, pubrel_of, pubrel_in as pubrel_plan, acknowledged as acknowledged_draft, ack_of, ack_in as ack_plan};
+ghost use Rattle.sn_deliver.specs.Serving.{served as served_row, publish_of, publish_in as published_row, pubrel_of, pubrel_in as pubrel_row, acknowledged as acknowledged_draft, ack_of, ack_in as ack_row};
 
 use super::acknowledging::acknowledge;
-use super::delivery::then_deliver;
+use super::follow::peer_at;
 use super::peer::Peer;
 use super::publishing::{publish, publish_unconnected, pubrel};
 use octets::Octets;
 use rep_model::Replica;
 use rep_ops::ClientId;
 use sn_flow::{
-    Addr, Config, Dialogs, Draft, LocalChange, Plan, StepFault, plan_of, plan_of_puts, session_or,
-    turn_away, unseen, view_or,
+    Addr, Config, Dialogs, Draft, Follow, Row, StepFault, heard_row, session_or, turn_away, unseen,
+    view_or,
 };
 use sn_frame::{Flags, Frame, Qos};
 use sn_session::Session;
 use std::alloc::Global;
 
-/// The client at its address, at this moment.
-pub fn peer_at(alloc: Global, address: Addr, client: &ClientId, now: u64) -> Result<Peer, StepFault>
-    ensures ok { IfOk result (λ peer. peer ≡ peer_there address client.now now) }
+/// A row of a bound client: it was heard of, and Delivery follows.
+fn served(alloc: Global, client: &ClientId, now: u64, draft: Draft) -> Result<Row, StepFault>
+    ensures ok { IfOk result (λ row. row ≡ served_row client.now now draft) }
     ensures err { IfErr result (λ fault. fault ≡ StepFault.Memory) }
 {
-    Ok(Peer {
-        address,
-        client: client.copy(alloc)?,
-        moment: now,
-    })
-}
-
-/// And then Delivery to the client, by its view.
-fn with_delivery<R: Replica>(
-    alloc: Global,
-    config: &Config,
-    replica: &R,
-    peer: &Peer,
-    draft: &mut Draft,
-) -> Result<(), StepFault>
-    ensures ok { OnOk result (draft.new ≡ with_delivery_behind config.now.predefined (seen_of (R.kept replica.now)) peer.now draft.old) }
-    ensures err { IfErr result (λ fault. fault ≡ StepFault.Memory) }
-{
-    let empty = Session::empty(alloc);
-    let nobody = unseen(alloc);
-    let session = session_or(replica, &peer.client, &empty);
-    let view = view_or(replica, &peer.client, &nobody);
-    then_deliver(
-        alloc,
-        &config.predefined,
-        peer,
-        session,
-        view.pending.as_slice(),
-        draft,
-    )
-}
-
-/// The plan of a row, and of the Delivery behind it: by the session as the row has changed it, and the messages that waited
-/// before the step and are not acknowledged by the row.
-pub fn deliver_next<R: Replica>(
-    alloc: Global,
-    config: &Config,
-    replica: &R,
-    peer: &Peer,
-    mut draft: Draft,
-) -> Result<Plan, StepFault>
-    ensures { Gives result (next_plan config.now.gateway config.now.predefined (seen_of (R.kept replica.now)) peer.now draft) }
-{
-    with_delivery(alloc, config, replica, peer, &mut draft)?;
-    plan_of(alloc, config.gateway, replica, &peer.client, draft)
-}
-
-/// The plan of a row of a frame from a bound client: it was heard of, and Delivery follows.
-pub fn served<R: Replica>(
-    alloc: Global,
-    config: &Config,
-    replica: &R,
-    peer: &Peer,
-    mut draft: Draft,
-) -> Result<Plan, StepFault>
-    ensures { Gives result (served_plan config.now.gateway config.now.predefined (seen_of (R.kept replica.now)) peer.now draft) }
-{
-    draft.note(LocalChange::Heard {
-        client: peer.client.copy(alloc)?,
-        moment: peer.moment,
-    })?;
-    deliver_next(alloc, config, replica, peer, draft)
+    let row = Row::new(alloc, Follow::Delivery, client, draft)?;
+    heard_row(alloc, Some(client), now, row)
 }
 
 /// A PUBLISH of a bound client.
@@ -102,8 +41,9 @@ fn publish_bound<R: Replica>(
     msg_id: u16,
     body: &Octets,
     now: u64,
-) -> Result<Plan, StepFault>
-    ensures { Gives result (publish_of config.now.gateway config.now.predefined (seen_of (R.kept replica.now)) from (Some client.now) flags.bits topic msg_id body.now now) }
+) -> Result<Row, StepFault>
+    ensures ok { IfOk result (λ row. row ≡ publish_of config.now.predefined (seen_of (R.kept replica.now)) from (Some client.now) flags.bits topic msg_id body.now now) }
+    ensures err { IfErr result (λ fault. fault ≡ StepFault.Memory) }
 {
     let empty = Session::empty(alloc);
     let session = session_or(replica, client, &empty);
@@ -118,8 +58,7 @@ fn publish_bound<R: Replica>(
         msg_id,
         body,
     )?;
-    let peer = peer_at(alloc, from, client, now)?;
-    served(alloc, config, replica, &peer, draft)
+    served(alloc, client, now, draft)
 }
 
 /// A PUBLISH that asks for a connection.
@@ -134,8 +73,9 @@ fn publish_connected<R: Replica>(
     msg_id: u16,
     body: &Octets,
     now: u64,
-) -> Result<Plan, StepFault>
-    ensures { Gives result (publish_of config.now.gateway config.now.predefined (seen_of (R.kept replica.now)) from (client_of from dialogs.now.local.bindings) flags.bits topic msg_id body.now now) }
+) -> Result<Row, StepFault>
+    ensures ok { IfOk result (λ row. row ≡ publish_of config.now.predefined (seen_of (R.kept replica.now)) from (client_of from dialogs.now.local.bindings) flags.bits topic msg_id body.now now) }
+    ensures err { IfErr result (λ fault. fault ≡ StepFault.Memory) }
 {
     match dialogs.client_at(from) {
         None => turn_away(alloc, from),
@@ -145,22 +85,8 @@ fn publish_connected<R: Replica>(
     }
 }
 
-/// A PUBLISH without a connection.
-fn publish_anyhow<R: Replica>(
-    alloc: Global,
-    config: &Config,
-    replica: &R,
-    flags: Flags,
-    topic: u16,
-    body: &Octets,
-) -> Result<Plan, StepFault>
-    ensures { Gives result (plan_of_messages config.now.gateway (seen_of (R.kept replica.now)) (unconnected config.now.predefined (seen_of (R.kept replica.now)) flags.bits topic body.now)) }
-{
-    let draft = publish_unconnected(alloc, &config.predefined, replica, flags, topic, body)?;
-    plan_of_puts(alloc, config.gateway, replica, draft)
-}
-
-/// PUBLISH: a client publishes a message. Who subscribed to the topic gets it.
+/// PUBLISH: a client publishes a message. Who subscribed to the topic gets it. At quality of service -1 the client needs no
+/// connection, and nothing follows.
 pub fn publish_in<R: Replica>(
     alloc: Global,
     config: &Config,
@@ -172,11 +98,19 @@ pub fn publish_in<R: Replica>(
     msg_id: u16,
     body: &Octets,
     now: u64,
-) -> Result<Plan, StepFault>
-    ensures { Gives result (publish_plan config.now.gateway config.now.predefined (seen_of (R.kept replica.now)) dialogs.now.local from flags.bits topic msg_id body.now now) }
+) -> Result<Row, StepFault>
+    ensures ok { IfOk result (λ row. row ≡ published_row config.now.predefined (seen_of (R.kept replica.now)) dialogs.now.local from flags.bits topic msg_id body.now now) }
+    ensures err { IfErr result (λ fault. fault ≡ StepFault.Memory) }
 {
     match flags.qos() {
-        Qos::MinusOne => publish_anyhow(alloc, config, replica, flags, topic, body),
+        Qos::MinusOne => Ok(Row::of_none(publish_unconnected(
+            alloc,
+            &config.predefined,
+            replica,
+            flags,
+            topic,
+            body,
+        )?)),
         Qos::Zero | Qos::One | Qos::Two => publish_connected(
             alloc, config, replica, dialogs, from, flags, topic, msg_id, body, now,
         ),
@@ -186,37 +120,36 @@ pub fn publish_in<R: Replica>(
 /// A PUBREL of a bound client.
 fn pubrel_bound<R: Replica>(
     alloc: Global,
-    config: &Config,
     replica: &R,
     from: Addr,
     client: &ClientId,
     msg_id: u16,
     now: u64,
-) -> Result<Plan, StepFault>
-    ensures { Gives result (pubrel_of config.now.gateway config.now.predefined (seen_of (R.kept replica.now)) from (Some client.now) msg_id now) }
+) -> Result<Row, StepFault>
+    ensures ok { IfOk result (λ row. row ≡ pubrel_of (seen_of (R.kept replica.now)) from (Some client.now) msg_id now) }
+    ensures err { IfErr result (λ fault. fault ≡ StepFault.Memory) }
 {
     let empty = Session::empty(alloc);
     let session = session_or(replica, client, &empty);
     let draft = pubrel(alloc, from, session, msg_id)?;
-    let peer = peer_at(alloc, from, client, now)?;
-    served(alloc, config, replica, &peer, draft)
+    served(alloc, client, now, draft)
 }
 
 /// PUBREL: a bound client will not send the message of this id again.
 pub fn pubrel_in<R: Replica>(
     alloc: Global,
-    config: &Config,
     replica: &R,
     dialogs: &Dialogs,
     from: Addr,
     msg_id: u16,
     now: u64,
-) -> Result<Plan, StepFault>
-    ensures { Gives result (pubrel_plan config.now.gateway config.now.predefined (seen_of (R.kept replica.now)) dialogs.now.local from msg_id now) }
+) -> Result<Row, StepFault>
+    ensures ok { IfOk result (λ row. row ≡ pubrel_row (seen_of (R.kept replica.now)) dialogs.now.local from msg_id now) }
+    ensures err { IfErr result (λ fault. fault ≡ StepFault.Memory) }
 {
     match dialogs.client_at(from) {
         None => turn_away(alloc, from),
-        Some(client) => pubrel_bound(alloc, config, replica, from, client, msg_id, now),
+        Some(client) => pubrel_bound(alloc, replica, from, client, msg_id, now),
     }
 }
 
@@ -254,12 +187,13 @@ fn ack_bound<R: Replica>(
     client: &ClientId,
     frame: &Frame,
     now: u64,
-) -> Result<Plan, StepFault>
-    ensures { Gives result (ack_of config.now.gateway config.now.predefined (seen_of (R.kept replica.now)) from (Some client.now) frame.now now) }
+) -> Result<Row, StepFault>
+    ensures ok { IfOk result (λ row. row ≡ ack_of config.now.predefined (seen_of (R.kept replica.now)) from (Some client.now) frame.now now) }
+    ensures err { IfErr result (λ fault. fault ≡ StepFault.Memory) }
 {
     let peer = peer_at(alloc, from, client, now)?;
     let draft = acknowledged(alloc, config, replica, &peer, frame)?;
-    served(alloc, config, replica, &peer, draft)
+    served(alloc, client, now, draft)
 }
 
 /// PUBACK, PUBREC, PUBCOMP or REGACK: a bound client answers a frame of the open exchange.
@@ -271,8 +205,9 @@ pub fn ack_in<R: Replica>(
     from: Addr,
     frame: &Frame,
     now: u64,
-) -> Result<Plan, StepFault>
-    ensures { Gives result (ack_plan config.now.gateway config.now.predefined (seen_of (R.kept replica.now)) dialogs.now.local from frame.now now) }
+) -> Result<Row, StepFault>
+    ensures ok { IfOk result (λ row. row ≡ ack_row config.now.predefined (seen_of (R.kept replica.now)) dialogs.now.local from frame.now now) }
+    ensures err { IfErr result (λ fault. fault ≡ StepFault.Memory) }
 {
     match dialogs.client_at(from) {
         None => turn_away(alloc, from),

@@ -2,20 +2,18 @@
 
 ghost use Rattle.std.specs.Prelude.{◌≡◌, Some, fold, IfOk, IfErr, OnOk};
 ghost use Rattle.rep_model.specs.Views.{view, clients as clients_of};
-ghost use Rattle.sn_flow.specs.Steps.{can_wake};
+ghost use Rattle.sn_flow.specs.Others.{can_wake};
 ghost use Rattle.sn_flow.specs.Plans.{Gives, seen_of};
-ghost use Rattle.sn_deliver.specs.Ticking.{dialog_ended, dialogs_ended, needs_timer as is_in_need, timer_begun, timers_begun, cleaned as cleaned_draft, is_long_ago as is_moment_long_ago, may_advertise as is_to_advertise, advertised_to, advertised as advertised_draft, will_puts as puts_of_the_will, lost as lost_draft, retried as retried_draft, plan_due as plan_of_due, plan_if_due as plan_of_due_if, one_thing as plan_of_one, tick as tick_plan};
+ghost use Rattle.sn_deliver.specs.Ticking.{dialog_ended, dialogs_ended, needs_timer as is_in_need, timer_begun, timers_begun, cleaned as cleaned_draft, is_long_ago as is_moment_long_ago, may_advertise as is_to_advertise, advertised_to, advertised as advertised_draft, will_puts as puts_of_the_will, lost as lost_draft, plan_due as plan_of_due, plan_if_due as plan_of_due_if, one_thing as plan_of_one, tick as tick_plan};
 
 use super::due::{Due, elapsed, first_due, is_stamp_of};
-use super::peer::Peer;
+use super::follow::deliver_next;
 use super::recipients::puts_of_will;
-use super::resend::then_resend;
-use super::serve::{deliver_next, peer_at};
 use rep_model::{ClientView, Replica};
 use rep_ops::ClientId;
 use sn_flow::{
-    Addr, Config, Dialogs, Draft, LocalChange, NewPut, Plan, StepFault, WillDialog, is_up, plan_of,
-    plan_without, session_or, unseen, view_or,
+    Addr, Config, Dialogs, Draft, Follow, LocalChange, NewPut, Plan, Row, StepFault, WillDialog,
+    is_up, plan_of, plan_without, session_or,
 };
 use sn_frame::Frame;
 use sn_session::{Presence, Session, SessionOp, Will};
@@ -248,35 +246,6 @@ fn lose<R: Replica>(
     Ok(())
 }
 
-/// And then one try more: Resend, where an exchange is open, else Delivery.
-fn retry<R: Replica>(
-    alloc: Global,
-    config: &Config,
-    replica: &R,
-    peer: &Peer,
-    draft: &mut Draft,
-) -> Result<(), StepFault>
-    ensures ok { OnOk result (draft.new ≡ retried_draft config.now.predefined (seen_of (R.kept replica.now)) peer.now draft.old) }
-    ensures err { IfErr result (λ fault. fault ≡ StepFault.Memory) }
-{
-    draft.note(LocalChange::Retried {
-        client: peer.client.copy(alloc)?,
-        moment: peer.moment,
-    })?;
-    let empty = Session::empty(alloc);
-    let nobody = unseen(alloc);
-    let session = session_or(replica, &peer.client, &empty);
-    let view = view_or(replica, &peer.client, &nobody);
-    then_resend(
-        alloc,
-        &config.predefined,
-        peer,
-        session,
-        view.pending.as_slice(),
-        draft,
-    )
-}
-
 /// The plan of a loss.
 fn plan_loss<R: Replica>(
     alloc: Global,
@@ -306,9 +275,12 @@ fn plan_retry<R: Replica>(
 ) -> Result<Plan, StepFault>
     ensures { Gives result (plan_of_due config.now.gateway config.now.predefined (seen_of (R.kept replica.now)) now draft client.now (Due.Retry address)) }
 {
-    let peer = peer_at(alloc, address, client, now)?;
-    retry(alloc, config, replica, &peer, &mut draft)?;
-    plan_of(alloc, config.gateway, replica, &peer.client, draft)
+    draft.note(LocalChange::Retried {
+        client: client.copy(alloc)?,
+        moment: now,
+    })?;
+    let row = Row::new(alloc, Follow::Resend, client, draft)?;
+    deliver_next(alloc, config, replica, address, now, row)
 }
 
 /// The plan of what is due with a client.
@@ -327,8 +299,8 @@ fn plan_due<R: Replica>(
         Due::Loss => plan_loss(alloc, config, replica, now, draft, client),
         Due::Retry(address) => plan_retry(alloc, config, replica, now, draft, client, address),
         Due::Delivery(address) => {
-            let peer = peer_at(alloc, address, client, now)?;
-            deliver_next(alloc, config, replica, &peer, draft)
+            let row = Row::new(alloc, Follow::Delivery, client, draft)?;
+            deliver_next(alloc, config, replica, address, now, row)
         }
     }
 }

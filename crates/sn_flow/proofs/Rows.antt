@@ -14,7 +14,9 @@ use Rattle.sn_flow.specs.Numbering.{write, planned}
 use Rattle.sn_flow.specs.Plans.{Seen, seen_of}
 use Rattle.sn_flow.specs.Locals.{Local, no_local}
 use Rattle.sn_flow.specs.Timers.{started}
-use Rattle.sn_flow.specs.Steps.{step}
+use Rattle.sn_flow.specs.Rows.{plan_of_row}
+use Rattle.sn_flow.specs.Connection.{connect, disconnect}
+use Rattle.sn_flow.specs.Others.{other}
 
 -- the client `s1`
 abbrev pub s1 : List ℕ
@@ -35,7 +37,7 @@ abbrev pub first_take : Op
 first_take = OfSession s1 (record { epoch = 1; gateway = 1 }) 0 (Take session_of_s1)
 
 -- CONNECT of a new client with a clean session: one Take under stamp 1.1, CONNACK 0, and the binding
-connects : step 1 [] (seen_of []) no_local seven (frames.Connect (record { bits = 4 }) 1 60 s1) 0
+connects : plan_of_row 1 (seen_of []) (connect (seen_of []) no_local seven 4 1 60 s1 0)
     ≡ Some (record {
       ops = first_take ∷ [];
       sends = record { to = seven; bytes = 3 ∷ 5 ∷ 0 ∷ [] } ∷ [];
@@ -45,7 +47,7 @@ unfolding gapless write planned
 connects = refl
 
 -- DISCONNECT with 300 s: the second operation under that stamp, and DISCONNECT
-falls_asleep : step 1 [] (seen_of (first_take ∷ [])) bound_seven seven (frames.Disconnect (Some 300)) 1
+falls_asleep : plan_of_row 1 (seen_of (first_take ∷ [])) (disconnect (seen_of (first_take ∷ [])) bound_seven seven (Some 300) 1)
     ≡ Some (record {
       ops = OfSession s1 (record { epoch = 1; gateway = 1 }) 1 (Presence Asleep 300) ∷ [];
       sends = record { to = seven; bytes = 2 ∷ 0x18 ∷ [] } ∷ [];
@@ -66,7 +68,7 @@ full =
     }
 
 -- the next operation goes under a new stamp, behind a Take of the session so far, in the same delta
-rolls_over : step 1 [] full bound_seven seven (frames.Disconnect (Some 300)) 1
+rolls_over : plan_of_row 1 full (disconnect full bound_seven seven (Some 300) 1)
     ≡ Some (record {
       ops = OfSession s1 (record { epoch = 2; gateway = 1 }) 0 (Take session_of_s1) ∷ OfSession s1 (record { epoch = 2; gateway = 1 }) 1 (Presence Asleep 300) ∷ [];
       sends = record { to = seven; bytes = 2 ∷ 0x18 ∷ [] } ∷ [];
@@ -76,20 +78,20 @@ unfolding write planned
 rolls_over = refl
 
 -- at the last epoch a CONNECT has no plan
-exhausted : step 1 [] (record full { epoch = λ c. None }) no_local seven (frames.Connect (record { bits = 4 }) 1 60 s1) 0 ≡ None
+exhausted : plan_of_row 1 (record full { epoch = λ c. None }) (connect (record full { epoch = λ c. None }) no_local seven 4 1 60 s1 0) ≡ None
 unfolding write planned
 exhausted = refl
 
 -- another protocol, a frame from nowhere, a gateway that is looked for
-another_protocol : step 1 [] (seen_of []) no_local seven (frames.Connect (record { bits = 4 }) 2 60 s1) 0
+another_protocol : plan_of_row 1 (seen_of []) (connect (seen_of []) no_local seven 4 2 60 s1 0)
     ≡ Some (record { ops = []; sends = record { to = seven; bytes = 3 ∷ 5 ∷ 3 ∷ [] } ∷ []; local = [] })
 unfolding gapless write planned
 another_protocol = refl
 
-from_nowhere : step 1 [] (seen_of []) no_local seven (frames.PingReq []) 0
+from_nowhere : plan_of_row 1 (seen_of []) (other 1 no_local seven (frames.PingReq []) 0)
     ≡ Some (record { ops = []; sends = record { to = seven; bytes = 2 ∷ 0x18 ∷ [] } ∷ []; local = [] })
 from_nowhere = refl
 
-looked_for : step 1 [] (seen_of []) no_local seven (frames.SearchGw 0) 0
+looked_for : plan_of_row 1 (seen_of []) (other 1 no_local seven (frames.SearchGw 0) 0)
     ≡ Some (record { ops = []; sends = record { to = seven; bytes = 3 ∷ 2 ∷ 1 ∷ [] } ∷ []; local = [] })
 looked_for = refl

@@ -7,7 +7,6 @@ use Rattle.sn_session.specs.Session.{empty_session}
 use Rattle.rep_ops.specs.declared.op.Put.{Put}
 use Rattle.rep_ops.specs.declared.op.Op.{Op}
 use Rattle.rep_ops.specs.declared.op.Op.TheVariants.{Session as OfSession, Ack}
-use Rattle.sn_frame.specs.declared.frame.Frame.TheVariants as frames
 use Rattle.sn_flow.specs.declared.local.Awaited.TheVariants.{Topic, Message}
 use Rattle.sn_flow.specs.declared.local.WillDialog.{WillDialog}
 use Rattle.sn_flow.specs.declared.local.LocalChange.{LocalChange}
@@ -17,7 +16,9 @@ use Rattle.sn_flow.specs.Numbering.{write, planned}
 use Rattle.sn_flow.specs.Plans.{Seen}
 use Rattle.sn_flow.specs.Locals.{Local, no_local, after_all}
 use Rattle.sn_flow.specs.Timers.{started}
-use Rattle.sn_flow.specs.Steps.{step}
+use Rattle.sn_flow.specs.Rows.{plan_of_row}
+use Rattle.sn_flow.specs.Connection.{connect}
+use Rattle.sn_flow.specs.Wills.{will_topic, will_msg}
 use Rattle.sn_flow.proofs.Rows.{s1, seven}
 
 -- a session with a known topic, a subscription, a will and a message that waits
@@ -66,23 +67,23 @@ abbrev answers : List ℕ → List LocalChange → Plan
 answers bytes local = record { ops = []; sends = record { to = seven; bytes = bytes } ∷ []; local = local }
 
 -- CONNECT with a will: the client is asked for the topic
-asks_topic : step 1 [] known no_local seven (frames.Connect (record { bits = 8 }) 1 60 s1) 0 ≡ Some (answers (2 ∷ 6 ∷ []) (Ask dialog ∷ []))
+asks_topic : plan_of_row 1 known (connect known no_local seven 8 1 60 s1 0) ≡ Some (answers (2 ∷ 6 ∷ []) (Ask dialog ∷ []))
 unfolding write planned
 asks_topic = refl
 
 -- WILLTOPIC with a topic: the client is asked for the message; the dialog is as old as it was
-asks_message : step 1 [] known topic_asked_for seven (frames.WillTopic (Some (record { flags = record { bits = 0x30 }; topic = codes "w/b" }))) 5
+asks_message : plan_of_row 1 known (will_topic known topic_asked_for seven (Some (record { flags = record { bits = 0x30 }; topic = codes "w/b" })) 5)
     ≡ Some (answers (2 ∷ 8 ∷ []) (Ask message_asked_for ∷ []))
 unfolding write planned
 asks_message = refl
 
 -- WILLTOPIC with a filter, or with the bits 11 as quality of service: the dialog ends
-refuses_filter : step 1 [] known topic_asked_for seven (frames.WillTopic (Some (record { flags = record { bits = 0x30 }; topic = codes "w/#" }))) 5
+refuses_filter : plan_of_row 1 known (will_topic known topic_asked_for seven (Some (record { flags = record { bits = 0x30 }; topic = codes "w/#" })) 5)
     ≡ Some (answers (3 ∷ 5 ∷ 3 ∷ []) (EndDialog seven ∷ []))
 unfolding write planned
 refuses_filter = refl
 
-refuses_level : step 1 [] known topic_asked_for seven (frames.WillTopic (Some (record { flags = record { bits = 0x60 }; topic = codes "w/b" }))) 5
+refuses_level : plan_of_row 1 known (will_topic known topic_asked_for seven (Some (record { flags = record { bits = 0x60 }; topic = codes "w/b" })) 5)
     ≡ Some (answers (3 ∷ 5 ∷ 3 ∷ []) (EndDialog seven ∷ []))
 unfolding write planned
 refuses_level = refl
@@ -96,7 +97,7 @@ abbrev kept : Session
 kept = record had { topics = record { id = 4; name = codes "t/a"; known = false } ∷ [] }
 
 -- WILLMSG: the client is accepted with that will; what waits goes on waiting
-accepts_with_will : step 1 [] known message_awaited seven (frames.WillMsg (codes "bye")) 7
+accepts_with_will : plan_of_row 1 known (will_msg known message_awaited seven (codes "bye") 7)
     ≡ Some (record {
       ops = taken (record kept { will = Some (record { topic = codes "w/b"; qos = 1; retain = true; message = codes "bye" }) }) ∷ [];
       sends = record { to = seven; bytes = 3 ∷ 5 ∷ 0 ∷ [] } ∷ [];
@@ -106,18 +107,18 @@ unfolding write planned
 accepts_with_will = refl
 
 -- an empty WILLTOPIC deletes the will; a CONNECT without a will leaves it as it is
-deletes_will : step 1 [] known topic_asked_for seven (frames.WillTopic None) 5
+deletes_will : plan_of_row 1 known (will_topic known topic_asked_for seven None 5)
     ≡ Some (record { ops = taken (record kept { will = None }) ∷ []; sends = record { to = seven; bytes = 3 ∷ 5 ∷ 0 ∷ [] } ∷ []; local = settled 5 })
 unfolding write planned
 deletes_will = refl
 
-keeps_will : step 1 [] known no_local seven (frames.Connect (record { bits = 0 }) 1 60 s1) 5
+keeps_will : plan_of_row 1 known (connect known no_local seven 0 1 60 s1 5)
     ≡ Some (record { ops = taken kept ∷ []; sends = record { to = seven; bytes = 3 ∷ 5 ∷ 0 ∷ [] } ∷ []; local = settled 5 })
 unfolding write planned
 keeps_will = refl
 
 -- a clean session begins anew and without a will, and acknowledges what waits
-begins_anew : step 1 [] known no_local seven (frames.Connect (record { bits = 4 }) 1 60 s1) 5
+begins_anew : plan_of_row 1 known (connect known no_local seven 4 1 60 s1 5)
     ≡ Some (record {
       ops = taken (record empty_session { clean = true; duration = 60 }) ∷ Ack s1 2 9 9 ∷ [];
       sends = record { to = seven; bytes = 3 ∷ 5 ∷ 0 ∷ [] } ∷ [];
@@ -127,15 +128,16 @@ unfolding write planned
 begins_anew = refl
 
 -- a frame that the dialog does not wait for: from a bound address nothing but a sign of life, from another it is turned away
-waits_for_topic : step 1 [] known topic_asked_for seven (frames.WillMsg (codes "bye")) 7 ≡ Some (answers (2 ∷ 0x18 ∷ []) [])
+waits_for_topic : plan_of_row 1 known (will_msg known topic_asked_for seven (codes "bye") 7) ≡ Some (answers (2 ∷ 0x18 ∷ []) [])
 waits_for_topic = refl
 
-waits_for_nothing : step 1 [] known (after_all no_local (Bind seven s1 ∷ [])) seven (frames.WillTopic None) 7
+waits_for_nothing : plan_of_row 1 known (will_topic known (after_all no_local (Bind seven s1 ∷ [])) seven None 7)
     ≡ Some (record { ops = []; sends = []; local = Heard s1 7 ∷ [] })
+unfolding write planned
 waits_for_nothing = refl
 
 -- a CONNECT at another client's address: that client was heard of, and its address is the new client's
-takes_address : step 1 [] known (after_all no_local (Bind seven (codes "s2") ∷ [])) seven (frames.Connect (record { bits = 0 }) 1 60 s1) 5
+takes_address : plan_of_row 1 known (connect known (after_all no_local (Bind seven (codes "s2") ∷ [])) seven 0 1 60 s1 5)
     ≡ Some (record { ops = taken kept ∷ []; sends = record { to = seven; bytes = 3 ∷ 5 ∷ 0 ∷ [] } ∷ []; local = Bind seven s1 ∷ Time (started s1 5) ∷ EndDialog seven ∷ Heard (codes "s2") 5 ∷ [] })
 unfolding write planned
 takes_address = refl

@@ -11,13 +11,15 @@ use Rattle.sn_flow.specs.declared.local.Awaited.TheVariants.{Topic}
 use Rattle.sn_flow.specs.declared.local.Request.{Request}
 use Rattle.sn_flow.specs.declared.local.WillDialog.{WillDialog}
 use Rattle.sn_flow.specs.declared.local.LocalChange.TheVariants.{Unbind, Ask}
-use Rattle.sn_flow.specs.declared.plan.Plan.{Plan}
+use Rattle.sn_flow.specs.declared.row.Row.{Row}
+use Rattle.sn_flow.specs.declared.row.Follow.TheVariants.{Nothing, Resend}
 use Rattle.sn_flow.specs.Drafts.{Drafted, nothing, changed, sent, moved}
 use Rattle.sn_flow.specs.Plans.{Seen}
 use Rattle.sn_flow.specs.Bindings.{client_at}
 use Rattle.sn_flow.specs.WillDialogs.{is_crowded}
 use Rattle.sn_flow.specs.Locals.{Local}
-use Rattle.sn_flow.specs.Bound.{plan_heard, turned_away, session_of}
+use Rattle.sn_flow.specs.Bound.{session_of}
+use Rattle.sn_flow.specs.Rows.{row_of, heard_row, turned_away}
 use Rattle.sn_flow.specs.Accept.{accept, has_no_room}
 
 -- whether bit k of the flags is set
@@ -41,18 +43,19 @@ ask_topic request now =
     sent request.address frames.WillTopicReq (moved (Ask (record { request = request; begun = now; awaited = Topic })) nothing)
 
 -- a CONNECT that is not refused: without a will it is accepted, and the session keeps the will that it has
-abbrev pub welcomed : Request → Bool → ClientView → ℕ → Drafted
-welcomed request will v now = if will then ask_topic request now else accept request AsItIs v now
+abbrev pub welcomed : Request → Bool → ClientView → ℕ → Row
+welcomed request will v now =
+    if will then row_of Nothing request.client (ask_topic request now) else row_of Resend request.client (accept request AsItIs v now)
 
-abbrev pub connect_draft : Request → Bool → ClientView → ℕ → Option ℕ → Drafted
-connect_draft request will v now (Some code) = sent request.address (frames.ConnAck code) nothing
-connect_draft request will v now None = welcomed request will v now
+abbrev pub connect_row : Request → Bool → ClientView → ℕ → Option ℕ → Row
+connect_row request will v now (Some code) = row_of Nothing request.client (sent request.address (frames.ConnAck code) nothing)
+connect_row request will v now None = welcomed request will v now
 
 -- CONNECT
-abbrev pub connect : ℕ → Seen → Local → Addr → ℕ → ℕ → ℕ → List ℕ → ℕ → Option Plan
-connect g seen local a flags protocol duration c now =
-    plan_heard g seen c (client_at a local.bindings) now
-    (connect_draft (request_of a flags duration c) (has_bit flags 3) (seen.of c) now (refusal_of seen local.dialogs a c flags protocol))
+abbrev pub connect : Seen → Local → Addr → ℕ → ℕ → ℕ → List ℕ → ℕ → Row
+connect seen local a flags protocol duration c now =
+    heard_row (client_at a local.bindings) now
+    (connect_row (request_of a flags duration c) (has_bit flags 3) (seen.of c) now (refusal_of seen local.dialogs a c flags protocol))
 
 -- the client says good-bye: its session stays as it is
 abbrev pub leave : Addr → List ℕ → Session → Drafted
@@ -66,10 +69,10 @@ abbrev pub disconnect_draft : Addr → List ℕ → Session → Option ℕ → D
 disconnect_draft a c s None = leave a c s
 disconnect_draft a c s (Some duration) = if duration == 0 then leave a c s else fall_asleep a duration
 
-abbrev pub disconnect_of : ℕ → Seen → Addr → Option (List ℕ) → Option ℕ → ℕ → Option Plan
-disconnect_of g seen a None duration now = Some (turned_away a)
-disconnect_of g seen a (Some c) duration now = plan_heard g seen c (Some c) now (disconnect_draft a c (session_of seen c) duration)
+abbrev pub disconnect_of : Seen → Addr → Option (List ℕ) → Option ℕ → ℕ → Row
+disconnect_of seen a None duration now = turned_away a
+disconnect_of seen a (Some c) duration now = heard_row (Some c) now (row_of Nothing c (disconnect_draft a c (session_of seen c) duration))
 
 -- DISCONNECT
-abbrev pub disconnect : ℕ → Seen → Local → Addr → Option ℕ → ℕ → Option Plan
-disconnect g seen local a duration now = disconnect_of g seen a (client_at a local.bindings) duration now
+abbrev pub disconnect : Seen → Local → Addr → Option ℕ → ℕ → Row
+disconnect seen local a duration now = disconnect_of seen a (client_at a local.bindings) duration now

@@ -9,11 +9,12 @@ pub mod Flush
 pub mod Locals
 pub mod Names
 pub mod Numbering
+pub mod Others
 pub mod Own
 pub mod Plans
 pub mod Registration
 pub mod RequestLaws
-pub mod Steps
+pub mod Rows
 pub mod Subscription
 pub mod Timers
 pub mod TopicRows

@@ -8,6 +8,7 @@ use Rattle.rep_ops.specs.Sets.{operation_at, put_at}
 use Rattle.rep_model.specs.Views.{pending_at}
 use Rattle.sn_flow.specs.declared.draft.NewPut.{NewPut}
 use Rattle.sn_flow.specs.declared.plan.Plan.{Plan}
+use Rattle.sn_flow.specs.declared.row.Row.{Row}
 use Rattle.sn_flow.specs.Drafts.{Drafted}
 use Rattle.sn_flow.specs.Plans.{Seen, plan_of}
 use Rattle.sn_flow.specs.Flush.{stamp_of}
@@ -64,3 +65,7 @@ pub record IsOfDraft (g : ℕ) (seen : Seen) (plan : Plan) : Type 0 where
   pub draft : Drafted
   pub one_each : IsOneEach draft.puts
   pub is : plan_of g client seen draft ≡ Some plan
+
+-- the row makes no message
+abbrev pub MakesNoMessage : Row → Type 0
+MakesNoMessage row = row.draft.puts ≡ []

@@ -13,90 +13,94 @@ use Rattle.sn_flow.specs.declared.local.Awaited.TheVariants.{Topic, Message}
 use Rattle.sn_flow.specs.declared.local.Request.{Request}
 use Rattle.sn_flow.specs.declared.local.WillDialog.{WillDialog}
 use Rattle.sn_flow.specs.declared.local.LocalChange.TheVariants.{Ask, EndDialog}
-use Rattle.sn_flow.specs.declared.plan.Plan.{Plan}
-use Rattle.sn_flow.specs.Drafts.{Drafted, nothing, sent, moved}
+use Rattle.sn_flow.specs.declared.row.Row.{Row}
+use Rattle.sn_flow.specs.declared.row.Follow.TheVariants.{Nothing, Delivery, Resend}
+use Rattle.sn_flow.specs.Drafts.{nothing, sent, moved}
 use Rattle.sn_flow.specs.Plans.{Seen}
 use Rattle.sn_flow.specs.Bindings.{client_at}
 use Rattle.sn_flow.specs.WillDialogs.{dialog_at}
 use Rattle.sn_flow.specs.Locals.{Local}
-use Rattle.sn_flow.specs.Bound.{plan_heard, turned_away, stray, session_of}
+use Rattle.sn_flow.specs.Bound.{session_of}
+use Rattle.sn_flow.specs.Rows.{row_of, heard_row, turned_away, stray}
 use Rattle.sn_flow.specs.Accept.{accept, has_no_room}
 use Rattle.sn_flow.specs.WillUpdate.{topic_asked, will_topic_update as topic_update, will_msg_update as message_update}
 
 -- a dialog that ends without a connection
-abbrev pub dismissed : Addr → ℕ → Drafted
-dismissed a code = sent a (frames.ConnAck code) (moved (EndDialog a) nothing)
+abbrev pub dismissed : Request → ℕ → Row
+dismissed request code =
+    row_of Nothing request.client (sent request.address (frames.ConnAck code) (moved (EndDialog request.address) nothing))
 
 -- a dialog that ends with a connection, if there is room for the client still
-abbrev pub concluded : Seen → Request → GivenWill → ℕ → Drafted
+abbrev pub concluded : Seen → Request → GivenWill → ℕ → Row
 concluded seen request given now =
-    if has_no_room seen request.client then dismissed request.address 1
-    else accept request given (seen.of request.client) now
+    if has_no_room seen request.client then dismissed request 1
+    else row_of Resend request.client (accept request given (seen.of request.client) now)
 
 -- a dialog that goes on: the client is asked for the message of its will
-abbrev pub ask_message : WillDialog → WillTopic → Drafted
+abbrev pub ask_message : WillDialog → WillTopic → Row
 ask_message dialog topic =
-    sent dialog.request.address frames.WillMsgReq (moved (Ask (record dialog { awaited = Message topic })) nothing)
+    row_of Nothing dialog.request.client
+    (sent dialog.request.address frames.WillMsgReq (moved (Ask (record dialog { awaited = Message topic })) nothing))
 
 -- code 3, not supported, where the topic is no topic
-abbrev pub topic_given : WillDialog → Option WillTopic → Drafted
-topic_given dialog None = dismissed dialog.request.address 3
+abbrev pub topic_given : WillDialog → Option WillTopic → Row
+topic_given dialog None = dismissed dialog.request 3
 topic_given dialog (Some topic) = ask_message dialog topic
 
 -- the topic that a dialog waits for; with nothing in it the will is deleted
-abbrev pub topic_draft : Seen → WillDialog → Option Will → ℕ → Drafted
-topic_draft seen dialog None now = concluded seen dialog.request Deleted now
-topic_draft seen dialog (Some will) now = topic_given dialog (topic_asked will)
+abbrev pub topic_row : Seen → WillDialog → Option Will → ℕ → Row
+topic_row seen dialog None now = concluded seen dialog.request Deleted now
+topic_row seen dialog (Some will) now = topic_given dialog (topic_asked will)
 
 -- WILLTOPIC at an address with a dialog
-abbrev pub topic_in : ℕ → Seen → Addr → Option (List ℕ) → WillDialog → Option Will → ℕ → Awaited → Option Plan
-topic_in g seen a bound dialog will now Topic = plan_heard g seen dialog.request.client bound now (topic_draft seen dialog will now)
-topic_in g seen a bound dialog will now (Message topic) = Some (stray a bound now)
+abbrev pub topic_in : Seen → Addr → Option (List ℕ) → WillDialog → Option Will → ℕ → Awaited → Row
+topic_in seen a bound dialog will now Topic = heard_row bound now (topic_row seen dialog will now)
+topic_in seen a bound dialog will now (Message topic) = stray a bound now
 
-abbrev pub topic_at : ℕ → Seen → Addr → Option (List ℕ) → Option WillDialog → Option Will → ℕ → Option Plan
-topic_at g seen a bound None will now = Some (stray a bound now)
-topic_at g seen a bound (Some dialog) will now = topic_in g seen a bound dialog will now dialog.awaited
+abbrev pub topic_at : Seen → Addr → Option (List ℕ) → Option WillDialog → Option Will → ℕ → Row
+topic_at seen a bound None will now = stray a bound now
+topic_at seen a bound (Some dialog) will now = topic_in seen a bound dialog will now dialog.awaited
 
 -- WILLTOPIC
-abbrev pub will_topic : ℕ → Seen → Local → Addr → Option Will → ℕ → Option Plan
-will_topic g seen local a will now = topic_at g seen a (client_at a local.bindings) (dialog_at a local.dialogs) will now
+abbrev pub will_topic : Seen → Local → Addr → Option Will → ℕ → Row
+will_topic seen local a will now = topic_at seen a (client_at a local.bindings) (dialog_at a local.dialogs) will now
 
 -- the will of this topic with this message
 abbrev pub will_of : WillTopic → List ℕ → SessionWill
 will_of topic message = record { topic = topic.topic; qos = topic.qos; retain = topic.retain; message = message }
 
 -- the message that a dialog waits for; code 3, not supported, where it has more than 4,096 octets
-abbrev pub message_draft : Seen → Request → WillTopic → List ℕ → ℕ → Drafted
-message_draft seen request topic message now =
-    if nat_lt 4096 (length message) then dismissed request.address 3
+abbrev pub message_row : Seen → Request → WillTopic → List ℕ → ℕ → Row
+message_row seen request topic message now =
+    if nat_lt 4096 (length message) then dismissed request 3
     else concluded seen request (Replaced (will_of topic message)) now
 
 -- WILLMSG at an address with a dialog
-abbrev pub message_in : ℕ → Seen → Addr → Option (List ℕ) → Request → List ℕ → ℕ → Awaited → Option Plan
-message_in g seen a bound request message now Topic = Some (stray a bound now)
-message_in g seen a bound request message now (Message topic) =
-    plan_heard g seen request.client bound now (message_draft seen request topic message now)
+abbrev pub message_in : Seen → Addr → Option (List ℕ) → Request → List ℕ → ℕ → Awaited → Row
+message_in seen a bound request message now Topic = stray a bound now
+message_in seen a bound request message now (Message topic) = heard_row bound now (message_row seen request topic message now)
 
-abbrev pub message_at : ℕ → Seen → Addr → Option (List ℕ) → Option WillDialog → List ℕ → ℕ → Option Plan
-message_at g seen a bound None message now = Some (stray a bound now)
-message_at g seen a bound (Some dialog) message now = message_in g seen a bound dialog.request message now dialog.awaited
+abbrev pub message_at : Seen → Addr → Option (List ℕ) → Option WillDialog → List ℕ → ℕ → Row
+message_at seen a bound None message now = stray a bound now
+message_at seen a bound (Some dialog) message now = message_in seen a bound dialog.request message now dialog.awaited
 
 -- WILLMSG
-abbrev pub will_msg : ℕ → Seen → Local → Addr → List ℕ → ℕ → Option Plan
-will_msg g seen local a message now = message_at g seen a (client_at a local.bindings) (dialog_at a local.dialogs) message now
+abbrev pub will_msg : Seen → Local → Addr → List ℕ → ℕ → Row
+will_msg seen local a message now = message_at seen a (client_at a local.bindings) (dialog_at a local.dialogs) message now
 
-abbrev pub topic_update_of : ℕ → Seen → Addr → Option (List ℕ) → Option Will → ℕ → Option Plan
-topic_update_of g seen a None will now = Some (turned_away a)
-topic_update_of g seen a (Some c) will now = plan_heard g seen c (Some c) now (topic_update a will)
+abbrev pub topic_update_of : Addr → Option (List ℕ) → Option Will → ℕ → Row
+topic_update_of a None will now = turned_away a
+topic_update_of a (Some c) will now = heard_row (Some c) now (row_of Delivery c (topic_update a will))
 
 -- WILLTOPICUPD
-abbrev pub will_topic_update : ℕ → Seen → Local → Addr → Option Will → ℕ → Option Plan
-will_topic_update g seen local a will now = topic_update_of g seen a (client_at a local.bindings) will now
+abbrev pub will_topic_update : Local → Addr → Option Will → ℕ → Row
+will_topic_update local a will now = topic_update_of a (client_at a local.bindings) will now
 
-abbrev pub message_update_of : ℕ → Seen → Addr → Option (List ℕ) → List ℕ → ℕ → Option Plan
-message_update_of g seen a None message now = Some (turned_away a)
-message_update_of g seen a (Some c) message now = plan_heard g seen c (Some c) now (message_update a (session_of seen c) message)
+abbrev pub message_update_of : Seen → Addr → Option (List ℕ) → List ℕ → ℕ → Row
+message_update_of seen a None message now = turned_away a
+message_update_of seen a (Some c) message now =
+    heard_row (Some c) now (row_of Delivery c (message_update a (session_of seen c) message))
 
 -- WILLMSGUPD
-abbrev pub will_msg_update : ℕ → Seen → Local → Addr → List ℕ → ℕ → Option Plan
-will_msg_update g seen local a message now = message_update_of g seen a (client_at a local.bindings) message now
+abbrev pub will_msg_update : Seen → Local → Addr → List ℕ → ℕ → Row
+will_msg_update seen local a message now = message_update_of seen a (client_at a local.bindings) message now

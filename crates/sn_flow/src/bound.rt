@@ -1,20 +1,18 @@
-//! Frames of bound clients, and frames that nothing waits for.
+//! What rows say of a client that is bound, or becomes so, and what they read of it.
 
-ghost use Rattle.std.specs.Prelude.{◌≡◌, Some, IfOk, IfErr, OnOk};
+ghost use Rattle.std.specs.Prelude.{◌≡◌, IfOk, IfErr, OnOk};
 ghost use Rattle.std.specs.Option.{option_copied};
 ghost use Rattle.sn_session.specs.Session.{empty_session};
 ghost use Rattle.rep_model.specs.Views.{view, unseen as unseen_view};
-ghost use Rattle.sn_flow.specs.Plans.{Gives, seen_of};
-ghost use Rattle.sn_flow.specs.Bound.{bound_to, heard_of, plan_heard as heard_plan, quiet as nothing_done, turned_away, stray as stray_plan, session_of as session_seen};
+ghost use Rattle.sn_flow.specs.Plans.{seen_of};
+ghost use Rattle.sn_flow.specs.Bound.{bound_to, heard_of, session_of as session_seen};
 
 use super::config::Addr;
 use super::draft::Draft;
 use super::fault::StepFault;
 use super::local::{LocalChange, Timer};
-use super::plan::{Plan, plan_of, plan_without};
 use rep_model::{ClientView, Puts, Replica};
 use rep_ops::ClientId;
-use sn_frame::Frame;
 use sn_session::Session;
 use std::alloc::Global;
 
@@ -60,56 +58,6 @@ pub fn hear_of(
         })?;
     }
     Ok(())
-}
-
-/// The plan of a draft for a client, on a frame from an address that may be bound.
-pub fn plan_heard<R: Replica>(
-    alloc: Global,
-    gateway: u8,
-    replica: &R,
-    client: &ClientId,
-    bound: Option<&ClientId>,
-    now: u64,
-    mut draft: Draft,
-) -> Result<Plan, StepFault>
-    ensures { Gives result (heard_plan gateway (seen_of (R.kept replica.now)) client.now (option_copied bound.entry) now draft) }
-{
-    hear_of(alloc, &mut draft, bound, now)?;
-    plan_of(alloc, gateway, replica, client, draft)
-}
-
-/// Nothing is done.
-pub fn quiet(alloc: Global) -> Plan
-    ensures { result ≡ nothing_done }
-{
-    plan_without(alloc, Draft::new(alloc))
-}
-
-/// A frame that asks for a binding, from an address that has none.
-pub fn turn_away(alloc: Global, to: Addr) -> Result<Plan, StepFault>
-    ensures { Gives result (Some (turned_away to)) }
-{
-    let draft = Draft::reply(alloc, to, &Frame::Disconnect { duration: None })?;
-    Ok(plan_without(alloc, draft))
-}
-
-/// A frame that nothing waits for: a bound client was heard of, another address is turned away.
-pub fn stray(
-    alloc: Global,
-    from: Addr,
-    bound: Option<&ClientId>,
-    now: u64,
-) -> Result<Plan, StepFault>
-    ensures { Gives result (Some (stray_plan from (option_copied bound.entry) now)) }
-{
-    match bound {
-        None => turn_away(alloc, from),
-        Some(client) => {
-            let mut draft = Draft::new(alloc);
-            hear_of(alloc, &mut draft, Some(client), now)?;
-            Ok(plan_without(alloc, draft))
-        }
-    }
 }
 
 /// The view of a client that no operation names.

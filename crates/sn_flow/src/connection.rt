@@ -3,18 +3,18 @@
 ghost use Rattle.std.specs.Prelude.{◌≡◌, Some, IfOk, IfErr};
 ghost use Rattle.std.specs.Option.{option_copied};
 ghost use Rattle.rep_model.specs.Views.{view};
-ghost use Rattle.sn_flow.specs.Plans.{Gives, seen_of};
+ghost use Rattle.sn_flow.specs.Plans.{seen_of};
 ghost use Rattle.sn_flow.specs.Bound.{session_of};
-ghost use Rattle.sn_flow.specs.Connection.{has_bit, request_of as asked_request, refusal_of as refused_by, ask_topic as asked_topic, welcomed as welcome_draft, connect_draft as drafted_connect, connect as connect_plan, leave as leave_draft, fall_asleep as sleep_draft, disconnect_draft as drafted_disconnect, disconnect_of as disconnect_plan_of, disconnect as disconnect_plan};
+ghost use Rattle.sn_flow.specs.Connection.{has_bit, request_of as asked_request, refusal_of as refused_by, ask_topic as asked_topic, welcomed as welcome_row, connect_row as refused_or_welcome, connect as connected_row, leave as leave_draft, fall_asleep as sleep_draft, disconnect_draft as drafted_disconnect, disconnect_of as disconnect_row_of, disconnect as disconnected_row};
 
 use super::accept::{GivenWill, accept, has_no_room};
-use super::bound::{plan_heard, session_or, turn_away, unseen, view_or};
+use super::bound::{session_or, unseen, view_or};
 use super::codes::{CONGESTION, NOT_SUPPORTED};
-use super::config::{Addr, Config};
+use super::config::Addr;
 use super::draft::Draft;
 use super::fault::StepFault;
 use super::local::{Awaited, Dialogs, LocalChange, Request, WillDialog};
-use super::plan::Plan;
+use super::row::{Follow, Row, heard_row, turn_away};
 use rep_model::{ClientView, Replica};
 use rep_ops::ClientId;
 use sn_frame::{Flags, Frame};
@@ -104,31 +104,37 @@ fn welcomed(
     will: bool,
     view: &ClientView,
     now: u64,
-) -> Result<Draft, StepFault>
-    ensures ok { IfOk result (λ draft. draft ≡ welcome_draft request will view.now now) }
+) -> Result<Row, StepFault>
+    ensures ok { IfOk result (λ row. row ≡ welcome_row request will view.now now) }
     ensures err { IfErr result (λ fault. fault ≡ StepFault.Memory) }
 {
+    let client = request.client.copy(alloc)?;
     if will {
-        ask_topic(alloc, request, now)
+        let draft = ask_topic(alloc, request, now)?;
+        Row::new(alloc, Follow::Nothing, &client, draft)
     } else {
-        accept(alloc, &request, GivenWill::AsItIs, view, now)
+        let draft = accept(alloc, &request, GivenWill::AsItIs, view, now)?;
+        Row::new(alloc, Follow::Resend, &client, draft)
     }
 }
 
-/// What a CONNECT does, before its operations have names.
-fn connect_draft(
+/// What a CONNECT does, but for the client that is bound so far.
+fn connect_row(
     alloc: Global,
     request: Request,
     will: bool,
     view: &ClientView,
     now: u64,
     refusal: Option<u8>,
-) -> Result<Draft, StepFault>
-    ensures ok { IfOk result (λ draft. draft ≡ drafted_connect request will view.now now refusal) }
+) -> Result<Row, StepFault>
+    ensures ok { IfOk result (λ row. row ≡ refused_or_welcome request will view.now now refusal) }
     ensures err { IfErr result (λ fault. fault ≡ StepFault.Memory) }
 {
     match refusal {
-        Some(code) => Draft::reply(alloc, request.address, &Frame::ConnAck { code }),
+        Some(code) => {
+            let draft = Draft::reply(alloc, request.address, &Frame::ConnAck { code })?;
+            Row::new(alloc, Follow::Nothing, &request.client, draft)
+        }
         None => welcomed(alloc, request, will, view, now),
     }
 }
@@ -136,7 +142,6 @@ fn connect_draft(
 /// CONNECT: the client is refused, asked for its will, or taken over and bound to the address it speaks from.
 pub fn connect<R: Replica>(
     alloc: Global,
-    config: &Config,
     replica: &R,
     dialogs: &Dialogs,
     from: Addr,
@@ -145,16 +150,16 @@ pub fn connect<R: Replica>(
     duration: u16,
     client: &ClientId,
     now: u64,
-) -> Result<Plan, StepFault>
-    ensures { Gives result (connect_plan config.now.gateway (seen_of (R.kept replica.now)) dialogs.now.local from flags.bits protocol duration client.now now) }
+) -> Result<Row, StepFault>
+    ensures ok { IfOk result (λ row. row ≡ connected_row (seen_of (R.kept replica.now)) dialogs.now.local from flags.bits protocol duration client.now now) }
+    ensures err { IfErr result (λ fault. fault ≡ StepFault.Memory) }
 {
     let refusal = refusal_of(alloc, replica, dialogs, from, client, flags, protocol)?;
     let request = request_of(alloc, from, flags, duration, client)?;
     let unseen = unseen(alloc);
     let view = view_or(replica, client, &unseen);
-    let draft = connect_draft(alloc, request, has_will(flags), view, now, refusal)?;
-    let bound = dialogs.client_at(from);
-    plan_heard(alloc, config.gateway, replica, client, bound, now, draft)
+    let row = connect_row(alloc, request, has_will(flags), view, now, refusal)?;
+    heard_row(alloc, dialogs.client_at(from), now, row)
 }
 
 /// The client says good-bye: its session stays as it is.
@@ -208,44 +213,37 @@ fn disconnect_draft(
 /// A DISCONNECT of a bound client.
 fn disconnect_bound<R: Replica>(
     alloc: Global,
-    config: &Config,
     replica: &R,
     from: Addr,
     client: &ClientId,
     duration: Option<u16>,
     now: u64,
-) -> Result<Plan, StepFault>
-    ensures { Gives result (disconnect_plan_of config.now.gateway (seen_of (R.kept replica.now)) from (Some client.now) duration now) }
+) -> Result<Row, StepFault>
+    ensures ok { IfOk result (λ row. row ≡ disconnect_row_of (seen_of (R.kept replica.now)) from (Some client.now) duration now) }
+    ensures err { IfErr result (λ fault. fault ≡ StepFault.Memory) }
 {
     let empty = Session::empty(alloc);
     let session = session_or(replica, client, &empty);
     let draft = disconnect_draft(alloc, from, client, session, duration)?;
-    plan_heard(
-        alloc,
-        config.gateway,
-        replica,
-        client,
-        Some(client),
-        now,
-        draft,
-    )
+    let row = Row::new(alloc, Follow::Nothing, client, draft)?;
+    heard_row(alloc, Some(client), now, row)
 }
 
 /// DISCONNECT: the client falls asleep, or leaves. From an address without binding it is answered and
 /// nothing else.
 pub fn disconnect<R: Replica>(
     alloc: Global,
-    config: &Config,
     replica: &R,
     dialogs: &Dialogs,
     from: Addr,
     duration: Option<u16>,
     now: u64,
-) -> Result<Plan, StepFault>
-    ensures { Gives result (disconnect_plan config.now.gateway (seen_of (R.kept replica.now)) dialogs.now.local from duration now) }
+) -> Result<Row, StepFault>
+    ensures ok { IfOk result (λ row. row ≡ disconnected_row (seen_of (R.kept replica.now)) dialogs.now.local from duration now) }
+    ensures err { IfErr result (λ fault. fault ≡ StepFault.Memory) }
 {
     match dialogs.client_at(from) {
         None => turn_away(alloc, from),
-        Some(client) => disconnect_bound(alloc, config, replica, from, client, duration, now),
+        Some(client) => disconnect_bound(alloc, replica, from, client, duration, now),
     }
 }

@@ -1,10 +1,11 @@
 //! The laws of plans. Each function does nothing; its contract is a law, proved for every draft, so for
 //! every row of the step table.
 
-ghost use Rattle.std.specs.Prelude.{◌≡◌, ℕ, ◌++◌, ◌⊎◌, [], List, Some, true, Contains};
+ghost use Rattle.std.specs.Prelude.{◌≡◌, ℕ, ◌++◌, ◌⊎◌, [], List, Option, Some, true, Contains};
 ghost use Rattle.std.specs.List.{AllByRecursion};
 ghost use Rattle.sn_topic.specs.Table.{Entries};
 ghost use Rattle.sn_frame.specs.declared.frame.Frame.{Frame};
+ghost use Rattle.sn_frame.specs.declared.frame.Will.{Will};
 ghost use Rattle.rep_ops.specs.declared.op.Op.{Op};
 ghost use Rattle.rep_ops.specs.declared.op.Put.{Put};
 ghost use Rattle.rep_ops.specs.Sets.{is_acknowledged, IsConsistent, Same};
@@ -15,13 +16,18 @@ ghost use Rattle.rep_model.specs.Taking.{AllAgree};
 ghost use Rattle.sn_flow.specs.declared.config.Addr.{Addr};
 ghost use Rattle.sn_flow.specs.declared.local.Binding.{Binding};
 ghost use Rattle.sn_flow.specs.declared.plan.Plan.{Plan};
+ghost use Rattle.sn_flow.specs.declared.row.Row.{Row};
 ghost use Rattle.sn_flow.specs.Bindings.{bound, client_at};
 ghost use Rattle.sn_flow.specs.Drafts.{Drafted};
 ghost use Rattle.sn_flow.specs.Locals.{Local};
-ghost use Rattle.sn_flow.specs.Steps.{step};
+ghost use Rattle.sn_flow.specs.Rows.{plan_of_row};
+ghost use Rattle.sn_flow.specs.Connection.{connect, disconnect};
+ghost use Rattle.sn_flow.specs.Wills.{will_topic, will_msg, will_topic_update, will_msg_update};
+ghost use Rattle.sn_flow.specs.TopicRows.{register, subscribe, unsubscribe};
+ghost use Rattle.sn_flow.specs.Others.{other};
 ghost use Rattle.sn_flow.specs.Numbering.{Written, start_of, written};
 ghost use Rattle.sn_flow.specs.Plans.{Seen, seen_of, plan_of};
-ghost use Rattle.sn_flow.specs.Own.{IsOwn, HasNoneOf, AddsNone, AreFresh, IsOneEach, Waits, messages, IsOfDraft};
+ghost use Rattle.sn_flow.specs.Own.{IsOwn, HasNoneOf, AddsNone, AreFresh, IsOneEach, Waits, messages, IsOfDraft, MakesNoMessage};
 ghost use Rattle.sn_flow.specs.Flush.{IsFlush, AreFlush, Shows, session_with};
 
 /// A gateway writes under names of its own: the session operations of a plan are of the client that the
@@ -89,11 +95,25 @@ pub fn adds_none()
     ensures together { (S ops delta : List Op) → Same delta ops → Same (S ++ delta) (S ++ ops) }
 {}
 
-/// The laws hold of every step: each plan of the step table is the plan of a draft, with at most one
-/// message a client. So a gateway whose set is flush for all clients never refuses for a conflict
-/// what it made itself, stays flush when it takes it, and loses no message by it.
-pub fn every_step()
-    ensures drafted { (g : ℕ) (predefined : Entries) (seen : Seen) (local : Local) (a : Addr) (frame : Frame) (now : ℕ) (plan : Plan) → step g predefined seen local a frame now ≡ Some plan → IsOfDraft g seen plan }
+/// The rows of connections, wills and topics make no message.
+pub fn rows_make_no_message()
+    ensures connects { (seen : Seen) (local : Local) (a : Addr) (flags protocol duration : ℕ) (c : List ℕ) (now : ℕ) → MakesNoMessage (connect seen local a flags protocol duration c now) }
+    ensures disconnects { (seen : Seen) (local : Local) (a : Addr) (duration : Option ℕ) (now : ℕ) → MakesNoMessage (disconnect seen local a duration now) }
+    ensures will_topics { (seen : Seen) (local : Local) (a : Addr) (will : Option Will) (now : ℕ) → MakesNoMessage (will_topic seen local a will now) }
+    ensures will_messages { (seen : Seen) (local : Local) (a : Addr) (message : List ℕ) (now : ℕ) → MakesNoMessage (will_msg seen local a message now) }
+    ensures topic_updates { (local : Local) (a : Addr) (will : Option Will) (now : ℕ) → MakesNoMessage (will_topic_update local a will now) }
+    ensures message_updates { (seen : Seen) (local : Local) (a : Addr) (message : List ℕ) (now : ℕ) → MakesNoMessage (will_msg_update seen local a message now) }
+    ensures registers { (seen : Seen) (local : Local) (a : Addr) (msg_id : ℕ) (name : List ℕ) (now : ℕ) → MakesNoMessage (register seen local a msg_id name now) }
+    ensures subscribes { (p : Entries) (seen : Seen) (local : Local) (a : Addr) (bits msg_id : ℕ) (field : List ℕ) (now : ℕ) → MakesNoMessage (subscribe p seen local a bits msg_id field now) }
+    ensures unsubscribes { (p : Entries) (seen : Seen) (local : Local) (a : Addr) (bits msg_id : ℕ) (field : List ℕ) (now : ℕ) → MakesNoMessage (unsubscribe p seen local a bits msg_id field now) }
+    ensures others { (g : ℕ) (local : Local) (a : Addr) (frame : Frame) (now : ℕ) → MakesNoMessage (other g local a frame now) }
+{}
+
+/// The laws hold of every row: its plan is the plan of a draft. Where that has at most one message a client, a gateway
+/// whose set is flush for all clients never refuses for a conflict what it made itself, stays flush when it takes it, and
+/// loses no message by it.
+pub fn every_row()
+    ensures drafted { (g : ℕ) (seen : Seen) (row : Row) (plan : Plan) → IsOneEach row.draft.puts → plan_of_row g seen row ≡ Some plan → IsOfDraft g seen plan }
     ensures fits { (g : ℕ) (S : List Op) (plan : Plan) → AreFlush g S → IsOfDraft g (seen_of S) plan → (delta : List Op) → Same delta plan.ops → AllAgree S delta × AllAgree (keep S) delta }
     ensures flush { (g : ℕ) (S : List Op) (plan : Plan) → AreFlush g S → IsOfDraft g (seen_of S) plan → (delta : List Op) → Same delta plan.ops → AreFlush g (S ++ delta) }
     ensures leaves { (g : ℕ) (S : List Op) (plan : Plan) → IsOfDraft g (seen_of S) plan → (delta : List Op) → Same delta plan.ops → (c : List ℕ) (name : ℕ × ℕ) (put : Put) → pending_at c S name ≡ Some put → (pending_at c (S ++ delta) name ≡ Some put) ⊎ (is_acknowledged c delta name ≡ true) }

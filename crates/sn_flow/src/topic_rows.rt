@@ -1,15 +1,15 @@
 //! REGISTER, SUBSCRIBE and UNSUBSCRIBE of a bound client (MQTT-SN 1.2 sections 6.5 and 6.9).
 
-ghost use Rattle.std.specs.Prelude.{◌≡◌, Some};
-ghost use Rattle.sn_flow.specs.Plans.{Gives, seen_of};
-ghost use Rattle.sn_flow.specs.TopicRows.{register_of, register as register_plan, subscribe_of, subscribe as subscribe_plan, unsubscribe_of, unsubscribe as unsubscribe_plan};
+ghost use Rattle.std.specs.Prelude.{◌≡◌, Some, IfOk, IfErr};
+ghost use Rattle.sn_flow.specs.Plans.{seen_of};
+ghost use Rattle.sn_flow.specs.TopicRows.{register_of, register as register_row, subscribe_of, subscribe as subscribe_row, unsubscribe_of, unsubscribe as unsubscribe_row};
 
-use super::bound::{plan_heard, session_or, turn_away};
+use super::bound::session_or;
 use super::config::{Addr, Config};
 use super::fault::StepFault;
 use super::local::Dialogs;
-use super::plan::Plan;
 use super::registration::register as draft_register;
+use super::row::{Follow, Row, heard_row, turn_away};
 use super::subscription::{subscribe as draft_subscribe, unsubscribe as draft_unsubscribe};
 use rep_model::Replica;
 use rep_ops::ClientId;
@@ -20,46 +20,39 @@ use std::alloc::Global;
 /// A REGISTER of a bound client.
 fn register_bound<R: Replica>(
     alloc: Global,
-    config: &Config,
     replica: &R,
     from: Addr,
     client: &ClientId,
     msg_id: u16,
     name: &[u8],
     now: u64,
-) -> Result<Plan, StepFault>
-    ensures { Gives result (register_of config.now.gateway (seen_of (R.kept replica.now)) from (Some client.now) msg_id name.now now) }
+) -> Result<Row, StepFault>
+    ensures ok { IfOk result (λ row. row ≡ register_of (seen_of (R.kept replica.now)) from (Some client.now) msg_id name.now now) }
+    ensures err { IfErr result (λ fault. fault ≡ StepFault.Memory) }
 {
     let empty = Session::empty(alloc);
     let session = session_or(replica, client, &empty);
     let draft = draft_register(alloc, from, session, msg_id, name)?;
-    plan_heard(
-        alloc,
-        config.gateway,
-        replica,
-        client,
-        Some(client),
-        now,
-        draft,
-    )
+    let row = Row::new(alloc, Follow::Delivery, client, draft)?;
+    heard_row(alloc, Some(client), now, row)
 }
 
 /// REGISTER: a bound client asks for the topic id of a name.
 pub fn register<R: Replica>(
     alloc: Global,
-    config: &Config,
     replica: &R,
     dialogs: &Dialogs,
     from: Addr,
     msg_id: u16,
     name: &[u8],
     now: u64,
-) -> Result<Plan, StepFault>
-    ensures { Gives result (register_plan config.now.gateway (seen_of (R.kept replica.now)) dialogs.now.local from msg_id name.now now) }
+) -> Result<Row, StepFault>
+    ensures ok { IfOk result (λ row. row ≡ register_row (seen_of (R.kept replica.now)) dialogs.now.local from msg_id name.now now) }
+    ensures err { IfErr result (λ fault. fault ≡ StepFault.Memory) }
 {
     match dialogs.client_at(from) {
         None => turn_away(alloc, from),
-        Some(client) => register_bound(alloc, config, replica, from, client, msg_id, name, now),
+        Some(client) => register_bound(alloc, replica, from, client, msg_id, name, now),
     }
 }
 
@@ -74,8 +67,9 @@ fn subscribe_bound<R: Replica>(
     msg_id: u16,
     topic: &[u8],
     now: u64,
-) -> Result<Plan, StepFault>
-    ensures { Gives result (subscribe_of config.now.gateway config.now.predefined (seen_of (R.kept replica.now)) from (Some client.now) flags.bits msg_id topic.now now) }
+) -> Result<Row, StepFault>
+    ensures ok { IfOk result (λ row. row ≡ subscribe_of config.now.predefined (seen_of (R.kept replica.now)) from (Some client.now) flags.bits msg_id topic.now now) }
+    ensures err { IfErr result (λ fault. fault ≡ StepFault.Memory) }
 {
     let empty = Session::empty(alloc);
     let session = session_or(replica, client, &empty);
@@ -88,15 +82,8 @@ fn subscribe_bound<R: Replica>(
         msg_id,
         topic,
     )?;
-    plan_heard(
-        alloc,
-        config.gateway,
-        replica,
-        client,
-        Some(client),
-        now,
-        draft,
-    )
+    let row = Row::new(alloc, Follow::Delivery, client, draft)?;
+    heard_row(alloc, Some(client), now, row)
 }
 
 /// SUBSCRIBE: a bound client asks for the topics of a filter.
@@ -110,8 +97,9 @@ pub fn subscribe<R: Replica>(
     msg_id: u16,
     topic: &[u8],
     now: u64,
-) -> Result<Plan, StepFault>
-    ensures { Gives result (subscribe_plan config.now.gateway config.now.predefined (seen_of (R.kept replica.now)) dialogs.now.local from flags.bits msg_id topic.now now) }
+) -> Result<Row, StepFault>
+    ensures ok { IfOk result (λ row. row ≡ subscribe_row config.now.predefined (seen_of (R.kept replica.now)) dialogs.now.local from flags.bits msg_id topic.now now) }
+    ensures err { IfErr result (λ fault. fault ≡ StepFault.Memory) }
 {
     match dialogs.client_at(from) {
         None => turn_away(alloc, from),
@@ -132,8 +120,9 @@ fn unsubscribe_bound<R: Replica>(
     msg_id: u16,
     topic: &[u8],
     now: u64,
-) -> Result<Plan, StepFault>
-    ensures { Gives result (unsubscribe_of config.now.gateway config.now.predefined (seen_of (R.kept replica.now)) from (Some client.now) flags.bits msg_id topic.now now) }
+) -> Result<Row, StepFault>
+    ensures ok { IfOk result (λ row. row ≡ unsubscribe_of config.now.predefined (seen_of (R.kept replica.now)) from (Some client.now) flags.bits msg_id topic.now now) }
+    ensures err { IfErr result (λ fault. fault ≡ StepFault.Memory) }
 {
     let empty = Session::empty(alloc);
     let session = session_or(replica, client, &empty);
@@ -146,15 +135,8 @@ fn unsubscribe_bound<R: Replica>(
         msg_id,
         topic,
     )?;
-    plan_heard(
-        alloc,
-        config.gateway,
-        replica,
-        client,
-        Some(client),
-        now,
-        draft,
-    )
+    let row = Row::new(alloc, Follow::Delivery, client, draft)?;
+    heard_row(alloc, Some(client), now, row)
 }
 
 /// UNSUBSCRIBE: a bound client asks for the topics of a filter no more.
@@ -168,8 +150,9 @@ pub fn unsubscribe<R: Replica>(
     msg_id: u16,
     topic: &[u8],
     now: u64,
-) -> Result<Plan, StepFault>
-    ensures { Gives result (unsubscribe_plan config.now.gateway config.now.predefined (seen_of (R.kept replica.now)) dialogs.now.local from flags.bits msg_id topic.now now) }
+) -> Result<Row, StepFault>
+    ensures ok { IfOk result (λ row. row ≡ unsubscribe_row config.now.predefined (seen_of (R.kept replica.now)) dialogs.now.local from flags.bits msg_id topic.now now) }
+    ensures err { IfErr result (λ fault. fault ≡ StepFault.Memory) }
 {
     match dialogs.client_at(from) {
         None => turn_away(alloc, from),

@@ -1,9 +1,9 @@
 -- A client that no operation names has no session.
 use Rattle.std.proofs.Common.{◌≡◌, sym, subst, refl, false}
 use Rattle.rep_model.specs.declared.view.ClientView.{ClientView}
-use Rattle.sn_flow.specs.Steps.{can_wake as can_wake_at}
+use Rattle.sn_flow.specs.Others.{can_wake as can_wake_at}
 use Rattle.rep_model.proofs.Named.{unnamed-unseen}
-use Rattle.sn_flow.proofs.table.can_wake.Goals as goal
+use Rattle.sn_flow.proofs.others.can_wake.Goals as goal
 
 pub returns-in-None : goal.returns-in-None
 returns-in-None g c =

@@ -1,10 +1,10 @@
-use Rattle.sn_flow.proofs.laws.every_step.Goals as goal
-use Rattle.sn_flow.proofs.Drafting.{step-drafted}
+use Rattle.sn_flow.proofs.laws.every_row.Goals as goal
+use Rattle.sn_flow.proofs.Drafting.{row-drafted}
 use Rattle.sn_flow.proofs.Stepping.{step-fits, step-flush, step-leaves}
 
 pub returns : goal.returns
 returns c = record {
-  drafted = step-drafted;
+  drafted = row-drafted;
   fits = λ g S plan flush p delta same. step-fits g S plan p delta same flush;
   flush = λ g S plan flush p delta same. step-flush g S plan p delta same flush;
   leaves = λ g S plan p delta same. step-leaves g S plan p delta same;

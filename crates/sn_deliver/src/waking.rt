@@ -1,0 +1,253 @@
+//! Waking: a client comes back from sleep, here or at another gateway (MQTT-SN 1.2 sections 6.11 and 6.14).
+
+ghost use Rattle.std.specs.Prelude.{◌≡◌, ◌≤◌, length, IfOk, IfErr, OnOk};
+ghost use Rattle.std.specs.Option.{option_copied};
+ghost use Rattle.rep_model.specs.Views.{view};
+ghost use Rattle.sn_flow.specs.Plans.{seen_of};
+ghost use Rattle.sn_flow.specs.declared.row.Follow.TheVariants.{Delivery};
+ghost use Rattle.sn_flow.specs.Rows.{row_of, heard_row as heard_row_of};
+ghost use Rattle.rep_ops.specs.ClientIds.{IsClientId};
+ghost use Rattle.sn_deliver.specs.Waking.{claimed as claimed_draft, has_nothing as there_is_nothing, answered as answered_draft, from_sleep as row_from_sleep, from_wake as row_from_wake, woken_by as row_by_state, woken_if as row_of_session, woken as woken_row, wake_of as wake_row_of, wake as wake_row};
+
+use super::due::is_stamp_of;
+use super::exchange::open_exchange;
+use rep_model::{ClientView, Replica};
+use rep_ops::{ClientId, Put};
+use sn_flow::{
+    Addr, Config, Dialogs, Draft, Follow, Row, StepFault, bind_to, heard_row, turn_away, unseen,
+    view_or,
+};
+use sn_frame::Frame;
+use sn_session::{Presence, Session, SessionOp};
+use std::alloc::Global;
+
+/// The client is claimed: where another gateway owns it, it is taken over with the session as it is.
+fn claimed(
+    alloc: Global,
+    gateway: u8,
+    view: &ClientView,
+    session: &Session,
+) -> Result<Draft, StepFault>
+    ensures ok { IfOk result (λ draft. draft ≡ claimed_draft gateway view.now session.now) }
+    ensures err { IfErr result (λ fault. fault ≡ StepFault.Memory) }
+{
+    let mut draft = Draft::new(alloc);
+    if !is_stamp_of(gateway, view.stamp) {
+        draft.change(SessionOp::Take(session.copy(alloc)?))?;
+    }
+    Ok(draft)
+}
+
+/// Whether there is nothing for the client: no message waits, and no exchange is open.
+fn has_nothing(session: &Session, pending: &[Put]) -> bool
+    ensures { result ≡ there_is_nothing session.now pending.now }
+{
+    pending.len() == 0 && open_exchange(session, &[], pending).is_none()
+}
+
+/// And then PINGRESP.
+fn answer(alloc: Global, to: Addr, draft: &mut Draft) -> Result<(), StepFault>
+    ensures ok { OnOk result (draft.new ≡ answered_draft to draft.old) }
+    ensures err { IfErr result (λ fault. fault ≡ StepFault.Memory) }
+{
+    match draft.send(alloc, to, &Frame::PingResp) {
+        Ok(()) => Ok(()),
+        Err(_) => Err(StepFault::Memory),
+    }
+}
+
+/// A client that is Asleep wakes, where there is something for it.
+fn from_sleep(
+    alloc: Global,
+    to: Addr,
+    client: &ClientId,
+    session: &Session,
+    idle: bool,
+    mut draft: Draft,
+) -> Result<Row, StepFault>
+    ensures ok { IfOk result (λ row. row ≡ row_from_sleep to client.now session.now idle draft) }
+    ensures err { IfErr result (λ fault. fault ≡ StepFault.Memory) }
+{
+    if idle {
+        answer(alloc, to, &mut draft)?;
+        return Row::new(alloc, Follow::Nothing, client, draft);
+    }
+    draft.change(SessionOp::Presence {
+        presence: Presence::Awake,
+        duration: session.duration,
+    })?;
+    Row::new(alloc, Follow::Resend, client, draft)
+}
+
+/// A client that is Awake goes back to sleep, where there is nothing for it.
+fn from_wake(
+    alloc: Global,
+    to: Addr,
+    client: &ClientId,
+    session: &Session,
+    idle: bool,
+    mut draft: Draft,
+) -> Result<Row, StepFault>
+    ensures ok { IfOk result (λ row. row ≡ row_from_wake to client.now session.now idle draft) }
+    ensures err { IfErr result (λ fault. fault ≡ StepFault.Memory) }
+{
+    if !idle {
+        return Row::new(alloc, Follow::Resend, client, draft);
+    }
+    draft.change(SessionOp::Presence {
+        presence: Presence::Asleep,
+        duration: session.duration,
+    })?;
+    answer(alloc, to, &mut draft)?;
+    Row::new(alloc, Follow::Nothing, client, draft)
+}
+
+/// A client that is Active gets PINGRESP, and then what waits for it.
+fn from_activity(
+    alloc: Global,
+    to: Addr,
+    client: &ClientId,
+    mut draft: Draft,
+) -> Result<Row, StepFault>
+    ensures ok { IfOk result (λ row. row ≡ row_of Delivery client.now (answered_draft to draft)) }
+    ensures err { IfErr result (λ fault. fault ≡ StepFault.Memory) }
+{
+    answer(alloc, to, &mut draft)?;
+    Row::new(alloc, Follow::Delivery, client, draft)
+}
+
+/// What waking does, by what the client is.
+fn woken_by(
+    alloc: Global,
+    to: Addr,
+    client: &ClientId,
+    session: &Session,
+    idle: bool,
+    draft: Draft,
+) -> Result<Row, StepFault>
+    ensures ok { IfOk result (λ row. row ≡ row_by_state to client.now session.now idle draft session.now.presence) }
+    ensures err { IfErr result (λ fault. fault ≡ StepFault.Memory) }
+{
+    match session.presence {
+        Presence::Active => from_activity(alloc, to, client, draft),
+        Presence::Asleep => from_sleep(alloc, to, client, session, idle, draft),
+        Presence::Awake => from_wake(alloc, to, client, session, idle, draft),
+        Presence::Disconnected => turn_away(alloc, to),
+        Presence::Lost => turn_away(alloc, to),
+    }
+}
+
+/// What waking does with the session of the client, if there is one.
+fn woken_view(
+    alloc: Global,
+    gateway: u8,
+    to: Addr,
+    client: &ClientId,
+    view: &ClientView,
+    now: u64,
+) -> Result<Row, StepFault>
+    ensures ok { IfOk result (λ row. row ≡ row_of_session gateway to client.now view.now now view.now.session) }
+    ensures err { IfErr result (λ fault. fault ≡ StepFault.Memory) }
+{
+    match &view.session {
+        None => turn_away(alloc, to),
+        Some(session) => {
+            let mut draft = claimed(alloc, gateway, view, session)?;
+            bind_to(alloc, &mut draft, to, client, now)?;
+            let idle = has_nothing(session, view.pending.as_slice());
+            woken_by(alloc, to, client, session, idle, draft)
+        }
+    }
+}
+
+/// The client wakes at this address and gateway: it is claimed and bound.
+fn woken<R: Replica>(
+    alloc: Global,
+    gateway: u8,
+    replica: &R,
+    to: Addr,
+    client: &ClientId,
+    now: u64,
+) -> Result<Row, StepFault>
+    ensures ok { IfOk result (λ row. row ≡ woken_row gateway (seen_of (R.kept replica.now)) to client.now now) }
+    ensures err { IfErr result (λ fault. fault ≡ StepFault.Memory) }
+{
+    let nobody = unseen(alloc);
+    let view = view_or(replica, client, &nobody);
+    woken_view(alloc, gateway, to, client, view, now)
+}
+
+/// A PINGREQ without a client.
+fn wake_bound<R: Replica>(
+    alloc: Global,
+    gateway: u8,
+    replica: &R,
+    from: Addr,
+    bound: Option<&ClientId>,
+    now: u64,
+) -> Result<Row, StepFault>
+    ensures ok { IfOk result (λ row. row ≡ wake_row_of gateway (seen_of (R.kept replica.now)) from (option_copied bound.entry) now) }
+    ensures err { IfErr result (λ fault. fault ≡ StepFault.Memory) }
+{
+    match bound {
+        None => turn_away(alloc, from),
+        Some(client) => {
+            let row = woken(alloc, gateway, replica, from, client, now)?;
+            heard_row(alloc, Some(client), now, row)
+        }
+    }
+}
+
+/// A PINGREQ with the id of a client.
+fn wake_client<R: Replica>(
+    alloc: Global,
+    gateway: u8,
+    replica: &R,
+    from: Addr,
+    bound: Option<&ClientId>,
+    client: &[u8],
+    now: u64,
+) -> Result<Row, StepFault>
+    requires { IsClientId client.now }
+    ensures ok { IfOk result (λ row. row ≡ heard_row_of (option_copied bound.entry) now (woken_row gateway (seen_of (R.kept replica.now)) from client.now now)) }
+    ensures err { IfErr result (λ fault. fault ≡ StepFault.Memory) }
+{
+    let client = client_id(alloc, client)?;
+    let row = woken(alloc, gateway, replica, from, &client, now)?;
+    heard_row(alloc, bound, now, row)
+}
+
+/// The client of this name.
+pub fn client_id(alloc: Global, octets: &[u8]) -> Result<ClientId, StepFault>
+    requires { IsClientId octets.now }
+    ensures ok { IfOk result (λ id. id ≡ octets.now) }
+    ensures err { IfErr result (λ fault. fault ≡ StepFault.Memory) }
+{
+    match ClientId::new(alloc, octets) {
+        Ok(id) => Ok(id),
+        Err(_) => Err(StepFault::Memory),
+    }
+}
+
+/// PINGREQ: with the id of a client it wakes that client, which is claimed from the gateway that has it; without, the one that is
+/// bound to the address.
+pub fn wake<R: Replica>(
+    alloc: Global,
+    config: &Config,
+    replica: &R,
+    dialogs: &Dialogs,
+    from: Addr,
+    client: &[u8],
+    now: u64,
+) -> Result<Row, StepFault>
+    requires { length client.now ≤ 23 }
+    ensures ok { IfOk result (λ row. row ≡ wake_row config.now.gateway (seen_of (R.kept replica.now)) dialogs.now.local from client.now now) }
+    ensures err { IfErr result (λ fault. fault ≡ StepFault.Memory) }
+{
+    let bound = dialogs.client_at(from);
+    if client.is_empty() {
+        wake_bound(alloc, config.gateway, replica, from, bound, now)
+    } else {
+        wake_client(alloc, config.gateway, replica, from, bound, client, now)
+    }
+}
