@@ -26,6 +26,7 @@ abbrev pub text_of : Word → List ℕ
 text_of words.Gateway = codes "gateway"
 text_of words.Predefine = codes "predefine"
 text_of words.Frame = codes "frame"
+text_of words.Tick = codes "tick"
 text_of words.Take = codes "take"
 text_of words.Show = codes "show"
 
@@ -40,6 +41,7 @@ Says words.Predefine (number ∷ id ∷ octets ∷ []) (commands.Predefine g i n
     IsNumber 8 number g × IsNumber 16 id i × IsHex octets name × IsName name
 Says words.Frame (gateway ∷ address ∷ moment ∷ octets ∷ []) (commands.Happens (events.Frame g from bytes now)) =
     IsNumber 8 gateway g × IsAddress address from × IsNumber 64 moment now × IsHex octets bytes
+Says words.Tick (gateway ∷ moment ∷ []) (commands.Happens (events.Tick g now)) = IsNumber 8 gateway g × IsNumber 64 moment now
 Says words.Take (gateway ∷ delta ∷ []) (commands.Happens (events.Take g d)) = IsNumber 8 gateway g × IsNumber 64 delta d
 Says words.Show (gateway ∷ []) (commands.Happens (events.Show g)) = IsNumber 8 gateway g
 Says word fields command = ⊥

@@ -37,6 +37,7 @@ pub enum Word {
     Gateway,
     Predefine,
     Frame,
+    Tick,
     Take,
     Show,
 }
@@ -53,6 +54,7 @@ impl Word {
             b"gateway" => Some(Word::Gateway),
             b"predefine" => Some(Word::Predefine),
             b"frame" => Some(Word::Frame),
+            b"tick" => Some(Word::Tick),
             b"take" => Some(Word::Take),
             b"show" => Some(Word::Show),
             _ => None,
@@ -91,6 +93,7 @@ fn say(alloc: Global, word: Word, fields: &[&[u8]]) -> Result<Command, LineFault
         Word::Gateway => gateway(fields),
         Word::Predefine => predefine(alloc, fields),
         Word::Frame => frame(alloc, fields),
+        Word::Tick => tick(fields),
         Word::Take => take(fields),
         Word::Show => show(fields),
     }
@@ -165,6 +168,19 @@ fn frame(alloc: Global, fields: &[&[u8]]) -> Result<Command, LineFault>
             }))
         }
         None => Err(LineFault::NotACommand),
+    }
+}
+
+/// What the fields behind `tick` say.
+fn tick(fields: &[&[u8]]) -> Result<Command, LineFault>
+    ensures { Reads (Says words.Tick (map (λ field. field.now) fields.now)) result }
+{
+    let [gateway, moment] = fields else {
+        return Err(LineFault::NotACommand);
+    };
+    match (number_u8(gateway), number(moment)) {
+        (Some(gateway), Some(now)) => Ok(Command::Happens(Event::Tick { gateway, now })),
+        _ => Err(LineFault::NotACommand),
     }
 }
 

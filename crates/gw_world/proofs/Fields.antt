@@ -1,23 +1,26 @@
 -- From what all gateways keep to the field, and over a whole list of events.
-use Rattle.std.proofs.Common.{◌≡◌, ℕ, ◌+◌, ◌-◌, ◌==◌, if◌then◌else◌, zero, suc, List, [], ◌∷◌, ◌++◌, map, Some, slice_get, set, refl, sym, ap, ◌∙◌, subst, append-nil, take, length, arith}
+use Rattle.std.proofs.Common.{◌≡◌, ℕ, ◌+◌, ◌-◌, ◌==◌, if◌then◌else◌, zero, suc, List, [], ◌∷◌, ◌++◌, map, Some, Result, slice_get, set, refl, sym, ap, ◌∙◌, subst, append-nil, take, length, arith}
 use Rattle.rep_ops.specs.declared.op.Op.{Op}
 use Rattle.rep_model.specs.Views.{view}
 use Rattle.rep_model.proofs.Joins.{view-counts}
 use Rattle.rep_model.proofs.Named.{clients-counts}
 use Rattle.sn_flow.specs.declared.config.Config.{Config}
 use Rattle.gw_world.specs.declared.event.Event.{Event}
-use Rattle.gw_world.specs.declared.event.Event.TheVariants.{Frame, Take, Show}
+use Rattle.gw_world.specs.declared.event.Event.TheVariants.{Frame, Tick, Take, Show}
 use Rattle.gw_world.specs.declared.event.Answer.{Answer}
 use Rattle.gw_world.specs.declared.event.Answer.TheVariants.{Node, Views}
 use Rattle.gw_world.specs.declared.world.WorldFault.{WorldFault}
 use Rattle.gw_world.specs.declared.world.WorldFault.TheVariants as stops
+use Rattle.gw_world.specs.Occasions.{Occasion, Datagram, Clock}
+use Rattle.gw_world.specs.declared.event.Out.{Out}
+use Rattle.gw_world.specs.declared.event.NodeFault.{NodeFault}
 use Rattle.gw_world.specs.Gateways.{Gateway, new_gateway, place_from, place_of}
-use Rattle.gw_world.specs.Field.{Field, new_field, After, Run, NamesNoDelta, shown, gateway_of}
-use Rattle.gw_world.specs.Events.{made_of, Moves, EventKept, RunKept, StopsKept, IsStopKept, IsMissing}
+use Rattle.gw_world.specs.Field.{Field, new_field, Steps, After, Run, NamesNoDelta, shown, gateway_of}
+use Rattle.gw_world.specs.Events.{made_of, Moves, OwnAnswered, EventKept, RunKept, StopsKept, IsStopKept, IsMissing}
 use Rattle.gw_world.specs.Keeping.{IsShown, AreShown}
 use Rattle.gw_world.specs.Worlds.{IsWorld, IsStop}
 use Rattle.gw_world.proofs.Held.{keeps_nothing}
-use Rattle.gw_world.proofs.Shown.{keeping, frame_taken, take_taken}
+use Rattle.gw_world.proofs.Shown.{keeping, own_taken, take_taken}
 
 -- a number has the same place in both lists
 pub place_shown : (n i : ℕ) (gs ks : List Gateway) → AreShown gs ks → place_from n i gs ≡ place_from n i ks
@@ -66,17 +69,24 @@ module _ (field : Field) (ks : List Gateway) (s : AreShown field.gateways ks) wh
       subst (λ xs. AreShown (set field.gateways i next) xs) (sym moves.moved)
       (shown_set field.gateways ks i next new s (record { configured = moves.configured ∙ shown.configured; bound = shown.bound; keeps = shown.keeps }))
 
-  pub event_reaches : (deltas : List (List Op)) (listed : field.deltas ≡ deltas) (event : Event) (news : List Gateway) (next : List (List Op)) (answer : Answer)
-      → EventKept ks deltas event news next answer → Reaches field event answer news next
-  event_reaches deltas listed (Frame n from bytes now) news next (Node answer) (i, place, ((old, new, moves, kept), is_next)) =
+  own_reaches : (deltas : List (List Op)) (listed : field.deltas ≡ deltas) (event : Event) (occasion : Occasion) (now : ℕ) (news : List Gateway) (next : List (List Op)) (answer : Result Out NodeFault)
+      → ((new : Field) → Steps field (gateway_of event) occasion now answer new → After field event (Node answer) new)
+      → ((i : ℕ) × (place_of (gateway_of event) ks ≡ Some i) × OwnAnswered ks deltas i occasion now news next (Node answer)) → Reaches field event (Node answer) news next
+  own_reaches deltas listed event occasion now news next answer is (i, place, ((old, new, moves, kept), is_next)) =
       let at = shown_at field.gateways ks i old s moves.place in
-      let leads = frame_taken at.gateway old at.shown from bytes now answer new.taken new.local kept in
+      let leads = own_taken at.gateway old at.shown occasion now answer new.taken new.local kept in
+      let field_after = record { gateways = set field.gateways i leads.next; deltas = field.deltas ++ made_of answer } in
       record {
-        new = record { gateways = set field.gateways i leads.next; deltas = field.deltas ++ made_of answer };
-        after = (i, at.gateway, leads.next, made_of answer, (place_there n i place, at.place), leads.step, refl);
+        new = field_after;
+        after = is field_after (i, at.gateway, leads.next, made_of answer, (place_there (gateway_of event) i place, at.place), leads.step, refl);
         shown = moved i old new leads.next news moves leads.shown;
         listed = ap (λ ds. ds ++ made_of answer) listed ∙ sym is_next;
       }
+
+  pub event_reaches : (deltas : List (List Op)) (listed : field.deltas ≡ deltas) (event : Event) (news : List Gateway) (next : List (List Op)) (answer : Answer)
+      → EventKept ks deltas event news next answer → Reaches field event answer news next
+  event_reaches deltas listed (Frame n from bytes now) news next (Node answer) h = own_reaches deltas listed (Frame n from bytes now) (Datagram from bytes) now news next answer (λ new after. after) h
+  event_reaches deltas listed (Tick n now) news next (Node answer) h = own_reaches deltas listed (Tick n now) Clock now news next answer (λ new after. after) h
   event_reaches deltas listed (Take n delta) news next (Node answer) (i, place, (ops, (one, there), (old, new, moves, kept), is_next)) =
       let at = shown_at field.gateways ks i old s moves.place in
       let leads = take_taken at.gateway old at.shown ops answer new.taken new.local kept in
@@ -97,6 +107,7 @@ module _ (field : Field) (ks : List Gateway) (s : AreShown field.gateways ks) wh
         listed = listed ∙ sym is_next;
       }
   event_reaches deltas listed (Frame n from bytes now) news next (Views views) (i, place, h) = absurd h
+  event_reaches deltas listed (Tick n now) news next (Views views) (i, place, h) = absurd h
   event_reaches deltas listed (Take n delta) news next (Views views) (i, place, (ops, there, h, is_next)) = absurd h
   event_reaches deltas listed (Show n) news next (Node answer) (i, place, (h, same, is_next)) = absurd h
 
@@ -125,6 +136,7 @@ kept_more olds ds events answers ks deltas event news next answer run one field 
 names_no_delta : (field : Field) (ks : List Gateway) (deltas : List (List Op)) (event : Event) (number n : ℕ) → AreShown field.gateways ks → field.deltas ≡ deltas
     → (i : ℕ) → place_of (gateway_of event) ks ≡ Some i → IsMissing deltas event number (stops.NoDelta n) → NamesNoDelta field event
 names_no_delta field ks deltas (Frame g from bytes now) number n s listed i place h = absurd h
+names_no_delta field ks deltas (Tick g now) number n s listed i place h = absurd h
 names_no_delta field ks deltas (Show g) number n s listed i place h = absurd h
 names_no_delta field ks deltas (Take g delta) number n s listed i place h =
     ((i, place_shown g 0 field.gateways ks s ∙ place), λ ops there. h.1 ops (there.0, ap (λ ds. slice_get ds (delta - 1)) (sym listed) ∙ there.1))
@@ -142,6 +154,7 @@ stops_here olds ds events k answers ks deltas event (stops.NoDelta n) run there 
   where
     numbered : (deltas : List (List Op)) (event : Event) (number n : ℕ) → IsMissing deltas event number (stops.NoDelta n) → n ≡ number
     numbered deltas (Frame g from bytes now) number n h = absurd h
+    numbered deltas (Tick g now) number n h = absurd h
     numbered deltas (Take g delta) number n h = h.0
     numbered deltas (Show g) number n h = absurd h
 stops_here olds ds events k answers ks deltas event stops.Memory run there h = tt

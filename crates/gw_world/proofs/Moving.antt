@@ -4,7 +4,6 @@ use Rattle.std.specs.Option.{option_map}
 use Rattle.std.proofs.lemmas.Option.{slice_get-map}
 use Rattle.std.proofs.lemmas.List.{map-set}
 use Rattle.rep_ops.specs.declared.op.Op.{Op}
-use Rattle.sn_flow.specs.declared.config.Addr.{Addr}
 use Rattle.gw_world.specs.declared.event.Out.{Out}
 use Rattle.gw_world.specs.declared.event.NodeFault.{NodeFault}
 use Rattle.gw_world.specs.declared.node.Trouble.{Trouble}
@@ -12,10 +11,11 @@ use Rattle.gw_world.specs.declared.node.Trouble.TheVariants.{Refused, Memory}
 use Rattle.gw_world.specs.declared.event.Event.{Event}
 use Rattle.gw_world.specs.declared.world.WorldFault.{WorldFault}
 use Rattle.gw_world.specs.declared.world.WorldFault.TheVariants as stops
+use Rattle.gw_world.specs.Occasions.{Occasion}
 use Rattle.gw_world.specs.Gateways.{Gateway, place_of}
 use Rattle.gw_world.specs.Field.{gateway_of}
-use Rattle.gw_world.specs.Plans.{FrameKept, TakeKept, OnRefusal}
-use Rattle.gw_world.specs.Events.{Moves, FrameAt, TakeAt, IsMissing, IsStopKept}
+use Rattle.gw_world.specs.Plans.{OwnKept, TakeKept, OnRefusal}
+use Rattle.gw_world.specs.Events.{Moves, OwnAt, TakeAt, IsMissing, IsStopKept}
 
 pub on_refusal : (trouble : Trouble) (P Q : NodeFault → Type 0) → ((fault : NodeFault) → P fault → Q fault) → OnRefusal trouble P → OnRefusal trouble Q
 on_refusal (Refused fault) P Q f h = f fault h
@@ -29,10 +29,10 @@ module _ {N : Type 0} (f : N → Gateway) (nodes : List N) (i : ℕ) (old new : 
     moved = map-set f nodes i new;
   }
 
-  pub frame_in_place : (from : Addr) (bytes : List ℕ) (now : ℕ) (answer : Result Out NodeFault)
-      → FrameKept (f old).config (f old).taken (f old).local from bytes now answer (f new).taken (f new).local
-      → FrameAt (map f nodes) i from bytes now answer (map f (set nodes i new))
-  frame_in_place from bytes now answer h = (f old, f new, moves_in_place, h)
+  pub own_in_place : (occasion : Occasion) (now : ℕ) (answer : Result Out NodeFault)
+      → OwnKept (f old).config (f old).taken (f old).local occasion now answer (f new).taken (f new).local
+      → OwnAt (map f nodes) i occasion now answer (map f (set nodes i new))
+  own_in_place occasion now answer h = (f old, f new, moves_in_place, h)
 
   pub take_in_place : (delta : List Op) (answer : Result Out NodeFault)
       → TakeKept (f old).config (f old).taken (f old).local delta answer (f new).taken (f new).local

@@ -2,18 +2,17 @@
 use Rattle.std.proofs.Common.{◌≡◌, ℕ, List, [], ◌∷◌, ◌++◌, Option, Some, None, Result, Ok, Err, refl, sym, ap, ◌∙◌, subst, inl, inr}
 use Rattle.std.specs.Option.{option_to_list}
 use Rattle.rep_ops.specs.declared.op.Op.{Op}
-use Rattle.sn_flow.specs.declared.config.Addr.{Addr}
 use Rattle.sn_flow.specs.Locals.{Local}
 use Rattle.sn_flow.specs.declared.plan.Plan.{Plan}
 use Rattle.sn_flow.specs.Plans.{seen_of}
 use Rattle.sn_flow.specs.Locals.{after_all, owned}
-use Rattle.sn_flow.specs.Steps.{step}
 use Rattle.gw_world.specs.declared.event.Out.{Out}
 use Rattle.gw_world.specs.declared.event.NodeFault.{NodeFault}
 use Rattle.gw_world.specs.declared.event.NodeFault.TheVariants as faults
+use Rattle.gw_world.specs.Occasions.{Occasion, IsPlanOf}
 use Rattle.gw_world.specs.Gateways.{Gateway}
-use Rattle.gw_world.specs.Steps.{FrameStep, TakeStep, IsMade, IsPlan, IsUnchanged, IsRefused}
-use Rattle.gw_world.specs.Plans.{FrameKept, TakeKept, IsPlanFor, IsRefusedFor, Makes}
+use Rattle.gw_world.specs.Steps.{OwnStep, TakeStep, IsMade, IsPlan, IsUnchanged, IsRefused}
+use Rattle.gw_world.specs.Plans.{OwnKept, TakeKept, IsPlanFor, IsRefusedFor, Makes}
 use Rattle.gw_world.specs.Events.{made_of}
 use Rattle.gw_world.specs.Keeping.{Keeps, IsShown}
 use Rattle.gw_world.proofs.Held.{keeps_more, seen_same, takable, conflict_with_taken, full_for_taken}
@@ -30,12 +29,12 @@ pub record Leads (Step : Gateway → List (List Op) → Type 0) (k : Gateway) (k
 
 module _ (g k : Gateway) (s : IsShown g k) where
   -- the plan by what is kept is the plan by what was taken
-  plan_taken : (from : Addr) (bytes : List ℕ) (now : ℕ) (plan : Option Plan) → IsPlanFor k.config k.taken k.local from bytes now plan → IsPlan g from bytes now plan
-  plan_taken from bytes now plan (frame, value, spells, is) =
+  plan_taken : (occasion : Occasion) (now : ℕ) (plan : Option Plan) → IsPlanFor k.config k.taken k.local occasion now plan → IsPlan g occasion now plan
+  plan_taken occasion now plan h =
       let seen : seen_of k.taken ≡ seen_of g.taken = seen_same g.taken k.taken s.keeps.counts in
-      let same : step k.config.gateway k.config.predefined (seen_of k.taken) k.local from frame now ≡ step g.config.gateway g.config.predefined (seen_of g.taken) g.local from frame now =
-      λ i. step (s.configured i).gateway (s.configured i).predefined (seen i) (s.bound i) from frame now in
-      (frame, value, spells, sym same ∙ is)
+      let same : IsPlanOf k.config (seen_of k.taken) k.local occasion now plan ≡ IsPlanOf g.config (seen_of g.taken) g.local occasion now plan =
+      λ i. IsPlanOf (s.configured i) (seen i) (s.bound i) occasion now plan in
+      subst (λ (x : Type 0). x) same h
 
   -- nothing changed
   stays : (kept : List Op) (local : Local) → kept ≡ k.taken → local ≡ k.local → IsShown g (keeping k kept local)
@@ -69,46 +68,46 @@ module _ (g k : Gateway) (s : IsShown g k) where
   refused_taken delta faults.Full (limit, h) = full_for_taken g.taken k.taken delta limit s.keeps h
   refused_taken delta faults.Exhausted h = absurd h
 
-  -- what a datagram does by what is kept is a step by what was taken
-  pub frame_taken : (from : Addr) (bytes : List ℕ) (now : ℕ) (answer : Result Out NodeFault) (kept : List Op) (local : Local)
-      → FrameKept k.config k.taken k.local from bytes now answer kept local
-      → Leads (λ next mades. FrameStep g from bytes now answer next mades) k kept local (made_of answer)
-  frame_taken from bytes now (Ok out) kept local (plan, is_plan, sends, bound, makes) =
+  -- what a datagram or a tick does by what is kept is a step by what was taken
+  pub own_taken : (occasion : Occasion) (now : ℕ) (answer : Result Out NodeFault) (kept : List Op) (local : Local)
+      → OwnKept k.config k.taken k.local occasion now answer kept local
+      → Leads (λ next mades. OwnStep g occasion now answer next mades) k kept local (made_of answer)
+  own_taken occasion now (Ok out) kept local (plan, is_plan, sends, bound, makes) =
       let made = made_taken plan plan.ops out.made kept makes in
       record {
         next = made.next;
-        step = (plan, plan_taken from bytes now (Some plan) is_plan, (sends, made.step));
+        step = (plan, plan_taken occasion now (Some plan) is_plan, (sends, made.step));
         shown = record { configured = made.shown.configured; bound = bound ∙ made.shown.bound; keeps = made.shown.keeps };
       }
-  frame_taken from bytes now (Err (faults.Frame f)) kept local (same_kept, same_local, inl first) =
+  own_taken occasion now (Err (faults.Frame f)) kept local (same_kept, same_local, inl first) =
       record { next = g; step = (first, unchanged); shown = stays kept local same_kept same_local }
-  frame_taken from bytes now (Err (faults.Frame f)) kept local (same_kept, same_local, inr (plan, is_plan, inl (delta, is_delta, h))) = absurd h
-  frame_taken from bytes now (Err (faults.Frame f)) kept local (same_kept, same_local, inr (plan, is_plan, inr (e, h))) = absurd (cc)
-  frame_taken from bytes now (Err (faults.Conflict c)) kept local (same_kept, same_local, inl first) = absurd first
-  frame_taken from bytes now (Err (faults.Conflict c)) kept local (same_kept, same_local, inr (plan, is_plan, inl (delta, is_delta, h))) =
+  own_taken occasion now (Err (faults.Frame f)) kept local (same_kept, same_local, inr (plan, is_plan, inl (delta, is_delta, h))) = absurd h
+  own_taken occasion now (Err (faults.Frame f)) kept local (same_kept, same_local, inr (plan, is_plan, inr (e, h))) = absurd (cc)
+  own_taken occasion now (Err (faults.Conflict c)) kept local (same_kept, same_local, inl first) = absurd first
+  own_taken occasion now (Err (faults.Conflict c)) kept local (same_kept, same_local, inr (plan, is_plan, inl (delta, is_delta, h))) =
       record {
         next = g;
-        step = (plan, plan_taken from bytes now (Some plan) is_plan, (delta, is_delta, refused_taken delta (faults.Conflict c) h), unchanged);
+        step = (plan, plan_taken occasion now (Some plan) is_plan, (delta, is_delta, refused_taken delta (faults.Conflict c) h), unchanged);
         shown = stays kept local same_kept same_local;
       }
-  frame_taken from bytes now (Err (faults.Conflict c)) kept local (same_kept, same_local, inr (plan, is_plan, inr (e, h))) = absurd (cc)
-  frame_taken from bytes now (Err faults.Full) kept local (same_kept, same_local, inl first) = absurd first
-  frame_taken from bytes now (Err faults.Full) kept local (same_kept, same_local, inr (plan, is_plan, inl (delta, is_delta, h))) =
+  own_taken occasion now (Err (faults.Conflict c)) kept local (same_kept, same_local, inr (plan, is_plan, inr (e, h))) = absurd (cc)
+  own_taken occasion now (Err faults.Full) kept local (same_kept, same_local, inl first) = absurd first
+  own_taken occasion now (Err faults.Full) kept local (same_kept, same_local, inr (plan, is_plan, inl (delta, is_delta, h))) =
       record {
         next = g;
-        step = (plan, plan_taken from bytes now (Some plan) is_plan, inl (delta, is_delta, refused_taken delta faults.Full h), unchanged);
+        step = (plan, plan_taken occasion now (Some plan) is_plan, inl (delta, is_delta, refused_taken delta faults.Full h), unchanged);
         shown = stays kept local same_kept same_local;
       }
-  frame_taken from bytes now (Err faults.Full) kept local (same_kept, same_local, inr (plan, is_plan, inr (e, h))) =
+  own_taken occasion now (Err faults.Full) kept local (same_kept, same_local, inr (plan, is_plan, inr (e, h))) =
       record {
         next = g;
-        step = (plan, plan_taken from bytes now (Some plan) is_plan, inr h, unchanged);
+        step = (plan, plan_taken occasion now (Some plan) is_plan, inr h, unchanged);
         shown = stays kept local same_kept same_local;
       }
-  frame_taken from bytes now (Err faults.Exhausted) kept local (same_kept, same_local, inl none) =
-      record { next = g; step = (plan_taken from bytes now None none, unchanged); shown = stays kept local same_kept same_local }
-  frame_taken from bytes now (Err faults.Exhausted) kept local (same_kept, same_local, inr (plan, is_plan, inl (delta, is_delta, h))) = absurd h
-  frame_taken from bytes now (Err faults.Exhausted) kept local (same_kept, same_local, inr (plan, is_plan, inr (e, h))) = absurd (cc)
+  own_taken occasion now (Err faults.Exhausted) kept local (same_kept, same_local, inl none) =
+      record { next = g; step = (plan_taken occasion now None none, unchanged); shown = stays kept local same_kept same_local }
+  own_taken occasion now (Err faults.Exhausted) kept local (same_kept, same_local, inr (plan, is_plan, inl (delta, is_delta, h))) = absurd h
+  own_taken occasion now (Err faults.Exhausted) kept local (same_kept, same_local, inr (plan, is_plan, inr (e, h))) = absurd (cc)
 
   -- and so for a delta
   pub take_taken : (delta : List Op) (answer : Result Out NodeFault) (kept : List Op) (local : Local)

@@ -8,28 +8,28 @@ use Rattle.rep_ops.specs.declared.op.Op.TheVariants.{Session as OfSession, Put a
 use Rattle.rep_ops.specs.Sets.{operation_at, put_at, Same}
 use Rattle.rep_ops.specs.Making.{IsDeltaOf}
 use Rattle.rep_model.specs.Taking.{AllAgree}
-use Rattle.sn_flow.specs.declared.config.Addr.{Addr}
 use Rattle.sn_flow.specs.declared.config.Config.{Config}
 use Rattle.sn_flow.specs.declared.plan.Plan.{Plan}
 use Rattle.sn_flow.specs.Plans.{seen_of}
 use Rattle.sn_flow.specs.Own.{IsOfDraft}
 use Rattle.sn_flow.specs.Flush.{IsFlush, AreFlush}
 use Rattle.sn_flow.proofs.Lists.{all-append, all-weaken}
-use Rattle.sn_flow.proofs.Drafting.{step-drafted}
+use Rattle.sn_deliver.proofs.Drafting.{step-drafted, tick-drafted}
 use Rattle.sn_flow.proofs.Stepping.{step-fits, step-flush, step-known, step-foreign, step-new_operation, step-new_put}
 use Rattle.sn_flow.proofs.Standing.{IsThere, all-there}
 use Rattle.sn_flow.proofs.Known.{known-stays}
 use Rattle.sn_flow.proofs.Flushness.{flush-start, flush-taken}
 use Rattle.gw_world.specs.declared.event.Event.{Event}
-use Rattle.gw_world.specs.declared.event.Event.TheVariants.{Frame, Take, Show}
+use Rattle.gw_world.specs.declared.event.Event.TheVariants.{Frame, Tick, Take, Show}
 use Rattle.gw_world.specs.declared.event.Answer.{Answer}
 use Rattle.gw_world.specs.declared.event.Answer.TheVariants.{Node, Views}
 use Rattle.gw_world.specs.declared.event.Out.{Out}
 use Rattle.gw_world.specs.declared.event.NodeFault.{NodeFault}
 use Rattle.gw_world.specs.declared.event.NodeFault.TheVariants as faults
+use Rattle.gw_world.specs.Occasions.{Occasion, Datagram, Clock}
 use Rattle.gw_world.specs.Gateways.{Gateway, new_gateway}
 use Rattle.gw_world.specs.Field.{Field, new_field, IsAt, changed, After, Run}
-use Rattle.gw_world.specs.Steps.{HaveName, IsUnchanged, IsMade, IsPlan, FrameStep, TakeStep}
+use Rattle.gw_world.specs.Steps.{HaveName, IsUnchanged, IsMade, IsPlan, OwnStep, TakeStep}
 use Rattle.gw_world.specs.Steady.{IsKnown, IsSteady}
 use Rattle.gw_world.proofs.Numbers.{First, place_of-first, first-number, first-set}
 
@@ -66,15 +66,16 @@ made-moves old plan (op ∷ ops) (Some delta) new made p e h = inr (record {
   one = h.2;
 })
 
-plan-drafted : (old : Gateway) (from : Addr) (bytes : List ℕ) (now : ℕ) (plan : Plan) → IsPlan old from bytes now (Some plan) → IsOfDraft old.config.gateway (seen_of old.taken) plan
-plan-drafted old from bytes now plan h = step-drafted old.config.gateway old.config.predefined (seen_of old.taken) old.local from h.0 now plan h.3
+plan-drafted : (old : Gateway) (occasion : Occasion) (now : ℕ) (plan : Plan) → IsPlan old occasion now (Some plan) → IsOfDraft old.config.gateway (seen_of old.taken) plan
+plan-drafted old (Datagram from bytes) now plan h = step-drafted old.config.gateway old.config.predefined old.taken old.local from h.0 now plan h.3
+plan-drafted old Clock now plan h = tick-drafted old.config.gateway old.config.advertise old.config.field old.config.predefined old.taken old.local now plan h
 
-frame-moves : (old : Gateway) (from : Addr) (bytes : List ℕ) (now : ℕ) (answer : Result Out NodeFault) (new : Gateway) (made : List (List Op)) → FrameStep old from bytes now answer new made → Still old new made ⊎ Stepped old new made
-frame-moves old from bytes now (Ok out) new made h = made-moves old h.0 h.0.ops out.made new made (plan-drafted old from bytes now h.0 h.1) refl h.2.1
-frame-moves old from bytes now (Err (faults.Frame fault)) new made h = inl (still old new made h.1)
-frame-moves old from bytes now (Err faults.Exhausted) new made h = inl (still old new made h.1)
-frame-moves old from bytes now (Err (faults.Conflict client)) new made h = inl (still old new made h.3)
-frame-moves old from bytes now (Err faults.Full) new made h = inl (still old new made h.3)
+own-moves : (old : Gateway) (occasion : Occasion) (now : ℕ) (answer : Result Out NodeFault) (new : Gateway) (made : List (List Op)) → OwnStep old occasion now answer new made → Still old new made ⊎ Stepped old new made
+own-moves old occasion now (Ok out) new made h = made-moves old h.0 h.0.ops out.made new made (plan-drafted old occasion now h.0 h.1) refl h.2.1
+own-moves old occasion now (Err (faults.Frame fault)) new made h = inl (still old new made h.1)
+own-moves old occasion now (Err faults.Exhausted) new made h = inl (still old new made h.1)
+own-moves old occasion now (Err (faults.Conflict client)) new made h = inl (still old new made h.3)
+own-moves old occasion now (Err faults.Full) new made h = inl (still old new made h.3)
 
 -- the same, by the first gateway of each number
 pub record Steady (gateways : List Gateway) (deltas : List (List Op)) : Type 0 where
@@ -145,11 +146,14 @@ SteadyField field = Steady field.gateways field.deltas
 
 after-steady : (old : Field) (event : Event) (answer : Answer) (new : Field) → After old event answer new → SteadyField old → SteadyField new
 after-steady old (Frame number from bytes now) (Node answer) new h s =
-    subst SteadyField (sym h.6) (updated-moved old s number h.0 h.1 (place_of-first number h.0 old.gateways h.4.0) h.4.1 h.2 h.3 (frame-moves h.1 from bytes now answer h.2 h.3 h.5))
+    subst SteadyField (sym h.6) (updated-moved old s number h.0 h.1 (place_of-first number h.0 old.gateways h.4.0) h.4.1 h.2 h.3 (own-moves h.1 (Datagram from bytes) now answer h.2 h.3 h.5))
+after-steady old (Tick number now) (Node answer) new h s =
+    subst SteadyField (sym h.6) (updated-moved old s number h.0 h.1 (place_of-first number h.0 old.gateways h.4.0) h.4.1 h.2 h.3 (own-moves h.1 Clock now answer h.2 h.3 h.5))
 after-steady old (Take number delta) (Node answer) new h s =
     subst SteadyField (sym h.8) (updated-taken old s number h.0 h.1 (place_of-first number h.0 old.gateways h.5.0) h.5.1 h.2 h.3 (delta - 1) h.4 answer h.6.1 h.7)
 after-steady old (Show number) (Views views) new h s = subst SteadyField (sym h.4) s
 after-steady old (Frame number from bytes now) (Views views) new h s = absurd h
+after-steady old (Tick number now) (Views views) new h s = absurd h
 after-steady old (Take number delta) (Views views) new h s = absurd h
 after-steady old (Show number) (Node answer) new h s = absurd h
 
@@ -196,15 +200,15 @@ module _ (gateway : Gateway) (plan : Plan) (p : IsOfDraft gateway.config.gateway
       (step-new_put gateway.config.gateway gateway.taken plan p delta same flush d (y.seq, y.origin) (is_there delta (OfPut d y) after))
   names-apart old new before after named = absurd named
 
-pub plan-agrees : (field : Field) (number i : ℕ) (gateway : Gateway) (from : Addr) (bytes : List ℕ) (now : ℕ) (plan : Plan) (delta : List Op) → IsSteady field → IsAt field number i gateway → IsPlan gateway from bytes now (Some plan) → IsDeltaOf plan.ops delta → AllAgree gateway.taken delta
-plan-agrees field number i gateway from bytes now plan delta s at h d =
+pub plan-agrees : (field : Field) (number i : ℕ) (gateway : Gateway) (occasion : Occasion) (now : ℕ) (plan : Plan) (delta : List Op) → IsSteady field → IsAt field number i gateway → IsPlan gateway occasion now (Some plan) → IsDeltaOf plan.ops delta → AllAgree gateway.taken delta
+plan-agrees field number i gateway occasion now plan delta s at h d =
     let own : gateway.config.gateway ≡ number = first-number number i field.gateways gateway (place_of-first number i field.gateways at.0) at.1 in
-    (step-fits gateway.config.gateway gateway.taken plan (plan-drafted gateway from bytes now plan h) delta d.same
+    (step-fits gateway.config.gateway gateway.taken plan (plan-drafted gateway occasion now plan h) delta d.same
     (λ c. subst (λ k. IsFlush k c gateway.taken) (sym own) (s.flush number i gateway at c))).0
 
-pub no-conflict : (field : Field) (number i : ℕ) (gateway : Gateway) (from : Addr) (bytes : List ℕ) (now : ℕ) (client : List ℕ) (new : Gateway) (made : List (List Op)) → IsSteady field → IsAt field number i gateway → FrameStep gateway from bytes now (Err (faults.Conflict client)) new made → ⊥
-no-conflict field number i gateway from bytes now client new made s at h =
+pub no-conflict : (field : Field) (number i : ℕ) (gateway : Gateway) (occasion : Occasion) (now : ℕ) (client : List ℕ) (new : Gateway) (made : List (List Op)) → IsSteady field → IsAt field number i gateway → OwnStep gateway occasion now (Err (faults.Conflict client)) new made → ⊥
+no-conflict field number i gateway occasion now client new made s at h =
     let own : gateway.config.gateway ≡ number = first-number number i field.gateways gateway (place_of-first number i field.gateways at.0) at.1 in
     let conflict = h.2.2 in
-    names-apart gateway h.0 (plan-drafted gateway from bytes now h.0 h.1) h.2.0 h.2.1.same (λ c. subst (λ k. IsFlush k c gateway.taken) (sym own) (s.flush number i gateway at c))
+    names-apart gateway h.0 (plan-drafted gateway occasion now h.0 h.1) h.2.0 h.2.1.same (λ c. subst (λ k. IsFlush k c gateway.taken) (sym own) (s.flush number i gateway at c))
     conflict.old conflict.new conflict.is_old conflict.is_new conflict.named

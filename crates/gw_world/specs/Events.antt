@@ -3,17 +3,17 @@
 use Rattle.std.specs.Prelude.{◌≡◌, ℕ, ◌+◌, ◌-◌, ◌≤◌, take, Vec, List, [], ◌++◌, Some, None, Result, Ok, Err, slice_get, slice_set}
 use Rattle.std.specs.Option.{option_to_list}
 use Rattle.rep_ops.specs.declared.op.Op.{Op}
-use Rattle.sn_flow.specs.declared.config.Addr.{Addr}
 use Rattle.gw_world.specs.declared.event.Event.{Event}
-use Rattle.gw_world.specs.declared.event.Event.TheVariants.{Frame, Take, Show}
+use Rattle.gw_world.specs.declared.event.Event.TheVariants.{Frame, Tick, Take, Show}
 use Rattle.gw_world.specs.declared.event.Out.{Out}
 use Rattle.gw_world.specs.declared.event.NodeFault.{NodeFault}
 use Rattle.gw_world.specs.declared.event.Answer.{Answer}
 use Rattle.gw_world.specs.declared.event.Answer.TheVariants.{Node, Views}
 use Rattle.gw_world.specs.declared.world.WorldFault.{WorldFault}
 use Rattle.gw_world.specs.declared.world.WorldFault.TheVariants as stops
+use Rattle.gw_world.specs.Occasions.{Occasion, Datagram, Clock}
 use Rattle.gw_world.specs.Gateways.{Gateway, place_of}
-use Rattle.gw_world.specs.Plans.{FrameKept, TakeKept}
+use Rattle.gw_world.specs.Plans.{OwnKept, TakeKept}
 use Rattle.gw_world.specs.Field.{Field, Run, NoGateway, NamesNoDelta, shown, gateway_of}
 use Rattle.gw_world.specs.Keeping.{AreShown}
 use Rattle.std.specs.declared.alloc.Global.{Global}
@@ -29,20 +29,20 @@ pub record Moves (olds : List Gateway) (i : ℕ) (old new : Gateway) (news : Lis
   pub configured : new.config ≡ old.config
   pub moved : news ≡ slice_set olds i new
 
-abbrev pub FrameAt : List Gateway → ℕ → Addr → List ℕ → ℕ → Result Out NodeFault → List Gateway → Type 0
-FrameAt olds i from bytes now answer news =
+abbrev pub OwnAt : List Gateway → ℕ → Occasion → ℕ → Result Out NodeFault → List Gateway → Type 0
+OwnAt olds i occasion now answer news =
     (old : Gateway) × (new : Gateway) × Moves olds i old new news
-    × FrameKept old.config old.taken old.local from bytes now answer new.taken new.local
+    × OwnKept old.config old.taken old.local occasion now answer new.taken new.local
 
 abbrev pub TakeAt : List Gateway → ℕ → List Op → Result Out NodeFault → List Gateway → Type 0
 TakeAt olds i delta answer news =
     (old : Gateway) × (new : Gateway) × Moves olds i old new news
     × TakeKept old.config old.taken old.local delta answer new.taken new.local
 
--- the answer to a datagram, and the list of deltas after it
-abbrev pub FrameAnswered : List Gateway → List (List Op) → ℕ → Addr → List ℕ → ℕ → List Gateway → List (List Op) → Answer → Type 0
-FrameAnswered olds deltas i from bytes now news next (Node answer) = FrameAt olds i from bytes now answer news × (next ≡ deltas ++ made_of answer)
-FrameAnswered olds deltas i from bytes now news next (Views views) = ⊥
+-- the answer to a datagram or a tick, and the list of deltas after it
+abbrev pub OwnAnswered : List Gateway → List (List Op) → ℕ → Occasion → ℕ → List Gateway → List (List Op) → Answer → Type 0
+OwnAnswered olds deltas i occasion now news next (Node answer) = OwnAt olds i occasion now answer news × (next ≡ deltas ++ made_of answer)
+OwnAnswered olds deltas i occasion now news next (Views views) = ⊥
 
 -- the answer to a delta
 abbrev pub TakeAnswered : List Gateway → ℕ → List Op → List Gateway → Answer → Type 0
@@ -60,7 +60,8 @@ IsListed deltas number delta = (1 ≤ number) × (slice_get deltas (number - 1) 
 
 -- an event at the gateway in this place, its answer, and what the gateways keep after it
 abbrev pub EventAt : List Gateway → List (List Op) → ℕ → Event → List Gateway → List (List Op) → Answer → Type 0
-EventAt olds deltas i (Frame number from bytes now) news next answer = FrameAnswered olds deltas i from bytes now news next answer
+EventAt olds deltas i (Frame number from bytes now) news next answer = OwnAnswered olds deltas i (Datagram from bytes) now news next answer
+EventAt olds deltas i (Tick number now) news next answer = OwnAnswered olds deltas i Clock now news next answer
 EventAt olds deltas i (Take number delta) news next answer =
     (ops : List Op) × IsListed deltas delta ops × TakeAnswered olds i ops news answer × (next ≡ deltas)
 EventAt olds deltas i (Show number) news next answer = ShowAnswered olds i answer × (news ≡ olds) × (next ≡ deltas)
@@ -73,6 +74,7 @@ abbrev pub IsMissing : List (List Op) → Event → ℕ → WorldFault → Type 
 IsMissing deltas event number (stops.NoGateway n) = ⊥
 IsMissing deltas (Take gateway delta) number (stops.NoDelta n) = (n ≡ number) × ((ops : List Op) → IsListed deltas delta ops → ⊥)
 IsMissing deltas (Frame gateway from bytes now) number (stops.NoDelta n) = ⊥
+IsMissing deltas (Tick gateway now) number (stops.NoDelta n) = ⊥
 IsMissing deltas (Show gateway) number (stops.NoDelta n) = ⊥
 IsMissing deltas event number stops.Memory = Unit {0}
 

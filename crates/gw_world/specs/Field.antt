@@ -1,15 +1,18 @@
 -- A field of gateways, and what a list of events may do to it.
-use Rattle.std.specs.Prelude.{◌≡◌, ℕ, ◌-◌, ◌≤◌, List, [], ◌∷◌, ◌++◌, map, Some, None, slice_get, slice_set}
+use Rattle.std.specs.Prelude.{◌≡◌, ℕ, ◌-◌, ◌≤◌, List, [], ◌∷◌, ◌++◌, map, Some, None, Result, slice_get, slice_set}
 use Rattle.rep_ops.specs.declared.op.Op.{Op}
 use Rattle.rep_model.specs.declared.view.ClientView.{ClientView}
 use Rattle.rep_model.specs.Views.{view, clients}
 use Rattle.sn_flow.specs.declared.config.Config.{Config}
 use Rattle.gw_world.specs.declared.event.Event.{Event}
-use Rattle.gw_world.specs.declared.event.Event.TheVariants.{Frame, Take, Show}
+use Rattle.gw_world.specs.declared.event.Event.TheVariants.{Frame, Tick, Take, Show}
 use Rattle.gw_world.specs.declared.event.Answer.{Answer}
+use Rattle.gw_world.specs.declared.event.Out.{Out}
+use Rattle.gw_world.specs.declared.event.NodeFault.{NodeFault}
 use Rattle.gw_world.specs.declared.event.Answer.TheVariants.{Node, Views}
+use Rattle.gw_world.specs.Occasions.{Occasion, Datagram, Clock}
 use Rattle.gw_world.specs.Gateways.{Gateway, new_gateway, place_of}
-use Rattle.gw_world.specs.Steps.{FrameStep, TakeStep}
+use Rattle.gw_world.specs.Steps.{OwnStep, TakeStep}
 
 -- the gateways, and the deltas made, in the order of making
 pub record Field : Type 0 where
@@ -36,17 +39,23 @@ IsDeltaAt field number delta = (1 ≤ number) × (slice_get field.deltas (number
 abbrev pub shown : List Op → List (List ℕ × ClientView)
 shown taken = map (λ c. (c, view c taken)) (clients taken)
 
+-- what a datagram to a gateway, or a tick at it, may do
+abbrev pub Steps : Field → ℕ → Occasion → ℕ → Result Out NodeFault → Field → Type 0
+Steps old number occasion now answer new =
+    (i : ℕ) × (gateway : Gateway) × (next : Gateway) × (made : List (List Op))
+    × IsAt old number i gateway × OwnStep gateway occasion now answer next made × (new ≡ changed old i next made)
+
 -- what one event may do: its answer, and the field after it
 abbrev pub After : Field → Event → Answer → Field → Type 0
-After old (Frame number from bytes now) (Node answer) new =
-    (i : ℕ) × (gateway : Gateway) × (next : Gateway) × (made : List (List Op))
-    × IsAt old number i gateway × FrameStep gateway from bytes now answer next made × (new ≡ changed old i next made)
+After old (Frame number from bytes now) (Node answer) new = Steps old number (Datagram from bytes) now answer new
+After old (Tick number now) (Node answer) new = Steps old number Clock now answer new
 After old (Take number delta) (Node answer) new =
     (i : ℕ) × (gateway : Gateway) × (next : Gateway) × (made : List (List Op)) × (ops : List Op)
     × IsAt old number i gateway × IsDeltaAt old delta ops × TakeStep gateway ops answer next made × (new ≡ changed old i next made)
 After old (Show number) (Views views) new =
     (i : ℕ) × (gateway : Gateway) × IsAt old number i gateway × (views ≡ shown gateway.taken) × (new ≡ old)
 After old (Frame number from bytes now) (Views views) new = ⊥
+After old (Tick number now) (Views views) new = ⊥
 After old (Take number delta) (Views views) new = ⊥
 After old (Show number) (Node answer) new = ⊥
 
@@ -64,6 +73,7 @@ NoGateway field number = place_of number field.gateways ≡ None
 -- the gateway that an event is at
 abbrev pub gateway_of : Event → ℕ
 gateway_of (Frame number from bytes now) = number
+gateway_of (Tick number now) = number
 gateway_of (Take number delta) = number
 gateway_of (Show number) = number
 
@@ -71,4 +81,5 @@ gateway_of (Show number) = number
 abbrev pub NamesNoDelta : Field → Event → Type 0
 NamesNoDelta field (Take number delta) = ((i : ℕ) × (place_of number field.gateways ≡ Some i)) × ((ops : List Op) → IsDeltaAt field delta ops → ⊥)
 NamesNoDelta field (Frame number from bytes now) = ⊥
+NamesNoDelta field (Tick number now) = ⊥
 NamesNoDelta field (Show number) = ⊥

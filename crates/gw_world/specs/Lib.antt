@@ -4,5 +4,6 @@ pub mod Worlds
 pub mod Events
 pub mod Field
 pub mod Keeping
+pub mod Occasions
 pub mod Plans
 pub mod Steady

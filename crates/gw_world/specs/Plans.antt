@@ -8,37 +8,31 @@ use Rattle.rep_ops.specs.declared.fault.OpsFault.TheVariants as ops_faults
 use Rattle.rep_ops.specs.Making.{IsDeltaOf, IsRefusal}
 use Rattle.rep_model.specs.Keep.{IsKeptOf}
 use Rattle.rep_model.specs.Taking.{Fits, IsFaultOf}
-use Rattle.sn_frame.specs.declared.frame.Frame.{Frame}
-use Rattle.sn_frame.specs.Bodies.{IsValue}
-use Rattle.sn_frame.specs.Grammar.{Spells}
-use Rattle.sn_frame.specs.Faults.{IsFirstFault}
-use Rattle.sn_flow.specs.declared.config.Addr.{Addr}
 use Rattle.sn_flow.specs.declared.config.Config.{Config}
 use Rattle.sn_flow.specs.Locals.{Local}
 use Rattle.sn_flow.specs.declared.plan.Plan.{Plan}
 use Rattle.sn_flow.specs.Plans.{seen_of}
 use Rattle.sn_flow.specs.Locals.{after_all, owned}
-use Rattle.sn_flow.specs.Steps.{step}
 use Rattle.gw_world.specs.declared.event.Out.{Out}
 use Rattle.gw_world.specs.declared.event.NodeFault.{NodeFault}
 use Rattle.gw_world.specs.declared.event.NodeFault.TheVariants as faults
 use Rattle.gw_world.specs.declared.node.Trouble.{Trouble}
+use Rattle.gw_world.specs.Occasions.{Occasion, IsPlanOf, IsNoFrame}
 use Rattle.gw_world.specs.declared.node.Trouble.TheVariants.{Refused, Memory}
 
--- the step table's plan for the frame that the bytes spell
-abbrev pub IsPlanFor : Config → List Op → Local → Addr → List ℕ → ℕ → Option Plan → Type 0
-IsPlanFor config kept local from bytes now plan =
-    (frame : Frame) × IsValue frame × Spells bytes frame × (step config.gateway config.predefined (seen_of kept) local from frame now ≡ plan)
+-- the plan for the occasion, by what is kept
+abbrev pub IsPlanFor : Config → List Op → Local → Occasion → ℕ → Option Plan → Type 0
+IsPlanFor config kept local occasion now plan = IsPlanOf config (seen_of kept) local occasion now plan
 
--- why there is no plan: the bytes spell no frame, or a number is needed that was the last
-abbrev pub IsNoPlanBy : Config → List Op → Local → Addr → List ℕ → ℕ → NodeFault → Type 0
-IsNoPlanBy config kept local from bytes now (faults.Frame fault) = IsFirstFault bytes fault
-IsNoPlanBy config kept local from bytes now faults.Exhausted = IsPlanFor config kept local from bytes now None
-IsNoPlanBy config kept local from bytes now fault = ⊥
+-- why there is no plan: a datagram is no frame, or a number is needed that was the last
+abbrev pub IsNoPlanBy : Config → List Op → Local → Occasion → ℕ → NodeFault → Type 0
+IsNoPlanBy config kept local occasion now (faults.Frame fault) = IsNoFrame occasion fault
+IsNoPlanBy config kept local occasion now faults.Exhausted = IsPlanFor config kept local occasion now None
+IsNoPlanBy config kept local occasion now fault = ⊥
 
-abbrev pub IsNoPlan : Config → List Op → Local → Addr → List ℕ → ℕ → Trouble → Type 0
-IsNoPlan config kept local from bytes now (Refused fault) = IsNoPlanBy config kept local from bytes now fault
-IsNoPlan config kept local from bytes now Memory = Unit {0}
+abbrev pub IsNoPlan : Config → List Op → Local → Occasion → ℕ → Trouble → Type 0
+IsNoPlan config kept local occasion now (Refused fault) = IsNoPlanBy config kept local occasion now fault
+IsNoPlan config kept local occasion now Memory = Unit {0}
 
 -- why a delta is not taken
 abbrev pub IsRefusedFor : List Op → List Op → NodeFault → Type 0
@@ -69,15 +63,15 @@ Makes [] (Some delta) kept next = ⊥
 Makes (op ∷ ops) None kept next = ⊥
 Makes (op ∷ ops) (Some delta) kept next = IsDeltaOf (op ∷ ops) delta × Fits kept delta × IsKeptOf (kept ++ delta) next
 
--- what a datagram does to what is kept and to the local state
-abbrev pub FrameKept : Config → List Op → Local → Addr → List ℕ → ℕ → Result Out NodeFault → List Op → Local → Type 0
-FrameKept config kept local from bytes now (Ok out) next after =
-    (plan : Plan) × IsPlanFor config kept local from bytes now (Some plan)
+-- what a datagram or a tick does to what is kept and to the local state
+abbrev pub OwnKept : Config → List Op → Local → Occasion → ℕ → Result Out NodeFault → List Op → Local → Type 0
+OwnKept config kept local occasion now (Ok out) next after =
+    (plan : Plan) × IsPlanFor config kept local occasion now (Some plan)
     × (out.sends ≡ plan.sends) × (after ≡ after_all local plan.local) × Makes plan.ops out.made kept next
-FrameKept config kept local from bytes now (Err fault) next after =
+OwnKept config kept local occasion now (Err fault) next after =
     (next ≡ kept) × (after ≡ local)
-    × (IsNoPlanBy config kept local from bytes now fault
-    ⊎ ((plan : Plan) × IsPlanFor config kept local from bytes now (Some plan) × IsNotMade plan.ops kept fault))
+    × (IsNoPlanBy config kept local occasion now fault
+    ⊎ ((plan : Plan) × IsPlanFor config kept local occasion now (Some plan) × IsNotMade plan.ops kept fault))
 
 -- what a delta does to them
 abbrev pub TakeKept : Config → List Op → Local → List Op → Result Out NodeFault → List Op → Local → Type 0

@@ -11,19 +11,14 @@ use Rattle.rep_model.specs.declared.fault.Limit.{Limit}
 use Rattle.rep_model.specs.Keep.{keep}
 use Rattle.rep_model.specs.Taking.{AllAgree}
 use Rattle.rep_model.specs.Limits.{first_passed}
-use Rattle.sn_frame.specs.declared.frame.Frame.{Frame}
-use Rattle.sn_frame.specs.Bodies.{IsValue}
-use Rattle.sn_frame.specs.Grammar.{Spells}
-use Rattle.sn_frame.specs.Faults.{IsFirstFault}
-use Rattle.sn_flow.specs.declared.config.Addr.{Addr}
 use Rattle.sn_flow.specs.declared.plan.Plan.{Plan}
 use Rattle.sn_flow.specs.Plans.{seen_of}
 use Rattle.sn_flow.specs.Locals.{after_all, owned}
-use Rattle.sn_flow.specs.Steps.{step}
 use Rattle.gw_world.specs.declared.event.Out.{Out}
 use Rattle.gw_world.specs.declared.event.NodeFault.{NodeFault}
 use Rattle.gw_world.specs.declared.event.NodeFault.TheVariants as faults
 use Rattle.gw_world.specs.Gateways.{Gateway}
+use Rattle.gw_world.specs.Occasions.{Occasion, IsPlanOf, IsNoFrame}
 
 -- two session operations of one name, or two messages of one name; acknowledgements contradict nothing
 abbrev pub HaveName : Op → Op → Type 0
@@ -70,10 +65,9 @@ IsMade (op ∷ ops) old plan (Some delta) new made =
 abbrev pub IsCarriedOut : Gateway → Plan → Out → Gateway → List (List Op) → Type 0
 IsCarriedOut old plan out new made = (out.sends ≡ plan.sends) × IsMade plan.ops old plan out.made new made
 
--- the step table's plan for the frame of these bytes
-abbrev pub IsPlan : Gateway → Addr → List ℕ → ℕ → Option Plan → Type 0
-IsPlan old from bytes now plan =
-    (frame : Frame) × IsValue frame × Spells bytes frame × (step old.config.gateway old.config.predefined (seen_of old.taken) old.local from frame now ≡ plan)
+-- the plan for the occasion, by what the gateway has taken
+abbrev pub IsPlan : Gateway → Occasion → ℕ → Option Plan → Type 0
+IsPlan old occasion now plan = IsPlanOf old.config (seen_of old.taken) old.local occasion now plan
 
 -- the operations of a plan cannot be taken: they make no delta, or the gateway refuses it
 abbrev pub IsTooMuch : Gateway → Plan → NodeFault → Type 0
@@ -82,16 +76,16 @@ IsTooMuch old plan fault = (delta : List Op) × IsDeltaOf plan.ops delta × IsRe
 abbrev pub HasNoDelta : Plan → Type 0
 HasNoDelta plan = (fault : OpsFault) × (fault ≢ ops_faults.Memory) × IsRefusal plan.ops fault
 
--- A datagram comes. It is no frame; or its step needs a number after the last; or its operations cannot be taken; or the plan
--- of the step table is carried out.
-abbrev pub FrameStep : Gateway → Addr → List ℕ → ℕ → Result Out NodeFault → Gateway → List (List Op) → Type 0
-FrameStep old from bytes now (Ok out) new made = (plan : Plan) × IsPlan old from bytes now (Some plan) × IsCarriedOut old plan out new made
-FrameStep old from bytes now (Err (faults.Frame fault)) new made = IsFirstFault bytes fault × IsUnchanged old new made
-FrameStep old from bytes now (Err faults.Exhausted) new made = IsPlan old from bytes now None × IsUnchanged old new made
-FrameStep old from bytes now (Err (faults.Conflict client)) new made =
-    (plan : Plan) × IsPlan old from bytes now (Some plan) × IsTooMuch old plan (faults.Conflict client) × IsUnchanged old new made
-FrameStep old from bytes now (Err faults.Full) new made =
-    (plan : Plan) × IsPlan old from bytes now (Some plan) × (IsTooMuch old plan faults.Full ⊎ HasNoDelta plan) × IsUnchanged old new made
+-- A datagram comes, or time goes by. The datagram is no frame; or its step needs a number after the last; or its operations cannot be taken; or the plan
+-- is carried out.
+abbrev pub OwnStep : Gateway → Occasion → ℕ → Result Out NodeFault → Gateway → List (List Op) → Type 0
+OwnStep old occasion now (Ok out) new made = (plan : Plan) × IsPlan old occasion now (Some plan) × IsCarriedOut old plan out new made
+OwnStep old occasion now (Err (faults.Frame fault)) new made = IsNoFrame occasion fault × IsUnchanged old new made
+OwnStep old occasion now (Err faults.Exhausted) new made = IsPlan old occasion now None × IsUnchanged old new made
+OwnStep old occasion now (Err (faults.Conflict client)) new made =
+    (plan : Plan) × IsPlan old occasion now (Some plan) × IsTooMuch old plan (faults.Conflict client) × IsUnchanged old new made
+OwnStep old occasion now (Err faults.Full) new made =
+    (plan : Plan) × IsPlan old occasion now (Some plan) × (IsTooMuch old plan faults.Full ⊎ HasNoDelta plan) × IsUnchanged old new made
 
 -- A delta comes. It is taken, nothing is sent, and clients that another gateway now owns have no address here any more; or it is
 -- refused.

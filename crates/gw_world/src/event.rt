@@ -17,6 +17,11 @@ pub enum Event {
         bytes: Octets,
         now: u64,
     },
+    /// Time goes by at a gateway: a moment in seconds.
+    Tick {
+        gateway: u8,
+        now: u64,
+    },
     /// A gateway takes a delta of the list, which is numbered from 1.
     Take {
         gateway: u8,
@@ -38,6 +43,7 @@ impl Event {
     {
         match self {
             Event::Frame { gateway, .. } => *gateway,
+            Event::Tick { gateway, .. } => *gateway,
             Event::Take { gateway, .. } => *gateway,
             Event::Show { gateway } => *gateway,
         }
@@ -73,7 +79,7 @@ pub enum NodeFault {
 /// The answer to an event.
 #[derive(Debug, Drop)]
 pub enum Answer {
-    /// A gateway's answer to a frame or a delta.
+    /// A gateway's answer to a frame, a tick or a delta.
     Node(Result<Out, NodeFault>),
     /// The clients that a gateway knows, in ascending order, with their views.
     Views(Sequence<(ClientId, ClientView)>),

@@ -2,7 +2,8 @@
 
 ghost use Rattle.std.specs.Prelude.{◌≡◌, ◌<◌, Ok, Err, IfOk, IfErr, IfSome, length, map, vec_len};
 ghost use Rattle.gw_world.specs.Plans.{OnRefusal};
-ghost use Rattle.gw_world.specs.Events.{FrameAt, TakeAt};
+ghost use Rattle.gw_world.specs.Occasions.{Datagram, Clock};
+ghost use Rattle.gw_world.specs.Events.{OwnAt, TakeAt};
 ghost use Rattle.gw_world.specs.Field.{shown};
 ghost use Rattle.gw_world.specs.Gateways.{place_of as gateway_place};
 
@@ -37,11 +38,26 @@ pub fn frame_at<R: Replica>(
     now: u64,
 ) -> Result<Out, Trouble>
     requires { place < vec_len nodes.old }
-    ensures ok { IfOk result (λ out. FrameAt (map (λ node. record { config = node.config; taken = R.kept node.replica; local = node.dialogs.local }) nodes.old.items) place from bytes.now now (Ok out) (map (λ node. record { config = node.config; taken = R.kept node.replica; local = node.dialogs.local }) nodes.new.items)) }
-    ensures err { IfErr result (λ trouble. OnRefusal trouble (λ fault. FrameAt (map (λ node. record { config = node.config; taken = R.kept node.replica; local = node.dialogs.local }) nodes.old.items) place from bytes.now now (Err fault) (map (λ node. record { config = node.config; taken = R.kept node.replica; local = node.dialogs.local }) nodes.new.items))) }
+    ensures ok { IfOk result (λ out. OwnAt (map (λ node. record { config = node.config; taken = R.kept node.replica; local = node.dialogs.local }) nodes.old.items) place (Datagram from bytes.now) now (Ok out) (map (λ node. record { config = node.config; taken = R.kept node.replica; local = node.dialogs.local }) nodes.new.items)) }
+    ensures err { IfErr result (λ trouble. OnRefusal trouble (λ fault. OwnAt (map (λ node. record { config = node.config; taken = R.kept node.replica; local = node.dialogs.local }) nodes.old.items) place (Datagram from bytes.now) now (Err fault) (map (λ node. record { config = node.config; taken = R.kept node.replica; local = node.dialogs.local }) nodes.new.items))) }
 {
     let node = &mut nodes[place];
     node.frame(alloc, from, bytes, now)
+}
+
+/// Time goes by at the gateway in this place.
+pub fn tick_at<R: Replica>(
+    alloc: Global,
+    nodes: &mut Vec<Node<R>>,
+    place: usize,
+    now: u64,
+) -> Result<Out, Trouble>
+    requires { place < vec_len nodes.old }
+    ensures ok { IfOk result (λ out. OwnAt (map (λ node. record { config = node.config; taken = R.kept node.replica; local = node.dialogs.local }) nodes.old.items) place Clock now (Ok out) (map (λ node. record { config = node.config; taken = R.kept node.replica; local = node.dialogs.local }) nodes.new.items)) }
+    ensures err { IfErr result (λ trouble. OnRefusal trouble (λ fault. OwnAt (map (λ node. record { config = node.config; taken = R.kept node.replica; local = node.dialogs.local }) nodes.old.items) place Clock now (Err fault) (map (λ node. record { config = node.config; taken = R.kept node.replica; local = node.dialogs.local }) nodes.new.items))) }
+{
+    let node = &mut nodes[place];
+    node.tick(alloc, now)
 }
 
 /// A delta comes to the gateway in this place.

@@ -6,13 +6,15 @@ ghost use Rattle.rep_ops.specs.declared.op.Op.{Op};
 ghost use Rattle.rep_model.specs.Taking.{Fits, IsFaultOf};
 ghost use Rattle.rep_model.specs.Keep.{IsKeptOf};
 ghost use Rattle.rep_ops.specs.Making.{IsDeltaOf};
+ghost use Rattle.gw_world.specs.Occasions.{Datagram, Clock};
 ghost use Rattle.gw_world.specs.Plans.{IsPlanFor, IsNoPlan, IsRefusedBy, MakeNoDelta, IsNotMadeBy, Makes, OnRefusal};
 
 use super::event::{NodeFault, Out};
 use octets::Sequence;
 use rep_model::{Replica, TakeFault};
 use rep_ops::{Delta, Op, OpsFault};
-use sn_flow::{Addr, Config, Dialogs, Plan, StepFault, step};
+use sn_deliver::{step, tick};
+use sn_flow::{Addr, Config, Dialogs, Plan, StepFault};
 use sn_frame::{FrameFault, decode};
 use std::alloc::{AllocError, AllocFailed, Global};
 
@@ -81,8 +83,8 @@ fn plan_for<R: Replica>(
     bytes: &[u8],
     now: u64,
 ) -> Result<Plan, Trouble>
-    ensures ok { IfOk result (λ plan. IsPlanFor node.now.config (R.kept node.now.replica) node.now.dialogs.local from bytes.now now (Some plan)) }
-    ensures err { IfErr result (IsNoPlan node.now.config (R.kept node.now.replica) node.now.dialogs.local from bytes.now now) }
+    ensures ok { IfOk result (λ plan. IsPlanFor node.now.config (R.kept node.now.replica) node.now.dialogs.local (Datagram from bytes.now) now (Some plan)) }
+    ensures err { IfErr result (IsNoPlan node.now.config (R.kept node.now.replica) node.now.dialogs.local (Datagram from bytes.now) now) }
 {
     let frame = match decode(alloc, bytes) {
         Ok(frame) => frame,
@@ -98,6 +100,18 @@ fn plan_for<R: Replica>(
         &frame,
         now,
     ) {
+        Ok(plan) => Ok(plan),
+        Err(StepFault::Exhausted) => Err(Trouble::Refused(NodeFault::Exhausted)),
+        Err(StepFault::Memory) => Err(Trouble::Memory),
+    }
+}
+
+/// The plan of a tick.
+fn plan_tick<R: Replica>(alloc: Global, node: &Node<R>, now: u64) -> Result<Plan, Trouble>
+    ensures ok { IfOk result (λ plan. IsPlanFor node.now.config (R.kept node.now.replica) node.now.dialogs.local Clock now (Some plan)) }
+    ensures err { IfErr result (IsNoPlan node.now.config (R.kept node.now.replica) node.now.dialogs.local Clock now) }
+{
+    match tick(alloc, &node.config, &node.replica, &node.dialogs, now) {
         Ok(plan) => Ok(plan),
         Err(StepFault::Exhausted) => Err(Trouble::Refused(NodeFault::Exhausted)),
         Err(StepFault::Memory) => Err(Trouble::Memory),
@@ -168,7 +182,7 @@ fn carry_out<R: Replica>(alloc: Global, node: &mut Node<R>, plan: Plan) -> Resul
 }
 
 impl<R: Replica> Node<R> {
-    ghost use Rattle.gw_world.specs.Plans.{FrameKept, TakeKept};
+    ghost use Rattle.gw_world.specs.Plans.{OwnKept, TakeKept};
 
     /// A datagram comes from an address at a moment.
     pub fn frame(
@@ -179,10 +193,20 @@ impl<R: Replica> Node<R> {
         now: u64,
     ) -> Result<Out, Trouble>
         ensures config { self.new.config ≡ self.old.config }
-        ensures ok { IfOk result (λ out. FrameKept self.old.config (R.kept self.old.replica) self.old.dialogs.local from bytes.now now (Ok out) (R.kept self.new.replica) self.new.dialogs.local) }
-        ensures err { IfErr result (λ trouble. OnRefusal trouble (λ fault. FrameKept self.old.config (R.kept self.old.replica) self.old.dialogs.local from bytes.now now (Err fault) (R.kept self.new.replica) self.new.dialogs.local)) }
+        ensures ok { IfOk result (λ out. OwnKept self.old.config (R.kept self.old.replica) self.old.dialogs.local (Datagram from bytes.now) now (Ok out) (R.kept self.new.replica) self.new.dialogs.local) }
+        ensures err { IfErr result (λ trouble. OnRefusal trouble (λ fault. OwnKept self.old.config (R.kept self.old.replica) self.old.dialogs.local (Datagram from bytes.now) now (Err fault) (R.kept self.new.replica) self.new.dialogs.local)) }
     {
         let plan = plan_for(alloc, self, from, bytes, now)?;
+        carry_out(alloc, self, plan)
+    }
+
+    /// Time goes by: a moment in seconds.
+    pub fn tick(&mut self, alloc: Global, now: u64) -> Result<Out, Trouble>
+        ensures config { self.new.config ≡ self.old.config }
+        ensures ok { IfOk result (λ out. OwnKept self.old.config (R.kept self.old.replica) self.old.dialogs.local Clock now (Ok out) (R.kept self.new.replica) self.new.dialogs.local) }
+        ensures err { IfErr result (λ trouble. OnRefusal trouble (λ fault. OwnKept self.old.config (R.kept self.old.replica) self.old.dialogs.local Clock now (Err fault) (R.kept self.new.replica) self.new.dialogs.local)) }
+    {
+        let plan = plan_tick(alloc, self, now)?;
         carry_out(alloc, self, plan)
     }
 

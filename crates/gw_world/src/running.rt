@@ -2,13 +2,14 @@
 
 ghost use Rattle.std.specs.Prelude.{◌≡◌, ◌++◌, ◌<◌, List, MatchOption, IfOk, IfErr, OnOk, map, vec_len};
 ghost use Rattle.std.specs.Option.{option_to_list};
-ghost use Rattle.gw_world.specs.Events.{FrameAnswered, TakeAnswered, ShowAnswered, IsListed, EventAt, EventKept, IsMissing, IsStopKept, PlayedKept, StopsKept};
+ghost use Rattle.gw_world.specs.Occasions.{Datagram, Clock};
+ghost use Rattle.gw_world.specs.Events.{OwnAnswered, TakeAnswered, ShowAnswered, IsListed, EventAt, EventKept, IsMissing, IsStopKept, PlayedKept, StopsKept};
 ghost use Rattle.gw_world.specs.Gateways.{new_gateway};
 ghost use Rattle.gw_world.specs.Worlds.{IsWorld, IsStop};
 ghost use Rattle.rep_ops.specs.declared.op.Op.{Op};
 
 use super::event::{Answer, Event};
-use super::field::{frame_at, place_of, show_at, take_at};
+use super::field::{frame_at, place_of, show_at, take_at, tick_at};
 use super::node::{Node, Trouble};
 use super::world::{World, WorldFault};
 use octets::Sequence;
@@ -39,10 +40,32 @@ fn play_frame<R: Replica>(
     now: u64,
 ) -> Result<Answer, WorldFault>
     requires { place < vec_len nodes.old }
-    ensures ok { IfOk result (FrameAnswered (map (λ node. record { config = node.config; taken = R.kept node.replica; local = node.dialogs.local }) nodes.old.items) deltas.old.items place from bytes.now now (map (λ node. record { config = node.config; taken = R.kept node.replica; local = node.dialogs.local }) nodes.new.items) deltas.new.items) }
+    ensures ok { IfOk result (OwnAnswered (map (λ node. record { config = node.config; taken = R.kept node.replica; local = node.dialogs.local }) nodes.old.items) deltas.old.items place (Datagram from bytes.now) now (map (λ node. record { config = node.config; taken = R.kept node.replica; local = node.dialogs.local }) nodes.new.items) deltas.new.items) }
     ensures err { IfErr result (λ fault. fault ≡ WorldFault.Memory) }
 {
     match frame_at(alloc, nodes, place, from, bytes, now) {
+        Ok(out) => {
+            record(alloc, deltas, &out.made)?;
+            Ok(Answer::Node(Ok(out)))
+        }
+        Err(Trouble::Refused(fault)) => Ok(Answer::Node(Err(fault))),
+        Err(Trouble::Memory) => Err(WorldFault::Memory),
+    }
+}
+
+/// Time goes by at the gateway in this place.
+fn play_tick<R: Replica>(
+    alloc: Global,
+    nodes: &mut Vec<Node<R>>,
+    deltas: &mut Vec<Delta>,
+    place: usize,
+    now: u64,
+) -> Result<Answer, WorldFault>
+    requires { place < vec_len nodes.old }
+    ensures ok { IfOk result (OwnAnswered (map (λ node. record { config = node.config; taken = R.kept node.replica; local = node.dialogs.local }) nodes.old.items) deltas.old.items place Clock now (map (λ node. record { config = node.config; taken = R.kept node.replica; local = node.dialogs.local }) nodes.new.items) deltas.new.items) }
+    ensures err { IfErr result (λ fault. fault ≡ WorldFault.Memory) }
+{
+    match tick_at(alloc, nodes, place, now) {
         Ok(out) => {
             record(alloc, deltas, &out.made)?;
             Ok(Answer::Node(Ok(out)))
@@ -116,6 +139,7 @@ fn play_at<R: Replica>(
             now,
             ..
         } => play_frame(alloc, nodes, deltas, place, *from, bytes.as_slice(), *now),
+        Event::Tick { now, .. } => play_tick(alloc, nodes, deltas, place, *now),
         Event::Take { delta, .. } => match delta_at(deltas.as_slice(), *delta) {
             Some(delta) => play_take(alloc, nodes, place, delta),
             None => Err(WorldFault::NoDelta { event: number }),

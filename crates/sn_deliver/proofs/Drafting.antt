@@ -1,10 +1,8 @@
 -- Each plan of the step table, and of a tick, is the plan of a draft with at most one message a client.
-use Rattle.std.proofs.Common.{◌≡◌, ℕ, ◌⊎◌, ◌==◌, Bool, true, false, ◌&&◌, ◌||◌, if◌then◌else◌, nat_le, is_none, List, [], ◌∷◌, ◌++◌, Option, Some, None, option_map, filter, length, refl, sym, ap, ◌∙◌, subst, true≢false}
-use Rattle.std.specs.Prelude.{Less, Equal, Greater, Ordering}
+use Rattle.std.proofs.Common.{◌≡◌, ℕ, ◌⊎◌, ◌==◌, Bool, true, false, ◌&&◌, ◌||◌, if◌then◌else◌, nat_le, is_none, List, [], ◌∷◌, ◌++◌, Option, Some, None, option_map, filter, length, refl, sym, ap, ◌∙◌, subst, true≢false, Ordering, Less, Equal, Greater}
 use Rattle.std.specs.List.{AllByRecursion, filter_map}
+use Rattle.std.specs.Ordering.{ordering_reverse}
 use Rattle.std.specs.List.Sorted.{IsStrictlySortedBy}
-use Rattle.core.specs.List.{cons_option}
-use Rattle.core.specs.Cmp.{ordering_reverse}
 use Rattle.sn_topic.specs.Table.{Entries}
 use Rattle.sn_session.specs.declared.presence.Presence.{Presence as State}
 use Rattle.sn_session.specs.declared.presence.Presence.TheVariants.{Active, Asleep, Awake, Disconnected, Lost}
@@ -17,6 +15,7 @@ use Rattle.sn_session.specs.declared.will.Will.{Will}
 use Rattle.sn_session.specs.declared.change.SessionOp.{SessionOp}
 use Rattle.sn_session.specs.declared.change.SessionOp.TheVariants.{Presence, Received, Take}
 use Rattle.sn_session.specs.Received.{is_received, id_has_no_room}
+use Rattle.sn_session.specs.Session.{empty_session}
 use Rattle.sn_frame.specs.declared.flags.Qos.{Qos}
 use Rattle.sn_frame.specs.declared.flags.Qos.TheVariants as levels
 use Rattle.sn_frame.specs.declared.frame.Frame.{Frame}
@@ -178,6 +177,7 @@ is_less Equal = false
 is_less Greater = false
 
 not_below_itself : (c : List ℕ) → client_cmp c c ≡ Less → ⊥
+unfolding is_less
 not_below_itself c e = true≢false (sym (ap is_less e) ∙ ap is_less (client_total.antisymm c c) ∙ ap (λ o. is_less (ordering_reverse o)) e)
 
 all_apart : (c : List ℕ) (rest : List (List ℕ)) → AllByRecursion (λ d. client_cmp c d ≡ Less) rest → AllByRecursion (λ (d : List ℕ). ¬ (d ≡ c)) rest
@@ -209,26 +209,28 @@ filter_apart test [] h = tt
 filter_apart test (c ∷ rest) h = if_apart (test c) c (filter test rest) (filter_all (λ d. ¬ (d ≡ c)) test rest h.0) (filter_apart test rest h.1)
 
 module _ (seen : Seen) (topic : List ℕ) (qos : ℕ) (body : List ℕ) where
-  -- the message for a client, by the quality of service at which it gets it
-  of_client : List ℕ → Option ℕ → Option NewPut
-  of_client c q = option_map (message_for topic body c) q
+  -- the messages for a client and then for these, by the message for the client
+  abbrev first_and : List ℕ → List (List ℕ) → List NewPut
+  first_and c rest = puts_among seen (c ∷ rest) topic qos body
 
-  others_at : (c d : List ℕ) (q : Option ℕ) (rest : List NewPut) → ¬ (d ≡ c) → AllByRecursion (λ (p : NewPut). ¬ (p.client ≡ c)) rest
-      → AllByRecursion (λ (p : NewPut). ¬ (p.client ≡ c)) (cons_option (of_client d q) rest)
-  others_at c d None rest h k = k
-  others_at c d (Some q) rest h k = (h, k)
+  others_at : (c d : List ℕ) (rest : List (List ℕ)) (q : Option ℕ) → qos_for topic qos (seen.of d) ≡ q → ¬ (d ≡ c)
+      → AllByRecursion (λ (p : NewPut). ¬ (p.client ≡ c)) (puts_among seen rest topic qos body)
+      → AllByRecursion (λ (p : NewPut). ¬ (p.client ≡ c)) (first_and d rest)
+  others_at c d rest None e h k = rw e k
+  others_at c d rest (Some q) e h k = rw e (h, k)
 
   others : (c : List ℕ) (cs : List (List ℕ)) → AllByRecursion (λ (d : List ℕ). ¬ (d ≡ c)) cs → AllByRecursion (λ (p : NewPut). ¬ (p.client ≡ c)) (puts_among seen cs topic qos body)
   others c [] h = tt
-  others c (d ∷ rest) h = others_at c d (qos_for topic qos (seen.of d)) (puts_among seen rest topic qos body) h.0 (others c rest h.1)
+  others c (d ∷ rest) h = others_at c d rest (qos_for topic qos (seen.of d)) refl h.0 (others c rest h.1)
 
-  each_at : (c : List ℕ) (q : Option ℕ) (rest : List NewPut) → AllByRecursion (λ (p : NewPut). ¬ (p.client ≡ c)) rest → IsOneEach rest → IsOneEach (cons_option (of_client c q) rest)
-  each_at c None rest h k = k
-  each_at c (Some q) rest h k = (h, k)
+  each_at : (c : List ℕ) (rest : List (List ℕ)) (q : Option ℕ) → qos_for topic qos (seen.of c) ≡ q
+      → AllByRecursion (λ (p : NewPut). ¬ (p.client ≡ c)) (puts_among seen rest topic qos body) → IsOneEach (puts_among seen rest topic qos body) → IsOneEach (first_and c rest)
+  each_at c rest None e h k = rw e k
+  each_at c rest (Some q) e h k = rw e (h, k)
 
   among_each : (cs : List (List ℕ)) → Apart cs → IsOneEach (puts_among seen cs topic qos body)
   among_each [] h = tt
-  among_each (c ∷ rest) h = each_at c (qos_for topic qos (seen.of c)) (puts_among seen rest topic qos body) (others c rest h.0) (among_each rest h.1)
+  among_each (c ∷ rest) h = each_at c rest (qos_for topic qos (seen.of c)) refl (others c rest h.0) (among_each rest h.1)
 
 -- ---- the rows of publications
 
@@ -238,6 +240,9 @@ OneEach d = IsOneEach d.puts
 
 none_one : (d : Drafted) → NoPuts d → OneEach d
 none_one d h = subst IsOneEach (sym h) tt
+
+none_row : (row : Row) → NoPuts row.draft → OneEach row.draft
+none_row row h = none_one row.draft h
 
 choose_one : (b : Bool) (x y : Drafted) → OneEach x → OneEach y → OneEach (if b then x else y)
 choose_one true x y h k = h
@@ -280,7 +285,7 @@ module _ (S : List Op) where
       publish_meant_one a (session_of (seen_of S) c) topic msg_id body (qos_of bits) (publication_meant predefined (session_of (seen_of S) c) bits topic body)
 
   publish_in_one : (predefined : Entries) (local : Local) (a : Addr) (bits topic msg_id : ℕ) (body : List ℕ) (now : ℕ) (qos : Qos) → OneEach (publish_in_at predefined (seen_of S) local a bits topic msg_id body now qos).draft
-  publish_in_one predefined local a bits topic msg_id body now levels.MinusOne = spread_meant_one body (publication_meant predefined _ bits topic body)
+  publish_in_one predefined local a bits topic msg_id body now levels.MinusOne = spread_meant_one body (publication_meant predefined empty_session bits topic body)
   publish_in_one predefined local a bits topic msg_id body now levels.Zero = publish_of_one predefined a (client_at a local.bindings) bits topic msg_id body now
   publish_in_one predefined local a bits topic msg_id body now levels.One = publish_of_one predefined a (client_at a local.bindings) bits topic msg_id body now
   publish_in_one predefined local a bits topic msg_id body now levels.Two = publish_of_one predefined a (client_at a local.bindings) bits topic msg_id body now
@@ -368,23 +373,23 @@ wake_puts g seen local a c now =
 -- ---- each row has at most one message a client
 
 row_one : (g : ℕ) (predefined : Entries) (S : List Op) (local : Local) (a : Addr) (frame : Frame) (now : ℕ) → OneEach (row_for g predefined (seen_of S) local a frame now).draft
-row_one g predefined S local a (frames.Connect flags protocol duration client) now = none_one _ (connect-puts (seen_of S) local a flags.bits protocol duration client now)
-row_one g predefined S local a (frames.WillTopic will) now = none_one _ (will_topic-puts (seen_of S) a now local will)
-row_one g predefined S local a (frames.WillMsg message) now = none_one _ (will_msg-puts (seen_of S) a now local message)
-row_one g predefined S local a (frames.Disconnect duration) now = none_one _ (disconnect-puts (seen_of S) local a duration now)
-row_one g predefined S local a (frames.Register topic_id msg_id name) now = none_one _ (register-puts (seen_of S) a now local msg_id name)
-row_one g predefined S local a (frames.Subscribe flags msg_id topic) now = none_one _ (subscribe-puts (seen_of S) a now predefined local flags.bits msg_id topic)
-row_one g predefined S local a (frames.Unsubscribe flags msg_id topic) now = none_one _ (unsubscribe-puts (seen_of S) a now predefined local flags.bits msg_id topic)
-row_one g predefined S local a (frames.WillTopicUpd will) now = none_one _ (will_topic_update-puts local a will now)
-row_one g predefined S local a (frames.WillMsgUpd message) now = none_one _ (will_msg_update-puts (seen_of S) a now local message)
+row_one g predefined S local a (frames.Connect flags protocol duration client) now = none_row (row_for g predefined (seen_of S) local a (frames.Connect flags protocol duration client) now) (connect-puts (seen_of S) local a flags.bits protocol duration client now)
+row_one g predefined S local a (frames.WillTopic will) now = none_row (row_for g predefined (seen_of S) local a (frames.WillTopic will) now) (will_topic-puts (seen_of S) a now local will)
+row_one g predefined S local a (frames.WillMsg message) now = none_row (row_for g predefined (seen_of S) local a (frames.WillMsg message) now) (will_msg-puts (seen_of S) a now local message)
+row_one g predefined S local a (frames.Disconnect duration) now = none_row (row_for g predefined (seen_of S) local a (frames.Disconnect duration) now) (disconnect-puts (seen_of S) local a duration now)
+row_one g predefined S local a (frames.Register topic_id msg_id name) now = none_row (row_for g predefined (seen_of S) local a (frames.Register topic_id msg_id name) now) (register-puts (seen_of S) a now local msg_id name)
+row_one g predefined S local a (frames.Subscribe flags msg_id topic) now = none_row (row_for g predefined (seen_of S) local a (frames.Subscribe flags msg_id topic) now) (subscribe-puts (seen_of S) a now predefined local flags.bits msg_id topic)
+row_one g predefined S local a (frames.Unsubscribe flags msg_id topic) now = none_row (row_for g predefined (seen_of S) local a (frames.Unsubscribe flags msg_id topic) now) (unsubscribe-puts (seen_of S) a now predefined local flags.bits msg_id topic)
+row_one g predefined S local a (frames.WillTopicUpd will) now = none_row (row_for g predefined (seen_of S) local a (frames.WillTopicUpd will) now) (will_topic_update-puts local a will now)
+row_one g predefined S local a (frames.WillMsgUpd message) now = none_row (row_for g predefined (seen_of S) local a (frames.WillMsgUpd message) now) (will_msg_update-puts (seen_of S) a now local message)
 row_one g predefined S local a (frames.Publish flags topic msg_id body) now = publish_in_one S predefined local a flags.bits topic msg_id body now (qos_of flags.bits)
-row_one g predefined S local a (frames.PubRel msg_id) now = none_one _ (pubrel_of_puts (seen_of S) a (client_at a local.bindings) msg_id now)
-row_one g predefined S local a (frames.PubAck topic_id msg_id code) now = none_one _ (ack_of_puts predefined (seen_of S) a (client_at a local.bindings) (frames.PubAck topic_id msg_id code) now)
-row_one g predefined S local a (frames.PubRec msg_id) now = none_one _ (ack_of_puts predefined (seen_of S) a (client_at a local.bindings) (frames.PubRec msg_id) now)
-row_one g predefined S local a (frames.PubComp msg_id) now = none_one _ (ack_of_puts predefined (seen_of S) a (client_at a local.bindings) (frames.PubComp msg_id) now)
-row_one g predefined S local a (frames.RegAck topic_id msg_id code) now = none_one _ (ack_of_puts predefined (seen_of S) a (client_at a local.bindings) (frames.RegAck topic_id msg_id code) now)
-row_one g predefined S local a (frames.PingReq client) now = none_one _ (wake_puts g (seen_of S) local a client now)
-row_one g predefined S local a frame now = none_one _ (other-puts g local a frame now)
+row_one g predefined S local a (frames.PubRel msg_id) now = none_row (row_for g predefined (seen_of S) local a (frames.PubRel msg_id) now) (pubrel_of_puts (seen_of S) a (client_at a local.bindings) msg_id now)
+row_one g predefined S local a (frames.PubAck topic_id msg_id code) now = none_row (row_for g predefined (seen_of S) local a (frames.PubAck topic_id msg_id code) now) (ack_of_puts predefined (seen_of S) a (client_at a local.bindings) (frames.PubAck topic_id msg_id code) now)
+row_one g predefined S local a (frames.PubRec msg_id) now = none_row (row_for g predefined (seen_of S) local a (frames.PubRec msg_id) now) (ack_of_puts predefined (seen_of S) a (client_at a local.bindings) (frames.PubRec msg_id) now)
+row_one g predefined S local a (frames.PubComp msg_id) now = none_row (row_for g predefined (seen_of S) local a (frames.PubComp msg_id) now) (ack_of_puts predefined (seen_of S) a (client_at a local.bindings) (frames.PubComp msg_id) now)
+row_one g predefined S local a (frames.RegAck topic_id msg_id code) now = none_row (row_for g predefined (seen_of S) local a (frames.RegAck topic_id msg_id code) now) (ack_of_puts predefined (seen_of S) a (client_at a local.bindings) (frames.RegAck topic_id msg_id code) now)
+row_one g predefined S local a (frames.PingReq client) now = none_row (row_for g predefined (seen_of S) local a (frames.PingReq client) now) (wake_puts g (seen_of S) local a client now)
+row_one g predefined S local a frame now = none_row (row_for g predefined (seen_of S) local a frame now) (other-puts g local a frame now)
 
 pub step-drafted : (g : ℕ) (predefined : Entries) (S : List Op) (local : Local) (a : Addr) (frame : Frame) (now : ℕ) (plan : Plan) → step g predefined (seen_of S) local a frame now ≡ Some plan → IsOfDraft g (seen_of S) plan
 step-drafted g predefined S local a frame now plan e =

@@ -1,5 +1,5 @@
 -- What Delivery is done with, what is put once, and what a tick does not do.
-use Rattle.std.proofs.Common.{◌≡◌, ℕ, ◌×◌, ◌⊎◌, ◌==◌, Bool, true, false, if◌then◌else◌, nat_le, List, [], ◌∷◌, ◌++◌, fold, Option, Some, None, Contains, refl, sym, ap, ◌∙◌, subst, true≢false, inl, inr, eqb-true}
+use Rattle.std.proofs.Common.{◌≡◌, ℕ, ◌⊎◌, ◌==◌, Bool, true, false, if◌then◌else◌, nat_le, List, [], ◌∷◌, ◌++◌, fold, Option, Some, None, Contains, refl, sym, ap, ◌∙◌, subst, true≢false, inl, inr, eqb-true}
 use Rattle.std.proofs.lemmas.List.Elements.{Contains-push, Contains-push_cases, Contains-append_right, Contains-append_left}
 use Rattle.sn_topic.specs.Table.{Entries}
 use Rattle.sn_session.specs.declared.session.Session.{Session}
@@ -80,8 +80,7 @@ tick-quiet g advertise field predefined seen local now no_advertise no_client = 
   plan_without (cleaned g seen local now),
   ap (λ (b : Bool). if b then Some (plan_without (advertised g advertise field now (cleaned g seen local now))) else plan_if_due g predefined seen now (cleaned g seen local now) (first_due g seen local now seen.all)) no_advertise
       ∙ ap (plan_if_due g predefined seen now (cleaned g seen local now)) no_client,
-  refl,
-  cleaned_sends g seen local now,
+  (refl, cleaned_sends g seen local now),
 )
 
 -- ---- Delivery
@@ -119,7 +118,7 @@ module _ (predefined : Entries) (peer : Peer) (s : Session) where
 
   publish_keeps : (put : Put) (rest : List Put) (d : Drafted) (name : ℕ × ℕ) (b : Bool) (x y : Drafted)
       → (put.qos == 0) ≡ b → x.acks ≡ (d.acks ++ name_of put ∷ []) → y.acks ≡ d.acks
-      → Contains (if b then (false, x) else (true, y)).1.acks name → Kept predefined s (put ∷ rest) d name
+      → Contains (if◌then◌else◌ {A = Stop} b (false, x) (true, y)).1.acks name → Kept predefined s (put ∷ rest) d name
   publish_keeps put rest d name true x y zero at_x at_y there =
       one_done put rest d name (inl (eqb-true put.qos 0 zero)) (subst (λ acks. Contains acks name) at_x there)
   publish_keeps put rest d name false x y more at_x at_y there = inl (subst (λ acks. Contains acks name) at_y there)

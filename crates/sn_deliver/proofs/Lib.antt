@@ -1,3 +1,4 @@
 pub mod Drafting
 mod Examples
+pub mod Following
 pub mod Keeping

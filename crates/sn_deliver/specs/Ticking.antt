@@ -13,6 +13,7 @@ use Rattle.sn_flow.specs.declared.local.Timer.{Timer}
 use Rattle.sn_flow.specs.declared.local.WillDialog.{WillDialog}
 use Rattle.sn_flow.specs.declared.local.LocalChange.TheVariants.{Unbind, Heard, Retried, EndDialog, Advertised}
 use Rattle.sn_flow.specs.declared.plan.Plan.{Plan}
+use Rattle.sn_flow.specs.declared.row.Row.{Row}
 use Rattle.sn_flow.specs.Drafts.{Drafted, nothing, changed, put_all, sent, moved}
 use Rattle.sn_flow.specs.Plans.{Seen, plan_of, plan_without}
 use Rattle.sn_flow.specs.Bindings.{is_stamp_of}
@@ -75,11 +76,15 @@ will_puts seen c (Some will) = puts_of_will seen c will
 abbrev pub lost : Seen → List ℕ → Session → Drafted → Drafted
 lost seen c s d = moved (Unbind c) (changed (Presence Lost s.duration) (put_all (will_puts seen c s.will) d))
 
+-- one try more: Resend, where an exchange is open, else Delivery
+abbrev pub retried : ℕ → Drafted → List ℕ → Row
+retried now d c = row_of follows.Resend c (moved (Retried c now) d)
+
 -- the plan of what is due with a client: it is lost; or there is one try more, and Resend; or Delivery
 abbrev pub plan_due : ℕ → Entries → Seen → ℕ → Drafted → List ℕ → Due → Option Plan
 plan_due g predefined seen now d c Loss = plan_of g c seen (lost seen c (session_of seen c) d)
 plan_due g predefined seen now d c (Retry a) =
-    deliver_next g predefined seen a now (row_of follows.Resend c (moved (Retried c now) d))
+    deliver_next g predefined seen a now (retried now d c)
 plan_due g predefined seen now d c (Delivery a) = deliver_next g predefined seen a now (row_of follows.Delivery c d)
 
 abbrev pub plan_if_due : ℕ → Entries → Seen → ℕ → Drafted → Option (List ℕ × Due) → Option Plan

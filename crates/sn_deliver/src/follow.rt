@@ -76,16 +76,32 @@ fn followed<R: Replica>(
     replica: &R,
     address: Addr,
     now: u64,
-    mut row: Row,
+    row: Row,
 ) -> Result<Row, StepFault>
     ensures ok { IfOk result (λ made. made ≡ followed_row predefined.now (seen_of (R.kept replica.now)) address now row) }
     ensures err { IfErr result (λ fault. fault ≡ StepFault.Memory) }
 {
-    if let Some(client) = &row.client {
-        let peer = peer_at(alloc, address, client, now)?;
-        follow_for(alloc, predefined, replica, &peer, &mut row.draft, &row.follow)?;
+    let Row {
+        client,
+        mut draft,
+        follow,
+    } = row;
+    match client {
+        None => Ok(Row {
+            client: None,
+            draft,
+            follow,
+        }),
+        Some(client) => {
+            let peer = peer_at(alloc, address, &client, now)?;
+            follow_for(alloc, predefined, replica, &peer, &mut draft, &follow)?;
+            Ok(Row {
+                client: Some(client),
+                draft,
+                follow,
+            })
+        }
     }
-    Ok(row)
 }
 
 /// The plan of a row with what follows it: Resend or Delivery, by the session as the row has changed it, and the messages that

@@ -4,7 +4,7 @@ ghost use Rattle.std.specs.Prelude.{◌≡◌, Some, fold, IfOk, IfErr, OnOk};
 ghost use Rattle.rep_model.specs.Views.{view, clients as clients_of};
 ghost use Rattle.sn_flow.specs.Others.{can_wake};
 ghost use Rattle.sn_flow.specs.Plans.{Gives, seen_of};
-ghost use Rattle.sn_deliver.specs.Ticking.{dialog_ended, dialogs_ended, needs_timer as is_in_need, timer_begun, timers_begun, cleaned as cleaned_draft, is_long_ago as is_moment_long_ago, may_advertise as is_to_advertise, advertised_to, advertised as advertised_draft, will_puts as puts_of_the_will, lost as lost_draft, plan_due as plan_of_due, plan_if_due as plan_of_due_if, one_thing as plan_of_one, tick as tick_plan};
+ghost use Rattle.sn_deliver.specs.Ticking.{dialog_ended, dialogs_ended, needs_timer as is_in_need, timer_begun, timers_begun, cleaned as cleaned_draft, is_long_ago as is_moment_long_ago, may_advertise as is_to_advertise, advertised_to, advertised as advertised_draft, will_puts as puts_of_the_will, lost as lost_draft, retried as retried_row, plan_due as plan_of_due, plan_if_due as plan_of_due_if, one_thing as plan_of_one, tick as tick_plan};
 
 use super::due::{Due, elapsed, first_due, is_stamp_of};
 use super::follow::deliver_next;
@@ -263,23 +263,36 @@ fn plan_loss<R: Replica>(
     plan_of(alloc, config.gateway, replica, client, draft)
 }
 
+/// One try more: Resend follows.
+fn retried(
+    alloc: Global,
+    now: u64,
+    mut draft: Draft,
+    client: &ClientId,
+) -> Result<Row, StepFault>
+    ensures ok { IfOk result (λ row. row ≡ retried_row now draft client.now) }
+    ensures err { IfErr result (λ fault. fault ≡ StepFault.Memory) }
+{
+    draft.note(LocalChange::Retried {
+        client: client.copy(alloc)?,
+        moment: now,
+    })?;
+    Row::new(alloc, Follow::Resend, client, draft)
+}
+
 /// The plan of a retry.
 fn plan_retry<R: Replica>(
     alloc: Global,
     config: &Config,
     replica: &R,
     now: u64,
-    mut draft: Draft,
+    draft: Draft,
     client: &ClientId,
     address: Addr,
 ) -> Result<Plan, StepFault>
     ensures { Gives result (plan_of_due config.now.gateway config.now.predefined (seen_of (R.kept replica.now)) now draft client.now (Due.Retry address)) }
 {
-    draft.note(LocalChange::Retried {
-        client: client.copy(alloc)?,
-        moment: now,
-    })?;
-    let row = Row::new(alloc, Follow::Resend, client, draft)?;
+    let row = retried(alloc, now, draft, client)?;
     deliver_next(alloc, config, replica, address, now, row)
 }
 

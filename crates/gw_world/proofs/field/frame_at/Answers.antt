@@ -2,22 +2,22 @@
 use Rattle.std.proofs.Common.{Ok, Err}
 use Rattle.std.proofs.lemmas.Option.{slice_get_read}
 use Rattle.std.proofs.lemmas.Result.{IfOk-weaker, IfErr-weaker}
-use Rattle.gw_world.proofs.Moving.{frame_in_place, on_refusal}
+use Rattle.gw_world.proofs.Moving.{own_in_place, on_refusal}
 use Rattle.gw_world.proofs.field.frame_at.Goals as goal
 
 pub returns-clause-ok : goal.returns-clause-ok
 returns-clause-ok g c =
     IfOk-weaker c.frame.result _ _
-    (λ out h. frame_in_place _ c.args.nodes.now.items c.args.place c.index_mut-node.result.now c.frame.new.self
+    (λ out h. own_in_place _ c.args.nodes.now.items c.args.place c.index_mut-node.result.now c.frame.new.self
     (slice_get_read c.args.nodes.now.items _ c.args.place _ c.args.nodes.now.ok.0 c.requires c.index_mut-node.ensures.value)
-    c.frame.ensures.config _ _ _ (Ok out) h)
+    c.frame.ensures.config _ _ (Ok out) h)
     c.frame.ensures.ok
 
 pub returns-clause-err : goal.returns-clause-err
 returns-clause-err g c =
     IfErr-weaker c.frame.result _ _
     (λ trouble h. on_refusal trouble _ _
-    (λ fault k. frame_in_place _ c.args.nodes.now.items c.args.place c.index_mut-node.result.now c.frame.new.self
+    (λ fault k. own_in_place _ c.args.nodes.now.items c.args.place c.index_mut-node.result.now c.frame.new.self
     (slice_get_read c.args.nodes.now.items _ c.args.place _ c.args.nodes.now.ok.0 c.requires c.index_mut-node.ensures.value)
-    c.frame.ensures.config _ _ _ (Err fault) k) h)
+    c.frame.ensures.config _ _ (Err fault) k) h)
     c.frame.ensures.err

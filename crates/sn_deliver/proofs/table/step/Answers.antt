@@ -1,0 +1,4 @@
+use Rattle.sn_deliver.proofs.table.step.Goals as goal
+
+pub returns : goal.returns
+returns g c = rw c.in_ok-row.ensures.ok at c.deliver_next.ensures
