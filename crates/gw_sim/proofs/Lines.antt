@@ -22,14 +22,16 @@ abbrev word_at : List ℕ → Option Word
 word_at text =
     cond (bytes_eq text (codes "gateway")) (Some words.Gateway) (
     cond (bytes_eq text (codes "frame")) (Some words.Frame) (
+    cond (bytes_eq text (codes "tick")) (Some words.Tick) (
     cond (bytes_eq text (codes "take")) (Some words.Take) (
     cond (bytes_eq text (codes "predefine")) (Some words.Predefine) (
-    cond (bytes_eq text (codes "show")) (Some words.Show) None))))
+    cond (bytes_eq text (codes "show")) (Some words.Show) None)))))
 
 word_at-text : (word : Word) → word_at (text_of word) ≡ Some word
 word_at-text words.Gateway = refl
 word_at-text words.Predefine = refl
 word_at-text words.Frame = refl
+word_at-text words.Tick = refl
 word_at-text words.Take = refl
 word_at-text words.Show = refl
 
@@ -99,6 +101,11 @@ frame_says (a ∷ b ∷ m ∷ o ∷ []) (commands.Happens (events.Frame g from b
     (a, b, m, o, g, from, bytes, now, refl, refl, said.0, said.1, said.2, said.3)
 frame_says fields c said = absurd said
 
+tick_says : (fields : List (List ℕ)) (c : Command) → Says words.Tick fields c
+    → (a b : List ℕ) × (g d : ℕ) × (fields ≡ a ∷ b ∷ []) × (c ≡ commands.Happens (events.Tick g d)) × IsNumber 8 a g × IsNumber 64 b d
+tick_says (a ∷ b ∷ []) (commands.Happens (events.Tick g d)) said = (a, b, g, d, refl, refl, said.0, said.1)
+tick_says fields c said = absurd said
+
 take_says : (fields : List (List ℕ)) (c : Command) → Says words.Take fields c
     → (a b : List ℕ) × (g d : ℕ) × (fields ≡ a ∷ b ∷ []) × (c ≡ commands.Happens (events.Take g d)) × IsNumber 8 a g × IsNumber 64 b d
 take_says (a ∷ b ∷ []) (commands.Happens (events.Take g d)) said = (a, b, g, d, refl, refl, said.0, said.1)
@@ -137,6 +144,12 @@ one_saying words.Predefine fields c d p q =
     let g : x.3 ≡ y.3 = one_number 8 x.0 y.0 x.3 y.3 (cc) x.8 y.8 in
     let i : x.4 ≡ y.4 = one_number 16 x.1 y.1 x.4 y.4 (cc) x.9 y.9 in
     let name : x.5 ≡ y.5 = one_hex x.2 y.2 x.5 y.5 (cc) x.10 y.10 in cc
+one_saying words.Tick fields c d p q =
+    let x = tick_says fields c p in
+    let y = tick_says fields d q in
+    let e = x.4 in let f = y.4 in let h = x.5 in let k = y.5 in
+    let g : x.2 ≡ y.2 = one_number 8 x.0 y.0 x.2 y.2 (cc) x.6 y.6 in
+    let now : x.3 ≡ y.3 = one_number 64 x.1 y.1 x.3 y.3 (cc) x.7 y.7 in cc
 one_saying words.Take fields c d p q =
     let x = take_says fields c p in
     let y = take_says fields d q in

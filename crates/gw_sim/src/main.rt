@@ -20,6 +20,8 @@ mod fault;
 mod number;
 mod play;
 mod printing;
+#[cfg(test)]
+mod publication_rows;
 mod replica;
 mod script;
 mod session_lines;

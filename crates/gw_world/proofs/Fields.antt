@@ -75,7 +75,7 @@ module _ (field : Field) (ks : List Gateway) (s : AreShown field.gateways ks) wh
   own_reaches deltas listed event occasion now news next answer is (i, place, ((old, new, moves, kept), is_next)) =
       let at = shown_at field.gateways ks i old s moves.place in
       let leads = own_taken at.gateway old at.shown occasion now answer new.taken new.local kept in
-      let field_after = record { gateways = set field.gateways i leads.next; deltas = field.deltas ++ made_of answer } in
+      let field_after : Field = record { gateways = set field.gateways i leads.next; deltas = field.deltas ++ made_of answer } in
       record {
         new = field_after;
         after = is field_after (i, at.gateway, leads.next, made_of answer, (place_there (gateway_of event) i place, at.place), leads.step, refl);

@@ -392,6 +392,7 @@ row_one g predefined S local a (frames.PingReq client) now = none_row (row_for g
 row_one g predefined S local a frame now = none_row (row_for g predefined (seen_of S) local a frame now) (other-puts g local a frame now)
 
 pub step-drafted : (g : ℕ) (predefined : Entries) (S : List Op) (local : Local) (a : Addr) (frame : Frame) (now : ℕ) (plan : Plan) → step g predefined (seen_of S) local a frame now ≡ Some plan → IsOfDraft g (seen_of S) plan
+unfolding step
 step-drafted g predefined S local a frame now plan e =
     next-drafted g predefined (seen_of S) a now (row_for g predefined (seen_of S) local a frame now) plan (row_one g predefined S local a frame now) e
 

@@ -39,5 +39,5 @@ row_for g predefined seen local a (frames.PingReq client) now = wake g seen loca
 row_for g predefined seen local a frame now = other g local a frame now
 
 -- the plan of a frame: its row, and what follows it; none where a number is needed that was the last
-abbrev pub step : ℕ → Entries → Seen → Local → Addr → Frame → ℕ → Option Plan
+unfoldable pub step : ℕ → Entries → Seen → Local → Addr → Frame → ℕ → Option Plan
 step g predefined seen local a frame now = deliver_next g predefined seen a now (row_for g predefined seen local a frame now)

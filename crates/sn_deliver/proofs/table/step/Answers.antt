@@ -1,4 +1,6 @@
+use Rattle.sn_deliver.specs.Steps.{step}
 use Rattle.sn_deliver.proofs.table.step.Goals as goal
 
 pub returns : goal.returns
+unfolding step
 returns g c = rw c.in_ok-row.ensures.ok at c.deliver_next.ensures
