@@ -1,0 +1,5 @@
+pub mod Disk
+pub mod Memory
+pub mod Records
+pub mod Journals
+pub mod Opening
