@@ -18,24 +18,16 @@ use Rattle.jr_journal.specs.declared.opening.Opening.{Opening}
 use Rattle.jr_journal.specs.declared.opening.Opening.TheVariants.{New, Held}
 use Rattle.jr_journal.specs.Disk.{SlotBytes, Slots, Image, bytes_of, image, cut_to}
 use Rattle.jr_journal.specs.Records.{new_journal, magic, piece_at, made, joined, one_seal, found, slot_content, chosen, records}
-use Rattle.jr_journal.specs.Journals.{is_nil, is_below, is_settled, Leaves}
-use Rattle.jr_journal.specs.Opening.{is_fresh, slots_fault, fault_of, IsFault, synced_bytes, synced_slots, reads_first, cut_end, recovered, opening_of, deltas_of, IsOpening, IsSized, settled}
+use Rattle.jr_journal.specs.Faults.{is_nil, is_fresh, slots_fault, fault_of, IsFault}
+use Rattle.jr_journal.specs.Journals.{is_below, is_settled, Leaves}
+use Rattle.jr_journal.specs.Opening.{synced_bytes, synced_slots, reads_first, cut_end, recovered, opening_of, deltas_of, IsOpening, IsSized, settled, is_new}
 use Rattle.jr_journal.proofs.Pieces.{found_seal, found_nothing}
 use Rattle.jr_journal.proofs.Append.{found_inside}
 use Rattle.jr_journal.proofs.Contents.{IsSealed, sealed_shape, sealed_cut}
+use Rattle.jr_journal.proofs.Sound.{image_of, empty_unsealed, fault_is, alone_sound}
 use Rattle.jr_journal.proofs.Settled.{IsUsed, settled_again, used_leaves}
 
 -- ---- faults
-
-pub beside_is_foreign : (gateway : ℕ) (i : Image) → 0 < length i.second → fault_of gateway i ≡ Some Foreign
-beside_is_foreign gateway i lt = go i.second lt refl where
-  go : (xs : List ℕ) → 0 < length xs → i.second ≡ xs → fault_of gateway i ≡ Some Foreign
-  go [] few is = absurd (omega arith)
-  go (x ∷ xs) some is = ap (λ ys. cond (is_nil ys) (slots_fault (slot_content gateway i.first) (slot_content gateway i.second) (is_fresh i)) (Some Foreign)) is
-
-pub empty_unsealed : (gateway : ℕ) → slot_content gateway [] ≡ Unsealed
-unfolding slot_content
-empty_unsealed gateway = refl
 
 -- what `opening_of` tells of a slot beside an empty one
 judged : (a : SlotContent) (size : ℕ) → IfErr (opening_of a size) (λ e. IsFault (slots_fault a Unsealed (nat_lt size 14)) e)
@@ -55,12 +47,6 @@ passed Unsealed size h = go (nat_lt size 14) refl where
   go : (b : Bool) → nat_lt size 14 ≡ b → IfOk (opening_of Unsealed size) (λ o. slots_fault Unsealed Unsealed (nat_lt size 14) ≡ None)
   go true is = rw is refl
   go false is = rw is tt
-
--- the fault of an image whose second slot is empty
-fault_is : (gateway : ℕ) (i : Image) → i.second ≡ [] → fault_of gateway i ≡ slots_fault (slot_content gateway i.first) Unsealed (nat_lt (length i.first) 14)
-fault_is gateway i none =
-    let front : fault_of gateway i ≡ fault_of gateway (record { first = i.first; second = [] }) = ap (λ xs. fault_of gateway (record { first = i.first; second = xs })) none in
-    front ∙ ap (λ b. slots_fault (slot_content gateway i.first) b (nat_lt (length i.first) 14)) (empty_unsealed gateway)
 
 judged_at : (r : Result Opening JournalFault) (fault : Option JournalFault) (e : JournalFault) → r ≡ Err e → IfErr r (λ x. IsFault fault x) → IsFault fault e
 judged_at (Ok o) fault e is h = absurd cc
@@ -213,6 +199,7 @@ opened_new gateway i none = record {
     sealed = new_sealed gateway;
     full = refl;
     below = ap (λ a. is_below a 1) (ap (λ xs. slot_content gateway xs) none ∙ empty_unsealed gateway);
+    sound = alone_sound gateway (image_of (new_journal gateway) i.second) 1 (made [] true 1 false) none (new_sealed gateway);
   };
   same = refl;
 }
@@ -230,6 +217,7 @@ opened_held gateway i m f none h =
         sealed = sealed_cut gateway i.first m f h;
         full = omega (arith, length-take (13 + f.whole) i.first, length-drop 13 i.first);
         below = ap (λ a. is_below a m) (ap (λ xs. slot_content gateway xs) none ∙ empty_unsealed gateway);
+        sound = alone_sound gateway (image_of (take (13 + f.whole) i.first) i.second) m f none (sealed_cut gateway i.first m f h);
       };
       same = refl;
     }
@@ -293,3 +281,10 @@ steps_settled gateway old new o h = ap (λ d. is_settled gateway First d) h.know
 pub steps_leave : (gateway : ℕ) (old new : Slots) (o : Opening) (deltas : List (List Op)) → IsRecovered gateway old new o → deltas ≡ deltas_of o → Leaves gateway new deltas
 steps_leave gateway old new o deltas h same =
     subst (λ (d : Slots). Leaves gateway d deltas) (sym h.known) (subst (λ (xs : List (List Op)). Leaves gateway (recovered gateway (image old)) xs) (sym same) (recovered_leaves gateway (image old) o h.opening))
+
+-- a new journal is begun exactly where the image is fresh
+pub opening_fresh : (gateway : ℕ) (i : Image) (o : Opening) → IsOpening gateway i o → is_fresh i ≡ is_new o
+opening_fresh gateway i o h = go o (ruled o (slot_content gateway i.first) (length i.first) h.1) where
+  go : (o : Opening) → Ruled o (slot_content gateway i.first) (length i.first) → is_fresh i ≡ is_new o
+  go New r = and_from _ _ (ap is_nil h.0) (lt-ltb (length i.first) 14 r.1)
+  go (Held f n) r = not_fresh i (sealed_long gateway i.first r.0 f (sealed_shape gateway i.first r.0 f r.1.0))

@@ -36,6 +36,10 @@ bytes_of s = s.synced ++ s.unsynced
 abbrev pub image : Slots → Image
 image d = record { first = bytes_of d.first; second = bytes_of d.second }
 
+-- what of it is synced
+abbrev pub synced_part : Slots → Image
+synced_part d = record { first = d.first.synced; second = d.second.synced }
+
 abbrev pub appended : SlotBytes → List ℕ → SlotBytes
 appended s bytes = record { synced = s.synced; unsynced = s.unsynced ++ bytes }
 

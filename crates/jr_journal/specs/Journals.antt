@@ -9,8 +9,9 @@ use Rattle.jr_journal.specs.declared.fault.JournalFault.{JournalFault}
 use Rattle.jr_journal.specs.declared.fault.JournalFault.TheVariants.{Disk, Foreign, BadRecord, Memory, Halted}
 use Rattle.jr_journal.specs.declared.content.SlotContent.{SlotContent}
 use Rattle.jr_journal.specs.declared.content.SlotContent.TheVariants.{Alien, Unsealed, Sealed, Broken}
-use Rattle.jr_journal.specs.Disk.{Slots, at, replaced, appended, all_synced, EachCrash}
+use Rattle.jr_journal.specs.Disk.{Slots, Image, at, replaced, synced_part, appended, all_synced, EachCrash}
 use Rattle.jr_journal.specs.Records.{records, slot_content}
+use Rattle.jr_journal.specs.Faults.{is_nil, is_none, fault_of}
 
 -- ---- the slot in use
 
@@ -32,25 +33,26 @@ leads Alien size beside = false
 leads Unsealed size beside = false
 leads (Broken from) size beside = false
 
-abbrev pub is_nil : List ℕ → Bool
-is_nil [] = true
-is_nil (b ∷ rest) = false
-
--- all is synced, and the slot in use is the one that is read and ends with a whole piece
+-- all is synced, the slot in use is the one that is read and ends with a whole piece, and there is no fault
 abbrev pub is_settled : ℕ → Slot → Slots → Bool
 is_settled gateway slot d =
     is_nil d.first.unsynced && is_nil d.second.unsynced
     && leads (slot_content gateway (at d slot).synced) (length (at d slot).synced) (slot_content gateway (at d (other slot)).synced)
+    && is_none (fault_of gateway (synced_part d))
 
 -- ---- crashes
 
--- a crash now leaves these records and no others
-abbrev pub Leaves : ℕ → Slots → List (List Op) → Type 0
-Leaves gateway d deltas = EachCrash (λ i. records gateway i ≡ deltas) d
+-- an opening finds these records and no fault
+abbrev pub Opens : ℕ → List (List Op) → Image → Type 0
+Opens gateway deltas i = (records gateway i ≡ deltas) × (fault_of gateway i ≡ None)
 
--- a crash now leaves these records, or these and one more
+-- a crash now leaves a journal of these records and no others
+abbrev pub Leaves : ℕ → Slots → List (List Op) → Type 0
+Leaves gateway d deltas = EachCrash (λ i. Opens gateway deltas i) d
+
+-- a crash now leaves a journal of these records, or of these and one more
 abbrev pub LeavesOneMore : ℕ → Slots → List (List Op) → List Op → Type 0
-LeavesOneMore gateway d deltas delta = EachCrash (λ i. (records gateway i ≡ deltas) ⊎ (records gateway i ≡ deltas ++ delta ∷ [])) d
+LeavesOneMore gateway d deltas delta = EachCrash (λ i. Opens gateway deltas i ⊎ Opens gateway (deltas ++ delta ∷ []) i) d
 
 -- ---- one append
 
@@ -70,3 +72,11 @@ AppendedAs (Some plan) old slot bytes (Err Foreign) new after = Unit {0}
 AppendedAs (Some plan) old slot bytes (Err (BadRecord place from)) new after = Unit {0}
 AppendedAs (Some plan) old slot bytes (Err Memory) new after = Unit {0}
 AppendedAs (Some plan) old slot bytes (Err Halted) new after = Unit {0}
+
+-- a fault that an append may tell
+abbrev pub IsAppendFault : JournalFault → Type 0
+IsAppendFault Disk = Unit {0}
+IsAppendFault Memory = Unit {0}
+IsAppendFault Halted = Unit {0}
+IsAppendFault Foreign = ⊥
+IsAppendFault (BadRecord place from) = ⊥

@@ -13,46 +13,7 @@ use Rattle.jr_journal.specs.declared.opening.Opening.{Opening}
 use Rattle.jr_journal.specs.declared.opening.Opening.TheVariants.{New, Held}
 use Rattle.jr_journal.specs.Disk.{SlotBytes, Slots, Image, replaced, bytes_of, all_synced, cut_to, after_crash}
 use Rattle.jr_journal.specs.Records.{new_journal, slot_content, records}
-use Rattle.jr_journal.specs.Journals.{is_nil}
-
--- ---- which fault
-
--- the second slot is empty, and the first shorter than a header with its seal
-abbrev pub is_fresh : Image → Bool
-is_fresh i = is_nil i.second && nat_lt (length i.first) 14
-
--- the fault of two slots: a header of another, the first slot first; a bad piece, the first slot first, in the
--- slot that is not read too; then two seals of one generation, or none
-abbrev pub slots_fault : SlotContent → SlotContent → Bool → Option JournalFault
-slots_fault Alien Alien fresh = Some Foreign
-slots_fault Alien Unsealed fresh = Some Foreign
-slots_fault Alien (Sealed n g) fresh = Some Foreign
-slots_fault Alien (Broken from) fresh = Some Foreign
-slots_fault Unsealed Alien fresh = Some Foreign
-slots_fault (Sealed m f) Alien fresh = Some Foreign
-slots_fault (Broken at) Alien fresh = Some Foreign
-slots_fault (Broken at) Unsealed fresh = Some (BadRecord First at)
-slots_fault (Broken at) (Sealed n g) fresh = Some (BadRecord First at)
-slots_fault (Broken at) (Broken from) fresh = Some (BadRecord First at)
-slots_fault Unsealed (Broken from) fresh = Some (BadRecord Second from)
-slots_fault (Sealed m f) (Broken from) fresh = Some (BadRecord Second from)
-slots_fault Unsealed Unsealed fresh = if fresh then None else Some Foreign
-slots_fault Unsealed (Sealed n g) fresh = None
-slots_fault (Sealed m f) Unsealed fresh = None
-slots_fault (Sealed m f) (Sealed n g) fresh = if nat_lt m n then None else (if nat_lt n m then None else Some Foreign)
-
--- the fault of an image, if any; a second slot that is not empty is not read yet
-abbrev pub fault_of : ℕ → Image → Option JournalFault
-fault_of gateway i =
-    if is_nil i.second then slots_fault (slot_content gateway i.first) (slot_content gateway i.second) (is_fresh i) else Some Foreign
-
--- it is the fault of the image; want of memory and a disk that failed say nothing of it
-abbrev pub IsFault : Option JournalFault → JournalFault → Type 0
-IsFault fault Disk = Unit {0}
-IsFault fault Memory = Unit {0}
-IsFault fault Foreign = fault ≡ Some Foreign
-IsFault fault (BadRecord slot at) = fault ≡ Some (BadRecord slot at)
-IsFault fault Halted = fault ≡ Some Halted
+use Rattle.jr_journal.specs.Faults.{is_fresh, fault_of}
 
 -- ---- the slots behind it
 
@@ -147,6 +108,10 @@ abbrev pub IsPartly : ℕ → Opening → Slots → Slots → Type 0
 IsPartly gateway New old new = IsBegun gateway old new
 IsPartly gateway (Held f size) old new = (new ≡ old) ⊎ (new ≡ replaced old First (cut_to old.first (13 + f.whole)))
 
--- whatever a crash leaves now, a crash before would have left the same records
+-- an opening finds the same in both: the same records and the same fault, if any
+abbrev pub OpensAlike : ℕ → Image → Image → Type 0
+OpensAlike gateway i j = (records gateway i ≡ records gateway j) × (fault_of gateway i ≡ fault_of gateway j)
+
+-- whatever a crash leaves now, a crash before would have left what opens alike
 abbrev pub LeavesNoMore : ℕ → Slots → Slots → Type 0
-LeavesNoMore gateway old new = (k l : ℕ) → (m : ℕ) × ((n : ℕ) × (records gateway (after_crash k l new) ≡ records gateway (after_crash m n old)))
+LeavesNoMore gateway old new = (k l : ℕ) → (m : ℕ) × ((n : ℕ) × OpensAlike gateway (after_crash k l new) (after_crash m n old))

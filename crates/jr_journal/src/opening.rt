@@ -3,7 +3,8 @@
 ghost use Rattle.std.specs.Prelude.{◌≡◌, ◌≢◌, ◌≤◌, ◌<◌, ◌⊎◌, ◌+◌, [], true, false, length, IfOk, IfErr, OnOk, OnErr, IsErrOf, IsTrue, None};
 ghost use Rattle.jr_journal.specs.Disk.{at, replaced, bytes_of, image, all_synced, cut_to, is_calm};
 ghost use Rattle.jr_journal.specs.Records.{new_journal, slot_content, records};
-ghost use Rattle.jr_journal.specs.Opening.{synced_bytes, synced_slots, opening_of, deltas_of, IsOpening, IsSized, settled, recovered, is_fresh, is_new, is_quiet, IsUnhurt, IsFault, fault_of, IsBegun, IsPartly, LeavesNoMore};
+ghost use Rattle.jr_journal.specs.Opening.{synced_bytes, synced_slots, opening_of, deltas_of, IsOpening, IsSized, settled, recovered, is_new, is_quiet, IsUnhurt, IsBegun, IsPartly, LeavesNoMore};
+ghost use Rattle.jr_journal.specs.Faults.{is_fresh, IsFault, fault_of};
 ghost use Rattle.jr_journal.specs.Journals.{is_settled, Leaves};
 
 use crate::content::{HEADER, MAGIC, SlotContent, read_content};

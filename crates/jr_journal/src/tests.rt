@@ -1,5 +1,6 @@
 use super::*;
-use rep_ops::Delta;
+use rep_ops::{ClientId, Delta, Op, OpsFault, Stamp};
+use sn_session::{Session, SessionOp};
 use std::alloc::Global;
 use std::process::Abort;
 use std::test::Fail;
@@ -16,12 +17,49 @@ const JOURNAL: [u8; 53] = [
 /// How many bytes the header and the seal take.
 const BEGUN: usize = 14;
 
-/// The delta of the record.
-fn connected(alloc: Global) -> Result<Delta, JournalFault> {
-    match Delta::decode(alloc, &JOURNAL[19..]) {
+/// The operation of the record.
+fn take(alloc: Global) -> Result<Op, OpsFault> {
+    let mut session = Session::empty(alloc);
+    session.clean = true;
+    session.duration = 60;
+    Ok(Op::Session {
+        client: ClientId::new(alloc, b"s1")?,
+        stamp: Stamp {
+            epoch: 1,
+            gateway: 1,
+        },
+        counter: 0,
+        change: SessionOp::Take(session),
+    })
+}
+
+/// The client has acknowledged the first message of gateway 2.
+fn acknowledgement(alloc: Global) -> Result<Op, OpsFault> {
+    Ok(Op::Ack {
+        client: ClientId::new(alloc, b"s1")?,
+        origin: 2,
+        first: 1,
+        last: 1,
+    })
+}
+
+/// The delta of one operation.
+fn delta_of(alloc: Global, op: Result<Op, OpsFault>) -> Result<Delta, JournalFault> {
+    let Ok(op) = op else {
+        return Err(JournalFault::Memory);
+    };
+    let Ok(ops) = Vec::from_array(alloc, [op]) else {
+        return Err(JournalFault::Memory);
+    };
+    match Delta::from_ops(alloc, ops) {
         Ok(delta) => Ok(delta),
         Err(_) => Err(JournalFault::Memory),
     }
+}
+
+/// The delta of the record.
+fn connected(alloc: Global) -> Result<Delta, JournalFault> {
+    delta_of(alloc, take(alloc))
 }
 
 /// Puts bytes behind those of a slot, and makes them durable.
@@ -96,6 +134,33 @@ fn one_record_is_53_bytes(rt: HostRuntime) -> Result<(), Fail> {
     let mut disk = journal.into_disk();
     assert!(rt; !disk.starved());
     assert_eq!(rt; bytes_of(alloc, &mut disk)?.as_slice(), JOURNAL.as_slice());
+    Ok(())
+}
+
+/// A disk with two records, the second an acknowledgement, behind a crash.
+fn two_records(alloc: Global) -> Result<MemoryDisk, JournalFault> {
+    let Ok((mut journal, _deltas)) = Journal::open(alloc, disk_with(alloc, &JOURNAL, &[])?, 1) else {
+        return Err(JournalFault::Memory);
+    };
+    journal.append(alloc, &delta_of(alloc, acknowledgement(alloc))?)?;
+    let mut disk = journal.into_disk();
+    disk.crash(0);
+    Ok(disk)
+}
+
+#[test]
+fn records_come_back_in_order(rt: HostRuntime) -> Result<(), Fail> {
+    let alloc = rt.alloc();
+    let Ok((journal, deltas)) = Journal::open(alloc, two_records(alloc)?, 1) else {
+        return Err("not opened")?;
+    };
+    assert_eq!(rt; deltas.len(), 2);
+    let [first, second] = deltas.as_slice() else {
+        return Err("not two")?;
+    };
+    assert!(rt; matches!(first.ops(), [Op::Session { .. }]));
+    assert!(rt; matches!(second.ops(), [Op::Ack { .. }]));
+    assert!(rt; !journal.starved());
     Ok(())
 }
 

@@ -1,0 +1,23 @@
+-- An opening and the failure that is arranged.
+use Rattle.std.proofs.Common.{◌≡◌, ℕ, Bool, true, false, Option, Some, None, refl, sym, ap, subst, ◌∙◌}
+use Rattle.jr_journal.specs.declared.disk.Plan.{Plan}
+use Rattle.jr_journal.specs.declared.opening.Opening.{Opening}
+use Rattle.jr_journal.specs.Disk.{Slots, image, is_calm}
+use Rattle.jr_journal.specs.Faults.{is_fresh}
+use Rattle.jr_journal.specs.Opening.{synced_slots, IsOpening, is_new, is_quiet}
+use Rattle.jr_journal.proofs.Calm.{Outlook, not_starved, quiet_calm}
+use Rattle.jr_journal.proofs.Opened.{synced_same, opening_fresh}
+
+-- the slots are synced: what is arranged stays
+pub one_step : (fresh : Bool) (before after : Outlook) (s t : Bool) → (s ≡ true → t ≡ true) → t ≡ false → is_quiet before fresh ≡ true → (s ≡ false → is_calm before ≡ true → after ≡ before) → after ≡ before
+one_step fresh before after s t kept fed quiet step = step (not_starved s t kept fed) (quiet_calm before fresh quiet)
+
+-- behind a step that leaves what is arranged, it is still none of the opening's
+pub still_calm : (fresh : Bool) (before after : Outlook) → is_quiet before fresh ≡ true → after ≡ before → is_calm after ≡ true
+still_calm fresh before after quiet same = quiet_calm after fresh (ap (λ o. is_quiet o fresh) same ∙ quiet)
+
+pub still_quiet : (gateway : ℕ) (old synced : Slots) (o : Opening) (before after : Outlook) → synced ≡ synced_slots old → IsOpening gateway (image synced) o → is_quiet before (is_fresh (image old)) ≡ true → after ≡ before
+    → is_quiet after (is_new o) ≡ true
+still_quiet gateway old synced o before after e h quiet same =
+    let here : IsOpening gateway (image old) o = subst (λ (i : _). IsOpening gateway i o) (ap image e ∙ synced_same old) h in
+    ap (λ x. is_quiet x (is_new o)) same ∙ (sym (ap (λ b. is_quiet before b) (opening_fresh gateway (image old) o here)) ∙ quiet)
