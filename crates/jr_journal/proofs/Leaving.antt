@@ -70,6 +70,13 @@ pub synced_leaves : (gateway : ℕ) (old new : Slots) → new ≡ synced_slots o
 synced_leaves gateway old new e =
     from_image gateway old new (λ k l. alike gateway (after_crash k l new) (image old) (ap (λ d. after_crash k l d) e ∙ crash_synced k l old))
 
+pub sync_leaves : (gateway : ℕ) (old new : Slots) → (new ≡ old) ⊎ (new ≡ replaced old First (all_synced old.first)) → LeavesNoMore gateway old new
+sync_leaves gateway old new h =
+    elim h [
+      | inl same ↦ same_leaves gateway old new same
+      | inr first ↦ first_leaves gateway old new first
+    ]
+
 -- ---- a new journal, as far as it went out
 
 abbrev behind_magic : List ℕ

@@ -7,6 +7,7 @@ pub mod Sound
 pub mod Settled
 pub mod Readable
 pub mod Appending
+pub mod Begun
 pub mod Opened
 pub mod Calm
 pub mod Quiet
