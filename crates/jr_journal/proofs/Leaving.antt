@@ -1,6 +1,6 @@
 -- What a crash leaves behind an opening that failed.
-use Rattle.std.proofs.Common.{◌≡◌, ℕ, ◌+◌, ◌-◌, ◌<◌, ◌≤◌, Bool, true, false, None, List, [], ◌∷◌, ◌++◌, length, take, drop, min, refl, sym, ap, subst, ◌∙◌, inl, inr, ◌⊎◌, arith}
-use Rattle.std.specs.Prelude.{nat_lt}
+use Rattle.std.proofs.Common.{◌≡◌, ℕ, ◌+◌, ◌-◌, ◌<◌, ◌≤◌, Bool, true, false, None, Result, Ok, Err, List, [], ◌∷◌, ◌++◌, length, take, drop, min, refl, sym, ap, subst, ◌∙◌, inl, inr, ◌⊎◌, arith}
+use Rattle.std.specs.Prelude.{nat_lt, OnErr}
 use Rattle.std.specs.Int.{w64, from_be_bytes}
 use Rattle.std.specs.Str.{bytes_eq}
 use Rattle.std.proofs.Math.ListN.{drop_of_length-le}
@@ -69,6 +69,10 @@ first_leaves gateway old new e = λ k l.
 pub synced_leaves : (gateway : ℕ) (old new : Slots) → new ≡ synced_slots old → LeavesNoMore gateway old new
 synced_leaves gateway old new e =
     from_image gateway old new (λ k l. alike gateway (after_crash k l new) (image old) (ap (λ d. after_crash k l d) e ∙ crash_synced k l old))
+
+pub always_err : {T E P : Type 0} (r : Result T E) → P → OnErr r P
+always_err (Ok x) p = tt
+always_err (Err e) p = p
 
 pub sync_leaves : (gateway : ℕ) (old new : Slots) → (new ≡ old) ⊎ (new ≡ replaced old First (all_synced old.first)) → LeavesNoMore gateway old new
 sync_leaves gateway old new h =

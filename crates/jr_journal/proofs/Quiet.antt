@@ -31,3 +31,10 @@ unhurt_ok {T} x before after same =
 
 pub unhurt_then : {T : Type 0} (r : Result T JournalFault) (start before after : Outlook) → before ≡ start → IsUnhurt r before after → IsUnhurt r start after
 unhurt_then r start before after same h = (h.0, h.1 ∙ same)
+
+-- a fault that a `?` passes on
+pub unhurt_err : {T U : Type 0} (r : Result T JournalFault) (told fault : JournalFault) (before after : Outlook) → r ≡ Err told → told ≡ fault → IsUnhurt {T = U} (Err fault) before after → IsUnhurt r before after
+unhurt_err {T} {U} r told fault before after is same h =
+    let passed : Result U JournalFault = Err fault in
+    let blamed : Result U JournalFault = Err Disk in
+    (λ e. let one : Err told ≡ Err Disk = sym is ∙ e in let disk : told ≡ Disk = cc in let both : passed ≡ blamed = ap Err (sym same ∙ disk) in h.0 both, h.1)

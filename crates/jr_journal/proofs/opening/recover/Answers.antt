@@ -1,9 +1,10 @@
-use Rattle.std.proofs.Common.{◌∙◌}
+use Rattle.std.proofs.Common.{◌≡◌, ◌∙◌}
+use Rattle.std.proofs.lemmas.Result.{err_from_is_err_and}
 use Rattle.jr_journal.specs.Disk.{image}
 use Rattle.jr_journal.specs.Faults.{is_fresh}
 use Rattle.jr_journal.proofs.Calm.{not_starved, quiet_calm}
-use Rattle.jr_journal.proofs.Quiet.{still_calm, still_quiet, unhurt_ok, unhurt_then}
-use Rattle.jr_journal.proofs.Leaving.{sync_leaves, synced_leaves, partly_leaves}
+use Rattle.jr_journal.proofs.Quiet.{still_calm, still_quiet, unhurt_ok, unhurt_then, unhurt_err}
+use Rattle.jr_journal.proofs.Leaving.{always_err, sync_leaves, synced_leaves, partly_leaves}
 use Rattle.jr_journal.proofs.Opened.{IsRecovered, all_steps, steps_settled, steps_leave, opening_records, opening_found}
 use Rattle.jr_journal.proofs.opening.recover.Goals as goal
 
@@ -41,22 +42,26 @@ returns-clause-found g c = λ honest.
 
 pub returns-in_err-sync_both-clause-leaves : goal.returns-in_err-sync_both-clause-leaves
 returns-in_err-sync_both-clause-leaves g c = λ honest.
-    sync_leaves c.args.gateway (g.D.Disk.slots c.args.disk.now) (g.D.Disk.slots c.sync_both.new.disk) (c.in_err-sync_both.ensures.part honest)
+    always_err c.from_residual.result (sync_leaves c.args.gateway (g.D.Disk.slots c.args.disk.now) (g.D.Disk.slots c.sync_both.new.disk) (c.in_err-sync_both.ensures.part honest))
 
 pub returns-in_err-opening-clause-leaves : goal.returns-in_err-opening-clause-leaves
 returns-in_err-opening-clause-leaves g c = λ honest.
-    synced_leaves c.args.gateway (g.D.Disk.slots c.args.disk.now) (g.D.Disk.slots c.read_slots.new.disk) (c.in_err-opening.ensures.same honest ∙ c.in_ok-sync_both.ensures.ok honest)
+    always_err c.from_residual-in_err-opening.result (synced_leaves c.args.gateway (g.D.Disk.slots c.args.disk.now) (g.D.Disk.slots c.read_slots.new.disk) (c.in_err-opening.ensures.same honest ∙ c.in_ok-sync_both.ensures.ok honest))
 
 pub returns-in_err-settle-clause-leaves : goal.returns-in_err-settle-clause-leaves
 returns-in_err-settle-clause-leaves g c = λ honest.
-    partly_leaves c.args.gateway (g.D.Disk.slots c.args.disk.now) (g.D.Disk.slots c.sync_both.new.disk) (g.D.Disk.slots c.read_slots.new.disk) (g.D.Disk.slots c.settle.new.disk) c.in_ok-opening.opening
-    (c.in_ok-sync_both.ensures.ok honest) (c.in_ok-opening.ensures.same honest) (c.in_ok-opening.ensures.opening honest).0 (c.in_err-settle.ensures.part honest)
+    always_err c.from_residual-in_err-settle.result (partly_leaves c.args.gateway (g.D.Disk.slots c.args.disk.now) (g.D.Disk.slots c.sync_both.new.disk) (g.D.Disk.slots c.read_slots.new.disk) (g.D.Disk.slots c.settle.new.disk) c.in_ok-opening.opening
+    (c.in_ok-sync_both.ensures.ok honest) (c.in_ok-opening.ensures.same honest) (c.in_ok-opening.ensures.opening honest).0 (c.in_err-settle.ensures.part honest))
 
 -- ---- a failure that is arranged
 
 pub returns-in_err-sync_both-clause-calm : goal.returns-in_err-sync_both-clause-calm
 returns-in_err-sync_both-clause-calm g c = λ honest fed quiet.
-    c.in_err-sync_both.ensures.calm honest fed (quiet_calm (g.D.Disk.outlook c.args.disk.now) (is_fresh (image (g.D.Disk.slots c.args.disk.now))) quiet)
+    let p = err_from_is_err_and c.from_residual.result c.from_residual.ensures.1 in
+    let q = p.2 in
+    let same : p.0 ≡ c.in_err-sync_both.field-0.0 = cc in
+    unhurt_err c.from_residual.result p.0 c.in_err-sync_both.field-0.0 (g.D.Disk.outlook c.args.disk.now) (g.D.Disk.outlook c.sync_both.new.disk) p.1 same
+    (c.in_err-sync_both.ensures.calm honest fed (quiet_calm (g.D.Disk.outlook c.args.disk.now) (is_fresh (image (g.D.Disk.slots c.args.disk.now))) quiet))
 
 pub returns-in_err-opening-clause-calm : goal.returns-in_err-opening-clause-calm
 returns-in_err-opening-clause-calm g c = λ honest fed quiet.
@@ -64,8 +69,12 @@ returns-in_err-opening-clause-calm g c = λ honest fed quiet.
     let fresh = is_fresh (image (g.D.Disk.slots c.args.disk.now)) in
     let fed1 = not_starved (g.D.Disk.starved c.sync_both.new.disk) (g.D.Disk.starved c.read_slots.new.disk) c.in_err-opening.ensures.starved fed in
     let first = c.in_ok-sync_both.ensures.calm honest fed1 (quiet_calm before fresh quiet) in
-    unhurt_then _ before (g.D.Disk.outlook c.sync_both.new.disk) (g.D.Disk.outlook c.read_slots.new.disk) first.1
-    (c.in_err-opening.ensures.calm honest fed (still_calm fresh before (g.D.Disk.outlook c.sync_both.new.disk) quiet first.1))
+    let p = err_from_is_err_and c.from_residual-in_err-opening.result c.from_residual-in_err-opening.ensures.1 in
+    let q = p.2 in
+    let same : p.0 ≡ c.in_err-opening.field-0.0 = cc in
+    unhurt_then c.from_residual-in_err-opening.result before (g.D.Disk.outlook c.sync_both.new.disk) (g.D.Disk.outlook c.read_slots.new.disk) first.1
+    (unhurt_err c.from_residual-in_err-opening.result p.0 c.in_err-opening.field-0.0 (g.D.Disk.outlook c.sync_both.new.disk) (g.D.Disk.outlook c.read_slots.new.disk) p.1 same
+    (c.in_err-opening.ensures.calm honest fed (still_calm fresh before (g.D.Disk.outlook c.sync_both.new.disk) quiet first.1)))
 
 pub returns-in_err-settle-clause-calm : goal.returns-in_err-settle-clause-calm
 returns-in_err-settle-clause-calm g c = λ honest fed quiet.
@@ -75,10 +84,14 @@ returns-in_err-settle-clause-calm g c = λ honest fed quiet.
     let fed1 = not_starved (g.D.Disk.starved c.sync_both.new.disk) (g.D.Disk.starved c.read_slots.new.disk) c.in_ok-opening.ensures.starved fed2 in
     let first = c.in_ok-sync_both.ensures.calm honest fed1 (quiet_calm before (is_fresh (image old)) quiet) in
     let second = c.in_ok-opening.ensures.calm honest fed2 (still_calm (is_fresh (image old)) before (g.D.Disk.outlook c.sync_both.new.disk) quiet first.1) in
-    unhurt_then _ before (g.D.Disk.outlook c.read_slots.new.disk) (g.D.Disk.outlook c.settle.new.disk) (second.1 ∙ first.1)
+    let p = err_from_is_err_and c.from_residual-in_err-settle.result c.from_residual-in_err-settle.ensures.1 in
+    let q = p.2 in
+    let same : p.0 ≡ c.in_err-settle.field-0.0 = cc in
+    unhurt_then c.from_residual-in_err-settle.result before (g.D.Disk.outlook c.read_slots.new.disk) (g.D.Disk.outlook c.settle.new.disk) (second.1 ∙ first.1)
+    (unhurt_err c.from_residual-in_err-settle.result p.0 c.in_err-settle.field-0.0 (g.D.Disk.outlook c.read_slots.new.disk) (g.D.Disk.outlook c.settle.new.disk) p.1 same
     (c.in_err-settle.ensures.calm honest fed
     (still_quiet c.args.gateway old (g.D.Disk.slots c.sync_both.new.disk) c.in_ok-opening.opening before (g.D.Disk.outlook c.read_slots.new.disk)
-    (c.in_ok-sync_both.ensures.ok honest) (c.in_ok-opening.ensures.opening honest).0 quiet (second.1 ∙ first.1)))
+    (c.in_ok-sync_both.ensures.ok honest) (c.in_ok-opening.ensures.opening honest).0 quiet (second.1 ∙ first.1))))
 
 pub returns-clause-calm : goal.returns-clause-calm
 returns-clause-calm g c = λ honest fed quiet.
