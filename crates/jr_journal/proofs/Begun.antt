@@ -1,12 +1,12 @@
 -- A new journal, begun in part.
-use Rattle.std.proofs.Common.{◌≡◌, ℕ, ◌-◌, List, [], length, take, Result, Ok, Err, refl, sym, ap, ◌∙◌, inl, inr, ◌⊎◌, true, false, arith}
+use Rattle.std.proofs.Common.{◌≡◌, ℕ, ◌-◌, List, [], length, take, Result, sym, ap, ◌∙◌, inr, true, false, arith}
 use Rattle.std.specs.Prelude.{IfErr, OnOk, OnErr}
 use Rattle.std.specs.Result.{is_err}
 use Rattle.std.proofs.lemmas.List.{take_all}
-use Rattle.jr_journal.specs.declared.disk.Slot.TheVariants.{First, Second}
+use Rattle.jr_journal.specs.declared.disk.Slot.TheVariants.{First}
 use Rattle.jr_journal.specs.declared.disk.Short.{Short}
 use Rattle.jr_journal.specs.declared.disk.DiskFault.{DiskFault}
-use Rattle.jr_journal.specs.Disk.{SlotBytes, Slots, at, replaced, appended, cut_to}
+use Rattle.jr_journal.specs.Disk.{SlotBytes, Slots, replaced, appended, cut_to}
 use Rattle.jr_journal.specs.Records.{new_journal}
 use Rattle.jr_journal.specs.Opening.{IsBegun}
 use Rattle.jr_journal.proofs.Appending.{on_ok, on_err, err_written}
@@ -17,8 +17,11 @@ emptied s bytes = let none : 0 - length s.synced ≡ 0 = omega arith in λ j. ap
 
 begun_with : (gateway : ℕ) (old middle new : Slots) (sent : List ℕ) (w : ℕ) → middle ≡ replaced old First (cut_to old.first 0) → sent ≡ new_journal gateway → new ≡ replaced middle First (appended middle.first (take w sent)) → IsBegun gateway old new
 begun_with gateway old middle new sent w cut is went =
-    inr (w, went ∙ (ap (λ d. replaced d First (appended d.first (take w sent))) cut ∙
-    (ap (λ s. replaced old First s) (emptied old.first (take w sent)) ∙ ap (λ xs. replaced old First (record { synced = []; unsynced = take w xs })) is)))
+    inr (
+      w,
+      went ∙ (ap (λ d. replaced d First (appended d.first (take w sent))) cut ∙
+          (ap (λ s. replaced old First s) (emptied old.first (take w sent)) ∙ ap (λ xs. replaced old First (record { synced = []; unsynced = take w xs })) is)),
+    )
 
 pub begun_short : (gateway : ℕ) (old middle new : Slots) (sent : List ℕ) (r : Result (Unit {0}) DiskFault) (q : Result (Unit {0}) Short) → false ≡ is_err r → true ≡ is_err q → OnOk r (middle ≡ replaced old First (cut_to old.first 0)) → sent ≡ new_journal gateway
     → IfErr q (λ short. new ≡ replaced middle First (appended middle.first (take short.written sent))) → IsBegun gateway old new

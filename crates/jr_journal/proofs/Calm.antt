@@ -1,6 +1,6 @@
 -- Calls that do not meet the failure that is arranged.
-use Rattle.std.proofs.Common.{◌≡◌, ℕ, Bool, true, false, not, Option, Some, None, Result, Ok, Err, refl, sym, ap, subst, ◌∙◌}
-use Rattle.std.specs.Prelude.{IsOk, IsErr, IsErrOf, IsTrue}
+use Rattle.std.proofs.Common.{◌≡◌, ℕ, Bool, true, false, Option, Some, None, Result, refl, sym, ◌∙◌}
+use Rattle.std.specs.Prelude.{IsOk}
 use Rattle.jr_journal.specs.declared.disk.DiskFault.{DiskFault}
 use Rattle.jr_journal.specs.declared.disk.Short.{Short}
 use Rattle.jr_journal.specs.declared.disk.Plan.{Plan}

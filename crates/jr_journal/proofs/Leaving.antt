@@ -1,5 +1,5 @@
 -- What a crash leaves behind an opening that failed.
-use Rattle.std.proofs.Common.{◌≡◌, ℕ, ◌+◌, ◌-◌, ◌<◌, ◌≤◌, Bool, true, false, None, Result, Ok, Err, List, [], ◌∷◌, ◌++◌, length, take, drop, min, refl, sym, ap, subst, ◌∙◌, inl, inr, ◌⊎◌, arith}
+use Rattle.std.proofs.Common.{◌≡◌, ℕ, ◌<◌, ◌≤◌, true, false, None, Result, Ok, Err, List, [], ◌∷◌, ◌++◌, length, take, drop, min, refl, sym, ap, subst, ◌∙◌, inl, inr, ◌⊎◌, arith}
 use Rattle.std.specs.Prelude.{nat_lt, OnErr}
 use Rattle.std.specs.Int.{w64, from_be_bytes}
 use Rattle.std.specs.Str.{bytes_eq}
@@ -7,16 +7,14 @@ use Rattle.std.proofs.Math.ListN.{drop_of_length-le}
 use Rattle.std.proofs.lemmas.Bool.{cases_lt, lt-ltb}
 use Rattle.std.proofs.lemmas.List.{append-nil, take_all, take-take, take-append-le, length-take}
 use Rattle.byteorder.specs.Endian.{big_bytes}
-use Rattle.rep_ops.specs.declared.op.Op.{Op}
-use Rattle.jr_journal.specs.declared.disk.Slot.TheVariants.{First, Second}
-use Rattle.jr_journal.specs.declared.content.SlotContent.{SlotContent}
-use Rattle.jr_journal.specs.declared.content.SlotContent.TheVariants.{Alien, Unsealed, Sealed, Broken}
+use Rattle.jr_journal.specs.declared.disk.Slot.TheVariants.{First}
+use Rattle.jr_journal.specs.declared.content.SlotContent.TheVariants.{Unsealed}
 use Rattle.jr_journal.specs.declared.opening.Opening.{Opening}
 use Rattle.jr_journal.specs.declared.opening.Opening.TheVariants.{New, Held}
 use Rattle.jr_journal.specs.Disk.{SlotBytes, Slots, Image, replaced, bytes_of, image, all_synced, left_of, after_crash}
 use Rattle.jr_journal.specs.Records.{new_journal, magic, made, begins, after_header, found, slot_content, chosen, records}
 use Rattle.jr_journal.specs.Faults.{slots_fault, fault_of}
-use Rattle.jr_journal.specs.Opening.{synced_slots, deltas_of, IsOpening, IsPartly, settled, OpensAlike, LeavesNoMore}
+use Rattle.jr_journal.specs.Opening.{synced_slots, IsOpening, IsPartly, OpensAlike, LeavesNoMore}
 use Rattle.jr_journal.proofs.Pieces.{found_nothing}
 use Rattle.jr_journal.proofs.Contents.{IsSealed, content_cut, content_whole, sealed_again}
 use Rattle.jr_journal.proofs.Sound.{image_of, empty_unsealed, fault_is, alone_sound}
@@ -151,28 +149,26 @@ partly_leaves gateway old synced read new o e same h part =
     let here : IsOpening gateway (image old) o = subst (λ (i : Image). IsOpening gateway i o) (ap image e ∙ synced_same old) h in
     go o here (subst (λ (d : Slots). IsPartly gateway o d new) start part)
   where
-  go : (o : Opening) → IsOpening gateway (image old) o → IsPartly gateway o (synced_slots old) new → LeavesNoMore gateway old new
-  go New here part =
-      elim part [
-        | inl unchanged ↦ synced_leaves gateway old new unchanged
-        | inr out ↦
-            from_image gateway old new (λ k l.
-            let is : after_crash k l new ≡ after_crash k l (begun (synced_slots old) (take out.0 (new_journal gateway))) = ap (λ d. after_crash k l d) out.1 in
-            (
-              ap (λ i. records gateway i) is ∙ (begun_leaves gateway old out.0 k l here.0 ∙ opening_records gateway (image old) New here),
-              ap (λ i. fault_of gateway i) is ∙ (begun_sound gateway old out.0 k l here.0 ∙ sym (opening_found gateway (image old) New here)),
-            ))
-      ]
-  go (Held f n) here part =
-      elim part [
-        | inl unchanged ↦ synced_leaves gateway old new unchanged
-        | inr cut ↦
-            let is = settled_is gateway old (synced_slots old) new (Held f n) refl (subst (λ (i : Image). IsOpening gateway i (Held f n)) (sym (synced_same old)) here) cut in
-            from_image gateway old new (λ k l.
-            let same = ap (λ d. after_crash k l d) is in
-            let there = recovered_leaves gateway (image old) (Held f n) here k l in
-            (
-              ap (λ i. records gateway i) same ∙ (there.0 ∙ opening_records gateway (image old) (Held f n) here),
-              ap (λ i. fault_of gateway i) same ∙ (there.1 ∙ sym (opening_found gateway (image old) (Held f n) here)),
-            ))
-      ]
+    go : (o : Opening) → IsOpening gateway (image old) o → IsPartly gateway o (synced_slots old) new → LeavesNoMore gateway old new
+    go New here part =
+        elim part [
+          | inl unchanged ↦ synced_leaves gateway old new unchanged
+          | inr out ↦
+              from_image gateway old new (λ k l.
+              let is : after_crash k l new ≡ after_crash k l (begun (synced_slots old) (take out.0 (new_journal gateway))) = ap (λ d. after_crash k l d) out.1 in (
+                ap (λ i. records gateway i) is ∙ (begun_leaves gateway old out.0 k l here.0 ∙ opening_records gateway (image old) New here),
+                ap (λ i. fault_of gateway i) is ∙ (begun_sound gateway old out.0 k l here.0 ∙ sym (opening_found gateway (image old) New here)),
+              ))
+        ]
+    go (Held f n) here part =
+        elim part [
+          | inl unchanged ↦ synced_leaves gateway old new unchanged
+          | inr cut ↦
+              let is = settled_is gateway old (synced_slots old) new (Held f n) refl (subst (λ (i : Image). IsOpening gateway i (Held f n)) (sym (synced_same old)) here) cut in
+              from_image gateway old new (λ k l.
+              let same = ap (λ d. after_crash k l d) is in
+              let there = recovered_leaves gateway (image old) (Held f n) here k l in (
+                ap (λ i. records gateway i) same ∙ (there.0 ∙ opening_records gateway (image old) (Held f n) here),
+                ap (λ i. fault_of gateway i) same ∙ (there.1 ∙ sym (opening_found gateway (image old) (Held f n) here)),
+              ))
+        ]

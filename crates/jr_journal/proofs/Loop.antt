@@ -1,11 +1,10 @@
 -- Reading the pieces of a slot one after the other, as a loop does.
-use Rattle.std.proofs.Common.{◌≡◌, ℕ, ◌+◌, ◌-◌, ◌≤◌, Bool, true, false, List, [], ◌∷◌, ◌++◌, length, drop, refl, sym, ap, subst, ◌∙◌, append_assoc, arith}
+use Rattle.std.proofs.Common.{◌≡◌, ℕ, ◌+◌, ◌≤◌, Bool, true, false, List, [], ◌∷◌, ◌++◌, length, drop, refl, sym, ap, subst, ◌∙◌, append_assoc, arith}
 use Rattle.std.proofs.lemmas.List.{append-nil}
 use Rattle.rep_ops.specs.declared.op.Op.{Op}
-use Rattle.jr_journal.specs.declared.piece.Piece.{Piece}
 use Rattle.jr_journal.specs.declared.piece.Piece.TheVariants.{Whole, Seal, Torn, Bad}
 use Rattle.jr_journal.specs.declared.piece.Found.{Found}
-use Rattle.jr_journal.specs.Records.{made, piece_at, ended, joined, one_record, one_seal, found}
+use Rattle.jr_journal.specs.Records.{made, piece_at, ended, joined, one_record, found}
 use Rattle.jr_journal.proofs.Pieces.{record_shape, found_record, found_seal, found_second_seal, found_torn, found_bad, found_nothing, found_skip}
 
 made_same : (d e : List (List Op)) (s : Bool) (m n : ℕ) (b : Bool) → d ≡ e → m ≡ n → made d s m b ≡ made e s n b

@@ -1,6 +1,5 @@
 -- An opening and the failure that is arranged.
-use Rattle.std.proofs.Common.{◌≡◌, ℕ, Bool, true, false, Option, Some, None, Result, Ok, Err, refl, sym, ap, subst, ◌∙◌}
-use Rattle.jr_journal.specs.declared.disk.Plan.{Plan}
+use Rattle.std.proofs.Common.{◌≡◌, ℕ, Bool, true, false, Result, Ok, Err, sym, ap, subst, ◌∙◌}
 use Rattle.jr_journal.specs.declared.fault.JournalFault.{JournalFault}
 use Rattle.jr_journal.specs.declared.fault.JournalFault.TheVariants.{Disk}
 use Rattle.jr_journal.specs.declared.opening.Opening.{Opening}

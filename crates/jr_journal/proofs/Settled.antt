@@ -1,7 +1,7 @@
 -- A journal's disk: what a crash leaves of it, before and after bytes are appended.
-use Rattle.std.proofs.Common.{◌≡◌, ℕ, ◌+◌, ◌-◌, ◌<◌, ◌≤◌, Bool, true, false, ◌&&◌, None, List, [], ◌∷◌, ◌++◌, length, take, drop, min, refl, sym, ap, subst, ◌∙◌, inl, inr, ◌⊎◌, append_assoc, arith}
-use Rattle.std.specs.Prelude.{nat_lt, ◌==◌}
-use Rattle.std.proofs.lemmas.Bool.{cases_lt, and_parts, and_from, ltb-true, lt-ltb, le-ltb, eqb-true, eq-eqb}
+use Rattle.std.proofs.Common.{◌≡◌, ℕ, ◌+◌, true, false, None, List, [], ◌∷◌, ◌++◌, length, take, min, refl, sym, ap, subst, ◌∙◌, inl, inr, ◌⊎◌, arith}
+use Rattle.std.specs.Prelude.{nat_lt}
+use Rattle.std.proofs.lemmas.Bool.{cases_lt, and_parts, and_from, ltb-true, le-ltb, eqb-true, eq-eqb}
 use Rattle.std.proofs.lemmas.List.{append-nil, take-take, take_all, length-take, length-append}
 use Rattle.rep_ops.specs.declared.op.Op.{Op}
 use Rattle.jr_journal.specs.declared.disk.Slot.{Slot}
@@ -10,9 +10,9 @@ use Rattle.jr_journal.specs.declared.piece.Found.{Found}
 use Rattle.jr_journal.specs.declared.content.SlotContent.{SlotContent}
 use Rattle.jr_journal.specs.declared.content.SlotContent.TheVariants.{Alien, Unsealed, Sealed, Broken}
 use Rattle.jr_journal.specs.Disk.{SlotBytes, Slots, Image, at, replaced, bytes_of, image, synced_part, appended, all_synced, left_of, after_crash}
-use Rattle.jr_journal.specs.Records.{delta_bytes, IsReadable, written, joined, ended, one_record, found, slot_content, chosen, records}
+use Rattle.jr_journal.specs.Records.{delta_bytes, IsReadable, written, joined, ended, one_record, slot_content, chosen, records}
 use Rattle.jr_journal.specs.Journals.{other, is_below, leads, is_settled, Leaves, LeavesOneMore}
-use Rattle.jr_journal.specs.Faults.{is_nil, is_none, fault_of}
+use Rattle.jr_journal.specs.Faults.{is_nil, fault_of}
 use Rattle.jr_journal.proofs.Append.{found_written, found_front, length_written}
 use Rattle.jr_journal.proofs.Contents.{IsSealed, IsFull, sealed_shape, sealed_again, sealed_more}
 use Rattle.jr_journal.proofs.Sound.{image_at, none_is, is_none_at, more_sound, replaced_sound}

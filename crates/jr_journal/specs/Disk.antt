@@ -1,5 +1,5 @@
 -- A disk of two slots: what is in them, what a crash leaves, and when a call may fail.
-use Rattle.std.specs.Prelude.{Option, Some, None, Bool, true, false, ◌≡◌, ℕ, ◌+◌, ◌-◌, ◌<◌, ◌≤◌, min, List, [], ◌++◌, length, take, Result, IsOk, IsErr, IsErrAnd, MatchResult}
+use Rattle.std.specs.Prelude.{Option, Some, None, Bool, true, false, ◌≡◌, ℕ, ◌-◌, ◌<◌, ◌≤◌, min, List, [], ◌++◌, length, take, Result, IsOk, IsErr, IsErrAnd, MatchResult}
 use Rattle.jr_journal.specs.declared.disk.Slot.{Slot}
 use Rattle.jr_journal.specs.declared.disk.Slot.TheVariants.{First, Second}
 use Rattle.jr_journal.specs.declared.disk.DiskFault.{DiskFault}

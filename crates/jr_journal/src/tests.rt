@@ -139,7 +139,8 @@ fn one_record_is_53_bytes(rt: HostRuntime) -> Result<(), Fail> {
 
 /// A disk with two records, the second an acknowledgement, behind a crash.
 fn two_records(alloc: Global) -> Result<MemoryDisk, JournalFault> {
-    let Ok((mut journal, _deltas)) = Journal::open(alloc, disk_with(alloc, &JOURNAL, &[])?, 1) else {
+    let Ok((mut journal, _deltas)) = Journal::open(alloc, disk_with(alloc, &JOURNAL, &[])?, 1)
+    else {
         return Err(JournalFault::Memory);
     };
     journal.append(alloc, &delta_of(alloc, acknowledgement(alloc))?)?;

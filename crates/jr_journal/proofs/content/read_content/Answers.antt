@@ -1,4 +1,4 @@
-use Rattle.std.proofs.Common.{◌≡◌, ◌≤◌, drop, sym, arith}
+use Rattle.std.proofs.Common.{sym}
 use Rattle.jr_journal.proofs.Contents.{content_alien, content_cut, content_read}
 use Rattle.jr_journal.proofs.content.read_content.Goals as goal
 

@@ -5,7 +5,7 @@ use Rattle.jr_journal.specs.Faults.{is_fresh}
 use Rattle.jr_journal.proofs.Calm.{not_starved, quiet_calm}
 use Rattle.jr_journal.proofs.Quiet.{still_calm, still_quiet, unhurt_ok, unhurt_then, unhurt_err}
 use Rattle.jr_journal.proofs.Leaving.{always_err, sync_leaves, synced_leaves, partly_leaves}
-use Rattle.jr_journal.proofs.Opened.{IsRecovered, all_steps, steps_settled, steps_leave, opening_records, opening_found}
+use Rattle.jr_journal.proofs.Opened.{all_steps, steps_settled, steps_leave, opening_records, opening_found}
 use Rattle.jr_journal.proofs.opening.recover.Goals as goal
 
 pub returns-clause-records : goal.returns-clause-records

@@ -1,6 +1,6 @@
-use Rattle.std.proofs.Common.{◌≡◌, ◌+◌, ◌-◌, ◌≤◌, Bool, true, false, ℕ, [], ◌∷◌, ◌++◌, length, drop, sym, ap, subst, ◌∙◌, arith}
+use Rattle.std.proofs.Common.{◌≡◌, ◌+◌, ◌-◌, ◌≤◌, true, false, ℕ, [], ◌∷◌, ◌++◌, length, drop, sym, ap, subst, ◌∙◌, arith}
 use Rattle.std.proofs.lemmas.List.{length-drop, nil_from_length}
-use Rattle.jr_journal.specs.declared.piece.Piece.TheVariants.{Whole, Seal}
+use Rattle.jr_journal.specs.declared.piece.Piece.TheVariants.{Whole}
 use Rattle.jr_journal.specs.Records.{found, made, piece_at}
 use Rattle.jr_journal.proofs.Loop.{IsSoFar, goes_on, seals, stops_at_end, stops_torn, stops_bad, stops_sealed, record_inside, at_front, at_flag, at_next}
 use Rattle.jr_journal.proofs.piece.read_pieces.Goals as goal

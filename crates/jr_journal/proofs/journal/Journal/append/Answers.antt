@@ -1,4 +1,4 @@
-use Rattle.std.proofs.Common.{◌≡◌, List, ℕ, ◌∙◌, length}
+use Rattle.std.proofs.Common.{◌≡◌, ◌∙◌, length}
 use Rattle.jr_journal.specs.Disk.{at, replaced, appended}
 use Rattle.std.proofs.Common.{take}
 use Rattle.jr_journal.proofs.Appending.{on_ok, on_err, err_written, torn_after, all_out, synced_is, settles_after, durable_after}
