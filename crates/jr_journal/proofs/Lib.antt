@@ -1,0 +1,14 @@
+pub mod Halves
+pub mod Pieces
+pub mod Loop
+pub mod Contents
+pub mod Append
+pub mod Sound
+pub mod Settled
+pub mod Readable
+pub mod Appending
+pub mod Begun
+pub mod Opened
+pub mod Calm
+pub mod Quiet
+pub mod Leaving

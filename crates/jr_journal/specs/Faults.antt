@@ -1,0 +1,55 @@
+-- Which fault there is in two slots.
+use Rattle.std.specs.Prelude.{Option, Some, None, ◌≡◌, ℕ, Bool, true, false, ◌&&◌, if◌then◌else◌, nat_lt, List, [], ◌∷◌, length}
+use Rattle.jr_journal.specs.declared.disk.Slot.TheVariants.{First, Second}
+use Rattle.jr_journal.specs.declared.fault.JournalFault.{JournalFault}
+use Rattle.jr_journal.specs.declared.fault.JournalFault.TheVariants.{Disk, Foreign, BadRecord, Memory, Halted}
+use Rattle.jr_journal.specs.declared.content.SlotContent.{SlotContent}
+use Rattle.jr_journal.specs.declared.content.SlotContent.TheVariants.{Alien, Unsealed, Sealed, Broken}
+use Rattle.jr_journal.specs.Disk.{Image}
+use Rattle.jr_journal.specs.Records.{slot_content}
+
+abbrev pub is_nil : List ℕ → Bool
+is_nil [] = true
+is_nil (b ∷ rest) = false
+
+-- the second slot is empty, and the first shorter than a header with its seal
+abbrev pub is_fresh : Image → Bool
+is_fresh i = is_nil i.second && nat_lt (length i.first) 14
+
+-- the fault of two slots: a header of another, the first slot first; a bad piece, the first slot first, in the
+-- slot that is not read too; then two seals of one generation, or none
+abbrev pub slots_fault : SlotContent → SlotContent → Bool → Option JournalFault
+slots_fault Alien Alien fresh = Some Foreign
+slots_fault Alien Unsealed fresh = Some Foreign
+slots_fault Alien (Sealed n g) fresh = Some Foreign
+slots_fault Alien (Broken from) fresh = Some Foreign
+slots_fault Unsealed Alien fresh = Some Foreign
+slots_fault (Sealed m f) Alien fresh = Some Foreign
+slots_fault (Broken at) Alien fresh = Some Foreign
+slots_fault (Broken at) Unsealed fresh = Some (BadRecord First at)
+slots_fault (Broken at) (Sealed n g) fresh = Some (BadRecord First at)
+slots_fault (Broken at) (Broken from) fresh = Some (BadRecord First at)
+slots_fault Unsealed (Broken from) fresh = Some (BadRecord Second from)
+slots_fault (Sealed m f) (Broken from) fresh = Some (BadRecord Second from)
+slots_fault Unsealed Unsealed fresh = if fresh then None else Some Foreign
+slots_fault Unsealed (Sealed n g) fresh = None
+slots_fault (Sealed m f) Unsealed fresh = None
+slots_fault (Sealed m f) (Sealed n g) fresh = if nat_lt m n then None else (if nat_lt n m then None else Some Foreign)
+
+-- the fault of an image, if any; a second slot that is not empty is not read yet
+abbrev pub fault_of : ℕ → Image → Option JournalFault
+fault_of gateway i =
+    if is_nil i.second then slots_fault (slot_content gateway i.first) (slot_content gateway i.second) (is_fresh i) else Some Foreign
+
+-- it is the fault of the image; want of memory and a disk that failed say nothing of it
+abbrev pub IsFault : Option JournalFault → JournalFault → Type 0
+IsFault fault Disk = Unit {0}
+IsFault fault Memory = Unit {0}
+IsFault fault Foreign = fault ≡ Some Foreign
+IsFault fault (BadRecord slot at) = fault ≡ Some (BadRecord slot at)
+IsFault fault Halted = fault ≡ Some Halted
+
+-- there is none
+abbrev pub is_none : Option JournalFault → Bool
+is_none None = true
+is_none (Some fault) = false

@@ -1,0 +1,82 @@
+-- What a journal keeps true of its disk, and what an append does to it.
+use Rattle.std.specs.Prelude.{Option, Some, None, ◌≡◌, ℕ, ◌+◌, ◌==◌, Bool, true, false, ◌&&◌, nat_lt, ◌⊎◌, min, List, [], ◌∷◌, ◌++◌, length, take, Result, Ok, Err, IsSome}
+use Rattle.rep_ops.specs.declared.op.Op.{Op}
+use Rattle.jr_journal.specs.declared.disk.Slot.{Slot}
+use Rattle.jr_journal.specs.declared.disk.Slot.TheVariants.{First, Second}
+use Rattle.jr_journal.specs.declared.disk.Plan.{Plan}
+use Rattle.jr_journal.specs.declared.disk.Plan.TheVariants.{Stop, KeepBack, FailSync}
+use Rattle.jr_journal.specs.declared.fault.JournalFault.{JournalFault}
+use Rattle.jr_journal.specs.declared.fault.JournalFault.TheVariants.{Disk, Foreign, BadRecord, Memory, Halted}
+use Rattle.jr_journal.specs.declared.content.SlotContent.{SlotContent}
+use Rattle.jr_journal.specs.declared.content.SlotContent.TheVariants.{Alien, Unsealed, Sealed, Broken}
+use Rattle.jr_journal.specs.Disk.{Slots, Image, at, replaced, synced_part, appended, all_synced, EachCrash}
+use Rattle.jr_journal.specs.Records.{records, slot_content}
+use Rattle.jr_journal.specs.Faults.{is_nil, is_none, fault_of}
+
+-- ---- the slot in use
+
+abbrev pub other : Slot → Slot
+other First = Second
+other Second = First
+
+-- a slot of which nothing is read beside a sealed one of this generation
+abbrev pub is_below : SlotContent → ℕ → Bool
+is_below (Sealed n g) generation = nat_lt n generation
+is_below Unsealed generation = true
+is_below Alien generation = false
+is_below (Broken from) generation = false
+
+-- a slot of so many bytes is read, it ends with a whole piece, and beside it the other is not read
+abbrev pub leads : SlotContent → ℕ → SlotContent → Bool
+leads (Sealed generation f) size beside = (13 + f.whole == size) && is_below beside generation
+leads Alien size beside = false
+leads Unsealed size beside = false
+leads (Broken from) size beside = false
+
+-- all is synced, the slot in use is the one that is read and ends with a whole piece, and there is no fault
+abbrev pub is_settled : ℕ → Slot → Slots → Bool
+is_settled gateway slot d =
+    is_nil d.first.unsynced && is_nil d.second.unsynced
+    && leads (slot_content gateway (at d slot).synced) (length (at d slot).synced) (slot_content gateway (at d (other slot)).synced)
+    && is_none (fault_of gateway (synced_part d))
+
+-- ---- crashes
+
+-- an opening finds these records and no fault
+abbrev pub Opens : ℕ → List (List Op) → Image → Type 0
+Opens gateway deltas i = (records gateway i ≡ deltas) × (fault_of gateway i ≡ None)
+
+-- a crash now leaves a journal of these records and no others
+abbrev pub Leaves : ℕ → Slots → List (List Op) → Type 0
+Leaves gateway d deltas = EachCrash (λ i. Opens gateway deltas i) d
+
+-- a crash now leaves a journal of these records, or of these and one more
+abbrev pub LeavesOneMore : ℕ → Slots → List (List Op) → List Op → Type 0
+LeavesOneMore gateway d deltas delta = EachCrash (λ i. Opens gateway deltas i ⊎ Opens gateway (deltas ++ delta ∷ []) i) d
+
+-- ---- one append
+
+-- the slots after an append and its sync, by the failure that was arranged
+abbrev pub after_append : Option Plan → Slots → Slot → List ℕ → Slots
+after_append None d slot bytes = replaced d slot (all_synced (appended (at d slot) bytes))
+after_append (Some (Stop k)) d slot bytes = replaced d slot (appended (at d slot) (take (min k (length bytes)) bytes))
+after_append (Some KeepBack) d slot bytes = replaced d slot (appended (at d slot) bytes)
+after_append (Some FailSync) d slot bytes = replaced d slot (appended (at d slot) bytes)
+
+-- it fails exactly where a failure is arranged, and the slots are as that failure leaves them
+abbrev pub AppendedAs : Option (Option Plan) → Slots → Slot → List ℕ → Result (Unit {0}) JournalFault → Slots → Option (Option Plan) → Type 0
+AppendedAs None old slot bytes result new after = Unit {0}
+AppendedAs (Some plan) old slot bytes (Ok done) new after = (plan ≡ None) × (new ≡ after_append plan old slot bytes) × (after ≡ Some None)
+AppendedAs (Some plan) old slot bytes (Err Disk) new after = IsSome plan × (new ≡ after_append plan old slot bytes) × (after ≡ Some None)
+AppendedAs (Some plan) old slot bytes (Err Foreign) new after = Unit {0}
+AppendedAs (Some plan) old slot bytes (Err (BadRecord place from)) new after = Unit {0}
+AppendedAs (Some plan) old slot bytes (Err Memory) new after = Unit {0}
+AppendedAs (Some plan) old slot bytes (Err Halted) new after = Unit {0}
+
+-- a fault that an append may tell
+abbrev pub IsAppendFault : JournalFault → Type 0
+IsAppendFault Disk = Unit {0}
+IsAppendFault Memory = Unit {0}
+IsAppendFault Halted = Unit {0}
+IsAppendFault Foreign = ⊥
+IsAppendFault (BadRecord place from) = ⊥

@@ -1,0 +1,6 @@
+pub mod Disk
+pub mod Memory
+pub mod Records
+pub mod Faults
+pub mod Journals
+pub mod Opening

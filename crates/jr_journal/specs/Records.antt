@@ -1,0 +1,143 @@
+-- The bytes of a slot: a header, then records with one seal among them.
+use Rattle.std.specs.Prelude.{◌≡◌, ◌≤◌, ℕ, zero, suc, ◌+◌, ◌==◌, Bool, true, false, if◌then◌else◌, nat_lt, min, List, [], ◌∷◌, ◌++◌, length, take, drop, Result, Ok, Err}
+use Rattle.std.specs.Int.{w32, w64, from_be_bytes}
+use Rattle.std.specs.Str.{bytes_eq}
+use Rattle.byteorder.specs.Endian.{big_bytes}
+use Rattle.rep_ops.specs.declared.op.Op.{Op}
+use Rattle.rep_ops.specs.declared.fault.OpsFault.{OpsFault}
+use Rattle.rep_ops.specs.declared.fault.OpsFault.TheVariants as faults
+use Rattle.rep_ops.specs.Reading.{reading}
+use Rattle.rep_ops.specs.Spelling.{spelling, max_octets}
+use Rattle.jr_journal.specs.declared.fault.JournalFault.{JournalFault}
+use Rattle.jr_journal.specs.declared.fault.JournalFault.TheVariants.{Memory}
+use Rattle.jr_journal.specs.declared.piece.Piece.{Piece}
+use Rattle.jr_journal.specs.declared.piece.Piece.TheVariants.{Whole, Seal, Torn, Bad}
+use Rattle.jr_journal.specs.declared.piece.Found.{Found}
+use Rattle.jr_journal.specs.declared.content.SlotContent.{SlotContent}
+use Rattle.jr_journal.specs.declared.content.SlotContent.TheVariants.{Alien, Unsealed, Sealed, Broken}
+use Rattle.jr_journal.specs.Disk.{Image}
+
+-- ---- writing
+
+-- the bytes of a delta
+unfoldable pub delta_bytes : List Op → List ℕ
+delta_bytes delta = spelling delta
+
+-- the delta is read again from its bytes, and a record can hold them
+pub record IsReadable (delta : List Op) : Type 0 where
+  pub read : reading (delta_bytes delta) ≡ Ok delta
+  pub limit : length (delta_bytes delta) ≤ max_octets
+
+-- a record: its tag, its length, the delta's bytes
+abbrev pub written : List Op → List ℕ
+written delta = 68 ∷ big_bytes 4 (length (delta_bytes delta)) ++ delta_bytes delta
+
+-- a header, of which the first five bytes tell the gateway
+abbrev pub magic : ℕ → List ℕ
+magic gateway = 83 ∷ 78 ∷ 74 ∷ 49 ∷ gateway ∷ []
+
+abbrev pub header : ℕ → ℕ → List ℕ
+header gateway generation = magic gateway ++ big_bytes 8 generation
+
+-- a journal without a record: its header, of generation 1, and the seal
+abbrev pub new_journal : ℕ → List ℕ
+new_journal gateway = header gateway 1 ++ 83 ∷ []
+
+-- ---- reading
+
+abbrev pub whole_if : Result (List Op) OpsFault → ℕ → Piece
+whole_if (Ok delta) size = Whole delta size
+whole_if (Err fault) size = Bad
+
+-- what a delta that is refused stands for: want of memory says nothing of it
+abbrev pub refusal : OpsFault → Result Piece JournalFault
+refusal faults.Memory = Err Memory
+refusal fault = Ok Bad
+
+-- the delta of so many bytes, or none
+unfoldable pub delta_piece : ℕ → List ℕ → Piece
+delta_piece size rest = whole_if (reading (take size rest)) size
+
+-- so many bytes should be a delta
+abbrev pub body_at : ℕ → List ℕ → Piece
+body_at size rest = if nat_lt max_octets size then Bad else (if nat_lt (length rest) size then Torn else delta_piece size rest)
+
+-- a record, behind its tag
+abbrev pub record_at : List ℕ → Piece
+record_at rest = if nat_lt (length rest) 4 then Torn else body_at (from_be_bytes w32 (take 4 rest)) (drop 4 rest)
+
+-- the piece that begins with this byte
+unfoldable pub piece_at : ℕ → List ℕ → Piece
+piece_at tag rest = if tag == 68 then record_at rest else (if tag == 83 then Seal else Bad)
+
+abbrev pub match_piece : {A : Type 0} → Piece → (List Op → ℕ → A) → A → A → A → A
+match_piece (Whole delta size) whole seal torn bad = whole delta size
+match_piece Seal whole seal torn bad = seal
+match_piece Torn whole seal torn bad = torn
+match_piece Bad whole seal torn bad = bad
+
+abbrev pub made : List (List Op) → Bool → ℕ → Bool → Found
+made deltas sealed whole bad = record { deltas = deltas; sealed = sealed; whole = whole; bad = bad }
+
+-- nothing more is there, or what comes next may not stand there
+abbrev pub ended : Bool → Bool → Found
+ended sealed bad = made [] sealed 0 bad
+
+-- what was found, and then what was found behind it
+abbrev pub joined : Found → Found → Found
+joined r q = made (r.deltas ++ q.deltas) q.sealed (r.whole + q.whole) q.bad
+
+abbrev pub one_record : List Op → ℕ → Bool → Found
+one_record delta size sealed = made (delta ∷ []) sealed (5 + size) false
+
+abbrev pub one_seal : Found
+one_seal = made [] true 1 false
+
+-- the whole pieces from a place on, past as many bytes of the one before it
+unfoldable pub found : ℕ → Bool → List ℕ → Found
+found skip sealed [] = ended sealed false
+found (suc skip) sealed (b ∷ rest) = found skip sealed rest
+found zero sealed (b ∷ rest) =
+    match_piece (piece_at b rest)
+    (λ delta size. joined (one_record delta size sealed) (found (4 + size) sealed rest))
+    (if sealed then ended true true else joined one_seal (found 0 true rest))
+    (ended sealed false)
+    (ended sealed true)
+
+-- ---- slots
+
+-- as many of the first five bytes as are there are those of a header of this gateway
+abbrev pub begins : ℕ → List ℕ → Bool
+begins gateway bytes = bytes_eq (take (min (length bytes) 5) bytes) (take (min (length bytes) 5) (magic gateway))
+
+abbrev pub after_header : ℕ → Found → SlotContent
+after_header generation f = if f.bad then Broken (13 + f.whole) else (if f.sealed then Sealed generation f else Unsealed)
+
+unfoldable pub slot_content : ℕ → List ℕ → SlotContent
+slot_content gateway bytes =
+    if begins gateway bytes
+    then (if nat_lt (length bytes) 13 then Unsealed else after_header (from_be_bytes w64 (take 8 (drop 5 bytes))) (found 0 false (drop 13 bytes)))
+    else Alien
+
+-- the deltas of the slot that is read: of the sealed ones that of the greater generation
+abbrev pub chosen : SlotContent → SlotContent → List (List Op)
+chosen (Sealed m f) (Sealed n g) = if nat_lt n m then f.deltas else (if nat_lt m n then g.deltas else [])
+chosen (Sealed m f) Alien = f.deltas
+chosen (Sealed m f) Unsealed = f.deltas
+chosen (Sealed m f) (Broken from) = f.deltas
+chosen Alien (Sealed n g) = g.deltas
+chosen Unsealed (Sealed n g) = g.deltas
+chosen (Broken at) (Sealed n g) = g.deltas
+chosen Alien Alien = []
+chosen Alien Unsealed = []
+chosen Alien (Broken from) = []
+chosen Unsealed Alien = []
+chosen Unsealed Unsealed = []
+chosen Unsealed (Broken from) = []
+chosen (Broken at) Alien = []
+chosen (Broken at) Unsealed = []
+chosen (Broken at) (Broken from) = []
+
+-- the records of an image
+abbrev pub records : ℕ → Image → List (List Op)
+records gateway i = chosen (slot_content gateway i.first) (slot_content gateway i.second)

@@ -1,0 +1,36 @@
+//! Why a journal refuses.
+
+ghost use Rattle.std.specs.Prelude.{◌≡◌};
+ghost use Rattle.jr_journal.specs.declared.fault.JournalFault.TheVariants.{Memory};
+
+use crate::disk::Slot;
+use std::alloc::{AllocError, AllocFailed};
+use thiserror::Error;
+
+/// Why a journal refuses.
+#[derive(Clone, Copy, Debug, PartialEq, Eq, Error)]
+pub enum JournalFault {
+    /// Fault 1: the disk failed.
+    #[error("the disk failed")]
+    Disk,
+    /// Fault 2: the slots are no journal of this gateway.
+    #[error("the slots are no journal of this gateway")]
+    Foreign,
+    /// Fault 3: what stands at this place of a slot is no record and no seal that may stand there.
+    #[error("no record at byte {at} of a slot")]
+    BadRecord { slot: Slot, at: usize },
+    /// Fault 4: memory ran out.
+    #[error("out of memory")]
+    Memory,
+    /// Fault 5: a write has failed since the journal was opened.
+    #[error("the journal is halted")]
+    Halted,
+}
+
+impl From<AllocError> for JournalFault {
+    ghost from_gives = { λ _ e. e ≡ Memory };
+
+    fn from(_error: AllocError) -> JournalFault {
+        JournalFault::Memory
+    }
+}

@@ -1,0 +1,37 @@
+//! The journal of a gateway: what it has taken, on a disk that may fail.
+//!
+//! Each delta is one record, and a record counts once it is synced. After any crash the journal gives every record
+//! that was acknowledged, in order, and at most one more: the one whose write was cut off.
+//!
+//! - `disk`: what a journal asks of a disk (`Disk`), over two slots of bytes.
+//! - `memory`: a disk in memory (`MemoryDisk`), proved to do what `Disk` says; failures can be arranged.
+//! - `failures`: a count without an upper end, which contracts alone see.
+//! - `piece`, `content`: reading a slot, one function for each definition.
+//! - `record`: a record as it is written.
+//! - `opening`: the steps of an opening: sync both slots, read them, cut a torn end away or begin a new journal.
+//! - `journal`: `Journal`, with `open` and `append`.
+//! - `fault`: why a journal refuses.
+//!
+//! The definitions are in `specs/`: `Disk` (slots and what a crash leaves), `Memory` (a disk in memory), `Records` (from the
+//! bytes of a slot to its records), `Journals` (what a journal keeps true, and an append), `Opening` (faults, and the slots
+//! behind an opening).
+#![tactic(auto)]
+
+mod content;
+mod disk;
+mod failures;
+mod fault;
+mod journal;
+mod memory;
+mod opening;
+mod piece;
+mod record;
+
+pub use disk::{Disk, DiskFault, Plan, Short, Slot};
+pub use failures::Failures;
+pub use fault::JournalFault;
+pub use journal::Journal;
+pub use memory::MemoryDisk;
+
+#[cfg(test)]
+mod tests;

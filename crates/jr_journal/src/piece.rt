@@ -1,0 +1,170 @@
+//! What stands in a slot behind its header: records and a seal.
+
+ghost use Rattle.std.specs.Prelude.{◌≡◌, ◌≤◌, ◌<◌, ◌+◌, false, length, take, drop, IfOk, IfErr, IfNone, IfSome};
+ghost use Rattle.std.specs.Int.{w32, from_be_bytes};
+ghost use Rattle.jr_journal.specs.Records.{delta_piece, body_at, record_at, piece_at, refusal, made, found};
+
+use crate::fault::JournalFault;
+use octets::{Sequence, read_u32};
+use rep_ops::{Delta, OpsFault};
+use std::alloc::Global;
+
+/// The most bytes of a delta, 8 MiB.
+const MAX_DELTA: usize = 8_388_608;
+
+/// The tag of a record.
+pub(crate) const RECORD: u8 = 0x44;
+
+/// The tag of the seal.
+pub(crate) const SEAL: u8 = 0x53;
+
+/// What stands at a place where a record or the seal should.
+#[derive(Drop)]
+pub enum Piece {
+    /// A record, whose delta has so many bytes.
+    Whole { delta: Delta, size: usize },
+    /// The seal.
+    Seal,
+    /// A record that the end cuts.
+    Torn,
+    /// Neither a record nor a seal.
+    Bad,
+}
+
+/// The whole pieces of a slot.
+#[derive(Drop)]
+pub struct Found {
+    /// The deltas of the records.
+    pub deltas: Sequence<Delta>,
+    /// The seal is among them.
+    pub sealed: bool,
+    /// How many bytes they take.
+    pub whole: usize,
+    /// What comes next is neither a record nor a seal that may stand there.
+    pub bad: bool,
+}
+
+/// What a refused delta stands for.
+fn refused(fault: OpsFault) -> Result<Piece, JournalFault>
+    ensures { result ≡ refusal fault }
+{
+    match fault {
+        OpsFault::Memory => Err(JournalFault::Memory),
+        OpsFault::Twice
+        | OpsFault::Limit
+        | OpsFault::Truncated
+        | OpsFault::Version
+        | OpsFault::Kind
+        | OpsFault::Order
+        | OpsFault::Trailing => Ok(Piece::Bad),
+    }
+}
+
+/// The delta of so many bytes, of which there are enough.
+#[tactic(auto, using(crate::proofs::Pieces::refused_piece, crate::proofs::Pieces::refused_fault, crate::proofs::Pieces::whole_piece))]
+fn read_delta(alloc: Global, size: usize, rest: &[u8]) -> Result<Piece, JournalFault>
+    requires { size ≤ length rest.now }
+    ensures ok { IfOk result (λ piece. piece ≡ delta_piece size rest.now) }
+    ensures err { IfErr result (λ fault. fault ≡ JournalFault.Memory) }
+{
+    match Delta::decode(alloc, &rest[..size]) {
+        Ok(delta) => Ok(Piece::Whole { delta, size }),
+        Err(fault) => refused(fault),
+    }
+}
+
+/// So many bytes should be a delta.
+fn read_body(alloc: Global, size: usize, rest: &[u8]) -> Result<Piece, JournalFault>
+    ensures ok { IfOk result (λ piece. piece ≡ body_at size rest.now) }
+    ensures err { IfErr result (λ fault. fault ≡ JournalFault.Memory) }
+{
+    if size > MAX_DELTA {
+        return Ok(Piece::Bad);
+    }
+    if rest.len() < size {
+        return Ok(Piece::Torn);
+    }
+    read_delta(alloc, size, rest)
+}
+
+/// A length, and the bytes behind it; none where the length is cut.
+fn read_length(bytes: &[u8]) -> Option<(u32, &[u8])>
+    ensures none { IfNone result (length bytes.now < 4) }
+    ensures some { IfSome result (λ read. (4 ≤ length bytes.now) × (read.0 ≡ from_be_bytes w32 (take 4 bytes.now)) × (read.1.now ≡ drop 4 bytes.now)) }
+{
+    read_u32(bytes)
+}
+
+/// A record, behind its tag.
+fn read_record(alloc: Global, rest: &[u8]) -> Result<Piece, JournalFault>
+    ensures ok { IfOk result (λ piece. piece ≡ record_at rest.now) }
+    ensures err { IfErr result (λ fault. fault ≡ JournalFault.Memory) }
+{
+    match read_length(rest) {
+        None => Ok(Piece::Torn),
+        Some((size, body)) => read_body(alloc, size as usize, body),
+    }
+}
+
+/// The piece that begins with this byte.
+#[tactic(auto, unfolding(crate::specs::Records::piece_at))]
+fn read_piece(alloc: Global, tag: u8, rest: &[u8]) -> Result<Piece, JournalFault>
+    ensures ok { IfOk result (λ piece. piece ≡ piece_at tag rest.now) }
+    ensures err { IfErr result (λ fault. fault ≡ JournalFault.Memory) }
+{
+    match tag {
+        RECORD => read_record(alloc, rest),
+        SEAL => Ok(Piece::Seal),
+        _ => Ok(Piece::Bad),
+    }
+}
+
+/// The bytes behind a record with a delta of so many bytes; given are those behind its tag.
+fn behind_record(rest: &[u8], size: usize) -> &[u8]
+    requires { 4 + size ≤ length rest.now }
+    ensures { result.now ≡ drop (4 + size) rest.now }
+{
+    &rest[4 + size..]
+}
+
+/// The pieces so far, behind which nothing more counts.
+fn found_until(deltas: Sequence<Delta>, sealed: bool, whole: usize, bad: bool) -> Found
+    ensures { result ≡ made deltas sealed whole bad }
+{
+    Found {
+        deltas,
+        sealed,
+        whole,
+        bad,
+    }
+}
+
+/// The whole pieces of a slot, behind its header.
+pub(crate) fn read_pieces(alloc: Global, bytes: &[u8]) -> Result<Found, JournalFault>
+    ensures ok { IfOk result (λ f. f ≡ found 0 false bytes.now) }
+    ensures inside { IfOk result (λ f. f.whole ≤ length bytes.now) }
+    ensures err { IfErr result (λ fault. fault ≡ JournalFault.Memory) }
+{
+    let mut deltas = Sequence::empty(alloc);
+    let mut sealed = false;
+    let mut left = bytes;
+    'reading: while let Some((tag, rest)) = left.split_first() {
+        let whole = bytes.len() - left.len();
+        match read_piece(alloc, *tag, rest)? {
+            Piece::Whole { delta, size } => {
+                deltas.push(delta)?;
+                left = behind_record(rest, size);
+            }
+            Piece::Seal => {
+                if sealed {
+                    return Ok(found_until(deltas, sealed, whole, true));
+                }
+                sealed = true;
+                left = rest;
+            }
+            Piece::Torn => return Ok(found_until(deltas, sealed, whole, false)),
+            Piece::Bad => return Ok(found_until(deltas, sealed, whole, true)),
+        }
+    }
+    Ok(found_until(deltas, sealed, bytes.len(), false))
+}
