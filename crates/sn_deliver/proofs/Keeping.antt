@@ -1,5 +1,5 @@
 -- What Delivery is done with, what is put once, and what a tick does not do.
-use Rattle.std.proofs.Common.{◌≡◌, ℕ, ◌⊎◌, ◌==◌, Bool, true, false, if◌then◌else◌, nat_le, List, [], ◌∷◌, ◌++◌, fold, Option, Some, None, Contains, refl, sym, ap, ◌∙◌, subst, true≢false, inl, inr, eqb-true}
+use Rattle.std.proofs.Common.{◌≡◌, ℕ, ◌⊎◌, ◌==◌, Bool, true, false, ◌&&◌, is_none, if◌then◌else◌, nat_le, List, [], ◌∷◌, ◌++◌, fold, Option, Some, None, Contains, refl, sym, ap, ◌∙◌, subst, true≢false, inl, inr, eqb-true}
 use Rattle.std.proofs.lemmas.List.Elements.{Contains-push, Contains-push_cases, Contains-append_right, Contains-append_left}
 use Rattle.sn_topic.specs.Table.{Entries}
 use Rattle.sn_session.specs.declared.session.Session.{Session}
@@ -22,12 +22,12 @@ use Rattle.sn_deliver.specs.declared.peer.Peer.{Peer}
 use Rattle.sn_deliver.specs.declared.delivery.ToldId.{ToldId}
 use Rattle.sn_deliver.specs.Forms.{form_of, publication}
 use Rattle.sn_deliver.specs.Recipients.{puts_for}
-use Rattle.sn_deliver.specs.Exchanges.{is_awake}
-use Rattle.sn_deliver.specs.Delivery.{Stop, id_to_tell, begun, register_first, deliver_by, none_left, and_then, deliver}
+use Rattle.sn_deliver.specs.Exchanges.{so_far, open_exchange, is_served, is_awake}
+use Rattle.sn_deliver.specs.Delivery.{Stop, id_to_tell, begun, register_first, deliver_by, none_left, and_then, deliver, deliver_left}
 use Rattle.sn_deliver.specs.Resending.{publish_by}
 use Rattle.sn_deliver.specs.Due.{elapsed, first_due}
 use Rattle.sn_deliver.specs.Ticking.{dialog_ended, dialogs_ended, needs_timer, timer_begun, cleaned, advertised, plan_if_due}
-use Rattle.sn_deliver.specs.Laws.{IsDoneWith, IsOfOneDone, DeliveryKeeps, PutsOnce, ResentWithDup, TickIsQuiet}
+use Rattle.sn_deliver.specs.Laws.{IsDoneWith, IsOfOneDone, DeliveryKeeps, OneExchange, PutsOnce, ResentWithDup, TickIsQuiet}
 
 -- ---- a test that chooses between drafts
 
@@ -51,6 +51,19 @@ puts-once seen a s topic msg_id body name received =
     (if id_has_no_room msg_id s.received then sent a (frames.PubAck topic msg_id 1) nothing
     else sent a (frames.PubRec msg_id) (changed (Received msg_id) (put_all (puts_for seen name 2 body) nothing)))
     received refl
+
+-- ---- an exchange that is open
+
+-- where the second of two tests fails, the other draft is chosen
+choose_other : (b c : Bool) (x d : Drafted) → c ≡ false → (if b && c then x else d) ≡ d
+choose_other true true x d e = absurd (true≢false e)
+choose_other true false x d e = refl
+choose_other false c x d e = refl
+
+pub one-exchange : OneExchange
+one-exchange predefined peer s pending d x is =
+    choose_other (is_served (so_far s d).presence) (is_none (open_exchange (so_far s d) d.acks pending))
+    (deliver_left predefined peer (so_far s d) pending d) d (ap is_none is)
 
 -- ---- a PUBLISH that is sent again
 

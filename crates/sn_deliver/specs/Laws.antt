@@ -14,7 +14,9 @@ use Rattle.sn_flow.specs.Locals.{Local}
 use Rattle.sn_deliver.specs.declared.form.Form.{Form}
 use Rattle.sn_deliver.specs.declared.peer.Peer.{Peer}
 use Rattle.sn_deliver.specs.Forms.{form_of, form_again, qos_bits, kind_bits}
-use Rattle.sn_deliver.specs.Delivery.{id_to_tell, deliver}
+use Rattle.sn_session.specs.declared.outbound.Outbound.{Outbound as Exchange}
+use Rattle.sn_deliver.specs.Exchanges.{so_far, open_exchange}
+use Rattle.sn_deliver.specs.Delivery.{id_to_tell, deliver, then_deliver}
 use Rattle.sn_deliver.specs.Resending.{publish_again}
 use Rattle.sn_deliver.specs.Publishing.{spread_twice}
 use Rattle.sn_deliver.specs.Due.{first_due}
@@ -41,6 +43,12 @@ abbrev pub PutsOnce : Type 0
 PutsOnce =
     (seen : Seen) (a : Addr) (s : Session) (topic msg_id : ℕ) (body name : List ℕ) → is_received msg_id s.received ≡ true
     → (spread_twice seen a s topic msg_id body name).puts ≡ []
+
+-- while an exchange is open, Delivery begins none and sends nothing
+abbrev pub OneExchange : Type 0
+OneExchange =
+    (predefined : Entries) (peer : Peer) (s : Session) (pending : List Put) (d : Drafted) (x : Exchange)
+    → open_exchange (so_far s d) d.acks pending ≡ Some x → then_deliver predefined peer s pending d ≡ d
 
 -- a PUBLISH that is sent again has DUP, and the message id of its exchange
 abbrev pub ResentWithDup : Type 0

@@ -11,7 +11,7 @@ ghost use Rattle.sn_flow.specs.Plans.{seen_of};
 ghost use Rattle.sn_flow.specs.Own.{IsOfDraft};
 ghost use Rattle.sn_deliver.specs.Steps.{step};
 ghost use Rattle.sn_deliver.specs.Ticking.{tick};
-ghost use Rattle.sn_deliver.specs.Laws.{DeliveryKeeps, PutsOnce, ResentWithDup, TickIsQuiet};
+ghost use Rattle.sn_deliver.specs.Laws.{DeliveryKeeps, OneExchange, PutsOnce, ResentWithDup, TickIsQuiet};
 
 /// Delivery loses no message: it acknowledges none but those that it sends at quality of service 0, and those for whose topic
 /// no id is left.
@@ -22,6 +22,11 @@ pub fn delivery_keeps()
 /// Exactly once: a publication at quality of service 2 that is repeated before its PUBREL makes no second message.
 pub fn puts_once()
     ensures { PutsOnce }
+{}
+
+/// One exchange at a time: while one is open, Delivery begins no other.
+pub fn one_exchange()
+    ensures { OneExchange }
 {}
 
 /// A PUBLISH that is sent again has DUP, and the message id of its exchange.

@@ -1,0 +1,5 @@
+use Rattle.sn_deliver.proofs.Keeping.{one-exchange}
+use Rattle.sn_deliver.proofs.laws.one_exchange.Goals as goal
+
+pub returns : goal.returns
+returns c = one-exchange
