@@ -21,3 +21,4 @@ echo "$events events, $lines lines printed, status $status"
 [ "$status" -eq 0 ] || { head -n 1 "$work/printed"; exit 1; }
 awk -v n="$events" -v a="$start" -v b="$end" 'BEGIN { printf "%.3f s, %.0f events per second\n", b - a, n / (b - a) }'
 python3 "$top/bench/sessions.py" "$program"
+python3 "$top/bench/publications.py" "$program"

@@ -64,4 +64,5 @@ def main() -> None:
           f" {rates[1] / rates[0]:.2f} times as many")
 
 
-main()
+if __name__ == "__main__":
+    main()
