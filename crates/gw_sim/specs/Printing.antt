@@ -1,5 +1,5 @@
 -- What answers are printed as. Each line ends with a line feed.
-use Rattle.std.specs.Prelude.{ℕ, ◌+◌, ◌∷◌, List, [], ◌++◌, Option, Some, None, Ok, Err, Bool, true, false, if◌then◌else◌, codes, flat_map, is_some}
+use Rattle.std.specs.Prelude.{ℕ, ◌+◌, ◌∷◌, List, [], Option, Some, None, Ok, Err, Bool, true, false, if◌then◌else◌, codes, flat_map, is_some}
 use Rattle.std.specs.Fmt.{decimal}
 use Rattle.sn_frame.specs.Faults.{fault_number}
 use Rattle.sn_session.specs.declared.presence.Presence.{Presence}

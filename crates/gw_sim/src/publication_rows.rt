@@ -99,7 +99,9 @@ fn crowded_script(alloc: Global) -> Result<String, Fail> {
         let body = hexadecimal(alloc, &[(index % 256) as u8])?;
         writeln!(script, "frame 1 99 3 080c6261620000{body}")?;
     }
-    script.push_str("frame 1 8 4 08040001003c7332\nframe 1 8 5 07122200016162\nframe 1 5 6 08040001003c7031\nframe 1 5 7 080c226162000979\nshow 1\n")?;
+    script.push_str(
+        "frame 1 8 4 08040001003c7332\nframe 1 8 5 07122200016162\nframe 1 5 6 08040001003c7031\nframe 1 5 7 080c226162000979\nshow 1\n",
+    )?;
     Ok(script)
 }
 
@@ -125,10 +127,17 @@ fn put_lines(alloc: Global, text: &mut String) -> Result<(), Fail> {
 fn a_message_more_than_1024_is_not_put(rt: HostRuntime) -> Result<(), Fail> {
     let alloc = rt.alloc();
     let script = crowded_script(alloc)?;
-    let mut printed = String::from_str(alloc, "to 7 030500\ndelta 1\nto 7 0813200000000100\ndelta 2\nto 7 0218\ndelta 3\n")?;
+    let mut printed = String::from_str(
+        alloc,
+        "to 7 030500\ndelta 1\nto 7 0813200000000100\ndelta 2\nto 7 0218\ndelta 3\n",
+    )?;
     delta_lines(&mut printed)?;
-    printed.push_str("to 8 030500\ndelta 1028\nto 8 0813200000000100\ndelta 1029\nto 5 030500\ndelta 1030\nto 5 070d6162000900\ndelta 1031\nclient 7031 stamp 1.1 prefix 1 active kept 60 next 1\nclient 7331 stamp 1.1 prefix 3 asleep kept 65535 next 1\n  sub 6162 1\n")?;
+    printed.push_str(
+        "to 8 030500\ndelta 1028\nto 8 0813200000000100\ndelta 1029\nto 5 030500\ndelta 1030\nto 5 070d6162000900\ndelta 1031\nclient 7031 stamp 1.1 prefix 1 active kept 60 next 1\nclient 7331 stamp 1.1 prefix 3 asleep kept 65535 next 1\n  sub 6162 1\n",
+    )?;
     put_lines(alloc, &mut printed)?;
-    printed.push_str("client 7332 stamp 1.1 prefix 2 active kept 60 next 1\n  sub 6162 1\n  put 1.1 1 6162 79\n")?;
+    printed.push_str(
+        "client 7332 stamp 1.1 prefix 2 active kept 60 next 1\n  sub 6162 1\n  put 1.1 1 6162 79\n",
+    )?;
     check_row(&rt, alloc, script.as_str(), printed.as_str(), 0)
 }

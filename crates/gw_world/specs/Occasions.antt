@@ -1,6 +1,5 @@
 -- What a gateway makes a plan for: a datagram, or that time goes by.
 use Rattle.std.specs.Prelude.{◌≡◌, ℕ, List, Option}
-use Rattle.rep_ops.specs.declared.op.Op.{Op}
 use Rattle.sn_frame.specs.declared.frame.Frame.{Frame}
 use Rattle.sn_frame.specs.declared.fault.FrameFault.{FrameFault}
 use Rattle.sn_frame.specs.Bodies.{IsValue}

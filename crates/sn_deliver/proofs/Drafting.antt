@@ -1,6 +1,6 @@
 -- Each plan of the step table, and of a tick, is the plan of a draft with at most one message a client.
-use Rattle.std.proofs.Common.{◌≡◌, ℕ, ◌⊎◌, ◌==◌, Bool, true, false, ◌&&◌, ◌||◌, if◌then◌else◌, nat_le, is_none, List, [], ◌∷◌, ◌++◌, Option, Some, None, option_map, filter, length, refl, sym, ap, ◌∙◌, subst, true≢false, Ordering, Less, Equal, Greater}
-use Rattle.std.specs.List.{AllByRecursion, filter_map}
+use Rattle.std.proofs.Common.{◌≡◌, ℕ, ◌==◌, Bool, true, false, ◌&&◌, if◌then◌else◌, nat_le, is_none, List, [], ◌∷◌, ◌++◌, Option, Some, None, filter, length, refl, sym, ap, ◌∙◌, subst, true≢false, Ordering, Less, Equal, Greater}
+use Rattle.std.specs.List.{AllByRecursion}
 use Rattle.std.specs.Ordering.{ordering_reverse}
 use Rattle.std.specs.List.Sorted.{IsStrictlySortedBy}
 use Rattle.sn_topic.specs.Table.{Entries}
@@ -13,7 +13,7 @@ use Rattle.sn_session.specs.declared.session.Session.{Session}
 use Rattle.sn_session.specs.declared.topics.TopicEntry.{TopicEntry}
 use Rattle.sn_session.specs.declared.will.Will.{Will}
 use Rattle.sn_session.specs.declared.change.SessionOp.{SessionOp}
-use Rattle.sn_session.specs.declared.change.SessionOp.TheVariants.{Presence, Received, Take}
+use Rattle.sn_session.specs.declared.change.SessionOp.TheVariants.{Take}
 use Rattle.sn_session.specs.Received.{is_received, id_has_no_room}
 use Rattle.sn_session.specs.Session.{empty_session}
 use Rattle.sn_frame.specs.declared.flags.Qos.{Qos}
@@ -32,20 +32,19 @@ use Rattle.sn_flow.specs.declared.config.Addr.{Addr}
 use Rattle.sn_flow.specs.declared.draft.NewPut.{NewPut}
 use Rattle.sn_flow.specs.declared.local.Timer.{Timer}
 use Rattle.sn_flow.specs.declared.local.WillDialog.{WillDialog}
-use Rattle.sn_flow.specs.declared.local.LocalChange.TheVariants.{Heard, EndDialog, Retried}
+use Rattle.sn_flow.specs.declared.local.LocalChange.TheVariants.{Retried}
 use Rattle.sn_flow.specs.declared.plan.Plan.{Plan}
 use Rattle.sn_flow.specs.declared.row.Row.{Row}
 use Rattle.sn_flow.specs.declared.row.Follow.{Follow}
 use Rattle.sn_flow.specs.declared.row.Follow.TheVariants as follows
-use Rattle.sn_flow.specs.Names.{name_of}
-use Rattle.sn_flow.specs.Drafts.{Drafted, nothing, changed, changed_if, acked, put_all, sent, moved}
+use Rattle.sn_flow.specs.Drafts.{Drafted, nothing, changed, changed_if, moved}
 use Rattle.sn_flow.specs.Plans.{Seen, seen_of, plan_without}
 use Rattle.sn_flow.specs.Bindings.{client_at, is_stamp_of}
 use Rattle.sn_flow.specs.Locals.{Local}
 use Rattle.sn_flow.specs.Bound.{bound_to, session_of}
-use Rattle.sn_flow.specs.Rows.{row_of, row_of_none, heard_row, plan_of_row, turned_away}
+use Rattle.sn_flow.specs.Rows.{row_of, row_of_none, heard_row}
 use Rattle.sn_flow.specs.Own.{IsOneEach, IsOfDraft}
-use Rattle.sn_flow.proofs.Drafting.{row-drafted, none-each, connect-puts, disconnect-puts, will_topic-puts, will_msg-puts, will_topic_update-puts, will_msg_update-puts, register-puts, subscribe-puts, unsubscribe-puts, other-puts}
+use Rattle.sn_flow.proofs.Drafting.{row-drafted, connect-puts, disconnect-puts, will_topic-puts, will_msg-puts, will_topic_update-puts, will_msg_update-puts, register-puts, subscribe-puts, unsubscribe-puts, other-puts}
 use Rattle.sn_deliver.specs.declared.form.Form.{Form}
 use Rattle.sn_deliver.specs.declared.peer.Peer.{Peer}
 use Rattle.sn_deliver.specs.declared.delivery.ToldId.{ToldId}
@@ -53,20 +52,20 @@ use Rattle.sn_deliver.specs.declared.due.Due.{Due}
 use Rattle.sn_deliver.specs.declared.due.Due.TheVariants as dues
 use Rattle.sn_deliver.specs.declared.meaning.Meant.{Meant}
 use Rattle.sn_deliver.specs.declared.meaning.Meant.TheVariants.{Topic, Refused}
-use Rattle.sn_deliver.specs.Forms.{form_of, form_again, publication}
+use Rattle.sn_deliver.specs.Forms.{form_of, form_again}
 use Rattle.sn_deliver.specs.Exchanges.{so_far, left, put_left, message_of, open_exchange, is_served, is_awake}
-use Rattle.sn_deliver.specs.Recipients.{put_for, puts_among, puts_for, is_another, puts_of_will, qos_for, message_for}
+use Rattle.sn_deliver.specs.Recipients.{puts_among, puts_for, is_another, qos_for}
 use Rattle.sn_deliver.specs.Publishing.{publication_meant, spread_twice, publish_at, publish_meant, spread_meant, release}
-use Rattle.sn_deliver.specs.Delivery.{Stop, id_to_tell, begun, register_first, publish_now, deliver_by, none_left, and_then, deliver, deliver_left, deliver_if, then_deliver}
-use Rattle.sn_deliver.specs.Resending.{given_up, again, register_by, register_again, publish_by, publish_again, resend_in, resend, resend_if, resend_or_deliver, then_resend}
-use Rattle.sn_deliver.specs.Acknowledging.{done, over, told, entry_published, forgotten, puback_put, puback_of, put_awaiting, awaiting, awaiting_pubrec, pubrec_again, pubrec_of, pubcomp_of, registered, regack_put, regack_of, acknowledge}
+use Rattle.sn_deliver.specs.Delivery.{Stop, id_to_tell, register_first, deliver_by, none_left, and_then, deliver, deliver_left, deliver_if}
+use Rattle.sn_deliver.specs.Resending.{register_by, register_again, publish_by, publish_again, resend_in, resend_if}
+use Rattle.sn_deliver.specs.Acknowledging.{entry_published, forgotten, puback_of, put_awaiting, awaiting, awaiting_pubrec, pubrec_again, pubrec_of, pubcomp_of, registered, regack_of, acknowledge}
 use Rattle.sn_session.specs.Topics.{topic_named}
 use Rattle.sn_deliver.specs.Following.{peer_at, followed_by, followed_for, followed, deliver_next}
-use Rattle.sn_deliver.specs.Serving.{publish_of, publish_in_at, publish_in, pubrel_of, pubrel_in, ack_of, ack_in, acknowledged}
-use Rattle.sn_deliver.specs.Waking.{claimed, has_nothing, answered, from_sleep, from_wake, woken_by, woken_if, woken, wake_of, wake}
+use Rattle.sn_deliver.specs.Serving.{publish_of, publish_in_at, pubrel_of, ack_of}
+use Rattle.sn_deliver.specs.Waking.{claimed, has_nothing, woken_by, woken_if, woken, wake_of, wake}
 use Rattle.sn_deliver.specs.Steps.{row_for, step}
 use Rattle.sn_deliver.specs.Due.{elapsed, first_due}
-use Rattle.sn_deliver.specs.Ticking.{dialog_ended, dialogs_ended, needs_timer, timer_begun, cleaned, may_advertise, advertised, will_puts, lost, plan_due, plan_if_due, one_thing, tick}
+use Rattle.sn_deliver.specs.Ticking.{dialog_ended, dialogs_ended, needs_timer, timer_begun, cleaned, may_advertise, advertised, will_puts, lost, plan_due, plan_if_due, tick}
 use Rattle.sn_deliver.proofs.Keeping.{fold_keeps}
 
 -- the draft has the messages that the other has

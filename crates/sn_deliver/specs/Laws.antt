@@ -56,7 +56,7 @@ ResentWithDup =
     (predefined : Entries) (peer : Peer) (s : Session) (msg_id : ℕ) (put : Put) (form : Form) (d : Drafted)
     → form_again predefined s put.topic ≡ Some form
     → (publish_again predefined peer s msg_id (Some put) d).1.sends
-      ≡ (sent peer.address (frames.Publish (record { bits = 128 + qos_bits put.qos + kind_bits form.kind }) form.topic msg_id put.body) d).sends
+    ≡ (sent peer.address (frames.Publish (record { bits = 128 + qos_bits put.qos + kind_bits form.kind }) form.topic msg_id put.body) d).sends
 
 -- a plan that makes no operation and sends no frame
 abbrev pub IsQuiet : Plan → Type 0

@@ -35,7 +35,9 @@ pub use due::Due;
 pub use exchange::{is_awake, is_done, is_left, is_served, open_exchange, put_left, so_far};
 pub use follow::deliver_next;
 pub use form::{Form, form_again, form_of, publication};
-pub use laws::{delivery_keeps, every_step, one_exchange, puts_once, resent_with_dup, tick_is_quiet};
+pub use laws::{
+    delivery_keeps, every_step, one_exchange, puts_once, resent_with_dup, tick_is_quiet,
+};
 pub use meaning::{Meant, publication_meant};
 pub use peer::Peer;
 pub use publishing::{publish, publish_unconnected, pubrel};

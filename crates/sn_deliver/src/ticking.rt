@@ -264,12 +264,7 @@ fn plan_loss<R: Replica>(
 }
 
 /// One try more: Resend follows.
-fn retried(
-    alloc: Global,
-    now: u64,
-    mut draft: Draft,
-    client: &ClientId,
-) -> Result<Row, StepFault>
+fn retried(alloc: Global, now: u64, mut draft: Draft, client: &ClientId) -> Result<Row, StepFault>
     ensures ok { IfOk result (λ row. row ≡ retried_row now draft client.now) }
     ensures err { IfErr result (λ fault. fault ≡ StepFault.Memory) }
 {

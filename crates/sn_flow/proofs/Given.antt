@@ -14,7 +14,7 @@ use Rattle.sn_session.specs.Topics.{topic_cmp, topic_of, topic_named, with_topic
 use Rattle.sn_session.specs.Session.{applied, changed, is_full}
 use Rattle.sn_session.proofs.Ascending.{Ascends, from_test}
 use Rattle.sn_session.proofs.TopicPlaces.{topic_total}
-use Rattle.sn_flow.specs.Registration.{entry_id, new_id, entry_or_free, id_for}
+use Rattle.sn_flow.specs.Registration.{entry_or_free, id_for}
 use Rattle.sn_flow.specs.RequestLaws.{StandsFor}
 
 -- an operation that finds room

@@ -1,5 +1,5 @@
 -- What these rows leave alone: they acknowledge no message, put none, and change nothing but the session.
-use Rattle.std.proofs.Common.{◌≡◌, ℕ, Bool, true, false, if◌then◌else◌, List, [], Option, Some, None, refl}
+use Rattle.std.proofs.Common.{ℕ, Bool, true, false, if◌then◌else◌, List, Option, Some, None, refl}
 use Rattle.sn_topic.specs.Table.{Entries}
 use Rattle.sn_session.specs.declared.session.Session.{Session}
 use Rattle.sn_session.specs.declared.change.SessionOp.{SessionOp}

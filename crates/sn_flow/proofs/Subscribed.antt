@@ -1,5 +1,5 @@
 -- What SUBSCRIBE and UNSUBSCRIBE leave in the session.
-use Rattle.std.proofs.Common.{◌≡◌, ℕ, ◌==◌, Bool, true, false, cond, not, if◌then◌else◌, List, [], ◌∷◌, Option, Some, None, IfSome, is_none, is_some, ◌&&◌, bytes_eq, filter, refl, sym, subst, ap, ◌∙◌, arith}
+use Rattle.std.proofs.Common.{◌≡◌, ℕ, ◌==◌, Bool, true, false, cond, not, if◌then◌else◌, List, [], ◌∷◌, Option, Some, None, IfSome, is_some, bytes_eq, refl, sym, subst, ap, ◌∙◌, arith}
 use Rattle.std.proofs.lemmas.Bool.Decides.{nat_tests}
 use Rattle.std.proofs.lemmas.Slice.Eq.{bytes_eq-Decides}
 use Rattle.std.specs.Option.{option_map}
@@ -15,8 +15,7 @@ use Rattle.sn_session.specs.declared.change.SessionOp.TheVariants.{Register, Sub
 use Rattle.sn_session.specs.Tables.{by_order}
 use Rattle.sn_session.specs.Topics.{topic_named, free_id, topic_has_no_room}
 use Rattle.sn_session.specs.Subscriptions.{filter_cmp, subscription_cmp, subscription_of, qos_of as subscribed_at, with_subscription, without_filter, filter_has_no_room}
-use Rattle.sn_session.specs.Session.{applied, changed, is_full}
-use Rattle.sn_session.proofs.SubscriptionPlaces.{subscription_total}
+use Rattle.sn_session.specs.Session.{applied, changed}
 use Rattle.sn_frame.specs.declared.flags.TopicIdType.{TopicIdType}
 use Rattle.sn_frame.specs.declared.flags.TopicIdType.TheVariants as kinds
 use Rattle.sn_frame.specs.FlagBits.{qos_of, kind_of}
@@ -25,9 +24,9 @@ use Rattle.sn_flow.specs.declared.asking.Asked.{Asked}
 use Rattle.sn_flow.specs.declared.asking.Asked.TheVariants.{Topics}
 use Rattle.sn_flow.specs.declared.registration.NamedId.{NamedId}
 use Rattle.sn_flow.specs.Asking.{qos_asked, name_asked, topics_asked}
-use Rattle.sn_flow.specs.Drafts.{Drafted, nothing, changed_if, sent}
-use Rattle.sn_flow.specs.Registration.{entry_id, new_id, entry_or_free, id_for}
-use Rattle.sn_flow.specs.Subscription.{suback, refused, id_in_full, id_asked, subscribe_change, subscribed, subscribe_to, subscribe_asked, subscribe_at, subscribe, unsubscribe_change, unsubscribe_asked, unsubscribe}
+use Rattle.sn_flow.specs.Drafts.{nothing, changed_if}
+use Rattle.sn_flow.specs.Registration.{entry_or_free}
+use Rattle.sn_flow.specs.Subscription.{refused, id_in_full, id_asked, subscribe_change, subscribed, subscribe_asked, subscribe_at, subscribe, unsubscribe_asked, unsubscribe}
 use Rattle.sn_flow.specs.RequestLaws.{session_after, IsSubscribed, IsUnsubscribed}
 use Rattle.sn_flow.proofs.Given.{fits}
 

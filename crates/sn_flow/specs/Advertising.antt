@@ -1,5 +1,5 @@
 -- When the gateway advertised itself last (MQTT-SN 1.2 section 6.1).
-use Rattle.std.specs.Prelude.{ℕ, List, [], fold, Option, Some}
+use Rattle.std.specs.Prelude.{ℕ, List, fold, Option, Some}
 use Rattle.sn_flow.specs.declared.local.LocalChange.{LocalChange}
 use Rattle.sn_flow.specs.declared.local.LocalChange.TheVariants.{Bind, Unbind, Time, Heard, Sent, Resent, Retried, Ask, EndDialog, Advertised}
 

@@ -1,7 +1,6 @@
 -- What the rows of REGISTER, SUBSCRIBE, UNSUBSCRIBE and the updates of wills promise, and what they leave alone.
 use Rattle.std.specs.Prelude.{◌≡◌, ℕ, true, List, [], fold, Some, None}
 use Rattle.sn_session.specs.declared.session.Session.{Session}
-use Rattle.sn_session.specs.declared.change.SessionOp.{SessionOp}
 use Rattle.sn_session.specs.Session.{applied}
 use Rattle.sn_session.specs.Topics.{topic_of}
 use Rattle.sn_session.specs.Subscriptions.{qos_of}
