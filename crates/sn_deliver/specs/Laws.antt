@@ -1,26 +1,35 @@
 -- What holds of publications and of time, whatever the sessions and the messages.
-use Rattle.std.specs.Prelude.{◌≡◌, ℕ, ◌+◌, true, false, ◌⊎◌, List, [], Some, None, Contains}
+use Rattle.std.specs.Prelude.{◌≡◌, ℕ, ◌+◌, true, false, ◌⊎◌, List, [], ◌∷◌, Option, Some, None, Contains}
+use Rattle.std.specs.List.{AllByRecursion}
 use Rattle.sn_topic.specs.Table.{Entries}
 use Rattle.sn_session.specs.declared.session.Session.{Session}
 use Rattle.sn_session.specs.Received.{is_received}
 use Rattle.sn_frame.specs.declared.frame.Frame.TheVariants as frames
 use Rattle.rep_ops.specs.declared.op.Put.{Put}
 use Rattle.sn_flow.specs.declared.config.Addr.{Addr}
+use Rattle.sn_flow.specs.declared.local.Timer.{Timer}
 use Rattle.sn_flow.specs.declared.plan.Plan.{Plan}
+use Rattle.sn_flow.specs.declared.row.Follow.TheVariants as follows
 use Rattle.sn_flow.specs.Names.{name_of}
 use Rattle.sn_flow.specs.Drafts.{Drafted, sent}
+use Rattle.sn_flow.specs.Bound.{session_of}
 use Rattle.sn_flow.specs.Plans.{Seen}
+use Rattle.sn_flow.specs.Rows.{row_of}
+use Rattle.sn_flow.specs.Timers.{timer_of, timers_after}
 use Rattle.sn_flow.specs.Locals.{Local}
 use Rattle.sn_deliver.specs.declared.form.Form.{Form}
 use Rattle.sn_deliver.specs.declared.peer.Peer.{Peer}
 use Rattle.sn_deliver.specs.Forms.{form_of, form_again, qos_bits, kind_bits}
 use Rattle.sn_session.specs.declared.outbound.Outbound.{Outbound as Exchange}
-use Rattle.sn_deliver.specs.Exchanges.{so_far, open_exchange}
+use Rattle.sn_deliver.specs.declared.due.Due.{Due}
+use Rattle.sn_deliver.specs.declared.due.Due.TheVariants.{Loss, Retry, Delivery}
+use Rattle.sn_deliver.specs.Exchanges.{so_far, same_name, left, open_exchange}
 use Rattle.sn_deliver.specs.Delivery.{id_to_tell, deliver, then_deliver}
 use Rattle.sn_deliver.specs.Resending.{publish_again}
 use Rattle.sn_deliver.specs.Publishing.{spread_twice}
-use Rattle.sn_deliver.specs.Due.{first_due}
-use Rattle.sn_deliver.specs.Ticking.{may_advertise, tick}
+use Rattle.sn_deliver.specs.Due.{due_session, first_due}
+use Rattle.sn_deliver.specs.Following.{followed}
+use Rattle.sn_deliver.specs.Ticking.{may_advertise, lost, retried, tick}
 
 -- a message that Delivery is done with: it was sent at quality of service 0, or no id is left for its topic
 abbrev pub IsDoneWith : Entries → Session → Put → Type 0
@@ -68,3 +77,30 @@ TickIsQuiet =
     (g advertise : ℕ) (field : List Addr) (predefined : Entries) (seen : Seen) (local : Local) (now : ℕ)
     → may_advertise advertise field now local.advertised ≡ false → first_due g seen local now seen.all ≡ None
     → (plan : Plan) × (tick g advertise field predefined seen local now ≡ Some plan) × IsQuiet plan
+
+-- messages of names that are all different, as those that wait for a client
+abbrev pub AreApart : List Put → Type 0
+AreApart [] = Unit {0}
+AreApart (put ∷ rest) = AllByRecursion (λ (other : Put). same_name (name_of put) (name_of other) ≡ false) rest × AreApart rest
+
+-- what is due with a client once a draft is carried out, where its address is then a: by the session and the timer that the draft
+-- leaves it, and the messages that it leaves waiting
+abbrev pub due_after : ℕ → List ℕ → Session → List Put → List Timer → Option Addr → Drafted → Option Due
+due_after now c s pending timers a d =
+    due_session now (left d.acks pending) (timer_of c (timers_after timers d.local)) a (Some (so_far s d))
+
+-- what a tick does with a client behind what it did first
+abbrev pub due_draft : Entries → Seen → ℕ → List ℕ → Drafted → Due → Drafted
+due_draft predefined seen now c d Loss = lost seen c (session_of seen c) d
+due_draft predefined seen now c d (Retry a) = (followed predefined seen a now (retried now d c)).draft
+due_draft predefined seen now c d (Delivery a) = (followed predefined seen a now (row_of follows.Delivery c d)).draft
+
+-- What is due with a client is settled when a tick has done it: nothing is due with the client any more at this moment, whatever its
+-- address is then. So each tick of one moment leaves one client less with which something is due, but for the clients to which the
+-- will of a lost one is put; and a lost client is not due again.
+abbrev pub TickSettles : Type 0
+TickSettles =
+    (predefined : Entries) (seen : Seen) (now : ℕ) (c : List ℕ) (timers : List Timer) (a b : Option Addr) (d : Drafted) (reason : Due)
+    → AreApart (seen.of c).pending → d.changes ≡ [] → d.acks ≡ []
+    → due_after now c (session_of seen c) (seen.of c).pending timers a d ≡ Some reason
+    → due_after now c (session_of seen c) (seen.of c).pending timers b (due_draft predefined seen now c d reason) ≡ None

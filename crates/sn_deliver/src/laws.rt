@@ -11,7 +11,7 @@ ghost use Rattle.sn_flow.specs.Plans.{seen_of};
 ghost use Rattle.sn_flow.specs.Own.{IsOfDraft};
 ghost use Rattle.sn_deliver.specs.Steps.{step};
 ghost use Rattle.sn_deliver.specs.Ticking.{tick};
-ghost use Rattle.sn_deliver.specs.Laws.{DeliveryKeeps, OneExchange, PutsOnce, ResentWithDup, TickIsQuiet};
+ghost use Rattle.sn_deliver.specs.Laws.{DeliveryKeeps, OneExchange, PutsOnce, ResentWithDup, TickIsQuiet, TickSettles};
 
 /// Delivery loses no message: it acknowledges none but those that it sends at quality of service 0, and those for whose topic
 /// no id is left.
@@ -37,6 +37,11 @@ pub fn resent_with_dup()
 /// A tick that finds nothing due makes no operation and sends no frame.
 pub fn tick_is_quiet()
     ensures { TickIsQuiet }
+{}
+
+/// What is due with a client is settled when a tick has done it: nothing is due with that client any more at the same moment.
+pub fn tick_settles()
+    ensures { TickSettles }
 {}
 
 /// The laws of `sn_flow` hold of every step and of every tick: each of their plans is the plan of a draft with at most one message
