@@ -95,7 +95,7 @@ fn crowded_script(alloc: Global) -> Result<String, Fail> {
         alloc,
         "gateway 1\nframe 1 7 0 08040001003c7331\nframe 1 7 1 07122200016162\nframe 1 7 2 0418ffff\n",
     )?;
-    for index in 0..1024 {
+    for index in 0..1024_u64 {
         let body = hexadecimal(alloc, &[(index % 256) as u8])?;
         writeln!(script, "frame 1 99 3 080c6261620000{body}")?;
     }
@@ -115,7 +115,7 @@ fn delta_lines(text: &mut String) -> Result<(), Fail> {
 
 /// The lines of the 1,024 messages that wait.
 fn put_lines(alloc: Global, text: &mut String) -> Result<(), Fail> {
-    for index in 0..1024 {
+    for index in 0..1024_u64 {
         let body = hexadecimal(alloc, &[(index % 256) as u8])?;
         let number = index + 1;
         writeln!(text, "  put {number}.1 0 6162 {body}")?;

@@ -106,6 +106,19 @@ fn is_open_in(session: &Session, phase: Phase, put: Option<&Put>) -> bool
     }
 }
 
+/// Whether an exchange is open. One that waits for PUBCOMP is, whatever waits: its message is not looked for.
+fn is_open_among(session: &Session, acks: &[(u64, u8)], pending: &[Put], exchange: Outbound) -> bool
+    ensures { result ≡ is_open_in_phase session.now exchange.phase (left_put acks.now pending.now (message_of_exchange exchange)) }
+{
+    match exchange.phase {
+        Phase::Released => is_open_in(session, Phase::Released, None),
+        phase => {
+            let put = put_left(acks, pending, message_of(exchange));
+            is_open_in(session, phase, put)
+        }
+    }
+}
+
 /// The exchange, if it is open.
 fn if_open(
     session: &Session,
@@ -118,8 +131,7 @@ fn if_open(
     match exchange {
         None => None,
         Some(exchange) => {
-            let put = put_left(acks, pending, message_of(exchange));
-            if is_open_in(session, exchange.phase, put) {
+            if is_open_among(session, acks, pending, exchange) {
                 Some(exchange)
             } else {
                 None
