@@ -30,6 +30,8 @@ use Rattle.sn_deliver.specs.Delivery.{Stop, id_to_tell, begun, register_first, d
 use Rattle.sn_deliver.specs.Resending.{publish_by, publish_again, resend_in}
 use Rattle.sn_deliver.specs.Due.{elapsed, first_due}
 use Rattle.sn_deliver.specs.Ticking.{dialog_ended, dialogs_ended, needs_timer, timer_begun, cleaned, advertised, plan_if_due}
+use Rattle.sn_session.specs.Session.{changed as changed_by}
+use Rattle.sn_deliver.proofs.Receiving.{added, stays-received}
 use Rattle.sn_deliver.specs.Laws.{IsDoneWith, IsOfOneDone, DeliveryKeeps, OneExchange, PutsOnce, ResentWithDup, TickIsQuiet}
 
 -- ---- a test that chooses between drafts
@@ -48,12 +50,30 @@ choose_puts false x y e none = absurd (true≢false (sym e))
 
 -- ---- a repeated publication
 
+-- where two tests fail, the last draft is chosen
+choose_last : (b c : Bool) (x y z : Drafted) (P : Drafted → Type 0) → b ≡ false → c ≡ false → P z → P (if b then x else (if c then y else z))
+choose_last true c x y z P e f h = absurd (true≢false e)
+choose_last false true x y z P e f h = absurd (true≢false f)
+choose_last false false x y z P e f h = h
+
+if_room : (b : Bool) (s made : Session) (id : ℕ) → b ≡ false → is_received id made.received ≡ true → is_received id (if b then s else made).received ≡ true
+if_room true s made id e h = absurd (true≢false e)
+if_room false s made id e h = h
+
 pub puts-once : PutsOnce
-puts-once seen a s topic msg_id body name received =
-    choose_puts (is_received msg_id s.received) (sent a (frames.PubRec msg_id) nothing)
-    (if id_has_no_room msg_id s.received then sent a (frames.PubAck topic msg_id 1) nothing
-    else sent a (frames.PubRec msg_id) (changed (Received msg_id) (put_all (puts_for seen name 2 body) nothing)))
-    received refl
+puts-once = record {
+  recorded = λ seen a s topic msg_id body name fresh room.
+      choose_last (is_received msg_id s.received) (id_has_no_room msg_id s.received) (sent a (frames.PubRec msg_id) nothing) (sent a (frames.PubAck topic msg_id 1) nothing)
+      (sent a (frames.PubRec msg_id) (changed (Received msg_id) (put_all (puts_for seen name 2 body) nothing)))
+      (λ d. is_received msg_id (so_far s d).received ≡ true) fresh room
+      (if_room (id_has_no_room msg_id s.received) s (changed_by s (Received msg_id)) msg_id room (added msg_id s.received));
+  stays = stays-received;
+  repeated = λ seen a s topic msg_id body name received.
+      choose_puts (is_received msg_id s.received) (sent a (frames.PubRec msg_id) nothing)
+      (if id_has_no_room msg_id s.received then sent a (frames.PubAck topic msg_id 1) nothing
+      else sent a (frames.PubRec msg_id) (changed (Received msg_id) (put_all (puts_for seen name 2 body) nothing)))
+      received refl;
+}
 
 -- ---- an exchange that is open
 

@@ -1,10 +1,13 @@
 -- What holds of publications and of time, whatever the sessions and the messages.
-use Rattle.std.specs.Prelude.{◌≡◌, ℕ, ◌+◌, true, false, ◌⊎◌, List, [], ◌∷◌, Option, Some, None, Contains}
+use Rattle.std.specs.Prelude.{◌≡◌, ℕ, ◌+◌, ◌==◌, Bool, true, false, ◌⊎◌, List, [], ◌∷◌, Option, Some, None, Contains}
 use Rattle.std.specs.List.{AllByRecursion}
 use Rattle.sn_topic.specs.Table.{Entries}
 use Rattle.sn_session.specs.declared.outbound.Phase.TheVariants.{Published}
 use Rattle.sn_session.specs.declared.session.Session.{Session}
-use Rattle.sn_session.specs.Received.{is_received}
+use Rattle.sn_session.specs.declared.change.SessionOp.{SessionOp}
+use Rattle.sn_session.specs.declared.change.SessionOp.TheVariants.{Take, Released}
+use Rattle.sn_session.specs.Session.{applied}
+use Rattle.sn_session.specs.Received.{is_received, id_has_no_room}
 use Rattle.sn_frame.specs.declared.frame.Frame.TheVariants as frames
 use Rattle.sn_frame.specs.Grammar.{spelling}
 use Rattle.rep_ops.specs.declared.op.Put.{Put}
@@ -57,11 +60,22 @@ DeliveryKeeps =
     → Contains (deliver predefined peer s pending d).acks name
     → Contains d.acks name ⊎ IsOfOneDone predefined peer s pending (deliver predefined peer s pending d).sends name
 
--- a publication at quality of service 2 whose message id was received and not released makes no message
-abbrev pub PutsOnce : Type 0
-PutsOnce =
-    (seen : Seen) (a : Addr) (s : Session) (topic msg_id : ℕ) (body name : List ℕ) → is_received msg_id s.received ≡ true
-    → (spread_twice seen a s topic msg_id body name).puts ≡ []
+-- a change that ends that a message id is received: a session that is taken over as a whole, or its release
+abbrev pub ends_received : ℕ → SessionOp → Bool
+ends_received id (Take taken) = true
+ends_received id (Released other) = other == id
+ends_received id change = false
+
+-- Exactly once: the first publication at quality of service 2 records its message id; no change but a Take and the release of the id
+-- ends that; and while it lasts a publication of the id makes no message
+pub record PutsOnce : Type 0 where
+  pub recorded : (seen : Seen) (a : Addr) (s : Session) (topic msg_id : ℕ) (body name : List ℕ)
+      → is_received msg_id s.received ≡ false → id_has_no_room msg_id s.received ≡ false
+      → is_received msg_id (so_far s (spread_twice seen a s topic msg_id body name)).received ≡ true
+  pub stays : (s : Session) (change : SessionOp) (msg_id : ℕ) → ends_received msg_id change ≡ false
+      → is_received msg_id s.received ≡ true → is_received msg_id (applied s change).received ≡ true
+  pub repeated : (seen : Seen) (a : Addr) (s : Session) (topic msg_id : ℕ) (body name : List ℕ)
+      → is_received msg_id s.received ≡ true → (spread_twice seen a s topic msg_id body name).puts ≡ []
 
 -- while an exchange is open, Delivery begins none and sends nothing
 abbrev pub OneExchange : Type 0
