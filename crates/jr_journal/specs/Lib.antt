@@ -4,3 +4,4 @@ pub mod Records
 pub mod Faults
 pub mod Journals
 pub mod Opening
+pub mod Parts

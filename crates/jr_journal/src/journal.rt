@@ -27,6 +27,7 @@ impl<D: Disk + Drop> Journal<D> {
     ghost use Rattle.jr_journal.specs.Records.{written, records};
     ghost use Rattle.jr_journal.specs.Faults.{is_fresh, IsFault, fault_of};
     ghost use Rattle.jr_journal.specs.Journals.{Leaves, LeavesOneMore, after_append, AppendedAs, IsAppendFault};
+    ghost use Rattle.jr_journal.specs.Parts.{disk_of, gateway_of, slot_of, is_halted as is_stopped};
     ghost use Rattle.jr_journal.specs.Opening.{synced_slots, recovered, is_quiet, LeavesNoMore};
 
     /// Opens the journal of a gateway on a disk, and gives the deltas of its records. First all bytes of both slots are
@@ -39,16 +40,16 @@ impl<D: Disk + Drop> Journal<D> {
         disk: D,
         gateway: u8,
     ) -> Result<(Journal<D>, Vec<Delta>), (D, JournalFault)>
-        ensures starts { IfOk result (λ made. (made.0.halted ≡ false) × (made.0.gateway ≡ gateway) × (made.0.slot ≡ Slot.First)) }
-        ensures counts { MatchResult result (λ made. D.failures disk ≤ D.failures made.0.disk) (λ refused. D.failures disk ≤ D.failures refused.0) }
+        ensures starts { IfOk result (λ made. (is_stopped made.0 ≡ false) × (gateway_of made.0 ≡ gateway) × (slot_of made.0 ≡ Slot.First)) }
+        ensures counts { MatchResult result (λ made. D.failures disk ≤ D.failures (disk_of made.0)) (λ refused. D.failures disk ≤ D.failures refused.0) }
         ensures cause { IfErr result (λ refused. refused.1 ≡ JournalFault.Disk → D.failures disk < D.failures refused.0) }
-        ensures starved { D.starved disk ≡ true → MatchResult result (λ made. D.starved made.0.disk ≡ true) (λ refused. D.starved refused.0 ≡ true) }
+        ensures starved { D.starved disk ≡ true → MatchResult result (λ made. D.starved (disk_of made.0) ≡ true) (λ refused. D.starved refused.0 ≡ true) }
         ensures running { IfErr result (λ refused. refused.1 ≢ JournalFault.Halted) }
         // The records are those of the slots as they were found.
         ensures records { D.honest → IfOk result (λ made. made.1.items ≡ records gateway (image (D.slots disk))) }
-        ensures known { D.honest → IfOk result (λ made. D.slots made.0.disk ≡ recovered gateway (image (D.slots disk))) }
+        ensures known { D.honest → IfOk result (λ made. D.slots (disk_of made.0) ≡ recovered gateway (image (D.slots disk))) }
         // What was given stands after every crash.
-        ensures durable { D.honest → IfOk result (λ made. Leaves gateway (D.slots made.0.disk) made.1.items) }
+        ensures durable { D.honest → IfOk result (λ made. Leaves gateway (D.slots (disk_of made.0)) made.1.items) }
         // It is refused exactly where the format says so, or the disk failed, or memory ran out.
         ensures found { D.honest → OnOk result (fault_of gateway (image (D.slots disk)) ≡ None) }
         ensures fault { D.honest → IfErr result (λ refused. IsFault (fault_of gateway (image (D.slots disk))) refused.1) }
@@ -58,7 +59,7 @@ impl<D: Disk + Drop> Journal<D> {
         ensures leaves { D.honest → IfErr result (λ refused. LeavesNoMore gateway (D.slots disk) (D.slots refused.0)) }
         // A failure that is arranged for an append stays arranged, unless a journal is begun.
         ensures quiet { D.honest → IsTrue (is_quiet (D.outlook disk) (is_fresh (image (D.slots disk)))) →
-            IfOk result (λ made. D.starved made.0.disk ≡ false → D.outlook made.0.disk ≡ D.outlook disk) }
+            IfOk result (λ made. D.starved (disk_of made.0) ≡ false → D.outlook (disk_of made.0) ≡ D.outlook disk) }
         ensures blameless { D.honest → IsTrue (is_quiet (D.outlook disk) (is_fresh (image (D.slots disk)))) →
             IfErr result (λ refused. D.starved refused.0 ≡ false → (refused.1 ≢ JournalFault.Disk) × (D.outlook refused.0 ≡ D.outlook disk)) }
     {
@@ -82,23 +83,23 @@ impl<D: Disk + Drop> Journal<D> {
     ///
     /// `Halted` where a write has failed before; else `Memory`, and nothing was written; else `Disk`.
     pub fn append(&mut self, alloc: Global, delta: &Delta) -> Result<(), JournalFault>
-        ensures halted { IsErrOf result JournalFault.Halted ↔ (self.old.halted ≡ true) }
-        ensures same { (self.new.gateway ≡ self.old.gateway) × (self.new.slot ≡ self.old.slot) }
+        ensures halted { IsErrOf result JournalFault.Halted ↔ (is_stopped self.old ≡ true) }
+        ensures same { (gateway_of self.new ≡ gateway_of self.old) × (slot_of self.new ≡ slot_of self.old) }
         ensures faults { IfErr result IsAppendFault }
-        ensures goes_on { OnOk result (self.new.halted ≡ false) }
-        ensures halts { IsErrOf result JournalFault.Disk → self.new.halted ≡ true }
-        ensures counts { D.failures self.old.disk ≤ D.failures self.new.disk }
-        ensures cause { IsErrOf result JournalFault.Disk → D.failures self.old.disk < D.failures self.new.disk }
-        ensures refused { IsErrOf result JournalFault.Memory → (self.new.disk ≡ self.old.disk) × (self.new.halted ≡ self.old.halted) }
-        ensures stays { IsErrOf result JournalFault.Halted → (self.new.disk ≡ self.old.disk) × (self.new.halted ≡ true) }
-        ensures starved { D.starved self.old.disk ≡ true → D.starved self.new.disk ≡ true }
-        ensures exact { D.honest → OnOk result (D.slots self.new.disk ≡ after_append None (D.slots self.old.disk) self.old.slot (written delta.now)) }
+        ensures goes_on { OnOk result (is_stopped self.new ≡ false) }
+        ensures halts { IsErrOf result JournalFault.Disk → is_stopped self.new ≡ true }
+        ensures counts { D.failures (disk_of self.old) ≤ D.failures (disk_of self.new) }
+        ensures cause { IsErrOf result JournalFault.Disk → D.failures (disk_of self.old) < D.failures (disk_of self.new) }
+        ensures refused { IsErrOf result JournalFault.Memory → ((disk_of self.new) ≡ (disk_of self.old)) × (is_stopped self.new ≡ is_stopped self.old) }
+        ensures stays { IsErrOf result JournalFault.Halted → ((disk_of self.new) ≡ (disk_of self.old)) × (is_stopped self.new ≡ true) }
+        ensures starved { D.starved (disk_of self.old) ≡ true → D.starved (disk_of self.new) ≡ true }
+        ensures exact { D.honest → OnOk result (D.slots (disk_of self.new) ≡ after_append None (D.slots (disk_of self.old)) (slot_of self.old) (written delta.now)) }
         // After it every crash leaves the records from before and the new one.
-        ensures durable { D.honest → OnOk result (Leaves self.old.gateway (D.slots self.new.disk) (records self.old.gateway (image (D.slots self.old.disk)) ++ delta.now ∷ [])) }
+        ensures durable { D.honest → OnOk result (Leaves (gateway_of self.old) (D.slots (disk_of self.new)) (records (gateway_of self.old) (image (D.slots (disk_of self.old))) ++ delta.now ∷ [])) }
         // Where it failed, the new one may be missing.
-        ensures torn { D.honest → IsErrOf result JournalFault.Disk → LeavesOneMore self.old.gateway (D.slots self.new.disk) (records self.old.gateway (image (D.slots self.old.disk))) delta.now }
+        ensures torn { D.honest → IsErrOf result JournalFault.Disk → LeavesOneMore (gateway_of self.old) (D.slots (disk_of self.new)) (records (gateway_of self.old) (image (D.slots (disk_of self.old)))) delta.now }
         // Where it is known which failure is arranged, so are the outcome and the slots.
-        ensures known { D.honest → D.starved self.new.disk ≡ false → AppendedAs (D.outlook self.old.disk) (D.slots self.old.disk) self.old.slot (written delta.now) result (D.slots self.new.disk) (D.outlook self.new.disk) }
+        ensures known { D.honest → D.starved (disk_of self.new) ≡ false → AppendedAs (D.outlook (disk_of self.old)) (D.slots (disk_of self.old)) (slot_of self.old) (written delta.now) result (D.slots (disk_of self.new)) (D.outlook (disk_of self.new)) }
     {
         if self.halted {
             return Err(JournalFault::Halted);
@@ -117,14 +118,14 @@ impl<D: Disk + Drop> Journal<D> {
 
     /// The disk as it stands.
     pub fn into_disk(self) -> D
-        ensures { result ≡ self.disk }
+        ensures { result ≡ disk_of self }
     {
         self.disk
     }
 
     /// Whether a write has failed since the journal was opened.
     pub fn is_halted(&self) -> bool
-        ensures { result ≡ self.now.halted }
+        ensures { result ≡ is_stopped self.now }
     {
         self.halted
     }
@@ -132,10 +133,11 @@ impl<D: Disk + Drop> Journal<D> {
 
 impl Journal<MemoryDisk> {
     ghost use Rattle.std.specs.Prelude.{◌≡◌};
+    ghost use Rattle.jr_journal.specs.Parts.{disk_of};
 
     /// Whether memory was refused in the disk.
     pub fn starved(&self) -> bool
-        ensures { result ≡ self.now.disk.starved }
+        ensures { result ≡ (disk_of self.now).starved }
     {
         self.disk.starved()
     }

@@ -4,12 +4,15 @@ use Rattle.std.proofs.lemmas.List.Elements.{Contains-push, Contains-push_cases, 
 use Rattle.sn_topic.specs.Table.{Entries}
 use Rattle.sn_session.specs.declared.session.Session.{Session}
 use Rattle.sn_session.specs.declared.change.SessionOp.{SessionOp}
+use Rattle.sn_session.specs.declared.outbound.Phase.{Phase}
 use Rattle.sn_session.specs.declared.outbound.Phase.TheVariants.{Published}
 use Rattle.sn_session.specs.declared.change.SessionOp.TheVariants.{Presence, Received}
 use Rattle.sn_session.specs.declared.presence.Presence.TheVariants.{Asleep}
 use Rattle.sn_session.specs.Received.{is_received, id_has_no_room}
 use Rattle.sn_frame.specs.declared.frame.Frame.TheVariants as frames
+use Rattle.sn_frame.specs.Grammar.{spelling}
 use Rattle.rep_ops.specs.declared.op.Put.{Put}
+use Rattle.sn_flow.specs.declared.config.Send.{Send}
 use Rattle.sn_flow.specs.declared.local.Timer.{Timer}
 use Rattle.sn_flow.specs.declared.local.WillDialog.{WillDialog}
 use Rattle.sn_flow.specs.declared.local.LocalChange.TheVariants.{Heard, EndDialog}
@@ -22,11 +25,13 @@ use Rattle.sn_deliver.specs.declared.peer.Peer.{Peer}
 use Rattle.sn_deliver.specs.declared.delivery.ToldId.{ToldId}
 use Rattle.sn_deliver.specs.Forms.{form_of, publication}
 use Rattle.sn_deliver.specs.Recipients.{puts_for}
-use Rattle.sn_deliver.specs.Exchanges.{so_far, open_exchange, is_served, is_awake}
+use Rattle.sn_deliver.specs.Exchanges.{so_far, put_left, message_of, open_exchange, is_served, is_awake}
 use Rattle.sn_deliver.specs.Delivery.{Stop, id_to_tell, begun, register_first, deliver_by, none_left, and_then, deliver, deliver_left}
-use Rattle.sn_deliver.specs.Resending.{publish_by}
+use Rattle.sn_deliver.specs.Resending.{publish_by, publish_again, resend_in}
 use Rattle.sn_deliver.specs.Due.{elapsed, first_due}
 use Rattle.sn_deliver.specs.Ticking.{dialog_ended, dialogs_ended, needs_timer, timer_begun, cleaned, advertised, plan_if_due}
+use Rattle.sn_session.specs.Session.{changed as changed_by}
+use Rattle.sn_deliver.proofs.Receiving.{added, stays-received}
 use Rattle.sn_deliver.specs.Laws.{IsDoneWith, IsOfOneDone, DeliveryKeeps, OneExchange, PutsOnce, ResentWithDup, TickIsQuiet}
 
 -- ---- a test that chooses between drafts
@@ -45,12 +50,30 @@ choose_puts false x y e none = absurd (true≢false (sym e))
 
 -- ---- a repeated publication
 
+-- where two tests fail, the last draft is chosen
+choose_last : (b c : Bool) (x y z : Drafted) (P : Drafted → Type 0) → b ≡ false → c ≡ false → P z → P (if b then x else (if c then y else z))
+choose_last true c x y z P e f h = absurd (true≢false e)
+choose_last false true x y z P e f h = absurd (true≢false f)
+choose_last false false x y z P e f h = h
+
+if_room : (b : Bool) (s made : Session) (id : ℕ) → b ≡ false → is_received id made.received ≡ true → is_received id (if b then s else made).received ≡ true
+if_room true s made id e h = absurd (true≢false e)
+if_room false s made id e h = h
+
 pub puts-once : PutsOnce
-puts-once seen a s topic msg_id body name received =
-    choose_puts (is_received msg_id s.received) (sent a (frames.PubRec msg_id) nothing)
-    (if id_has_no_room msg_id s.received then sent a (frames.PubAck topic msg_id 1) nothing
-    else sent a (frames.PubRec msg_id) (changed (Received msg_id) (put_all (puts_for seen name 2 body) nothing)))
-    received refl
+puts-once = record {
+  recorded = λ seen a s topic msg_id body name fresh room.
+      choose_last (is_received msg_id s.received) (id_has_no_room msg_id s.received) (sent a (frames.PubRec msg_id) nothing) (sent a (frames.PubAck topic msg_id 1) nothing)
+      (sent a (frames.PubRec msg_id) (changed (Received msg_id) (put_all (puts_for seen name 2 body) nothing)))
+      (λ d. is_received msg_id (so_far s d).received ≡ true) fresh room
+      (if_room (id_has_no_room msg_id s.received) s (changed_by s (Received msg_id)) msg_id room (added msg_id s.received));
+  stays = stays-received;
+  repeated = λ seen a s topic msg_id body name received.
+      choose_puts (is_received msg_id s.received) (sent a (frames.PubRec msg_id) nothing)
+      (if id_has_no_room msg_id s.received then sent a (frames.PubAck topic msg_id 1) nothing
+      else sent a (frames.PubRec msg_id) (changed (Received msg_id) (put_all (puts_for seen name 2 body) nothing)))
+      received refl;
+}
 
 -- ---- an exchange that is open
 
@@ -68,7 +91,11 @@ one-exchange predefined peer s pending d x is =
 -- ---- a PUBLISH that is sent again
 
 pub resent-with-dup : ResentWithDup
-resent-with-dup predefined peer s msg_id put form d is = ap (λ (found : Option Form). (publish_by peer s put msg_id found d).1.sends) is
+resent-with-dup predefined peer s pending x put form d is_published is_put is_form =
+    let more : Drafted → Drafted = deliver_left predefined peer s pending in
+    ap (λ (phase : Phase). (and_then more (resend_in predefined peer s x.msg_id phase (put_left d.acks pending (message_of x)) d)).sends) is_published
+    ∙ ap (λ (found : Option Put). (and_then more (publish_again predefined peer s x.msg_id found d)).sends) is_put
+    ∙ ap (λ (found : Option Form). (and_then more (publish_by peer s put x.msg_id found d)).sends) is_form
 
 -- ---- a tick
 
@@ -99,8 +126,8 @@ tick-quiet g advertise field predefined seen local now no_advertise no_client = 
 -- ---- Delivery
 
 -- the messages that are acknowledged behind a message, and those that were before
-abbrev Kept : Entries → Session → List Put → Drafted → ℕ × ℕ → Type 0
-Kept predefined s pending d name = Contains d.acks name ⊎ IsOfOneDone predefined s pending name
+abbrev Kept : Entries → Peer → Session → List Put → Drafted → List Send → ℕ × ℕ → Type 0
+Kept predefined peer s pending d sends name = Contains d.acks name ⊎ IsOfOneDone predefined peer s pending sends name
 
 module _ (predefined : Entries) (peer : Peer) (s : Session) where
   none_acks : (d : Drafted) → (none_left peer s d).acks ≡ d.acks
@@ -110,56 +137,124 @@ module _ (predefined : Entries) (peer : Peer) (s : Session) where
   changed_acks None d = refl
   changed_acks (Some change) d = refl
 
+  changed_sends : (change : Option SessionOp) (d : Drafted) → (changed_if change d).sends ≡ d.sends
+  changed_sends None d = refl
+  changed_sends (Some change) d = refl
+
+  -- ---- a frame that is sent stays sent
+
+  abbrev Stays : Drafted → Drafted → Type 0
+  Stays d e = (m : Send) → Contains d.sends m → Contains e.sends m
+
+  one_more_sent : (d : Drafted) (m : Send) (more : Send) → Contains d.sends m → Contains (d.sends ++ more ∷ []) m
+  one_more_sent d m more there = Contains-append_left d.sends (more ∷ []) m there
+
+  choose_stays : (b : Bool) (x y d : Drafted) → Stays d x → Stays d y → Stays d (if b then x else y)
+  choose_stays true x y d h k = h
+  choose_stays false x y d h k = k
+
+  none_stays : (d : Drafted) → Stays d (none_left peer s d)
+  none_stays d = choose_stays (is_awake s.presence) (sent peer.address frames.PingResp (changed (Presence Asleep s.duration) d)) d d
+      (λ m there. one_more_sent d m (record { to = peer.address; bytes = spelling frames.PingResp }) there) (λ m there. there)
+
+  register_stays : (put : Put) (told : Option ToldId) (d : Drafted) → Stays d (register_first peer s put told d).1
+  register_stays put None d = λ m there. there
+  register_stays put (Some told) d = λ m there.
+      one_more_sent (changed_if told.change d) m (record { to = peer.address; bytes = spelling (frames.Register told.id s.next_id put.topic) })
+      (subst (λ sends. Contains sends m) (sym (changed_sends told.change d)) there)
+
+  choose_stop_stays : (b : Bool) (x y : Stop) (d : Drafted) → Stays d x.1 → Stays d y.1 → Stays d (if◌then◌else◌ {A = Stop} b x y).1
+  choose_stop_stays true x y d h k = h
+  choose_stop_stays false x y d h k = k
+
+  form_stays : (put : Put) (form : Option Form) (d : Drafted) → Stays d (deliver_by peer s put form d).1
+  form_stays put None d = register_stays put (id_to_tell s put.topic) d
+  form_stays put (Some form) d =
+      choose_stop_stays (put.qos == 0) (false, acked (name_of put) (sent peer.address (publication false put 0 form) d))
+      (true, begun peer s put Published (publication false put s.next_id form) d) d
+      (λ m there. one_more_sent d m (record { to = peer.address; bytes = spelling (publication false put 0 form) }) there)
+      (λ m there. one_more_sent d m (record { to = peer.address; bytes = spelling (publication false put s.next_id form) }) there)
+
+  stop_stays : (more : Drafted → Drafted) (stop : Stop) (d : Drafted) → ((e : Drafted) → Stays e (more e)) → Stays d stop.1 → Stays d (and_then more stop)
+  stop_stays more (true, e) d later first = first
+  stop_stays more (false, e) d later first = λ m there. later e m (first m there)
+
+  deliver_stays : (pending : List Put) (d : Drafted) → Stays d (deliver predefined peer s pending d)
+  deliver_stays [] d = none_stays d
+  deliver_stays (put ∷ rest) d =
+      stop_stays (deliver predefined peer s rest) (deliver_by peer s put (form_of predefined s put.topic) d) d (λ e. deliver_stays rest e) (form_stays put (form_of predefined s put.topic) d)
+
+  -- ---- what is acknowledged
+
   at_head : (put : Put) (rest : List Put) → Contains (put ∷ rest) put
   at_head put rest = Contains-append_left (put ∷ []) rest put (Contains-push [] put)
 
-  by_added : (put : Put) (rest : List Put) (d : Drafted) (name : ℕ × ℕ) → IsDoneWith predefined s put
-      → Contains d.acks name ⊎ (name_of put ≡ name) → Kept predefined s (put ∷ rest) d name
-  by_added put rest d name done (inl old) = inl old
-  by_added put rest d name done (inr is) = inr (put, at_head put rest, sym is, done)
+  by_added : (put : Put) (rest : List Put) (d : Drafted) (sends : List Send) (name : ℕ × ℕ) → IsDoneWith predefined peer s put sends
+      → Contains d.acks name ⊎ (name_of put ≡ name) → Kept predefined peer s (put ∷ rest) d sends name
+  by_added put rest d sends name done (inl old) = inl old
+  by_added put rest d sends name done (inr is) = inr (put, at_head put rest, sym is, done)
 
   -- a message that is acknowledged
-  one_done : (put : Put) (rest : List Put) (d : Drafted) (name : ℕ × ℕ) → IsDoneWith predefined s put
-      → Contains (d.acks ++ name_of put ∷ []) name → Kept predefined s (put ∷ rest) d name
-  one_done put rest d name done there = by_added put rest d name done (Contains-push_cases d.acks (name_of put) name there)
+  one_done : (put : Put) (rest : List Put) (d : Drafted) (sends : List Send) (name : ℕ × ℕ) → IsDoneWith predefined peer s put sends
+      → Contains (d.acks ++ name_of put ∷ []) name → Kept predefined peer s (put ∷ rest) d sends name
+  one_done put rest d sends name done there = by_added put rest d sends name done (Contains-push_cases d.acks (name_of put) name there)
 
   register_keeps : (put : Put) (rest : List Put) (d : Drafted) (name : ℕ × ℕ) (told : Option ToldId)
       → form_of predefined s put.topic ≡ None → id_to_tell s put.topic ≡ told
-      → Contains (register_first peer s put told d).1.acks name → Kept predefined s (put ∷ rest) d name
-  register_keeps put rest d name None no_form no_id there = one_done put rest d name (inr (no_form, no_id)) there
+      → Contains (register_first peer s put told d).1.acks name → Kept predefined peer s (put ∷ rest) d (register_first peer s put told d).1.sends name
+  register_keeps put rest d name None no_form no_id there = one_done put rest d d.sends name (inr (no_form, no_id)) there
   register_keeps put rest d name (Some told) no_form no_id there = inl (subst (λ acks. Contains acks name) (changed_acks told.change d) there)
 
-  publish_keeps : (put : Put) (rest : List Put) (d : Drafted) (name : ℕ × ℕ) (b : Bool) (x y : Drafted)
-      → (put.qos == 0) ≡ b → x.acks ≡ (d.acks ++ name_of put ∷ []) → y.acks ≡ d.acks
-      → Contains (if◌then◌else◌ {A = Stop} b (false, x) (true, y)).1.acks name → Kept predefined s (put ∷ rest) d name
-  publish_keeps put rest d name true x y zero at_x at_y there =
-      one_done put rest d name (inl (eqb-true put.qos 0 zero)) (subst (λ acks. Contains acks name) at_x there)
-  publish_keeps put rest d name false x y more at_x at_y there = inl (subst (λ acks. Contains acks name) at_y there)
+  publish_keeps : (put : Put) (rest : List Put) (d : Drafted) (name : ℕ × ℕ) (form : Form) (b : Bool) (x y : Drafted)
+      → form_of predefined s put.topic ≡ Some form → (put.qos == 0) ≡ b
+      → x ≡ acked (name_of put) (sent peer.address (publication false put 0 form) d) → y.acks ≡ d.acks
+      → Contains (if◌then◌else◌ {A = Stop} b (false, x) (true, y)).1.acks name
+      → Kept predefined peer s (put ∷ rest) d (if◌then◌else◌ {A = Stop} b (false, x) (true, y)).1.sends name
+  publish_keeps put rest d name form true x y some zero at_x at_y there =
+      one_done put rest d x.sends name
+      (inl (eqb-true put.qos 0 zero,
+        (form, some, subst (λ (e : Drafted). Contains e.sends (record { to = peer.address; bytes = spelling (publication false put 0 form) })) (sym at_x)
+        (Contains-push d.sends (record { to = peer.address; bytes = spelling (publication false put 0 form) })))))
+      (subst (λ (e : Drafted). Contains e.acks name) at_x there)
+  publish_keeps put rest d name form false x y some more at_x at_y there = inl (subst (λ acks. Contains acks name) at_y there)
 
   form_keeps : (put : Put) (rest : List Put) (d : Drafted) (name : ℕ × ℕ) (form : Option Form) → form_of predefined s put.topic ≡ form
-      → Contains (deliver_by peer s put form d).1.acks name → Kept predefined s (put ∷ rest) d name
+      → Contains (deliver_by peer s put form d).1.acks name → Kept predefined peer s (put ∷ rest) d (deliver_by peer s put form d).1.sends name
   form_keeps put rest d name None none there = register_keeps put rest d name (id_to_tell s put.topic) none refl there
   form_keeps put rest d name (Some form) some there =
-      publish_keeps put rest d name (put.qos == 0) (acked (name_of put) (sent peer.address (publication false put 0 form) d))
-      (begun peer s put Published (publication false put s.next_id form) d) refl refl refl there
+      publish_keeps put rest d name form (put.qos == 0) (acked (name_of put) (sent peer.address (publication false put 0 form) d))
+      (begun peer s put Published (publication false put s.next_id form) d) some refl refl refl there
 
-  deeper : (put : Put) (rest : List Put) (name : ℕ × ℕ) → IsOfOneDone predefined s rest name → IsOfOneDone predefined s (put ∷ rest) name
-  deeper put rest name (other, among, is, done) = (other, Contains-append_right (put ∷ []) rest other among, is, done)
+  -- what is done with by some frames is so by more
+  done_more : (put : Put) (old new : List Send) → ((m : Send) → Contains old m → Contains new m) → IsDoneWith predefined peer s put old → IsDoneWith predefined peer s put new
+  done_more put old new more (inl (zero, (form, some, there))) = inl (zero, (form, some, more (record { to = peer.address; bytes = spelling (publication false put 0 form) }) there))
+  done_more put old new more (inr none) = inr none
 
-  by_later : (put : Put) (rest : List Put) (d e : Drafted) (name : ℕ × ℕ)
-      → (Contains e.acks name → Kept predefined s (put ∷ rest) d name) → Kept predefined s rest e name → Kept predefined s (put ∷ rest) d name
-  by_later put rest d e name first (inl there) = first there
-  by_later put rest d e name first (inr later) = inr (deeper put rest name later)
+  kept_more : (pending : List Put) (d : Drafted) (name : ℕ × ℕ) (old new : List Send) → ((m : Send) → Contains old m → Contains new m)
+      → Kept predefined peer s pending d old name → Kept predefined peer s pending d new name
+  kept_more pending d name old new more (inl there) = inl there
+  kept_more pending d name old new more (inr (put, among, is, done)) = inr (put, among, is, done_more put old new more done)
+
+  deeper : (put : Put) (rest : List Put) (sends : List Send) (name : ℕ × ℕ) → IsOfOneDone predefined peer s rest sends name → IsOfOneDone predefined peer s (put ∷ rest) sends name
+  deeper put rest sends name (other, among, is, done) = (other, Contains-append_right (put ∷ []) rest other among, is, done)
+
+  by_later : (put : Put) (rest : List Put) (d e : Drafted) (sends : List Send) (name : ℕ × ℕ)
+      → (Contains e.acks name → Kept predefined peer s (put ∷ rest) d sends name) → Kept predefined peer s rest e sends name → Kept predefined peer s (put ∷ rest) d sends name
+  by_later put rest d e sends name first (inl there) = first there
+  by_later put rest d e sends name first (inr later) = inr (deeper put rest sends name later)
 
   stop_keeps : (put : Put) (rest : List Put) (d : Drafted) (name : ℕ × ℕ) (stop : Stop)
-      → (Contains stop.1.acks name → Kept predefined s (put ∷ rest) d name)
-      → ((e : Drafted) → Contains (deliver predefined peer s rest e).acks name → Kept predefined s rest e name)
-      → Contains (and_then (deliver predefined peer s rest) stop).acks name → Kept predefined s (put ∷ rest) d name
+      → (Contains stop.1.acks name → Kept predefined peer s (put ∷ rest) d stop.1.sends name)
+      → ((e : Drafted) → Contains (deliver predefined peer s rest e).acks name → Kept predefined peer s rest e (deliver predefined peer s rest e).sends name)
+      → Contains (and_then (deliver predefined peer s rest) stop).acks name
+      → Kept predefined peer s (put ∷ rest) d (and_then (deliver predefined peer s rest) stop).sends name
   stop_keeps put rest d name (true, e) first later there = first there
-  stop_keeps put rest d name (false, e) first later there = by_later put rest d e name first (later e there)
+  stop_keeps put rest d name (false, e) first later there =
+      by_later put rest d e (deliver predefined peer s rest e).sends name
+      (λ before. kept_more (put ∷ rest) d name e.sends (deliver predefined peer s rest e).sends (deliver_stays rest e) (first before)) (later e there)
 
   deliver_keeps : (pending : List Put) (d : Drafted) (name : ℕ × ℕ)
-      → Contains (deliver predefined peer s pending d).acks name → Kept predefined s pending d name
+      → Contains (deliver predefined peer s pending d).acks name → Kept predefined peer s pending d (deliver predefined peer s pending d).sends name
   deliver_keeps [] d name there = inl (subst (λ acks. Contains acks name) (none_acks d) there)
   deliver_keeps (put ∷ rest) d name there =
       stop_keeps put rest d name (deliver_by peer s put (form_of predefined s put.topic) d)

@@ -3,5 +3,6 @@ pub mod Drafting
 mod Examples
 pub mod Following
 pub mod Keeping
+mod Receiving
 mod Remaining
 pub mod Settling

@@ -1,12 +1,18 @@
 -- What holds of publications and of time, whatever the sessions and the messages.
-use Rattle.std.specs.Prelude.{◌≡◌, ℕ, ◌+◌, true, false, ◌⊎◌, List, [], ◌∷◌, Option, Some, None, Contains}
+use Rattle.std.specs.Prelude.{◌≡◌, ℕ, ◌+◌, ◌==◌, Bool, true, false, ◌⊎◌, List, [], ◌∷◌, Option, Some, None, Contains}
 use Rattle.std.specs.List.{AllByRecursion}
 use Rattle.sn_topic.specs.Table.{Entries}
+use Rattle.sn_session.specs.declared.outbound.Phase.TheVariants.{Published}
 use Rattle.sn_session.specs.declared.session.Session.{Session}
-use Rattle.sn_session.specs.Received.{is_received}
+use Rattle.sn_session.specs.declared.change.SessionOp.{SessionOp}
+use Rattle.sn_session.specs.declared.change.SessionOp.TheVariants.{Take, Released}
+use Rattle.sn_session.specs.Session.{applied}
+use Rattle.sn_session.specs.Received.{is_received, id_has_no_room}
 use Rattle.sn_frame.specs.declared.frame.Frame.TheVariants as frames
+use Rattle.sn_frame.specs.Grammar.{spelling}
 use Rattle.rep_ops.specs.declared.op.Put.{Put}
 use Rattle.sn_flow.specs.declared.config.Addr.{Addr}
+use Rattle.sn_flow.specs.declared.config.Send.{Send}
 use Rattle.sn_flow.specs.declared.local.Timer.{Timer}
 use Rattle.sn_flow.specs.declared.plan.Plan.{Plan}
 use Rattle.sn_flow.specs.declared.row.Follow.TheVariants as follows
@@ -19,39 +25,57 @@ use Rattle.sn_flow.specs.Timers.{timer_of, timers_after}
 use Rattle.sn_flow.specs.Locals.{Local}
 use Rattle.sn_deliver.specs.declared.form.Form.{Form}
 use Rattle.sn_deliver.specs.declared.peer.Peer.{Peer}
-use Rattle.sn_deliver.specs.Forms.{form_of, form_again, qos_bits, kind_bits}
+use Rattle.sn_deliver.specs.Forms.{form_of, form_again, publication, qos_bits, kind_bits}
 use Rattle.sn_session.specs.declared.outbound.Outbound.{Outbound as Exchange}
 use Rattle.sn_deliver.specs.declared.due.Due.{Due}
 use Rattle.sn_deliver.specs.declared.due.Due.TheVariants.{Loss, Retry, Delivery}
-use Rattle.sn_deliver.specs.Exchanges.{so_far, same_name, left, open_exchange}
+use Rattle.sn_deliver.specs.Exchanges.{so_far, same_name, left, put_left, message_of, open_exchange}
 use Rattle.sn_deliver.specs.Delivery.{id_to_tell, deliver, then_deliver}
-use Rattle.sn_deliver.specs.Resending.{publish_again}
+use Rattle.sn_deliver.specs.Resending.{resend}
 use Rattle.sn_deliver.specs.Publishing.{spread_twice}
 use Rattle.sn_deliver.specs.Due.{due_session, first_due}
 use Rattle.sn_deliver.specs.Following.{followed}
 use Rattle.sn_deliver.specs.Ticking.{may_advertise, lost, retried, tick}
 
--- a message that Delivery is done with: it was sent at quality of service 0, or no id is left for its topic
-abbrev pub IsDoneWith : Entries → Session → Put → Type 0
-IsDoneWith predefined s put = (put.qos ≡ 0) ⊎ ((form_of predefined s put.topic ≡ None) × (id_to_tell s put.topic ≡ None))
+-- the PUBLISH of a message at quality of service 0 is among these frames
+abbrev pub IsSentAtZero : Entries → Peer → Session → Put → List Send → Type 0
+IsSentAtZero predefined peer s put sends =
+    (form : Form) × (form_of predefined s put.topic ≡ Some form)
+    × Contains sends (record { to = peer.address; bytes = spelling (publication false put 0 form) })
+
+-- a message that Delivery is done with: it is of quality of service 0 and was sent, or no id is left for its topic
+abbrev pub IsDoneWith : Entries → Peer → Session → Put → List Send → Type 0
+IsDoneWith predefined peer s put sends =
+    ((put.qos ≡ 0) × IsSentAtZero predefined peer s put sends) ⊎ ((form_of predefined s put.topic ≡ None) × (id_to_tell s put.topic ≡ None))
 
 -- the name of such a message among these
-abbrev pub IsOfOneDone : Entries → Session → List Put → ℕ × ℕ → Type 0
-IsOfOneDone predefined s pending name =
-    (put : Put) × Contains pending put × (name ≡ name_of put) × IsDoneWith predefined s put
+abbrev pub IsOfOneDone : Entries → Peer → Session → List Put → List Send → ℕ × ℕ → Type 0
+IsOfOneDone predefined peer s pending sends name =
+    (put : Put) × Contains pending put × (name ≡ name_of put) × IsDoneWith predefined peer s put sends
 
 -- Delivery acknowledges no other message
 abbrev pub DeliveryKeeps : Type 0
 DeliveryKeeps =
     (predefined : Entries) (peer : Peer) (s : Session) (pending : List Put) (d : Drafted) (name : ℕ × ℕ)
     → Contains (deliver predefined peer s pending d).acks name
-    → Contains d.acks name ⊎ IsOfOneDone predefined s pending name
+    → Contains d.acks name ⊎ IsOfOneDone predefined peer s pending (deliver predefined peer s pending d).sends name
 
--- a publication at quality of service 2 whose message id was received and not released makes no message
-abbrev pub PutsOnce : Type 0
-PutsOnce =
-    (seen : Seen) (a : Addr) (s : Session) (topic msg_id : ℕ) (body name : List ℕ) → is_received msg_id s.received ≡ true
-    → (spread_twice seen a s topic msg_id body name).puts ≡ []
+-- a change that ends that a message id is received: a session that is taken over as a whole, or its release
+abbrev pub ends_received : ℕ → SessionOp → Bool
+ends_received id (Take taken) = true
+ends_received id (Released other) = other == id
+ends_received id change = false
+
+-- Exactly once: the first publication at quality of service 2 records its message id; no change but a Take and the release of the id
+-- ends that; and while it lasts a publication of the id makes no message
+pub record PutsOnce : Type 0 where
+  pub recorded : (seen : Seen) (a : Addr) (s : Session) (topic msg_id : ℕ) (body name : List ℕ)
+      → is_received msg_id s.received ≡ false → id_has_no_room msg_id s.received ≡ false
+      → is_received msg_id (so_far s (spread_twice seen a s topic msg_id body name)).received ≡ true
+  pub stays : (s : Session) (change : SessionOp) (msg_id : ℕ) → ends_received msg_id change ≡ false
+      → is_received msg_id s.received ≡ true → is_received msg_id (applied s change).received ≡ true
+  pub repeated : (seen : Seen) (a : Addr) (s : Session) (topic msg_id : ℕ) (body name : List ℕ)
+      → is_received msg_id s.received ≡ true → (spread_twice seen a s topic msg_id body name).puts ≡ []
 
 -- while an exchange is open, Delivery begins none and sends nothing
 abbrev pub OneExchange : Type 0
@@ -62,10 +86,10 @@ OneExchange =
 -- a PUBLISH that is sent again has DUP, and the message id of its exchange
 abbrev pub ResentWithDup : Type 0
 ResentWithDup =
-    (predefined : Entries) (peer : Peer) (s : Session) (msg_id : ℕ) (put : Put) (form : Form) (d : Drafted)
-    → form_again predefined s put.topic ≡ Some form
-    → (publish_again predefined peer s msg_id (Some put) d).1.sends
-    ≡ (sent peer.address (frames.Publish (record { bits = 128 + qos_bits put.qos + kind_bits form.kind }) form.topic msg_id put.body) d).sends
+    (predefined : Entries) (peer : Peer) (s : Session) (pending : List Put) (x : Exchange) (put : Put) (form : Form) (d : Drafted)
+    → x.phase ≡ Published → put_left d.acks pending (message_of x) ≡ Some put → form_again predefined s put.topic ≡ Some form
+    → (resend predefined peer s pending x d).sends
+      ≡ (sent peer.address (frames.Publish (record { bits = 128 + qos_bits put.qos + kind_bits form.kind }) form.topic x.msg_id put.body) d).sends
 
 -- a plan that makes no operation and sends no frame
 abbrev pub IsQuiet : Plan → Type 0

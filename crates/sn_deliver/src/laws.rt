@@ -14,12 +14,13 @@ ghost use Rattle.sn_deliver.specs.Ticking.{tick};
 ghost use Rattle.sn_deliver.specs.Laws.{DeliveryKeeps, OneExchange, PutsOnce, ResentWithDup, TickIsQuiet, TickSettles};
 
 /// Delivery loses no message: it acknowledges none but those that it sends at quality of service 0, and those for whose topic
-/// no id is left.
+/// no id is left. The PUBLISH of each of the first is among its frames.
 pub fn delivery_keeps()
     ensures { DeliveryKeeps }
 {}
 
-/// Exactly once: a publication at quality of service 2 that is repeated before its PUBREL makes no second message.
+/// Exactly once: the first publication of a message id at quality of service 2 records the id; nothing but its release and a session
+/// that is taken over as a whole ends that; and until then a publication of the id makes no message.
 pub fn puts_once()
     ensures { PutsOnce }
 {}

@@ -1,8 +1,8 @@
 //! The subscriptions of a session.
 
-ghost use Rattle.std.specs.Prelude.{◌≡◌, ◌==◌, ◌<◌, ◌≤◌, ◌↔◌, [], length, IfOk, IfErr, IfSome, MatchOption, OnOk, OnErr, IsErrOf, IsTrue, false, Some};
+ghost use Rattle.std.specs.Prelude.{◌≡◌, ◌==◌, ◌<◌, ◌≤◌, ◌↔◌, [], length, IfOk, IfErr, IfSome, MatchOption, OnOk, OnErr, IsErrOf, IsTrue, false, Some, is_none};
 ghost use Rattle.sn_session.specs.Tables.{IsTable, IsPlace, is_ascending as ascending_test};
-ghost use Rattle.sn_session.specs.Subscriptions.{filter_cmp, subscription_cmp, with_subscription, without_filter, qos_of, filter_has_no_room, asked_qos, subscribed_qos, or_greater as greater_test, IsGreatest};
+ghost use Rattle.sn_session.specs.Subscriptions.{filter_cmp, subscription_cmp, with_subscription, without_filter, subscription_of, qos_of, filter_has_no_room, asked_qos, subscribed_qos, or_greater as greater_test, IsGreatest};
 
 use crate::fault::SessionFault;
 use crate::table::{MAX_ENTRIES, insert_at};
@@ -135,6 +135,7 @@ impl Subscriptions {
         ensures err { OnErr result (self.new ≡ self.old) }
         ensures full { IsErrOf result SessionFault.Full ↔ IsTrue (filter_has_no_room filter.now self.old) }
         ensures fits { OnOk result (filter_has_no_room filter.now self.old ≡ false) }
+        ensures absent { OnErr result (IsTrue (is_none (subscription_of filter.now self.old))) }
     {
         if self.has_no_room(filter) {
             return Err(SessionFault::Full);

@@ -1,8 +1,13 @@
-use Rattle.std.proofs.Common.{◌≡◌, sym, subst, ap, ◌∙◌, false, List}
+use Rattle.std.proofs.Common.{◌≡◌, sym, subst, ap, ◌∙◌, false, List, Result, Ok, Err, OnErr, is_none}
 use Rattle.sn_session.specs.declared.subscriptions.Subscription.{Subscription}
 use Rattle.sn_session.specs.Subscriptions.{filter_has_no_room}
-use Rattle.sn_session.proofs.SubscriptionPlaces.{room, same_filter, set_is, insert_is, set_table, insert_table}
+use Rattle.sn_session.proofs.SubscriptionPlaces.{room, absent, same_filter, set_is, insert_is, set_table, insert_table}
 use Rattle.sn_session.proofs.subscriptions.Subscriptions.set.Goals as goal
+
+-- what holds before a call holds where it fails
+at_errors : {T E P : Type 0} (r : Result T E) → P → OnErr r P
+at_errors (Ok x) p = tt
+at_errors (Err e) p = p
 
 -- the filter is there, and its quality of service is written over
 pub invariant_of-self : goal.invariant_of-self
@@ -33,3 +38,15 @@ returns-in_ok-insert_at-in-Err-clause-ok c =
     let entry : Subscription = record { filter = c.in_ok-filter-in-Err.filter; qos = c.args.qos } in
     let place = rw (c.as_slice.ensures.value, ← c.in_ok-filter-in-Err.ensures.equal) at c.in-Err.ensures in
     rw (c.in_ok-insert_at-in-Err.ensures.ok, ← c.in_ok-filter-in-Err.ensures.equal, ← c.self.view_is) (insert_is c.self.inside.entries.items c.in-Err.at entry place.1)
+
+-- memory runs out only for a filter that is new
+pub returns-in_err-filter-in-Err-clause-absent : goal.returns-in_err-filter-in-Err-clause-absent
+returns-in_err-filter-in-Err-clause-absent c =
+    let place = rw c.as_slice.ensures.value at c.in-Err.ensures in
+    rw (← c.self.view_is) (at_errors c.from_residual.result (ap is_none (absent c.self.inside.entries.items c.in-Err.at c.args.filter.now place.1)))
+
+pub returns-in_err-insert_at-in-Err-clause-absent :
+    goal.returns-in_err-insert_at-in-Err-clause-absent
+returns-in_err-insert_at-in-Err-clause-absent c =
+    let place = rw c.as_slice.ensures.value at c.in-Err.ensures in
+    rw (← c.self.view_is) (at_errors c.from_residual-in_err-insert_at-in-Err.result (ap is_none (absent c.self.inside.entries.items c.in-Err.at c.args.filter.now place.1)))

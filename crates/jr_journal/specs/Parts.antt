@@ -1,0 +1,21 @@
+-- The parts of a journal.
+use Rattle.std.specs.Prelude.{ℕ, Bool}
+use Rattle.jr_journal.specs.declared.disk.Disk.{Ghosts}
+use Rattle.jr_journal.specs.declared.disk.Slot.{Slot}
+use Rattle.jr_journal.specs.declared.journal.Journal.{Journal}
+
+-- the disk that it is on
+abbrev pub disk_of : {D : Type 0} {G : Ghosts D} → Journal D G → D
+disk_of journal = journal.disk
+
+-- the number of the gateway that it is of
+abbrev pub gateway_of : {D : Type 0} {G : Ghosts D} → Journal D G → ℕ
+gateway_of journal = journal.gateway
+
+-- the slot that it writes
+abbrev pub slot_of : {D : Type 0} {G : Ghosts D} → Journal D G → Slot
+slot_of journal = journal.slot
+
+-- whether a write has failed since it was opened
+abbrev pub is_halted : {D : Type 0} {G : Ghosts D} → Journal D G → Bool
+is_halted journal = journal.halted
