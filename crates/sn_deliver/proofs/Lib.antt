@@ -1,3 +1,4 @@
+pub mod Beginning
 mod Calm
 pub mod Drafting
 mod Examples
