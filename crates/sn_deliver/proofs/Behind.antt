@@ -1,18 +1,17 @@
 -- What waits for clients behind a plan that makes no message.
-use Rattle.std.proofs.Common.{◌≡◌, ℕ, Bool, true, false, cond, not, ◌&&◌, ◌||◌, ◌==◌, nat_le, if◌then◌else◌, List, [], ◌∷◌, ◌++◌, map, Option, Some, None, refl, sym, ap, ◌∙◌, subst, arith}
-use Rattle.std.specs.List.{AllByRecursion}
+use Rattle.std.proofs.Common.{◌≡◌, ℕ, Bool, true, false, cond, not, ◌&&◌, ◌||◌, ◌==◌, nat_le, List, [], ◌∷◌, ◌++◌, map, Option, Some, None, refl, sym, ap, ◌∙◌, arith}
 use Rattle.std.proofs.lemmas.Bool.Decides.{nat_tests}
 use Rattle.std.proofs.lemmas.Option.{same_Some}
 use Rattle.rep_ops.specs.declared.op.Op.{Op}
 use Rattle.rep_ops.specs.declared.op.Op.TheVariants.{Session as OfSession, Put as OfPut, Ack}
-use Rattle.rep_ops.specs.Sets.{same_client, put_of, puts, put_at, acknowledges, is_acknowledged}
+use Rattle.rep_ops.specs.Sets.{put_of, puts, put_at, acknowledges, is_acknowledged}
 use Rattle.rep_model.specs.Views.{pending_at, pending, view}
 use Rattle.rep_model.specs.Fresh.{next_epoch, next_seq}
 use Rattle.rep_model.proofs.Readers.{is_acknowledged_both}
 use Rattle.rep_model.proofs.Thin.{pending_at-reads}
 use Rattle.sn_flow.specs.declared.plan.Plan.{Plan}
 use Rattle.sn_flow.specs.Drafts.{Drafted}
-use Rattle.sn_flow.specs.Numbering.{Written, with_puts, start_of, ack_of}
+use Rattle.sn_flow.specs.Numbering.{with_puts, ack_of}
 use Rattle.sn_flow.specs.Plans.{seen_of, plan_of}
 use Rattle.sn_flow.proofs.Lists.{all-append, all-weaken, all-map, none_pass}
 use Rattle.sn_flow.proofs.Entries.{same_client-itself, same_client-apart, puts-other}

@@ -1,5 +1,5 @@
 -- A step whose operations are all of clients that the set names leaves the clients as they are.
-use Rattle.std.proofs.Common.{◌≡◌, ℕ, Bool, true, false, ◌||◌, ◌&&◌, if◌then◌else◌, nat_le, List, [], ◌∷◌, ◌++◌, filter_map, map, Option, Some, None, refl, sym, ap, ◌∙◌, true≢false, subst, inl, inr}
+use Rattle.std.proofs.Common.{◌≡◌, ℕ, Bool, true, false, ◌||◌, if◌then◌else◌, nat_le, List, [], ◌∷◌, ◌++◌, filter_map, Some, None, refl, sym, ap, ◌∙◌, true≢false, subst, inl, inr}
 use Rattle.std.specs.List.{list_any, AllByRecursion}
 use Rattle.std.specs.FinMap.Entries.{same_entries}
 use Rattle.std.proofs.lemmas.Bool.{and_parts, or_cases}
@@ -16,7 +16,7 @@ use Rattle.sn_flow.specs.declared.draft.NewPut.{NewPut}
 use Rattle.sn_flow.specs.declared.plan.Plan.{Plan}
 use Rattle.sn_flow.specs.Drafts.{Drafted}
 use Rattle.sn_flow.specs.Plans.{Seen, plan_of}
-use Rattle.sn_flow.specs.Own.{IsOwn, message_of, messages}
+use Rattle.sn_flow.specs.Own.{IsOwn, messages}
 use Rattle.sn_flow.proofs.Lists.{all-both}
 use Rattle.sn_flow.proofs.Names.{plan-own}
 use Rattle.sn_flow.proofs.Waiting.{plan-messages}

@@ -1,5 +1,5 @@
 -- Counts of what passes a test, where fewer pass another; and the arithmetic of what is left to do.
-use Rattle.std.proofs.Common.{◌≡◌, ◌⊎◌, ℕ, suc, ◌+◌, ◌*◌, ◌<◌, ◌≤◌, Bool, true, false, cond, List, [], ◌∷◌, filter, length, Contains, refl, sym, ap, ◌∙◌, true≢false, inl, inr, arith, mul-le-mul_right, add-mul, one-mul, mul_comm}
+use Rattle.std.proofs.Common.{◌≡◌, ◌⊎◌, ℕ, suc, ◌+◌, ◌*◌, ◌<◌, ◌≤◌, Bool, true, false, cond, List, [], ◌∷◌, filter, length, Contains, refl, sym, ap, ◌∙◌, true≢false, inl, inr, arith, mul-le-mul_right, add-mul, one-mul}
 use Rattle.std.proofs.lemmas.List.Elements.{Contains-push, Contains-append_left, Contains-append_right}
 
 -- how many pass the test

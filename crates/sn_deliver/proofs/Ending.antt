@@ -1,5 +1,5 @@
 -- Ticks of one moment come to an end.
-use Rattle.std.proofs.Common.{◌≡◌, ℕ, ◌+◌, ◌*◌, ◌-◌, ◌<◌, ◌≤◌, Bool, true, false, ◌&&◌, ◌||◌, if◌then◌else◌, nat_lt, nat_le, is_some, List, [], ◌∷◌, ◌++◌, length, fold, Option, Some, None, IfSome, refl, sym, ap, ◌∙◌, subst, true≢false, inl, arith, le_trans, append-nil}
+use Rattle.std.proofs.Common.{◌≡◌, ℕ, ◌+◌, ◌*◌, ◌-◌, ◌<◌, ◌≤◌, Bool, true, false, ◌&&◌, ◌||◌, if◌then◌else◌, nat_lt, nat_le, is_some, List, [], ◌∷◌, ◌++◌, length, Option, Some, None, IfSome, refl, sym, ap, ◌∙◌, subst, true≢false, arith, le_trans, append-nil}
 use Rattle.std.proofs.lemmas.Bool.{or_parts}
 use Rattle.std.proofs.lemmas.Bool.Decides.{nat_tests}
 use Rattle.std.proofs.lemmas.List.Sums.{fold-append}
@@ -14,24 +14,24 @@ use Rattle.sn_flow.specs.declared.local.LocalChange.{LocalChange}
 use Rattle.sn_flow.specs.declared.local.LocalChange.TheVariants.{Advertised}
 use Rattle.sn_flow.specs.declared.plan.Plan.{Plan}
 use Rattle.sn_flow.specs.Advertising.{advertised_change, advertised_after}
-use Rattle.sn_flow.specs.Bindings.{binding_change, bindings_after}
+use Rattle.sn_flow.specs.Bindings.{bindings_after}
 use Rattle.sn_flow.specs.Drafts.{Drafted}
 use Rattle.sn_flow.specs.Flush.{AreFlush}
 use Rattle.sn_flow.specs.Locals.{Local, after_all}
 use Rattle.sn_flow.specs.Others.{can_wake}
-use Rattle.sn_flow.specs.Plans.{Seen, seen_of, plan_without}
+use Rattle.sn_flow.specs.Plans.{seen_of, plan_without}
 use Rattle.sn_flow.specs.Timers.{timer_of, timers_after}
 use Rattle.sn_flow.proofs.Stepping.{step-flush}
 use Rattle.sn_deliver.specs.declared.due.Due.{Due}
 use Rattle.sn_deliver.specs.declared.due.Due.TheVariants.{Loss, Retry, Delivery}
-use Rattle.sn_deliver.specs.Due.{elapsed, due_with, first_due}
-use Rattle.sn_deliver.specs.Ticking.{cleaned, is_long_ago, may_advertise, advertised_to, advertised, plan_due, plan_if_due, tick}
+use Rattle.sn_deliver.specs.Due.{due_with, first_due}
+use Rattle.sn_deliver.specs.Ticking.{cleaned, may_advertise, advertised_to, advertised, plan_due, plan_if_due, tick}
 use Rattle.sn_deliver.specs.Ticks.{Ticked, AreTicks, busy, does_something}
 use Rattle.sn_deliver.proofs.Calm.{and_false, one_more}
 use Rattle.sn_deliver.proofs.Counting.{IsAmong}
 use Rattle.sn_deliver.proofs.Drafting.{tick-drafted}
 use Rattle.sn_deliver.proofs.Keeping.{fold_keeps}
-use Rattle.sn_deliver.proofs.Locally.{Anyone, IsClean, cleaned-clean}
+use Rattle.sn_deliver.proofs.Locally.{IsClean, cleaned-clean}
 use Rattle.sn_deliver.proofs.Lowering.{due-same, first-found, first-same, is_up_in, is_due_in, work, work-whole, told-lowers, rests-lowers, view-behind, clients-behind}
 use Rattle.sn_deliver.proofs.Stepping.{due-lowers}
 use Rattle.sn_deliver.proofs.Timing.{Alike, still_bound}

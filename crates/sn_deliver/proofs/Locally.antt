@@ -1,5 +1,5 @@
 -- What the draft of a tick changes locally, and what a tick does first.
-use Rattle.std.proofs.Common.{◌≡◌, ℕ, ◌==◌, Bool, true, false, ◌&&◌, if◌then◌else◌, is_none, nat_le, List, [], ◌∷◌, ◌++◌, fold, Option, Some, None, refl, sym, ap, ◌∙◌, true≢false, inl}
+use Rattle.std.proofs.Common.{◌≡◌, ℕ, ◌==◌, Bool, true, false, ◌&&◌, if◌then◌else◌, is_none, nat_le, List, [], ◌∷◌, ◌++◌, fold, Option, Some, None, refl, sym, true≢false, inl}
 use Rattle.std.proofs.lemmas.Bool.{and_parts}
 use Rattle.sn_topic.specs.Table.{Entries}
 use Rattle.sn_session.specs.declared.outbound.Outbound.{Outbound as Exchange}
@@ -11,11 +11,9 @@ use Rattle.sn_session.specs.declared.change.SessionOp.{SessionOp}
 use Rattle.sn_session.specs.Topics.{topic_named}
 use Rattle.rep_ops.specs.declared.op.Put.{Put}
 use Rattle.sn_flow.specs.declared.config.Addr.{Addr}
-use Rattle.sn_flow.specs.declared.local.Timer.{Timer}
 use Rattle.sn_flow.specs.declared.local.WillDialog.{WillDialog}
 use Rattle.sn_flow.specs.declared.local.LocalChange.{LocalChange}
 use Rattle.sn_flow.specs.declared.local.LocalChange.TheVariants.{Heard, Sent, Resent, Retried, EndDialog}
-use Rattle.sn_flow.specs.declared.row.Follow.TheVariants as follows
 use Rattle.sn_flow.specs.Drafts.{Drafted, nothing, changed_if, moved}
 use Rattle.sn_flow.specs.Plans.{Seen}
 use Rattle.sn_flow.specs.Bindings.{is_stamp_of}

@@ -1,18 +1,14 @@
 -- How much a gateway has left to do at a moment, and what makes it less.
-use Rattle.std.proofs.Common.{◌≡◌, ℕ, ◌⊎◌, ◌+◌, ◌*◌, ◌-◌, ◌<◌, ◌≤◌, Bool, true, false, ◌&&◌, ◌||◌, if◌then◌else◌, nat_lt, nat_le, is_some, List, [], ◌∷◌, ◌++◌, length, Option, Some, None, IfSome, refl, sym, ap, ◌∙◌, subst, true≢false, inl, inr, arith, le_of_eq}
-use Rattle.std.specs.List.{AllByRecursion}
+use Rattle.std.proofs.Common.{◌≡◌, ℕ, ◌+◌, ◌*◌, ◌<◌, ◌≤◌, Bool, true, false, if◌then◌else◌, is_some, List, [], ◌∷◌, ◌++◌, length, Option, Some, None, IfSome, refl, sym, ap, ◌∙◌, subst, true≢false, inl, inr, arith, le_of_eq}
 use Rattle.std.proofs.lemmas.Bool.{and_parts}
-use Rattle.std.proofs.lemmas.Bool.Decides.{nat_tests}
 use Rattle.sn_session.specs.declared.presence.Presence.{Presence}
 use Rattle.sn_session.specs.declared.presence.Presence.TheVariants.{Active, Asleep, Awake, Disconnected, Lost}
 use Rattle.sn_session.specs.declared.session.Session.{Session}
-use Rattle.rep_ops.specs.declared.op.Stamp.{Stamp}
 use Rattle.rep_ops.specs.declared.op.Put.{Put}
 use Rattle.rep_ops.specs.declared.op.Op.{Op}
-use Rattle.rep_ops.specs.Sets.{same_client, Same}
+use Rattle.rep_ops.specs.Sets.{Same}
 use Rattle.rep_model.specs.declared.view.ClientView.{ClientView}
 use Rattle.rep_model.specs.Views.{view, clients}
-use Rattle.rep_model.proofs.Readers.{same_client-true}
 use Rattle.rep_model.proofs.Thin.{thin-same, view-thin}
 use Rattle.rep_model.proofs.Named.{clients-thin}
 use Rattle.sn_flow.specs.declared.config.Addr.{Addr}
@@ -24,11 +20,11 @@ use Rattle.sn_flow.specs.Others.{is_up, can_wake}
 use Rattle.sn_flow.specs.Plans.{Seen, seen_of}
 use Rattle.sn_flow.proofs.Known.{same-behind}
 use Rattle.sn_deliver.specs.declared.due.Due.{Due}
-use Rattle.sn_deliver.specs.declared.due.Due.TheVariants.{Loss, Retry, Delivery}
+use Rattle.sn_deliver.specs.declared.due.Due.TheVariants.{Loss}
 use Rattle.sn_deliver.specs.Exchanges.{open_exchange, is_served}
 use Rattle.sn_deliver.specs.Due.{is_silent, is_overdue, due_by, due_at, due_session, due_view, due_with, or_later, first_due}
 use Rattle.sn_deliver.specs.Ticking.{may_advertise}
-use Rattle.sn_deliver.proofs.Calm.{first_of, none_some, and_false}
+use Rattle.sn_deliver.proofs.Calm.{first_of, none_some}
 use Rattle.sn_deliver.proofs.Counting.{count, IsAmong, count-most, count-fewer, count-whole, less_up, less_due, less_time, no_more, all_left_to_do}
 use Rattle.sn_deliver.proofs.Timing.{Alike, due-alike}
 

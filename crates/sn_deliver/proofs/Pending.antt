@@ -1,16 +1,15 @@
 -- The messages that wait for a client: under names that are all different, and which of them are left behind acknowledgements.
-use Rattle.std.proofs.Common.{◌≡◌, ℕ, Bool, true, false, cond, not, ◌&&◌, ◌||◌, ◌==◌, T, nat_le, if◌then◌else◌, List, [], ◌∷◌, ◌++◌, filter, filter_map, map, Option, Some, None, refl, sym, ap, ◌∙◌, true≢false, subst, Ordering, Less, Equal, Greater, is_lt, arith, eqb-true}
-use Rattle.std.specs.List.{list_any, cons_option, AllByRecursion}
+use Rattle.std.proofs.Common.{◌≡◌, ℕ, Bool, true, false, cond, not, ◌&&◌, ◌==◌, T, if◌then◌else◌, List, [], ◌∷◌, filter, map, Some, None, refl, sym, ap, ◌∙◌, subst, Less, Equal, Greater, is_lt, eqb-true}
+use Rattle.std.specs.List.{cons_option, AllByRecursion}
 use Rattle.std.specs.FinMap.{find}
 use Rattle.std.specs.FinMap.Entries.{by_order, put, where_key, below_all, is_sorted, is_sorted-where_key, find-where_key, same_entries}
-use Rattle.std.proofs.lemmas.Bool.{and_parts, or_cases}
-use Rattle.std.proofs.lemmas.Bool.Decides.{nat_tests}
+use Rattle.std.proofs.lemmas.Bool.{and_parts}
 use Rattle.std.proofs.lemmas.Cmp.{tied_itself}
 use Rattle.rep_ops.specs.declared.op.Put.{Put}
 use Rattle.rep_ops.specs.declared.op.Op.{Op}
 use Rattle.rep_ops.specs.declared.op.Op.TheVariants.{Session as OfSession, Put as OfPut, Ack}
 use Rattle.rep_ops.specs.Orders.{put_cmp}
-use Rattle.rep_ops.specs.Sets.{same_client, put_of, puts, is_acknowledged}
+use Rattle.rep_ops.specs.Sets.{same_client, puts, is_acknowledged}
 use Rattle.rep_model.specs.Views.{unacknowledged, pending_at, in_order, pending}
 use Rattle.rep_model.proofs.Lookup.{find-in_order, is_sorted-in_order}
 use Rattle.rep_model.proofs.Readers.{put_total, put_exact}

@@ -1,10 +1,10 @@
 -- A message id that is received stays so, until it is released or the session is another.
-use Rattle.std.proofs.Common.{◌≡◌, ℕ, ◌==◌, Bool, true, false, not, ◌||◌, if◌then◌else◌, List, [], ◌∷◌, filter, refl, sym, ap, ◌∙◌, true≢false, Ordering, Less, Equal, Greater, eqb-true}
+use Rattle.std.proofs.Common.{◌≡◌, ℕ, ◌==◌, Bool, true, false, not, ◌||◌, if◌then◌else◌, List, [], ◌∷◌, refl, sym, ap, ◌∙◌, true≢false, Less, Equal, Greater, eqb-true}
 use Rattle.std.specs.Ordering.{nat_cmp}
 use Rattle.std.specs.Cmp.{nat_cmp_total, tied_itself}
 use Rattle.std.proofs.lemmas.Cmp.{ranked}
 use Rattle.sn_session.specs.Tables.{by_order, with_entry}
-use Rattle.sn_session.specs.Received.{is_received, with_received, without_received, id_has_no_room}
+use Rattle.sn_session.specs.Received.{is_received, with_received, without_received}
 use Rattle.sn_session.specs.Session.{applied, is_full, changed as changed_by}
 use Rattle.sn_session.specs.declared.session.Session.{Session}
 use Rattle.sn_session.specs.declared.change.SessionOp.{SessionOp}

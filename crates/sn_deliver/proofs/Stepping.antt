@@ -1,8 +1,7 @@
 -- A client is lost, or there is one more try or Delivery: what is left to do is less.
-use Rattle.std.proofs.Common.{◌≡◌, ℕ, ◌<◌, Bool, true, false, if◌then◌else◌, is_some, List, [], ◌∷◌, ◌++◌, filter, map, fold, Option, Some, None, unwrap_or, Contains, refl, sym, ap, ◌∙◌, subst, true≢false}
+use Rattle.std.proofs.Common.{◌≡◌, ℕ, ◌<◌, true, false, if◌then◌else◌, is_some, List, [], ◌∷◌, ◌++◌, filter, map, fold, Option, Some, None, unwrap_or, refl, sym, ap, ◌∙◌, subst, true≢false}
 use Rattle.std.specs.Option.{option_map}
 use Rattle.std.specs.List.{AllByRecursion, cons_option}
-use Rattle.std.proofs.lemmas.Option.{same_Some}
 use Rattle.sn_topic.specs.Table.{Entries}
 use Rattle.sn_session.specs.declared.presence.Presence.TheVariants.{Lost}
 use Rattle.sn_session.specs.declared.session.Session.{Session}
@@ -14,8 +13,7 @@ use Rattle.rep_ops.specs.declared.op.Op.{Op}
 use Rattle.rep_ops.specs.declared.op.Put.{Put}
 use Rattle.rep_ops.specs.Sets.{same_client, Same}
 use Rattle.rep_model.specs.declared.view.ClientView.{ClientView}
-use Rattle.rep_model.specs.Views.{visible, view, clients, is_named, pending}
-use Rattle.rep_model.specs.Fresh.{next_epoch, next_seq}
+use Rattle.rep_model.specs.Views.{view, clients, is_named}
 use Rattle.rep_model.proofs.Readers.{same_client-true}
 use Rattle.rep_model.proofs.Joins.{all-moved}
 use Rattle.rep_model.proofs.Named.{clients-named}
@@ -42,8 +40,8 @@ use Rattle.sn_deliver.specs.declared.due.Due.{Due}
 use Rattle.sn_deliver.specs.declared.due.Due.TheVariants.{Loss, Retry, Delivery}
 use Rattle.sn_deliver.specs.Exchanges.{left}
 use Rattle.sn_deliver.specs.Recipients.{qos_for, message_for, puts_among, is_another}
-use Rattle.sn_deliver.specs.Due.{due_session, due_view, due_with}
-use Rattle.sn_deliver.specs.Ticking.{will_puts, lost, cleaned}
+use Rattle.sn_deliver.specs.Due.{due_session, due_with}
+use Rattle.sn_deliver.specs.Ticking.{will_puts, lost}
 use Rattle.sn_deliver.specs.Following.{peer_at}
 use Rattle.sn_deliver.specs.Laws.{due_after, due_draft}
 use Rattle.sn_deliver.proofs.Behind.{plan-left, plan-others}
@@ -51,7 +49,7 @@ use Rattle.sn_deliver.proofs.Calm.{either_none}
 use Rattle.sn_deliver.proofs.Clients.{IsForNamed, plan-clients}
 use Rattle.sn_deliver.proofs.Counting.{IsAmong, among-contains}
 use Rattle.sn_deliver.proofs.Drafting.{filter_all, followed_by_puts}
-use Rattle.sn_deliver.proofs.Locally.{Anyone, IsClean, IsAnother, delivery-kept, retry-kept}
+use Rattle.sn_deliver.proofs.Locally.{IsClean, IsAnother, delivery-kept, retry-kept}
 use Rattle.sn_deliver.proofs.Lowering.{IsDue, is-due, due-same, is_up_in, is_due_in, work, lost-lowers, done-lowers, view-behind, clients-behind}
 use Rattle.sn_deliver.proofs.Pending.{pending-apart}
 use Rattle.sn_deliver.proofs.Remaining.{left-none}

@@ -1,34 +1,25 @@
 -- What a tick does to the local state: the bindings stay, and the timers of other clients say what they said.
-use Rattle.std.proofs.Common.{◌≡◌, ℕ, ◌⊎◌, ◌-◌, Bool, true, false, ◌&&◌, not, if◌then◌else◌, cond, is_none, nat_le, nat_lt, List, [], ◌∷◌, ◌++◌, filter, fold, Option, Some, None, refl, sym, ap, ◌∙◌, subst, true≢false, inl, inr}
-use Rattle.std.proofs.lemmas.Bool.{and_parts}
+use Rattle.std.proofs.Common.{◌≡◌, ℕ, ◌⊎◌, ◌-◌, Bool, true, false, ◌&&◌, not, if◌then◌else◌, cond, nat_le, nat_lt, List, [], ◌∷◌, ◌++◌, filter, Option, Some, None, refl, sym, ap, ◌∙◌, subst, true≢false, inl, inr}
 use Rattle.std.proofs.lemmas.List.Sums.{fold-append}
 use Rattle.std.proofs.lemmas.Option.{same_Some}
-use Rattle.sn_topic.specs.Table.{Entries}
 use Rattle.sn_session.specs.declared.outbound.Outbound.{Outbound as Exchange}
-use Rattle.sn_session.specs.declared.outbound.Phase.{Phase}
-use Rattle.sn_session.specs.declared.outbound.Phase.TheVariants.{Registering, Published, Released}
 use Rattle.sn_session.specs.declared.session.Session.{Session}
-use Rattle.sn_session.specs.declared.topics.TopicEntry.{TopicEntry}
-use Rattle.sn_session.specs.declared.change.SessionOp.{SessionOp}
-use Rattle.sn_session.specs.Topics.{topic_named}
 use Rattle.rep_ops.specs.declared.op.Put.{Put}
 use Rattle.rep_ops.specs.Sets.{same_client}
 use Rattle.rep_model.proofs.Readers.{same_client-true}
 use Rattle.sn_flow.specs.declared.config.Addr.{Addr}
 use Rattle.sn_flow.specs.declared.local.Binding.{Binding}
 use Rattle.sn_flow.specs.declared.local.Timer.{Timer}
-use Rattle.sn_flow.specs.declared.local.WillDialog.{WillDialog}
 use Rattle.sn_flow.specs.declared.local.LocalChange.{LocalChange}
-use Rattle.sn_flow.specs.declared.local.LocalChange.TheVariants.{Unbind, Heard, Sent, Resent, Retried, EndDialog, Advertised}
-use Rattle.sn_flow.specs.Bindings.{is_stamp_of, binding_change, bindings_after}
+use Rattle.sn_flow.specs.declared.local.LocalChange.TheVariants.{Heard, Sent, Resent, Retried, EndDialog}
+use Rattle.sn_flow.specs.Bindings.{binding_change, bindings_after}
 use Rattle.sn_flow.specs.Timers.{is_of_another, timed, timer_of, started, heard_at, sent_at, resent_at, retried_at, timers_after}
 use Rattle.sn_flow.specs.Advertising.{advertised_change, advertised_after}
 use Rattle.sn_flow.specs.Locals.{Local}
 use Rattle.sn_flow.proofs.Entries.{same_client-itself, same_client-apart}
-use Rattle.sn_deliver.specs.declared.due.Due.{Due}
-use Rattle.sn_deliver.specs.declared.due.Due.TheVariants.{Loss, Retry, Delivery}
+use Rattle.sn_deliver.specs.declared.due.Due.TheVariants.{Loss}
 use Rattle.sn_deliver.specs.Exchanges.{open_exchange, is_served}
-use Rattle.sn_deliver.specs.Due.{patience, is_silent, is_overdue, due_exchange, due_by, due_at, due_session}
+use Rattle.sn_deliver.specs.Due.{patience, is_overdue, due_by, due_at, due_session}
 use Rattle.sn_flow.specs.Others.{is_up}
 use Rattle.sn_deliver.proofs.Calm.{some_none, timed_found, one_more, rests, not_yet, and_false}
 

@@ -1,5 +1,5 @@
 -- Ticks of one moment, one after the other, and how many of them do something.
-use Rattle.std.specs.Prelude.{◌≡◌, ℕ, ◌+◌, Bool, ◌||◌, if◌then◌else◌, is_some, List, [], ◌∷◌, ◌++◌, Option, Some}
+use Rattle.std.specs.Prelude.{◌≡◌, ℕ, ◌+◌, Bool, ◌||◌, if◌then◌else◌, is_some, List, [], ◌∷◌, ◌++◌, Some}
 use Rattle.sn_topic.specs.Table.{Entries}
 use Rattle.rep_ops.specs.declared.op.Op.{Op}
 use Rattle.rep_ops.specs.Sets.{Same}
