@@ -69,11 +69,11 @@ use Rattle.sn_deliver.specs.Ticking.{dialog_ended, dialogs_ended, needs_timer, t
 use Rattle.sn_deliver.proofs.Keeping.{fold_keeps}
 
 -- the draft has the messages that the other has
-abbrev SamePuts : Drafted → Drafted → Type 0
+abbrev pub SamePuts : Drafted → Drafted → Type 0
 SamePuts e d = e.puts ≡ d.puts
 
 -- the draft has no messages
-abbrev NoPuts : Drafted → Type 0
+abbrev pub NoPuts : Drafted → Type 0
 NoPuts d = d.puts ≡ []
 
 choose_same : (b : Bool) (x y d : Drafted) → SamePuts x d → SamePuts y d → SamePuts (if b then x else y) d
@@ -148,7 +148,7 @@ module _ (predefined : Entries) (peer : Peer) (s : Session) where
       stop_puts (deliver_left predefined peer s pending) (resend_in predefined peer s x.msg_id x.phase (put_left d.acks pending (message_of x)) d) d
       (λ e. left_puts pending e) (resend_in_puts x.msg_id x.phase (put_left d.acks pending (message_of x)) d)
 
-followed_by_puts : (predefined : Entries) (peer : Peer) (s : Session) (pending : List Put) (d : Drafted) (follow : Follow) → SamePuts (followed_by predefined peer s pending d follow) d
+pub followed_by_puts : (predefined : Entries) (peer : Peer) (s : Session) (pending : List Put) (d : Drafted) (follow : Follow) → SamePuts (followed_by predefined peer s pending d follow) d
 followed_by_puts predefined peer s pending d follows.Nothing = refl
 followed_by_puts predefined peer s pending d follows.Delivery = deliver_if_puts predefined peer (so_far s d) pending d
 followed_by_puts predefined peer s pending d follows.Resend = resend_puts predefined peer (so_far s d) pending (open_exchange (so_far s d) d.acks pending) d
@@ -195,7 +195,7 @@ if_kept : (P : List ℕ → Type 0) (b : Bool) (d : List ℕ) (rest : List (List
 if_kept P true d rest h k = (h, k)
 if_kept P false d rest h k = k
 
-filter_all : (P : List ℕ → Type 0) (test : List ℕ → Bool) (cs : List (List ℕ)) → AllByRecursion P cs → AllByRecursion P (filter test cs)
+pub filter_all : (P : List ℕ → Type 0) (test : List ℕ → Bool) (cs : List (List ℕ)) → AllByRecursion P cs → AllByRecursion P (filter test cs)
 filter_all P test [] h = tt
 filter_all P test (d ∷ rest) h = if_kept P (test d) d (filter test rest) h.0 (filter_all P test rest h.1)
 

@@ -9,8 +9,9 @@ use Rattle.rep_ops.specs.declared.op.Put.{Put}
 use Rattle.rep_ops.specs.declared.op.Op.{Op}
 use Rattle.rep_ops.specs.declared.op.Op.TheVariants.{Session as OfSession, Put as OfPut, Ack}
 use Rattle.rep_model.specs.Views.{gapless}
+use Rattle.rep_model.proofs.Joins.{same_refl}
 use Rattle.sn_frame.specs.declared.frame.Frame.TheVariants as frames
-use Rattle.sn_flow.specs.declared.local.LocalChange.TheVariants.{Unbind, Heard, Sent, Resent, Retried}
+use Rattle.sn_flow.specs.declared.local.LocalChange.TheVariants.{Unbind, Heard, Sent, Resent, Retried, Advertised}
 use Rattle.sn_flow.specs.Numbering.{write, planned}
 use Rattle.sn_flow.specs.Plans.{seen_of}
 use Rattle.sn_flow.specs.Locals.{Local}
@@ -19,6 +20,7 @@ use Rattle.sn_flow.proofs.Rows.{s1, seven, bound_seven, first_take}
 use Rattle.sn_deliver.specs.Following.{deliver_next}
 use Rattle.sn_deliver.specs.Serving.{publish_in, ack_in}
 use Rattle.sn_deliver.specs.Ticking.{tick}
+use Rattle.sn_deliver.specs.Ticks.{Ticked, AreTicks, busy}
 
 -- a session operation of the client under stamp 1.1
 abbrev at : ℕ → SessionOp → Op
@@ -127,3 +129,50 @@ lost_at_last : tick 1 0 [] [] (seen_of published) (record bound_seven { timers =
     ≡ Some (record { ops = at 7 (Presence Lost 60) ∷ []; sends = []; local = Unbind s1 ∷ [] })
 unfolding gapless write planned
 lost_at_last = refl
+
+-- a moment: one tick sends the message that waits, and the next does nothing
+abbrev two_ticks : List Ticked
+two_ticks =
+    record {
+      plan = record {
+        ops = Ack s1 1 1 1 ∷ [];
+        sends = record { to = seven; bytes = 8 ∷ 0x0c ∷ 2 ∷ 0x61 ∷ 0x62 ∷ 0 ∷ 0 ∷ 0x78 ∷ [] } ∷ [];
+        local = [];
+      };
+      delta = Ack s1 1 1 1 ∷ [];
+    }
+    ∷ record { plan = record { ops = []; sends = []; local = [] }; delta = [] }
+    ∷ []
+
+are_ticks : AreTicks 1 0 [] [] 2 (asks_for_ab ++ OfPut s1 (x_on_ab 0) ∷ []) there two_ticks
+unfolding gapless write planned
+are_ticks = (refl, same_refl (Ack s1 1 1 1 ∷ []), (refl, same_refl [], tt))
+
+one_is_busy : busy 1 0 [] 2 (asks_for_ab ++ OfPut s1 (x_on_ab 0) ∷ []) there two_ticks ≡ 1
+unfolding gapless write planned
+one_is_busy = refl
+
+-- a moment of a gateway that advertises itself: ADVERTISE, then the client is lost, then nothing
+abbrev busy_moment : List Ticked
+busy_moment =
+    record {
+      plan = record { ops = []; sends = record { to = seven; bytes = 5 ∷ 0 ∷ 1 ∷ 0 ∷ 5 ∷ [] } ∷ []; local = Advertised 13 ∷ [] };
+      delta = [];
+    }
+    ∷ record {
+      plan = record { ops = at 7 (Presence Lost 60) ∷ []; sends = []; local = Unbind s1 ∷ [] };
+      delta = at 7 (Presence Lost 60) ∷ [];
+    }
+    ∷ record { plan = record { ops = []; sends = []; local = [] }; delta = [] }
+    ∷ []
+
+abbrev tried_enough : Local
+tried_enough = record bound_seven { timers = record (started s1 3) { tries = 4 } ∷ [] }
+
+are_busy : AreTicks 1 5 (seven ∷ []) [] 13 published tried_enough busy_moment
+unfolding gapless write planned
+are_busy = (refl, same_refl [], (refl, same_refl (at 7 (Presence Lost 60) ∷ []), (refl, same_refl [], tt)))
+
+two_are_busy : busy 1 5 (seven ∷ []) 13 published tried_enough busy_moment ≡ 2
+unfolding gapless write planned
+two_are_busy = refl

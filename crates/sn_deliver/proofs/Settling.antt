@@ -1,10 +1,10 @@
 -- What a tick found due with a client is not due any more when the tick has done it.
-use Rattle.std.proofs.Common.{◌≡◌, ℕ, ◌+◌, ◌-◌, ◌==◌, Bool, true, false, ◌||◌, if◌then◌else◌, nat_lt, nat_le, is_some, is_none, List, [], ◌∷◌, ◌++◌, length, fold, Option, Some, None, refl, sym, ap, ◌∙◌, subst, arith}
+use Rattle.std.proofs.Common.{◌≡◌, ℕ, ◌==◌, Bool, true, false, ◌||◌, if◌then◌else◌, nat_lt, nat_le, is_some, is_none, List, [], ◌∷◌, ◌++◌, length, fold, Option, Some, None, refl, sym, ap, ◌∙◌, subst, arith}
 use Rattle.std.proofs.lemmas.Bool.{and_from}
 use Rattle.std.proofs.lemmas.Bool.Decides.{nat_tests}
 use Rattle.std.proofs.lemmas.List.Sums.{fold-append}
 use Rattle.sn_topic.specs.Table.{Entries}
-use Rattle.sn_session.specs.declared.presence.Presence.TheVariants.{Asleep, Awake, Lost}
+use Rattle.sn_session.specs.declared.presence.Presence.TheVariants.{Asleep, Lost}
 use Rattle.sn_session.specs.declared.outbound.Outbound.{Outbound as Exchange}
 use Rattle.sn_session.specs.declared.outbound.Phase.{Phase}
 use Rattle.sn_session.specs.declared.outbound.Phase.TheVariants.{Registering, Published, Released}
@@ -35,7 +35,7 @@ use Rattle.sn_deliver.specs.declared.peer.Peer.{Peer}
 use Rattle.sn_deliver.specs.Forms.{form_of, form_again, publication}
 use Rattle.sn_deliver.specs.Exchanges.{left, put_left, message_of, is_open_in, open_exchange, is_served, is_awake}
 use Rattle.sn_deliver.specs.Delivery.{next_after, entry_or_fresh, begun, register_first, deliver_by, and_then, deliver, deliver_left}
-use Rattle.sn_deliver.specs.Resending.{given_up, again, register_by, publish_by, resend_in, resend_if}
+use Rattle.sn_deliver.specs.Resending.{given_up, register_by, publish_by, resend_in, resend_if}
 use Rattle.sn_deliver.specs.Due.{elapsed, is_overdue, due_exchange, due_by, due_at, due_session}
 use Rattle.sn_deliver.specs.Ticking.{lost}
 use Rattle.sn_deliver.specs.Laws.{AreApart, due_after, due_draft, TickSettles}

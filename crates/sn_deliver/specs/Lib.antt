@@ -11,4 +11,5 @@ pub mod Resending
 pub mod Serving
 pub mod Steps
 pub mod Ticking
+pub mod Ticks
 pub mod Waking

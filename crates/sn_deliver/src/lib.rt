@@ -37,7 +37,7 @@ pub use follow::deliver_next;
 pub use form::{Form, form_again, form_of, publication};
 pub use laws::{
     delivery_keeps, every_step, one_exchange, puts_once, resent_with_dup, tick_is_quiet,
-    tick_settles,
+    tick_settles, ticks_end,
 };
 pub use meaning::{Meant, publication_meant};
 pub use peer::Peer;
