@@ -89,14 +89,14 @@ module _ (g : ℕ) (c : List ℕ) (S : List Op) (d : Drafted) (plan : Plan) (pla
   plan-left =
       pending-left d.acks c S (S ++ plan.ops)
       (λ name. after_reads c name
-          ∙ ap (λ b. cond (not (is_acknowledged c S name || b)) (put_at c S name) None) (all_done c name d.acks)
-          ∙ waits_yet (is_acknowledged c S name) (is_done d.acks name) (put_at c S name)
-          ∙ ap (λ o. cond (not (is_done d.acks name)) o None) (sym (pending_at-reads c S name)))
+      ∙ ap (λ b. cond (not (is_acknowledged c S name || b)) (put_at c S name) None) (all_done c name d.acks)
+      ∙ waits_yet (is_acknowledged c S name) (is_done d.acks name) (put_at c S name)
+      ∙ ap (λ o. cond (not (is_done d.acks name)) o None) (sym (pending_at-reads c S name)))
 
   -- for other clients: what waited
   pub plan-others : (e : List ℕ) → ¬ (e ≡ c) → pending e (S ++ plan.ops) ≡ pending e S
   plan-others e h =
       pending-by e (S ++ plan.ops) S
       (λ name. after_reads e name
-          ∙ ap (λ b. cond (not b) (put_at e S name) None) (or_none (is_acknowledged e S name) (is_acknowledged e (map (ack_of c) d.acks) name) (none_of_others c e name h d.acks))
-          ∙ sym (pending_at-reads e S name))
+      ∙ ap (λ b. cond (not b) (put_at e S name) None) (or_none (is_acknowledged e S name) (is_acknowledged e (map (ack_of c) d.acks) name) (none_of_others c e name h d.acks))
+      ∙ sym (pending_at-reads e S name))

@@ -148,8 +148,8 @@ module _ (now : ℕ) (local : Local) where
   timer_clean g seen d c h =
       clean_if (needs_timer g local.timers c (seen.of c)) (moved (Heard c now) d) d
       (λ needs.
-          let parts = and_parts (is_stamp_of g (seen.of c).stamp && can_wake (seen.of c).session) (is_none (timer_of c local.timers)) needs in
-          clean_moved (Heard c now) d h (kept-heard now local Anyone d.local h.kept c (none_is (timer_of c local.timers) parts.1)))
+      let parts = and_parts (is_stamp_of g (seen.of c).stamp && can_wake (seen.of c).session) (is_none (timer_of c local.timers)) needs in
+      clean_moved (Heard c now) d h (kept-heard now local Anyone d.local h.kept c (none_is (timer_of c local.timers) parts.1)))
       h
 
   pub cleaned-clean : (g : ℕ) (seen : Seen) → IsClean now local (cleaned g seen local now)

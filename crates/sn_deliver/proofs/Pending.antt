@@ -95,16 +95,18 @@ second false b p = absurd p
 below_apart : (name : ℕ × ℕ) (es : List ((ℕ × ℕ) × Put)) → T (below_all put_cmp name es) → AreUnderNames es
     → AllByRecursion (λ (other : Put). same_name name (name_of other) ≡ false) (map (λ e. e.1) es)
 below_apart name [] below all = tt
-below_apart name (e ∷ es) below all =
-    (ap (same_name name) (sym all.0) ∙ less_apart name e.0 (first (is_lt (put_cmp name e.0)) (below_all put_cmp name es) below),
-    below_apart name es (second (is_lt (put_cmp name e.0)) (below_all put_cmp name es) below) all.1)
+below_apart name (e ∷ es) below all = (
+  ap (same_name name) (sym all.0) ∙ less_apart name e.0 (first (is_lt (put_cmp name e.0)) (below_all put_cmp name es) below),
+  below_apart name es (second (is_lt (put_cmp name e.0)) (below_all put_cmp name es) below) all.1,
+)
 
 sorted_apart : (es : List ((ℕ × ℕ) × Put)) → T (is_sorted put_cmp es) → AreUnderNames es → AreApart (map (λ e. e.1) es)
 sorted_apart [] sorted all = tt
-sorted_apart (e ∷ es) sorted all =
-    (subst (λ name. AllByRecursion (λ (other : Put). same_name name (name_of other) ≡ false) (map (λ e. e.1) es)) all.0
-    (below_apart e.0 es (first (below_all put_cmp e.0 es) (is_sorted put_cmp es) sorted) all.1),
-    sorted_apart es (second (below_all put_cmp e.0 es) (is_sorted put_cmp es) sorted) all.1)
+sorted_apart (e ∷ es) sorted all = (
+  subst (λ name. AllByRecursion (λ (other : Put). same_name name (name_of other) ≡ false) (map (λ e. e.1) es)) all.0
+      (below_apart e.0 es (first (below_all put_cmp e.0 es) (is_sorted put_cmp es) sorted) all.1),
+  sorted_apart es (second (below_all put_cmp e.0 es) (is_sorted put_cmp es) sorted) all.1,
+)
 
 -- the messages that wait have names that are all different
 pub pending-apart : (c : List ℕ) (S : List Op) → AreApart (pending c S)
@@ -139,5 +141,5 @@ module _ (acks : List (ℕ × ℕ)) where
       ap (map (λ e. e.1)) (same_entries put_cmp put_total put_exact (waiting c B) (where_key put_cmp stays (waiting c A))
       (waiting_sorted c B) (is_sorted-where_key put_cmp stays (waiting c A) (waiting_sorted c A))
       (λ name. found c B name ∙ same name ∙ ap (λ o. cond (stays name) o None) (sym (found c A name))
-          ∙ sym (find-where_key put_cmp stays name (λ x t. ap stays (sym (put_exact name x t))) (waiting c A))))
+      ∙ sym (find-where_key put_cmp stays name (λ x t. ap stays (sym (put_exact name x t))) (waiting c A))))
       ∙ stay (waiting c A) (waiting_under c A)

@@ -154,8 +154,8 @@ module _ (g advertise : ℕ) (field : List Addr) (now : ℕ) (c : List ℕ) (S :
       done-lowers g advertise field now S behind local M (clients_same among (subst (AllByRecursion (IsForNamed S)) (sym none) tt)) (none_up (was_up x due.is due.up))
       c among
       (λ y. by_client (λ y. is_due_in g advertise field now behind M y ≡ true → is_due_in g advertise field now S local y ≡ true) y c
-          (λ is _. ap (is_due_in g advertise field now S local) is ∙ ap is_some was)
-          (λ other is. sym (ap is_some (due-same g now y (view y S) (view y behind) local M (stamp_stays y other) (pending_stays none y other) (session_stays y other) kept.bindings (kept.timers y other))) ∙ is))
+      (λ is _. ap (is_due_in g advertise field now S local) is ∙ ap is_some was)
+      (λ other is. sym (ap is_some (due-same g now y (view y S) (view y behind) local M (stamp_stays y other) (pending_stays none y other) (session_stays y other) kept.bindings (kept.timers y other))) ∙ is))
       (ap is_some was)
       (ap is_some (either_none (is_stamp_of g (view c behind).stamp) (due_session now (view c behind).pending (timer_of c M.timers) (address_of c M.bindings) (view c behind).session) rest))
       kept.advertised

@@ -33,7 +33,7 @@ module _ (x : List ℕ) (t : Timer) (other : ¬ (x ≡ t.client)) where
   others_kept [] = ap (λ b. if b then Some t else None) (same_client-apart t.client x (λ is. other (sym is)))
   others_kept (k ∷ timers) =
       elim (same_client k.client t.client) as (λ b. same_client k.client t.client ≡ b
-          → timer_of x (cond (not b) (k ∷ filter (is_of_another t.client) timers) (filter (is_of_another t.client) timers) ++ t ∷ []) ≡ (if same_client k.client x then Some k else timer_of x timers)) [
+      → timer_of x (cond (not b) (k ∷ filter (is_of_another t.client) timers) (filter (is_of_another t.client) timers) ++ t ∷ []) ≡ (if same_client k.client x then Some k else timer_of x timers)) [
         | true ↦ λ e. others_kept timers ∙ passed k (timer_of x timers) (same_client-true k.client t.client e)
         | false ↦ λ _. ap (λ o. if same_client k.client x then Some k else o) (others_kept timers)
       ] refl
