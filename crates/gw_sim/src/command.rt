@@ -34,11 +34,17 @@ pub enum Command {
 /// The first word of a line.
 #[derive(Clone, Copy, Debug, PartialEq, Eq)]
 pub enum Word {
+    /// A gateway of the field.
     Gateway,
+    /// A predefined topic id.
     Predefine,
+    /// A datagram comes.
     Frame,
+    /// Time goes by.
     Tick,
+    /// A delta is taken.
     Take,
+    /// What a gateway knows is shown.
     Show,
 }
 

@@ -16,7 +16,9 @@ use std::alloc::Global;
 /// What a script says: which gateways there are, and then what happens.
 #[derive(Debug, Drop)]
 pub struct Script {
+    /// The gateways, in the order of their lines.
     pub configs: Sequence<Config>,
+    /// The events, in the order of their lines.
     pub events: Sequence<Event>,
 }
 

@@ -70,8 +70,11 @@ impl From<OpsFault> for Trouble {
 /// A gateway: what it was told, what it keeps, and which address is which client.
 #[derive(Drop)]
 pub struct Node<R: Replica> {
+    /// What the gateway was told.
     pub config: Config,
+    /// The operations that it keeps, and what they say.
     pub replica: R,
+    /// What only it knows: bindings, dialogs, timers.
     pub dialogs: Dialogs,
 }
 

@@ -15,8 +15,11 @@ use thiserror::Error;
 /// the order of their configs.
 #[derive(Drop)]
 pub struct World<R> {
+    /// An answer for each event, in their order.
     pub answers: Sequence<Answer>,
+    /// The deltas that were made; the first has number 1.
     pub deltas: Sequence<Delta>,
+    /// The replicas of the gateways, in the order of their configs.
     pub gateways: Sequence<R>,
 }
 

@@ -3,7 +3,9 @@
 /// The slots of a disk. The first is slot 0, the second slot 1.
 #[derive(Clone, Copy, Debug, PartialEq, Eq)]
 pub enum Slot {
+    /// Slot 0.
     First,
+    /// Slot 1.
     Second,
 }
 
@@ -14,6 +16,7 @@ pub struct DiskFault;
 /// An append failed, and so many bytes, from the first on, went out.
 #[derive(Clone, Copy, Debug, PartialEq, Eq)]
 pub struct Short {
+    /// How many octets went out, from the front.
     pub written: usize,
 }
 

@@ -15,7 +15,9 @@ use std::cmp::Ordering;
 /// writes under this stamp. Stamps are ordered by epoch, then gateway.
 #[derive(Clone, Copy, Debug, PartialEq, Eq, PartialOrd, Ord)]
 pub struct Stamp {
+    /// Counts the owners of the client: the greater epoch wins.
     pub epoch: u64,
+    /// The gateway that writes under the stamp; of two with one epoch the greater wins.
     pub gateway: u8,
 }
 
@@ -24,7 +26,7 @@ pub struct Stamp {
 pub struct Put {
     /// The gateway that made it.
     pub origin: u8,
-    /// The how manieth message of that gateway for the client, from 1.
+    /// Counts that gateway's messages for the client, from 1.
     pub seq: u64,
     /// The name that it was published under.
     pub topic: TopicName,

@@ -4,6 +4,7 @@ use Rattle.std.proofs.lemmas.List.Elements.{Contains-push, Contains-push_cases, 
 use Rattle.sn_topic.specs.Table.{Entries}
 use Rattle.sn_session.specs.declared.session.Session.{Session}
 use Rattle.sn_session.specs.declared.change.SessionOp.{SessionOp}
+use Rattle.sn_session.specs.declared.outbound.Outbound.{Outbound as Exchange}
 use Rattle.sn_session.specs.declared.outbound.Phase.{Phase}
 use Rattle.sn_session.specs.declared.outbound.Phase.TheVariants.{Published}
 use Rattle.sn_session.specs.declared.change.SessionOp.TheVariants.{Presence, Received}
@@ -26,13 +27,13 @@ use Rattle.sn_deliver.specs.declared.delivery.ToldId.{ToldId}
 use Rattle.sn_deliver.specs.Forms.{form_of, publication}
 use Rattle.sn_deliver.specs.Recipients.{puts_for}
 use Rattle.sn_deliver.specs.Exchanges.{so_far, put_left, message_of, open_exchange, is_served, is_awake}
-use Rattle.sn_deliver.specs.Delivery.{Stop, id_to_tell, begun, register_first, deliver_by, none_left, and_then, deliver, deliver_left}
+use Rattle.sn_deliver.specs.Delivery.{Stop, id_to_tell, begun, register_first, deliver_by, none_left, and_then, deliver, deliver_left, then_deliver}
 use Rattle.sn_deliver.specs.Resending.{publish_by, publish_again, resend_in}
 use Rattle.sn_deliver.specs.Due.{elapsed, first_due}
 use Rattle.sn_deliver.specs.Ticking.{dialog_ended, dialogs_ended, needs_timer, timer_begun, cleaned, advertised, plan_if_due}
 use Rattle.sn_session.specs.Session.{changed as changed_by}
 use Rattle.sn_deliver.proofs.Receiving.{added, stays-received}
-use Rattle.sn_deliver.specs.Laws.{IsDoneWith, IsOfOneDone, DeliveryKeeps, OneExchange, PutsOnce, ResentWithDup, TickIsQuiet}
+use Rattle.sn_deliver.specs.Laws.{IsDoneWith, IsOfOneDone, DeliveryKeeps, PutsOnce, ResentWithDup, TickIsQuiet}
 
 -- ---- a test that chooses between drafts
 
@@ -83,8 +84,9 @@ choose_other true true x d e = absurd (true≢false e)
 choose_other true false x d e = refl
 choose_other false c x d e = refl
 
-pub one-exchange : OneExchange
-one-exchange predefined peer s pending d x is =
+pub delivery-rests : (predefined : Entries) (peer : Peer) (s : Session) (pending : List Put) (d : Drafted) (x : Exchange)
+    → open_exchange (so_far s d) d.acks pending ≡ Some x → then_deliver predefined peer s pending d ≡ d
+delivery-rests predefined peer s pending d x is =
     choose_other (is_served (so_far s d).presence) (is_none (open_exchange (so_far s d) d.acks pending))
     (deliver_left predefined peer (so_far s d) pending d) d (ap is_none is)
 
@@ -212,9 +214,15 @@ module _ (predefined : Entries) (peer : Peer) (s : Session) where
       → Kept predefined peer s (put ∷ rest) d (if◌then◌else◌ {A = Stop} b (false, x) (true, y)).1.sends name
   publish_keeps put rest d name form true x y some zero at_x at_y there =
       one_done put rest d x.sends name
-      (inl (eqb-true put.qos 0 zero,
-        (form, some, subst (λ (e : Drafted). Contains e.sends (record { to = peer.address; bytes = spelling (publication false put 0 form) })) (sym at_x)
-        (Contains-push d.sends (record { to = peer.address; bytes = spelling (publication false put 0 form) })))))
+      (inl (
+        eqb-true put.qos 0 zero,
+        (
+          form,
+          some,
+          subst (λ (e : Drafted). Contains e.sends (record { to = peer.address; bytes = spelling (publication false put 0 form) })) (sym at_x)
+              (Contains-push d.sends (record { to = peer.address; bytes = spelling (publication false put 0 form) })),
+        ),
+      ))
       (subst (λ (e : Drafted). Contains e.acks name) at_x there)
   publish_keeps put rest d name form false x y some more at_x at_y there = inl (subst (λ acks. Contains acks name) at_y there)
 

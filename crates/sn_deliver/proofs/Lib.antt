@@ -1,17 +1,18 @@
 mod Behind
+pub mod Beginning
 mod Calm
 mod Clients
 mod Counting
 pub mod Drafting
+mod Ending
 mod Examples
 pub mod Following
 pub mod Keeping
+mod Locally
+mod Lowering
 mod Pending
 mod Receiving
 mod Remaining
 pub mod Settling
-mod Timing
-mod Locally
-mod Lowering
 mod Stepping
-mod Ending
+mod Timing

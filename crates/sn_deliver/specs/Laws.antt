@@ -1,11 +1,11 @@
 -- What holds of publications and of time, whatever the sessions and the messages.
-use Rattle.std.specs.Prelude.{◌≡◌, ℕ, ◌+◌, ◌==◌, Bool, true, false, ◌⊎◌, List, [], ◌∷◌, Option, Some, None, Contains}
+use Rattle.std.specs.Prelude.{◌≡◌, ℕ, ◌+◌, ◌==◌, Bool, true, false, ◌⊎◌, List, [], ◌∷◌, ◌++◌, Option, Some, None, Contains}
 use Rattle.std.specs.List.{AllByRecursion}
 use Rattle.sn_topic.specs.Table.{Entries}
 use Rattle.sn_session.specs.declared.outbound.Phase.TheVariants.{Published}
 use Rattle.sn_session.specs.declared.session.Session.{Session}
 use Rattle.sn_session.specs.declared.change.SessionOp.{SessionOp}
-use Rattle.sn_session.specs.declared.change.SessionOp.TheVariants.{Take, Released}
+use Rattle.sn_session.specs.declared.change.SessionOp.TheVariants.{Take, Released, Outbound as OutboundSet}
 use Rattle.sn_session.specs.Session.{applied}
 use Rattle.sn_session.specs.Received.{is_received, id_has_no_room}
 use Rattle.sn_frame.specs.declared.frame.Frame.TheVariants as frames
@@ -15,6 +15,7 @@ use Rattle.sn_flow.specs.declared.config.Addr.{Addr}
 use Rattle.sn_flow.specs.declared.config.Send.{Send}
 use Rattle.sn_flow.specs.declared.local.Timer.{Timer}
 use Rattle.sn_flow.specs.declared.plan.Plan.{Plan}
+use Rattle.sn_flow.specs.declared.row.Follow.{Follow}
 use Rattle.sn_flow.specs.declared.row.Follow.TheVariants as follows
 use Rattle.sn_flow.specs.Names.{name_of}
 use Rattle.sn_flow.specs.Drafts.{Drafted, sent}
@@ -34,7 +35,7 @@ use Rattle.sn_deliver.specs.Delivery.{id_to_tell, deliver, then_deliver}
 use Rattle.sn_deliver.specs.Resending.{resend}
 use Rattle.sn_deliver.specs.Publishing.{spread_twice}
 use Rattle.sn_deliver.specs.Due.{due_session, first_due}
-use Rattle.sn_deliver.specs.Following.{followed}
+use Rattle.sn_deliver.specs.Following.{followed_by, followed}
 use Rattle.sn_deliver.specs.Ticking.{may_advertise, lost, retried, tick}
 
 -- the PUBLISH of a message at quality of service 0 is among these frames
@@ -77,11 +78,19 @@ pub record PutsOnce : Type 0 where
   pub repeated : (seen : Seen) (a : Addr) (s : Session) (topic msg_id : ℕ) (body name : List ℕ)
       → is_received msg_id s.received ≡ true → (spread_twice seen a s topic msg_id body name).puts ≡ []
 
--- while an exchange is open, Delivery begins none and sends nothing
-abbrev pub OneExchange : Type 0
-OneExchange =
-    (predefined : Entries) (peer : Peer) (s : Session) (pending : List Put) (d : Drafted) (x : Exchange)
-    → open_exchange (so_far s d) d.acks pending ≡ Some x → then_deliver predefined peer s pending d ≡ d
+-- these changes are those before, or they first end the exchange that was open before
+abbrev pub EndsFirst : List SessionOp → ℕ → List SessionOp → Type 0
+EndsFirst before next_id after =
+    (after ≡ before) ⊎ ((more : List SessionOp) × (after ≡ before ++ OutboundSet None next_id ∷ more))
+
+-- One exchange at a time: while one is open, Delivery makes nothing and sends nothing; and whatever follows a row changes nothing of
+-- the session, or first ends that exchange: no other is begun beside it.
+pub record OneExchange : Type 0 where
+  pub delivered : (predefined : Entries) (peer : Peer) (s : Session) (pending : List Put) (d : Drafted) (x : Exchange)
+      → open_exchange (so_far s d) d.acks pending ≡ Some x → then_deliver predefined peer s pending d ≡ d
+  pub followed : (predefined : Entries) (peer : Peer) (s : Session) (pending : List Put) (d : Drafted) (follow : Follow) (x : Exchange)
+      → open_exchange (so_far s d) d.acks pending ≡ Some x
+      → EndsFirst d.changes (so_far s d).next_id (followed_by predefined peer s pending d follow).changes
 
 -- a PUBLISH that is sent again has DUP, and the message id of its exchange
 abbrev pub ResentWithDup : Type 0
@@ -89,7 +98,7 @@ ResentWithDup =
     (predefined : Entries) (peer : Peer) (s : Session) (pending : List Put) (x : Exchange) (put : Put) (form : Form) (d : Drafted)
     → x.phase ≡ Published → put_left d.acks pending (message_of x) ≡ Some put → form_again predefined s put.topic ≡ Some form
     → (resend predefined peer s pending x d).sends
-      ≡ (sent peer.address (frames.Publish (record { bits = 128 + qos_bits put.qos + kind_bits form.kind }) form.topic x.msg_id put.body) d).sends
+    ≡ (sent peer.address (frames.Publish (record { bits = 128 + qos_bits put.qos + kind_bits form.kind }) form.topic x.msg_id put.body) d).sends
 
 -- a plan that makes no operation and sends no frame
 abbrev pub IsQuiet : Plan → Type 0
@@ -120,8 +129,7 @@ due_draft predefined seen now c d (Retry a) = (followed predefined seen a now (r
 due_draft predefined seen now c d (Delivery a) = (followed predefined seen a now (row_of follows.Delivery c d)).draft
 
 -- What is due with a client is settled when a tick has done it: nothing is due with the client any more at this moment, whatever its
--- address is then. So each tick of one moment leaves one client less with which something is due, but for the clients to which the
--- will of a lost one is put; and a lost client is not due again.
+-- address is then.
 abbrev pub TickSettles : Type 0
 TickSettles =
     (predefined : Entries) (seen : Seen) (now : ℕ) (c : List ℕ) (timers : List Timer) (a b : Option Addr) (d : Drafted) (reason : Due)

@@ -8,7 +8,9 @@ ghost use Rattle.sn_deliver.specs.Forms.{publication as publication_of};
 ghost use Rattle.sn_deliver.specs.Exchanges.{left};
 ghost use Rattle.sn_deliver.specs.Delivery.{next_after as id_after, begun, fresh_id as fresh_told, id_to_tell as told_for, register_first as registered_first, publish_now as published_now, deliver_by as delivered_by, deliver_one as delivered_one, none_left as with_none_left, deliver as delivered, deliver_left as delivered_left, deliver_if as delivered_if, then_deliver as then_delivered};
 
-use super::exchange::{is_awake, is_done, is_left, is_served, name_of, open_exchange, so_far};
+use super::exchange::{
+    is_awake, is_done, is_left_in_turn, is_served, name_of, open_exchange, so_far,
+};
 use super::form::{Form, form_of, publication};
 use super::peer::Peer;
 use octets::Octets;
@@ -25,7 +27,9 @@ const MAX_BODY: usize = 65_526;
 /// The id that a client is told for a topic, and the change that the session needs for it, if it needs one.
 #[derive(Debug, Drop)]
 pub struct ToldId {
+    /// The topic id.
     pub id: u16,
+    /// The change that enters it into the session, where it is not there yet.
     pub change: Option<SessionOp>,
 }
 
@@ -260,8 +264,9 @@ fn deliver(
     ensures ok { OnOk result (draft.new ≡ delivered predefined.now peer.now session.now (left acks.now pending.now) draft.old) }
     ensures err { IfErr result (λ fault. fault ≡ StepFault.Memory) }
 {
+    let mut turn = 0;
     for put in pending {
-        if !is_left(acks, put) {
+        if !is_left_in_turn(acks, &mut turn, put) {
             continue;
         }
         if deliver_one(alloc, predefined, peer, session, put, draft)? {

@@ -60,6 +60,18 @@ pub fn is_left(acks: &[(u64, u8)], put: &Put) -> bool
     !is_done(acks, name_of(put))
 }
 
+/// Whether a message that waits is left, where the messages are asked for in their order. `turn` is the place of the acknowledgement
+/// that comes next, if they come in that order too, as those of a CONNECT with CleanSession do: then none is looked for.
+pub fn is_left_in_turn(acks: &[(u64, u8)], turn: &mut usize, put: &Put) -> bool
+    ensures { result ≡ is_left_put acks.now put.now }
+{
+    if *turn < acks.len() && same_name(acks[*turn], name_of(put)) {
+        *turn += 1;
+        return false;
+    }
+    is_left(acks, put)
+}
+
 /// The message of a name.
 pub fn put_named(name: (u64, u8), pending: &[Put]) -> Option<&Put>
     ensures { option_copied result ≡ named_put name pending.now }

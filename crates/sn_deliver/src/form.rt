@@ -14,7 +14,9 @@ use std::alloc::Global;
 /// How a topic is named: what the topic field holds, and the field.
 #[derive(Clone, Copy, Debug, PartialEq, Eq)]
 pub struct Form {
+    /// How the topic is named: by a registered id, a predefined id, or its two octets.
     pub kind: TopicIdType,
+    /// The id, or the two octets as a number.
     pub topic: u16,
 }
 

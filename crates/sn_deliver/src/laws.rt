@@ -29,7 +29,8 @@ pub fn puts_once()
     ensures { PutsOnce }
 {}
 
-/// One exchange at a time: while one is open, Delivery begins no other.
+/// One exchange at a time: while one is open, Delivery begins no other; and whatever follows a row changes nothing of the session, or
+/// first ends the exchange that is open.
 pub fn one_exchange()
     ensures { OneExchange }
 {}

@@ -27,7 +27,7 @@ use Rattle.sn_flow.specs.Bound.{session_of}
 use Rattle.sn_flow.specs.Rows.{row_of, heard_row, plan_for, plan_of_row, stray}
 use Rattle.sn_flow.specs.Accept.{accept, has_no_room}
 use Rattle.sn_flow.specs.Connection.{has_bit, request_of, refusal_of, ask_topic, connect_row, connect, leave, fall_asleep, disconnect_draft, disconnect_of, disconnect}
-use Rattle.sn_flow.specs.Wills.{will_of, dismissed, concluded, topic_given, topic_row, message_row, topic_in, topic_at, will_topic, message_in, message_at, will_msg, topic_update_of, will_topic_update as update_topic, message_update_of, will_msg_update as update_message}
+use Rattle.sn_flow.specs.Wills.{congestion, not_supported, will_of, dismissed, concluded, topic_given, topic_row, message_row, topic_in, topic_at, will_topic, message_in, message_at, will_msg, topic_update_of, will_topic_update as update_topic, message_update_of, will_msg_update as update_message}
 use Rattle.sn_flow.specs.WillUpdate.{topic_asked}
 use Rattle.sn_flow.specs.TopicRows.{register_of, register as register_topic, subscribe_of, subscribe as subscribe_topics, unsubscribe_of, unsubscribe as unsubscribe_topics}
 use Rattle.sn_flow.specs.Others.{other}
@@ -107,7 +107,7 @@ pub disconnect-puts : (seen : Seen) (local : Local) (a : Addr) (duration : Optio
 disconnect-puts seen local a duration now = disconnect_of-puts seen a (client_at a local.bindings) duration now
 
 concluded-puts : (seen : Seen) (request : Request) (given : GivenWill) (now : ℕ) → MakesNoMessage (concluded seen request given now)
-concluded-puts seen request given now = either (has_no_room seen request.client) (dismissed request 1) (row_of Resend request.client (accept request given (seen.of request.client) now)) refl refl
+concluded-puts seen request given now = either (has_no_room seen request.client) (dismissed request congestion) (row_of Resend request.client (accept request given (seen.of request.client) now)) refl refl
 
 given-puts : (dialog : WillDialog) (topic : Option WillTopic) → MakesNoMessage (topic_given dialog topic)
 given-puts dialog None = refl
@@ -119,7 +119,7 @@ topic-puts seen dialog (Some will) now = given-puts dialog (topic_asked will)
 
 message-puts : (seen : Seen) (request : Request) (topic : WillTopic) (message : List ℕ) (now : ℕ) → MakesNoMessage (message_row seen request topic message now)
 message-puts seen request topic message now =
-    either (nat_lt 4096 (length message)) (dismissed request 3) (concluded seen request (Replaced (will_of topic message)) now) refl (concluded-puts seen request (Replaced (will_of topic message)) now)
+    either (nat_lt 4096 (length message)) (dismissed request not_supported) (concluded seen request (Replaced (will_of topic message)) now) refl (concluded-puts seen request (Replaced (will_of topic message)) now)
 
 module _ (seen : Seen) (a : Addr) (now : ℕ) where
   topic_in-puts : (bound : Option (List ℕ)) (dialog : WillDialog) (will : Option Will) (awaited : Awaited) → MakesNoMessage (topic_in seen a bound dialog will now awaited)

@@ -25,6 +25,13 @@ use Rattle.sn_flow.specs.Rows.{row_of, heard_row, turned_away, stray}
 use Rattle.sn_flow.specs.Accept.{accept, has_no_room}
 use Rattle.sn_flow.specs.WillUpdate.{topic_asked, will_topic_update as topic_update, will_msg_update as message_update}
 
+-- return codes of CONNACK (section 5.3.10)
+abbrev pub congestion : ℕ
+congestion = 1
+
+abbrev pub not_supported : ℕ
+not_supported = 3
+
 -- a dialog that ends without a connection
 abbrev pub dismissed : Request → ℕ → Row
 dismissed request code =
@@ -33,7 +40,7 @@ dismissed request code =
 -- a dialog that ends with a connection, if there is room for the client still
 abbrev pub concluded : Seen → Request → GivenWill → ℕ → Row
 concluded seen request given now =
-    if has_no_room seen request.client then dismissed request 1
+    if has_no_room seen request.client then dismissed request congestion
     else row_of Resend request.client (accept request given (seen.of request.client) now)
 
 -- a dialog that goes on: the client is asked for the message of its will
@@ -44,7 +51,7 @@ ask_message dialog topic =
 
 -- code 3, not supported, where the topic is no topic
 abbrev pub topic_given : WillDialog → Option WillTopic → Row
-topic_given dialog None = dismissed dialog.request 3
+topic_given dialog None = dismissed dialog.request not_supported
 topic_given dialog (Some topic) = ask_message dialog topic
 
 -- the topic that a dialog waits for; with nothing in it the will is deleted
@@ -72,7 +79,7 @@ will_of topic message = record { topic = topic.topic; qos = topic.qos; retain = 
 -- the message that a dialog waits for; code 3, not supported, where it has more than 4,096 octets
 abbrev pub message_row : Seen → Request → WillTopic → List ℕ → ℕ → Row
 message_row seen request topic message now =
-    if nat_lt 4096 (length message) then dismissed request 3
+    if nat_lt 4096 (length message) then dismissed request not_supported
     else concluded seen request (Replaced (will_of topic message)) now
 
 -- WILLMSG at an address with a dialog

@@ -8,7 +8,9 @@ use std::alloc::Global;
 /// An address of the transport below: a host and a port.
 #[derive(Clone, Copy, Debug, PartialEq, Eq)]
 pub struct Addr {
+    /// The IPv4 address, its first octet the highest.
     pub host: u32,
+    /// The UDP port.
     pub port: u16,
 }
 
@@ -49,6 +51,8 @@ impl Config {
 /// A datagram to be sent.
 #[derive(Debug, Drop, PartialEq, Eq)]
 pub struct Send {
+    /// Where the datagram goes to.
     pub to: Addr,
+    /// The datagram: one frame.
     pub bytes: Octets,
 }

@@ -20,9 +20,13 @@ use std::mem;
 /// A message for a client, before it has a sequence number.
 #[derive(Debug, Drop)]
 pub struct NewPut {
+    /// Whom it is for.
     pub client: ClientId,
+    /// The name that it was published under.
     pub topic: TopicName,
+    /// At which quality of service the client gets it: 0, 1 or 2.
     pub qos: u8,
+    /// The octets published.
     pub body: Octets,
 }
 

@@ -111,7 +111,7 @@ pub fn rows_make_no_message()
 
 /// The laws hold of every row: its plan is the plan of a draft. Where that has at most one message a client, a gateway
 /// whose set is flush for all clients never refuses for a conflict what it made itself, stays flush when it takes it, and
-/// loses no message by it.
+/// loses a message by it only where the step itself acknowledges it.
 pub fn every_row()
     ensures drafted { (g : ℕ) (seen : Seen) (row : Row) (plan : Plan) → IsOneEach row.draft.puts → plan_of_row g seen row ≡ Some plan → IsOfDraft g seen plan }
     ensures fits { (g : ℕ) (S : List Op) (plan : Plan) → AreFlush g S → IsOfDraft g (seen_of S) plan → (delta : List Op) → Same delta plan.ops → AllAgree S delta × AllAgree (keep S) delta }

@@ -4,7 +4,7 @@
 //! in three moves. A *row* of the step table says what changes, as a draft: session changes of one
 //! client, acknowledgements, puts, frames, local changes; and what follows it. *Numbering* turns the draft into
 //! operations under names of the gateway's own. The *plan* is the result: operations, frames to send, local changes.
-//! Nothing of it is done here: who carries it out journals the operations first. What follows a row (Delivery, Resend),
+//! Nothing of it is done here: who carries it out keeps the operations before a frame is sent. What follows a row (Delivery, Resend),
 //! and the table as a whole, is `sn_deliver`.
 //!
 //! - `config`: what a gateway is told (`Config`), addresses (`Addr`), what is sent (`Send`).

@@ -19,7 +19,9 @@ use std::marker::Model;
 /// An address and the client that speaks from it.
 #[derive(Debug, Drop)]
 pub struct Binding {
+    /// Where the client is reached.
     pub address: Addr,
+    /// The client.
     pub client: ClientId,
 }
 
@@ -75,6 +77,7 @@ pub struct WillDialog {
 /// The moments of a client, in seconds.
 #[derive(Debug, Drop)]
 pub struct Timer {
+    /// The client.
     pub client: ClientId,
     /// When it was last heard of.
     pub heard: u64,

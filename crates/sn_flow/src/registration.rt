@@ -18,7 +18,9 @@ use std::alloc::Global;
 /// The topic id of a name, and the change that the session needs for it, if it needs one.
 #[derive(Debug, Drop)]
 pub struct NamedId {
+    /// The topic id.
     pub id: u16,
+    /// The change that enters it into the session, where it is not there yet.
     pub change: Option<SessionOp>,
 }
 

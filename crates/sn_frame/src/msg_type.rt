@@ -7,32 +7,59 @@ ghost use Rattle.sn_frame.specs.Types.{octet_of};
 /// Which message a frame holds. Forwarder encapsulation is none of them.
 #[derive(Clone, Copy, Debug, PartialEq, Eq)]
 pub enum MsgType {
+    /// A gateway says that it is there (section 5.4.1).
     Advertise,
+    /// A client looks for a gateway (section 5.4.2).
     SearchGw,
+    /// Where a gateway is (section 5.4.3).
     GwInfo,
+    /// A client connects (section 5.4.4).
     Connect,
+    /// The answer to CONNECT (section 5.4.5).
     ConnAck,
+    /// Asks for the topic of the will (section 5.4.6).
     WillTopicReq,
+    /// The topic of the will (section 5.4.7).
     WillTopic,
+    /// Asks for the message of the will (section 5.4.8).
     WillMsgReq,
+    /// The message of the will (section 5.4.9).
     WillMsg,
+    /// A topic id for a name (section 5.4.10).
     Register,
+    /// The answer to REGISTER (section 5.4.11).
     RegAck,
+    /// A publication (section 5.4.12).
     Publish,
+    /// The answer to PUBLISH, at quality of service 1 or for a refusal (section 5.4.13).
     PubAck,
+    /// The last frame at quality of service 2 (section 5.4.14).
     PubComp,
+    /// The answer to PUBLISH at quality of service 2 (section 5.4.14).
     PubRec,
+    /// Releases a message id at quality of service 2 (section 5.4.14).
     PubRel,
+    /// A subscription (section 5.4.15).
     Subscribe,
+    /// The answer to SUBSCRIBE (section 5.4.16).
     SubAck,
+    /// The end of a subscription (section 5.4.17).
     Unsubscribe,
+    /// The answer to UNSUBSCRIBE (section 5.4.18).
     UnsubAck,
+    /// A sign of life; with a client id it wakes the client (section 5.4.19).
     PingReq,
+    /// The answer to PINGREQ, and the end of being awake (section 5.4.20).
     PingResp,
+    /// The end of a connection, or the begin of a sleep (section 5.4.21).
     Disconnect,
+    /// Another topic for the will (section 5.4.22).
     WillTopicUpd,
+    /// The answer to WILLTOPICUPD (section 5.4.24).
     WillTopicResp,
+    /// Another message for the will (section 5.4.23).
     WillMsgUpd,
+    /// The answer to WILLMSGUPD (section 5.4.25).
     WillMsgResp,
 }
 

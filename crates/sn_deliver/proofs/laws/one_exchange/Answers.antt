@@ -1,4 +1,4 @@
-use Rattle.sn_deliver.proofs.Keeping.{one-exchange}
+use Rattle.sn_deliver.proofs.Beginning.{one-exchange}
 use Rattle.sn_deliver.proofs.laws.one_exchange.Goals as goal
 
 pub returns : goal.returns
