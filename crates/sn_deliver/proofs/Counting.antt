@@ -1,5 +1,5 @@
 -- Counts of what passes a test, where fewer pass another; and the arithmetic of what is left to do.
-use Rattle.std.proofs.Common.{◌≡◌, ◌⊎◌, ℕ, suc, ◌+◌, ◌*◌, ◌<◌, ◌≤◌, Bool, true, false, cond, List, [], ◌∷◌, filter, length, Contains, refl, sym, ap, ◌∙◌, true≢false, inl, inr, arith, mul-le-mul_right, add-mul, one-mul}
+use Rattle.std.proofs.Common.{◌≡◌, ◌⊎◌, ℕ, suc, ◌+◌, ◌*◌, ◌<◌, ◌≤◌, Bool, true, false, cond, List, [], ◌∷◌, filter, length, Contains, refl, sym, ap, ◌∙◌, true≢false, inl, inr, zero, not-suc-le-zero, le_of_suc-le-suc, arith, mul-le-mul_right, add-mul, one-mul}
 use Rattle.std.proofs.lemmas.List.Elements.{Contains-push, Contains-append_left, Contains-append_right}
 
 -- how many pass the test
@@ -15,6 +15,11 @@ pub among-contains : {X : Type 0} (x : X) (xs : List X) → IsAmong x xs → Con
 among-contains x [] h = absurd h
 among-contains x (y ∷ rest) (inl e) = rw e (Contains-append_left (y ∷ []) rest y (Contains-push [] y))
 among-contains x (y ∷ rest) (inr h) = Contains-append_right (y ∷ []) rest x (among-contains x rest h)
+
+pub contains-among : {X : Type 0} (x : X) (xs : List X) → Contains xs x → IsAmong x xs
+contains-among x [] h = absurd (not-suc-le-zero h.1)
+contains-among x (y ∷ rest) (zero, short, is) = inl (sym is)
+contains-among x (y ∷ rest) (suc k, short, is) = inr (contains-among x rest (k, le_of_suc-le-suc short, is))
 
 module _ {X : Type 0} (x : X) (ys zs : List X) where
   longer : (a b : Bool) → (a ≡ true → b ≡ true) → length ys ≤ length zs → length (cond a (x ∷ ys) ys) ≤ length (cond b (x ∷ zs) zs)

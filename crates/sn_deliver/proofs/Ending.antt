@@ -1,6 +1,6 @@
 -- Ticks of one moment come to an end.
-use Rattle.std.proofs.Common.{◌≡◌, ℕ, ◌+◌, ◌*◌, ◌-◌, ◌<◌, ◌≤◌, Bool, true, false, ◌&&◌, ◌||◌, if◌then◌else◌, nat_lt, nat_le, is_some, List, [], ◌∷◌, ◌++◌, length, Option, Some, None, IfSome, refl, sym, ap, ◌∙◌, subst, true≢false, arith, le_trans, append-nil}
-use Rattle.std.proofs.lemmas.Bool.{or_parts}
+use Rattle.std.proofs.Common.{◌≡◌, ℕ, suc, ◌+◌, ◌*◌, ◌-◌, ◌<◌, ◌≤◌, Bool, true, false, ◌&&◌, ◌||◌, if◌then◌else◌, nat_lt, nat_le, is_some, List, [], ◌∷◌, ◌++◌, length, Option, Some, None, IfSome, refl, sym, ap, ◌∙◌, subst, true≢false, inl, inr, arith, le_trans, le-add_right, not-le_of_lt, append-nil}
+use Rattle.std.proofs.lemmas.Bool.{or_parts, or_cases}
 use Rattle.std.proofs.lemmas.Bool.Decides.{nat_tests}
 use Rattle.std.proofs.lemmas.List.Sums.{fold-append}
 use Rattle.std.proofs.lemmas.Option.{same_Some}
@@ -8,7 +8,8 @@ use Rattle.sn_topic.specs.Table.{Entries}
 use Rattle.rep_ops.specs.declared.op.Op.{Op}
 use Rattle.rep_ops.specs.Sets.{Same}
 use Rattle.rep_model.specs.declared.view.ClientView.{ClientView}
-use Rattle.rep_model.specs.Views.{view, clients}
+use Rattle.rep_model.specs.Views.{view, clients, is_named}
+use Rattle.rep_model.proofs.Named.{clients-named, unnamed-unseen}
 use Rattle.sn_flow.specs.declared.config.Addr.{Addr}
 use Rattle.sn_flow.specs.declared.local.LocalChange.{LocalChange}
 use Rattle.sn_flow.specs.declared.local.LocalChange.TheVariants.{Advertised}
@@ -24,15 +25,15 @@ use Rattle.sn_flow.specs.Timers.{timer_of, timers_after}
 use Rattle.sn_flow.proofs.Stepping.{step-flush}
 use Rattle.sn_deliver.specs.declared.due.Due.{Due}
 use Rattle.sn_deliver.specs.declared.due.Due.TheVariants.{Loss, Retry, Delivery}
-use Rattle.sn_deliver.specs.Due.{due_with, first_due}
+use Rattle.sn_deliver.specs.Due.{due_view, due_with, or_later, first_due}
 use Rattle.sn_deliver.specs.Ticking.{cleaned, may_advertise, advertised_to, advertised, plan_due, plan_if_due, tick}
-use Rattle.sn_deliver.specs.Ticks.{Ticked, AreTicks, busy, does_something}
-use Rattle.sn_deliver.proofs.Calm.{and_false, one_more}
-use Rattle.sn_deliver.proofs.Counting.{IsAmong}
+use Rattle.sn_deliver.specs.Ticks.{Ticked, AreTicks, busy, does_something, set_behind, local_behind}
+use Rattle.sn_deliver.proofs.Calm.{some_none, and_false, one_more}
+use Rattle.sn_deliver.proofs.Counting.{IsAmong, contains-among, count, count-fewer}
 use Rattle.sn_deliver.proofs.Drafting.{tick-drafted}
 use Rattle.sn_deliver.proofs.Keeping.{fold_keeps}
 use Rattle.sn_deliver.proofs.Locally.{IsClean, cleaned-clean}
-use Rattle.sn_deliver.proofs.Lowering.{due-same, first-found, first-same, is_up_in, is_due_in, work, work-whole, told-lowers, rests-lowers, view-behind, clients-behind}
+use Rattle.sn_deliver.proofs.Lowering.{due-same, first-found, first-same, is_up_in, is_due_in, work, work-whole, times, told-lowers, rests-lowers, view-behind, clients-behind}
 use Rattle.sn_deliver.proofs.Stepping.{due-lowers}
 use Rattle.sn_deliver.proofs.Timing.{Alike, still_bound}
 
@@ -93,8 +94,14 @@ at_once m n h = omega arith
 at_rest : (m n : ℕ) → m ≤ n → m + 0 ≤ n
 at_rest m n h = omega arith
 
-together : (one more left whole : ℕ) → more ≤ left → left + one ≤ whole → one + more ≤ whole
-together one more left whole h k = omega arith
+together : (one more yet left whole : ℕ) → more + yet ≤ left → left + one ≤ whole → (one + more) + yet ≤ whole
+together one more yet left whole h k = omega arith
+
+at_zero : (n : ℕ) → 0 + n ≤ n
+at_zero n = omega arith
+
+one_and : (m n : ℕ) → m ≤ n → suc m ≤ 1 + n
+one_and m n h = omega arith
 
 -- ---- each tick
 
@@ -183,31 +190,127 @@ module _ (g advertise : ℕ) (field : List Addr) (predefined : Entries) (now : �
       ((λ i. may_advertise advertise field now (clean.kept.advertised i) || is_some (same_first g now S delta none local first.local rest_still i))
       ∙ (λ i. no_time i || is_some (no_client i)))
 
+none_later : (later : Option (List ℕ × Due)) (c : List ℕ) (o : Option Due) → or_later later c o ≡ None → (later ≡ None) × (o ≡ None)
+none_later later c None e = (e, refl)
+none_later later c (Some reason) e = absurd (some_none (c, reason) e)
+
 none_found : {X : Type 0} (o : Option X) → is_some o ≡ false → o ≡ None
 none_found None e = refl
 none_found (Some x) e = absurd (true≢false e)
 
 -- ---- all ticks
 
+above_zero : (m n : ℕ) → m < n → 0 < n
+above_zero m n h = omega arith
+
+-- one of these passes the test at least
+some_due : {X : Type 0} (test : X → Bool) (c : X) (cs : List X) → IsAmong c cs → test c ≡ true → 0 < count test cs
+some_due test c cs among is = above_zero (count (λ _. false) cs) (count test cs) (count-fewer test (λ _. false) (λ _ e. absurd (true≢false (sym e))) c is refl cs among)
+
+at_least_one : (a b c : ℕ) → 0 < b → 0 < a + b + c
+at_least_one a b c h = omega arith
+
+at_least_time : (a b c : ℕ) → 0 < c → 0 < a + b + c
+at_least_time a b c h = omega arith
+
+one_more_than : (ticks busy left whole : ℕ) → ticks ≤ busy → 0 < left → busy + left ≤ whole → whole ≤ ticks → ⊥
+one_more_than ticks busy left whole h k m n = not-le_of_lt (omega arith) n
+
+is_false : (b : Bool) → ¬ (b ≡ true) → b ≡ false
+is_false true h = absurd (h refl)
+is_false false h = refl
+
+is_true : (b : Bool) → ¬ (b ≡ false) → b ≡ true
+is_true true h = refl
+is_true false h = absurd (h refl)
+
+module _ (g advertise : ℕ) (field : List Addr) (now : ℕ) where
+  found_due : (S : List Op) (local : Local) (found : Option (List ℕ × Due)) → IfSome found (λ one. IsAmong one.0 (clients S) × (due_with g (seen_of S) local now one.0 ≡ Some one.1))
+      → is_some found ≡ true → 0 < count (is_due_in g advertise field now S local) (clients S)
+  found_due S local None known is = absurd (true≢false (sym is))
+  found_due S local (Some found) known is = some_due (is_due_in g advertise field now S local) found.0 (clients S) known.0 (ap is_some known.1)
+
+  -- where a tick does something, something is left to do
+  something_left : (S : List Op) (local : Local) → does_something g advertise field (seen_of S) local now ≡ true → 0 < work g advertise field now S local
+  something_left S local is =
+      let ups : ℕ = count (is_up_in g advertise field now S) (clients S) * (length (clients S) + 1) in
+      let dues : ℕ = count (is_due_in g advertise field now S local) (clients S) in
+      elim (or_cases (may_advertise advertise field now local.advertised) (is_some (first_due g (seen_of S) local now (clients S))) is) [
+        | inl time ↦ at_least_time ups dues (times g advertise field now local) (subst (λ b. 0 < (if b then 1 else 0)) (sym time) (omega arith))
+        | inr found ↦ at_least_one ups dues (times g advertise field now local)
+            (found_due S local (first_due g (seen_of S) local now (clients S)) (first-found g (seen_of S) local now (clients S)) found)
+      ]
+
+  none_due : (S : List Op) (local : Local) (cs : List (List ℕ)) → first_due g (seen_of S) local now cs ≡ None → (c : List ℕ) → IsAmong c cs → due_with g (seen_of S) local now c ≡ None
+  none_due S local [] none c h = absurd h
+  none_due S local (d ∷ rest) none c h =
+      let parts = none_later (first_due g (seen_of S) local now rest) d (due_with g (seen_of S) local now d) none in
+      elim h [
+        | inl e ↦ ap (due_with g (seen_of S) local now) e ∙ parts.1
+        | inr among ↦ none_due S local rest parts.0 c among
+      ]
+
+  -- where a tick does nothing, nothing is due with any client
+  pub ticks-settled : (S : List Op) (local : Local) → does_something g advertise field (seen_of S) local now ≡ false → (c : List ℕ) → due_with g (seen_of S) local now c ≡ None
+  ticks-settled S local quiet c =
+      let parts = or_parts (may_advertise advertise field now local.advertised) (is_some (first_due g (seen_of S) local now (clients S))) quiet in
+      let none : first_due g (seen_of S) local now (clients S) ≡ None = none_found (first_due g (seen_of S) local now (clients S)) parts.1 in
+      elim (is_named c S) as (λ b. is_named c S ≡ b → due_with g (seen_of S) local now c ≡ None) [
+        | true ↦ λ is. none_due S local (clients S) none c (contains-among c (clients S) ((clients-named c S).0 is))
+        | false ↦ λ is. ap (due_view g local now c) (unnamed-unseen c S is)
+      ] refl
+
 module _ (g advertise : ℕ) (field : List Addr) (predefined : Entries) (now : ℕ) where
-  busy_at_most : (ticks : List Ticked) (S : List Op) (local : Local) → AreFlush g S → AreTicks g advertise field predefined now S local ticks
-      → busy g advertise field now S local ticks ≤ work g advertise field now S local
-  busy_at_most [] S local flush h = omega arith
-  busy_at_most (t ∷ rest) S local flush h =
+  -- what is done and what is left is no more than there was
+  all_at_most : (ticks : List Ticked) (S : List Op) (local : Local) → AreFlush g S → AreTicks g advertise field predefined now S local ticks
+      → busy g advertise field now S local ticks + work g advertise field now (set_behind S ticks) (local_behind local ticks) ≤ work g advertise field now S local
+  all_at_most [] S local flush h = at_zero (work g advertise field now S local)
+  all_at_most (t ∷ rest) S local flush h =
       together (if does_something g advertise field (seen_of S) local now then 1 else 0) (busy g advertise field now (S ++ t.delta) (after_all local t.plan.local) rest)
+      (work g advertise field now (set_behind (S ++ t.delta) rest) (local_behind (after_all local t.plan.local) rest))
       (work g advertise field now (S ++ t.delta) (after_all local t.plan.local)) (work g advertise field now S local)
-      (busy_at_most rest (S ++ t.delta) (after_all local t.plan.local)
+      (all_at_most rest (S ++ t.delta) (after_all local t.plan.local)
       (step-flush g S t.plan (tick-drafted g advertise field predefined S local now t.plan h.0) t.delta h.1 flush) h.2)
       (lowers g advertise field predefined now S local flush t.plan t.delta h.1 h.0)
+
+  all_of_it : (S : List Op) (local : Local) (ticks : List Ticked) → AreFlush g S → AreTicks g advertise field predefined now S local ticks
+      → busy g advertise field now S local ticks + work g advertise field now (set_behind S ticks) (local_behind local ticks) ≤ (length (clients S) + 1) * (length (clients S) + 1)
+  all_of_it S local ticks flush h = le_trans (all_at_most ticks S local flush h) (work-whole g advertise field now S local)
 
   pub ticks-bound : (S : List Op) (local : Local) (ticks : List Ticked) → AreFlush g S → AreTicks g advertise field predefined now S local ticks
       → busy g advertise field now S local ticks ≤ (length (clients S) + 1) * (length (clients S) + 1)
   ticks-bound S local ticks flush h =
-      le_trans (busy_at_most ticks S local flush h) (work-whole g advertise field now S local)
+      le_trans (le-add_right (busy g advertise field now S local ticks) (work g advertise field now (set_behind S ticks) (local_behind local ticks))) (all_of_it S local ticks flush h)
 
-  pub ticks-rest : (S : List Op) (local : Local) (plan : Plan) (delta : List Op) → does_something g advertise field (seen_of S) local now ≡ false
+  one_rests : (S : List Op) (local : Local) (plan : Plan) (delta : List Op) → does_something g advertise field (seen_of S) local now ≡ false
       → tick g advertise field predefined (seen_of S) local now ≡ Some plan → Same delta plan.ops
       → does_something g advertise field (seen_of (S ++ delta)) (after_all local plan.local) now ≡ false
-  ticks-rest S local plan delta quiet e same =
+  one_rests S local plan delta quiet e same =
       let parts = or_parts (may_advertise advertise field now local.advertised) (is_some (first_due g (seen_of S) local now (clients S))) quiet in
       nothing_left g advertise field predefined now S local plan delta same parts.0 (none_found (first_due g (seen_of S) local now (clients S)) parts.1) e
+
+  -- once there is nothing to do, there is nothing to do behind more ticks
+  pub ticks-rest : (S : List Op) (local : Local) (ticks : List Ticked) → AreTicks g advertise field predefined now S local ticks → does_something g advertise field (seen_of S) local now ≡ false
+      → does_something g advertise field (seen_of (set_behind S ticks)) (local_behind local ticks) now ≡ false
+  ticks-rest S local [] h quiet = quiet
+  ticks-rest S local (t ∷ rest) h quiet =
+      ticks-rest (S ++ t.delta) (after_all local t.plan.local) rest h.2 (one_rests S local t.plan t.delta quiet h.0 h.1)
+
+  -- where there is something to do behind them, all of them did something
+  all_busy : (S : List Op) (local : Local) (ticks : List Ticked) → AreTicks g advertise field predefined now S local ticks
+      → does_something g advertise field (seen_of (set_behind S ticks)) (local_behind local ticks) now ≡ true → length ticks ≤ busy g advertise field now S local ticks
+  all_busy S local [] h is = omega arith
+  all_busy S local (t ∷ rest) h is =
+      let here : does_something g advertise field (seen_of S) local now ≡ true =
+      is_true (does_something g advertise field (seen_of S) local now) (λ quiet. true≢false (sym is ∙ ticks-rest S local (t ∷ rest) h quiet)) in
+      subst (λ b. length (t ∷ rest) ≤ (if b then 1 else 0) + busy g advertise field now (S ++ t.delta) (after_all local t.plan.local) rest) (sym here)
+      (one_and (length rest) (busy g advertise field now (S ++ t.delta) (after_all local t.plan.local) rest) (all_busy (S ++ t.delta) (after_all local t.plan.local) rest h.2 is))
+
+  pub ticks-end : (S : List Op) (local : Local) (ticks : List Ticked) → AreFlush g S → AreTicks g advertise field predefined now S local ticks
+      → (length (clients S) + 1) * (length (clients S) + 1) ≤ length ticks
+      → does_something g advertise field (seen_of (set_behind S ticks)) (local_behind local ticks) now ≡ false
+  ticks-end S local ticks flush h long =
+      is_false (does_something g advertise field (seen_of (set_behind S ticks)) (local_behind local ticks) now)
+      (λ is. one_more_than (length ticks) (busy g advertise field now S local ticks) (work g advertise field now (set_behind S ticks) (local_behind local ticks))
+      ((length (clients S) + 1) * (length (clients S) + 1)) (all_busy S local ticks h is)
+      (something_left g advertise field now (set_behind S ticks) (local_behind local ticks) is) (all_of_it S local ticks flush h) long)

@@ -20,7 +20,7 @@ use Rattle.sn_flow.proofs.Rows.{s1, seven, bound_seven, first_take}
 use Rattle.sn_deliver.specs.Following.{deliver_next}
 use Rattle.sn_deliver.specs.Serving.{publish_in, ack_in}
 use Rattle.sn_deliver.specs.Ticking.{tick}
-use Rattle.sn_deliver.specs.Ticks.{Ticked, AreTicks, busy}
+use Rattle.sn_deliver.specs.Ticks.{Ticked, AreTicks, busy, does_something, set_behind, local_behind}
 
 -- a session operation of the client under stamp 1.1
 abbrev at : ℕ → SessionOp → Op
@@ -176,3 +176,7 @@ are_busy = (refl, same_refl [], (refl, same_refl (at 7 (Presence Lost 60) ∷ []
 two_are_busy : busy 1 5 (seven ∷ []) 13 published tried_enough busy_moment ≡ 2
 unfolding gapless write planned
 two_are_busy = refl
+
+at_rest : does_something 1 5 (seven ∷ []) (seen_of (set_behind published busy_moment)) (local_behind tried_enough busy_moment) 13 ≡ false
+unfolding gapless write planned
+at_rest = refl

@@ -35,3 +35,13 @@ busy g advertise field now S local [] = 0
 busy g advertise field now S local (t ∷ rest) =
     (if does_something g advertise field (seen_of S) local now then 1 else 0)
     + busy g advertise field now (S ++ t.delta) (after_all local t.plan.local) rest
+
+-- the set behind these ticks
+abbrev pub set_behind : List Op → List Ticked → List Op
+set_behind S [] = S
+set_behind S (t ∷ rest) = set_behind (S ++ t.delta) rest
+
+-- the local state behind these ticks
+abbrev pub local_behind : Local → List Ticked → Local
+local_behind local [] = local
+local_behind local (t ∷ rest) = local_behind (after_all local t.plan.local) rest

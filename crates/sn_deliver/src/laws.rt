@@ -1,10 +1,9 @@
 //! Laws of publications and of time. Each function does nothing; its contract is a law, proved for all sessions and messages.
 
-ghost use Rattle.std.specs.Prelude.{◌≡◌, ◌≤◌, ℕ, ◌+◌, ◌*◌, false, List, ◌++◌, length, Some};
+ghost use Rattle.std.specs.Prelude.{◌≡◌, ◌≤◌, ℕ, ◌+◌, ◌*◌, false, List, length, None, Some};
 ghost use Rattle.sn_topic.specs.Table.{Entries};
 ghost use Rattle.sn_frame.specs.declared.frame.Frame.{Frame};
 ghost use Rattle.rep_ops.specs.declared.op.Op.{Op};
-ghost use Rattle.rep_ops.specs.Sets.{Same};
 ghost use Rattle.rep_model.specs.Views.{clients};
 ghost use Rattle.sn_flow.specs.declared.config.Addr.{Addr};
 ghost use Rattle.sn_flow.specs.declared.plan.Plan.{Plan};
@@ -12,9 +11,10 @@ ghost use Rattle.sn_flow.specs.Locals.{Local, after_all};
 ghost use Rattle.sn_flow.specs.Plans.{seen_of};
 ghost use Rattle.sn_flow.specs.Own.{IsOfDraft};
 ghost use Rattle.sn_flow.specs.Flush.{AreFlush};
+ghost use Rattle.sn_deliver.specs.Due.{due_with};
 ghost use Rattle.sn_deliver.specs.Steps.{step};
 ghost use Rattle.sn_deliver.specs.Ticking.{tick};
-ghost use Rattle.sn_deliver.specs.Ticks.{Ticked, AreTicks, busy, does_something};
+ghost use Rattle.sn_deliver.specs.Ticks.{Ticked, AreTicks, busy, does_something, set_behind, local_behind};
 ghost use Rattle.sn_deliver.specs.Laws.{DeliveryKeeps, OneExchange, PutsOnce, ResentWithDup, TickIsQuiet, TickSettles};
 
 /// Delivery loses no message: it acknowledges none but those that it sends at quality of service 0, and those for whose topic
@@ -50,11 +50,14 @@ pub fn tick_settles()
     ensures { TickSettles }
 {}
 
-/// Ticks of one moment come to an end: with n clients, at most (n + 1) * (n + 1) of them do something, however many there are and
-/// in whatever state the gateway is. And once a tick does nothing, no later tick of the moment does.
+/// Ticks of one moment come to an end. Where the set of a gateway is flush and has n clients, at most (n + 1) * (n + 1) ticks of one
+/// moment do something, however many there are; so behind that many, those that are refused not counted, there is nothing to do.
+/// Once there is nothing to do, there is nothing to do behind more ticks of the moment, and nothing is due with any client.
 pub fn ticks_end()
     ensures bound { (g advertise : ℕ) (field : List Addr) (predefined : Entries) (now : ℕ) (S : List Op) (local : Local) (ticks : List Ticked) → AreFlush g S → AreTicks g advertise field predefined now S local ticks → busy g advertise field now S local ticks ≤ (length (clients S) + 1) * (length (clients S) + 1) }
-    ensures rest { (g advertise : ℕ) (field : List Addr) (predefined : Entries) (now : ℕ) (S : List Op) (local : Local) (plan : Plan) (delta : List Op) → does_something g advertise field (seen_of S) local now ≡ false → tick g advertise field predefined (seen_of S) local now ≡ Some plan → Same delta plan.ops → does_something g advertise field (seen_of (S ++ delta)) (after_all local plan.local) now ≡ false }
+    ensures ends { (g advertise : ℕ) (field : List Addr) (predefined : Entries) (now : ℕ) (S : List Op) (local : Local) (ticks : List Ticked) → AreFlush g S → AreTicks g advertise field predefined now S local ticks → (length (clients S) + 1) * (length (clients S) + 1) ≤ length ticks → does_something g advertise field (seen_of (set_behind S ticks)) (local_behind local ticks) now ≡ false }
+    ensures rests { (g advertise : ℕ) (field : List Addr) (predefined : Entries) (now : ℕ) (S : List Op) (local : Local) (ticks : List Ticked) → AreTicks g advertise field predefined now S local ticks → does_something g advertise field (seen_of S) local now ≡ false → does_something g advertise field (seen_of (set_behind S ticks)) (local_behind local ticks) now ≡ false }
+    ensures settled { (g advertise : ℕ) (field : List Addr) (now : ℕ) (S : List Op) (local : Local) → does_something g advertise field (seen_of S) local now ≡ false → (c : List ℕ) → due_with g (seen_of S) local now c ≡ None }
 {}
 
 /// The laws of `sn_flow` hold of every step and of every tick: each of their plans is the plan of a draft with at most one message

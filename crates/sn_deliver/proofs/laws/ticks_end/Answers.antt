@@ -1,8 +1,10 @@
-use Rattle.sn_deliver.proofs.Ending.{ticks-bound, ticks-rest}
+use Rattle.sn_deliver.proofs.Ending.{ticks-bound, ticks-end, ticks-rest, ticks-settled}
 use Rattle.sn_deliver.proofs.laws.ticks_end.Goals as goal
 
 pub returns : goal.returns
 returns c = record {
   bound = ticks-bound;
-  rest = ticks-rest;
+  ends = ticks-end;
+  rests = ticks-rest;
+  settled = ticks-settled;
 }
