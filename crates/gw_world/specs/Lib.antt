@@ -7,3 +7,4 @@ pub mod Keeping
 pub mod Occasions
 pub mod Plans
 pub mod Steady
+pub mod Whole
