@@ -1,5 +1,5 @@
 -- An operation stands in a list where no other of the list has its name.
-use Rattle.std.proofs.Common.{◌≡◌, ℕ, ◌≤◌, true, false, List, ◌++◌, Option, Some, None, is_some, IfSome, Contains, refl, sym, ap, ◌∙◌, true≢false, eq-eqb, le-leb}
+use Rattle.std.proofs.Common.{◌≡◌, ℕ, ◌≤◌, true, List, ◌++◌, Option, Some, None, is_some, IfSome, Contains, refl, sym, ap, ◌∙◌, true≢false, eq-eqb, le-leb}
 use Rattle.std.proofs.lemmas.Bool.{and_from, or_right}
 use Rattle.std.proofs.lemmas.Option.{slice_get-get_or}
 use Rattle.sn_session.specs.declared.change.SessionOp.{SessionOp}

@@ -1,5 +1,5 @@
 -- Every run leaves a field in which no name has two contents, and answers no Conflict.
-use Rattle.std.proofs.Common.{◌≡◌, ℕ, zero, suc, ◌-◌, ◌⊎◌, List, [], ◌∷◌, ◌++◌, map, set, slice_get, Some, None, IfSome, Contains, Result, Ok, Err, refl, sym, ap, ◌∙◌, subst, append-nil, inl, inr}
+use Rattle.std.proofs.Common.{◌≡◌, ℕ, zero, suc, ◌-◌, ◌⊎◌, List, [], ◌∷◌, map, slice_get, Some, Contains, Result, Ok, Err, sym, ap, subst, inl, inr}
 use Rattle.std.specs.List.{AllByRecursion}
 use Rattle.std.proofs.lemmas.List.Elements.{All-from_recursion, All-contains}
 use Rattle.std.proofs.lemmas.Option.{none-some, same_Some}
@@ -20,15 +20,15 @@ use Rattle.gw_world.specs.declared.event.NodeFault.{NodeFault}
 use Rattle.gw_world.specs.declared.event.NodeFault.TheVariants as faults
 use Rattle.gw_world.specs.Occasions.{Occasion, Datagram, Clock}
 use Rattle.gw_world.specs.Gateways.{Gateway, new_gateway}
-use Rattle.gw_world.specs.Field.{Field, new_field, IsAt, IsDeltaAt, changed, After, Run, gateway_of}
+use Rattle.gw_world.specs.Field.{Field, new_field, IsAt, IsDeltaAt, changed, After, Run}
 use Rattle.gw_world.specs.Steps.{HaveName, IsConflict, OwnStep, TakeStep}
-use Rattle.gw_world.specs.Whole.{everything, number_of, IsHome, AreMadeOnce}
+use Rattle.gw_world.specs.Whole.{everything, IsHome, AreMadeOnce}
 use Rattle.gw_world.proofs.Alone.{stands-alone, agrees-alone}
-use Rattle.gw_world.proofs.Each.{all-at, all-places, EachOf, each-weaken, each-grown, each-all, all-each}
+use Rattle.gw_world.proofs.Each.{all-at, all-places, each-all}
 use Rattle.gw_world.proofs.Held.{agrees_with_kept}
 use Rattle.gw_world.proofs.Numbers.{First, place_of-first, first-number, first-place_of}
 use Rattle.gw_world.proofs.Steadiness.{Still, Stepped, still, own-moves, SteadyField, steady-is, after-steady, start-steady, no-conflict}
-use Rattle.gw_world.proofs.Whole.{IsHeld, Whole, held-alike, whole-silent, whole-still, own-number, whole-stepped}
+use Rattle.gw_world.proofs.Whole.{IsHeld, Whole, held-alike, whole-silent, whole-still, whole-stepped}
 
 abbrev pub WholeField : Field → Type 0
 WholeField field = Whole field.gateways field.deltas

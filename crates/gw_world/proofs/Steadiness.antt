@@ -1,5 +1,5 @@
 -- A field stays steady.
-use Rattle.std.proofs.Common.{◌≡◌, ℕ, zero, suc, ◌-◌, ◌⊎◌, List, [], ◌∷◌, ◌++◌, slice_get, Option, Some, None, is_some, option_map, true, Contains, true≢false, Result, Ok, Err, refl, sym, ap, ◌∙◌, subst, append-nil, inl, inr}
+use Rattle.std.proofs.Common.{◌≡◌, ℕ, ◌-◌, ◌⊎◌, List, [], ◌∷◌, ◌++◌, slice_get, Option, Some, None, is_some, option_map, true, Contains, true≢false, Result, Ok, Err, refl, sym, ap, ◌∙◌, subst, append-nil, inl, inr}
 use Rattle.std.specs.List.{AllByRecursion}
 use Rattle.std.proofs.lemmas.Option.{none-some, same_Some, slice_get-map}
 use Rattle.rep_ops.specs.declared.op.Op.{Op}

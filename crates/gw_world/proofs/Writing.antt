@@ -1,5 +1,5 @@
 -- What an event adds to a field is under the number of the gateway that it is at.
-use Rattle.std.proofs.Common.{◌≡◌, ℕ, ◌-◌, ◌⊎◌, List, [], ◌∷◌, ◌++◌, set, slice_get, Some, IfSome, Contains, Result, Ok, Err, refl, sym, ap, ◌∙◌, subst, append-nil, inl, inr}
+use Rattle.std.proofs.Common.{◌≡◌, ℕ, ◌-◌, ◌⊎◌, List, [], ◌∷◌, ◌++◌, set, slice_get, Some, IfSome, Contains, Result, Ok, Err, sym, ap, ◌∙◌, subst, append-nil, inl, inr}
 use Rattle.std.specs.List.{AllByRecursion}
 use Rattle.std.proofs.lemmas.List.Elements.{All-from_recursion, All-contains}
 use Rattle.rep_ops.specs.declared.op.Op.{Op}
