@@ -1,13 +1,13 @@
 -- An operation stands in a list where no other of the list has its name.
-use Rattle.std.proofs.Common.{◌≡◌, ℕ, ◌≤◌, true, List, ◌++◌, Option, Some, None, is_some, IfSome, Contains, refl, sym, ap, ◌∙◌, true≢false, eq-eqb, le-leb}
-use Rattle.std.proofs.lemmas.Bool.{and_from, or_right}
-use Rattle.std.proofs.lemmas.Option.{slice_get-get_or}
+use Rattle.std.proofs.Common.{◌≡◌, ℕ, ◌≤◌, true, List, ◌++◌, Option, Some, None, is_some, IfSome, Contains, refl, sym, ap, ◌∙◌, true≢false, eq-eqb, le-leb, slice_get, inl, inr}
+use Rattle.std.proofs.lemmas.Bool.{and_from, or_right, cases_order}
+use Rattle.std.proofs.lemmas.Option.{slice_get-get_or, slice_get_within, get_or_from_slice_get}
 use Rattle.sn_session.specs.declared.change.SessionOp.{SessionOp}
 use Rattle.rep_ops.specs.declared.op.Stamp.{Stamp}
 use Rattle.rep_ops.specs.declared.op.Put.{Put}
 use Rattle.rep_ops.specs.declared.op.Op.{Op}
 use Rattle.rep_ops.specs.declared.op.Op.TheVariants.{Session as OfSession, Put as OfPut, Ack}
-use Rattle.rep_ops.specs.Deltas.{ShareName, IsDelta}
+use Rattle.rep_ops.specs.Deltas.{ShareName, HasTwice, IsDelta}
 use Rattle.rep_ops.specs.Sets.{operation_at, put_at, acknowledges, is_acknowledged, Stands, Agrees}
 use Rattle.rep_ops.proofs.Joined.{rising_ascending}
 use Rattle.rep_ops.proofs.Rising.{rising_apart}
@@ -76,10 +76,31 @@ shared (OfSession c s k o) (OfSession d t j p) h = h
 shared (OfPut c p) (OfPut d q) h = h
 shared a b h = absurd h
 
+pub turned : (a b : Op) → HaveName a b → HaveName b a
+turned (OfSession c s k o) (OfSession d t j p) h = (sym h.0, sym h.1, sym h.2)
+turned (OfPut c p) (OfPut d q) h = (sym h.0, sym h.1, sym h.2)
+turned a b h = absurd h
+
+delta-once : (D : List Op) → IsDelta D → ¬ (HasTwice D)
+delta-once D d = rising_apart 1 D (rising_ascending D d.well_made d.ascending)
+
 -- each operation of a delta stands in it
 pub delta-stands : (D : List Op) → IsDelta D → (op : Op) → Contains D op → Stands D op
-delta-stands D d op h = stands-alone D op h (λ other there named.
-  one_of_name D (rising_apart 1 D (rising_ascending D d.well_made d.ascending)) other op (is_in other D there) (is_in op D h) (shared other op named))
+delta-stands D d op h = stands-alone D op h (λ other there named. one_of_name D (delta-once D d) other op (is_in other D there) (is_in op D h) (shared other op named))
+
+-- in one place
+pub delta-place : (D : List Op) → IsDelta D → (k l : ℕ) (a b : Op) → slice_get D k ≡ Some a → slice_get D l ≡ Some b → HaveName a b → k ≡ l
+delta-place D d k l a b at there named =
+    elim (cases_order k l) [
+      | inl same ↦ same
+      | inr apart ↦ elim apart [
+        | inl lt ↦ absurd (delta-once D d (k, l, a, b, lt, at, there, shared a b named))
+        | inr gt ↦ absurd (delta-once D d (l, k, b, a, gt, there, at, shared b a (turned a b named)))
+      ]
+    ]
+
+pub contains_at : (T : List Op) (k : ℕ) (op : Op) → slice_get T k ≡ Some op → Contains T op
+contains_at T k op e = (k, slice_get_within T k op e, get_or_from_slice_get T k op op e)
 
 pub stands-left : (A B : List Op) (op : Op) → Stands A op → Stands (A ++ B) op
 stands-left A B (OfSession c s k o) h = (within-left A B).operations_in c (s, k) o h

@@ -1,10 +1,11 @@
 -- Every run leaves a field in which no name has two contents, and answers no Conflict.
-use Rattle.std.proofs.Common.{◌≡◌, ℕ, zero, suc, ◌-◌, ◌⊎◌, List, [], ◌∷◌, map, slice_get, Some, Contains, Result, Ok, Err, sym, ap, subst, inl, inr}
+use Rattle.std.proofs.Common.{◌≡◌, ℕ, zero, suc, ◌-◌, ◌⊎◌, List, [], ◌∷◌, map, slice_get, Some, Contains, Result, Ok, Err, sym, ap, ◌∙◌, subst, inl, inr}
 use Rattle.std.specs.List.{AllByRecursion}
 use Rattle.std.proofs.lemmas.List.Elements.{All-from_recursion, All-contains}
 use Rattle.std.proofs.lemmas.Option.{none-some, same_Some}
 use Rattle.rep_ops.specs.declared.op.Op.{Op}
 use Rattle.rep_ops.specs.declared.op.Op.TheVariants.{Session as OfSession, Put as OfPut, Ack}
+use Rattle.rep_ops.specs.Deltas.{IsDelta}
 use Rattle.rep_ops.specs.Sets.{Stands, IsConsistent, Agrees}
 use Rattle.rep_model.specs.Keep.{keep}
 use Rattle.rep_model.specs.Taking.{AllAgree}
@@ -23,12 +24,12 @@ use Rattle.gw_world.specs.Gateways.{Gateway, new_gateway}
 use Rattle.gw_world.specs.Field.{Field, new_field, IsAt, IsDeltaAt, changed, After, Run}
 use Rattle.gw_world.specs.Steps.{HaveName, IsConflict, OwnStep, TakeStep}
 use Rattle.gw_world.specs.Whole.{everything, IsHome, AreMadeOnce}
-use Rattle.gw_world.proofs.Alone.{stands-alone, agrees-alone}
+use Rattle.gw_world.proofs.Alone.{stands-alone, agrees-alone, delta-place, contains_at}
 use Rattle.gw_world.proofs.Each.{all-at, all-places, each-all}
 use Rattle.gw_world.proofs.Held.{agrees_with_kept}
 use Rattle.gw_world.proofs.Numbers.{First, place_of-first, first-number, first-place_of}
 use Rattle.gw_world.proofs.Steadiness.{Still, Stepped, still, own-moves, SteadyField, steady-is, after-steady, start-steady, no-conflict}
-use Rattle.gw_world.proofs.Whole.{IsHeld, Whole, held-alike, whole-silent, whole-still, whole-stepped}
+use Rattle.gw_world.proofs.Whole.{IsHeld, AreApart, Whole, held-alike, whole-silent, whole-still, whole-stepped}
 
 abbrev pub WholeField : Field → Type 0
 WholeField field = Whole field.gateways field.deltas
@@ -114,7 +115,7 @@ run-sound old (event ∷ events) (answer ∷ answers) new h s w =
 run-sound old [] (answer ∷ answers) new h s w = absurd h
 run-sound old (event ∷ events) [] new h s w = absurd h
 
-start-taken : (configs : List Config) (j : ℕ) (gateway : Gateway) → slice_get (map new_gateway configs) j ≡ Some gateway → gateway.taken ≡ []
+pub start-taken : (configs : List Config) (j : ℕ) (gateway : Gateway) → slice_get (map new_gateway configs) j ≡ Some gateway → gateway.taken ≡ []
 start-taken [] j gateway e = absurd (none-some gateway e)
 start-taken (config ∷ configs) zero gateway e = ap (λ (x : Gateway). x.taken) (sym (same_Some (new_gateway config) gateway e))
 start-taken (config ∷ configs) (suc j) gateway e = start-taken configs j gateway e
@@ -125,10 +126,11 @@ start-whole configs = record {
     sets = λ j gateway there. subst (λ T. AllByRecursion (IsHeld (map new_gateway configs)) T) (sym (start-taken configs j gateway there)) tt;
     lists = tt;
   };
-  once = λ i j one other a b at there inside within named. absurd (none-some one at);
+  apart = λ i j one other a b at there inside within named. absurd (none-some one at);
+  proper = tt;
 }
 
-field-whole : (configs : List Config) (events : List Event) (answers : List Answer) (field : Field) → Run (new_field configs) events answers field → WholeField field × AllByRecursion IsPeaceful answers
+pub field-whole : (configs : List Config) (events : List Event) (answers : List Answer) (field : Field) → Run (new_field configs) events answers field → WholeField field × AllByRecursion IsPeaceful answers
 field-whole configs events answers field h = run-sound (new_field configs) events answers field h (start-steady configs) (start-whole configs)
 
 -- ---- what holds of a whole field
@@ -137,7 +139,7 @@ module _ (field : Field) (w : WholeField field) where
   held : (op : Op) → Contains (everything field) op → IsHeld field.gateways op
   held op h = All-contains (IsHeld field.gateways) (everything field) op (All-from_recursion (IsHeld field.gateways) (everything field) (each-all (IsHeld field.gateways) field w.each)) h
 
-  parts-consistent : (part : List Op) → ((op : Op) → Contains part op → Contains (everything field) op) → IsConsistent part
+  pub parts-consistent : (part : List Op) → ((op : Op) → Contains part op → Contains (everything field) op) → IsConsistent part
   parts-consistent part f = all-moved (Stands part) part (λ op h. stands-alone part op h (λ other there named. held-alike field.gateways other op (held other (f other there)) (held op (f op h)) named))
 
   at-home : (op : Op) → IsHeld field.gateways op → IsHome field op
@@ -155,10 +157,16 @@ module _ (field : Field) (w : WholeField field) where
 
   delta-agrees : (gateway : Gateway) (delta : List Op) → Contains field.gateways gateway → Contains field.deltas delta → AllAgree gateway.taken delta
   delta-agrees gateway delta in_field in_list = all-moved (Agrees gateway.taken) delta (λ op h. agrees-alone gateway.taken op (λ other there named.
-    held-alike field.gateways other op
-    (All-contains (IsHeld field.gateways) gateway.taken other (All-from_recursion (IsHeld field.gateways) gateway.taken (taken-held gateway in_field)) there)
-    (All-contains (IsHeld field.gateways) delta op (All-from_recursion (IsHeld field.gateways) delta (delta-held delta in_list)) h)
-    named))
+      held-alike field.gateways other op
+      (All-contains (IsHeld field.gateways) gateway.taken other (All-from_recursion (IsHeld field.gateways) gateway.taken (taken-held gateway in_field)) there)
+      (All-contains (IsHeld field.gateways) delta op (All-from_recursion (IsHeld field.gateways) delta (delta-held delta in_list)) h)
+      named))
+
+made-once : (deltas : List (List Op)) → AreApart deltas → AllByRecursion IsDelta deltas → AreMadeOnce deltas
+made-once deltas apart proper i j k l one other a b at there inside within named =
+    let same : i ≡ j = apart i j one other a b at there (contains_at one k a inside) (contains_at other l b within) named in
+    let whole : one ≡ other = same_Some one other (sym at ∙ ap (slice_get deltas) same ∙ there) in
+    (same, delta-place other (all-at IsDelta deltas j other proper there) k l a b (subst (λ D. slice_get D k ≡ Some a) whole inside) within named)
 
 -- ---- the laws
 
@@ -191,4 +199,4 @@ pub field-home : (configs : List Config) (events : List Event) (answers : List A
 field-home configs events answers field op h there = let w = (field-whole configs events answers field h).0 in at-home field w op (held field w op there)
 
 pub field-once : (configs : List Config) (events : List Event) (answers : List Answer) (field : Field) → Run (new_field configs) events answers field → AreMadeOnce field.deltas
-field-once configs events answers field h = (field-whole configs events answers field h).0.once
+field-once configs events answers field h = let w = (field-whole configs events answers field h).0 in made-once field.deltas w.apart w.proper

@@ -7,7 +7,7 @@ use Rattle.rep_model.proofs.Joins.{all-left, all-right}
 use Rattle.sn_flow.proofs.Lists.{all-append, all-weaken}
 use Rattle.gw_world.specs.Gateways.{Gateway}
 use Rattle.gw_world.specs.Field.{Field}
-use Rattle.gw_world.specs.Whole.{everything}
+use Rattle.gw_world.specs.Whole.{listed, everything}
 
 pub all-at : {A : Type 0} (P : A → Type 0) (xs : List A) (k : ℕ) (x : A) → AllByRecursion P xs → slice_get xs k ≡ Some x → P x
 all-at P [] k x h e = absurd (none-some x e)
@@ -22,7 +22,7 @@ all-flat : {A B : Type 0} (P : B → Type 0) (f : A → List B) (xs : List A) �
 all-flat P f [] h = tt
 all-flat P f (x ∷ xs) h = all-append P (f x) (flat_map f xs) h.0 (all-flat P f xs h.1)
 
-flat-all : {A B : Type 0} (P : B → Type 0) (f : A → List B) (xs : List A) → AllByRecursion P (flat_map f xs) → AllByRecursion (λ x. AllByRecursion P (f x)) xs
+pub flat-all : {A B : Type 0} (P : B → Type 0) (f : A → List B) (xs : List A) → AllByRecursion P (flat_map f xs) → AllByRecursion (λ x. AllByRecursion P (f x)) xs
 flat-all P f [] h = tt
 flat-all P f (x ∷ xs) h = (all-left P (f x) (flat_map f xs) h, flat-all P f xs (all-right P (f x) (flat_map f xs) h))
 
@@ -62,16 +62,13 @@ each-grown P gs deltas i old next more made is taken news listed e = record {
 abbrev taken_by : Field → List Op
 taken_by field = flat_map (λ (gateway : Gateway). gateway.taken) field.gateways
 
-abbrev listed_in : Field → List Op
-listed_in field = flat_map (λ (delta : List Op). delta) field.deltas
-
 pub each-all : (P : Op → Type 0) (field : Field) → EachOf P field.gateways field.deltas → AllByRecursion P (everything field)
-each-all P field e = all-append P (taken_by field) (listed_in field)
+each-all P field e = all-append P (taken_by field) (listed field)
     (all-flat P (λ (gateway : Gateway). gateway.taken) field.gateways (all-places (λ (gateway : Gateway). AllByRecursion P gateway.taken) field.gateways e.sets))
     (all-flat P (λ (delta : List Op). delta) field.deltas e.lists)
 
 pub all-each : (P : Op → Type 0) (field : Field) → AllByRecursion P (everything field) → EachOf P field.gateways field.deltas
 all-each P field h = record {
-  sets = λ j gateway there. all-at (λ (g : Gateway). AllByRecursion P g.taken) field.gateways j gateway (flat-all P (λ (g : Gateway). g.taken) field.gateways (all-left P (taken_by field) (listed_in field) h)) there;
-  lists = flat-all P (λ (delta : List Op). delta) field.deltas (all-right P (taken_by field) (listed_in field) h);
+  sets = λ j gateway there. all-at (λ (g : Gateway). AllByRecursion P g.taken) field.gateways j gateway (flat-all P (λ (g : Gateway). g.taken) field.gateways (all-left P (taken_by field) (listed field) h)) there;
+  lists = flat-all P (λ (delta : List Op). delta) field.deltas (all-right P (taken_by field) (listed field) h);
 }

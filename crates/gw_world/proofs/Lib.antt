@@ -10,3 +10,4 @@ pub mod Alone
 pub mod Whole
 pub mod Consistency
 pub mod Writing
+pub mod Settling

@@ -5,19 +5,20 @@ use Rattle.std.proofs.lemmas.List.Elements.{All-from_recursion, All-contains}
 use Rattle.std.proofs.lemmas.Option.{none-some, same_Some}
 use Rattle.rep_ops.specs.declared.op.Op.{Op}
 use Rattle.rep_ops.specs.declared.op.Op.TheVariants.{Session as OfSession, Put as OfPut, Ack}
+use Rattle.rep_ops.specs.Deltas.{IsDelta}
 use Rattle.rep_ops.specs.Sets.{operation_at, put_at, Stands}
 use Rattle.rep_model.proofs.Joins.{all-moved}
 use Rattle.sn_flow.specs.declared.plan.Plan.{Plan}
 use Rattle.sn_flow.specs.Plans.{seen_of}
 use Rattle.sn_flow.specs.Own.{IsOwn, IsFresh, IsOfDraft}
 use Rattle.sn_flow.specs.Flush.{AreFlush}
-use Rattle.sn_flow.proofs.Lists.{all-weaken}
+use Rattle.sn_flow.proofs.Lists.{all-append, all-weaken}
 use Rattle.sn_flow.proofs.Names.{plan-own}
 use Rattle.sn_flow.proofs.Stepping.{step-new_operation, step-new_put}
 use Rattle.gw_world.specs.Gateways.{Gateway}
 use Rattle.gw_world.specs.Steps.{HaveName}
-use Rattle.gw_world.specs.Whole.{number_of, AreMadeOnce}
-use Rattle.gw_world.proofs.Alone.{some-is, delta-stands, stands-left, stands-right, stands-contains}
+use Rattle.gw_world.specs.Whole.{number_of}
+use Rattle.gw_world.proofs.Alone.{turned, some-is, delta-stands, stands-left, stands-right, stands-contains}
 use Rattle.gw_world.proofs.Each.{all-at, AllOf, EachOf, each-weaken, each-grown}
 use Rattle.gw_world.proofs.Numbers.{First, first-one, first-kept, set-there}
 use Rattle.gw_world.proofs.Occurring.{is_there, operation_occurs, put_occurs}
@@ -30,9 +31,14 @@ AtFirst gs op n = (j : ℕ) × (gateway : Gateway) × First n gs j × (slice_get
 abbrev pub IsHeld : List Gateway → Op → Type 0
 IsHeld gs op = IfSome (number_of op) (λ n. AtFirst gs op n)
 
+-- no name stands in two deltas
+abbrev pub AreApart : List (List Op) → Type 0
+AreApart deltas = (i j : ℕ) (one other : List Op) (a b : Op) → slice_get deltas i ≡ Some one → slice_get deltas j ≡ Some other → Contains one a → Contains other b → HaveName a b → i ≡ j
+
 pub record Whole (gateways : List Gateway) (deltas : List (List Op)) : Type 0 where
   pub each : EachOf (IsHeld gateways) gateways deltas
-  pub once : AreMadeOnce deltas
+  pub apart : AreApart deltas
+  pub proper : AllByRecursion IsDelta deltas
 
 -- ---- two of one name
 
@@ -71,17 +77,18 @@ module _ (gs : List Gateway) (i : ℕ) (old next : Gateway) (more : List Op) (is
   held-more (OfPut c p) h = at-more (OfPut c p) p.origin h
   held-more (Ack c origin first last) h = tt
 
-  pub whole-grown : (deltas made : List (List Op)) → AllByRecursion (IsHeld (set gs i next)) more → AllOf (IsHeld (set gs i next)) made → AreMadeOnce (deltas ++ made) → Whole gs deltas → Whole (set gs i next) (deltas ++ made)
-  whole-grown deltas made news listed once w = record {
+  pub whole-grown : (deltas made : List (List Op)) → AllByRecursion (IsHeld (set gs i next)) more → AllOf (IsHeld (set gs i next)) made → AreApart (deltas ++ made) → AllByRecursion IsDelta made → Whole gs deltas → Whole (set gs i next) (deltas ++ made)
+  whole-grown deltas made news listed apart proper w = record {
     each = each-grown (IsHeld (set gs i next)) gs deltas i old next more made is taken news listed (each-weaken (IsHeld gs) (IsHeld (set gs i next)) held-more gs deltas w.each);
-    once = once;
+    apart = apart;
+    proper = all-append IsDelta deltas made w.proper proper;
   }
 
   -- and makes no delta
   pub whole-silent : (deltas made : List (List Op)) → AllByRecursion (IsHeld gs) more → made ≡ [] → Whole gs deltas → Whole (set gs i next) (deltas ++ made)
   whole-silent deltas made news none w =
       subst (λ m. Whole (set gs i next) (deltas ++ m)) (sym none)
-      (whole-grown deltas [] (all-weaken (IsHeld gs) (IsHeld (set gs i next)) held-more more news) tt (subst AreMadeOnce (sym (append-nil deltas)) w.once) w)
+      (whole-grown deltas [] (all-weaken (IsHeld gs) (IsHeld (set gs i next)) held-more more news) tt (subst AreApart (sym (append-nil deltas)) w.apart) tt w)
 
 pub whole-still : (gs : List Gateway) (i : ℕ) (old next : Gateway) (deltas made : List (List Op)) → slice_get gs i ≡ Some old → Still old next made → Whole gs deltas → Whole (set gs i next) (deltas ++ made)
 whole-still gs i old next deltas made is u w = whole-silent gs i old next [] is u.config (u.taken ∙ sym (append-nil old.taken)) deltas made tt u.none w
@@ -106,12 +113,7 @@ pushed-cases : (ds : List (List Op)) (d a : List Op) (i : ℕ) → slice_get (ds
 pushed-cases [] d a zero e = inr (refl, sym (same_Some d a e))
 pushed-cases [] d a (suc i) e = absurd (none-some a e)
 pushed-cases (x ∷ ds) d a zero e = inl e
-pushed-cases (x ∷ ds) d a (suc i) e = elim (pushed-cases ds d a i e) [ | inl before ↦ inl before | inr last ↦ inr (ap suc last.0, last.1) ]
-
-turned : (a b : Op) → HaveName a b → HaveName b a
-turned (OfSession c s k o) (OfSession d t j p) h = (sym h.0, sym h.1, sym h.2)
-turned (OfPut c p) (OfPut d q) h = (sym h.0, sym h.1, sym h.2)
-turned a b h = absurd h
+pushed-cases (x ∷ ds) d a (suc i) e = elim (pushed-cases ds d a i e) [ inl before ↦ inl before | inr last ↦ inr (ap suc last.0, last.1) ]
 
 -- the second of two of one name has the number of the first
 same-number : (a b : Op) (n : ℕ) → HaveName a b → IfSome (number_of b) (λ m. m ≡ n) → IfSome (number_of a) (λ m. m ≡ n)
@@ -157,11 +159,11 @@ module _ (gs : List Gateway) (i : ℕ) (old next : Gateway) (deltas made : List 
       held-apart a b (All-contains (IsHeld gs) one a (All-from_recursion (IsHeld gs) one all) inside) there named
       (same-number a b old.config.gateway named (own-number old next made u b there))
 
-  made-once : AreMadeOnce (deltas ++ u.delta ∷ [])
-  made-once k l one other a b at there inside within named =
+  made-apart : AreApart (deltas ++ u.delta ∷ [])
+  made-apart k l one other a b at there inside within named =
       elim (pushed-cases deltas u.delta one k at) [
         | inl before ↦ elim (pushed-cases deltas u.delta other l there) [
-          | inl too ↦ w.once k l one other a b before too inside within named
+          | inl too ↦ w.apart k l one other a b before too inside within named
           | inr last ↦ absurd (listed-apart k one a b before inside (subst (λ (D : List Op). Contains D b) last.1 within) named)
         ]
         | inr new ↦ elim (pushed-cases deltas u.delta other l there) [
@@ -174,4 +176,4 @@ module _ (gs : List Gateway) (i : ℕ) (old next : Gateway) (deltas made : List 
   whole-stepped =
       let news = all-moved (IsHeld (set gs i next)) u.delta new-held in
       subst (λ m. Whole (set gs i next) (deltas ++ m)) (sym u.one)
-      (whole-grown gs i old next u.delta is u.config u.taken deltas (u.delta ∷ []) news (news, tt) made-once w)
+      (whole-grown gs i old next u.delta is u.config u.taken deltas (u.delta ∷ []) news (news, tt) made-apart (u.proper, tt) w)

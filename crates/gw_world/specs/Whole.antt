@@ -7,9 +7,13 @@ use Rattle.gw_world.specs.Gateways.{Gateway}
 use Rattle.gw_world.specs.Field.{Field, IsAt}
 use Rattle.gw_world.specs.Steps.{HaveName}
 
+-- all operations of the deltas of the field's list
+abbrev pub listed : Field → List Op
+listed field = flat_map (λ (delta : List Op). delta) field.deltas
+
 -- all operations of the field: what its gateways have taken, and what the deltas of its list hold
 abbrev pub everything : Field → List Op
-everything field = flat_map (λ (gateway : Gateway). gateway.taken) field.gateways ++ flat_map (λ (delta : List Op). delta) field.deltas
+everything field = flat_map (λ (gateway : Gateway). gateway.taken) field.gateways ++ listed field
 
 -- the number of the gateway in the operation's name: that of the stamp, or the origin of the message; acknowledgements contradict
 -- nothing, and for them it does not matter who writes them
@@ -26,8 +30,12 @@ StandsAt field op number = (i : ℕ) × (gateway : Gateway) × IsAt field number
 abbrev pub IsHome : Field → Op → Type 0
 IsHome field op = IfSome (number_of op) (λ number. StandsAt field op number)
 
--- no session operation and no message of a delta has a name that stands in another delta
+-- the name of a session operation or message stands in one place of one delta
 abbrev pub AreMadeOnce : List (List Op) → Type 0
 AreMadeOnce deltas =
-    (i j : ℕ) (one other : List Op) (a b : Op) → slice_get deltas i ≡ Some one → slice_get deltas j ≡ Some other
-    → Contains one a → Contains other b → HaveName a b → i ≡ j
+    (i j k l : ℕ) (one other : List Op) (a b : Op) → slice_get deltas i ≡ Some one → slice_get deltas j ≡ Some other
+    → slice_get one k ≡ Some a → slice_get other l ≡ Some b → HaveName a b → (i ≡ j) × (k ≡ l)
+
+-- every delta of the list has reached the gateway: it has taken each of their operations
+abbrev pub HasTakenAll : Field → Gateway → Type 0
+HasTakenAll field gateway = (op : Op) → Contains (listed field) op → Contains gateway.taken op
