@@ -1,0 +1,32 @@
+-- What a gateway makes a plan for: a datagram, or that time goes by.
+use Rattle.std.specs.Prelude.{◌≡◌, ℕ, List, Option}
+use Rattle.sn_frame.specs.declared.frame.Frame.{Frame}
+use Rattle.sn_frame.specs.declared.fault.FrameFault.{FrameFault}
+use Rattle.sn_frame.specs.Bodies.{IsValue}
+use Rattle.sn_frame.specs.Grammar.{Spells}
+use Rattle.sn_frame.specs.Faults.{IsFirstFault}
+use Rattle.sn_flow.specs.declared.config.Addr.{Addr}
+use Rattle.sn_flow.specs.declared.config.Config.{Config}
+use Rattle.sn_flow.specs.declared.plan.Plan.{Plan}
+use Rattle.sn_flow.specs.Plans.{Seen}
+use Rattle.sn_flow.specs.Locals.{Local}
+use Rattle.sn_deliver.specs.Steps.{step}
+use Rattle.sn_deliver.specs.Ticking.{tick}
+
+-- a datagram from an address; or a tick of the clock
+pub data Occasion : Type 0 where
+  Datagram : Addr → List ℕ → Occasion
+  Clock : Occasion
+
+-- the plan for it at a moment, by what the gateway sees: the step table's for the frame that the bytes spell, or that of a tick;
+-- None where a number is needed that was the last
+abbrev pub IsPlanOf : Config → Seen → Local → Occasion → ℕ → Option Plan → Type 0
+IsPlanOf config seen local (Datagram from bytes) now plan =
+    (frame : Frame) × IsValue frame × Spells bytes frame × (step config.gateway config.predefined seen local from frame now ≡ plan)
+IsPlanOf config seen local Clock now plan =
+    tick config.gateway config.advertise config.field config.predefined seen local now ≡ plan
+
+-- the bytes of a datagram are no frame, and this is their first fault
+abbrev pub IsNoFrame : Occasion → FrameFault → Type 0
+IsNoFrame (Datagram from bytes) fault = IsFirstFault bytes fault
+IsNoFrame Clock fault = ⊥
