@@ -1,5 +1,5 @@
 -- A node that is opened.
-use Rattle.std.proofs.Common.{◌≡◌, ℕ, ◌+◌, Bool, true, false, slice_get, List, [], ◌∷◌, ◌++◌, length, take, Option, Some, None, refl, sym, ap, ◌∙◌, subst, arith}
+use Rattle.std.proofs.Common.{◌≡◌, ℕ, ◌+◌, Bool, true, false, slice_get, List, [], ◌∷◌, ◌++◌, length, take, Option, Some, None, Result, Ok, Err, IfOk, IfErr, refl, sym, ap, ◌∙◌, subst, arith}
 use Rattle.std.proofs.lemmas.List.{append-nil}
 use Rattle.rep_ops.specs.declared.op.Op.{Op}
 use Rattle.rep_model.specs.Keep.{CountsAs, IsKeptOf}
@@ -19,7 +19,8 @@ use Rattle.jr_journal.specs.Parts.{disk_of, gateway_of, is_halted as is_stopped}
 use Rattle.gw_node.specs.declared.out.Out.{Out}
 use Rattle.gw_node.specs.declared.refusal.Refusal.{Refusal}
 use Rattle.gw_node.specs.declared.refusal.Refusal.TheVariants as refusals
-use Rattle.gw_node.specs.Parts.{State, is_halted}
+use Rattle.gw_node.specs.declared.node.Node.{Node}
+use Rattle.gw_node.specs.Parts.{State, state_of, is_halted}
 use Rattle.gw_node.specs.Writing.{refusal_of}
 use Rattle.gw_node.specs.Plans.{IsMisfit}
 use Rattle.gw_node.specs.Taking.{ops_of, IsBetween, HasTaken}
@@ -133,3 +134,29 @@ module _ {D : Type 0} {G : Ghosts D} where
         (subst (λ (g : ℕ). (records g (after_crash k l (G.slots (disk_of state.journal))) ≡ deltas) × (fault_of g (after_crash k l (G.slots (disk_of state.journal))) ≡ None)) (sym same) (leaves honest k l))
         (subst (λ (ops : List Op). IsBetween (S ++ J) [] ops) (J_is ∙ ap ops_of (sym is)) (between_again S refused J h));
   }
+
+  -- ---- the answer of an opening
+
+  pub opened_takes : {R Z E : Type 0} (kept : R → List Op) (r : Result (Node R D Z G) E) (gateway : ℕ) (old : Slots) (deltas : List (List Op)) → deltas ≡ records gateway (image old)
+      → IfOk r (λ node. CountsAs (ops_of deltas) (state_of kept node).kept) → IfOk r (λ node. CountsAs (ops_of (records gateway (image old))) (state_of kept node).kept)
+  opened_takes kept (Ok node) gateway old deltas is h = subst (λ (ds : List (List Op)). CountsAs (ops_of ds) (state_of kept node).kept) is h
+  opened_takes kept (Err e) gateway old deltas is h = tt
+
+  pub opened_none : {R Z E : Type 0} (kept : R → List Op) (r : Result (Node R D Z G) E) (gateway : ℕ) (old : Slots) (deltas : List (List Op)) → deltas ≡ records gateway (image old)
+      → IfOk r (λ node. deltas ≡ [] → (state_of kept node).kept ≡ []) → IfOk r (λ node. records gateway (image old) ≡ [] → (state_of kept node).kept ≡ [])
+  opened_none kept (Ok node) gateway old deltas is h = λ none. h (is ∙ none)
+  opened_none kept (Err e) gateway old deltas is h = tt
+
+  pub opened_again : {R Z E : Type 0} (kept : R → List Op) (r : Result (Node R D Z G) E) (journal : Journal D G) (gateway : ℕ) (old : Slots) (deltas : List (List Op))
+      → gateway_of journal ≡ gateway → deltas ≡ records gateway (image old) → Leaves gateway (G.slots (disk_of journal)) deltas
+      → IfOk r (λ node. (state_of kept node).journal ≡ journal) → IfOk r (λ node. CountsAs (ops_of deltas) (state_of kept node).kept)
+      → IfOk r (λ node. (S refused : List Op) → IsBetween S refused (ops_of (records gateway (image old))) → HasTaken (S ++ ops_of (records gateway (image old))) [] (state_of kept node))
+  opened_again kept (Ok node) journal gateway old deltas same is leaves journal_is counts = λ S refused h.
+      taken_again (state_of kept node) gateway old S refused (ops_of (records gateway (image old))) deltas (ap gateway_of journal_is ∙ same) is refl
+      (subst (λ (ds : List (List Op)). CountsAs (ops_of ds) (state_of kept node).kept) is counts)
+      (λ honest. subst (λ (j : Journal D G). Leaves gateway (G.slots (disk_of j)) deltas) (sym journal_is) leaves) h
+  opened_again kept (Err e) journal gateway old deltas same is leaves journal_is counts = tt
+
+  pub opened_leaves : {T F : Type 0} (r : Result T (D × F)) (d : D) (gateway : ℕ) (old : Slots) → LeavesNoMore gateway old (G.slots d) → IfErr r (λ refused. refused.0 ≡ d) → IfErr r (λ refused. LeavesNoMore gateway old (G.slots refused.0))
+  opened_leaves (Ok x) d gateway old h is = tt
+  opened_leaves (Err refused) d gateway old h is = subst (λ (e : D). LeavesNoMore gateway old (G.slots e)) (sym is) h

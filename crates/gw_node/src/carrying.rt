@@ -168,15 +168,15 @@ pub(crate) fn take_in<R: Replica, D: Disk + Drop>(
     if node.journal.is_halted() {
         return Err(Refusal::Halted);
     }
-    let staged = prepare(alloc, &mut node.replica, delta)?;
-    let excuse = Shares::new(alloc, Out::of_sends(alloc, Sequence::empty(alloc)))?;
+    let ready = prepare(alloc, &mut node.replica, delta)?;
+    let nothing = Shares::new(alloc, Out::of_sends(alloc, Sequence::empty(alloc)))?;
     let answer = Shares::new(alloc, Out::of_sends(alloc, Sequence::empty(alloc)))?;
     match write_if_any(alloc, &mut node.journal, delta) {
         Ok(()) => {
-            node.replica.commit(staged);
+            node.replica.commit(ready);
             node.dialogs.keep_owned(node.config.gateway, &node.replica);
             Ok(answer)
         }
-        Err(fault) => Err(refused(fault, excuse)),
+        Err(fault) => Err(refused(fault, nothing)),
     }
 }

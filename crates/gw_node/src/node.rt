@@ -22,7 +22,7 @@ use super::handling::{handle_frame, handle_step, handle_tick, handle_view};
 use super::opening::{not_opened, nothing, start};
 use super::refusal::{Answer, one, three};
 use super::step::Step;
-use jr_journal::{Disk, Journal};
+use jr_journal::{Disk, Journal, MemoryDisk};
 use rep_model::Replica;
 use rep_ops::{ClientId, Delta};
 use sn_flow::{Addr, Config, Dialogs};
@@ -52,6 +52,7 @@ impl<R: Replica, D: Disk + Drop> Node<R, D> {
         // It takes the records of the slots as they were found,
         ensures records { D.honest → IfOk result (λ node. records_of node ≡ length (records config.gateway (image (D.slots disk)))) }
         ensures takes { D.honest → IfOk result (λ node. CountsAs (ops_of (records config.gateway (image (D.slots disk)))) (state_of R.kept node).kept) }
+        ensures none { D.honest → IfOk result (λ node. records config.gateway (image (D.slots disk)) ≡ [] → (state_of R.kept node).kept ≡ []) }
         // beside whatever set it had taken before it stopped.
         ensures restarts { D.honest → IfOk result (λ node. (S refused : List Op) → IsBetween S refused (ops_of (records config.gateway (image (D.slots disk)))) →
             HasTaken (S ++ ops_of (records config.gateway (image (D.slots disk)))) [] (state_of R.kept node)) }
@@ -121,6 +122,13 @@ impl<R: Replica, D: Disk + Drop> Node<R, D> {
         three(handle_step(alloc, self, step))
     }
 
+    /// The gateway's number.
+    pub fn gateway(&self) -> u8
+        ensures { result ≡ (state_of R.kept self.now).config.gateway }
+    {
+        self.config.gateway
+    }
+
     /// Whether a write has failed since the node was opened.
     pub fn is_halted(&self) -> bool
         ensures { result ≡ is_stopped (state_of R.kept self.now) }
@@ -151,5 +159,14 @@ impl<R: Replica, D: Disk + Drop> Node<R, D> {
             Ok(clients) => Ok(clients),
             Err(_) => Err(NodeFault::Memory),
         }
+    }
+}
+
+impl<R: Replica> Node<R, MemoryDisk> {
+    /// Whether memory was refused in the disk.
+    pub fn starved(&self) -> bool
+        ensures { result ≡ (disk_of self.now).starved }
+    {
+        self.journal.starved()
     }
 }

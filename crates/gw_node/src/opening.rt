@@ -31,6 +31,7 @@ fn take_all<R: Replica>(
 ) -> Result<(), Refusal>
     requires { R.kept replica.old ≡ [] }
     ensures ok { OnOk result (CountsAs (ops_of deltas.now) (R.kept replica.new)) }
+    ensures none { OnOk result (deltas.now ≡ [] → R.kept replica.new ≡ []) }
     ensures err { IfErr result (DoNotFit deltas.now) }
 {
     for delta in deltas {
@@ -56,6 +57,7 @@ pub(crate) fn start<R: Replica, D: Disk + Drop>(
     ensures journal { IfOk result (λ node. (state_of R.kept node).journal ≡ journal) }
     ensures records { IfOk result (λ node. records_of node ≡ length deltas.items) }
     ensures takes { IfOk result (λ node. CountsAs (ops_of deltas.items) (state_of R.kept node).kept) }
+    ensures none { IfOk result (λ node. deltas.items ≡ [] → (state_of R.kept node).kept ≡ []) }
     ensures disk { IfErr result (λ refused. refused.0 ≡ disk_under journal) }
     ensures err { IfErr result (λ refused. DoNotFit deltas.items (told refused.1)) }
 {

@@ -8,8 +8,8 @@ ghost use Rattle.sn_flow.specs.declared.config.Config.{Config};
 ghost use Rattle.sn_flow.specs.declared.plan.Plan.{Plan};
 ghost use Rattle.gw_world.specs.declared.event.Event.{Event};
 ghost use Rattle.gw_world.specs.declared.event.Answer.{Answer};
-ghost use Rattle.gw_world.specs.declared.event.NodeFault.TheVariants as faults;
-ghost use Rattle.gw_world.specs.Occasions.{Occasion};
+ghost use Rattle.gw_node.specs.declared.refusal.Refusal.TheVariants as refusals;
+ghost use Rattle.gw_node.specs.Occasions.{Occasion};
 ghost use Rattle.gw_world.specs.Gateways.{Gateway};
 ghost use Rattle.gw_world.specs.Field.{Field, new_field, IsAt, Run};
 ghost use Rattle.gw_world.specs.Steps.{IsPlan, OwnStep};
@@ -21,5 +21,5 @@ ghost use Rattle.gw_world.specs.Steady.{IsSteady};
 pub fn steady_field()
     ensures steady { (configs : List Config) (events : List Event) (answers : List Answer) (field : Field) → Run (new_field configs) events answers field → IsSteady field }
     ensures agrees { (field : Field) (number i : ℕ) (gateway : Gateway) (occasion : Occasion) (now : ℕ) (plan : Plan) (delta : List Op) → IsSteady field → IsAt field number i gateway → IsPlan gateway occasion now (Some plan) → IsDeltaOf plan.ops delta → AllAgree gateway.taken delta }
-    ensures no_conflict { (field : Field) (number i : ℕ) (gateway : Gateway) (occasion : Occasion) (now : ℕ) (client : List ℕ) (new : Gateway) (made : List (List Op)) → IsSteady field → IsAt field number i gateway → OwnStep gateway occasion now (Err (faults.Conflict client)) new made → ⊥ }
+    ensures no_conflict { (field : Field) (number i : ℕ) (gateway : Gateway) (occasion : Occasion) (now : ℕ) (client : List ℕ) (new : Gateway) (made : List (List Op)) → IsSteady field → IsAt field number i gateway → OwnStep gateway occasion now (Err (refusals.Conflict client)) new made → ⊥ }
 {}

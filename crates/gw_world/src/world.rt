@@ -14,10 +14,13 @@ use thiserror::Error;
 /// The result of a run: an answer for each event, the deltas made, numbered from 1, and the gateways in
 /// the order of their configs.
 #[derive(Drop)]
-pub struct World<R> {
+pub struct World<G> {
+    /// An answer for each event.
     pub answers: Sequence<Answer>,
+    /// The deltas made, in the order of making.
     pub deltas: Sequence<Delta>,
-    pub gateways: Sequence<R>,
+    /// The gateways.
+    pub gateways: Sequence<G>,
 }
 
 /// Why a run has no result. Events are numbered from 1.
