@@ -157,6 +157,6 @@ module _ {D : Type 0} {G : Ghosts D} where
       (λ honest. subst (λ (j : Journal D G). Leaves gateway (G.slots (disk_of j)) deltas) (sym journal_is) leaves) h
   opened_again kept (Err e) journal gateway old deltas same is leaves journal_is counts = tt
 
-  pub opened_leaves : {T F : Type 0} (r : Result T (D × F)) (d : D) (gateway : ℕ) (old : Slots) → LeavesNoMore gateway old (G.slots d) → IfErr r (λ refused. refused.0 ≡ d) → IfErr r (λ refused. LeavesNoMore gateway old (G.slots refused.0))
-  opened_leaves (Ok x) d gateway old h is = tt
-  opened_leaves (Err refused) d gateway old h is = subst (λ (e : D). LeavesNoMore gateway old (G.slots e)) (sym is) h
+pub opened_leaves : {D T F : Type 0} (slots : D → Slots) (r : Result T (D × F)) (d : D) (gateway : ℕ) (old : Slots) → LeavesNoMore gateway old (slots d) → IfErr r (λ refused. refused.0 ≡ d) → IfErr r (λ refused. LeavesNoMore gateway old (slots refused.0))
+opened_leaves slots (Ok x) d gateway old h is = tt
+opened_leaves slots (Err refused) d gateway old h is = subst (λ e. LeavesNoMore gateway old (slots e)) (sym is) h

@@ -119,7 +119,11 @@ pub(crate) fn note<R: Replica, D: Disk + Drop>(
     ensures ok { IfOk result (λ out. IsDone (state_of R.kept node.old) plan out (state_of R.kept node.new)) }
     ensures err { IfErr result (λ refusal. (refusal ≡ refusals.Memory) × IsUnchanged (state_of R.kept node.old) (state_of R.kept node.new)) }
 {
-    let Plan { ops: _, sends, local } = plan;
+    let Plan {
+        ops: _,
+        sends,
+        local,
+    } = plan;
     node.dialogs.prepare(local.as_slice())?;
     let answer = Shares::new(alloc, Out::of_sends(alloc, sends))?;
     node.dialogs.commit(local);

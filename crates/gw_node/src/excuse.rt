@@ -6,7 +6,7 @@ ghost use Rattle.sn_frame.specs.Grammar.{total_of};
 ghost use Rattle.gw_node.specs.Excuses.{accepts as would_accept, unpublished as unpublished_of, excuse_of as defined_excuse, excuses as defined_excuses};
 
 use octets::{Octets, Sequence};
-use sn_flow::{Addr, Send, StepFault, Draft, plan_without};
+use sn_flow::{Addr, Draft, Send, StepFault, plan_without};
 use sn_frame::{Flags, Frame, Qos};
 use std::alloc::Global;
 

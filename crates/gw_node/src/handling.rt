@@ -109,7 +109,12 @@ fn carry_for_tick<R: Replica, D: Disk + Drop>(
     if plan.ops.is_empty() {
         return note(alloc, node, plan);
     }
-    carry_out(alloc, node, plan, Out::of_sends(alloc, Sequence::empty(alloc)))
+    carry_out(
+        alloc,
+        node,
+        plan,
+        Out::of_sends(alloc, Sequence::empty(alloc)),
+    )
 }
 
 /// A frame comes from an address at a moment.

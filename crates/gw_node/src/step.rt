@@ -8,21 +8,11 @@ use sn_flow::Addr;
 #[derive(Debug, Drop)]
 pub enum Step {
     /// A datagram comes from an address at a moment.
-    Frame {
-        from: Addr,
-        bytes: Octets,
-        now: u64,
-    },
+    Frame { from: Addr, bytes: Octets, now: u64 },
     /// A delta comes.
-    Take {
-        delta: Delta,
-    },
+    Take { delta: Delta },
     /// Time goes by: a moment.
-    Tick {
-        now: u64,
-    },
+    Tick { now: u64 },
     /// Somebody asks for a client's view.
-    View {
-        client: ClientId,
-    },
+    View { client: ClientId },
 }

@@ -31,12 +31,12 @@ returns-in-Ok-write_if_made g c =
       local = c.commit-in-Ok-write_if_made.ensures ∙ ap (λ l. after_all l c.args.plan.local) c.prepare.ensures.unchanged;
       made = subst (λ (made : Option (List Op)). Makes c.args.plan.ops made old
           (record { config = c.args.node.now.config; kept = g.R.Replica.kept c.commit.new.self; local = c.commit-in-Ok-write_if_made.new.self.local; journal = c.write_if_made.new.journal })) (sym made_is)
-      (makes c.args.plan.ops delta old
-      (record { config = c.args.node.now.config; kept = g.R.Replica.kept c.commit.new.self; local = c.commit-in-Ok-write_if_made.new.self.local; journal = c.write_if_made.new.journal })
-      c.requires.some
-      (subst (λ (ops : List Op). IsDeltaOf ops delta) c.into_vec.ensures c.in-Ok.ensures.ok)
-      c.in_ok-staged.ensures.fits
-      (subst (λ (kept : List Op). IsKeptOf (g.R.Replica.kept c.args.node.now.replica ++ delta) kept) (sym c.commit.ensures) c.in_ok-staged.ensures.taken)
-      (subst (λ (made : Option (List Op)). WrittenIfMade c.args.node.now.journal made (Ok c.in-Ok-write_if_made.field-0) c.write_if_made.new.journal) given_is c.in-Ok-write_if_made.ensures));
+          (makes c.args.plan.ops delta old
+          (record { config = c.args.node.now.config; kept = g.R.Replica.kept c.commit.new.self; local = c.commit-in-Ok-write_if_made.new.self.local; journal = c.write_if_made.new.journal })
+          c.requires.some
+          (subst (λ (ops : List Op). IsDeltaOf ops delta) c.into_vec.ensures c.in-Ok.ensures.ok)
+          c.in_ok-staged.ensures.fits
+          (subst (λ (kept : List Op). IsKeptOf (g.R.Replica.kept c.args.node.now.replica ++ delta) kept) (sym c.commit.ensures) c.in_ok-staged.ensures.taken)
+          (subst (λ (made : Option (List Op)). WrittenIfMade c.args.node.now.journal made (Ok c.in-Ok-write_if_made.field-0) c.write_if_made.new.journal) given_is c.in-Ok-write_if_made.ensures));
       answer = answer_is ∙ ap (λ (made : Option (List Op)). record (only_sends c.args.plan.sends) { made = made }) (sym made_is);
     }

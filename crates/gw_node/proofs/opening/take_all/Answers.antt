@@ -17,8 +17,7 @@ loop-delta-preserved g c =
     let kept = g.R.Replica.kept c.loop-delta.replica in
     let next = g.R.Replica.kept c.commit.new.self in
     let more : take (c.loop-delta.delta-index + 1) c.args.deltas.now ≡ before ++ delta ∷ [] =
-    take_more c.args.deltas.now c.loop-delta.delta-index delta c.loop-delta-test.true ∙ ap (λ x. before ++ x ∷ []) (sym c.delta-item.is) in
-    (
+    take_more c.args.deltas.now c.loop-delta.delta-index delta c.loop-delta-test.true ∙ ap (λ x. before ++ x ∷ []) (sym c.delta-item.is) in (
       subst (λ (ds : List (List Op)). CountsAs (ops_of ds) next) (sym more)
           (counts_one_more before delta kept next c.loop-delta.invariant.0
           (subst (λ (K : List Op). IsKeptOf (kept ++ delta) K) (sym c.commit.ensures) c.in-Ok.ensures.taken)),

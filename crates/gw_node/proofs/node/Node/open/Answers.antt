@@ -24,7 +24,7 @@ returns-in-Ok-open-clause-restarts g c = λ honest.
 
 pub returns-in-Ok-open-clause-leaves : goal.returns-in-Ok-open-clause-leaves
 returns-in-Ok-open-clause-leaves g c = λ honest.
-    opened_leaves {G = g.D.Disk} c.start.result (disk_of c.in-Ok-open.journal) c.args.config.gateway (g.D.Disk.slots c.args.disk)
+    opened_leaves g.D.Disk.slots c.start.result (disk_of c.in-Ok-open.journal) c.args.config.gateway (g.D.Disk.slots c.args.disk)
     (leaves_no_more c.args.config.gateway (g.D.Disk.slots c.args.disk) (g.D.Disk.slots (disk_of c.in-Ok-open.journal)) c.in-Ok-open.deltas.items (c.in-Ok-open.ensures.records honest)
     (c.in-Ok-open.ensures.found honest) (c.in-Ok-open.ensures.durable honest))
     c.start.ensures.disk
