@@ -17,6 +17,8 @@
 mod bytes;
 mod command;
 mod fault;
+#[cfg(test)]
+mod journal_tests;
 mod number;
 mod play;
 mod printing;

@@ -16,10 +16,12 @@ use Rattle.gw_world.specs.declared.event.Event.{Event}
 use Rattle.gw_world.specs.declared.event.Event.TheVariants.{Frame, Tick, Take, Show}
 use Rattle.gw_world.specs.declared.event.Answer.{Answer}
 use Rattle.gw_world.specs.declared.event.Answer.TheVariants.{Node, Views}
-use Rattle.gw_world.specs.declared.event.Out.{Out}
-use Rattle.gw_world.specs.declared.event.NodeFault.{NodeFault}
-use Rattle.gw_world.specs.declared.event.NodeFault.TheVariants as faults
-use Rattle.gw_world.specs.Occasions.{Occasion, Datagram, Clock}
+use Rattle.gw_node.specs.declared.out.Out.{Out}
+use Rattle.gw_node.specs.declared.refusal.Refusal.{Refusal}
+use Rattle.gw_node.specs.Parts.{said}
+use Rattle.gw_node.specs.declared.refusal.Refusal.TheVariants as refusals
+use Rattle.gw_node.specs.declared.fault.NodeFault.TheVariants as faults
+use Rattle.gw_node.specs.Occasions.{Occasion, Datagram, Clock}
 use Rattle.gw_world.specs.Gateways.{Gateway, new_gateway}
 use Rattle.gw_world.specs.Field.{Field, new_field, IsAt, IsDeltaAt, changed, After, Run}
 use Rattle.gw_world.specs.Steps.{HaveName, IsConflict, OwnStep, TakeStep}
@@ -35,9 +37,13 @@ abbrev pub WholeField : Field → Type 0
 WholeField field = Whole field.gateways field.deltas
 
 -- the answer is no Conflict
+abbrev pub IsAtPeace : Result Out Refusal → Type 0
+IsAtPeace (Err (refusals.Conflict client)) = ⊥
+IsAtPeace answer = Unit {0}
+
 abbrev pub IsPeaceful : Answer → Type 0
-IsPeaceful (Node (Err (faults.Conflict client))) = ⊥
-IsPeaceful answer = Unit {0}
+IsPeaceful (Node answer) = IsAtPeace (said answer)
+IsPeaceful (Views views) = Unit {0}
 
 -- ---- what one event does
 
@@ -54,17 +60,21 @@ module _ (field : Field) (s : SteadyField field) (w : WholeField field) (n i : �
   whole-moved next made (inl u) = whole-still field.gateways i old next field.deltas made at.1 u w
   whole-moved next made (inr u) = whole-stepped field.gateways i old next field.deltas made at.1 own-first (s.flush old.config.gateway i old own-first at.1) u w
 
-  whole-taken : (next : Gateway) (made : List (List Op)) (k : ℕ) (delta : List Op) (answer : Result Out NodeFault) → slice_get field.deltas k ≡ Some delta → TakeStep old delta answer next made → WholeField (changed field i next made)
+  whole-taken : (next : Gateway) (made : List (List Op)) (k : ℕ) (delta : List Op) (answer : Result Out Refusal) → slice_get field.deltas k ≡ Some delta → TakeStep old delta answer next made → WholeField (changed field i next made)
   whole-taken next made k delta (Err fault) there h = whole-still field.gateways i old next field.deltas made at.1 (still old next made h.1) w
   whole-taken next made k delta (Ok out) there h =
       whole-silent field.gateways i old next delta at.1 (ap (λ (x : Gateway). x.config) h.4) (ap (λ (x : Gateway). x.taken) h.4) field.deltas made (listed k delta there) h.3 w
 
-  own-peaceful : (occasion : Occasion) (now : ℕ) (answer : Result Out NodeFault) (next : Gateway) (made : List (List Op)) → OwnStep old occasion now answer next made → IsPeaceful (Node answer)
+  own-peaceful : (occasion : Occasion) (now : ℕ) (answer : Result Out Refusal) (next : Gateway) (made : List (List Op)) → OwnStep old occasion now answer next made → IsAtPeace answer
   own-peaceful occasion now (Ok out) next made h = tt
-  own-peaceful occasion now (Err (faults.Frame fault)) next made h = tt
-  own-peaceful occasion now (Err (faults.Conflict client)) next made h = no-conflict field n i old occasion now client next made (steady-is field s) at h
-  own-peaceful occasion now (Err faults.Full) next made h = tt
-  own-peaceful occasion now (Err faults.Exhausted) next made h = tt
+  own-peaceful occasion now (Err (refusals.Frame fault)) next made h = tt
+  own-peaceful occasion now (Err (refusals.Conflict client)) next made h = no-conflict field n i old occasion now client next made (steady-is field s) at h
+  own-peaceful occasion now (Err refusals.Full) next made h = tt
+  own-peaceful occasion now (Err refusals.Exhausted) next made h = tt
+  own-peaceful occasion now (Err refusals.Halted) next made h = tt
+  own-peaceful occasion now (Err (refusals.Disk excuse)) next made h = tt
+  own-peaceful occasion now (Err (refusals.Journal fault)) next made h = tt
+  own-peaceful occasion now (Err refusals.Memory) next made h = tt
 
   -- a listed delta has nothing that differs from what the gateway has under its name
   listed-peaceful : (k : ℕ) (delta : List Op) (client : List ℕ) → slice_get field.deltas k ≡ Some delta → IsConflict old.taken delta client → ⊥
@@ -74,12 +84,16 @@ module _ (field : Field) (s : SteadyField field) (w : WholeField field) (n i : �
       (All-contains (IsHeld field.gateways) delta x.new (All-from_recursion (IsHeld field.gateways) delta (listed k delta there)) x.is_new)
       x.named)
 
-  take-peaceful : (k : ℕ) (delta : List Op) (answer : Result Out NodeFault) (next : Gateway) (made : List (List Op)) → slice_get field.deltas k ≡ Some delta → TakeStep old delta answer next made → IsPeaceful (Node answer)
+  take-peaceful : (k : ℕ) (delta : List Op) (answer : Result Out Refusal) (next : Gateway) (made : List (List Op)) → slice_get field.deltas k ≡ Some delta → TakeStep old delta answer next made → IsAtPeace answer
   take-peaceful k delta (Ok out) next made there h = tt
-  take-peaceful k delta (Err (faults.Frame fault)) next made there h = tt
-  take-peaceful k delta (Err (faults.Conflict client)) next made there h = listed-peaceful k delta client there h.0
-  take-peaceful k delta (Err faults.Full) next made there h = tt
-  take-peaceful k delta (Err faults.Exhausted) next made there h = tt
+  take-peaceful k delta (Err (refusals.Frame fault)) next made there h = tt
+  take-peaceful k delta (Err (refusals.Conflict client)) next made there h = listed-peaceful k delta client there h.0
+  take-peaceful k delta (Err refusals.Full) next made there h = tt
+  take-peaceful k delta (Err refusals.Exhausted) next made there h = tt
+  take-peaceful k delta (Err refusals.Halted) next made there h = tt
+  take-peaceful k delta (Err (refusals.Disk excuse)) next made there h = tt
+  take-peaceful k delta (Err (refusals.Journal fault)) next made there h = tt
+  take-peaceful k delta (Err refusals.Memory) next made there h = tt
 
 pub record Sound (new : Field) (answer : Answer) : Type 0 where
   pub whole : WholeField new
@@ -87,16 +101,16 @@ pub record Sound (new : Field) (answer : Answer) : Type 0 where
 
 after-sound : (old : Field) (event : Event) (answer : Answer) (new : Field) → After old event answer new → SteadyField old → WholeField old → Sound new answer
 after-sound old (Frame number from bytes now) (Node answer) new h s w = record {
-  whole = subst WholeField (sym h.6) (whole-moved old s w number h.0 h.1 h.4 h.2 h.3 (own-moves h.1 (Datagram from bytes) now answer h.2 h.3 h.5));
-  peaceful = own-peaceful old s w number h.0 h.1 h.4 (Datagram from bytes) now answer h.2 h.3 h.5;
+  whole = subst WholeField (sym h.6) (whole-moved old s w number h.0 h.1 h.4 h.2 h.3 (own-moves h.1 (Datagram from bytes) now (said answer) h.2 h.3 h.5));
+  peaceful = own-peaceful old s w number h.0 h.1 h.4 (Datagram from bytes) now (said answer) h.2 h.3 h.5;
 }
 after-sound old (Tick number now) (Node answer) new h s w = record {
-  whole = subst WholeField (sym h.6) (whole-moved old s w number h.0 h.1 h.4 h.2 h.3 (own-moves h.1 Clock now answer h.2 h.3 h.5));
-  peaceful = own-peaceful old s w number h.0 h.1 h.4 Clock now answer h.2 h.3 h.5;
+  whole = subst WholeField (sym h.6) (whole-moved old s w number h.0 h.1 h.4 h.2 h.3 (own-moves h.1 Clock now (said answer) h.2 h.3 h.5));
+  peaceful = own-peaceful old s w number h.0 h.1 h.4 Clock now (said answer) h.2 h.3 h.5;
 }
 after-sound old (Take number delta) (Node answer) new h s w = record {
-  whole = subst WholeField (sym h.8) (whole-taken old s w number h.0 h.1 h.5 h.2 h.3 (delta - 1) h.4 answer h.6.1 h.7);
-  peaceful = take-peaceful old s w number h.0 h.1 h.5 (delta - 1) h.4 answer h.2 h.3 h.6.1 h.7;
+  whole = subst WholeField (sym h.8) (whole-taken old s w number h.0 h.1 h.5 h.2 h.3 (delta - 1) h.4 (said answer) h.6.1 h.7);
+  peaceful = take-peaceful old s w number h.0 h.1 h.5 (delta - 1) h.4 (said answer) h.2 h.3 h.6.1 h.7;
 }
 after-sound old (Show number) (Views views) new h s w = record { whole = subst WholeField (sym h.4) w; peaceful = tt }
 after-sound old (Frame number from bytes now) (Views views) new h s w = absurd h
@@ -181,7 +195,7 @@ field-agrees configs events answers field gateway delta h in_field in_list =
     let agrees = delta-agrees field (field-whole configs events answers field h).0 gateway delta in_field in_list in
     (agrees, all-weaken (Agrees gateway.taken) (Agrees (keep gateway.taken)) (agrees_with_kept gateway.taken) delta agrees)
 
-pub field-no_conflict : (configs : List Config) (events : List Event) (answers : List Answer) (field : Field) (number i k : ℕ) (gateway : Gateway) (delta : List Op) (client : List ℕ) (new : Gateway) (made : List (List Op)) → Run (new_field configs) events answers field → IsAt field number i gateway → IsDeltaAt field k delta → TakeStep gateway delta (Err (faults.Conflict client)) new made → ⊥
+pub field-no_conflict : (configs : List Config) (events : List Event) (answers : List Answer) (field : Field) (number i k : ℕ) (gateway : Gateway) (delta : List Op) (client : List ℕ) (new : Gateway) (made : List (List Op)) → Run (new_field configs) events answers field → IsAt field number i gateway → IsDeltaAt field k delta → TakeStep gateway delta (Err (refusals.Conflict client)) new made → ⊥
 field-no_conflict configs events answers field number i k gateway delta client new made h at there step =
     let w = (field-whole configs events answers field h).0 in
     let alike = λ (old new : Op) (is_old : Contains gateway.taken old) (is_new : Contains delta new) (named : HaveName old new).

@@ -11,9 +11,12 @@ use Rattle.gw_world.specs.declared.event.Answer.{Answer}
 use Rattle.gw_world.specs.declared.event.Answer.TheVariants.{Node, Views}
 use Rattle.gw_world.specs.declared.world.WorldFault.{WorldFault}
 use Rattle.gw_world.specs.declared.world.WorldFault.TheVariants as stops
-use Rattle.gw_world.specs.Occasions.{Occasion, Datagram, Clock}
-use Rattle.gw_world.specs.declared.event.Out.{Out}
-use Rattle.gw_world.specs.declared.event.NodeFault.{NodeFault}
+use Rattle.gw_node.specs.Occasions.{Occasion, Datagram, Clock}
+use Rattle.std.specs.declared.sync.Arc.{Arc}
+use Rattle.std.specs.declared.alloc.Global.{Global}
+use Rattle.gw_node.specs.declared.out.Out.{Out}
+use Rattle.gw_node.specs.declared.fault.NodeFault.{NodeFault}
+use Rattle.gw_node.specs.Parts.{said}
 use Rattle.gw_world.specs.Gateways.{Gateway, new_gateway, place_from, place_of}
 use Rattle.gw_world.specs.Field.{Field, new_field, Steps, After, Run, NamesNoDelta, shown, gateway_of}
 use Rattle.gw_world.specs.Events.{made_of, Moves, OwnAnswered, EventKept, RunKept, StopsKept, IsStopKept, IsMissing}
@@ -69,18 +72,18 @@ module _ (field : Field) (ks : List Gateway) (s : AreShown field.gateways ks) wh
       subst (λ xs. AreShown (set field.gateways i next) xs) (sym moves.moved)
       (shown_set field.gateways ks i next new s (record { configured = moves.configured ∙ shown.configured; bound = shown.bound; keeps = shown.keeps }))
 
-  own_reaches : (deltas : List (List Op)) (listed : field.deltas ≡ deltas) (event : Event) (occasion : Occasion) (now : ℕ) (news : List Gateway) (next : List (List Op)) (answer : Result Out NodeFault)
-      → ((new : Field) → Steps field (gateway_of event) occasion now answer new → After field event (Node answer) new)
+  own_reaches : (deltas : List (List Op)) (listed : field.deltas ≡ deltas) (event : Event) (occasion : Occasion) (now : ℕ) (news : List Gateway) (next : List (List Op)) (answer : Result (Arc Out Global) NodeFault)
+      → ((new : Field) → Steps field (gateway_of event) occasion now (said answer) new → After field event (Node answer) new)
       → ((i : ℕ) × (place_of (gateway_of event) ks ≡ Some i) × OwnAnswered ks deltas i occasion now news next (Node answer)) → Reaches field event (Node answer) news next
   own_reaches deltas listed event occasion now news next answer is (i, place, ((old, new, moves, kept), is_next)) =
       let at = shown_at field.gateways ks i old s moves.place in
-      let leads = own_taken at.gateway old at.shown occasion now answer new.taken new.local kept in
-      let field_after : Field = record { gateways = set field.gateways i leads.next; deltas = field.deltas ++ made_of answer } in
+      let leads = own_taken at.gateway old at.shown occasion now (said answer) new.taken new.local kept in
+      let field_after : Field = record { gateways = set field.gateways i leads.next; deltas = field.deltas ++ made_of (said answer) } in
       record {
         new = field_after;
-        after = is field_after (i, at.gateway, leads.next, made_of answer, (place_there (gateway_of event) i place, at.place), leads.step, refl);
+        after = is field_after (i, at.gateway, leads.next, made_of (said answer), (place_there (gateway_of event) i place, at.place), leads.step, refl);
         shown = moved i old new leads.next news moves leads.shown;
-        listed = ap (λ ds. ds ++ made_of answer) listed ∙ sym is_next;
+        listed = ap (λ ds. ds ++ made_of (said answer)) listed ∙ sym is_next;
       }
 
   pub event_reaches : (deltas : List (List Op)) (listed : field.deltas ≡ deltas) (event : Event) (news : List Gateway) (next : List (List Op)) (answer : Answer)
@@ -89,7 +92,7 @@ module _ (field : Field) (ks : List Gateway) (s : AreShown field.gateways ks) wh
   event_reaches deltas listed (Tick n now) news next (Node answer) h = own_reaches deltas listed (Tick n now) Clock now news next answer (λ new after. after) h
   event_reaches deltas listed (Take n delta) news next (Node answer) (i, place, (ops, (one, there), (old, new, moves, kept), is_next)) =
       let at = shown_at field.gateways ks i old s moves.place in
-      let leads = take_taken at.gateway old at.shown ops answer new.taken new.local kept in
+      let leads = take_taken at.gateway old at.shown ops (said answer) new.taken new.local kept in
       record {
         new = record { gateways = set field.gateways i leads.next; deltas = field.deltas ++ [] };
         after = (i, at.gateway, leads.next, [], ops, (place_there n i place, at.place), (one, ap (λ ds. slice_get ds (delta - 1)) listed ∙ there), leads.step, refl);
@@ -206,3 +209,7 @@ world_from_start held replica_of kept same configs events answers ks ds deltas n
       all = ap length are ∙ length_shown held replica_of end.0.gateways nodes end.2;
       views = λ i gateway replica e f c. views_shown held replica_of kept same end.0.gateways nodes end.2 i gateway replica e (ap (λ rs. slice_get rs i) (sym are) ∙ f) c;
     }
+
+pub same_list : {X : Type 0} (xs : List X) → xs ≡ map (λ x. x) xs
+same_list [] = refl
+same_list (x ∷ xs) = ap (λ ys. x ∷ ys) (same_list xs)

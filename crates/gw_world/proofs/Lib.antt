@@ -1,5 +1,6 @@
 pub mod Occurring
 pub mod Held
+pub mod Calmness
 pub mod Moving
 pub mod Shown
 pub mod Fields

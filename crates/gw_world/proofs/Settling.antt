@@ -13,9 +13,10 @@ use Rattle.gw_world.specs.declared.event.Event.{Event}
 use Rattle.gw_world.specs.declared.event.Event.TheVariants.{Frame, Tick, Take, Show}
 use Rattle.gw_world.specs.declared.event.Answer.{Answer}
 use Rattle.gw_world.specs.declared.event.Answer.TheVariants.{Node, Views}
-use Rattle.gw_world.specs.declared.event.Out.{Out}
-use Rattle.gw_world.specs.declared.event.NodeFault.{NodeFault}
-use Rattle.gw_world.specs.Occasions.{Datagram, Clock}
+use Rattle.gw_node.specs.declared.out.Out.{Out}
+use Rattle.gw_node.specs.declared.refusal.Refusal.{Refusal}
+use Rattle.gw_node.specs.Parts.{said}
+use Rattle.gw_node.specs.Occasions.{Datagram, Clock}
 use Rattle.gw_world.specs.Gateways.{Gateway}
 use Rattle.gw_world.specs.Field.{Field, new_field, changed, After, Run, shown}
 use Rattle.gw_world.specs.Steps.{TakeStep}
@@ -52,17 +53,17 @@ module _ (field : Field) (w : AreListed field) (i : ℕ) (old next : Gateway) (m
   listed-moved (inl u) = listed-more [] (u.taken ∙ sym (append-nil old.taken)) tt
   listed-moved (inr u) = listed-more u.delta u.taken (subst (λ m. AllOf (IsListed (field.deltas ++ made)) m) u.one (all-made field.deltas made)).0
 
-  listed-taken : (k : ℕ) (delta : List Op) (answer : Result Out NodeFault) → slice_get field.deltas k ≡ Some delta → TakeStep old delta answer next made → AreListed (changed field i next made)
+  listed-taken : (k : ℕ) (delta : List Op) (answer : Result Out Refusal) → slice_get field.deltas k ≡ Some delta → TakeStep old delta answer next made → AreListed (changed field i next made)
   listed-taken k delta (Err fault) there h = listed-moved (inl (still old next made h.1))
   listed-taken k delta (Ok out) there h = listed-more delta (ap (λ (x : Gateway). x.taken) h.4) (all-at (λ (D : List Op). AllByRecursion (IsListed (field.deltas ++ made)) D) field.deltas k delta still-listed.lists there)
 
 after-listed : (old : Field) (event : Event) (answer : Answer) (new : Field) → After old event answer new → AreListed old → AreListed new
 after-listed old (Frame number from bytes now) (Node answer) new h w =
-    subst AreListed (sym h.6) (listed-moved old w h.0 h.1 h.2 h.3 h.4.1 (own-moves h.1 (Datagram from bytes) now answer h.2 h.3 h.5))
+    subst AreListed (sym h.6) (listed-moved old w h.0 h.1 h.2 h.3 h.4.1 (own-moves h.1 (Datagram from bytes) now (said answer) h.2 h.3 h.5))
 after-listed old (Tick number now) (Node answer) new h w =
-    subst AreListed (sym h.6) (listed-moved old w h.0 h.1 h.2 h.3 h.4.1 (own-moves h.1 Clock now answer h.2 h.3 h.5))
+    subst AreListed (sym h.6) (listed-moved old w h.0 h.1 h.2 h.3 h.4.1 (own-moves h.1 Clock now (said answer) h.2 h.3 h.5))
 after-listed old (Take number delta) (Node answer) new h w =
-    subst AreListed (sym h.8) (listed-taken old w h.0 h.1 h.2 h.3 h.5.1 (delta - 1) h.4 answer h.6.1 h.7)
+    subst AreListed (sym h.8) (listed-taken old w h.0 h.1 h.2 h.3 h.5.1 (delta - 1) h.4 (said answer) h.6.1 h.7)
 after-listed old (Show number) (Views views) new h w = subst AreListed (sym h.4) w
 after-listed old (Frame number from bytes now) (Views views) new h w = absurd h
 after-listed old (Tick number now) (Views views) new h w = absurd h

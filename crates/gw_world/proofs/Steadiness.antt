@@ -22,10 +22,11 @@ use Rattle.gw_world.specs.declared.event.Event.{Event}
 use Rattle.gw_world.specs.declared.event.Event.TheVariants.{Frame, Tick, Take, Show}
 use Rattle.gw_world.specs.declared.event.Answer.{Answer}
 use Rattle.gw_world.specs.declared.event.Answer.TheVariants.{Node, Views}
-use Rattle.gw_world.specs.declared.event.Out.{Out}
-use Rattle.gw_world.specs.declared.event.NodeFault.{NodeFault}
-use Rattle.gw_world.specs.declared.event.NodeFault.TheVariants as faults
-use Rattle.gw_world.specs.Occasions.{Occasion, Datagram, Clock}
+use Rattle.gw_node.specs.declared.out.Out.{Out}
+use Rattle.gw_node.specs.declared.refusal.Refusal.{Refusal}
+use Rattle.gw_node.specs.declared.refusal.Refusal.TheVariants as refusals
+use Rattle.gw_node.specs.Parts.{said}
+use Rattle.gw_node.specs.Occasions.{Occasion, Datagram, Clock}
 use Rattle.gw_world.specs.Gateways.{Gateway, new_gateway}
 use Rattle.gw_world.specs.Field.{Field, new_field, IsAt, changed, After, Run}
 use Rattle.gw_world.specs.Steps.{HaveName, IsUnchanged, IsMade, IsPlan, OwnStep, TakeStep}
@@ -73,12 +74,16 @@ plan-drafted : (old : Gateway) (occasion : Occasion) (now : ℕ) (plan : Plan) �
 plan-drafted old (Datagram from bytes) now plan h = step-drafted old.config.gateway old.config.predefined old.taken old.local from h.0 now plan h.3
 plan-drafted old Clock now plan h = tick-drafted old.config.gateway old.config.advertise old.config.field old.config.predefined old.taken old.local now plan h
 
-pub own-moves : (old : Gateway) (occasion : Occasion) (now : ℕ) (answer : Result Out NodeFault) (new : Gateway) (made : List (List Op)) → OwnStep old occasion now answer new made → Still old new made ⊎ Stepped old new made
+pub own-moves : (old : Gateway) (occasion : Occasion) (now : ℕ) (answer : Result Out Refusal) (new : Gateway) (made : List (List Op)) → OwnStep old occasion now answer new made → Still old new made ⊎ Stepped old new made
 own-moves old occasion now (Ok out) new made h = made-moves old h.0 h.0.ops out.made new made (plan-drafted old occasion now h.0 h.1) refl h.2.1
-own-moves old occasion now (Err (faults.Frame fault)) new made h = inl (still old new made h.1)
-own-moves old occasion now (Err faults.Exhausted) new made h = inl (still old new made h.1)
-own-moves old occasion now (Err (faults.Conflict client)) new made h = inl (still old new made h.3)
-own-moves old occasion now (Err faults.Full) new made h = inl (still old new made h.3)
+own-moves old occasion now (Err (refusals.Frame fault)) new made h = inl (still old new made h.1)
+own-moves old occasion now (Err refusals.Exhausted) new made h = inl (still old new made h.1)
+own-moves old occasion now (Err (refusals.Conflict client)) new made h = inl (still old new made h.3)
+own-moves old occasion now (Err refusals.Full) new made h = inl (still old new made h.3)
+own-moves old occasion now (Err refusals.Halted) new made h = absurd h
+own-moves old occasion now (Err (refusals.Disk excuse)) new made h = absurd h
+own-moves old occasion now (Err (refusals.Journal fault)) new made h = absurd h
+own-moves old occasion now (Err refusals.Memory) new made h = absurd h
 
 -- the same, by the first gateway of each number
 pub record Steady (gateways : List Gateway) (deltas : List (List Op)) : Type 0 where
@@ -129,7 +134,7 @@ module _ (field : Field) (s : Steady field.gateways field.deltas) (n i : ℕ) (o
   updated-moved next made (inl u) = updated-still next made u
   updated-moved next made (inr u) = updated-stepped next made u
 
-  updated-taken : (next : Gateway) (made : List (List Op)) (k : ℕ) (delta : List Op) (answer : Result Out NodeFault) → slice_get field.deltas k ≡ Some delta → TakeStep old delta answer next made → Steady (changed field i next made).gateways (changed field i next made).deltas
+  updated-taken : (next : Gateway) (made : List (List Op)) (k : ℕ) (delta : List Op) (answer : Result Out Refusal) → slice_get field.deltas k ≡ Some delta → TakeStep old delta answer next made → Steady (changed field i next made).gateways (changed field i next made).deltas
   updated-taken next made k delta (Err fault) there h = updated-still next made (still old next made h.1)
   updated-taken next made k delta (Ok out) there h =
       let taken : next.taken ≡ old.taken ++ delta = ap (λ (x : Gateway). x.taken) h.4 in
@@ -202,7 +207,7 @@ plan-agrees field number i gateway occasion now plan delta s at h d =
     (step-fits gateway.config.gateway gateway.taken plan (plan-drafted gateway occasion now plan h) delta d.same
     (λ c. subst (λ k. IsFlush k c gateway.taken) (sym own) (s.flush number i gateway at c))).0
 
-pub no-conflict : (field : Field) (number i : ℕ) (gateway : Gateway) (occasion : Occasion) (now : ℕ) (client : List ℕ) (new : Gateway) (made : List (List Op)) → IsSteady field → IsAt field number i gateway → OwnStep gateway occasion now (Err (faults.Conflict client)) new made → ⊥
+pub no-conflict : (field : Field) (number i : ℕ) (gateway : Gateway) (occasion : Occasion) (now : ℕ) (client : List ℕ) (new : Gateway) (made : List (List Op)) → IsSteady field → IsAt field number i gateway → OwnStep gateway occasion now (Err (refusals.Conflict client)) new made → ⊥
 no-conflict field number i gateway occasion now client new made s at h =
     let own : gateway.config.gateway ≡ number = first-number number i field.gateways gateway (place_of-first number i field.gateways at.0) at.1 in
     let conflict = h.2.2 in

@@ -8,9 +8,10 @@ use Rattle.gw_world.specs.declared.event.Event.{Event}
 use Rattle.gw_world.specs.declared.event.Event.TheVariants.{Frame, Tick, Take, Show}
 use Rattle.gw_world.specs.declared.event.Answer.{Answer}
 use Rattle.gw_world.specs.declared.event.Answer.TheVariants.{Node, Views}
-use Rattle.gw_world.specs.declared.event.Out.{Out}
-use Rattle.gw_world.specs.declared.event.NodeFault.{NodeFault}
-use Rattle.gw_world.specs.Occasions.{Datagram, Clock}
+use Rattle.gw_node.specs.declared.out.Out.{Out}
+use Rattle.gw_node.specs.declared.refusal.Refusal.{Refusal}
+use Rattle.gw_node.specs.Parts.{said}
+use Rattle.gw_node.specs.Occasions.{Datagram, Clock}
 use Rattle.gw_world.specs.Gateways.{Gateway}
 use Rattle.gw_world.specs.Field.{Field, IsAt, changed, After, gateway_of}
 use Rattle.gw_world.specs.Steps.{TakeStep}
@@ -52,18 +53,18 @@ module _ (field : Field) (n : ℕ) where
     written-moved (inl u) = written-still u
     written-moved (inr u) = written-stepped u
 
-    written-taken : (k : ℕ) (delta : List Op) (answer : Result Out NodeFault) → slice_get field.deltas k ≡ Some delta → TakeStep old delta answer next made → HasWritten (changed field i next made)
+    written-taken : (k : ℕ) (delta : List Op) (answer : Result Out Refusal) → slice_get field.deltas k ≡ Some delta → TakeStep old delta answer next made → HasWritten (changed field i next made)
     written-taken k delta (Err fault) there h = written-still (still old next made h.1)
     written-taken k delta (Ok out) there h =
         written-more delta (ap (λ (x : Gateway). x.taken) h.4) h.3 (all-at (λ (D : List Op). AllByRecursion (IsBeforeOrOf field n) D) field.deltas k delta before.lists there)
 
 after-written : (old new : Field) (event : Event) (answer : Answer) → After old event answer new → HasWritten old (gateway_of event) new
 after-written old new (Frame number from bytes now) (Node answer) h =
-    subst (HasWritten old number) (sym h.6) (written-moved old number h.0 h.1 h.2 h.3 h.4 (own-moves h.1 (Datagram from bytes) now answer h.2 h.3 h.5))
+    subst (HasWritten old number) (sym h.6) (written-moved old number h.0 h.1 h.2 h.3 h.4 (own-moves h.1 (Datagram from bytes) now (said answer) h.2 h.3 h.5))
 after-written old new (Tick number now) (Node answer) h =
-    subst (HasWritten old number) (sym h.6) (written-moved old number h.0 h.1 h.2 h.3 h.4 (own-moves h.1 Clock now answer h.2 h.3 h.5))
+    subst (HasWritten old number) (sym h.6) (written-moved old number h.0 h.1 h.2 h.3 h.4 (own-moves h.1 Clock now (said answer) h.2 h.3 h.5))
 after-written old new (Take number delta) (Node answer) h =
-    subst (HasWritten old number) (sym h.8) (written-taken old number h.0 h.1 h.2 h.3 h.5 (delta - 1) h.4 answer h.6.1 h.7)
+    subst (HasWritten old number) (sym h.8) (written-taken old number h.0 h.1 h.2 h.3 h.5 (delta - 1) h.4 (said answer) h.6.1 h.7)
 after-written old new (Show number) (Views views) h = subst (HasWritten old number) (sym h.4) (before old number)
 after-written old new (Frame number from bytes now) (Views views) h = absurd h
 after-written old new (Tick number now) (Views views) h = absurd h

@@ -11,8 +11,9 @@ ghost use Rattle.sn_flow.specs.declared.plan.Plan.{Plan};
 ghost use Rattle.gw_world.specs.declared.event.Event.{Event};
 ghost use Rattle.gw_world.specs.declared.event.Answer.{Answer};
 ghost use Rattle.gw_world.specs.declared.event.Answer.TheVariants.{Node};
-ghost use Rattle.gw_world.specs.declared.event.NodeFault.TheVariants as faults;
-ghost use Rattle.gw_world.specs.Occasions.{Occasion};
+ghost use Rattle.gw_node.specs.declared.fault.NodeFault.TheVariants as faults;
+ghost use Rattle.gw_node.specs.declared.refusal.Refusal.TheVariants as refusals;
+ghost use Rattle.gw_node.specs.Occasions.{Occasion};
 ghost use Rattle.gw_world.specs.Gateways.{Gateway};
 ghost use Rattle.gw_world.specs.Field.{Field, new_field, IsAt, IsDeltaAt, After, Run, gateway_of, shown};
 ghost use Rattle.gw_world.specs.Steps.{IsPlan, OwnStep, TakeStep};
@@ -25,7 +26,7 @@ ghost use Rattle.gw_world.specs.Whole.{listed, everything, number_of, IsHome, Ar
 pub fn steady_field()
     ensures steady { (configs : List Config) (events : List Event) (answers : List Answer) (field : Field) → Run (new_field configs) events answers field → IsSteady field }
     ensures agrees { (field : Field) (number i : ℕ) (gateway : Gateway) (occasion : Occasion) (now : ℕ) (plan : Plan) (delta : List Op) → IsSteady field → IsAt field number i gateway → IsPlan gateway occasion now (Some plan) → IsDeltaOf plan.ops delta → AllAgree gateway.taken delta }
-    ensures no_conflict { (field : Field) (number i : ℕ) (gateway : Gateway) (occasion : Occasion) (now : ℕ) (client : List ℕ) (new : Gateway) (made : List (List Op)) → IsSteady field → IsAt field number i gateway → OwnStep gateway occasion now (Err (faults.Conflict client)) new made → ⊥ }
+    ensures no_conflict { (field : Field) (number i : ℕ) (gateway : Gateway) (occasion : Occasion) (now : ℕ) (client : List ℕ) (new : Gateway) (made : List (List Op)) → IsSteady field → IsAt field number i gateway → OwnStep gateway occasion now (Err (refusals.Conflict client)) new made → ⊥ }
 {}
 
 /// A field never contradicts itself. In whatever all its gateways have taken and all deltas of its list
@@ -37,7 +38,7 @@ pub fn consistent_field()
     ensures consistent { (configs : List Config) (events : List Event) (answers : List Answer) (field : Field) → Run (new_field configs) events answers field → IsConsistent (everything field) }
     ensures parts { (configs : List Config) (events : List Event) (answers : List Answer) (field : Field) (part : List Op) → Run (new_field configs) events answers field → ((op : Op) → Contains part op → Contains (everything field) op) → IsConsistent part }
     ensures agrees { (configs : List Config) (events : List Event) (answers : List Answer) (field : Field) (gateway : Gateway) (delta : List Op) → Run (new_field configs) events answers field → Contains field.gateways gateway → Contains field.deltas delta → AllAgree gateway.taken delta × AllAgree (keep gateway.taken) delta }
-    ensures no_conflict { (configs : List Config) (events : List Event) (answers : List Answer) (field : Field) (number i k : ℕ) (gateway : Gateway) (delta : List Op) (client : List ℕ) (new : Gateway) (made : List (List Op)) → Run (new_field configs) events answers field → IsAt field number i gateway → IsDeltaAt field k delta → TakeStep gateway delta (Err (faults.Conflict client)) new made → ⊥ }
+    ensures no_conflict { (configs : List Config) (events : List Event) (answers : List Answer) (field : Field) (number i k : ℕ) (gateway : Gateway) (delta : List Op) (client : List ℕ) (new : Gateway) (made : List (List Op)) → Run (new_field configs) events answers field → IsAt field number i gateway → IsDeltaAt field k delta → TakeStep gateway delta (Err (refusals.Conflict client)) new made → ⊥ }
     ensures never { (configs : List Config) (events : List Event) (answers : List Answer) (field : Field) (client : List ℕ) → Run (new_field configs) events answers field → Contains answers (Node (Err (faults.Conflict client))) → ⊥ }
 {}
 

@@ -14,13 +14,13 @@ use thiserror::Error;
 /// The result of a run: an answer for each event, the deltas made, numbered from 1, and the gateways in
 /// the order of their configs.
 #[derive(Drop)]
-pub struct World<R> {
+pub struct World<G> {
     /// An answer for each event, in their order.
     pub answers: Sequence<Answer>,
     /// The deltas that were made; the first has number 1.
     pub deltas: Sequence<Delta>,
-    /// The replicas of the gateways, in the order of their configs.
-    pub gateways: Sequence<R>,
+    /// The gateways, in the order of their configs.
+    pub gateways: Sequence<G>,
 }
 
 /// Why a run has no result. Events are numbered from 1.

@@ -1,0 +1,144 @@
+//! A gateway with its journal: the bytes that it writes, and what it does when its disk fails.
+
+use super::replica::Held;
+use gw_node::{Node, NodeFault, Out};
+use jr_journal::{Disk, MemoryDisk, Slot};
+use octets::Sequence;
+use rep_ops::{ClientId, Delta};
+use sn_flow::{Addr, Config};
+use sn_topic::Predefined;
+use std::alloc::Global;
+use std::process::Abort;
+use std::sync::Arc;
+use std::test::Fail;
+
+/// CONNECT of the client s1.
+const CONNECT: [u8; 8] = [8, 4, 4, 1, 0, 60, 0x73, 0x31];
+
+/// Where the client is.
+const CLIENT: Addr = Addr { host: 0, port: 7 };
+
+/// Gateway 1 on a disk.
+fn opened(alloc: Global, disk: MemoryDisk) -> Result<Node<Held, MemoryDisk>, Fail> {
+    let config = Config {
+        gateway: 1,
+        advertise: 0,
+        field: Sequence::empty(alloc),
+        predefined: Predefined::new(alloc, Vec::new(alloc))?,
+    };
+    match Node::open(alloc, config, disk) {
+        Ok(node) => Ok(node),
+        Err((_, fault)) => Err(Fail::new(fault)),
+    }
+}
+
+/// Looks at the one datagram of an answer.
+fn check_sent(rt: &impl Abort, out: &Arc<Out>, bytes: &[u8]) {
+    assert_eq!(rt; out.sends.len(), 1);
+    assert_eq!(rt; out.sends.as_slice()[0].bytes.as_slice(), bytes);
+}
+
+/// A client connects.
+fn connect(rt: &impl Abort, alloc: Global, node: &mut Node<Held, MemoryDisk>) {
+    let answer = node.frame(alloc, CLIENT, &CONNECT, 0);
+    assert!(rt; answer.is_ok());
+    if let Ok(out) = answer {
+        check_sent(rt, &out, &[3, 5, 0]);
+        assert!(rt; out.made.is_some());
+    }
+}
+
+/// Looks at the bytes of the first slot.
+fn check_slot(rt: &impl Abort, alloc: Global, disk: &mut MemoryDisk, expected: &[u8]) -> Result<(), Fail> {
+    let mut bytes = vec![in alloc; 0u8; expected.len()]?;
+    let size = disk.len(Slot::First);
+    assert!(rt; matches!(size, Ok(n) if n == expected.len()));
+    assert!(rt; disk.read_at(Slot::First, 0, &mut bytes).is_ok());
+    assert_eq!(rt; bytes.as_slice(), expected);
+    Ok(())
+}
+
+#[test]
+fn a_first_connection_is_in_the_journal(rt: HostRuntime) -> Result<(), Fail> {
+    let alloc = rt.alloc();
+    let mut node = opened(alloc, MemoryDisk::new(alloc))?;
+    assert_eq!(rt; node.records(), 0);
+    connect(&rt, alloc, &mut node);
+    // A step without operations is not written.
+    assert!(rt; node.frame(alloc, CLIENT, &[2, 0x16], 1).is_ok());
+    let mut disk = node.into_disk();
+    // A header with the seal, and a record: the Take of s1 under the stamp 1.1.
+    let header = [0x53, 0x4e, 0x4a, 0x31, 1, 0, 0, 0, 0, 0, 0, 0, 1, 0x53];
+    let record = [
+        0x44, 0, 0, 0, 34, 1, 0, 0, 0, 1, 1, 2, 0x73, 0x31, 0, 0, 0, 0, 0, 0, 0, 1, 1, 0, 0, 0, 1, 0, 60, 0, 1, 0, 0, 0, 0, 0, 0, 0, 0,
+    ];
+    let mut expected = Vec::from_slice(alloc, &header)?;
+    expected.extend_from_slice(&record)?;
+    assert_eq!(rt; expected.len(), 53);
+    check_slot(&rt, alloc, &mut disk, &expected)?;
+    let again = opened(alloc, disk)?;
+    assert_eq!(rt; again.records(), 1);
+    let clients = again.clients(alloc);
+    assert!(rt; matches!(clients, Ok(all) if all.len() == 1));
+    let view = again.view(alloc, &ClientId::new(alloc, b"s1")?);
+    assert!(rt; matches!(view, Ok(out) if out.view.is_some()));
+    Ok(())
+}
+
+/// What a halted node refuses, and what it still tells.
+fn check_halted(rt: &impl Abort, alloc: Global, node: &mut Node<Held, MemoryDisk>) -> Result<(), Fail> {
+    assert!(rt; node.is_halted());
+    assert!(rt; matches!(node.frame(alloc, CLIENT, &[], 3), Err(NodeFault::Halted)));
+    assert!(rt; matches!(node.tick(alloc, 3), Err(NodeFault::Halted)));
+    assert!(rt; matches!(node.take(alloc, &Delta::empty(alloc)), Err(NodeFault::Halted)));
+    let view = node.view(alloc, &ClientId::new(alloc, b"s1")?);
+    assert!(rt; matches!(view, Ok(out) if out.view.is_some()));
+    Ok(())
+}
+
+#[test]
+fn a_failed_write_halts(rt: HostRuntime) -> Result<(), Fail> {
+    let alloc = rt.alloc();
+    let mut node = opened(alloc, MemoryDisk::new(alloc))?;
+    connect(&rt, alloc, &mut node);
+    let mut disk = node.into_disk();
+    disk.fail_next(5, false);
+    let mut node = opened(alloc, disk)?;
+    // The client is told that there is no room now.
+    let answer = node.frame(alloc, CLIENT, &CONNECT, 2);
+    assert!(rt; matches!(answer, Err(NodeFault::Disk { .. })));
+    if let Err(NodeFault::Disk { out }) = answer {
+        check_sent(&rt, &out, &[3, 5, 1]);
+        assert!(rt; out.made.is_none());
+    }
+    check_halted(&rt, alloc, &mut node)?;
+    // The record that was cut off is none.
+    let again = opened(alloc, node.into_disk())?;
+    assert_eq!(rt; again.records(), 1);
+    assert!(rt; !again.is_halted());
+    Ok(())
+}
+
+#[test]
+fn a_delta_is_taken(rt: HostRuntime) -> Result<(), Fail> {
+    let alloc = rt.alloc();
+    let mut node = opened(alloc, MemoryDisk::new(alloc))?;
+    // The Take of s1 by gateway 2.
+    let bytes = [
+        1, 0, 0, 0, 1, 1, 2, 0x73, 0x31, 0, 0, 0, 0, 0, 0, 0, 1, 2, 0, 0, 0, 1, 0, 60, 0, 1, 0, 0, 0, 0, 0, 0, 0, 0,
+    ];
+    let delta = Delta::decode(alloc, &bytes)?;
+    assert!(rt; matches!(node.take(alloc, &delta), Ok(out) if out.sends.is_empty()));
+    // Again: it is written again, and nothing else changes.
+    assert!(rt; node.take(alloc, &delta).is_ok());
+    // The same name with another duration.
+    let mut other = bytes;
+    other[24] = 61;
+    let other = Delta::decode(alloc, &other)?;
+    assert!(rt; matches!(node.take(alloc, &other), Err(NodeFault::Conflict { .. })));
+    // A delta without operations is not written.
+    assert!(rt; node.take(alloc, &Delta::empty(alloc)).is_ok());
+    let again = opened(alloc, node.into_disk())?;
+    assert_eq!(rt; again.records(), 2);
+    Ok(())
+}
