@@ -49,7 +49,12 @@ fn connect(rt: &impl Abort, alloc: Global, node: &mut Node<Held, MemoryDisk>) {
 }
 
 /// Looks at the bytes of the first slot.
-fn check_slot(rt: &impl Abort, alloc: Global, disk: &mut MemoryDisk, expected: &[u8]) -> Result<(), Fail> {
+fn check_slot(
+    rt: &impl Abort,
+    alloc: Global,
+    disk: &mut MemoryDisk,
+    expected: &[u8],
+) -> Result<(), Fail> {
     let mut bytes = vec![in alloc; 0u8; expected.len()]?;
     let size = disk.len(Slot::First);
     assert!(rt; matches!(size, Ok(n) if n == expected.len()));
@@ -70,7 +75,8 @@ fn a_first_connection_is_in_the_journal(rt: HostRuntime) -> Result<(), Fail> {
     // A header with the seal, and a record: the Take of s1 under the stamp 1.1.
     let header = [0x53, 0x4e, 0x4a, 0x31, 1, 0, 0, 0, 0, 0, 0, 0, 1, 0x53];
     let record = [
-        0x44, 0, 0, 0, 34, 1, 0, 0, 0, 1, 1, 2, 0x73, 0x31, 0, 0, 0, 0, 0, 0, 0, 1, 1, 0, 0, 0, 1, 0, 60, 0, 1, 0, 0, 0, 0, 0, 0, 0, 0,
+        0x44, 0, 0, 0, 34, 1, 0, 0, 0, 1, 1, 2, 0x73, 0x31, 0, 0, 0, 0, 0, 0, 0, 1, 1, 0, 0, 0, 1,
+        0, 60, 0, 1, 0, 0, 0, 0, 0, 0, 0, 0,
     ];
     let mut expected = Vec::from_slice(alloc, &header)?;
     expected.extend_from_slice(&record)?;
@@ -86,11 +92,20 @@ fn a_first_connection_is_in_the_journal(rt: HostRuntime) -> Result<(), Fail> {
 }
 
 /// What a halted node refuses, and what it still tells.
-fn check_halted(rt: &impl Abort, alloc: Global, node: &mut Node<Held, MemoryDisk>) -> Result<(), Fail> {
+fn check_halted(
+    rt: &impl Abort,
+    alloc: Global,
+    node: &mut Node<Held, MemoryDisk>,
+) -> Result<(), Fail> {
     assert!(rt; node.is_halted());
     assert!(rt; matches!(node.frame(alloc, CLIENT, &[], 3), Err(NodeFault::Halted)));
     assert!(rt; matches!(node.tick(alloc, 3), Err(NodeFault::Halted)));
-    assert!(rt; matches!(node.take(alloc, &Delta::empty(alloc)), Err(NodeFault::Halted)));
+    assert!(rt;
+        matches!(
+            node.take(alloc, &Delta::empty(alloc)),
+            Err(NodeFault::Halted)
+        )
+    );
     let view = node.view(alloc, &ClientId::new(alloc, b"s1")?);
     assert!(rt; matches!(view, Ok(out) if out.view.is_some()));
     Ok(())
@@ -125,7 +140,8 @@ fn a_delta_is_taken(rt: HostRuntime) -> Result<(), Fail> {
     let mut node = opened(alloc, MemoryDisk::new(alloc))?;
     // The Take of s1 by gateway 2.
     let bytes = [
-        1, 0, 0, 0, 1, 1, 2, 0x73, 0x31, 0, 0, 0, 0, 0, 0, 0, 1, 2, 0, 0, 0, 1, 0, 60, 0, 1, 0, 0, 0, 0, 0, 0, 0, 0,
+        1, 0, 0, 0, 1, 1, 2, 0x73, 0x31, 0, 0, 0, 0, 0, 0, 0, 1, 2, 0, 0, 0, 1, 0, 60, 0, 1, 0, 0,
+        0, 0, 0, 0, 0, 0,
     ];
     let delta = Delta::decode(alloc, &bytes)?;
     assert!(rt; matches!(node.take(alloc, &delta), Ok(out) if out.sends.is_empty()));

@@ -178,7 +178,8 @@ fn answers_are_printed(rt: HostRuntime) -> Result<(), Fail> {
     answers.push(Answer::Node(Err(NodeFault::Exhausted)))?;
     answers.push(Answer::Views(Sequence::empty(alloc)))?;
     let text = print_answers(alloc, answers.as_slice())?;
-    let lines = "to 7 03fe00\nto 65535 -\nquiet\nrefused N2\nrefused N1 F2\nrefused N5\nrefused N6\nempty\n";
+    let lines =
+        "to 7 03fe00\nto 65535 -\nquiet\nrefused N2\nrefused N1 F2\nrefused N5\nrefused N6\nempty\n";
     assert_eq!(rt; text.as_str(), lines);
     Ok(())
 }

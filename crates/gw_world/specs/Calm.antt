@@ -20,9 +20,7 @@ pub record IsCalm {D : Type 0} {G : Ghosts D} (state : State G) : Type 0 where
 
 -- the gateway that a node is, with what its replica keeps in the place of what it has taken
 abbrev pub keeping : {R Z D : Type 0} {G : Ghosts D} → (R → List Op) → Node R D Z G → Gateway
-keeping kept node =
-    let state = state_of kept node in
-    record { config = state.config; taken = state.kept; local = state.local }
+keeping kept node = record { config = (state_of kept node).config; taken = (state_of kept node).kept; local = (state_of kept node).local }
 
 -- memory did not run out
 abbrev pub IsFed : Result Out Refusal → Type 0

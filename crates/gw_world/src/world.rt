@@ -5,7 +5,6 @@ ghost use Rattle.gw_world.specs.declared.world.WorldFault.TheVariants.{Memory};
 
 use super::event::Answer;
 use octets::Sequence;
-use rep_model::TakeFault;
 use rep_ops::{Delta, OpsFault};
 use sn_flow::StepFault;
 use std::alloc::{AllocError, AllocFailed};
@@ -57,14 +56,6 @@ impl From<OpsFault> for WorldFault {
     ghost from_gives = { λ _ e. e ≡ Memory };
 
     fn from(_error: OpsFault) -> WorldFault {
-        WorldFault::Memory
-    }
-}
-
-impl From<TakeFault> for WorldFault {
-    ghost from_gives = { λ _ e. e ≡ Memory };
-
-    fn from(_error: TakeFault) -> WorldFault {
         WorldFault::Memory
     }
 }
