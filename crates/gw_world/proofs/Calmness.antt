@@ -1,5 +1,5 @@
 -- A node whose disk does not fail goes on.
-use Rattle.std.proofs.Common.{◌≡◌, ℕ, zero, suc, Bool, true, false, List, [], ◌∷◌, ◌++◌, set, slice_get, Option, Some, None, Result, Ok, Err, IfOk, OnOk, refl, sym, ap, ◌∙◌, subst}
+use Rattle.std.proofs.Common.{◌≡◌, ℕ, zero, suc, Bool, true, false, List, [], ◌∷◌, ◌++◌, set, slice_get, Option, Some, None, Result, Ok, Err, IfOk, OnOk, refl, sym, ap, ◌∙◌, subst, true≢false}
 use Rattle.std.specs.List.{AllByRecursion}
 use Rattle.rep_ops.specs.declared.op.Op.{Op}
 use Rattle.sn_flow.specs.declared.config.Config.{Config}
@@ -49,7 +49,7 @@ module _ {D : Type 0} {G : Ghosts D} where
   never_fails : (old new : State G) (delta : List Op) → G.honest → IsCalm old → G.starved (disk_of new.journal) ≡ false → IsFailed old.journal delta new.journal → ⊥
   never_fails old new delta honest calm fed w =
       let known = subst (λ o. AppendedAs o (G.slots (disk_of old.journal)) (slot_of old.journal) (written delta) (Err journal_faults.Disk) (G.slots (disk_of new.journal)) (G.outlook (disk_of new.journal))) calm.unplanned (w.known honest fed) in
-      known.0
+      true≢false (sym known.0)
 
   running : (old : State G) → IsCalm old → is_halted old ≡ true → ⊥
   running old calm e = let runs = calm.runs in absurd (cc)
@@ -62,21 +62,21 @@ module _ {D : Type 0} {G : Ghosts D} where
 
   pub own_calm : (old new : State G) (occasion : Occasion) (now : ℕ) (answer : Result Out Refusal) → G.honest → IsCalm old → G.starved (disk_of new.journal) ≡ false → IsFed answer → OwnCall old occasion now answer new
       → StaysCalm (λ config kept local next after. OwnKept config kept local occasion now answer next after) old new
-  own_calm old new occasion now (Ok out) honest calm fed no (runs, (plan, is_plan, done)) =
+  own_calm old new occasion now (Ok out) honest calm fed memory (runs, (plan, is_plan, done)) =
       let made = makes_calm plan.ops out.made old new honest calm fed done.made in
       record { calm = made.0; configured = done.config; kept = (plan, is_plan, ap (λ (o : Out). o.sends) done.answer, done.local, made.1) }
-  own_calm old new occasion now (Err refusals.Halted) honest calm fed no h = absurd (running old calm h.0)
-  own_calm old new occasion now (Err (refusals.Frame fault)) honest calm fed no (runs, why, u) =
+  own_calm old new occasion now (Err refusals.Halted) honest calm fed memory h = absurd (running old calm h.0)
+  own_calm old new occasion now (Err (refusals.Frame fault)) honest calm fed memory (runs, why, u) =
       record { calm = untouched old new calm u.journal; configured = u.config; kept = (u.kept, u.local, why) }
-  own_calm old new occasion now (Err refusals.Exhausted) honest calm fed no (runs, why, u) =
+  own_calm old new occasion now (Err refusals.Exhausted) honest calm fed memory (runs, why, u) =
       record { calm = untouched old new calm u.journal; configured = u.config; kept = (u.kept, u.local, why) }
-  own_calm old new occasion now (Err (refusals.Conflict client)) honest calm fed no (runs, why, u) =
+  own_calm old new occasion now (Err (refusals.Conflict client)) honest calm fed memory (runs, why, u) =
       record { calm = untouched old new calm u.journal; configured = u.config; kept = (u.kept, u.local, why) }
-  own_calm old new occasion now (Err refusals.Full) honest calm fed no (runs, why, u) =
+  own_calm old new occasion now (Err refusals.Full) honest calm fed memory (runs, why, u) =
       record { calm = untouched old new calm u.journal; configured = u.config; kept = (u.kept, u.local, why) }
-  own_calm old new occasion now (Err (refusals.Disk excuse)) honest calm fed no (runs, (plan, is_plan, is_excuse, h)) = absurd (never_fails old new h.delta honest calm fed h.failed)
-  own_calm old new occasion now (Err refusals.Memory) honest calm fed no h = absurd no
-  own_calm old new occasion now (Err (refusals.Journal fault)) honest calm fed no h = absurd h
+  own_calm old new occasion now (Err (refusals.Disk excuse)) honest calm fed memory (runs, (plan, is_plan, is_excuse, h)) = absurd (never_fails old new h.delta honest calm fed h.failed)
+  own_calm old new occasion now (Err refusals.Memory) honest calm fed memory h = absurd memory
+  own_calm old new occasion now (Err (refusals.Journal fault)) honest calm fed memory h = absurd h
 
   noted_calm : (old new : State G) (delta : List Op) → G.honest → IsCalm old → G.starved (disk_of new.journal) ≡ false → IsNoted old.journal delta new.journal → IsCalm new
   noted_calm old new [] honest calm fed h = untouched old new calm h
@@ -84,18 +84,18 @@ module _ {D : Type 0} {G : Ghosts D} where
 
   pub take_calm : (old new : State G) (delta : List Op) (answer : Result Out Refusal) → G.honest → IsCalm old → G.starved (disk_of new.journal) ≡ false → IsFed answer → TakeCall old delta answer new
       → StaysCalm (λ config kept local next after. TakeKept config kept local delta answer next after) old new
-  take_calm old new delta (Ok out) honest calm fed no (runs, empty, h) =
+  take_calm old new delta (Ok out) honest calm fed memory (runs, empty, h) =
       record { calm = noted_calm old new delta honest calm fed h.noted; configured = h.config; kept = (ap (λ (o : Out). o.sends) empty, ap (λ (o : Out). o.made) empty, h.fits, h.kept, h.local) }
-  take_calm old new delta (Err refusals.Halted) honest calm fed no h = absurd (running old calm h.0)
-  take_calm old new delta (Err (refusals.Conflict client)) honest calm fed no (runs, why, u) =
+  take_calm old new delta (Err refusals.Halted) honest calm fed memory h = absurd (running old calm h.0)
+  take_calm old new delta (Err (refusals.Conflict client)) honest calm fed memory (runs, why, u) =
       record { calm = untouched old new calm u.journal; configured = u.config; kept = (u.kept, u.local, why) }
-  take_calm old new delta (Err refusals.Full) honest calm fed no (runs, why, u) =
+  take_calm old new delta (Err refusals.Full) honest calm fed memory (runs, why, u) =
       record { calm = untouched old new calm u.journal; configured = u.config; kept = (u.kept, u.local, why) }
-  take_calm old new delta (Err (refusals.Disk excuse)) honest calm fed no (runs, empty, h) = absurd (never_fails old new delta honest calm fed h.failed)
-  take_calm old new delta (Err refusals.Memory) honest calm fed no h = absurd no
-  take_calm old new delta (Err (refusals.Frame fault)) honest calm fed no h = absurd h
-  take_calm old new delta (Err refusals.Exhausted) honest calm fed no h = absurd h
-  take_calm old new delta (Err (refusals.Journal fault)) honest calm fed no h = absurd h
+  take_calm old new delta (Err (refusals.Disk excuse)) honest calm fed memory (runs, empty, h) = absurd (never_fails old new delta honest calm fed h.failed)
+  take_calm old new delta (Err refusals.Memory) honest calm fed memory h = absurd memory
+  take_calm old new delta (Err (refusals.Frame fault)) honest calm fed memory h = absurd h
+  take_calm old new delta (Err refusals.Exhausted) honest calm fed memory h = absurd h
+  take_calm old new delta (Err (refusals.Journal fault)) honest calm fed memory h = absurd h
 
 -- ---- results
 

@@ -149,11 +149,11 @@ SteadyField field = Steady field.gateways field.deltas
 
 pub after-steady : (old : Field) (event : Event) (answer : Answer) (new : Field) → After old event answer new → SteadyField old → SteadyField new
 after-steady old (Frame number from bytes now) (Node answer) new h s =
-    subst SteadyField (sym h.6) (updated-moved old s number h.0 h.1 (place_of-first number h.0 old.gateways h.4.0) h.4.1 h.2 h.3 (own-moves h.1 (Datagram from bytes) now answer h.2 h.3 h.5))
+    subst SteadyField (sym h.6) (updated-moved old s number h.0 h.1 (place_of-first number h.0 old.gateways h.4.0) h.4.1 h.2 h.3 (own-moves h.1 (Datagram from bytes) now (said answer) h.2 h.3 h.5))
 after-steady old (Tick number now) (Node answer) new h s =
-    subst SteadyField (sym h.6) (updated-moved old s number h.0 h.1 (place_of-first number h.0 old.gateways h.4.0) h.4.1 h.2 h.3 (own-moves h.1 Clock now answer h.2 h.3 h.5))
+    subst SteadyField (sym h.6) (updated-moved old s number h.0 h.1 (place_of-first number h.0 old.gateways h.4.0) h.4.1 h.2 h.3 (own-moves h.1 Clock now (said answer) h.2 h.3 h.5))
 after-steady old (Take number delta) (Node answer) new h s =
-    subst SteadyField (sym h.8) (updated-taken old s number h.0 h.1 (place_of-first number h.0 old.gateways h.5.0) h.5.1 h.2 h.3 (delta - 1) h.4 answer h.6.1 h.7)
+    subst SteadyField (sym h.8) (updated-taken old s number h.0 h.1 (place_of-first number h.0 old.gateways h.5.0) h.5.1 h.2 h.3 (delta - 1) h.4 (said answer) h.6.1 h.7)
 after-steady old (Show number) (Views views) new h s = subst SteadyField (sym h.4) s
 after-steady old (Frame number from bytes now) (Views views) new h s = absurd h
 after-steady old (Tick number now) (Views views) new h s = absurd h
