@@ -1,20 +1,17 @@
 -- A node whose disk does not fail goes on.
-use Rattle.std.proofs.Common.{◌≡◌, ℕ, zero, suc, Bool, true, false, List, [], ◌∷◌, ◌++◌, set, slice_get, Option, Some, None, Result, Ok, Err, IfOk, OnOk, refl, sym, ap, ◌∙◌, subst, true≢false}
+use Rattle.std.proofs.Common.{◌≡◌, ℕ, zero, suc, true, false, List, [], ◌∷◌, ◌++◌, set, slice_get, Option, Some, None, Result, Ok, Err, IfOk, OnOk, refl, sym, ap, ◌∙◌, subst, true≢false}
 use Rattle.std.specs.List.{AllByRecursion}
 use Rattle.rep_ops.specs.declared.op.Op.{Op}
-use Rattle.sn_flow.specs.declared.config.Config.{Config}
-use Rattle.sn_flow.specs.Locals.{Local}
 use Rattle.jr_journal.specs.declared.disk.Disk.{Ghosts}
-use Rattle.jr_journal.specs.declared.journal.Journal.{Journal}
 use Rattle.jr_journal.specs.declared.fault.JournalFault.TheVariants as journal_faults
 use Rattle.jr_journal.specs.Records.{written, records, slot_content}
 use Rattle.jr_journal.specs.Journals.{AppendedAs}
-use Rattle.jr_journal.specs.Parts.{disk_of, slot_of, is_halted as is_stopped}
+use Rattle.jr_journal.specs.Parts.{disk_of, slot_of}
 use Rattle.gw_node.specs.declared.out.Out.{Out}
 use Rattle.gw_node.specs.declared.refusal.Refusal.{Refusal}
 use Rattle.gw_node.specs.declared.refusal.Refusal.TheVariants as refusals
 use Rattle.gw_node.specs.Occasions.{Occasion}
-use Rattle.gw_node.specs.Parts.{State, is_halted, IsUnchanged, IsUntouched}
+use Rattle.gw_node.specs.Parts.{State, is_halted, IsUntouched}
 use Rattle.gw_node.specs.Writing.{IsWritten, IsFailed}
 use Rattle.gw_node.specs.Plans.{Makes as MakesAll}
 use Rattle.gw_node.specs.Calls.{OwnCall, TakeCall, IsNoted}

@@ -12,9 +12,8 @@ use Rattle.gw_node.specs.declared.refusal.Refusal.TheVariants as refusals
 use Rattle.gw_node.specs.Occasions.{Occasion, IsPlanOf}
 use Rattle.gw_world.specs.Gateways.{Gateway}
 use Rattle.gw_world.specs.Steps.{OwnStep, TakeStep, IsMade, IsPlan, IsUnchanged, IsTooMuch, HasNoDelta}
-use Rattle.gw_node.specs.Plans.{IsMisfit}
 use Rattle.gw_node.specs.Calls.{AreTooMuch}
-use Rattle.gw_world.specs.Plans.{OwnKept, TakeKept, IsPlanFor, IsTakeRefusal, Makes}
+use Rattle.gw_world.specs.Plans.{OwnKept, TakeKept, IsPlanFor, Makes}
 use Rattle.gw_world.specs.Events.{made_of}
 use Rattle.gw_world.specs.Keeping.{Keeps, IsShown}
 use Rattle.gw_world.proofs.Held.{keeps_more, seen_same, takable, conflict_with_taken, full_for_taken}
