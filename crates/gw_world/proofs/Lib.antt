@@ -5,9 +5,3 @@ pub mod Shown
 pub mod Fields
 pub mod Numbers
 pub mod Steadiness
-pub mod Each
-pub mod Alone
-pub mod Whole
-pub mod Consistency
-pub mod Writing
-pub mod Settling

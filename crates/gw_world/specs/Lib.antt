@@ -7,4 +7,3 @@ pub mod Keeping
 pub mod Occasions
 pub mod Plans
 pub mod Steady
-pub mod Whole

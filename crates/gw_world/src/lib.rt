@@ -19,6 +19,6 @@ mod running;
 mod world;
 
 pub use event::{Answer, Event, NodeFault, Out};
-pub use laws::{consistent_field, made_once, settled_field, steady_field};
+pub use laws::steady_field;
 pub use running::run;
 pub use world::{World, WorldFault};
