@@ -144,7 +144,7 @@ pub(crate) fn handle_frame<R: Replica, D: Disk + Drop>(
 ) -> Result<Shares, Refusal>
     ensures { OwnCall (state_of R.kept node.old) (Datagram from bytes.now) now result (state_of R.kept node.new) }
 {
-    if node.journal.is_halted() {
+    if node.is_halted() {
         return Err(Refusal::Halted);
     }
     match read(alloc, bytes) {

@@ -1,9 +1,9 @@
 //! A gateway with its journal: the bytes that it writes, and what it does when its disk fails.
 
 use super::replica::Held;
-use gw_node::{Node, NodeFault, Out};
-use jr_journal::{Disk, MemoryDisk, Slot};
-use octets::Sequence;
+use gw_node::{Node, NodeFault, Out, Step};
+use jr_journal::{Disk, JournalFault, MemoryDisk, Slot};
+use octets::{Octets, Sequence};
 use rep_ops::{ClientId, Delta};
 use sn_flow::{Addr, Config};
 use sn_topic::Predefined;
@@ -18,15 +18,19 @@ const CONNECT: [u8; 8] = [8, 4, 4, 1, 0, 60, 0x73, 0x31];
 /// Where the client is.
 const CLIENT: Addr = Addr { host: 0, port: 7 };
 
-/// Gateway 1 on a disk.
-fn opened(alloc: Global, disk: MemoryDisk) -> Result<Node<Held, MemoryDisk>, Fail> {
-    let config = Config {
-        gateway: 1,
+/// What a gateway of this number is told.
+fn config_of(alloc: Global, gateway: u8) -> Result<Config, Fail> {
+    Ok(Config {
+        gateway,
         advertise: 0,
         field: Sequence::empty(alloc),
         predefined: Predefined::new(alloc, Vec::new(alloc))?,
-    };
-    match Node::open(alloc, config, disk) {
+    })
+}
+
+/// Gateway 1 on a disk.
+fn opened(alloc: Global, disk: MemoryDisk) -> Result<Node<Held, MemoryDisk>, Fail> {
+    match Node::open(alloc, config_of(alloc, 1)?, disk) {
         Ok(node) => Ok(node),
         Err((_, fault)) => Err(Fail::new(fault)),
     }
@@ -156,5 +160,94 @@ fn a_delta_is_taken(rt: HostRuntime) -> Result<(), Fail> {
     assert!(rt; node.take(alloc, &Delta::empty(alloc)).is_ok());
     let again = opened(alloc, node.into_disk())?;
     assert_eq!(rt; again.records(), 2);
+    Ok(())
+}
+
+/// Looks at whose client the view is of.
+fn check_owner(rt: &impl Abort, out: &Arc<Out>, gateway: u8) {
+    assert!(rt; out.view.is_some());
+    if let Some(seen) = &out.view {
+        assert!(rt; matches!(seen.stamp, Some(stamp) if stamp.gateway == gateway));
+    }
+}
+
+#[test]
+fn no_number_comes_after_the_last(rt: HostRuntime) -> Result<(), Fail> {
+    let alloc = rt.alloc();
+    let mut node = opened(alloc, MemoryDisk::new(alloc))?;
+    // The Take of s1 by gateway 2, in the last epoch.
+    let bytes = [
+        1, 0, 0, 0, 1, 1, 2, 0x73, 0x31, 255, 255, 255, 255, 255, 255, 255, 255, 2, 0, 0, 0, 1, 0,
+        60, 0, 1, 0, 0, 0, 0, 0, 0, 0, 0,
+    ];
+    let delta = Delta::decode(alloc, &bytes)?;
+    assert!(rt; node.take(alloc, &delta).is_ok());
+    let answer = node.frame(alloc, CLIENT, &CONNECT, 0);
+    assert!(rt; matches!(answer, Err(NodeFault::Exhausted)));
+    assert!(rt; !node.is_halted());
+    // The client is still that of gateway 2.
+    let view = node.view(alloc, &ClientId::new(alloc, b"s1")?);
+    assert!(rt; view.is_ok());
+    if let Ok(out) = view {
+        check_owner(&rt, &out, 2);
+    }
+    let again = opened(alloc, node.into_disk())?;
+    assert_eq!(rt; again.records(), 1);
+    Ok(())
+}
+
+#[test]
+fn a_journal_of_another_gateway_is_not_opened(rt: HostRuntime) -> Result<(), Fail> {
+    let alloc = rt.alloc();
+    let node = opened(alloc, MemoryDisk::new(alloc))?;
+    let disk = node.into_disk();
+    let other: Result<Node<Held, MemoryDisk>, (MemoryDisk, NodeFault)> = Node::open(
+        alloc,
+        config_of(alloc, 2)?,
+        disk,
+    );
+    assert!(rt;
+        matches!(
+            other,
+            Err((
+                _,
+                NodeFault::Journal {
+                    fault: JournalFault::Foreign
+                }
+            ))
+        )
+    );
+    Ok(())
+}
+
+/// A call of a node whose answer is given three times.
+fn check_step(rt: &impl Abort, alloc: Global, node: &mut Node<Held, MemoryDisk>, step: &Step) {
+    let (first, second, third) = node.step(alloc, step);
+    assert!(rt; first.is_ok());
+    assert!(rt; second.is_ok());
+    assert!(rt; third.is_ok());
+}
+
+#[test]
+fn calls_are_values(rt: HostRuntime) -> Result<(), Fail> {
+    let alloc = rt.alloc();
+    let mut node = opened(alloc, MemoryDisk::new(alloc))?;
+    let frame = Step::Frame {
+        from: CLIENT,
+        bytes: Octets::from_slice(alloc, &CONNECT)?,
+        now: 0,
+    };
+    check_step(&rt, alloc, &mut node, &frame);
+    let take = Step::Take {
+        delta: Delta::empty(alloc),
+    };
+    check_step(&rt, alloc, &mut node, &take);
+    check_step(&rt, alloc, &mut node, &Step::Tick { now: 1 });
+    let view = Step::View {
+        client: ClientId::new(alloc, b"s1")?,
+    };
+    check_step(&rt, alloc, &mut node, &view);
+    let again = opened(alloc, node.into_disk())?;
+    assert_eq!(rt; again.records(), 1);
     Ok(())
 }
