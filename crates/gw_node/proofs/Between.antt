@@ -1,5 +1,5 @@
 -- Sets between what must be kept and what was taken, with more behind them.
-use Rattle.std.proofs.Common.{◌≡◌, ℕ, Bool, true, false, cond, not, if◌then◌else◌, ◌||◌, List, [], ◌∷◌, ◌++◌, Option, Some, None, is_some, IfSome, refl, sym, ap, ◌∙◌, subst, true≢false, append_assoc}
+use Rattle.std.proofs.Common.{◌≡◌, ℕ, Bool, true, false, cond, not, if◌then◌else◌, ◌||◌, List, [], ◌∷◌, ◌++◌, Option, Some, None, is_some, IfSome, refl, sym, ap, ◌∙◌, subst, true≢false}
 use Rattle.std.proofs.lemmas.List.{append-nil}
 use Rattle.std.proofs.lemmas.List.Concat.{flat_map-append}
 use Rattle.sn_session.specs.declared.change.SessionOp.{SessionOp}
@@ -10,12 +10,12 @@ use Rattle.rep_ops.specs.declared.op.Op.TheVariants.{Session as OfSession, Put a
 use Rattle.rep_ops.specs.Orders.{operation_cmp, put_cmp}
 use Rattle.rep_ops.specs.Sets.{same_client, operation_of, operation_at, put_of, put_at, is_acknowledged, Agrees, Within}
 use Rattle.rep_model.specs.Views.{visible}
-use Rattle.rep_model.specs.Keep.{is_below, keep, IsKeptOf, CountsAs}
+use Rattle.rep_model.specs.Keep.{is_below, keep, CountsAs}
 use Rattle.rep_model.specs.Taking.{AllAgree}
 use Rattle.rep_model.proofs.Lookup.{or_else, find-all}
 use Rattle.rep_model.proofs.Readers.{operation_exact, put_exact, same_client-true, operation_at_both, put_at_both, is_acknowledged_both, operation_at_keep, put_at_keep, is_acknowledged_keep}
 use Rattle.rep_model.proofs.Thin.{thin-keep, thin-right}
-use Rattle.rep_model.proofs.Joins.{all-weaker, counts-between, same_trans, same_sym, within-left}
+use Rattle.rep_model.proofs.Joins.{all-weaker, counts-between, same_trans, within-left}
 use Rattle.gw_node.specs.Taking.{ops_of, IsBetween}
 
 -- ---- options

@@ -1,5 +1,5 @@
 -- From what the parts of a call come to, to the call.
-use Rattle.std.proofs.Common.{◌≡◌, ◌≢◌, ℕ, ◌==◌, true, false, List, [], ◌∷◌, ◌++◌, length, Option, Some, None, Result, Ok, Err, refl, sym, ap, subst, inl, inr}
+use Rattle.std.proofs.Common.{◌≡◌, ◌≢◌, ℕ, ◌==◌, false, List, [], ◌∷◌, ◌++◌, length, Some, Result, Ok, Err, refl, ap, inr}
 use Rattle.rep_ops.specs.declared.op.Op.{Op}
 use Rattle.rep_ops.specs.Making.{IsDeltaOf}
 use Rattle.rep_model.specs.Keep.{IsKeptOf}
@@ -16,13 +16,13 @@ use Rattle.jr_journal.specs.declared.journal.Journal.{Journal}
 use Rattle.gw_node.specs.declared.out.Out.{Out}
 use Rattle.gw_node.specs.declared.refusal.Refusal.{Refusal}
 use Rattle.gw_node.specs.declared.refusal.Refusal.TheVariants as refusals
-use Rattle.gw_node.specs.Occasions.{Occasion, Datagram, Clock}
-use Rattle.gw_node.specs.Parts.{State, is_halted, IsUnchanged, IsUntouched, only_sends}
-use Rattle.gw_node.specs.Writing.{IsWritten, IsFailed, WrittenAs, WrittenIfAny, refusal_of}
+use Rattle.gw_node.specs.Occasions.{Datagram}
+use Rattle.gw_node.specs.Parts.{State, is_halted, IsUnchanged, only_sends}
+use Rattle.gw_node.specs.Writing.{IsWritten, WrittenAs, WrittenIfAny, refusal_of}
 use Rattle.gw_node.specs.Excuses.{excuses}
 use Rattle.gw_node.specs.Plans.{Makes}
-use Rattle.gw_node.specs.Calls.{OwnCall, TakeCall, IsNoted, IsLeft}
-use Rattle.gw_node.specs.Handling.{HaveNoDelta, planned_for, ticked, CarriedOut, Answers}
+use Rattle.gw_node.specs.Calls.{OwnCall, TakeCall, IsNoted}
+use Rattle.gw_node.specs.Handling.{HaveNoDelta, planned_for, CarriedOut, Answers}
 
 module _ {D : Type 0} {G : Ghosts D} where
   -- a delta with operations is written
@@ -35,14 +35,15 @@ module _ {D : Type 0} {G : Ghosts D} where
   noted old new (op ∷ ops) done h = h
 
   -- the journal refused a delta that fits
-  pub left : (old new : State G) (delta : List Op) (fault : JournalFault) → is_halted old ≡ false → new.config ≡ old.config → new.kept ≡ old.kept → new.local ≡ old.local → Fits old.kept delta
+  pub left : (old new : State G) (delta : List Op) (fault : JournalFault) → is_halted old ≡ false → new.config ≡ old.config → new.kept ≡ old.kept → new.local ≡ old.local → new.records ≡ old.records → Fits old.kept delta
       → WrittenIfAny old.journal delta (Err fault) new.journal → TakeCall old delta (Err (refusal_of fault (only_sends []))) new
-  left old new [] fault runs config kept local fits h = absurd h
-  left old new (op ∷ ops) faults.Disk runs config kept local fits h = (runs, refl, record { config = config; kept = kept; local = local; fits = fits; failed = h })
-  left old new (op ∷ ops) faults.Halted runs config kept local fits h = (h.0, record { config = config; kept = kept; local = local; journal = h.1 })
-  left old new (op ∷ ops) faults.Memory runs config kept local fits h = record { config = config; kept = kept; local = local; journal = h }
-  left old new (op ∷ ops) faults.Foreign runs config kept local fits h = absurd h
-  left old new (op ∷ ops) (faults.BadRecord slot at) runs config kept local fits h = absurd h
+  left old new [] fault runs config kept local records fits h = absurd h
+  left old new (op ∷ ops) faults.Disk runs config kept local records fits h =
+      (runs, refl, record { some = λ e. absurd cc; config = config; records = records; kept = kept; local = local; fits = fits; failed = h })
+  left old new (op ∷ ops) faults.Halted runs config kept local records fits h = (h.0, record { config = config; kept = kept; local = local; journal = h.1; records = records })
+  left old new (op ∷ ops) faults.Memory runs config kept local records fits h = record { config = config; kept = kept; local = local; journal = h; records = records }
+  left old new (op ∷ ops) faults.Foreign runs config kept local records fits h = absurd h
+  left old new (op ∷ ops) (faults.BadRecord slot at) runs config kept local records fits h = absurd h
 
   -- operations that became a delta
   pub makes : (ops : List Op) (delta : List Op) (old new : State G) → ops ≢ [] → IsDeltaOf ops delta → Fits old.kept delta → IsKeptOf (old.kept ++ delta) new.kept → IsWritten old.journal delta new.journal → Makes ops (Some delta) old new

@@ -1,8 +1,9 @@
 -- A node that is opened.
-use Rattle.std.proofs.Common.{◌≡◌, ℕ, ◌+◌, Bool, true, false, slice_get, List, [], ◌∷◌, ◌++◌, length, take, Option, Some, None, Result, Ok, Err, IfOk, IfErr, refl, sym, ap, ◌∙◌, subst, arith}
-use Rattle.std.proofs.lemmas.List.{append-nil}
+use Rattle.std.proofs.Common.{◌≡◌, ℕ, ◌+◌, false, slice_get, List, [], ◌∷◌, ◌++◌, length, take, drop, get_or, ◌<◌, ◌≤◌, Some, None, Result, Ok, Err, IfOk, IfErr, OnOk, inl, inr, refl, sym, ap, ◌∙◌, subst}
+use Rattle.std.proofs.lemmas.List.{drop_all, drop_more, take_more}
 use Rattle.rep_ops.specs.declared.op.Op.{Op}
 use Rattle.rep_model.specs.Keep.{CountsAs, IsKeptOf}
+use Rattle.rep_model.specs.Taking.{Fits}
 use Rattle.rep_model.proofs.Joins.{counts-refl, counts-join}
 use Rattle.sn_flow.specs.declared.config.Config.{Config}
 use Rattle.sn_flow.specs.Locals.{no_local}
@@ -10,21 +11,21 @@ use Rattle.jr_journal.specs.declared.disk.Disk.{Ghosts}
 use Rattle.jr_journal.specs.declared.fault.JournalFault.{JournalFault}
 use Rattle.jr_journal.specs.declared.fault.JournalFault.TheVariants as faults
 use Rattle.jr_journal.specs.declared.journal.Journal.{Journal}
-use Rattle.jr_journal.specs.Disk.{Slots, Image, image, after_crash, EachCrash}
+use Rattle.jr_journal.specs.Disk.{Slots, Image, image, after_crash}
 use Rattle.jr_journal.specs.Records.{records}
 use Rattle.jr_journal.specs.Faults.{fault_of, IsFault}
 use Rattle.jr_journal.specs.Journals.{Leaves}
-use Rattle.jr_journal.specs.Opening.{LeavesNoMore}
+use Rattle.jr_journal.specs.Opening.{LeavesNoMore, synced_slots, recovered}
 use Rattle.jr_journal.specs.Parts.{disk_of, gateway_of, is_halted as is_stopped}
 use Rattle.gw_node.specs.declared.out.Out.{Out}
 use Rattle.gw_node.specs.declared.refusal.Refusal.{Refusal}
 use Rattle.gw_node.specs.declared.refusal.Refusal.TheVariants as refusals
 use Rattle.gw_node.specs.declared.node.Node.{Node}
-use Rattle.gw_node.specs.Parts.{State, state_of, is_halted}
+use Rattle.gw_node.specs.Parts.{State, state_of, only_sends}
 use Rattle.gw_node.specs.Writing.{refusal_of}
 use Rattle.gw_node.specs.Plans.{IsMisfit}
 use Rattle.gw_node.specs.Taking.{ops_of, IsBetween, HasTaken}
-use Rattle.gw_node.specs.Opening.{IsStarted, HasMisfit, DoNotFit, IsOpenFault, IsDiskFault, MayRefuse}
+use Rattle.gw_node.specs.Opening.{IsStarted, FitInTurn, HasMisfit, DoNotFit, IsOpenFault, IsDiskFault, MayRefuse, LeavesSlots}
 use Rattle.gw_node.proofs.Between.{ops_of_more, between_again, counts_again}
 use Rattle.gw_node.proofs.Taken.{opened, all_left}
 
@@ -46,6 +47,19 @@ do_not_fit deltas before delta kept refusals.Halted is counts h = absurd h
 do_not_fit deltas before delta kept (refusals.Disk excuse) is counts h = absurd h
 do_not_fit deltas before delta kept refusals.Exhausted is counts h = absurd h
 do_not_fit deltas before delta kept (refusals.Journal fault) is counts h = absurd h
+
+-- the deltas from a place on fit where this one fits and those behind it
+pub fit_one_more : (deltas : List (List Op)) (i : ℕ) (delta kept : List Op) → i < length deltas → delta ≡ get_or deltas i delta → CountsAs (ops_of (take i deltas)) kept → Fits kept delta
+    → FitInTurn (ops_of (take (i + 1) deltas)) (drop (i + 1) deltas) → FitInTurn (ops_of (take i deltas)) (drop i deltas)
+fit_one_more deltas i delta kept within is counts fits rest =
+    let more : ops_of (take (i + 1) deltas) ≡ ops_of (take i deltas) ++ delta =
+    ap ops_of (take_more deltas i delta within ∙ ap (λ x. take i deltas ++ x ∷ []) (sym is)) ∙ ops_of_more (take i deltas) delta in
+    let from : drop i deltas ≡ delta ∷ drop (i + 1) deltas = drop_more deltas i delta within ∙ ap (λ x. x ∷ drop (i + 1) deltas) (sym is) in
+    subst (λ (ds : List (List Op)). FitInTurn (ops_of (take i deltas)) ds) (sym from)
+    ((kept, counts, fits), subst (λ (S : List Op). FitInTurn S (drop (i + 1) deltas)) more rest)
+
+pub fit_at_the_end : (deltas : List (List Op)) (i : ℕ) → length deltas ≤ i → FitInTurn (ops_of (take i deltas)) (drop i deltas)
+fit_at_the_end deltas i past = subst (λ (ds : List (List Op)). FitInTurn (ops_of (take i deltas)) ds) (sym (drop_all i deltas past)) tt
 
 -- ---- refusals
 
@@ -75,17 +89,17 @@ misfit_fault gateway i deltas refusals.Full is h = subst (λ (ds : List (List Op
 misfit_fault gateway i deltas refusals.Memory is h = tt
 misfit_fault gateway i deltas (refusals.Frame fault) is h = absurd h
 misfit_fault gateway i deltas refusals.Halted is h = absurd h
-misfit_fault gateway i deltas (refusals.Disk excuse) is h = tt
+misfit_fault gateway i deltas (refusals.Disk excuse) is h = absurd h
 misfit_fault gateway i deltas refusals.Exhausted is h = absurd h
 misfit_fault gateway i deltas (refusals.Journal fault) is h = absurd h
 
 -- a fault of the journal
-pub may_fault : (fault : JournalFault) (excuse : Out) → (fault ≡ faults.Halted → ⊥) → MayRefuse (refusal_of fault excuse)
-may_fault faults.Disk excuse runs = tt
-may_fault faults.Halted excuse runs = absurd (runs refl)
-may_fault faults.Memory excuse runs = tt
-may_fault faults.Foreign excuse runs = tt
-may_fault (faults.BadRecord slot at) excuse runs = tt
+pub may_fault : (fault : JournalFault) (excuse : Out) → excuse ≡ only_sends [] → (fault ≡ faults.Halted → ⊥) → MayRefuse (refusal_of fault excuse)
+may_fault faults.Disk excuse empty runs = empty
+may_fault faults.Halted excuse empty runs = absurd (runs refl)
+may_fault faults.Memory excuse empty runs = tt
+may_fault faults.Foreign excuse empty runs = tt
+may_fault (faults.BadRecord slot at) excuse empty runs = tt
 
 pub fault_disk : (fault : JournalFault) (excuse : Out) → IsDiskFault (refusal_of fault excuse) → fault ≡ faults.Disk
 fault_disk faults.Disk excuse h = refl
@@ -94,12 +108,12 @@ fault_disk faults.Memory excuse h = absurd h
 fault_disk faults.Foreign excuse h = absurd h
 fault_disk (faults.BadRecord slot at) excuse h = absurd h
 
-pub fault_found : (gateway : ℕ) (i : Image) (fault : JournalFault) (excuse : Out) → (fault ≡ faults.Halted → ⊥) → IsFault (fault_of gateway i) fault → IsOpenFault gateway i (refusal_of fault excuse)
-fault_found gateway i faults.Disk excuse runs h = tt
-fault_found gateway i faults.Halted excuse runs h = absurd (runs refl)
-fault_found gateway i faults.Memory excuse runs h = tt
-fault_found gateway i faults.Foreign excuse runs h = h
-fault_found gateway i (faults.BadRecord slot at) excuse runs h = h
+pub fault_found : (gateway : ℕ) (i : Image) (fault : JournalFault) (excuse : Out) → excuse ≡ only_sends [] → (fault ≡ faults.Halted → ⊥) → IsFault (fault_of gateway i) fault → IsOpenFault gateway i (refusal_of fault excuse)
+fault_found gateway i faults.Disk excuse empty runs h = empty
+fault_found gateway i faults.Halted excuse empty runs h = absurd (runs refl)
+fault_found gateway i faults.Memory excuse empty runs h = tt
+fault_found gateway i faults.Foreign excuse empty runs h = h
+fault_found gateway i (faults.BadRecord slot at) excuse empty runs h = h
 
 -- ---- what a crash leaves of it
 
@@ -160,3 +174,33 @@ module _ {D : Type 0} {G : Ghosts D} where
 pub opened_leaves : {D T F : Type 0} (slots : D → Slots) (r : Result T (D × F)) (d : D) (gateway : ℕ) (old : Slots) → LeavesNoMore gateway old (slots d) → IfErr r (λ refused. refused.0 ≡ d) → IfErr r (λ refused. LeavesNoMore gateway old (slots refused.0))
 opened_leaves slots (Ok x) d gateway old h is = tt
 opened_leaves slots (Err refused) d gateway old h is = subst (λ e. LeavesNoMore gateway old (slots e)) (sym is) h
+
+-- ---- the slots of a refused opening
+
+pub misfit_leaves : (gateway : ℕ) (old new : Slots) (deltas : List (List Op)) (refusal : Refusal) → new ≡ recovered gateway (image old) → DoNotFit deltas refusal → LeavesSlots gateway old refusal new
+misfit_leaves gateway old new deltas (refusals.Conflict client) is h = is
+misfit_leaves gateway old new deltas refusals.Full is h = is
+misfit_leaves gateway old new deltas refusals.Memory is h = inr (inr is)
+misfit_leaves gateway old new deltas (refusals.Frame fault) is h = absurd h
+misfit_leaves gateway old new deltas refusals.Halted is h = absurd h
+misfit_leaves gateway old new deltas (refusals.Disk excuse) is h = absurd h
+misfit_leaves gateway old new deltas refusals.Exhausted is h = absurd h
+misfit_leaves gateway old new deltas (refusals.Journal fault) is h = absurd h
+
+pub fault_leaves : (gateway : ℕ) (old new : Slots) (fault : JournalFault) (excuse : Out) → (fault ≡ faults.Halted → ⊥) → ((fault ≡ faults.Disk → ⊥) → new ≡ synced_slots old)
+    → LeavesSlots gateway old (refusal_of fault excuse) new
+fault_leaves gateway old new faults.Disk excuse runs h = tt
+fault_leaves gateway old new faults.Halted excuse runs h = absurd (runs refl)
+fault_leaves gateway old new faults.Memory excuse runs h = inr (inl (h (λ e. absurd cc)))
+fault_leaves gateway old new faults.Foreign excuse runs h = h (λ e. absurd cc)
+fault_leaves gateway old new (faults.BadRecord slot at) excuse runs h = h (λ e. absurd cc)
+
+pub started_leaves : {D T F : Type 0} (slots : D → Slots) (told : F → Refusal) (r : Result T (D × F)) (d : D) (gateway : ℕ) (old : Slots) (deltas : List (List Op)) → slots d ≡ recovered gateway (image old)
+    → IfErr r (λ refused. refused.0 ≡ d) → IfErr r (λ refused. DoNotFit deltas (told refused.1)) → IfErr r (λ refused. LeavesSlots gateway old (told refused.1) (slots refused.0))
+started_leaves slots told (Ok x) d gateway old deltas known same misfit = tt
+started_leaves slots told (Err refused) d gateway old deltas known same misfit = misfit_leaves gateway old (slots refused.0) deltas (told refused.1) (ap slots same ∙ known) misfit
+
+pub started_fits : {T E : Type 0} (r : Result T E) (gateway : ℕ) (old : Slots) (deltas : List (List Op)) → deltas ≡ records gateway (image old)
+    → OnOk r (FitInTurn [] deltas) → OnOk r (FitInTurn [] (records gateway (image old)))
+started_fits (Ok x) gateway old deltas is h = subst (λ (ds : List (List Op)). FitInTurn [] ds) is h
+started_fits (Err e) gateway old deltas is h = tt

@@ -1,5 +1,5 @@
 -- What each call of a node may answer, and the node after it. A node that is halted refuses first of all.
-use Rattle.std.specs.Prelude.{◌≡◌, ◌⊎◌, ℕ, true, false, if◌then◌else◌, List, [], ◌∷◌, ◌++◌, Option, Some, None, Result, Ok, Err}
+use Rattle.std.specs.Prelude.{◌≡◌, ◌≢◌, ◌⊎◌, ℕ, true, false, if◌then◌else◌, List, [], ◌∷◌, ◌++◌, Some, None, Result, Ok, Err}
 use Rattle.rep_ops.specs.declared.op.Op.{Op}
 use Rattle.rep_ops.specs.Making.{IsDeltaOf}
 use Rattle.rep_model.specs.Views.{view, is_named}
@@ -26,13 +26,16 @@ use Rattle.gw_node.specs.Plans.{IsPlanFor, IsMisfit, MakeNoDelta, Makes}
 -- the plan was carried out
 pub record IsDone {D : Type 0} {G : Ghosts D} (old : State G) (plan : Plan) (out : Out) (new : State G) : Type 0 where
   pub config : new.config ≡ old.config
+  pub records : new.records ≡ old.records
   pub local : new.local ≡ after_all old.local plan.local
   pub made : Makes plan.ops out.made old new
   pub answer : out ≡ record (only_sends plan.sends) { made = out.made }
 
 -- the journal could not be written: nothing of the plan was done, and its client is told so
 pub record IsGivenUp {D : Type 0} {G : Ghosts D} (old : State G) (plan : Plan) (excuse : Out) (new : State G) : Type 0 where
+  pub some : plan.ops ≢ []
   pub config : new.config ≡ old.config
+  pub records : new.records ≡ old.records
   pub kept : new.kept ≡ old.kept
   pub local : new.local ≡ old.local
   pub delta : List Op
@@ -75,14 +78,17 @@ IsNoted old (op ∷ ops) new = IsWritten old (op ∷ ops) new
 -- the delta is taken, and clients that another gateway now owns have no address here any more
 pub record IsTaken {D : Type 0} {G : Ghosts D} (old : State G) (delta : List Op) (new : State G) : Type 0 where
   pub config : new.config ≡ old.config
+  pub records : new.records ≡ old.records
   pub fits : Fits old.kept delta
   pub kept : IsKeptOf (old.kept ++ delta) new.kept
   pub local : new.local ≡ owned old.config.gateway (seen_of new.kept) old.local
   pub noted : IsNoted old.journal delta new.journal
 
--- it fits, and the journal could not be written
+-- it has operations and fits, and the journal could not be written
 pub record IsLeft {D : Type 0} {G : Ghosts D} (old : State G) (delta : List Op) (new : State G) : Type 0 where
+  pub some : delta ≢ []
   pub config : new.config ≡ old.config
+  pub records : new.records ≡ old.records
   pub kept : new.kept ≡ old.kept
   pub local : new.local ≡ old.local
   pub fits : Fits old.kept delta

@@ -1,5 +1,5 @@
 -- The parts of a node, and what a call answers.
-use Rattle.std.specs.Prelude.{◌≡◌, ℕ, Bool, List, [], Option, None, Result, Ok, Err}
+use Rattle.std.specs.Prelude.{◌≡◌, ℕ, Bool, List, [], None, Result, Ok, Err}
 use Rattle.std.specs.Arc.{arc_value}
 use Rattle.std.specs.declared.sync.Arc.{Arc}
 use Rattle.std.specs.declared.alloc.Global.{Global}
@@ -17,15 +17,17 @@ use Rattle.gw_node.specs.declared.fault.NodeFault.TheVariants as faults
 use Rattle.gw_node.specs.declared.refusal.Refusal.{Refusal}
 use Rattle.gw_node.specs.declared.refusal.Refusal.TheVariants as refusals
 
--- what a node is: what it was told, what its replica keeps, what else it knows, and its journal
+-- what a node is: what it was told, what its replica keeps, what else it knows, its journal, and how many records it read when it was
+-- opened
 pub record State {D : Type 0} (G : Ghosts D) : Type 0 where
   pub config : Config
   pub kept : List Op
   pub local : Local
   pub journal : Journal D G
+  pub records : ℕ
 
 abbrev pub state_of : {R Z D : Type 0} {G : Ghosts D} → (R → List Op) → Node R D Z G → State G
-state_of kept node = record { config = node.config; kept = kept node.replica; local = node.dialogs.local; journal = node.journal }
+state_of kept node = record { config = node.config; kept = kept node.replica; local = node.dialogs.local; journal = node.journal; records = node.records }
 
 -- how many records it read when it was opened
 abbrev pub records_of : {R Z D : Type 0} {G : Ghosts D} → Node R D Z G → ℕ
@@ -52,6 +54,7 @@ pub record IsUnchanged {D : Type 0} {G : Ghosts D} (old new : State G) : Type 0 
   pub kept : new.kept ≡ old.kept
   pub local : new.local ≡ old.local
   pub journal : IsUntouched old.journal new.journal
+  pub records : new.records ≡ old.records
 
 -- ---- answers
 

@@ -1,5 +1,5 @@
 -- What a node's plan comes to, by what its replica keeps.
-use Rattle.std.specs.Prelude.{◌≡◌, ◌≢◌, ◌⊎◌, ℕ, List, [], ◌∷◌, ◌++◌, Option, Some, None}
+use Rattle.std.specs.Prelude.{◌≡◌, ◌≢◌, ℕ, List, [], ◌∷◌, ◌++◌, Option, Some, None}
 use Rattle.rep_ops.specs.declared.op.Op.{Op}
 use Rattle.rep_ops.specs.declared.fault.OpsFault.{OpsFault}
 use Rattle.rep_ops.specs.declared.fault.OpsFault.TheVariants as ops_faults
@@ -13,7 +13,7 @@ use Rattle.sn_flow.specs.Plans.{seen_of}
 use Rattle.jr_journal.specs.declared.disk.Disk.{Ghosts}
 use Rattle.gw_node.specs.declared.refusal.Refusal.{Refusal}
 use Rattle.gw_node.specs.declared.refusal.Refusal.TheVariants as refusals
-use Rattle.gw_node.specs.Occasions.{Occasion, IsPlanOf, IsNoFrame}
+use Rattle.gw_node.specs.Occasions.{Occasion, IsPlanOf}
 use Rattle.gw_node.specs.Parts.{State, IsUntouched}
 use Rattle.gw_node.specs.Writing.{IsWritten}
 

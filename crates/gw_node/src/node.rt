@@ -13,7 +13,7 @@ ghost use Rattle.gw_node.specs.Occasions.{Datagram, Clock};
 ghost use Rattle.gw_node.specs.Parts.{state_of, told, said, is_halted as is_stopped, disk_of, records_of};
 ghost use Rattle.gw_node.specs.Calls.{OwnCall, TakeCall, ViewCall, StepCall};
 ghost use Rattle.gw_node.specs.Taking.{ops_of, IsBetween, HasTaken};
-ghost use Rattle.gw_node.specs.Opening.{IsStarted, MayRefuse, IsDiskFault, IsOpenFault};
+ghost use Rattle.gw_node.specs.Opening.{IsStarted, FitInTurn, MayRefuse, IsDiskFault, IsOpenFault, LeavesSlots};
 ghost use Rattle.gw_node.specs.Carrying.{CarriesOn, OwnCarriesOn, StepCarriesOn};
 
 use super::carrying::take_in;
@@ -53,6 +53,8 @@ impl<R: Replica, D: Disk + Drop> Node<R, D> {
         ensures records { D.honest → IfOk result (λ node. records_of node ≡ length (records config.gateway (image (D.slots disk)))) }
         ensures takes { D.honest → IfOk result (λ node. CountsAs (ops_of (records config.gateway (image (D.slots disk)))) (state_of R.kept node).kept) }
         ensures none { D.honest → IfOk result (λ node. records config.gateway (image (D.slots disk)) ≡ [] → (state_of R.kept node).kept ≡ []) }
+        // each of which fits to those before it,
+        ensures fits { D.honest → OnOk result (FitInTurn [] (records config.gateway (image (D.slots disk)))) }
         // beside whatever set it had taken before it stopped.
         ensures restarts { D.honest → IfOk result (λ node. (S refused : List Op) → IsBetween S refused (ops_of (records config.gateway (image (D.slots disk)))) →
             HasTaken (S ++ ops_of (records config.gateway (image (D.slots disk)))) [] (state_of R.kept node)) }
@@ -60,6 +62,8 @@ impl<R: Replica, D: Disk + Drop> Node<R, D> {
         // It is refused exactly where the format says so, or a record does not fit, or the disk failed, or memory ran out.
         ensures found { D.honest → OnOk result (fault_of config.gateway (image (D.slots disk)) ≡ None) }
         ensures fault { D.honest → IfErr result (λ refused. IsOpenFault config.gateway (image (D.slots disk)) (told refused.1)) }
+        // Refused for another cause than the disk, it leaves the slots as they were, synced, or as an opening leaves them.
+        ensures slots { D.honest → IfErr result (λ refused. LeavesSlots config.gateway (D.slots disk) (told refused.1) (D.slots refused.0)) }
         // Whatever refused it, no crash leaves what it could not have left before.
         ensures leaves { D.honest → IfErr result (λ refused. LeavesNoMore config.gateway (D.slots disk) (D.slots refused.0)) }
         // A failure that is arranged for an append stays arranged, unless a journal is begun.

@@ -4,7 +4,7 @@ use Rattle.rep_ops.specs.Making.{IsDeltaOf}
 use Rattle.rep_model.specs.Keep.{IsKeptOf}
 use Rattle.sn_flow.specs.Locals.{after_all}
 use Rattle.gw_node.specs.declared.out.Out.{Out}
-use Rattle.gw_node.specs.Parts.{State, state_of, only_sends}
+use Rattle.gw_node.specs.Parts.{state_of, only_sends}
 use Rattle.gw_node.specs.Writing.{WrittenIfMade}
 use Rattle.gw_node.specs.Plans.{Makes}
 use Rattle.gw_node.specs.Handling.{HaveNoDelta}
@@ -14,10 +14,10 @@ use Rattle.gw_node.proofs.carrying.carry_out.Goals as goal
 pub returns-in-Err : goal.returns-in-Err
 returns-in-Err g c =
     no_delta (state_of g.R.Replica.kept c.args.node.now)
-    (record { config = c.args.node.now.config; kept = g.R.Replica.kept c.args.node.now.replica; local = c.prepare.new.self.local; journal = c.args.node.now.journal })
+    (record { config = c.args.node.now.config; kept = g.R.Replica.kept c.args.node.now.replica; local = c.prepare.new.self.local; journal = c.args.node.now.journal; records = c.args.node.now.records })
     c.args.plan c.args.excuse c.in-Err.refusal
     (subst (λ (ops : List Op). HaveNoDelta ops c.in-Err.refusal) c.into_vec.ensures c.in-Err.ensures.err)
-    (record { config = refl; kept = refl; local = c.prepare.ensures.unchanged; journal = record { gateway = refl; slot = refl; halted = refl; disk = refl } })
+    (record { config = refl; kept = refl; local = c.prepare.ensures.unchanged; journal = record { gateway = refl; slot = refl; halted = refl; disk = refl }; records = refl })
 
 pub returns-in-Ok-write_if_made : goal.returns-in-Ok-write_if_made
 returns-in-Ok-write_if_made g c =
@@ -28,11 +28,12 @@ returns-in-Ok-write_if_made g c =
     let given_is : c.out.result.now.made ≡ Some delta = ap (λ (out : Out). out.made) c.out.ensures ∙ made_is in
     record {
       config = refl;
+      records = refl;
       local = c.commit-in-Ok-write_if_made.ensures ∙ ap (λ l. after_all l c.args.plan.local) c.prepare.ensures.unchanged;
       made = subst (λ (made : Option (List Op)). Makes c.args.plan.ops made old
-          (record { config = c.args.node.now.config; kept = g.R.Replica.kept c.commit.new.self; local = c.commit-in-Ok-write_if_made.new.self.local; journal = c.write_if_made.new.journal })) (sym made_is)
+          (record { config = c.args.node.now.config; kept = g.R.Replica.kept c.commit.new.self; local = c.commit-in-Ok-write_if_made.new.self.local; journal = c.write_if_made.new.journal; records = c.args.node.now.records })) (sym made_is)
           (makes c.args.plan.ops delta old
-          (record { config = c.args.node.now.config; kept = g.R.Replica.kept c.commit.new.self; local = c.commit-in-Ok-write_if_made.new.self.local; journal = c.write_if_made.new.journal })
+          (record { config = c.args.node.now.config; kept = g.R.Replica.kept c.commit.new.self; local = c.commit-in-Ok-write_if_made.new.self.local; journal = c.write_if_made.new.journal; records = c.args.node.now.records })
           c.requires.some
           (subst (λ (ops : List Op). IsDeltaOf ops delta) c.into_vec.ensures c.in-Ok.ensures.ok)
           c.in_ok-staged.ensures.fits

@@ -11,6 +11,7 @@ returns-in-Ok g c = (
   search rules,
   record {
     config = refl;
+    records = refl;
     fits = c.in_ok-ready.ensures.fits;
     kept = subst (λ K. IsKeptOf (g.R.Replica.kept c.args.node.now.replica ++ c.args.delta.now) K) (sym c.commit.ensures) c.in_ok-ready.ensures.taken;
     local = c.keep_owned.ensures;
@@ -24,5 +25,5 @@ returns-in-Err g c =
     let told : c.refused.result ≡ refusal_of c.in-Err.fault (only_sends []) = c.refused.ensures ∙ ap (refusal_of c.in-Err.fault) nothing in
     rw told
     (left (state_of g.R.Replica.kept c.args.node.now)
-    (record { config = c.args.node.now.config; kept = g.R.Replica.kept c.prepare.new.replica; local = c.args.node.now.dialogs.local; journal = c.write_if_any.new.journal })
-    c.args.delta.now c.in-Err.fault (search rules) refl c.prepare.ensures.unchanged refl c.in_ok-ready.ensures.fits c.in-Err.ensures)
+    (record { config = c.args.node.now.config; kept = g.R.Replica.kept c.prepare.new.replica; local = c.args.node.now.dialogs.local; journal = c.write_if_any.new.journal; records = c.args.node.now.records })
+    c.args.delta.now c.in-Err.fault (search rules) refl c.prepare.ensures.unchanged refl refl c.in_ok-ready.ensures.fits c.in-Err.ensures)

@@ -1,4 +1,4 @@
-use Rattle.gw_node.specs.Parts.{state_of, said}
+use Rattle.gw_node.specs.Parts.{state_of}
 use Rattle.gw_node.proofs.Taken.{take_carries_on}
 use Rattle.gw_node.proofs.node.Node.take.Goals as goal
 

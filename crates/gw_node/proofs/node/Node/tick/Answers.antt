@@ -1,5 +1,5 @@
 use Rattle.gw_node.specs.Occasions.{Clock}
-use Rattle.gw_node.specs.Parts.{state_of, said}
+use Rattle.gw_node.specs.Parts.{state_of}
 use Rattle.gw_node.proofs.Taken.{own_carries_on}
 use Rattle.gw_node.proofs.node.Node.tick.Goals as goal
 
