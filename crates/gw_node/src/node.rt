@@ -39,10 +39,14 @@ pub struct Node<R: Replica, D: Disk> {
 }
 
 impl<R: Replica, D: Disk + Drop> Node<R, D> {
-    /// Opens a gateway on the disk of its journal, and takes what the journal holds. It begins without bindings, dialogs and timers.
+    /// Opens a gateway on the disk of its journal, and takes what the journal holds; nothing of that is written again. The
+    /// gateway begins without bindings, dialogs and timers.
     ///
-    /// With a fault the disk comes back. `Journal` is told of what is in the slots, `Conflict` and `Full` of a record that does not fit to
-    /// those before it, `Disk` only where the disk failed. The slots may be synced by then, a torn record cut away or a journal begun.
+    /// First the journal is opened: `Disk` only where the disk failed, with nothing to be sent; `Journal` for what is in the
+    /// slots. Then its records are taken, one after the other: `Conflict` and `Full` for one that does not fit to those
+    /// before it. `Memory` may stand in the place of each. With a fault the disk comes back. Its slots may be synced by
+    /// then, a torn record cut away or a journal begun; on an honest disk no crash leaves what it could not have left
+    /// before.
     pub fn open(alloc: Global, config: Config, disk: D) -> Result<Node<R, D>, (D, NodeFault)>
         ensures starts { IfOk result (λ node. IsStarted config (state_of R.kept node)) }
         ensures may { IfErr result (λ refused. MayRefuse (told refused.1)) }
@@ -84,7 +88,18 @@ impl<R: Replica, D: Disk + Drop> Node<R, D> {
         }
     }
 
-    /// A datagram comes from an address at a moment.
+    /// A datagram comes from an address at a moment, which is in seconds. The step table says what becomes of it (MQTT-SN
+    /// 1.2 section 6; the frames are those of section 5.4). The operations of the step, if there are any, become one delta.
+    /// It is written to the journal and synced, then it is taken and what the step notes is noted; `sends` of the answer is
+    /// what is to be sent, and `made` is the delta, for the other gateways. A step without operations writes nothing.
+    ///
+    /// The faults, in the order in which they are looked for: `Halted`, a write of the journal has failed; `Frame`, the
+    /// bytes are no frame; `Exhausted`, the step needs an epoch or a sequence number after the last; `Conflict` and `Full`,
+    /// its operations cannot be taken, or make no delta; `Disk`, the disk failed. `Memory` may stand in the place of each.
+    ///
+    /// After `Disk` the node is halted, and what it keeps and knows is as before; `out` of the fault is to be sent: return
+    /// code 1, congestion (section 5.3.10), where the frame's answer has a return code. After each other fault nothing has
+    /// changed.
     pub fn frame(&mut self, alloc: Global, from: Addr, bytes: &[u8], now: u64) -> Answer
         ensures call { OwnCall (state_of R.kept self.old) (Datagram from bytes.now) now (said result) (state_of R.kept self.new) }
         ensures taken { OwnCarriesOn (state_of R.kept self.old) (Datagram from bytes.now) now (said result) (state_of R.kept self.new) }
@@ -92,7 +107,14 @@ impl<R: Replica, D: Disk + Drop> Node<R, D> {
         one(handle_frame(alloc, self, from, bytes, now))
     }
 
-    /// A delta comes.
+    /// A delta of another gateway comes. If it has operations it is written to the journal and synced; then it is taken, and
+    /// bindings and timers of clients that another gateway now owns are dropped. Nothing is sent, and the delta is not
+    /// handed on.
+    ///
+    /// The faults, in the order in which they are looked for: `Halted`, a write of the journal has failed; `Conflict` and
+    /// `Full`, the delta does not fit to what is kept; `Disk`, the disk failed. `Memory` may stand in the place of each.
+    /// After `Disk` the node is halted, what it keeps and knows is as before, and nothing is to be sent. After each other
+    /// fault nothing has changed.
     pub fn take(&mut self, alloc: Global, delta: &Delta) -> Answer
         ensures call { TakeCall (state_of R.kept self.old) delta.now (said result) (state_of R.kept self.new) }
         ensures taken { CarriesOn (state_of R.kept self.old) delta.now (said result) (state_of R.kept self.new) }
@@ -100,7 +122,11 @@ impl<R: Replica, D: Disk + Drop> Node<R, D> {
         one(take_in(alloc, self, delta))
     }
 
-    /// Time goes by: a moment.
+    /// Time goes by: it is this moment, in seconds. One thing is done that is due: ADVERTISE (MQTT-SN 1.2 section 6.1), or
+    /// what is due with one client: it is lost, and its will is published (6.3, 6.14); a frame is sent again (6.13);
+    /// messages that wait are delivered (6.10). What is written to the journal, taken, noted and sent is as with `frame`,
+    /// and so are the faults, of which `Frame` never comes. Nobody waits for the answer to a tick, so after `Disk` nothing
+    /// is to be sent.
     pub fn tick(&mut self, alloc: Global, now: u64) -> Answer
         ensures call { OwnCall (state_of R.kept self.old) Clock now (said result) (state_of R.kept self.new) }
         ensures taken { OwnCarriesOn (state_of R.kept self.old) Clock now (said result) (state_of R.kept self.new) }
@@ -108,7 +134,8 @@ impl<R: Replica, D: Disk + Drop> Node<R, D> {
         one(handle_tick(alloc, self, now))
     }
 
-    /// Somebody asks for a client's view. A halted node answers too.
+    /// Somebody asks for a client's view: `view` of the answer, or none where nothing names the client. A halted node
+    /// answers too. The only fault is `Memory`.
     pub fn view(&self, alloc: Global, client: &ClientId) -> Answer
         ensures { ViewCall (state_of R.kept self.now) client.now (said result) (state_of R.kept self.now) }
     {

@@ -22,13 +22,13 @@ pub type Answer = Result<Arc<Out>, NodeFault>;
 pub enum Refusal {
     /// The datagram is no frame.
     Frame { fault: FrameFault },
-    /// The journal could not be written before.
+    /// A write of the journal has failed before.
     Halted,
-    /// The journal could not be written, and this is answered.
+    /// The disk of the journal failed, and this is answered.
     Disk { excuse: Shares },
     /// The delta contradicts what was taken of the client.
     Conflict { client: Names },
-    /// More would be held than may be.
+    /// More would be held than may be, or the operations make no delta.
     Full,
     /// A number is at its last value.
     Exhausted,

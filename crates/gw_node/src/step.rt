@@ -8,11 +8,27 @@ use sn_flow::Addr;
 #[derive(Debug, Drop)]
 pub enum Step {
     /// A datagram comes from an address at a moment.
-    Frame { from: Addr, bytes: Octets, now: u64 },
+    Frame {
+        /// The address that it comes from.
+        from: Addr,
+        /// Its bytes.
+        bytes: Octets,
+        /// The moment.
+        now: u64,
+    },
     /// A delta comes.
-    Take { delta: Delta },
+    Take {
+        /// The delta.
+        delta: Delta,
+    },
     /// Time goes by: a moment.
-    Tick { now: u64 },
+    Tick {
+        /// The moment.
+        now: u64,
+    },
     /// Somebody asks for a client's view.
-    View { client: ClientId },
+    View {
+        /// The client.
+        client: ClientId,
+    },
 }

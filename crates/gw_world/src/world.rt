@@ -29,7 +29,7 @@ pub enum WorldFault {
     #[error("event {event} names a gateway that is not there")]
     NoGateway { event: u64 },
     /// Fault 2: the event names no delta.
-    #[error("event {event} names a delta that was not made yet")]
+    #[error("event {event} names a delta that is not there")]
     NoDelta { event: u64 },
     /// Fault 3: memory ran out.
     #[error("out of memory")]
