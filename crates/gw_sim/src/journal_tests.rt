@@ -13,10 +13,10 @@ use std::sync::Arc;
 use std::test::Fail;
 
 /// CONNECT of the client s1.
-const CONNECT: [u8; 8] = [8, 4, 4, 1, 0, 60, 0x73, 0x31];
+pub const CONNECT: [u8; 8] = [8, 4, 4, 1, 0, 60, 0x73, 0x31];
 
 /// Where the client is.
-const CLIENT: Addr = Addr { host: 0, port: 7 };
+pub const CLIENT: Addr = Addr { host: 0, port: 7 };
 
 /// What a gateway of this number is told.
 fn config_of(alloc: Global, gateway: u8) -> Result<Config, Fail> {
@@ -29,7 +29,7 @@ fn config_of(alloc: Global, gateway: u8) -> Result<Config, Fail> {
 }
 
 /// Gateway 1 on a disk.
-fn opened(alloc: Global, disk: MemoryDisk) -> Result<Node<Held, MemoryDisk>, Fail> {
+pub fn opened(alloc: Global, disk: MemoryDisk) -> Result<Node<Held, MemoryDisk>, Fail> {
     match Node::open(alloc, config_of(alloc, 1)?, disk) {
         Ok(node) => Ok(node),
         Err((_, fault)) => Err(Fail::new(fault)),
@@ -37,13 +37,13 @@ fn opened(alloc: Global, disk: MemoryDisk) -> Result<Node<Held, MemoryDisk>, Fai
 }
 
 /// Looks at the one datagram of an answer.
-fn check_sent(rt: &impl Abort, out: &Arc<Out>, bytes: &[u8]) {
+pub fn check_sent(rt: &impl Abort, out: &Arc<Out>, bytes: &[u8]) {
     assert_eq!(rt; out.sends.len(), 1);
     assert_eq!(rt; out.sends.as_slice()[0].bytes.as_slice(), bytes);
 }
 
 /// A client connects.
-fn connect(rt: &impl Abort, alloc: Global, node: &mut Node<Held, MemoryDisk>) {
+pub fn connect(rt: &impl Abort, alloc: Global, node: &mut Node<Held, MemoryDisk>) {
     let answer = node.frame(alloc, CLIENT, &CONNECT, 0);
     assert!(rt; answer.is_ok());
     if let Ok(out) = answer {
@@ -153,7 +153,7 @@ fn a_delta_is_taken(rt: HostRuntime) -> Result<(), Fail> {
     assert!(rt; node.take(alloc, &delta).is_ok());
     // The same name with another duration.
     let mut other = bytes;
-    other[24] = 61;
+    other[23] = 61;
     let other = Delta::decode(alloc, &other)?;
     assert!(rt; matches!(node.take(alloc, &other), Err(NodeFault::Conflict { .. })));
     // A delta without operations is not written.
@@ -196,27 +196,49 @@ fn no_number_comes_after_the_last(rt: HostRuntime) -> Result<(), Fail> {
     Ok(())
 }
 
+/// The disk of gateway 1 after gateway 2 was refused it.
+fn refused(rt: &impl Abort, alloc: Global, disk: MemoryDisk) -> Result<MemoryDisk, Fail> {
+    let config = config_of(alloc, 2)?;
+    let other: Result<Node<Held, MemoryDisk>, (MemoryDisk, NodeFault)> = Node::open(
+        alloc, config, disk,
+    );
+    assert!(rt; other.is_err());
+    match other {
+        Ok(node) => Ok(node.into_disk()),
+        Err((disk, fault)) => {
+            assert!(rt;
+                matches!(
+                    fault,
+                    NodeFault::Journal {
+                        fault: JournalFault::Foreign
+                    }
+                )
+            );
+            Ok(disk)
+        }
+    }
+}
+
 #[test]
 fn a_journal_of_another_gateway_is_not_opened(rt: HostRuntime) -> Result<(), Fail> {
     let alloc = rt.alloc();
     let node = opened(alloc, MemoryDisk::new(alloc))?;
-    let disk = node.into_disk();
-    let other: Result<Node<Held, MemoryDisk>, (MemoryDisk, NodeFault)> = Node::open(
-        alloc,
-        config_of(alloc, 2)?,
-        disk,
-    );
-    assert!(rt;
-        matches!(
-            other,
-            Err((
-                _,
-                NodeFault::Journal {
-                    fault: JournalFault::Foreign
-                }
-            ))
-        )
-    );
+    let mut disk = refused(&rt, alloc, node.into_disk())?;
+    // The header and the seal are as they were.
+    let header = [0x53, 0x4e, 0x4a, 0x31, 1, 0, 0, 0, 0, 0, 0, 0, 1, 0x53];
+    check_slot(&rt, alloc, &mut disk, &header)
+}
+
+#[test]
+fn the_records_of_another_gateway_stay(rt: HostRuntime) -> Result<(), Fail> {
+    let alloc = rt.alloc();
+    let mut node = opened(alloc, MemoryDisk::new(alloc))?;
+    connect(&rt, alloc, &mut node);
+    let mut disk = refused(&rt, alloc, node.into_disk())?;
+    let size = disk.len(Slot::First);
+    assert!(rt; matches!(size, Ok(53)));
+    let again = opened(alloc, disk)?;
+    assert_eq!(rt; again.records(), 1);
     Ok(())
 }
 

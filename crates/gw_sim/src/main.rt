@@ -19,6 +19,8 @@ mod command;
 mod fault;
 #[cfg(test)]
 mod journal_tests;
+#[cfg(test)]
+mod node_tests;
 mod number;
 mod play;
 mod printing;
