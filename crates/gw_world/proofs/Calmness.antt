@@ -61,7 +61,7 @@ module _ {D : Type 0} {G : Ghosts D} where
       → StaysCalm (λ config kept local next after. OwnKept config kept local occasion now answer next after) old new
   own_calm old new occasion now (Ok out) honest calm fed memory (runs, (plan, is_plan, done)) =
       let made = makes_calm plan.ops out.made old new honest calm fed done.made in
-      record { calm = made.0; configured = done.config; kept = (plan, is_plan, ap (λ (o : Out). o.sends) done.answer, done.local, made.1) }
+      record { calm = made.0; configured = done.config; kept = (plan, is_plan, done.answer, done.local, made.1) }
   own_calm old new occasion now (Err refusals.Halted) honest calm fed memory h = absurd (running old calm h.0)
   own_calm old new occasion now (Err (refusals.Frame fault)) honest calm fed memory (runs, why, u) =
       record { calm = untouched old new calm u.journal; configured = u.config; kept = (u.kept, u.local, why) }
@@ -82,7 +82,7 @@ module _ {D : Type 0} {G : Ghosts D} where
   pub take_calm : (old new : State G) (delta : List Op) (answer : Result Out Refusal) → G.honest → IsCalm old → G.starved (disk_of new.journal) ≡ false → IsFed answer → TakeCall old delta answer new
       → StaysCalm (λ config kept local next after. TakeKept config kept local delta answer next after) old new
   take_calm old new delta (Ok out) honest calm fed memory (runs, empty, h) =
-      record { calm = noted_calm old new delta honest calm fed h.noted; configured = h.config; kept = (ap (λ (o : Out). o.sends) empty, ap (λ (o : Out). o.made) empty, h.fits, h.kept, h.local) }
+      record { calm = noted_calm old new delta honest calm fed h.noted; configured = h.config; kept = (empty, h.fits, h.kept, h.local) }
   take_calm old new delta (Err refusals.Halted) honest calm fed memory h = absurd (running old calm h.0)
   take_calm old new delta (Err (refusals.Conflict client)) honest calm fed memory (runs, why, u) =
       record { calm = untouched old new calm u.journal; configured = u.config; kept = (u.kept, u.local, why) }

@@ -63,7 +63,7 @@ module _ (field : Field) (s : SteadyField field) (w : WholeField field) (n i : �
   whole-taken : (next : Gateway) (made : List (List Op)) (k : ℕ) (delta : List Op) (answer : Result Out Refusal) → slice_get field.deltas k ≡ Some delta → TakeStep old delta answer next made → WholeField (changed field i next made)
   whole-taken next made k delta (Err fault) there h = whole-still field.gateways i old next field.deltas made at.1 (still old next made h.1) w
   whole-taken next made k delta (Ok out) there h =
-      whole-silent field.gateways i old next delta at.1 (ap (λ (x : Gateway). x.config) h.4) (ap (λ (x : Gateway). x.taken) h.4) field.deltas made (listed k delta there) h.3 w
+      whole-silent field.gateways i old next delta at.1 (ap (λ (x : Gateway). x.config) h.3) (ap (λ (x : Gateway). x.taken) h.3) field.deltas made (listed k delta there) h.2 w
 
   own-peaceful : (occasion : Occasion) (now : ℕ) (answer : Result Out Refusal) (next : Gateway) (made : List (List Op)) → OwnStep old occasion now answer next made → IsAtPeace answer
   own-peaceful occasion now (Ok out) next made h = tt

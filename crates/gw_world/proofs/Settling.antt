@@ -55,7 +55,7 @@ module _ (field : Field) (w : AreListed field) (i : ℕ) (old next : Gateway) (m
 
   listed-taken : (k : ℕ) (delta : List Op) (answer : Result Out Refusal) → slice_get field.deltas k ≡ Some delta → TakeStep old delta answer next made → AreListed (changed field i next made)
   listed-taken k delta (Err fault) there h = listed-moved (inl (still old next made h.1))
-  listed-taken k delta (Ok out) there h = listed-more delta (ap (λ (x : Gateway). x.taken) h.4) (all-at (λ (D : List Op). AllByRecursion (IsListed (field.deltas ++ made)) D) field.deltas k delta still-listed.lists there)
+  listed-taken k delta (Ok out) there h = listed-more delta (ap (λ (x : Gateway). x.taken) h.3) (all-at (λ (D : List Op). AllByRecursion (IsListed (field.deltas ++ made)) D) field.deltas k delta still-listed.lists there)
 
 after-listed : (old : Field) (event : Event) (answer : Answer) (new : Field) → After old event answer new → AreListed old → AreListed new
 after-listed old (Frame number from bytes now) (Node answer) new h w =

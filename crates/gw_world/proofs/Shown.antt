@@ -76,11 +76,11 @@ module _ (g k : Gateway) (s : IsShown g k) where
   pub own_taken : (occasion : Occasion) (now : ℕ) (answer : Result Out Refusal) (kept : List Op) (local : Local)
       → OwnKept k.config k.taken k.local occasion now answer kept local
       → Leads (λ next mades. OwnStep g occasion now answer next mades) k kept local (made_of answer)
-  own_taken occasion now (Ok out) kept local (plan, is_plan, sends, bound, makes) =
+  own_taken occasion now (Ok out) kept local (plan, is_plan, answer, bound, makes) =
       let made = made_taken plan plan.ops out.made kept makes in
       record {
         next = made.next;
-        step = (plan, plan_taken occasion now (Some plan) is_plan, (sends, made.step));
+        step = (plan, plan_taken occasion now (Some plan) is_plan, (answer, made.step));
         shown = record { configured = made.shown.configured; bound = bound ∙ made.shown.bound; keeps = made.shown.keeps };
       }
   own_taken occasion now (Err (refusals.Frame f)) kept local (same_kept, same_local, first) =
@@ -108,14 +108,14 @@ module _ (g k : Gateway) (s : IsShown g k) where
   pub take_taken : (delta : List Op) (answer : Result Out Refusal) (kept : List Op) (local : Local)
       → TakeKept k.config k.taken k.local delta answer kept local
       → Leads (λ next mades. TakeStep g delta answer next mades) k kept local []
-  take_taken delta (Ok out) kept local (sends, made, fits, keeps, bound) =
+  take_taken delta (Ok out) kept local (answer, fits, keeps, bound) =
       let more = keeps_more g.taken k.taken delta kept s.keeps keeps in
       let seen : seen_of kept ≡ seen_of (g.taken ++ delta) = seen_same (g.taken ++ delta) kept more.counts in
       let same : owned k.config.gateway (seen_of kept) k.local ≡ owned g.config.gateway (seen_of (g.taken ++ delta)) g.local =
       λ i. owned (s.configured i).gateway (seen i) (s.bound i) in
       record {
         next = record g { taken = g.taken ++ delta; local = owned g.config.gateway (seen_of (g.taken ++ delta)) g.local };
-        step = (sends, made, takable g.taken k.taken delta s.keeps fits, refl, refl);
+        step = (answer, takable g.taken k.taken delta s.keeps fits, refl, refl);
         shown = record { configured = s.configured; bound = bound ∙ same; keeps = more };
       }
   take_taken delta (Err (refusals.Conflict c)) kept local (same_kept, same_local, h) =

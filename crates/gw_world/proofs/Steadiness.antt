@@ -137,12 +137,12 @@ module _ (field : Field) (s : Steady field.gateways field.deltas) (n i : ℕ) (o
   updated-taken : (next : Gateway) (made : List (List Op)) (k : ℕ) (delta : List Op) (answer : Result Out Refusal) → slice_get field.deltas k ≡ Some delta → TakeStep old delta answer next made → Steady (changed field i next made).gateways (changed field i next made).deltas
   updated-taken next made k delta (Err fault) there h = updated-still next made (still old next made h.1)
   updated-taken next made k delta (Ok out) there h =
-      let taken : next.taken ≡ old.taken ++ delta = ap (λ (x : Gateway). x.taken) h.4 in
+      let taken : next.taken ≡ old.taken ++ delta = ap (λ (x : Gateway). x.taken) h.3 in
       let news : IsKnown n old.taken delta = all-at (IsKnown n old.taken) field.deltas k delta known-before there in
-      updated next made (ap (λ (x : Gateway). x.config) h.4)
+      updated next made (ap (λ (x : Gateway). x.config) h.3)
       (λ c. subst (λ T. IsFlush n c T) (sym taken) (flush-taken n c old.taken delta (news c) (flush-before c)))
-      (subst (λ ds. AllByRecursion (IsKnown n next.taken) (field.deltas ++ ds)) (sym h.3) (subst (AllByRecursion (IsKnown n next.taken)) (sym (append-nil field.deltas)) (subst (λ T. AllByRecursion (IsKnown n T) field.deltas) (sym taken) (known-more delta))))
-      (λ m _ T. subst (AllByRecursion (IsKnown m T)) (sym h.3) tt)
+      (subst (λ ds. AllByRecursion (IsKnown n next.taken) (field.deltas ++ ds)) (sym h.2) (subst (AllByRecursion (IsKnown n next.taken)) (sym (append-nil field.deltas)) (subst (λ T. AllByRecursion (IsKnown n T) field.deltas) (sym taken) (known-more delta))))
+      (λ m _ T. subst (AllByRecursion (IsKnown m T)) (sym h.2) tt)
 
 abbrev pub SteadyField : Field → Type 0
 SteadyField field = Steady field.gateways field.deltas

@@ -56,7 +56,7 @@ module _ (field : Field) (n : ℕ) where
     written-taken : (k : ℕ) (delta : List Op) (answer : Result Out Refusal) → slice_get field.deltas k ≡ Some delta → TakeStep old delta answer next made → HasWritten (changed field i next made)
     written-taken k delta (Err fault) there h = written-still (still old next made h.1)
     written-taken k delta (Ok out) there h =
-        written-more delta (ap (λ (x : Gateway). x.taken) h.4) h.3 (all-at (λ (D : List Op). AllByRecursion (IsBeforeOrOf field n) D) field.deltas k delta before.lists there)
+        written-more delta (ap (λ (x : Gateway). x.taken) h.3) h.2 (all-at (λ (D : List Op). AllByRecursion (IsBeforeOrOf field n) D) field.deltas k delta before.lists there)
 
 after-written : (old new : Field) (event : Event) (answer : Answer) → After old event answer new → HasWritten old (gateway_of event) new
 after-written old new (Frame number from bytes now) (Node answer) h =

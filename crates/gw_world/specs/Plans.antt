@@ -12,6 +12,7 @@ use Rattle.gw_node.specs.declared.out.Out.{Out}
 use Rattle.gw_node.specs.declared.refusal.Refusal.{Refusal}
 use Rattle.gw_node.specs.declared.refusal.Refusal.TheVariants as refusals
 use Rattle.gw_node.specs.Occasions.{Occasion, IsPlanOf, IsNoFrame}
+use Rattle.gw_node.specs.Parts.{only_sends}
 use Rattle.gw_node.specs.Plans.{IsMisfit}
 use Rattle.gw_node.specs.Calls.{AreTooMuch}
 
@@ -43,7 +44,7 @@ Makes (op ∷ ops) (Some delta) kept next = IsDeltaOf (op ∷ ops) delta × Fits
 abbrev pub OwnKept : Config → List Op → Local → Occasion → ℕ → Result Out Refusal → List Op → Local → Type 0
 OwnKept config kept local occasion now (Ok out) next after =
     (plan : Plan) × IsPlanFor config kept local occasion now (Some plan)
-    × (out.sends ≡ plan.sends) × (after ≡ after_all local plan.local) × Makes plan.ops out.made kept next
+    × (out ≡ record (only_sends plan.sends) { made = out.made }) × (after ≡ after_all local plan.local) × Makes plan.ops out.made kept next
 OwnKept config kept local occasion now (Err refusal) next after =
     (next ≡ kept) × (after ≡ local) × IsOwnRefusal config kept local occasion now refusal
 
@@ -61,6 +62,6 @@ IsTakeRefusal kept delta refusals.Memory = ⊥
 -- what a delta does to them
 abbrev pub TakeKept : Config → List Op → Local → List Op → Result Out Refusal → List Op → Local → Type 0
 TakeKept config kept local delta (Ok out) next after =
-    (out.sends ≡ []) × (out.made ≡ None) × Fits kept delta × IsKeptOf (kept ++ delta) next
+    (out ≡ only_sends []) × Fits kept delta × IsKeptOf (kept ++ delta) next
     × (after ≡ owned config.gateway (seen_of next) local)
 TakeKept config kept local delta (Err refusal) next after = (next ≡ kept) × (after ≡ local) × IsTakeRefusal kept delta refusal

@@ -19,6 +19,7 @@ use Rattle.gw_node.specs.declared.refusal.Refusal.{Refusal}
 use Rattle.gw_node.specs.declared.refusal.Refusal.TheVariants as refusals
 use Rattle.gw_world.specs.Gateways.{Gateway}
 use Rattle.gw_node.specs.Occasions.{Occasion, IsPlanOf, IsNoFrame}
+use Rattle.gw_node.specs.Parts.{only_sends}
 
 -- two session operations of one name, or two messages of one name; acknowledgements contradict nothing
 abbrev pub HaveName : Op → Op → Type 0
@@ -62,8 +63,9 @@ IsMade (op ∷ ops) old plan (Some delta) new made =
     IsDeltaOf (op ∷ ops) delta × IsTakable old.taken delta × (made ≡ delta ∷ [])
     × (new ≡ record old { taken = old.taken ++ delta; local = after_all old.local plan.local })
 
+-- The answer is what the plan sends and the delta that was made, and says nothing else.
 abbrev pub IsCarriedOut : Gateway → Plan → Out → Gateway → List (List Op) → Type 0
-IsCarriedOut old plan out new made = (out.sends ≡ plan.sends) × IsMade plan.ops old plan out.made new made
+IsCarriedOut old plan out new made = (out ≡ record (only_sends plan.sends) { made = out.made }) × IsMade plan.ops old plan out.made new made
 
 -- the plan for the occasion, by what the gateway has taken
 abbrev pub IsPlan : Gateway → Occasion → ℕ → Option Plan → Type 0
@@ -91,10 +93,10 @@ OwnStep old occasion now (Err (refusals.Disk excuse)) new made = ⊥
 OwnStep old occasion now (Err (refusals.Journal fault)) new made = ⊥
 OwnStep old occasion now (Err refusals.Memory) new made = ⊥
 
--- A delta comes. It is taken, nothing is sent, and clients that another gateway now owns have no address here any more; or it is
+-- A delta comes. It is taken, the answer is empty, and clients that another gateway now owns have no address here any more; or it is
 -- refused.
 abbrev pub TakeStep : Gateway → List Op → Result Out Refusal → Gateway → List (List Op) → Type 0
 TakeStep old delta (Ok out) new made =
-    (out.sends ≡ []) × (out.made ≡ None) × IsTakable old.taken delta × (made ≡ [])
+    (out ≡ only_sends []) × IsTakable old.taken delta × (made ≡ [])
     × (new ≡ record old { taken = old.taken ++ delta; local = owned old.config.gateway (seen_of (old.taken ++ delta)) old.local })
 TakeStep old delta (Err fault) new made = IsRefused old.taken delta fault × IsUnchanged old new made

@@ -220,6 +220,7 @@ fn play_all<R: Replica>(
     events: &[Event],
 ) -> Result<Vec<Answer>, WorldFault>
     requires { AllByRecursion (λ node. IsCalm (state_of R.kept node)) nodes.old.items }
+    ensures calm { OnOk result (AllByRecursion (λ node. IsCalm (state_of R.kept node)) nodes.new.items) }
     ensures ok { IfOk result (PlayedKept (map (λ node. keeping R.kept node) nodes.old.items) deltas.old.items events.now (map (λ node. keeping R.kept node) nodes.new.items) deltas.new.items) }
     ensures err { IfErr result (StopsKept (map (λ node. keeping R.kept node) nodes.old.items) deltas.old.items events.now) }
 {
@@ -239,13 +240,15 @@ fn play_all<R: Replica>(
 /// after the other.
 ///
 /// Each gateway has its journal on a disk in memory. The result has an answer for each event, the deltas that were made, and the gateways.
-/// There is none where an event names a gateway or a delta that is not there, or memory runs out.
+/// There is no result where an event names a gateway or a delta that is not there, or memory runs out.
 pub fn run<R: Replica>(
     alloc: Global,
     configs: &[Config],
     events: &[Event],
 ) -> Result<World<Node<R, MemoryDisk>>, WorldFault>
-    ensures ok { IfOk result (λ world. IsWorld (λ node. (state_of R.kept node).kept) configs.now events.now world.answers world.deltas world.gateways) }
+    ensures ok { IfOk result (λ world. IsWorld (λ node. keeping R.kept node) configs.now events.now world.answers world.deltas world.gateways) }
+    // At the end no node is halted, none was refused memory, and no failure is arranged on a disk.
+    ensures calm { IfOk result (λ world. AllByRecursion (λ node. IsCalm (state_of R.kept node)) world.gateways) }
     ensures err { IfErr result (IsStop configs.now events.now) }
 {
     let mut nodes = new_nodes(alloc, configs)?;
