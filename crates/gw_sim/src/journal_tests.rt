@@ -2,7 +2,7 @@
 
 use super::replica::Held;
 use gw_node::{Node, NodeFault, Out, Step};
-use jr_journal::{Disk, JournalFault, MemoryDisk, Slot};
+use jr_journal::{Disk, MemoryDisk, Slot};
 use octets::{Octets, Sequence};
 use rep_ops::{ClientId, Delta};
 use sn_flow::{Addr, Config};
@@ -36,6 +36,29 @@ pub fn opened(alloc: Global, disk: MemoryDisk) -> Result<Node<Held, MemoryDisk>,
     }
 }
 
+/// Looks at why a call was refused, by the number of the fault; 0 where it was not.
+pub fn check_fault(rt: &impl Abort, answer: &Result<Arc<Out>, NodeFault>, number: u8) {
+    let told = match answer {
+        Ok(_) => 0,
+        Err(fault) => number_of(fault),
+    };
+    assert_eq!(rt; told, number);
+}
+
+/// The number of a fault.
+fn number_of(fault: &NodeFault) -> u8 {
+    match fault {
+        NodeFault::Frame { .. } => 1,
+        NodeFault::Halted => 2,
+        NodeFault::Disk { .. } => 3,
+        NodeFault::Conflict { .. } => 4,
+        NodeFault::Full => 5,
+        NodeFault::Exhausted => 6,
+        NodeFault::Memory => 7,
+        NodeFault::Journal { .. } => 8,
+    }
+}
+
 /// Looks at the one datagram of an answer.
 pub fn check_sent(rt: &impl Abort, out: &Arc<Out>, bytes: &[u8]) {
     assert_eq!(rt; out.sends.len(), 1);
@@ -45,10 +68,31 @@ pub fn check_sent(rt: &impl Abort, out: &Arc<Out>, bytes: &[u8]) {
 /// A client connects.
 pub fn connect(rt: &impl Abort, alloc: Global, node: &mut Node<Held, MemoryDisk>) {
     let answer = node.frame(alloc, CLIENT, &CONNECT, 0);
-    assert!(rt; answer.is_ok());
+    check_answer(rt, &answer, &[3, 5, 0], true);
+}
+
+/// Looks at an answer with one datagram, and whether a delta was made.
+pub fn check_answer(
+    rt: &impl Abort,
+    answer: &Result<Arc<Out>, NodeFault>,
+    bytes: &[u8],
+    is_made: bool,
+) {
+    check_fault(rt, answer, 0);
     if let Ok(out) = answer {
-        check_sent(rt, &out, &[3, 5, 0]);
-        assert!(rt; out.made.is_some());
+        check_sent(rt, out, bytes);
+        assert_eq!(rt; out.made.is_some(), is_made);
+    }
+}
+
+/// Looks at the answer where the disk failed, with one datagram.
+pub fn check_refused(rt: &impl Abort, answer: &Result<Arc<Out>, NodeFault>, bytes: &[u8]) {
+    check_fault(rt, answer, 3);
+    if let Err(fault) = answer {
+        if let NodeFault::Disk { out } = fault {
+            check_sent(rt, out, bytes);
+            assert!(rt; out.made.is_none());
+        }
     }
 }
 
@@ -88,11 +132,9 @@ fn a_first_connection_is_in_the_journal(rt: HostRuntime) -> Result<(), Fail> {
     check_slot(&rt, alloc, &mut disk, &expected)?;
     let again = opened(alloc, disk)?;
     assert_eq!(rt; again.records(), 1);
-    let clients = again.clients(alloc);
-    assert!(rt; matches!(clients, Ok(all) if all.len() == 1));
-    let view = again.view(alloc, &ClientId::new(alloc, b"s1")?);
-    assert!(rt; matches!(view, Ok(out) if out.view.is_some()));
-    Ok(())
+    let clients = again.clients(alloc)?;
+    assert_eq!(rt; clients.len(), 1);
+    check_view(&rt, alloc, &again, 1)
 }
 
 /// What a halted node refuses, and what it still tells.
@@ -102,16 +144,21 @@ fn check_halted(
     node: &mut Node<Held, MemoryDisk>,
 ) -> Result<(), Fail> {
     assert!(rt; node.is_halted());
-    assert!(rt; matches!(node.frame(alloc, CLIENT, &[], 3), Err(NodeFault::Halted)));
-    assert!(rt; matches!(node.tick(alloc, 3), Err(NodeFault::Halted)));
-    assert!(rt;
-        matches!(
-            node.take(alloc, &Delta::empty(alloc)),
-            Err(NodeFault::Halted)
-        )
-    );
-    let view = node.view(alloc, &ClientId::new(alloc, b"s1")?);
-    assert!(rt; matches!(view, Ok(out) if out.view.is_some()));
+    check_fault(rt, &node.frame(alloc, CLIENT, &[], 3), 2);
+    check_fault(rt, &node.tick(alloc, 3), 2);
+    check_fault(rt, &node.take(alloc, &Delta::empty(alloc)), 2);
+    check_view(rt, alloc, node, 1)
+}
+
+/// Looks at whose client s1 is.
+fn check_view(
+    rt: &impl Abort,
+    alloc: Global,
+    node: &Node<Held, MemoryDisk>,
+    gateway: u8,
+) -> Result<(), Fail> {
+    let out = node.view(alloc, &ClientId::new(alloc, b"s1")?)?;
+    check_owner(rt, &out, gateway);
     Ok(())
 }
 
@@ -125,11 +172,7 @@ fn a_failed_write_halts(rt: HostRuntime) -> Result<(), Fail> {
     let mut node = opened(alloc, disk)?;
     // The client is told that there is no room now.
     let answer = node.frame(alloc, CLIENT, &CONNECT, 2);
-    assert!(rt; matches!(answer, Err(NodeFault::Disk { .. })));
-    if let Err(NodeFault::Disk { out }) = answer {
-        check_sent(&rt, &out, &[3, 5, 1]);
-        assert!(rt; out.made.is_none());
-    }
+    check_refused(&rt, &answer, &[3, 5, 1]);
     check_halted(&rt, alloc, &mut node)?;
     // The record that was cut off is none.
     let again = opened(alloc, node.into_disk())?;
@@ -148,14 +191,15 @@ fn a_delta_is_taken(rt: HostRuntime) -> Result<(), Fail> {
         0, 0, 0, 0, 0, 0,
     ];
     let delta = Delta::decode(alloc, &bytes)?;
-    assert!(rt; matches!(node.take(alloc, &delta), Ok(out) if out.sends.is_empty()));
+    let out = node.take(alloc, &delta)?;
+    assert!(rt; out.sends.is_empty());
     // Again: it is written again, and nothing else changes.
     assert!(rt; node.take(alloc, &delta).is_ok());
     // The same name with another duration.
     let mut other = bytes;
     other[23] = 61;
     let other = Delta::decode(alloc, &other)?;
-    assert!(rt; matches!(node.take(alloc, &other), Err(NodeFault::Conflict { .. })));
+    check_fault(&rt, &node.take(alloc, &other), 4);
     // A delta without operations is not written.
     assert!(rt; node.take(alloc, &Delta::empty(alloc)).is_ok());
     let again = opened(alloc, node.into_disk())?;
@@ -182,15 +226,10 @@ fn no_number_comes_after_the_last(rt: HostRuntime) -> Result<(), Fail> {
     ];
     let delta = Delta::decode(alloc, &bytes)?;
     assert!(rt; node.take(alloc, &delta).is_ok());
-    let answer = node.frame(alloc, CLIENT, &CONNECT, 0);
-    assert!(rt; matches!(answer, Err(NodeFault::Exhausted)));
+    check_fault(&rt, &node.frame(alloc, CLIENT, &CONNECT, 0), 6);
     assert!(rt; !node.is_halted());
     // The client is still that of gateway 2.
-    let view = node.view(alloc, &ClientId::new(alloc, b"s1")?);
-    assert!(rt; view.is_ok());
-    if let Ok(out) = view {
-        check_owner(&rt, &out, 2);
-    }
+    check_view(&rt, alloc, &node, 2)?;
     let again = opened(alloc, node.into_disk())?;
     assert_eq!(rt; again.records(), 1);
     Ok(())
@@ -202,18 +241,10 @@ fn refused(rt: &impl Abort, alloc: Global, disk: MemoryDisk) -> Result<MemoryDis
     let other: Result<Node<Held, MemoryDisk>, (MemoryDisk, NodeFault)> = Node::open(
         alloc, config, disk,
     );
-    assert!(rt; other.is_err());
     match other {
-        Ok(node) => Ok(node.into_disk()),
+        Ok(_) => Err(Fail::new("it was opened")),
         Err((disk, fault)) => {
-            assert!(rt;
-                matches!(
-                    fault,
-                    NodeFault::Journal {
-                        fault: JournalFault::Foreign
-                    }
-                )
-            );
+            assert_eq!(rt; number_of(&fault), 8);
             Ok(disk)
         }
     }

@@ -1,6 +1,8 @@
 //! A gateway that is opened again: what it counts, what contradicts its own operations, and what it tells when its disk fails.
 
-use super::journal_tests::{CLIENT, CONNECT, check_sent, connect, opened};
+use super::journal_tests::{
+    CLIENT, CONNECT, check_answer, check_fault, check_refused, connect, opened,
+};
 use super::replica::Held;
 use gw_node::{Node, NodeFault, Out, Step};
 use jr_journal::MemoryDisk;
@@ -45,11 +47,7 @@ fn about_to_fail(rt: &impl Abort, alloc: Global) -> Result<Node<Held, MemoryDisk
 /// The client speaks to its gateway again, and nothing is written of it.
 fn ping(rt: &impl Abort, alloc: Global, node: &mut Node<Held, MemoryDisk>) {
     let answer = node.frame(alloc, CLIENT, &PING, 1);
-    assert!(rt; answer.is_ok());
-    if let Ok(out) = answer {
-        check_sent(rt, &out, &[2, 0x17]);
-        assert!(rt; out.made.is_none());
-    }
+    check_answer(rt, &answer, &[2, 0x17], false);
 }
 
 /// Looks at the duration in the view of s1.
@@ -67,13 +65,10 @@ fn its_own_operation_is_not_contradicted(rt: HostRuntime) -> Result<(), Fail> {
     connect(&rt, alloc, &mut node);
     // The Take that it made, with another duration.
     let delta = taking(alloc, 0x31, 1, 61)?;
-    assert!(rt; matches!(node.take(alloc, &delta), Err(NodeFault::Conflict { .. })));
+    check_fault(&rt, &node.take(alloc, &delta), 4);
     assert!(rt; !node.is_halted());
-    let view = node.view(alloc, &ClientId::new(alloc, b"s1")?);
-    assert!(rt; view.is_ok());
-    if let Ok(out) = view {
-        check_duration(&rt, &out, 60);
-    }
+    let out = node.view(alloc, &ClientId::new(alloc, b"s1")?)?;
+    check_duration(&rt, &out, 60);
     let again = opened(alloc, node.into_disk())?;
     assert_eq!(rt; again.records(), 1);
     Ok(())
@@ -95,11 +90,7 @@ fn its_own_operation_comes_back(rt: HostRuntime) -> Result<(), Fail> {
 /// A client that is bound subscribes.
 fn subscribe(rt: &impl Abort, alloc: Global, node: &mut Node<Held, MemoryDisk>) {
     let answer = node.frame(alloc, CLIENT, &SUBSCRIBE, 2);
-    assert!(rt; answer.is_ok());
-    if let Ok(out) = answer {
-        check_sent(rt, &out, &[8, 0x13, 0x20, 0, 0, 0, 2, 0]);
-        assert!(rt; out.made.is_some());
-    }
+    check_answer(rt, &answer, &[8, 0x13, 0x20, 0, 0, 0, 2, 0], true);
 }
 
 #[test]
@@ -119,21 +110,14 @@ fn records_are_counted_when_it_is_opened(rt: HostRuntime) -> Result<(), Fail> {
     Ok(())
 }
 
-/// Looks at an answer for want of a disk, with one datagram.
-fn check_refused(rt: &impl Abort, answer: Result<Arc<Out>, NodeFault>, bytes: &[u8]) {
-    assert!(rt; matches!(answer, Err(NodeFault::Disk { .. })));
-    if let Err(NodeFault::Disk { out }) = answer {
-        check_sent(rt, &out, bytes);
-        assert!(rt; out.made.is_none());
-    }
-}
-
-/// Looks at an answer for want of a disk, without datagrams.
-fn check_dropped(rt: &impl Abort, answer: Result<Arc<Out>, NodeFault>) {
-    assert!(rt; matches!(answer, Err(NodeFault::Disk { .. })));
-    if let Err(NodeFault::Disk { out }) = answer {
-        assert!(rt; out.sends.is_empty());
-        assert!(rt; out.made.is_none());
+/// Looks at the answer where the disk failed, without datagrams.
+fn check_dropped(rt: &impl Abort, answer: &Result<Arc<Out>, NodeFault>) {
+    check_fault(rt, answer, 3);
+    if let Err(fault) = answer {
+        if let NodeFault::Disk { out } = fault {
+            assert!(rt; out.sends.is_empty());
+            assert!(rt; out.made.is_none());
+        }
     }
 }
 
@@ -147,9 +131,9 @@ fn a_failed_write_is_told_three_times(rt: HostRuntime) -> Result<(), Fail> {
         now: 2,
     };
     let (first, second, third) = node.step(alloc, &frame);
-    check_refused(&rt, first, &[3, 5, 1]);
-    check_refused(&rt, second, &[3, 5, 1]);
-    check_refused(&rt, third, &[3, 5, 1]);
+    check_refused(&rt, &first, &[3, 5, 1]);
+    check_refused(&rt, &second, &[3, 5, 1]);
+    check_refused(&rt, &third, &[3, 5, 1]);
     assert!(rt; node.is_halted());
     Ok(())
 }
@@ -158,7 +142,7 @@ fn a_failed_write_is_told_three_times(rt: HostRuntime) -> Result<(), Fail> {
 fn check_reply(rt: &impl Abort, alloc: Global, frame: &[u8], reply: &[u8]) -> Result<(), Fail> {
     let mut node = about_to_fail(rt, alloc)?;
     ping(rt, alloc, &mut node);
-    check_refused(rt, node.frame(alloc, CLIENT, frame, 2), reply);
+    check_refused(rt, &node.frame(alloc, CLIENT, frame, 2), reply);
     assert!(rt; node.is_halted());
     Ok(())
 }
@@ -181,7 +165,7 @@ fn a_client_that_leaves_is_told_nothing_of_a_failed_write(rt: HostRuntime) -> Re
     let alloc = rt.alloc();
     let mut node = about_to_fail(&rt, alloc)?;
     ping(&rt, alloc, &mut node);
-    check_dropped(&rt, node.frame(alloc, CLIENT, &[2, 0x18], 2));
+    check_dropped(&rt, &node.frame(alloc, CLIENT, &[2, 0x18], 2));
     assert!(rt; node.is_halted());
     let again = opened(alloc, node.into_disk())?;
     assert_eq!(rt; again.records(), 1);
@@ -192,10 +176,8 @@ fn a_client_that_leaves_is_told_nothing_of_a_failed_write(rt: HostRuntime) -> Re
 fn about_to_put(rt: &impl Abort, alloc: Global) -> Result<Node<Held, MemoryDisk>, Fail> {
     let mut node = once_connected(rt, alloc)?;
     ping(rt, alloc, &mut node);
-    assert!(rt;
-        node.frame(alloc, CLIENT, &[7, 0x12, 0x22, 0, 1, 0x61, 0x62], 2)
-            .is_ok()
-    );
+    let answer = node.frame(alloc, CLIENT, &[7, 0x12, 0x22, 0, 1, 0x61, 0x62], 2);
+    check_fault(rt, &answer, 0);
     let mut disk = node.into_disk();
     disk.fail_next(5, false);
     opened(alloc, disk)
@@ -208,7 +190,7 @@ fn a_publication_without_connection_waits_for_nothing(rt: HostRuntime) -> Result
     assert_eq!(rt; node.records(), 2);
     let elsewhere = Addr { host: 0, port: 99 };
     let publish = [8, 0x0c, 0x62, 0x61, 0x62, 0, 0, 0x78];
-    check_dropped(&rt, node.frame(alloc, elsewhere, &publish, 3));
+    check_dropped(&rt, &node.frame(alloc, elsewhere, &publish, 3));
     assert!(rt; node.is_halted());
     Ok(())
 }
@@ -220,7 +202,7 @@ fn check_unpublished(rt: &impl Abort, alloc: Global, flags: u8) -> Result<(), Fa
     let publish = [8, 0x0c, flags, 0x61, 0x62, 0, 5, 0x78];
     check_refused(
         rt,
-        node.frame(alloc, CLIENT, &publish, 3),
+        &node.frame(alloc, CLIENT, &publish, 3),
         &[7, 0x0d, 0x61, 0x62, 0, 5, 1],
     );
     Ok(())
