@@ -1,17 +1,19 @@
 #!/bin/sh
 # The codecs of frames and deltas beside plain C that does the same work over the same octets.
 #
-# Usage: bench/codecs.sh [MILLIONS] [DELTAS]
+# Usage: bench/codecs.sh [MILLIONS] [DELTAS] [RECORDS]
 #
 # Decodes and encodes MILLIONS million datagrams (10), and encodes and decodes a delta of about 8 MiB
 # DELTAS times (200), by crates/codec_bench and by bench/frames.c and bench/deltas.c in turn. Rates are by
-# processor time, and the best of three runs counts. Both programs must write the same octets.
+# processor time, and the best of three runs counts. Both programs must write the same octets. Last RECORDS records (1,000,000) are
+# appended to a journal on a disk in memory, each synced.
 set -eu
 top=$(cd "$(dirname "$0")/.." && pwd)
 work=$(mktemp -d)
 trap 'rm -rf "$work"' EXIT
 millions=${1:-10}
 deltas=${2:-200}
+records=${3:-1000000}
 program=$top/crates/codec_bench/out/codec_bench
 # rt builds nothing anew where the program is that of the sources.
 if ! (cd "$top/crates/codec_bench" && rt run <stdin >"$work/built" 2>&1); then
@@ -39,3 +41,8 @@ compare() {
 echo "load $(cut -d ' ' -f 1-3 /proc/loadavg 2>/dev/null || echo unknown), $(nproc) processors"
 compare frames $((millions * 100)) $((millions * 1000000)) "datagrams per second"
 compare deltas "$deltas" "$(awk -v n="$deltas" 'BEGIN { printf "%.6f", n * 8293105 / 1000000 }')" "MB per second"
+for _ in 1 2 3; do
+    python3 "$top/bench/seconds.py" "$program" "records $records" "$work/records.out" >>"$work/records"
+done
+cat "$work/records.out"
+awk -v a="$(sort -n "$work/records" | head -n 1)" -v n="$records" 'BEGIN { printf "  %.0f appends per second\n", n / a }'

@@ -22,3 +22,4 @@ echo "$events events, $lines lines printed, status $status"
 awk -v n="$events" -v a="$start" -v b="$end" 'BEGIN { printf "%.3f s, %.0f events per second\n", b - a, n / (b - a) }'
 python3 "$top/bench/sessions.py" "$program"
 python3 "$top/bench/publications.py" "$program"
+python3 "$top/bench/takeover.py" "$program"

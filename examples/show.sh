@@ -1,5 +1,6 @@
 #!/bin/sh
-# Builds gw_sim, plays the scripts of this folder, and shows script and output side by side.
+# Builds gw_sim, plays the scripts of this folder, and shows script and output side by side. Where a file NAME.told stands beside
+# NAME.script, its lines explain those of the script.
 set -eu
 top=$(cd "$(dirname "$0")/.." && pwd)
 work=$(mktemp -d)
@@ -13,6 +14,7 @@ if ! cmp -s "$work/built" "$top/crates/gw_sim/stdout"; then
 fi
 for script in "$top"/examples/*.script; do
     echo "== $(basename "$script" .script)"
+    told=${script%.script}.told
     seen=0
     number=0
     # What a line prints is what the script up to it prints more than the script before it.
@@ -27,5 +29,6 @@ for script in "$top"/examples/*.script; do
             printf '  %-40s %s\n' "$left" "$answer"
             left=
         done <"$work/more"
+        if [ -f "$told" ]; then sed -n "${number}{/./s/^/    # /p}" "$told"; fi
     done <"$script"
 done

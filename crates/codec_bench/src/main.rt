@@ -1,6 +1,7 @@
-//! Work for the two codecs, so that a stopwatch outside can time it.
+//! Work for the two codecs and the journal, so that a stopwatch outside can time it.
 //!
-//! Each line of standard input names a work and how often it is done, as `frames 100` or `deltas 20`.
+//! Each line of standard input names a work and how often it is done, as `frames 100`, `deltas 20` or
+//! `records 1000`.
 //! The program makes its own data, the same in each run, and prints counts and a checksum of what the
 //! codec wrote. It reads no clock. The folder bench/ has the stopwatch, and the same work in C.
 //!
@@ -9,6 +10,7 @@
 //! - `frames`: each datagram of the stream decoded and encoded again.
 //! - `operations`: the operations of a delta of about 8 MiB.
 //! - `deltas`: that delta encoded and decoded again.
+//! - `records`: one change of a session appended to a journal on a disk in memory.
 #![tactic(auto)]
 
 mod datagrams;
@@ -16,6 +18,7 @@ mod deltas;
 mod frames;
 mod numbers;
 mod operations;
+mod records;
 
 use anyhow::{Context, Result, bail};
 use std::alloc::Global;
@@ -37,6 +40,7 @@ fn work(alloc: Global, line: &str) -> Result<String> {
     match codec {
         "frames" => frames::run(alloc, rounds),
         "deltas" => deltas::run(alloc, rounds),
-        _ => bail!("the works are frames and deltas"),
+        "records" => records::run(alloc, rounds),
+        _ => bail!("the works are frames, deltas and records"),
     }
 }

@@ -44,6 +44,13 @@ pub fn operations(alloc: Global) -> Result<Vec<Op>, OpsFault> {
     Ok(ops)
 }
 
+/// One change of one client's session.
+pub fn presence(alloc: Global) -> Result<Vec<Op>, OpsFault> {
+    let mut ops = Vec::new(alloc);
+    ops.push(change(alloc, 0, 1)?)?;
+    Ok(ops)
+}
+
 /// The digits of a number below 100.
 fn digits(number: u8) -> [u8; 2] {
     [b'0' + number / 10 % 10, b'0' + number % 10]

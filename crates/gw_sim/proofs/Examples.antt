@@ -1,16 +1,17 @@
 -- The definitions on worked examples.
 use Rattle.std.proofs.Common.{◌≡◌, ◌++◌, [], ◌∷◌, None, Some, refl}
-use Rattle.std.specs.Prelude.{codes, Ok}
+use Rattle.std.specs.Prelude.{codes, Ok, Err}
 use Rattle.std.specs.Fmt.{digits}
 use Rattle.hex.specs.Hex.{decode_of, decode_pairs, encode_with}
 use Rattle.gw_world.specs.declared.event.Answer.TheVariants as answers
-use Rattle.gw_world.specs.declared.event.NodeFault.TheVariants as node_faults
+use Rattle.gw_node.specs.declared.refusal.Refusal.TheVariants as refusals
+use Rattle.gw_node.specs.Parts.{only_sends}
 use Rattle.gw_world.specs.declared.world.WorldFault.TheVariants as world_faults
 use Rattle.sn_frame.specs.declared.fault.FrameFault.TheVariants as frame_faults
 use Rattle.gw_sim.specs.Commands.{fields_of}
 use Rattle.gw_sim.specs.Numbers.{value_of}
 use Rattle.gw_sim.specs.Texts.{line_end}
-use Rattle.gw_sim.specs.Printing.{send_line, fault_line, put_line, client_text, answers_text, world_fault_line, bad_line_text}
+use Rattle.gw_sim.specs.Printing.{send_line, refusal_text, said_text, put_line, client_text, answers_text, world_fault_line, bad_line_text}
 
 -- a field of leading zeros
 zeros : value_of (codes "0040") ≡ 40
@@ -30,15 +31,22 @@ datagram : send_line (record { to = record { host = 0; port = 7 }; bytes = 3 ∷
 unfolding digits encode_with
 datagram = refl
 
--- two deltas, and a step that did nothing
-deltas : answers_text 0 (answers.Node (Ok (record { sends = []; made = Some [] })) ∷ answers.Node (Ok (record { sends = []; made = None }))
-    ∷ answers.Node (Ok (record { sends = []; made = Some [] })) ∷ [])
-    ≡ codes "delta 1" ++ line_end ++ codes "quiet" ++ line_end ++ codes "delta 2" ++ line_end
+-- the second delta, and a step that did nothing
+delta : said_text 1 (Ok (record (only_sends []) { made = Some [] })) ≡ codes "delta 2" ++ line_end
 unfolding digits
-deltas = refl
+delta = refl
+
+nothing : said_text 1 (Ok (only_sends [])) ≡ codes "quiet" ++ line_end
+nothing = refl
+
+-- a CONNECT that came to nothing, since the journal could not be written
+failed : said_text 1 (Err (refusals.Disk (only_sends (record { to = record { host = 0; port = 7 }; bytes = 3 ∷ 5 ∷ 1 ∷ [] } ∷ []))))
+    ≡ codes "to 7 030501" ++ line_end ++ codes "refused N3" ++ line_end
+unfolding digits encode_with
+failed = refl
 
 -- a datagram of no octet
-no_frame : fault_line (node_faults.Frame frame_faults.Empty) ≡ codes "refused N1 F1" ++ line_end
+no_frame : refusal_text (refusals.Frame frame_faults.Empty) ≡ codes "refused N1 F1" ++ line_end
 unfolding digits
 no_frame = refl
 

@@ -1,5 +1,5 @@
 -- What answers are printed as. Each line ends with a line feed.
-use Rattle.std.specs.Prelude.{ℕ, ◌+◌, ◌∷◌, List, [], Option, Some, None, Ok, Err, Bool, true, false, if◌then◌else◌, codes, flat_map, is_some}
+use Rattle.std.specs.Prelude.{ℕ, ◌+◌, ◌∷◌, List, [], Option, Some, None, Result, Ok, Err, Bool, true, false, if◌then◌else◌, codes, flat_map, is_some}
 use Rattle.std.specs.Fmt.{decimal}
 use Rattle.sn_frame.specs.Faults.{fault_number}
 use Rattle.sn_session.specs.declared.presence.Presence.{Presence}
@@ -12,9 +12,10 @@ use Rattle.rep_model.specs.declared.view.ClientView.{ClientView}
 use Rattle.sn_flow.specs.declared.config.Send.{Send}
 use Rattle.gw_world.specs.declared.event.Answer.{Answer}
 use Rattle.gw_world.specs.declared.event.Answer.TheVariants as answers
-use Rattle.gw_world.specs.declared.event.NodeFault.{NodeFault}
-use Rattle.gw_world.specs.declared.event.NodeFault.TheVariants as node_faults
-use Rattle.gw_world.specs.declared.event.Out.{Out}
+use Rattle.gw_node.specs.declared.out.Out.{Out}
+use Rattle.gw_node.specs.declared.refusal.Refusal.{Refusal}
+use Rattle.gw_node.specs.declared.refusal.Refusal.TheVariants as refusals
+use Rattle.gw_node.specs.Parts.{said}
 use Rattle.gw_world.specs.declared.world.WorldFault.{WorldFault}
 use Rattle.gw_world.specs.declared.world.WorldFault.TheVariants as world_faults
 use Rattle.gw_sim.specs.Texts.{◌▹◌, hex_text, line_end}
@@ -38,12 +39,16 @@ done_text sends before made = flat_map send_line sends ▹ made_line before made
 abbrev pub out_text : ℕ → Out → List ℕ
 out_text before out = done_text out.sends before out.made
 
--- a refusal, by its number
-abbrev pub fault_line : NodeFault → List ℕ
-fault_line (node_faults.Frame fault) = codes "refused N1 F" ▹ decimal (fault_number fault) ▹ line_end
-fault_line (node_faults.Conflict client) = codes "refused N4" ▹ line_end
-fault_line node_faults.Full = codes "refused N5" ▹ line_end
-fault_line node_faults.Exhausted = codes "refused N6" ▹ line_end
+-- a refusal, by its number; what is sent all the same stands before it
+abbrev pub refusal_text : Refusal → List ℕ
+refusal_text (refusals.Frame fault) = codes "refused N1 F" ▹ decimal (fault_number fault) ▹ line_end
+refusal_text refusals.Halted = codes "refused N2" ▹ line_end
+refusal_text (refusals.Disk excuse) = flat_map send_line excuse.sends ▹ codes "refused N3" ▹ line_end
+refusal_text (refusals.Conflict client) = codes "refused N4" ▹ line_end
+refusal_text refusals.Full = codes "refused N5" ▹ line_end
+refusal_text refusals.Exhausted = codes "refused N6" ▹ line_end
+refusal_text refusals.Memory = codes "refused N7" ▹ line_end
+refusal_text (refusals.Journal fault) = codes "refused N8" ▹ line_end
 
 abbrev pub presence_word : Presence → List ℕ
 presence_word presences.Active = codes "active"
@@ -97,16 +102,22 @@ abbrev pub views_text : List (List ℕ × ClientView) → List ℕ
 views_text [] = codes "empty" ▹ line_end
 views_text (first ∷ rest) = flat_map client_text (first ∷ rest)
 
--- an answer, behind so many deltas
+-- what a gateway answered, behind so many deltas
+abbrev pub said_text : ℕ → Result Out Refusal → List ℕ
+said_text before (Ok out) = out_text before out
+said_text before (Err refusal) = refusal_text refusal
+
 abbrev pub answer_text : ℕ → Answer → List ℕ
-answer_text before (answers.Node (Ok out)) = out_text before out
-answer_text before (answers.Node (Err fault)) = fault_line fault
+answer_text before (answers.Node answer) = said_text before (said answer)
 answer_text before (answers.Views views) = views_text views
 
--- how many deltas there are behind an answer
+-- how many deltas there are behind it
+abbrev pub deltas_behind : ℕ → Result Out Refusal → ℕ
+deltas_behind before (Ok out) = if is_some out.made then before + 1 else before
+deltas_behind before (Err refusal) = before
+
 abbrev pub deltas_after : ℕ → Answer → ℕ
-deltas_after before (answers.Node (Ok out)) = if is_some out.made then before + 1 else before
-deltas_after before (answers.Node (Err fault)) = before
+deltas_after before (answers.Node answer) = deltas_behind before (said answer)
 deltas_after before (answers.Views views) = before
 
 -- answers in their order

@@ -17,6 +17,10 @@
 mod bytes;
 mod command;
 mod fault;
+#[cfg(test)]
+mod journal_tests;
+#[cfg(test)]
+mod node_tests;
 mod number;
 mod play;
 mod printing;

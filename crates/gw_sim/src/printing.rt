@@ -3,7 +3,8 @@
 //! Each function appends lines to a text, and each line ends with a line feed.
 
 ghost use Rattle.std.specs.Prelude.{◌≡◌, ◌+◌, ◌^◌, ◌<◌, ◌++◌, IfOk, OnOk, flat_map, string_bytes};
-ghost use Rattle.gw_sim.specs.Printing.{answers_text, answer_text, deltas_after, out_text, send_line, fault_line, views_text, client_text, client_line, kind_word, stamp_text, session_text, session_lines, put_line, presence_word, world_fault_line, bad_line_text};
+ghost use Rattle.gw_sim.specs.Printing.{answers_text, answer_text, deltas_after, out_text, send_line, refusal_text, views_text, client_text, client_line, kind_word, stamp_text, session_text, session_lines, put_line, presence_word, world_fault_line, bad_line_text};
+ghost use Rattle.gw_node.specs.Parts.{told};
 
 use super::session_lines::print_tables;
 use super::text::hexadecimal;
@@ -47,7 +48,7 @@ fn print_answer(
             })
         }
         Answer::Node(Err(fault)) => {
-            print_fault(text, fault)?;
+            print_fault(alloc, text, fault)?;
             Ok(before)
         }
         Answer::Views(views) => {
@@ -92,18 +93,25 @@ fn print_send(alloc: Global, text: &mut String, send: &Send) -> Result<(), Alloc
     writeln!(text, "to {port} {bytes}")
 }
 
-/// The line of a refusal.
-fn print_fault(text: &mut String, fault: &NodeFault) -> Result<(), AllocError>
-    ensures { OnOk result (string_bytes text.new ≡ string_bytes text.old ++ fault_line fault.now) }
+/// The lines of a refusal.
+fn print_fault(alloc: Global, text: &mut String, fault: &NodeFault) -> Result<(), AllocError>
+    ensures { OnOk result (string_bytes text.new ≡ string_bytes text.old ++ refusal_text (told fault.now)) }
 {
     match fault {
         NodeFault::Frame { fault } => {
             let number = fault.number();
             writeln!(text, "refused N1 F{number}")
         }
+        NodeFault::Halted => text.push_str("refused N2\n"),
+        NodeFault::Disk { out } => {
+            print_sends(alloc, text, out.sends.as_slice())?;
+            text.push_str("refused N3\n")
+        }
         NodeFault::Conflict { .. } => text.push_str("refused N4\n"),
         NodeFault::Full => text.push_str("refused N5\n"),
         NodeFault::Exhausted => text.push_str("refused N6\n"),
+        NodeFault::Memory => text.push_str("refused N7\n"),
+        NodeFault::Journal { .. } => text.push_str("refused N8\n"),
     }
 }
 

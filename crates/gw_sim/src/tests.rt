@@ -17,6 +17,7 @@ use sn_topic::{Filter, TopicName};
 use std::alloc::Global;
 use std::io::{self, Read, Write};
 use std::process::Abort;
+use std::sync::Arc;
 use std::test::Fail;
 
 /// Plays a script, and looks at what is printed and at the status.
@@ -149,7 +150,17 @@ fn sent(alloc: Global, port: u16, items: &[u8]) -> Result<Answer, Fail> {
         to: Addr { host: 0, port },
         bytes: octets(alloc, items)?,
     })?;
-    Ok(Answer::Node(Ok(Out { sends, made: None })))
+    Ok(Answer::Node(Ok(Arc::new(alloc, out_of(alloc, sends))?)))
+}
+
+/// An answer that sends these datagrams and says nothing else.
+fn out_of(alloc: Global, sends: Sequence<Send>) -> Out {
+    Out {
+        sends,
+        made: None,
+        answer: Sequence::empty(alloc),
+        view: None,
+    }
 }
 
 #[test]
@@ -158,18 +169,17 @@ fn answers_are_printed(rt: HostRuntime) -> Result<(), Fail> {
     let mut answers = Vec::new(alloc);
     answers.push(sent(alloc, 7, &[3, 0xfe, 0])?)?;
     answers.push(sent(alloc, 65535, &[])?)?;
-    let quiet = Out {
-        sends: Sequence::empty(alloc),
-        made: None,
-    };
+    let quiet = Arc::new(alloc, out_of(alloc, Sequence::empty(alloc)))?;
     answers.push(Answer::Node(Ok(quiet)))?;
+    answers.push(Answer::Node(Err(NodeFault::Halted)))?;
     let fault = FrameFault::Length { said: 1, held: 1 };
     answers.push(Answer::Node(Err(NodeFault::Frame { fault })))?;
     answers.push(Answer::Node(Err(NodeFault::Full)))?;
     answers.push(Answer::Node(Err(NodeFault::Exhausted)))?;
     answers.push(Answer::Views(Sequence::empty(alloc)))?;
     let text = print_answers(alloc, answers.as_slice())?;
-    let lines = "to 7 03fe00\nto 65535 -\nquiet\nrefused N1 F2\nrefused N5\nrefused N6\nempty\n";
+    let lines =
+        "to 7 03fe00\nto 65535 -\nquiet\nrefused N2\nrefused N1 F2\nrefused N5\nrefused N6\nempty\n";
     assert_eq!(rt; text.as_str(), lines);
     Ok(())
 }

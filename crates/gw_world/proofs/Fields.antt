@@ -1,5 +1,5 @@
 -- From what all gateways keep to the field, and over a whole list of events.
-use Rattle.std.proofs.Common.{◌≡◌, ℕ, ◌+◌, ◌-◌, ◌==◌, if◌then◌else◌, zero, suc, List, [], ◌∷◌, ◌++◌, map, Some, Result, slice_get, set, refl, sym, ap, ◌∙◌, subst, append-nil, take, length, arith}
+use Rattle.std.proofs.Common.{◌≡◌, ℕ, ◌+◌, ◌-◌, ◌==◌, if◌then◌else◌, zero, suc, List, [], ◌∷◌, ◌++◌, map, Some, Result, slice_get, set, refl, sym, ap, ◌∙◌, subst, append-nil, take}
 use Rattle.rep_ops.specs.declared.op.Op.{Op}
 use Rattle.rep_model.specs.Views.{view}
 use Rattle.rep_model.proofs.Joins.{view-counts}
@@ -11,9 +11,12 @@ use Rattle.gw_world.specs.declared.event.Answer.{Answer}
 use Rattle.gw_world.specs.declared.event.Answer.TheVariants.{Node, Views}
 use Rattle.gw_world.specs.declared.world.WorldFault.{WorldFault}
 use Rattle.gw_world.specs.declared.world.WorldFault.TheVariants as stops
-use Rattle.gw_world.specs.Occasions.{Occasion, Datagram, Clock}
-use Rattle.gw_world.specs.declared.event.Out.{Out}
-use Rattle.gw_world.specs.declared.event.NodeFault.{NodeFault}
+use Rattle.gw_node.specs.Occasions.{Occasion, Datagram, Clock}
+use Rattle.std.specs.declared.sync.Arc.{Arc}
+use Rattle.std.specs.declared.alloc.Global.{Global}
+use Rattle.gw_node.specs.declared.out.Out.{Out}
+use Rattle.gw_node.specs.declared.fault.NodeFault.{NodeFault}
+use Rattle.gw_node.specs.Parts.{said}
 use Rattle.gw_world.specs.Gateways.{Gateway, new_gateway, place_from, place_of}
 use Rattle.gw_world.specs.Field.{Field, new_field, Steps, After, Run, NamesNoDelta, shown, gateway_of}
 use Rattle.gw_world.specs.Events.{made_of, Moves, OwnAnswered, EventKept, RunKept, StopsKept, IsStopKept, IsMissing}
@@ -69,18 +72,18 @@ module _ (field : Field) (ks : List Gateway) (s : AreShown field.gateways ks) wh
       subst (λ xs. AreShown (set field.gateways i next) xs) (sym moves.moved)
       (shown_set field.gateways ks i next new s (record { configured = moves.configured ∙ shown.configured; bound = shown.bound; keeps = shown.keeps }))
 
-  own_reaches : (deltas : List (List Op)) (listed : field.deltas ≡ deltas) (event : Event) (occasion : Occasion) (now : ℕ) (news : List Gateway) (next : List (List Op)) (answer : Result Out NodeFault)
-      → ((new : Field) → Steps field (gateway_of event) occasion now answer new → After field event (Node answer) new)
+  own_reaches : (deltas : List (List Op)) (listed : field.deltas ≡ deltas) (event : Event) (occasion : Occasion) (now : ℕ) (news : List Gateway) (next : List (List Op)) (answer : Result (Arc Out Global) NodeFault)
+      → ((new : Field) → Steps field (gateway_of event) occasion now (said answer) new → After field event (Node answer) new)
       → ((i : ℕ) × (place_of (gateway_of event) ks ≡ Some i) × OwnAnswered ks deltas i occasion now news next (Node answer)) → Reaches field event (Node answer) news next
   own_reaches deltas listed event occasion now news next answer is (i, place, ((old, new, moves, kept), is_next)) =
       let at = shown_at field.gateways ks i old s moves.place in
-      let leads = own_taken at.gateway old at.shown occasion now answer new.taken new.local kept in
-      let field_after : Field = record { gateways = set field.gateways i leads.next; deltas = field.deltas ++ made_of answer } in
+      let leads = own_taken at.gateway old at.shown occasion now (said answer) new.taken new.local kept in
+      let field_after : Field = record { gateways = set field.gateways i leads.next; deltas = field.deltas ++ made_of (said answer) } in
       record {
         new = field_after;
-        after = is field_after (i, at.gateway, leads.next, made_of answer, (place_there (gateway_of event) i place, at.place), leads.step, refl);
+        after = is field_after (i, at.gateway, leads.next, made_of (said answer), (place_there (gateway_of event) i place, at.place), leads.step, refl);
         shown = moved i old new leads.next news moves leads.shown;
-        listed = ap (λ ds. ds ++ made_of answer) listed ∙ sym is_next;
+        listed = ap (λ ds. ds ++ made_of (said answer)) listed ∙ sym is_next;
       }
 
   pub event_reaches : (deltas : List (List Op)) (listed : field.deltas ≡ deltas) (event : Event) (news : List Gateway) (next : List (List Op)) (answer : Answer)
@@ -89,7 +92,7 @@ module _ (field : Field) (ks : List Gateway) (s : AreShown field.gateways ks) wh
   event_reaches deltas listed (Tick n now) news next (Node answer) h = own_reaches deltas listed (Tick n now) Clock now news next answer (λ new after. after) h
   event_reaches deltas listed (Take n delta) news next (Node answer) (i, place, (ops, (one, there), (old, new, moves, kept), is_next)) =
       let at = shown_at field.gateways ks i old s moves.place in
-      let leads = take_taken at.gateway old at.shown ops answer new.taken new.local kept in
+      let leads = take_taken at.gateway old at.shown ops (said answer) new.taken new.local kept in
       record {
         new = record { gateways = set field.gateways i leads.next; deltas = field.deltas ++ [] };
         after = (i, at.gateway, leads.next, [], ops, (place_there n i place, at.place), (one, ap (λ ds. slice_get ds (delta - 1)) listed ∙ there), leads.step, refl);
@@ -159,24 +162,17 @@ stops_here olds ds events k answers ks deltas event (stops.NoDelta n) run there 
     numbered deltas (Show g) number n h = absurd h
 stops_here olds ds events k answers ks deltas event stops.Memory run there h = tt
 
--- what each replica shows is what was taken shows
-pub views_shown : {N R : Type 0} (held : N → Gateway) (replica_of : N → R) (kept : R → List Op) → ((node : N) → (held node).taken ≡ kept (replica_of node))
-    → (gs : List Gateway) (nodes : List N) → AreShown gs (map held nodes)
-    → (i : ℕ) (gateway : Gateway) (replica : R) → slice_get gs i ≡ Some gateway → slice_get (map replica_of nodes) i ≡ Some replica
-    → (c : List ℕ) → view c (kept replica) ≡ view c gateway.taken
-views_shown held replica_of kept same [] nodes s i gateway replica e f c = absurd (cc)
-views_shown held replica_of kept same (g ∷ gs) [] s i gateway replica e f c = absurd s
-views_shown held replica_of kept same (g ∷ gs) (node ∷ nodes) s zero gateway replica e f c =
+-- what each node shows is what was taken shows
+pub views_shown : {N : Type 0} (held : N → Gateway) (gs : List Gateway) (nodes : List N) → AreShown gs (map held nodes)
+    → (i : ℕ) (gateway : Gateway) (node : N) → slice_get gs i ≡ Some gateway → slice_get nodes i ≡ Some node
+    → (c : List ℕ) → view c (held node).taken ≡ view c gateway.taken
+views_shown held [] nodes s i gateway node e f c = absurd (cc)
+views_shown held (g ∷ gs) [] s i gateway node e f c = absurd s
+views_shown held (g ∷ gs) (n ∷ nodes) s zero gateway node e f c =
     let is_gateway : g ≡ gateway = cc in
-    let is_replica : replica_of node ≡ replica = cc in
-    ap (λ r. view c (kept r)) (sym is_replica) ∙ (ap (λ S. view c S) (sym (same node)) ∙ (view-counts c g.taken (held node).taken s.0.keeps.counts ∙ ap (λ (x : Gateway). view c x.taken) is_gateway))
-views_shown held replica_of kept same (g ∷ gs) (node ∷ nodes) s (suc i) gateway replica e f c = views_shown held replica_of kept same gs nodes s.1 i gateway replica e f c
-
-pub length_shown : {N R : Type 0} (held : N → Gateway) (replica_of : N → R) (gs : List Gateway) (nodes : List N) → AreShown gs (map held nodes) → length (map replica_of nodes) ≡ length gs
-length_shown held replica_of [] [] s = refl
-length_shown held replica_of [] (node ∷ nodes) s = absurd s
-length_shown held replica_of (g ∷ gs) [] s = absurd s
-length_shown held replica_of (g ∷ gs) (node ∷ nodes) s = let rest = length_shown held replica_of gs nodes s.1 in omega arith
+    let is_node : n ≡ node = cc in
+    ap (λ x. view c (held x).taken) (sym is_node) ∙ (view-counts c g.taken (held n).taken s.0.keeps.counts ∙ ap (λ (x : Gateway). view c x.taken) is_gateway)
+views_shown held (g ∷ gs) (n ∷ nodes) s (suc i) gateway node e f c = views_shown held gs nodes s.1 i gateway node e f c
 
 start_shown : (configs : List Config) (ks : List Gateway) → ks ≡ map new_gateway configs → AreShown (map new_gateway configs) ks
 start_shown configs ks e = subst (λ xs. AreShown (map new_gateway configs) xs) (sym e) (shown_at_start configs)
@@ -193,16 +189,15 @@ stops_from_start configs ks ds events (stops.NoDelta n) same none h =
 stops_from_start configs ks ds events stops.Memory same none h = tt
 
 -- a run from the start to its end
-pub world_from_start : {N R : Type 0} (held : N → Gateway) (replica_of : N → R) (kept : R → List Op) → ((node : N) → (held node).taken ≡ kept (replica_of node))
-    → (configs : List Config) (events : List Event) (answers : List Answer) (ks : List Gateway) (ds deltas : List (List Op)) (nodes : List N) (replicas : List R)
-    → ks ≡ map new_gateway configs → ds ≡ [] → RunKept ks ds events answers (map held nodes) deltas → replicas ≡ map replica_of nodes
-    → IsWorld kept configs events answers deltas replicas
-world_from_start held replica_of kept same configs events answers ks ds deltas nodes replicas start none run are =
+pub world_from_start : {N : Type 0} (held : N → Gateway) (configs : List Config) (events : List Event) (answers : List Answer) (ks : List Gateway) (ds deltas : List (List Op)) (nodes : List N)
+    → ks ≡ map new_gateway configs → ds ≡ [] → RunKept ks ds events answers (map held nodes) deltas
+    → IsWorld held configs events answers deltas nodes
+world_from_start held configs events answers ks ds deltas nodes start none run =
     let end = run (new_field configs) (start_shown configs ks start) (sym none) in
     record {
       field = end.0;
       run = end.1;
       listed = sym end.3;
-      all = ap length are ∙ length_shown held replica_of end.0.gateways nodes end.2;
-      views = λ i gateway replica e f c. views_shown held replica_of kept same end.0.gateways nodes end.2 i gateway replica e (ap (λ rs. slice_get rs i) (sym are) ∙ f) c;
+      shown = end.2;
+      views = λ i gateway node e f c. views_shown held end.0.gateways nodes end.2 i gateway node e f c;
     }

@@ -103,7 +103,7 @@ only_kept true r P h = h
 only_kept false r P h = tt
 
 -- what agrees with a set agrees with what is kept of it
-agrees_with_kept : (K : List Op) (op : Op) → Agrees K op → Agrees (keep K) op
+pub agrees_with_kept : (K : List Op) (op : Op) → Agrees K op → Agrees (keep K) op
 agrees_with_kept K (OfSession c stamp counter change) h =
     rw operation_at_keep (only_kept {X = SessionOp} (not (is_below stamp (visible c K))) (operation_at c K (stamp, counter)) (λ kept. kept ≡ change) h)
 agrees_with_kept K (OfPut c put) h =

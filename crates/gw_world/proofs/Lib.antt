@@ -1,7 +1,14 @@
 pub mod Occurring
 pub mod Held
+pub mod Calmness
 pub mod Moving
 pub mod Shown
 pub mod Fields
 pub mod Numbers
 pub mod Steadiness
+pub mod Each
+pub mod Alone
+pub mod Whole
+pub mod Consistency
+pub mod Writing
+pub mod Settling

@@ -4,22 +4,16 @@ use Rattle.std.specs.Option.{option_map}
 use Rattle.std.proofs.lemmas.Option.{slice_get-map}
 use Rattle.std.proofs.lemmas.List.{map-set}
 use Rattle.rep_ops.specs.declared.op.Op.{Op}
-use Rattle.gw_world.specs.declared.event.Out.{Out}
-use Rattle.gw_world.specs.declared.event.NodeFault.{NodeFault}
-use Rattle.gw_world.specs.declared.node.Trouble.{Trouble}
-use Rattle.gw_world.specs.declared.node.Trouble.TheVariants.{Refused, Memory}
+use Rattle.gw_node.specs.declared.out.Out.{Out}
+use Rattle.gw_node.specs.declared.refusal.Refusal.{Refusal}
 use Rattle.gw_world.specs.declared.event.Event.{Event}
 use Rattle.gw_world.specs.declared.world.WorldFault.{WorldFault}
 use Rattle.gw_world.specs.declared.world.WorldFault.TheVariants as stops
-use Rattle.gw_world.specs.Occasions.{Occasion}
+use Rattle.gw_node.specs.Occasions.{Occasion}
 use Rattle.gw_world.specs.Gateways.{Gateway, place_of}
 use Rattle.gw_world.specs.Field.{gateway_of}
-use Rattle.gw_world.specs.Plans.{OwnKept, TakeKept, OnRefusal}
+use Rattle.gw_world.specs.Plans.{OwnKept, TakeKept}
 use Rattle.gw_world.specs.Events.{Moves, OwnAt, TakeAt, IsMissing, IsStopKept}
-
-pub on_refusal : (trouble : Trouble) (P Q : NodeFault → Type 0) → ((fault : NodeFault) → P fault → Q fault) → OnRefusal trouble P → OnRefusal trouble Q
-on_refusal (Refused fault) P Q f h = f fault h
-on_refusal Memory P Q f h = tt
 
 module _ {N : Type 0} (f : N → Gateway) (nodes : List N) (i : ℕ) (old new : N) (place : slice_get nodes i ≡ Some old) (configured : (f new).config ≡ (f old).config) where
   pub moves_in_place : Moves (map f nodes) i (f old) (f new) (map f (set nodes i new))
@@ -29,12 +23,12 @@ module _ {N : Type 0} (f : N → Gateway) (nodes : List N) (i : ℕ) (old new : 
     moved = map-set f nodes i new;
   }
 
-  pub own_in_place : (occasion : Occasion) (now : ℕ) (answer : Result Out NodeFault)
+  pub own_in_place : (occasion : Occasion) (now : ℕ) (answer : Result Out Refusal)
       → OwnKept (f old).config (f old).taken (f old).local occasion now answer (f new).taken (f new).local
       → OwnAt (map f nodes) i occasion now answer (map f (set nodes i new))
   own_in_place occasion now answer h = (f old, f new, moves_in_place, h)
 
-  pub take_in_place : (delta : List Op) (answer : Result Out NodeFault)
+  pub take_in_place : (delta : List Op) (answer : Result Out Refusal)
       → TakeKept (f old).config (f old).taken (f old).local delta answer (f new).taken (f new).local
       → TakeAt (map f nodes) i delta answer (map f (set nodes i new))
   take_in_place delta answer h = (f old, f new, moves_in_place, h)

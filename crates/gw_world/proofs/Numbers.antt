@@ -43,3 +43,36 @@ first-set n m (suc i) (suc j) (g ∷ gs) old next gateway f is c h e =
       | inl own ↦ inl own
       | inr rest ↦ inr (rest.0, (h.0, rest.1), rest.2)
     ]
+
+-- a number has one first gateway, and events find it
+pub first-one : (n j k : ℕ) (gs : List Gateway) → First n gs j → First n gs k → j ≡ k
+first-one n j k [] f h = absurd f
+first-one n zero zero (g ∷ gs) f h = refl
+first-one n zero (suc k) (g ∷ gs) f h = absurd (true≢false (sym f ∙ h.0))
+first-one n (suc j) zero (g ∷ gs) f h = absurd (true≢false (sym h ∙ f.0))
+first-one n (suc j) (suc k) (g ∷ gs) f h = ap suc (first-one n j k gs f.1 h.1)
+
+first-from : (n k j : ℕ) (gs : List Gateway) → First n gs j → place_from n k gs ≡ Some (k + j)
+first-from n k j [] f = absurd f
+first-from n k zero (g ∷ gs) f = let at : k ≡ k + 0 = omega arith in ap (λ b. if b then Some k else place_from n (k + 1) gs) f ∙ ap Some at
+first-from n k (suc j) (g ∷ gs) f = let at : k + 1 + j ≡ k + suc j = omega arith in ap (λ b. if b then Some k else place_from n (k + 1) gs) f.0 ∙ first-from n (k + 1) j gs f.1 ∙ ap Some at
+
+pub first-place_of : (n j : ℕ) (gs : List Gateway) → First n gs j → place_of n gs ≡ Some j
+first-place_of n j gs f = let at : 0 + j ≡ j = omega arith in first-from n 0 j gs f ∙ ap Some at
+
+-- after the gateway at i became next with the same number: the first of m stays, and is as it was or is next
+pub first-kept : (m i j : ℕ) (gs : List Gateway) (old next gateway : Gateway) → slice_get gs i ≡ Some old → next.config ≡ old.config → First m gs j → slice_get gs j ≡ Some gateway → First m (set gs i next) j × ((slice_get (set gs i next) j ≡ Some gateway) ⊎ ((gateway ≡ old) × (slice_get (set gs i next) j ≡ Some next)))
+first-kept m i j [] old next gateway is c f e = absurd f
+first-kept m zero zero (g ∷ gs) old next gateway is c f e =
+    let number : next.config.gateway ≡ g.config.gateway = ap (λ x. x.gateway) c ∙ ap (λ (x : Gateway). x.config.gateway) (sym (same_Some g old is)) in
+    (ap (λ x. x == m) number ∙ f, inr (sym (same_Some g gateway e) ∙ same_Some g old is, refl))
+first-kept m zero (suc j) (g ∷ gs) old next gateway is c f e =
+    let number : next.config.gateway ≡ g.config.gateway = ap (λ x. x.gateway) c ∙ ap (λ (x : Gateway). x.config.gateway) (sym (same_Some g old is)) in
+    ((ap (λ x. x == m) number ∙ f.0, f.1), inl e)
+first-kept m (suc i) zero (g ∷ gs) old next gateway is c f e = (f, inl e)
+first-kept m (suc i) (suc j) (g ∷ gs) old next gateway is c f e = let r = first-kept m i j gs old next gateway is c f.1 e in ((f.0, r.0), r.1)
+
+pub set-there : (i : ℕ) (gs : List Gateway) (old next : Gateway) → slice_get gs i ≡ Some old → slice_get (set gs i next) i ≡ Some next
+set-there i [] old next e = absurd (none-some old e)
+set-there zero (g ∷ gs) old next e = refl
+set-there (suc i) (g ∷ gs) old next e = set-there i gs old next e

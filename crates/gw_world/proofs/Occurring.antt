@@ -5,7 +5,7 @@ use Rattle.std.specs.FinMap.{find}
 use Rattle.std.specs.Ordering.{is_eq}
 use Rattle.std.specs.declared.cmp.Ordering.{Ordering}
 use Rattle.std.specs.declared.cmp.Ordering.TheVariants.{Less, Equal, Greater}
-use Rattle.std.proofs.lemmas.List.Elements.{Contains-append_right}
+use Rattle.std.proofs.lemmas.List.Elements.{All-from_recursion, All-contains, Contains-append_right}
 use Rattle.sn_session.specs.declared.change.SessionOp.{SessionOp}
 use Rattle.rep_ops.specs.declared.op.Stamp.{Stamp}
 use Rattle.rep_ops.specs.declared.op.Put.{Put}
@@ -14,6 +14,7 @@ use Rattle.rep_ops.specs.declared.op.Op.TheVariants.{Session as OfSession, Put a
 use Rattle.rep_ops.specs.Orders.{operation_cmp, put_cmp}
 use Rattle.rep_ops.specs.Sets.{same_client, operation_of, operation_at, put_of, put_at}
 use Rattle.rep_model.proofs.Readers.{operation_exact, put_exact, same_client-true}
+use Rattle.sn_flow.proofs.Standing.{IsThere, all-there}
 
 head_of : {X : Type 0} (x : X) (xs : List X) → Contains (x ∷ xs) x
 head_of x xs = (0, omega arith, refl)
@@ -70,3 +71,7 @@ put_occurs c (OfPut d p ∷ S) name put e =
           let there : put_at c S name ≡ Some put = rw same at found in
           let h = put_occurs c S name put there in (behind _ _ S h.0, h.1)
     ] refl e
+
+-- and a list has something under the name of each of its operations
+pub is_there : (S : List Op) (op : Op) → Contains S op → IsThere S op
+is_there S op h = All-contains (IsThere S) S op (All-from_recursion (IsThere S) S (all-there S)) h

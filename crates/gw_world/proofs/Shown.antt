@@ -1,18 +1,19 @@
 -- From what the gateways keep to what they have taken.
-use Rattle.std.proofs.Common.{◌≡◌, ℕ, List, [], ◌∷◌, ◌++◌, Option, Some, None, Result, Ok, Err, refl, sym, ap, ◌∙◌, subst, inl, inr}
+use Rattle.std.proofs.Common.{◌≡◌, ℕ, List, [], ◌∷◌, ◌++◌, Option, Some, None, ◌⊎◌, Result, Ok, Err, refl, sym, ap, ◌∙◌, subst, inl, inr}
 use Rattle.std.specs.Option.{option_to_list}
 use Rattle.rep_ops.specs.declared.op.Op.{Op}
 use Rattle.sn_flow.specs.Locals.{Local}
 use Rattle.sn_flow.specs.declared.plan.Plan.{Plan}
 use Rattle.sn_flow.specs.Plans.{seen_of}
 use Rattle.sn_flow.specs.Locals.{after_all, owned}
-use Rattle.gw_world.specs.declared.event.Out.{Out}
-use Rattle.gw_world.specs.declared.event.NodeFault.{NodeFault}
-use Rattle.gw_world.specs.declared.event.NodeFault.TheVariants as faults
-use Rattle.gw_world.specs.Occasions.{Occasion, IsPlanOf}
+use Rattle.gw_node.specs.declared.out.Out.{Out}
+use Rattle.gw_node.specs.declared.refusal.Refusal.{Refusal}
+use Rattle.gw_node.specs.declared.refusal.Refusal.TheVariants as refusals
+use Rattle.gw_node.specs.Occasions.{Occasion, IsPlanOf}
 use Rattle.gw_world.specs.Gateways.{Gateway}
-use Rattle.gw_world.specs.Steps.{OwnStep, TakeStep, IsMade, IsPlan, IsUnchanged, IsRefused}
-use Rattle.gw_world.specs.Plans.{OwnKept, TakeKept, IsPlanFor, IsRefusedFor, Makes}
+use Rattle.gw_world.specs.Steps.{OwnStep, TakeStep, IsMade, IsPlan, IsUnchanged, IsTooMuch, HasNoDelta}
+use Rattle.gw_node.specs.Calls.{AreTooMuch}
+use Rattle.gw_world.specs.Plans.{OwnKept, TakeKept, IsPlanFor, Makes}
 use Rattle.gw_world.specs.Events.{made_of}
 use Rattle.gw_world.specs.Keeping.{Keeps, IsShown}
 use Rattle.gw_world.proofs.Held.{keeps_more, seen_same, takable, conflict_with_taken, full_for_taken}
@@ -62,66 +63,68 @@ module _ (g k : Gateway) (s : IsShown g k) where
     shown = record { configured = s.configured; bound = ap (λ b. after_all b plan.local) s.bound; keeps = keeps_more g.taken k.taken delta kept s.keeps keeps };
   }
 
-  refused_taken : (delta : List Op) (fault : NodeFault) → IsRefusedFor k.taken delta fault → IsRefused g.taken delta fault
-  refused_taken delta (faults.Frame f) h = absurd h
-  refused_taken delta (faults.Conflict c) h = conflict_with_taken g.taken k.taken delta c s.keeps h
-  refused_taken delta faults.Full (limit, h) = full_for_taken g.taken k.taken delta limit s.keeps h
-  refused_taken delta faults.Exhausted h = absurd h
+  -- operations that cannot be taken
+  conflict_taken : (plan : Plan) (c : List ℕ) → AreTooMuch k.taken plan.ops (refusals.Conflict c) → IsTooMuch g plan (refusals.Conflict c)
+  conflict_taken plan c (inl (delta, is_delta, h)) = (delta, is_delta, conflict_with_taken g.taken k.taken delta c s.keeps h)
+  conflict_taken plan c (inr (e, h)) = absurd (cc)
+
+  full_taken : (plan : Plan) → AreTooMuch k.taken plan.ops refusals.Full → IsTooMuch g plan refusals.Full ⊎ HasNoDelta plan
+  full_taken plan (inl (delta, is_delta, (limit, h))) = inl (delta, is_delta, full_for_taken g.taken k.taken delta limit s.keeps h)
+  full_taken plan (inr (e, h)) = inr h
 
   -- what a datagram or a tick does by what is kept is a step by what was taken
-  pub own_taken : (occasion : Occasion) (now : ℕ) (answer : Result Out NodeFault) (kept : List Op) (local : Local)
+  pub own_taken : (occasion : Occasion) (now : ℕ) (answer : Result Out Refusal) (kept : List Op) (local : Local)
       → OwnKept k.config k.taken k.local occasion now answer kept local
       → Leads (λ next mades. OwnStep g occasion now answer next mades) k kept local (made_of answer)
-  own_taken occasion now (Ok out) kept local (plan, is_plan, sends, bound, makes) =
+  own_taken occasion now (Ok out) kept local (plan, is_plan, answer, bound, makes) =
       let made = made_taken plan plan.ops out.made kept makes in
       record {
         next = made.next;
-        step = (plan, plan_taken occasion now (Some plan) is_plan, (sends, made.step));
+        step = (plan, plan_taken occasion now (Some plan) is_plan, (answer, made.step));
         shown = record { configured = made.shown.configured; bound = bound ∙ made.shown.bound; keeps = made.shown.keeps };
       }
-  own_taken occasion now (Err (faults.Frame f)) kept local (same_kept, same_local, inl first) =
+  own_taken occasion now (Err (refusals.Frame f)) kept local (same_kept, same_local, first) =
       record { next = g; step = (first, unchanged); shown = stays kept local same_kept same_local }
-  own_taken occasion now (Err (faults.Frame f)) kept local (same_kept, same_local, inr (plan, is_plan, inl (delta, is_delta, h))) = absurd h
-  own_taken occasion now (Err (faults.Frame f)) kept local (same_kept, same_local, inr (plan, is_plan, inr (e, h))) = absurd (cc)
-  own_taken occasion now (Err (faults.Conflict c)) kept local (same_kept, same_local, inl first) = absurd first
-  own_taken occasion now (Err (faults.Conflict c)) kept local (same_kept, same_local, inr (plan, is_plan, inl (delta, is_delta, h))) =
-      record {
-        next = g;
-        step = (plan, plan_taken occasion now (Some plan) is_plan, (delta, is_delta, refused_taken delta (faults.Conflict c) h), unchanged);
-        shown = stays kept local same_kept same_local;
-      }
-  own_taken occasion now (Err (faults.Conflict c)) kept local (same_kept, same_local, inr (plan, is_plan, inr (e, h))) = absurd (cc)
-  own_taken occasion now (Err faults.Full) kept local (same_kept, same_local, inl first) = absurd first
-  own_taken occasion now (Err faults.Full) kept local (same_kept, same_local, inr (plan, is_plan, inl (delta, is_delta, h))) =
-      record {
-        next = g;
-        step = (plan, plan_taken occasion now (Some plan) is_plan, inl (delta, is_delta, refused_taken delta faults.Full h), unchanged);
-        shown = stays kept local same_kept same_local;
-      }
-  own_taken occasion now (Err faults.Full) kept local (same_kept, same_local, inr (plan, is_plan, inr (e, h))) =
-      record {
-        next = g;
-        step = (plan, plan_taken occasion now (Some plan) is_plan, inr h, unchanged);
-        shown = stays kept local same_kept same_local;
-      }
-  own_taken occasion now (Err faults.Exhausted) kept local (same_kept, same_local, inl none) =
+  own_taken occasion now (Err refusals.Exhausted) kept local (same_kept, same_local, none) =
       record { next = g; step = (plan_taken occasion now None none, unchanged); shown = stays kept local same_kept same_local }
-  own_taken occasion now (Err faults.Exhausted) kept local (same_kept, same_local, inr (plan, is_plan, inl (delta, is_delta, h))) = absurd h
-  own_taken occasion now (Err faults.Exhausted) kept local (same_kept, same_local, inr (plan, is_plan, inr (e, h))) = absurd (cc)
+  own_taken occasion now (Err (refusals.Conflict c)) kept local (same_kept, same_local, (plan, is_plan, h)) =
+      record {
+        next = g;
+        step = (plan, plan_taken occasion now (Some plan) is_plan, conflict_taken plan c h, unchanged);
+        shown = stays kept local same_kept same_local;
+      }
+  own_taken occasion now (Err refusals.Full) kept local (same_kept, same_local, (plan, is_plan, h)) =
+      record {
+        next = g;
+        step = (plan, plan_taken occasion now (Some plan) is_plan, full_taken plan h, unchanged);
+        shown = stays kept local same_kept same_local;
+      }
+  own_taken occasion now (Err refusals.Halted) kept local (same_kept, same_local, h) = absurd h
+  own_taken occasion now (Err (refusals.Disk excuse)) kept local (same_kept, same_local, h) = absurd h
+  own_taken occasion now (Err (refusals.Journal fault)) kept local (same_kept, same_local, h) = absurd h
+  own_taken occasion now (Err refusals.Memory) kept local (same_kept, same_local, h) = absurd h
 
   -- and so for a delta
-  pub take_taken : (delta : List Op) (answer : Result Out NodeFault) (kept : List Op) (local : Local)
+  pub take_taken : (delta : List Op) (answer : Result Out Refusal) (kept : List Op) (local : Local)
       → TakeKept k.config k.taken k.local delta answer kept local
       → Leads (λ next mades. TakeStep g delta answer next mades) k kept local []
-  take_taken delta (Ok out) kept local (sends, made, fits, keeps, bound) =
+  take_taken delta (Ok out) kept local (answer, fits, keeps, bound) =
       let more = keeps_more g.taken k.taken delta kept s.keeps keeps in
       let seen : seen_of kept ≡ seen_of (g.taken ++ delta) = seen_same (g.taken ++ delta) kept more.counts in
       let same : owned k.config.gateway (seen_of kept) k.local ≡ owned g.config.gateway (seen_of (g.taken ++ delta)) g.local =
       λ i. owned (s.configured i).gateway (seen i) (s.bound i) in
       record {
         next = record g { taken = g.taken ++ delta; local = owned g.config.gateway (seen_of (g.taken ++ delta)) g.local };
-        step = (sends, made, takable g.taken k.taken delta s.keeps fits, refl, refl);
+        step = (answer, takable g.taken k.taken delta s.keeps fits, refl, refl);
         shown = record { configured = s.configured; bound = bound ∙ same; keeps = more };
       }
-  take_taken delta (Err fault) kept local (same_kept, same_local, h) =
-      record { next = g; step = (refused_taken delta fault h, unchanged); shown = stays kept local same_kept same_local }
+  take_taken delta (Err (refusals.Conflict c)) kept local (same_kept, same_local, h) =
+      record { next = g; step = (conflict_with_taken g.taken k.taken delta c s.keeps h, unchanged); shown = stays kept local same_kept same_local }
+  take_taken delta (Err refusals.Full) kept local (same_kept, same_local, (limit, h)) =
+      record { next = g; step = (full_for_taken g.taken k.taken delta limit s.keeps h, unchanged); shown = stays kept local same_kept same_local }
+  take_taken delta (Err (refusals.Frame f)) kept local (same_kept, same_local, h) = absurd h
+  take_taken delta (Err refusals.Halted) kept local (same_kept, same_local, h) = absurd h
+  take_taken delta (Err (refusals.Disk excuse)) kept local (same_kept, same_local, h) = absurd h
+  take_taken delta (Err refusals.Exhausted) kept local (same_kept, same_local, h) = absurd h
+  take_taken delta (Err (refusals.Journal fault)) kept local (same_kept, same_local, h) = absurd h
+  take_taken delta (Err refusals.Memory) kept local (same_kept, same_local, h) = absurd h

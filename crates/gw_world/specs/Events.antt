@@ -5,13 +5,14 @@ use Rattle.std.specs.Option.{option_to_list}
 use Rattle.rep_ops.specs.declared.op.Op.{Op}
 use Rattle.gw_world.specs.declared.event.Event.{Event}
 use Rattle.gw_world.specs.declared.event.Event.TheVariants.{Frame, Tick, Take, Show}
-use Rattle.gw_world.specs.declared.event.Out.{Out}
-use Rattle.gw_world.specs.declared.event.NodeFault.{NodeFault}
+use Rattle.gw_node.specs.declared.out.Out.{Out}
+use Rattle.gw_node.specs.declared.refusal.Refusal.{Refusal}
+use Rattle.gw_node.specs.Parts.{said}
 use Rattle.gw_world.specs.declared.event.Answer.{Answer}
 use Rattle.gw_world.specs.declared.event.Answer.TheVariants.{Node, Views}
 use Rattle.gw_world.specs.declared.world.WorldFault.{WorldFault}
 use Rattle.gw_world.specs.declared.world.WorldFault.TheVariants as stops
-use Rattle.gw_world.specs.Occasions.{Occasion, Datagram, Clock}
+use Rattle.gw_node.specs.Occasions.{Occasion, Datagram, Clock}
 use Rattle.gw_world.specs.Gateways.{Gateway, place_of}
 use Rattle.gw_world.specs.Plans.{OwnKept, TakeKept}
 use Rattle.gw_world.specs.Field.{Field, Run, NoGateway, NamesNoDelta, shown, gateway_of}
@@ -19,9 +20,9 @@ use Rattle.gw_world.specs.Keeping.{AreShown}
 use Rattle.std.specs.declared.alloc.Global.{Global}
 
 -- the delta that an answer tells of
-abbrev pub made_of : Result Out NodeFault → List (List Op)
+abbrev pub made_of : Result Out Refusal → List (List Op)
 made_of (Ok out) = option_to_list out.made
-made_of (Err fault) = []
+made_of (Err refusal) = []
 
 -- the i-th gateway became another; what it was told stays
 pub record Moves (olds : List Gateway) (i : ℕ) (old new : Gateway) (news : List Gateway) : Type 0 where
@@ -29,24 +30,24 @@ pub record Moves (olds : List Gateway) (i : ℕ) (old new : Gateway) (news : Lis
   pub configured : new.config ≡ old.config
   pub moved : news ≡ slice_set olds i new
 
-abbrev pub OwnAt : List Gateway → ℕ → Occasion → ℕ → Result Out NodeFault → List Gateway → Type 0
+abbrev pub OwnAt : List Gateway → ℕ → Occasion → ℕ → Result Out Refusal → List Gateway → Type 0
 OwnAt olds i occasion now answer news =
     (old : Gateway) × (new : Gateway) × Moves olds i old new news
     × OwnKept old.config old.taken old.local occasion now answer new.taken new.local
 
-abbrev pub TakeAt : List Gateway → ℕ → List Op → Result Out NodeFault → List Gateway → Type 0
+abbrev pub TakeAt : List Gateway → ℕ → List Op → Result Out Refusal → List Gateway → Type 0
 TakeAt olds i delta answer news =
     (old : Gateway) × (new : Gateway) × Moves olds i old new news
     × TakeKept old.config old.taken old.local delta answer new.taken new.local
 
 -- the answer to a datagram or a tick, and the list of deltas after it
 abbrev pub OwnAnswered : List Gateway → List (List Op) → ℕ → Occasion → ℕ → List Gateway → List (List Op) → Answer → Type 0
-OwnAnswered olds deltas i occasion now news next (Node answer) = OwnAt olds i occasion now answer news × (next ≡ deltas ++ made_of answer)
+OwnAnswered olds deltas i occasion now news next (Node answer) = OwnAt olds i occasion now (said answer) news × (next ≡ deltas ++ made_of (said answer))
 OwnAnswered olds deltas i occasion now news next (Views views) = ⊥
 
 -- the answer to a delta
 abbrev pub TakeAnswered : List Gateway → ℕ → List Op → List Gateway → Answer → Type 0
-TakeAnswered olds i delta news (Node answer) = TakeAt olds i delta answer news
+TakeAnswered olds i delta news (Node answer) = TakeAt olds i delta (said answer) news
 TakeAnswered olds i delta news (Views views) = ⊥
 
 -- what a gateway shows

@@ -7,10 +7,11 @@ use Rattle.sn_flow.specs.declared.config.Config.{Config}
 use Rattle.gw_world.specs.declared.event.Event.{Event}
 use Rattle.gw_world.specs.declared.event.Event.TheVariants.{Frame, Tick, Take, Show}
 use Rattle.gw_world.specs.declared.event.Answer.{Answer}
-use Rattle.gw_world.specs.declared.event.Out.{Out}
-use Rattle.gw_world.specs.declared.event.NodeFault.{NodeFault}
+use Rattle.gw_node.specs.declared.out.Out.{Out}
+use Rattle.gw_node.specs.declared.refusal.Refusal.{Refusal}
+use Rattle.gw_node.specs.Parts.{said}
 use Rattle.gw_world.specs.declared.event.Answer.TheVariants.{Node, Views}
-use Rattle.gw_world.specs.Occasions.{Occasion, Datagram, Clock}
+use Rattle.gw_node.specs.Occasions.{Occasion, Datagram, Clock}
 use Rattle.gw_world.specs.Gateways.{Gateway, new_gateway, place_of}
 use Rattle.gw_world.specs.Steps.{OwnStep, TakeStep}
 
@@ -40,18 +41,18 @@ abbrev pub shown : List Op → List (List ℕ × ClientView)
 shown taken = map (λ c. (c, view c taken)) (clients taken)
 
 -- what a datagram to a gateway, or a tick at it, may do
-abbrev pub Steps : Field → ℕ → Occasion → ℕ → Result Out NodeFault → Field → Type 0
+abbrev pub Steps : Field → ℕ → Occasion → ℕ → Result Out Refusal → Field → Type 0
 Steps old number occasion now answer new =
     (i : ℕ) × (gateway : Gateway) × (next : Gateway) × (made : List (List Op))
     × IsAt old number i gateway × OwnStep gateway occasion now answer next made × (new ≡ changed old i next made)
 
 -- what one event may do: its answer, and the field after it
 abbrev pub After : Field → Event → Answer → Field → Type 0
-After old (Frame number from bytes now) (Node answer) new = Steps old number (Datagram from bytes) now answer new
-After old (Tick number now) (Node answer) new = Steps old number Clock now answer new
+After old (Frame number from bytes now) (Node answer) new = Steps old number (Datagram from bytes) now (said answer) new
+After old (Tick number now) (Node answer) new = Steps old number Clock now (said answer) new
 After old (Take number delta) (Node answer) new =
     (i : ℕ) × (gateway : Gateway) × (next : Gateway) × (made : List (List Op)) × (ops : List Op)
-    × IsAt old number i gateway × IsDeltaAt old delta ops × TakeStep gateway ops answer next made × (new ≡ changed old i next made)
+    × IsAt old number i gateway × IsDeltaAt old delta ops × TakeStep gateway ops (said answer) next made × (new ≡ changed old i next made)
 After old (Show number) (Views views) new =
     (i : ℕ) × (gateway : Gateway) × IsAt old number i gateway × (views ≡ shown gateway.taken) × (new ≡ old)
 After old (Frame number from bytes now) (Views views) new = ⊥

@@ -4,6 +4,7 @@ pub mod Worlds
 pub mod Events
 pub mod Field
 pub mod Keeping
-pub mod Occasions
+pub mod Calm
 pub mod Plans
 pub mod Steady
+pub mod Whole

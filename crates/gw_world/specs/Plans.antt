@@ -1,60 +1,37 @@
--- What a gateway's parts answer, by what its replica keeps.
-use Rattle.std.specs.Prelude.{◌≡◌, ◌≢◌, ◌⊎◌, ℕ, List, [], ◌∷◌, ◌++◌, Option, Some, None, Result, Ok, Err}
+-- What a gateway's calls answer, by what its replica keeps, where no disk fails.
+use Rattle.std.specs.Prelude.{◌≡◌, ℕ, List, [], ◌∷◌, ◌++◌, Option, Some, None, Result, Ok, Err}
 use Rattle.rep_ops.specs.declared.op.Op.{Op}
-use Rattle.rep_model.specs.declared.fault.Limit.{Limit}
-use Rattle.rep_model.specs.declared.fault.TakeFault.TheVariants as take_faults
-use Rattle.rep_ops.specs.declared.fault.OpsFault.{OpsFault}
-use Rattle.rep_ops.specs.declared.fault.OpsFault.TheVariants as ops_faults
-use Rattle.rep_ops.specs.Making.{IsDeltaOf, IsRefusal}
+use Rattle.rep_ops.specs.Making.{IsDeltaOf}
 use Rattle.rep_model.specs.Keep.{IsKeptOf}
-use Rattle.rep_model.specs.Taking.{Fits, IsFaultOf}
+use Rattle.rep_model.specs.Taking.{Fits}
 use Rattle.sn_flow.specs.declared.config.Config.{Config}
-use Rattle.sn_flow.specs.Locals.{Local}
+use Rattle.sn_flow.specs.Locals.{Local, after_all, owned}
 use Rattle.sn_flow.specs.declared.plan.Plan.{Plan}
 use Rattle.sn_flow.specs.Plans.{seen_of}
-use Rattle.sn_flow.specs.Locals.{after_all, owned}
-use Rattle.gw_world.specs.declared.event.Out.{Out}
-use Rattle.gw_world.specs.declared.event.NodeFault.{NodeFault}
-use Rattle.gw_world.specs.declared.event.NodeFault.TheVariants as faults
-use Rattle.gw_world.specs.declared.node.Trouble.{Trouble}
-use Rattle.gw_world.specs.Occasions.{Occasion, IsPlanOf, IsNoFrame}
-use Rattle.gw_world.specs.declared.node.Trouble.TheVariants.{Refused, Memory}
+use Rattle.gw_node.specs.declared.out.Out.{Out}
+use Rattle.gw_node.specs.declared.refusal.Refusal.{Refusal}
+use Rattle.gw_node.specs.declared.refusal.Refusal.TheVariants as refusals
+use Rattle.gw_node.specs.Occasions.{Occasion, IsPlanOf, IsNoFrame}
+use Rattle.gw_node.specs.Parts.{only_sends}
+use Rattle.gw_node.specs.Plans.{IsMisfit}
+use Rattle.gw_node.specs.Calls.{AreTooMuch}
 
 -- the plan for the occasion, by what is kept
 abbrev pub IsPlanFor : Config → List Op → Local → Occasion → ℕ → Option Plan → Type 0
 IsPlanFor config kept local occasion now plan = IsPlanOf config (seen_of kept) local occasion now plan
 
--- why there is no plan: a datagram is no frame, or a number is needed that was the last
-abbrev pub IsNoPlanBy : Config → List Op → Local → Occasion → ℕ → NodeFault → Type 0
-IsNoPlanBy config kept local occasion now (faults.Frame fault) = IsNoFrame occasion fault
-IsNoPlanBy config kept local occasion now faults.Exhausted = IsPlanFor config kept local occasion now None
-IsNoPlanBy config kept local occasion now fault = ⊥
-
-abbrev pub IsNoPlan : Config → List Op → Local → Occasion → ℕ → Trouble → Type 0
-IsNoPlan config kept local occasion now (Refused fault) = IsNoPlanBy config kept local occasion now fault
-IsNoPlan config kept local occasion now Memory = Unit {0}
-
--- why a delta is not taken
-abbrev pub IsRefusedFor : List Op → List Op → NodeFault → Type 0
-IsRefusedFor kept delta (faults.Conflict client) = IsFaultOf kept delta (take_faults.Conflict client)
-IsRefusedFor kept delta faults.Full = (limit : Limit) × IsFaultOf kept delta (take_faults.Full limit)
-IsRefusedFor kept delta fault = ⊥
-
-abbrev pub IsRefusedBy : List Op → List Op → Trouble → Type 0
-IsRefusedBy kept delta (Refused fault) = IsRefusedFor kept delta fault
-IsRefusedBy kept delta Memory = Unit {0}
-
--- the operations make no delta
-abbrev pub MakeNoDelta : List Op → Type 0
-MakeNoDelta ops = (fault : OpsFault) × (fault ≢ ops_faults.Memory) × IsRefusal ops fault
-
--- why operations are not taken: their delta is refused, or they make none
-abbrev pub IsNotMade : List Op → List Op → NodeFault → Type 0
-IsNotMade ops kept fault = ((delta : List Op) × IsDeltaOf ops delta × IsRefusedFor kept delta fault) ⊎ ((fault ≡ faults.Full) × MakeNoDelta ops)
-
-abbrev pub IsNotMadeBy : List Op → List Op → Trouble → Type 0
-IsNotMadeBy ops kept (Refused fault) = IsNotMade ops kept fault
-IsNotMadeBy ops kept Memory = Unit {0}
+-- why nothing was done: the datagram is no frame; a number is needed that was the last; or the operations cannot be taken
+abbrev pub IsOwnRefusal : Config → List Op → Local → Occasion → ℕ → Refusal → Type 0
+IsOwnRefusal config kept local occasion now (refusals.Frame fault) = IsNoFrame occasion fault
+IsOwnRefusal config kept local occasion now refusals.Exhausted = IsPlanFor config kept local occasion now None
+IsOwnRefusal config kept local occasion now (refusals.Conflict client) =
+    (plan : Plan) × IsPlanFor config kept local occasion now (Some plan) × AreTooMuch kept plan.ops (refusals.Conflict client)
+IsOwnRefusal config kept local occasion now refusals.Full =
+    (plan : Plan) × IsPlanFor config kept local occasion now (Some plan) × AreTooMuch kept plan.ops refusals.Full
+IsOwnRefusal config kept local occasion now refusals.Halted = ⊥
+IsOwnRefusal config kept local occasion now (refusals.Disk excuse) = ⊥
+IsOwnRefusal config kept local occasion now (refusals.Journal fault) = ⊥
+IsOwnRefusal config kept local occasion now refusals.Memory = ⊥
 
 -- operations, if there are any, became one delta, and it was taken
 abbrev pub Makes : List Op → Option (List Op) → List Op → List Op → Type 0
@@ -64,23 +41,27 @@ Makes (op ∷ ops) None kept next = ⊥
 Makes (op ∷ ops) (Some delta) kept next = IsDeltaOf (op ∷ ops) delta × Fits kept delta × IsKeptOf (kept ++ delta) next
 
 -- what a datagram or a tick does to what is kept and to the local state
-abbrev pub OwnKept : Config → List Op → Local → Occasion → ℕ → Result Out NodeFault → List Op → Local → Type 0
+abbrev pub OwnKept : Config → List Op → Local → Occasion → ℕ → Result Out Refusal → List Op → Local → Type 0
 OwnKept config kept local occasion now (Ok out) next after =
     (plan : Plan) × IsPlanFor config kept local occasion now (Some plan)
-    × (out.sends ≡ plan.sends) × (after ≡ after_all local plan.local) × Makes plan.ops out.made kept next
-OwnKept config kept local occasion now (Err fault) next after =
-    (next ≡ kept) × (after ≡ local)
-    × (IsNoPlanBy config kept local occasion now fault
-    ⊎ ((plan : Plan) × IsPlanFor config kept local occasion now (Some plan) × IsNotMade plan.ops kept fault))
+    × (out ≡ record (only_sends plan.sends) { made = out.made }) × (after ≡ after_all local plan.local) × Makes plan.ops out.made kept next
+OwnKept config kept local occasion now (Err refusal) next after =
+    (next ≡ kept) × (after ≡ local) × IsOwnRefusal config kept local occasion now refusal
+
+-- why a delta is not taken
+abbrev pub IsTakeRefusal : List Op → List Op → Refusal → Type 0
+IsTakeRefusal kept delta (refusals.Conflict client) = IsMisfit kept delta (refusals.Conflict client)
+IsTakeRefusal kept delta refusals.Full = IsMisfit kept delta refusals.Full
+IsTakeRefusal kept delta (refusals.Frame fault) = ⊥
+IsTakeRefusal kept delta refusals.Halted = ⊥
+IsTakeRefusal kept delta (refusals.Disk excuse) = ⊥
+IsTakeRefusal kept delta refusals.Exhausted = ⊥
+IsTakeRefusal kept delta (refusals.Journal fault) = ⊥
+IsTakeRefusal kept delta refusals.Memory = ⊥
 
 -- what a delta does to them
-abbrev pub TakeKept : Config → List Op → Local → List Op → Result Out NodeFault → List Op → Local → Type 0
+abbrev pub TakeKept : Config → List Op → Local → List Op → Result Out Refusal → List Op → Local → Type 0
 TakeKept config kept local delta (Ok out) next after =
-    (out.sends ≡ []) × (out.made ≡ None) × Fits kept delta × IsKeptOf (kept ++ delta) next
+    (out ≡ only_sends []) × Fits kept delta × IsKeptOf (kept ++ delta) next
     × (after ≡ owned config.gateway (seen_of next) local)
-TakeKept config kept local delta (Err fault) next after = (next ≡ kept) × (after ≡ local) × IsRefusedFor kept delta fault
-
--- what holds of a refusal, want of memory apart
-abbrev pub OnRefusal : Trouble → (NodeFault → Type 0) → Type 0
-OnRefusal (Refused fault) P = P fault
-OnRefusal Memory P = Unit {0}
+TakeKept config kept local delta (Err refusal) next after = (next ≡ kept) × (after ≡ local) × IsTakeRefusal kept delta refusal

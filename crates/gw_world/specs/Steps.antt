@@ -1,5 +1,5 @@
 -- What one event may do at one gateway: its answer, the gateway after it, and the delta that it makes, if it makes one. Want of
--- memory is no answer: it ends a run.
+-- memory is no answer: it ends a run. No disk fails, so no gateway is halted.
 use Rattle.std.specs.Prelude.{◌≡◌, ◌≢◌, ◌⊎◌, ℕ, List, [], ◌∷◌, ◌++◌, Option, Some, None, Result, Ok, Err, Contains}
 use Rattle.rep_ops.specs.declared.op.Op.{Op}
 use Rattle.rep_ops.specs.declared.op.Op.TheVariants.{Session as OfSession, Put as OfPut}
@@ -14,11 +14,12 @@ use Rattle.rep_model.specs.Limits.{first_passed}
 use Rattle.sn_flow.specs.declared.plan.Plan.{Plan}
 use Rattle.sn_flow.specs.Plans.{seen_of}
 use Rattle.sn_flow.specs.Locals.{after_all, owned}
-use Rattle.gw_world.specs.declared.event.Out.{Out}
-use Rattle.gw_world.specs.declared.event.NodeFault.{NodeFault}
-use Rattle.gw_world.specs.declared.event.NodeFault.TheVariants as faults
+use Rattle.gw_node.specs.declared.out.Out.{Out}
+use Rattle.gw_node.specs.declared.refusal.Refusal.{Refusal}
+use Rattle.gw_node.specs.declared.refusal.Refusal.TheVariants as refusals
 use Rattle.gw_world.specs.Gateways.{Gateway}
-use Rattle.gw_world.specs.Occasions.{Occasion, IsPlanOf, IsNoFrame}
+use Rattle.gw_node.specs.Occasions.{Occasion, IsPlanOf, IsNoFrame}
+use Rattle.gw_node.specs.Parts.{only_sends}
 
 -- two session operations of one name, or two messages of one name; acknowledgements contradict nothing
 abbrev pub HaveName : Op → Op → Type 0
@@ -42,9 +43,9 @@ pub record IsTakable (taken delta : List Op) : Type 0 where
   pub room : first_passed (taken ++ delta) ≡ None
 
 -- the gateway refuses the delta: for a conflict, or because more would be held than a limit allows
-abbrev pub IsRefused : List Op → List Op → NodeFault → Type 0
-IsRefused taken delta (faults.Conflict client) = IsConflict taken delta client
-IsRefused taken delta faults.Full = AllAgree (keep taken) delta × ((limit : Limit) × (first_passed (taken ++ delta) ≡ Some limit))
+abbrev pub IsRefused : List Op → List Op → Refusal → Type 0
+IsRefused taken delta (refusals.Conflict client) = IsConflict taken delta client
+IsRefused taken delta refusals.Full = AllAgree (keep taken) delta × ((limit : Limit) × (first_passed (taken ++ delta) ≡ Some limit))
 IsRefused taken delta fault = ⊥
 
 -- nothing changed, and no delta was made
@@ -62,15 +63,16 @@ IsMade (op ∷ ops) old plan (Some delta) new made =
     IsDeltaOf (op ∷ ops) delta × IsTakable old.taken delta × (made ≡ delta ∷ [])
     × (new ≡ record old { taken = old.taken ++ delta; local = after_all old.local plan.local })
 
+-- The answer is what the plan sends and the delta that was made, and says nothing else.
 abbrev pub IsCarriedOut : Gateway → Plan → Out → Gateway → List (List Op) → Type 0
-IsCarriedOut old plan out new made = (out.sends ≡ plan.sends) × IsMade plan.ops old plan out.made new made
+IsCarriedOut old plan out new made = (out ≡ record (only_sends plan.sends) { made = out.made }) × IsMade plan.ops old plan out.made new made
 
 -- the plan for the occasion, by what the gateway has taken
 abbrev pub IsPlan : Gateway → Occasion → ℕ → Option Plan → Type 0
 IsPlan old occasion now plan = IsPlanOf old.config (seen_of old.taken) old.local occasion now plan
 
 -- the operations of a plan cannot be taken: they make no delta, or the gateway refuses it
-abbrev pub IsTooMuch : Gateway → Plan → NodeFault → Type 0
+abbrev pub IsTooMuch : Gateway → Plan → Refusal → Type 0
 IsTooMuch old plan fault = (delta : List Op) × IsDeltaOf plan.ops delta × IsRefused old.taken delta fault
 
 abbrev pub HasNoDelta : Plan → Type 0
@@ -78,19 +80,23 @@ HasNoDelta plan = (fault : OpsFault) × (fault ≢ ops_faults.Memory) × IsRefus
 
 -- A datagram comes, or time goes by. The datagram is no frame; or its step needs a number after the last; or its operations cannot be taken; or the plan
 -- is carried out.
-abbrev pub OwnStep : Gateway → Occasion → ℕ → Result Out NodeFault → Gateway → List (List Op) → Type 0
+abbrev pub OwnStep : Gateway → Occasion → ℕ → Result Out Refusal → Gateway → List (List Op) → Type 0
 OwnStep old occasion now (Ok out) new made = (plan : Plan) × IsPlan old occasion now (Some plan) × IsCarriedOut old plan out new made
-OwnStep old occasion now (Err (faults.Frame fault)) new made = IsNoFrame occasion fault × IsUnchanged old new made
-OwnStep old occasion now (Err faults.Exhausted) new made = IsPlan old occasion now None × IsUnchanged old new made
-OwnStep old occasion now (Err (faults.Conflict client)) new made =
-    (plan : Plan) × IsPlan old occasion now (Some plan) × IsTooMuch old plan (faults.Conflict client) × IsUnchanged old new made
-OwnStep old occasion now (Err faults.Full) new made =
-    (plan : Plan) × IsPlan old occasion now (Some plan) × (IsTooMuch old plan faults.Full ⊎ HasNoDelta plan) × IsUnchanged old new made
+OwnStep old occasion now (Err (refusals.Frame fault)) new made = IsNoFrame occasion fault × IsUnchanged old new made
+OwnStep old occasion now (Err refusals.Exhausted) new made = IsPlan old occasion now None × IsUnchanged old new made
+OwnStep old occasion now (Err (refusals.Conflict client)) new made =
+    (plan : Plan) × IsPlan old occasion now (Some plan) × IsTooMuch old plan (refusals.Conflict client) × IsUnchanged old new made
+OwnStep old occasion now (Err refusals.Full) new made =
+    (plan : Plan) × IsPlan old occasion now (Some plan) × (IsTooMuch old plan refusals.Full ⊎ HasNoDelta plan) × IsUnchanged old new made
+OwnStep old occasion now (Err refusals.Halted) new made = ⊥
+OwnStep old occasion now (Err (refusals.Disk excuse)) new made = ⊥
+OwnStep old occasion now (Err (refusals.Journal fault)) new made = ⊥
+OwnStep old occasion now (Err refusals.Memory) new made = ⊥
 
--- A delta comes. It is taken, nothing is sent, and clients that another gateway now owns have no address here any more; or it is
+-- A delta comes. It is taken, the answer is empty, and clients that another gateway now owns have no address here any more; or it is
 -- refused.
-abbrev pub TakeStep : Gateway → List Op → Result Out NodeFault → Gateway → List (List Op) → Type 0
+abbrev pub TakeStep : Gateway → List Op → Result Out Refusal → Gateway → List (List Op) → Type 0
 TakeStep old delta (Ok out) new made =
-    (out.sends ≡ []) × (out.made ≡ None) × IsTakable old.taken delta × (made ≡ [])
+    (out ≡ only_sends []) × IsTakable old.taken delta × (made ≡ [])
     × (new ≡ record old { taken = old.taken ++ delta; local = owned old.config.gateway (seen_of (old.taken ++ delta)) old.local })
 TakeStep old delta (Err fault) new made = IsRefused old.taken delta fault × IsUnchanged old new made

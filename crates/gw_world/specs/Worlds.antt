@@ -1,5 +1,5 @@
 -- The result of a run.
-use Rattle.std.specs.Prelude.{◌≡◌, ℕ, ◌+◌, List, length, take, Some, slice_get}
+use Rattle.std.specs.Prelude.{◌≡◌, ℕ, ◌+◌, List, map, take, Some, slice_get}
 use Rattle.rep_ops.specs.declared.op.Op.{Op}
 use Rattle.rep_model.specs.Views.{view}
 use Rattle.sn_flow.specs.declared.config.Config.{Config}
@@ -8,17 +8,20 @@ use Rattle.gw_world.specs.declared.event.Answer.{Answer}
 use Rattle.gw_world.specs.declared.world.WorldFault.{WorldFault}
 use Rattle.gw_world.specs.declared.world.WorldFault.TheVariants as stops
 use Rattle.gw_world.specs.Gateways.{Gateway}
+use Rattle.gw_world.specs.Keeping.{AreShown}
 use Rattle.gw_world.specs.Field.{Field, new_field, Run, NoGateway, NamesNoDelta, gateway_of}
 
--- The events led the field, from its start, to these answers and deltas; and each replica, which keeps what `kept` says, shows of
--- every client the view of the set that its gateway has made and taken.
-pub record IsWorld {R : Type 0} (kept : R → List Op) (configs : List Config) (events : List Event) (answers : List Answer) (deltas : List (List Op)) (replicas : List R) : Type 0 where
+-- The events led the field, from its start, to these answers and deltas; and there is a node for each of its gateways, in the
+-- order of the configs. `held` is the gateway that a node is, with what its replica keeps in the place of what was taken: it has
+-- the config and the local state of its gateway, and what is kept counts as what that has made and taken. So each node shows
+-- of every client the view of its gateway's set.
+pub record IsWorld {N : Type 0} (held : N → Gateway) (configs : List Config) (events : List Event) (answers : List Answer) (deltas : List (List Op)) (nodes : List N) : Type 0 where
   pub field : Field
   pub run : Run (new_field configs) events answers field
   pub listed : deltas ≡ field.deltas
-  pub all : length replicas ≡ length field.gateways
-  pub views : (i : ℕ) (gateway : Gateway) (replica : R) → slice_get field.gateways i ≡ Some gateway → slice_get replicas i ≡ Some replica
-      → (c : List ℕ) → view c (kept replica) ≡ view c gateway.taken
+  pub shown : AreShown field.gateways (map held nodes)
+  pub views : (i : ℕ) (gateway : Gateway) (node : N) → slice_get field.gateways i ≡ Some gateway → slice_get nodes i ≡ Some node
+      → (c : List ℕ) → view c (held node).taken ≡ view c gateway.taken
 
 -- the events before the k-th, counted from 0, led the field to this
 pub record Before (configs : List Config) (events : List Event) (k : ℕ) (field : Field) (event : Event) : Type 0 where

@@ -1,11 +1,11 @@
 //! What can happen in a field, and what is answered.
 
+use gw_node::{NodeFault, Out};
 use octets::{Octets, Sequence};
 use rep_model::ClientView;
-use rep_ops::{ClientId, Delta};
-use sn_flow::{Addr, Send};
-use sn_frame::FrameFault;
-use thiserror::Error;
+use rep_ops::ClientId;
+use sn_flow::Addr;
+use std::sync::Arc;
 
 /// What can happen in a field. Gateways go by their numbers.
 #[derive(Debug, Drop, PartialEq, Eq)]
@@ -50,37 +50,11 @@ impl Event {
     }
 }
 
-/// What a gateway did at an event.
-#[derive(Debug, Drop)]
-pub struct Out {
-    /// The datagrams that it sent, in their order.
-    pub sends: Sequence<Send>,
-    /// The delta that it made, if it made operations.
-    pub made: Option<Delta>,
-}
-
-/// Why a gateway refused an event. It is as it was then.
-#[derive(Debug, Drop, PartialEq, Eq, Error)]
-pub enum NodeFault {
-    /// Fault 1: the datagram is no frame.
-    #[error("the datagram is no frame: {fault}")]
-    Frame { fault: FrameFault },
-    /// Fault 4: the delta contradicts what the gateway has taken of the client.
-    #[error("an operation of client {client:?} contradicts one that was taken under the same name")]
-    Conflict { client: ClientId },
-    /// Fault 5: the gateway would hold more than it may.
-    #[error("the gateway would hold more than it may")]
-    Full,
-    /// Fault 6: an epoch or a sequence number is at its last value.
-    #[error("an epoch or a sequence number is at its last value")]
-    Exhausted,
-}
-
 /// The answer to an event.
 #[derive(Debug, Drop)]
 pub enum Answer {
     /// A gateway's answer to a frame, a tick or a delta.
-    Node(Result<Out, NodeFault>),
+    Node(Result<Arc<Out>, NodeFault>),
     /// The clients that a gateway knows, in ascending order, with their views.
     Views(Sequence<(ClientId, ClientView)>),
 }

@@ -1,95 +1,188 @@
 //! One event in a field of gateways.
 
-ghost use Rattle.std.specs.Prelude.{◌≡◌, ◌<◌, Ok, Err, IfOk, IfErr, IfSome, length, map, vec_len};
-ghost use Rattle.gw_world.specs.Plans.{OnRefusal};
-ghost use Rattle.gw_world.specs.Occasions.{Datagram, Clock};
+ghost use Rattle.std.specs.Prelude.{◌≡◌, ◌<◌, false, IfOk, IfErr, OnOk, IfSome, length, map, vec_len};
+ghost use Rattle.std.specs.List.{AllByRecursion};
+ghost use Rattle.rep_model.specs.Views.{view as view_by};
+ghost use Rattle.gw_node.specs.Parts.{state_of, said, disk_of};
+ghost use Rattle.gw_node.specs.Occasions.{Datagram, Clock};
+ghost use Rattle.gw_world.specs.Calm.{IsCalm, IsFed, StaysCalm, keeping};
+ghost use Rattle.gw_world.specs.Plans.{OwnKept, TakeKept};
 ghost use Rattle.gw_world.specs.Events.{OwnAt, TakeAt};
 ghost use Rattle.gw_world.specs.Field.{shown};
 ghost use Rattle.gw_world.specs.Gateways.{place_of as gateway_place};
 
-use super::event::Out;
-use super::node::{Node, Trouble};
+use super::world::WorldFault;
+use gw_node::{Node, NodeFault, Out};
+use jr_journal::MemoryDisk;
 use octets::Sequence;
 use rep_model::{ClientView, Replica};
 use rep_ops::{ClientId, Delta};
 use sn_flow::Addr;
 use std::alloc::Global;
+use std::sync::Arc;
 
 /// The place of the gateway of this number.
-pub fn place_of<R: Replica>(nodes: &[Node<R>], number: u8) -> Option<usize>
-    ensures place { result ≡ gateway_place number (map (λ node. record { config = node.config; taken = R.kept node.replica; local = node.dialogs.local }) nodes.now) }
+pub fn place_of<R: Replica>(nodes: &[Node<R, MemoryDisk>], number: u8) -> Option<usize>
+    ensures place { result ≡ gateway_place number (map (λ node. keeping R.kept node) nodes.now) }
     ensures within { IfSome result (λ place. place < length nodes.now) }
 {
     for place in 0..nodes.len() {
-        if nodes[place].config.gateway == number {
+        if nodes[place].gateway() == number {
             return Some(place);
         }
     }
     None
 }
 
+/// The answer of a gateway, unless memory ran out, in it or in its disk.
+fn unless_starved<R: Replica>(
+    node: &Node<R, MemoryDisk>,
+    answer: Result<Arc<Out>, NodeFault>,
+) -> Result<Result<Arc<Out>, NodeFault>, WorldFault>
+    ensures same { IfOk result (λ given. said given ≡ said answer) }
+    ensures memory { OnOk result (IsFed (said answer)) }
+    ensures fed { OnOk result ((disk_of node.now).starved ≡ false) }
+    ensures err { IfErr result (λ fault. fault ≡ WorldFault.Memory) }
+{
+    if node.starved() {
+        return Err(WorldFault::Memory);
+    }
+    match answer {
+        Ok(out) => Ok(Ok(out)),
+        Err(NodeFault::Memory) => Err(WorldFault::Memory),
+        Err(fault) => Ok(Err(fault)),
+    }
+}
+
+/// A datagram comes to a gateway.
+fn frame_to<R: Replica>(
+    alloc: Global,
+    node: &mut Node<R, MemoryDisk>,
+    from: Addr,
+    bytes: &[u8],
+    now: u64,
+) -> Result<Result<Arc<Out>, NodeFault>, WorldFault>
+    requires { IsCalm (state_of R.kept node.old) }
+    ensures ok { IfOk result (λ answer. StaysCalm (λ config kept local next after. OwnKept config kept local (Datagram from bytes.now) now (said answer) next after) (state_of R.kept node.old) (state_of R.kept node.new)) }
+    ensures err { IfErr result (λ fault. fault ≡ WorldFault.Memory) }
+{
+    let answer = node.frame(alloc, from, bytes, now);
+    unless_starved(node, answer)
+}
+
+/// Time goes by at a gateway.
+fn tick_to<R: Replica>(
+    alloc: Global,
+    node: &mut Node<R, MemoryDisk>,
+    now: u64,
+) -> Result<Result<Arc<Out>, NodeFault>, WorldFault>
+    requires { IsCalm (state_of R.kept node.old) }
+    ensures ok { IfOk result (λ answer. StaysCalm (λ config kept local next after. OwnKept config kept local Clock now (said answer) next after) (state_of R.kept node.old) (state_of R.kept node.new)) }
+    ensures err { IfErr result (λ fault. fault ≡ WorldFault.Memory) }
+{
+    let answer = node.tick(alloc, now);
+    unless_starved(node, answer)
+}
+
+/// A delta comes to a gateway.
+fn take_to<R: Replica>(
+    alloc: Global,
+    node: &mut Node<R, MemoryDisk>,
+    delta: &Delta,
+) -> Result<Result<Arc<Out>, NodeFault>, WorldFault>
+    requires { IsCalm (state_of R.kept node.old) }
+    ensures ok { IfOk result (λ answer. StaysCalm (λ config kept local next after. TakeKept config kept local delta.now (said answer) next after) (state_of R.kept node.old) (state_of R.kept node.new)) }
+    ensures err { IfErr result (λ fault. fault ≡ WorldFault.Memory) }
+{
+    let answer = node.take(alloc, delta);
+    unless_starved(node, answer)
+}
+
 /// A datagram comes to the gateway in this place.
 pub fn frame_at<R: Replica>(
     alloc: Global,
-    nodes: &mut Vec<Node<R>>,
+    nodes: &mut Vec<Node<R, MemoryDisk>>,
     place: usize,
     from: Addr,
     bytes: &[u8],
     now: u64,
-) -> Result<Out, Trouble>
-    requires { place < vec_len nodes.old }
-    ensures ok { IfOk result (λ out. OwnAt (map (λ node. record { config = node.config; taken = R.kept node.replica; local = node.dialogs.local }) nodes.old.items) place (Datagram from bytes.now) now (Ok out) (map (λ node. record { config = node.config; taken = R.kept node.replica; local = node.dialogs.local }) nodes.new.items)) }
-    ensures err { IfErr result (λ trouble. OnRefusal trouble (λ fault. OwnAt (map (λ node. record { config = node.config; taken = R.kept node.replica; local = node.dialogs.local }) nodes.old.items) place (Datagram from bytes.now) now (Err fault) (map (λ node. record { config = node.config; taken = R.kept node.replica; local = node.dialogs.local }) nodes.new.items))) }
+) -> Result<Result<Arc<Out>, NodeFault>, WorldFault>
+    requires place { place < vec_len nodes.old }
+    requires calm { AllByRecursion (λ node. IsCalm (state_of R.kept node)) nodes.old.items }
+    ensures calm { OnOk result (AllByRecursion (λ node. IsCalm (state_of R.kept node)) nodes.new.items) }
+    ensures ok { IfOk result (λ answer. OwnAt (map (λ node. keeping R.kept node) nodes.old.items) place (Datagram from bytes.now) now (said answer) (map (λ node. keeping R.kept node) nodes.new.items)) }
+    ensures err { IfErr result (λ fault. fault ≡ WorldFault.Memory) }
 {
     let node = &mut nodes[place];
-    node.frame(alloc, from, bytes, now)
+    frame_to(alloc, node, from, bytes, now)
 }
 
 /// Time goes by at the gateway in this place.
 pub fn tick_at<R: Replica>(
     alloc: Global,
-    nodes: &mut Vec<Node<R>>,
+    nodes: &mut Vec<Node<R, MemoryDisk>>,
     place: usize,
     now: u64,
-) -> Result<Out, Trouble>
-    requires { place < vec_len nodes.old }
-    ensures ok { IfOk result (λ out. OwnAt (map (λ node. record { config = node.config; taken = R.kept node.replica; local = node.dialogs.local }) nodes.old.items) place Clock now (Ok out) (map (λ node. record { config = node.config; taken = R.kept node.replica; local = node.dialogs.local }) nodes.new.items)) }
-    ensures err { IfErr result (λ trouble. OnRefusal trouble (λ fault. OwnAt (map (λ node. record { config = node.config; taken = R.kept node.replica; local = node.dialogs.local }) nodes.old.items) place Clock now (Err fault) (map (λ node. record { config = node.config; taken = R.kept node.replica; local = node.dialogs.local }) nodes.new.items))) }
+) -> Result<Result<Arc<Out>, NodeFault>, WorldFault>
+    requires place { place < vec_len nodes.old }
+    requires calm { AllByRecursion (λ node. IsCalm (state_of R.kept node)) nodes.old.items }
+    ensures calm { OnOk result (AllByRecursion (λ node. IsCalm (state_of R.kept node)) nodes.new.items) }
+    ensures ok { IfOk result (λ answer. OwnAt (map (λ node. keeping R.kept node) nodes.old.items) place Clock now (said answer) (map (λ node. keeping R.kept node) nodes.new.items)) }
+    ensures err { IfErr result (λ fault. fault ≡ WorldFault.Memory) }
 {
     let node = &mut nodes[place];
-    node.tick(alloc, now)
+    tick_to(alloc, node, now)
 }
 
 /// A delta comes to the gateway in this place.
 pub fn take_at<R: Replica>(
     alloc: Global,
-    nodes: &mut Vec<Node<R>>,
+    nodes: &mut Vec<Node<R, MemoryDisk>>,
     place: usize,
     delta: &Delta,
-) -> Result<Out, Trouble>
-    requires { place < vec_len nodes.old }
-    ensures ok { IfOk result (λ out. TakeAt (map (λ node. record { config = node.config; taken = R.kept node.replica; local = node.dialogs.local }) nodes.old.items) place delta.now (Ok out) (map (λ node. record { config = node.config; taken = R.kept node.replica; local = node.dialogs.local }) nodes.new.items)) }
-    ensures err { IfErr result (λ trouble. OnRefusal trouble (λ fault. TakeAt (map (λ node. record { config = node.config; taken = R.kept node.replica; local = node.dialogs.local }) nodes.old.items) place delta.now (Err fault) (map (λ node. record { config = node.config; taken = R.kept node.replica; local = node.dialogs.local }) nodes.new.items))) }
+) -> Result<Result<Arc<Out>, NodeFault>, WorldFault>
+    requires place { place < vec_len nodes.old }
+    requires calm { AllByRecursion (λ node. IsCalm (state_of R.kept node)) nodes.old.items }
+    ensures calm { OnOk result (AllByRecursion (λ node. IsCalm (state_of R.kept node)) nodes.new.items) }
+    ensures ok { IfOk result (λ answer. TakeAt (map (λ node. keeping R.kept node) nodes.old.items) place delta.now (said answer) (map (λ node. keeping R.kept node) nodes.new.items)) }
+    ensures err { IfErr result (λ fault. fault ≡ WorldFault.Memory) }
 {
     let node = &mut nodes[place];
-    node.take(alloc, delta)
+    take_to(alloc, node, delta)
 }
 
-/// What the gateway in this place knows.
+/// The view of a client that a gateway knows.
+fn view_of<R: Replica>(
+    alloc: Global,
+    node: &Node<R, MemoryDisk>,
+    client: &ClientId,
+) -> Result<ClientView, WorldFault>
+    ensures ok { IfOk result (λ seen. seen ≡ view_by client.now (keeping R.kept node.now).taken) }
+    ensures err { IfErr result (λ fault. fault ≡ WorldFault.Memory) }
+{
+    match node.view(alloc, client) {
+        Ok(out) => match &out.view {
+            Some(view) => Ok(view.copy(alloc)?),
+            None => Err(WorldFault::Memory),
+        },
+        Err(_) => Err(WorldFault::Memory),
+    }
+}
+
+/// What a gateway knows.
 pub fn show_at<R: Replica>(
     alloc: Global,
-    replica: &R,
-) -> Result<Sequence<(ClientId, ClientView)>, Trouble>
-    ensures ok { IfOk result (λ views. views ≡ shown (R.kept replica.now)) }
-    ensures err { IfErr result (λ trouble. trouble ≡ Trouble.Memory) }
+    node: &Node<R, MemoryDisk>,
+) -> Result<Sequence<(ClientId, ClientView)>, WorldFault>
+    ensures ok { IfOk result (λ views. views ≡ shown (keeping R.kept node.now).taken) }
+    ensures err { IfErr result (λ fault. fault ≡ WorldFault.Memory) }
 {
-    let clients = replica.clients(alloc)?;
+    let Ok(clients) = node.clients(alloc) else {
+        return Err(WorldFault::Memory);
+    };
     let mut views = Vec::new(alloc);
     for client in clients {
-        let view = match replica.view_of(&client) {
-            Some(view) => view.copy(alloc)?,
-            None => return Err(Trouble::Memory),
-        };
+        let view = view_of(alloc, node, &client)?;
         views.push((client, view))?;
     }
     Ok(Sequence::new(views))

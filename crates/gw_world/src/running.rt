@@ -2,21 +2,26 @@
 
 ghost use Rattle.std.specs.Prelude.{◌≡◌, ◌++◌, ◌<◌, List, MatchOption, IfOk, IfErr, OnOk, map, vec_len};
 ghost use Rattle.std.specs.Option.{option_to_list};
-ghost use Rattle.gw_world.specs.Occasions.{Datagram, Clock};
-ghost use Rattle.gw_world.specs.Events.{OwnAnswered, TakeAnswered, ShowAnswered, IsListed, EventAt, EventKept, IsMissing, IsStopKept, PlayedKept, StopsKept};
+ghost use Rattle.std.specs.List.{AllByRecursion};
+ghost use Rattle.gw_node.specs.Occasions.{Datagram, Clock};
+ghost use Rattle.gw_node.specs.Parts.{state_of, said};
+ghost use Rattle.gw_world.specs.Calm.{IsCalm, keeping};
+ghost use Rattle.gw_world.specs.Events.{made_of, OwnAnswered, TakeAnswered, ShowAnswered, IsListed, EventAt, EventKept, IsMissing, IsStopKept, PlayedKept, StopsKept};
 ghost use Rattle.gw_world.specs.Gateways.{new_gateway};
 ghost use Rattle.gw_world.specs.Worlds.{IsWorld, IsStop};
 ghost use Rattle.rep_ops.specs.declared.op.Op.{Op};
 
 use super::event::{Answer, Event};
 use super::field::{frame_at, place_of, show_at, take_at, tick_at};
-use super::node::{Node, Trouble};
 use super::world::{World, WorldFault};
+use gw_node::{Node, NodeFault, Out};
+use jr_journal::MemoryDisk;
 use octets::Sequence;
 use rep_model::Replica;
 use rep_ops::Delta;
-use sn_flow::{Addr, Config, Dialogs};
+use sn_flow::{Addr, Config};
 use std::alloc::Global;
+use std::sync::Arc;
 
 /// Puts the delta that an answer tells of on the list.
 fn record(alloc: Global, deltas: &mut Vec<Delta>, made: &Option<Delta>) -> Result<(), WorldFault>
@@ -29,81 +34,88 @@ fn record(alloc: Global, deltas: &mut Vec<Delta>, made: &Option<Delta>) -> Resul
     Ok(())
 }
 
+/// Puts the delta on the list that an answer of a gateway tells of.
+fn record_made(
+    alloc: Global,
+    deltas: &mut Vec<Delta>,
+    answer: &Result<Arc<Out>, NodeFault>,
+) -> Result<(), WorldFault>
+    ensures ok { OnOk result (deltas.new.items ≡ deltas.old.items ++ made_of (said answer.now)) }
+    ensures err { IfErr result (λ fault. fault ≡ WorldFault.Memory) }
+{
+    match answer {
+        Ok(out) => record(alloc, deltas, &out.made),
+        Err(_) => Ok(()),
+    }
+}
+
 /// A datagram comes to the gateway in this place.
 fn play_frame<R: Replica>(
     alloc: Global,
-    nodes: &mut Vec<Node<R>>,
+    nodes: &mut Vec<Node<R, MemoryDisk>>,
     deltas: &mut Vec<Delta>,
     place: usize,
     from: Addr,
     bytes: &[u8],
     now: u64,
 ) -> Result<Answer, WorldFault>
-    requires { place < vec_len nodes.old }
-    ensures ok { IfOk result (OwnAnswered (map (λ node. record { config = node.config; taken = R.kept node.replica; local = node.dialogs.local }) nodes.old.items) deltas.old.items place (Datagram from bytes.now) now (map (λ node. record { config = node.config; taken = R.kept node.replica; local = node.dialogs.local }) nodes.new.items) deltas.new.items) }
+    requires place { place < vec_len nodes.old }
+    requires calm { AllByRecursion (λ node. IsCalm (state_of R.kept node)) nodes.old.items }
+    ensures calm { OnOk result (AllByRecursion (λ node. IsCalm (state_of R.kept node)) nodes.new.items) }
+    ensures ok { IfOk result (OwnAnswered (map (λ node. keeping R.kept node) nodes.old.items) deltas.old.items place (Datagram from bytes.now) now (map (λ node. keeping R.kept node) nodes.new.items) deltas.new.items) }
     ensures err { IfErr result (λ fault. fault ≡ WorldFault.Memory) }
 {
-    match frame_at(alloc, nodes, place, from, bytes, now) {
-        Ok(out) => {
-            record(alloc, deltas, &out.made)?;
-            Ok(Answer::Node(Ok(out)))
-        }
-        Err(Trouble::Refused(fault)) => Ok(Answer::Node(Err(fault))),
-        Err(Trouble::Memory) => Err(WorldFault::Memory),
-    }
+    let answer = frame_at(alloc, nodes, place, from, bytes, now)?;
+    record_made(alloc, deltas, &answer)?;
+    Ok(Answer::Node(answer))
 }
 
 /// Time goes by at the gateway in this place.
 fn play_tick<R: Replica>(
     alloc: Global,
-    nodes: &mut Vec<Node<R>>,
+    nodes: &mut Vec<Node<R, MemoryDisk>>,
     deltas: &mut Vec<Delta>,
     place: usize,
     now: u64,
 ) -> Result<Answer, WorldFault>
-    requires { place < vec_len nodes.old }
-    ensures ok { IfOk result (OwnAnswered (map (λ node. record { config = node.config; taken = R.kept node.replica; local = node.dialogs.local }) nodes.old.items) deltas.old.items place Clock now (map (λ node. record { config = node.config; taken = R.kept node.replica; local = node.dialogs.local }) nodes.new.items) deltas.new.items) }
+    requires place { place < vec_len nodes.old }
+    requires calm { AllByRecursion (λ node. IsCalm (state_of R.kept node)) nodes.old.items }
+    ensures calm { OnOk result (AllByRecursion (λ node. IsCalm (state_of R.kept node)) nodes.new.items) }
+    ensures ok { IfOk result (OwnAnswered (map (λ node. keeping R.kept node) nodes.old.items) deltas.old.items place Clock now (map (λ node. keeping R.kept node) nodes.new.items) deltas.new.items) }
     ensures err { IfErr result (λ fault. fault ≡ WorldFault.Memory) }
 {
-    match tick_at(alloc, nodes, place, now) {
-        Ok(out) => {
-            record(alloc, deltas, &out.made)?;
-            Ok(Answer::Node(Ok(out)))
-        }
-        Err(Trouble::Refused(fault)) => Ok(Answer::Node(Err(fault))),
-        Err(Trouble::Memory) => Err(WorldFault::Memory),
-    }
+    let answer = tick_at(alloc, nodes, place, now)?;
+    record_made(alloc, deltas, &answer)?;
+    Ok(Answer::Node(answer))
 }
 
 /// A delta comes to the gateway in this place.
 fn play_take<R: Replica>(
     alloc: Global,
-    nodes: &mut Vec<Node<R>>,
+    nodes: &mut Vec<Node<R, MemoryDisk>>,
     place: usize,
     delta: &Delta,
 ) -> Result<Answer, WorldFault>
-    requires { place < vec_len nodes.old }
-    ensures ok { IfOk result (TakeAnswered (map (λ node. record { config = node.config; taken = R.kept node.replica; local = node.dialogs.local }) nodes.old.items) place delta.now (map (λ node. record { config = node.config; taken = R.kept node.replica; local = node.dialogs.local }) nodes.new.items)) }
+    requires place { place < vec_len nodes.old }
+    requires calm { AllByRecursion (λ node. IsCalm (state_of R.kept node)) nodes.old.items }
+    ensures calm { OnOk result (AllByRecursion (λ node. IsCalm (state_of R.kept node)) nodes.new.items) }
+    ensures ok { IfOk result (TakeAnswered (map (λ node. keeping R.kept node) nodes.old.items) place delta.now (map (λ node. keeping R.kept node) nodes.new.items)) }
     ensures err { IfErr result (λ fault. fault ≡ WorldFault.Memory) }
 {
-    match take_at(alloc, nodes, place, delta) {
-        Ok(out) => Ok(Answer::Node(Ok(out))),
-        Err(Trouble::Refused(fault)) => Ok(Answer::Node(Err(fault))),
-        Err(Trouble::Memory) => Err(WorldFault::Memory),
-    }
+    Ok(Answer::Node(take_at(alloc, nodes, place, delta)?))
 }
 
 /// What the gateway in this place knows.
 fn play_show<R: Replica>(
     alloc: Global,
-    nodes: &Vec<Node<R>>,
+    nodes: &Vec<Node<R, MemoryDisk>>,
     place: usize,
 ) -> Result<Answer, WorldFault>
     requires { place < vec_len nodes.now }
-    ensures ok { IfOk result (ShowAnswered (map (λ node. record { config = node.config; taken = R.kept node.replica; local = node.dialogs.local }) nodes.now.items) place) }
+    ensures ok { IfOk result (ShowAnswered (map (λ node. keeping R.kept node) nodes.now.items) place) }
     ensures err { IfErr result (λ fault. fault ≡ WorldFault.Memory) }
 {
-    match show_at(alloc, &nodes[place].replica) {
+    match show_at(alloc, &nodes[place]) {
         Ok(views) => Ok(Answer::Views(views)),
         Err(_) => Err(WorldFault::Memory),
     }
@@ -122,14 +134,16 @@ fn delta_at(deltas: &[Delta], number: u64) -> Option<&Delta>
 /// One event at the gateway in this place. Events are numbered.
 fn play_at<R: Replica>(
     alloc: Global,
-    nodes: &mut Vec<Node<R>>,
+    nodes: &mut Vec<Node<R, MemoryDisk>>,
     deltas: &mut Vec<Delta>,
     place: usize,
     event: &Event,
     number: u64,
 ) -> Result<Answer, WorldFault>
-    requires { place < vec_len nodes.old }
-    ensures ok { IfOk result (EventAt (map (λ node. record { config = node.config; taken = R.kept node.replica; local = node.dialogs.local }) nodes.old.items) deltas.old.items place event.now (map (λ node. record { config = node.config; taken = R.kept node.replica; local = node.dialogs.local }) nodes.new.items) deltas.new.items) }
+    requires place { place < vec_len nodes.old }
+    requires calm { AllByRecursion (λ node. IsCalm (state_of R.kept node)) nodes.old.items }
+    ensures calm { OnOk result (AllByRecursion (λ node. IsCalm (state_of R.kept node)) nodes.new.items) }
+    ensures ok { IfOk result (EventAt (map (λ node. keeping R.kept node) nodes.old.items) deltas.old.items place event.now (map (λ node. keeping R.kept node) nodes.new.items) deltas.new.items) }
     ensures err { IfErr result (IsMissing deltas.old.items event.now number) }
 {
     match event {
@@ -151,13 +165,15 @@ fn play_at<R: Replica>(
 /// One event. Events are numbered.
 fn play_event<R: Replica>(
     alloc: Global,
-    nodes: &mut Vec<Node<R>>,
+    nodes: &mut Vec<Node<R, MemoryDisk>>,
     deltas: &mut Vec<Delta>,
     event: &Event,
     number: u64,
 ) -> Result<Answer, WorldFault>
-    ensures ok { IfOk result (EventKept (map (λ node. record { config = node.config; taken = R.kept node.replica; local = node.dialogs.local }) nodes.old.items) deltas.old.items event.now (map (λ node. record { config = node.config; taken = R.kept node.replica; local = node.dialogs.local }) nodes.new.items) deltas.new.items) }
-    ensures err { IfErr result (IsStopKept (map (λ node. record { config = node.config; taken = R.kept node.replica; local = node.dialogs.local }) nodes.old.items) deltas.old.items event.now number) }
+    requires { AllByRecursion (λ node. IsCalm (state_of R.kept node)) nodes.old.items }
+    ensures calm { OnOk result (AllByRecursion (λ node. IsCalm (state_of R.kept node)) nodes.new.items) }
+    ensures ok { IfOk result (EventKept (map (λ node. keeping R.kept node) nodes.old.items) deltas.old.items event.now (map (λ node. keeping R.kept node) nodes.new.items) deltas.new.items) }
+    ensures err { IfErr result (IsStopKept (map (λ node. keeping R.kept node) nodes.old.items) deltas.old.items event.now number) }
 {
     match place_of(nodes.as_slice(), event.gateway()) {
         Some(place) => play_at(alloc, nodes, deltas, place, event, number),
@@ -165,44 +181,48 @@ fn play_event<R: Replica>(
     }
 }
 
+/// A gateway that has taken nothing, with its journal on an empty disk.
+fn new_node<R: Replica>(alloc: Global, config: &Config) -> Result<Node<R, MemoryDisk>, WorldFault>
+    ensures ok { IfOk result (λ node. keeping R.kept node ≡ new_gateway config.now) }
+    ensures calm { IfOk result (λ node. IsCalm (state_of R.kept node)) }
+    ensures err { IfErr result (λ fault. fault ≡ WorldFault.Memory) }
+{
+    let Ok(node) = Node::open(alloc, config.copy(alloc)?, MemoryDisk::new(alloc)) else {
+        return Err(WorldFault::Memory);
+    };
+    if node.starved() {
+        return Err(WorldFault::Memory);
+    }
+    Ok(node)
+}
+
 /// The gateways of these configs, each of which has taken nothing.
-fn new_nodes<R: Replica>(alloc: Global, configs: &[Config]) -> Result<Vec<Node<R>>, WorldFault>
-    ensures ok { IfOk result (λ nodes. (map (λ node. record { config = node.config; taken = R.kept node.replica; local = node.dialogs.local }) nodes.items) ≡ map new_gateway configs.now) }
+fn new_nodes<R: Replica>(
+    alloc: Global,
+    configs: &[Config],
+) -> Result<Vec<Node<R, MemoryDisk>>, WorldFault>
+    ensures ok { IfOk result (λ nodes. (map (λ node. keeping R.kept node) nodes.items) ≡ map new_gateway configs.now) }
+    ensures calm { IfOk result (λ nodes. AllByRecursion (λ node. IsCalm (state_of R.kept node)) nodes.items) }
     ensures err { IfErr result (λ fault. fault ≡ WorldFault.Memory) }
 {
     let mut nodes = Vec::with_capacity(alloc, configs.len())?;
     for config in configs {
-        nodes.push(Node {
-            config: config.copy(alloc)?,
-            replica: R::empty(alloc)?,
-            dialogs: Dialogs::empty(alloc),
-        })?;
+        nodes.push(new_node(alloc, config)?)?;
     }
     Ok(nodes)
-}
-
-/// The replicas of the gateways, in their order.
-fn replicas_of<R: Replica>(alloc: Global, nodes: Vec<Node<R>>) -> Result<Vec<R>, WorldFault>
-    ensures ok { IfOk result (λ replicas. replicas.items ≡ map (λ node. node.replica) nodes.items) }
-    ensures err { IfErr result (λ fault. fault ≡ WorldFault.Memory) }
-{
-    let mut replicas = Vec::with_capacity(alloc, nodes.len())?;
-    for node in nodes {
-        let Node { replica, .. } = node;
-        replicas.push(replica)?;
-    }
-    Ok(replicas)
 }
 
 /// Plays the events, one after the other.
 fn play_all<R: Replica>(
     alloc: Global,
-    nodes: &mut Vec<Node<R>>,
+    nodes: &mut Vec<Node<R, MemoryDisk>>,
     deltas: &mut Vec<Delta>,
     events: &[Event],
 ) -> Result<Vec<Answer>, WorldFault>
-    ensures ok { IfOk result (PlayedKept (map (λ node. record { config = node.config; taken = R.kept node.replica; local = node.dialogs.local }) nodes.old.items) deltas.old.items events.now (map (λ node. record { config = node.config; taken = R.kept node.replica; local = node.dialogs.local }) nodes.new.items) deltas.new.items) }
-    ensures err { IfErr result (StopsKept (map (λ node. record { config = node.config; taken = R.kept node.replica; local = node.dialogs.local }) nodes.old.items) deltas.old.items events.now) }
+    requires { AllByRecursion (λ node. IsCalm (state_of R.kept node)) nodes.old.items }
+    ensures calm { OnOk result (AllByRecursion (λ node. IsCalm (state_of R.kept node)) nodes.new.items) }
+    ensures ok { IfOk result (PlayedKept (map (λ node. keeping R.kept node) nodes.old.items) deltas.old.items events.now (map (λ node. keeping R.kept node) nodes.new.items) deltas.new.items) }
+    ensures err { IfErr result (StopsKept (map (λ node. keeping R.kept node) nodes.old.items) deltas.old.items events.now) }
 {
     let mut answers = Vec::with_capacity(alloc, events.len())?;
     for (index, event) in events.iter().enumerate() {
@@ -219,14 +239,16 @@ fn play_all<R: Replica>(
 /// Runs a field of gateways: the gateways of these configs begin with nothing, and the events come one
 /// after the other.
 ///
-/// The result has an answer for each event, the deltas that were made, and the replicas of the gateways.
-/// There is none where an event names a gateway or a delta that is not there, or memory runs out.
+/// Each gateway has its journal on a disk in memory. The result has an answer for each event, the deltas that were made, and the gateways.
+/// There is no result where an event names a gateway or a delta that is not there, or memory runs out.
 pub fn run<R: Replica>(
     alloc: Global,
     configs: &[Config],
     events: &[Event],
-) -> Result<World<R>, WorldFault>
-    ensures ok { IfOk result (λ world. IsWorld (λ replica. R.kept replica) configs.now events.now world.answers world.deltas world.gateways) }
+) -> Result<World<Node<R, MemoryDisk>>, WorldFault>
+    ensures ok { IfOk result (λ world. IsWorld (λ node. keeping R.kept node) configs.now events.now world.answers world.deltas world.gateways) }
+    // At the end no node is halted, none was refused memory, and no failure is arranged on a disk.
+    ensures calm { IfOk result (λ world. AllByRecursion (λ node. IsCalm (state_of R.kept node)) world.gateways) }
     ensures err { IfErr result (IsStop configs.now events.now) }
 {
     let mut nodes = new_nodes(alloc, configs)?;
@@ -235,10 +257,9 @@ pub fn run<R: Replica>(
         Ok(answers) => answers,
         Err(fault) => return Err(fault),
     };
-    let gateways = replicas_of(alloc, nodes)?;
     Ok(World {
         answers: Sequence::new(answers),
         deltas: Sequence::new(deltas),
-        gateways: Sequence::new(gateways),
+        gateways: Sequence::new(nodes),
     })
 }

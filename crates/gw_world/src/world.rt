@@ -5,7 +5,6 @@ ghost use Rattle.gw_world.specs.declared.world.WorldFault.TheVariants.{Memory};
 
 use super::event::Answer;
 use octets::Sequence;
-use rep_model::TakeFault;
 use rep_ops::{Delta, OpsFault};
 use sn_flow::StepFault;
 use std::alloc::{AllocError, AllocFailed};
@@ -14,13 +13,13 @@ use thiserror::Error;
 /// The result of a run: an answer for each event, the deltas made, numbered from 1, and the gateways in
 /// the order of their configs.
 #[derive(Drop)]
-pub struct World<R> {
+pub struct World<G> {
     /// An answer for each event, in their order.
     pub answers: Sequence<Answer>,
     /// The deltas that were made; the first has number 1.
     pub deltas: Sequence<Delta>,
-    /// The replicas of the gateways, in the order of their configs.
-    pub gateways: Sequence<R>,
+    /// The gateways, in the order of their configs.
+    pub gateways: Sequence<G>,
 }
 
 /// Why a run has no result. Events are numbered from 1.
@@ -30,7 +29,7 @@ pub enum WorldFault {
     #[error("event {event} names a gateway that is not there")]
     NoGateway { event: u64 },
     /// Fault 2: the event names no delta.
-    #[error("event {event} names a delta that was not made yet")]
+    #[error("event {event} names a delta that is not there")]
     NoDelta { event: u64 },
     /// Fault 3: memory ran out.
     #[error("out of memory")]
@@ -57,14 +56,6 @@ impl From<OpsFault> for WorldFault {
     ghost from_gives = { λ _ e. e ≡ Memory };
 
     fn from(_error: OpsFault) -> WorldFault {
-        WorldFault::Memory
-    }
-}
-
-impl From<TakeFault> for WorldFault {
-    ghost from_gives = { λ _ e. e ≡ Memory };
-
-    fn from(_error: TakeFault) -> WorldFault {
         WorldFault::Memory
     }
 }

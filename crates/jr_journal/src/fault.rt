@@ -17,7 +17,7 @@ pub enum JournalFault {
     #[error("the slots are no journal of this gateway")]
     Foreign,
     /// Fault 3: what stands at this place of a slot is no record and no seal that may stand there.
-    #[error("no record at byte {at} of a slot")]
+    #[error("no record at byte {at} of slot {slot:?}")]
     BadRecord { slot: Slot, at: usize },
     /// Fault 4: memory ran out.
     #[error("out of memory")]

@@ -13,8 +13,8 @@
 //! - `fault`: why a journal refuses.
 //!
 //! The definitions are in `specs/`: `Disk` (slots and what a crash leaves), `Memory` (a disk in memory), `Records` (from the
-//! bytes of a slot to its records), `Journals` (what a journal keeps true, and an append), `Opening` (faults, and the slots
-//! behind an opening).
+//! bytes of a slot to its records), `Faults` (which fault there is in two slots), `Parts` (what contracts see of a journal),
+//! `Journals` (what a journal keeps true, and an append), `Opening` (the slots behind an opening).
 #![tactic(auto)]
 
 mod content;

@@ -1,24 +1,28 @@
 -- The gateway in this place moves, and no other.
-use Rattle.std.proofs.Common.{Ok, Err}
 use Rattle.std.proofs.lemmas.Option.{slice_get_read}
-use Rattle.std.proofs.lemmas.Result.{IfOk-weaker, IfErr-weaker}
-use Rattle.gw_world.specs.Occasions.{Datagram}
-use Rattle.gw_world.proofs.Moving.{own_in_place, on_refusal}
+use Rattle.std.proofs.lemmas.Result.{IfOk-weaker}
+use Rattle.gw_node.specs.Occasions.{Datagram}
+use Rattle.gw_node.specs.Parts.{state_of, said}
+use Rattle.gw_world.specs.Calm.{IsCalm, keeping}
+use Rattle.gw_world.proofs.Calmness.{all_at, all_set, on_ok_from}
+use Rattle.gw_world.proofs.Moving.{own_in_place}
 use Rattle.gw_world.proofs.field.frame_at.Goals as goal
+
+pub frame_to-requires : goal.frame_to-requires
+frame_to-requires g c =
+    all_at (λ node. IsCalm (state_of g.R.Replica.kept node)) c.args.nodes.now.items c.args.place c.index_mut-node.result.now c.requires.calm
+    (slice_get_read c.args.nodes.now.items _ c.args.place _ c.args.nodes.now.ok.0 c.requires.place c.index_mut-node.ensures.value)
+
+pub returns-clause-calm : goal.returns-clause-calm
+returns-clause-calm g c =
+    on_ok_from c.frame_to.result _ _
+    (λ answer h. all_set (λ node. IsCalm (state_of g.R.Replica.kept node)) c.args.nodes.now.items c.args.place c.frame_to.new.node c.requires.calm h.calm)
+    c.frame_to.ensures.ok
 
 pub returns-clause-ok : goal.returns-clause-ok
 returns-clause-ok g c =
-    IfOk-weaker c.frame.result _ _
-    (λ out h. own_in_place _ c.args.nodes.now.items c.args.place c.index_mut-node.result.now c.frame.new.self
-    (slice_get_read c.args.nodes.now.items _ c.args.place _ c.args.nodes.now.ok.0 c.requires c.index_mut-node.ensures.value)
-    c.frame.ensures.config (Datagram c.args.from c.args.bytes.now) c.args.now (Ok out) h)
-    c.frame.ensures.ok
-
-pub returns-clause-err : goal.returns-clause-err
-returns-clause-err g c =
-    IfErr-weaker c.frame.result _ _
-    (λ trouble h. on_refusal trouble _ _
-    (λ fault k. own_in_place _ c.args.nodes.now.items c.args.place c.index_mut-node.result.now c.frame.new.self
-    (slice_get_read c.args.nodes.now.items _ c.args.place _ c.args.nodes.now.ok.0 c.requires c.index_mut-node.ensures.value)
-    c.frame.ensures.config (Datagram c.args.from c.args.bytes.now) c.args.now (Err fault) k) h)
-    c.frame.ensures.err
+    IfOk-weaker c.frame_to.result _ _
+    (λ answer h. own_in_place (λ node. keeping g.R.Replica.kept node) c.args.nodes.now.items c.args.place c.index_mut-node.result.now c.frame_to.new.node
+    (slice_get_read c.args.nodes.now.items _ c.args.place _ c.args.nodes.now.ok.0 c.requires.place c.index_mut-node.ensures.value)
+    h.configured (Datagram c.args.from c.args.bytes.now) c.args.now (said answer) h.kept)
+    c.frame_to.ensures.ok

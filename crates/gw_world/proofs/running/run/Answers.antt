@@ -1,5 +1,5 @@
 -- From the start to the end, or to the event that stops the run.
-use Rattle.std.proofs.Common.{refl}
+use Rattle.gw_world.specs.Calm.{keeping}
 use Rattle.gw_world.proofs.Fields.{stops_from_start, world_from_start}
 use Rattle.gw_world.proofs.running.run.Goals as goal
 
@@ -10,5 +10,5 @@ returns-in-Err-clause-err g c =
 pub returns-clause-ok : goal.returns-clause-ok
 returns-clause-ok g c =
     rw (c.new.ensures, c.new-2.ensures, c.new-3.ensures)
-    (world_from_start _ (λ node. node.replica) _ (λ node. refl) c.args.configs.now c.args.events.now _ _ _ _ _ _
-    c.in_ok-nodes.ensures.ok c.new-deltas.ensures.items c.in-Ok.ensures.ok c.in_ok-gateways.ensures.ok)
+    (world_from_start (λ node. keeping g.R.Replica.kept node) c.args.configs.now c.args.events.now _ _ _ _ _
+    c.in_ok-nodes.ensures.ok c.new-deltas.ensures.items c.in-Ok.ensures.ok)

@@ -1,0 +1,4 @@
+pub mod Calling
+pub mod Between
+pub mod Taken
+pub mod Started

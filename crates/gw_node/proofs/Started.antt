@@ -1,0 +1,206 @@
+-- A node that is opened.
+use Rattle.std.proofs.Common.{◌≡◌, ℕ, ◌+◌, false, slice_get, List, [], ◌∷◌, ◌++◌, length, take, drop, get_or, ◌<◌, ◌≤◌, Some, None, Result, Ok, Err, IfOk, IfErr, OnOk, inl, inr, refl, sym, ap, ◌∙◌, subst}
+use Rattle.std.proofs.lemmas.List.{drop_all, drop_more, take_more}
+use Rattle.rep_ops.specs.declared.op.Op.{Op}
+use Rattle.rep_model.specs.Keep.{CountsAs, IsKeptOf}
+use Rattle.rep_model.specs.Taking.{Fits}
+use Rattle.rep_model.proofs.Joins.{counts-refl, counts-join}
+use Rattle.sn_flow.specs.declared.config.Config.{Config}
+use Rattle.sn_flow.specs.Locals.{no_local}
+use Rattle.jr_journal.specs.declared.disk.Disk.{Ghosts}
+use Rattle.jr_journal.specs.declared.fault.JournalFault.{JournalFault}
+use Rattle.jr_journal.specs.declared.fault.JournalFault.TheVariants as faults
+use Rattle.jr_journal.specs.declared.journal.Journal.{Journal}
+use Rattle.jr_journal.specs.Disk.{Slots, Image, image, after_crash}
+use Rattle.jr_journal.specs.Records.{records}
+use Rattle.jr_journal.specs.Faults.{fault_of, IsFault}
+use Rattle.jr_journal.specs.Journals.{Leaves}
+use Rattle.jr_journal.specs.Opening.{LeavesNoMore, synced_slots, recovered}
+use Rattle.jr_journal.specs.Parts.{disk_of, gateway_of, is_halted as is_stopped}
+use Rattle.gw_node.specs.declared.out.Out.{Out}
+use Rattle.gw_node.specs.declared.refusal.Refusal.{Refusal}
+use Rattle.gw_node.specs.declared.refusal.Refusal.TheVariants as refusals
+use Rattle.gw_node.specs.declared.node.Node.{Node}
+use Rattle.gw_node.specs.Parts.{State, state_of, only_sends}
+use Rattle.gw_node.specs.Writing.{refusal_of}
+use Rattle.gw_node.specs.Plans.{IsMisfit}
+use Rattle.gw_node.specs.Taking.{ops_of, IsBetween, HasTaken}
+use Rattle.gw_node.specs.Opening.{IsStarted, FitInTurn, HasMisfit, DoNotFit, IsOpenFault, IsDiskFault, MayRefuse, LeavesSlots}
+use Rattle.gw_node.proofs.Between.{ops_of_more, between_again, counts_again}
+use Rattle.gw_node.proofs.Taken.{opened, all_left}
+
+-- ---- deltas, one after the other
+
+pub counts_none : (kept : List Op) → kept ≡ [] → CountsAs [] kept
+counts_none kept none = subst (λ (K : List Op). CountsAs [] K) (sym none) (counts-refl [])
+
+pub counts_one_more : (deltas : List (List Op)) (delta kept next : List Op) → CountsAs (ops_of deltas) kept → IsKeptOf (kept ++ delta) next → CountsAs (ops_of (deltas ++ delta ∷ [])) next
+counts_one_more deltas delta kept next counts h =
+    subst (λ (ops : List Op). CountsAs ops next) (sym (ops_of_more deltas delta)) (counts-join (ops_of deltas) kept delta next counts h)
+
+pub do_not_fit : (deltas : List (List Op)) (before : ℕ) (delta kept : List Op) (refusal : Refusal) → slice_get deltas before ≡ Some delta → CountsAs (ops_of (take before deltas)) kept → IsMisfit kept delta refusal → DoNotFit deltas refusal
+do_not_fit deltas before delta kept (refusals.Conflict client) is counts h = record { before = before; delta = delta; delta_is = is; kept = kept; counts = counts; misfit = h }
+do_not_fit deltas before delta kept refusals.Full is counts h = record { before = before; delta = delta; delta_is = is; kept = kept; counts = counts; misfit = h }
+do_not_fit deltas before delta kept refusals.Memory is counts h = tt
+do_not_fit deltas before delta kept (refusals.Frame fault) is counts h = absurd h
+do_not_fit deltas before delta kept refusals.Halted is counts h = absurd h
+do_not_fit deltas before delta kept (refusals.Disk excuse) is counts h = absurd h
+do_not_fit deltas before delta kept refusals.Exhausted is counts h = absurd h
+do_not_fit deltas before delta kept (refusals.Journal fault) is counts h = absurd h
+
+-- the deltas from a place on fit where this one fits and those behind it
+pub fit_one_more : (deltas : List (List Op)) (i : ℕ) (delta kept : List Op) → i < length deltas → delta ≡ get_or deltas i delta → CountsAs (ops_of (take i deltas)) kept → Fits kept delta
+    → FitInTurn (ops_of (take (i + 1) deltas)) (drop (i + 1) deltas) → FitInTurn (ops_of (take i deltas)) (drop i deltas)
+fit_one_more deltas i delta kept within is counts fits rest =
+    let more : ops_of (take (i + 1) deltas) ≡ ops_of (take i deltas) ++ delta =
+    ap ops_of (take_more deltas i delta within ∙ ap (λ x. take i deltas ++ x ∷ []) (sym is)) ∙ ops_of_more (take i deltas) delta in
+    let from : drop i deltas ≡ delta ∷ drop (i + 1) deltas = drop_more deltas i delta within ∙ ap (λ x. x ∷ drop (i + 1) deltas) (sym is) in
+    subst (λ (ds : List (List Op)). FitInTurn (ops_of (take i deltas)) ds) (sym from)
+    ((kept, counts, fits), subst (λ (S : List Op). FitInTurn S (drop (i + 1) deltas)) more rest)
+
+pub fit_at_the_end : (deltas : List (List Op)) (i : ℕ) → length deltas ≤ i → FitInTurn (ops_of (take i deltas)) (drop i deltas)
+fit_at_the_end deltas i past = subst (λ (ds : List (List Op)). FitInTurn (ops_of (take i deltas)) ds) (sym (drop_all i deltas past)) tt
+
+-- ---- refusals
+
+pub may_misfit : (deltas : List (List Op)) (refusal : Refusal) → DoNotFit deltas refusal → MayRefuse refusal
+may_misfit deltas (refusals.Conflict client) h = tt
+may_misfit deltas refusals.Full h = tt
+may_misfit deltas refusals.Memory h = tt
+may_misfit deltas (refusals.Frame fault) h = absurd h
+may_misfit deltas refusals.Halted h = absurd h
+may_misfit deltas (refusals.Disk excuse) h = absurd h
+may_misfit deltas refusals.Exhausted h = absurd h
+may_misfit deltas (refusals.Journal fault) h = absurd h
+
+pub misfit_no_disk : (deltas : List (List Op)) (refusal : Refusal) → DoNotFit deltas refusal → IsDiskFault refusal → ⊥
+misfit_no_disk deltas (refusals.Conflict client) h d = d
+misfit_no_disk deltas refusals.Full h d = d
+misfit_no_disk deltas refusals.Memory h d = d
+misfit_no_disk deltas (refusals.Frame fault) h d = d
+misfit_no_disk deltas refusals.Halted h d = d
+misfit_no_disk deltas (refusals.Disk excuse) h d = absurd h
+misfit_no_disk deltas refusals.Exhausted h d = d
+misfit_no_disk deltas (refusals.Journal fault) h d = d
+
+pub misfit_fault : (gateway : ℕ) (i : Image) (deltas : List (List Op)) (refusal : Refusal) → deltas ≡ records gateway i → DoNotFit deltas refusal → IsOpenFault gateway i refusal
+misfit_fault gateway i deltas (refusals.Conflict client) is h = subst (λ (ds : List (List Op)). HasMisfit ds (refusals.Conflict client)) is h
+misfit_fault gateway i deltas refusals.Full is h = subst (λ (ds : List (List Op)). HasMisfit ds refusals.Full) is h
+misfit_fault gateway i deltas refusals.Memory is h = tt
+misfit_fault gateway i deltas (refusals.Frame fault) is h = absurd h
+misfit_fault gateway i deltas refusals.Halted is h = absurd h
+misfit_fault gateway i deltas (refusals.Disk excuse) is h = absurd h
+misfit_fault gateway i deltas refusals.Exhausted is h = absurd h
+misfit_fault gateway i deltas (refusals.Journal fault) is h = absurd h
+
+-- a fault of the journal
+pub may_fault : (fault : JournalFault) (excuse : Out) → excuse ≡ only_sends [] → (fault ≡ faults.Halted → ⊥) → MayRefuse (refusal_of fault excuse)
+may_fault faults.Disk excuse empty runs = empty
+may_fault faults.Halted excuse empty runs = absurd (runs refl)
+may_fault faults.Memory excuse empty runs = tt
+may_fault faults.Foreign excuse empty runs = tt
+may_fault (faults.BadRecord slot at) excuse empty runs = tt
+
+pub fault_disk : (fault : JournalFault) (excuse : Out) → IsDiskFault (refusal_of fault excuse) → fault ≡ faults.Disk
+fault_disk faults.Disk excuse h = refl
+fault_disk faults.Halted excuse h = absurd h
+fault_disk faults.Memory excuse h = absurd h
+fault_disk faults.Foreign excuse h = absurd h
+fault_disk (faults.BadRecord slot at) excuse h = absurd h
+
+pub fault_found : (gateway : ℕ) (i : Image) (fault : JournalFault) (excuse : Out) → excuse ≡ only_sends [] → (fault ≡ faults.Halted → ⊥) → IsFault (fault_of gateway i) fault → IsOpenFault gateway i (refusal_of fault excuse)
+fault_found gateway i faults.Disk excuse empty runs h = empty
+fault_found gateway i faults.Halted excuse empty runs h = absurd (runs refl)
+fault_found gateway i faults.Memory excuse empty runs h = tt
+fault_found gateway i faults.Foreign excuse empty runs h = h
+fault_found gateway i (faults.BadRecord slot at) excuse empty runs h = h
+
+-- ---- what a crash leaves of it
+
+pub leaves_no_more : (gateway : ℕ) (old new : Slots) (deltas : List (List Op)) → deltas ≡ records gateway (image old) → fault_of gateway (image old) ≡ None → Leaves gateway new deltas → LeavesNoMore gateway old new
+leaves_no_more gateway old new deltas is sound leaves = λ k l. (
+  length old.first.unsynced,
+  (
+    length old.second.unsynced,
+    (
+      (leaves k l).0 ∙ is ∙ ap (records gateway) (sym (all_left old)),
+      (leaves k l).1 ∙ sym sound ∙ ap (fault_of gateway) (sym (all_left old)),
+    ),
+  ),
+)
+
+pub leaves_itself : (gateway : ℕ) (d : Slots) → LeavesNoMore gateway d d
+leaves_itself gateway d = λ k l. (k, (l, (refl, refl)))
+
+module _ {D : Type 0} {G : Ghosts D} where
+  pub started : (config : Config) (state : State G) (journal : Journal D G) → state.config ≡ config → state.local ≡ no_local → state.journal ≡ journal → is_stopped journal ≡ false → gateway_of journal ≡ config.gateway → IsStarted config state
+  started config state journal configured local is runs gateway =
+      record { configured = configured; local = local; runs = ap is_stopped is ∙ runs; gateway = ap gateway_of is ∙ gateway }
+
+  -- beside what had been taken before
+  pub taken_again : (state : State G) (gateway : ℕ) (old : Slots) (S refused J : List Op) (deltas : List (List Op)) → gateway_of state.journal ≡ gateway → deltas ≡ records gateway (image old) → J ≡ ops_of (records gateway (image old)) → CountsAs J state.kept
+      → (G.honest → Leaves gateway (G.slots (disk_of state.journal)) deltas) → IsBetween S refused J → HasTaken (S ++ J) [] state
+  taken_again state gateway old S refused J deltas same is J_is counts leaves h = record {
+    counts = counts_again S refused J state.kept h counts;
+    quiet = λ _. refl;
+    images = λ honest k l.
+        opened (gateway_of state.journal) (S ++ J) [] deltas (after_crash k l (G.slots (disk_of state.journal)))
+        (subst (λ (g : ℕ). (records g (after_crash k l (G.slots (disk_of state.journal))) ≡ deltas) × (fault_of g (after_crash k l (G.slots (disk_of state.journal))) ≡ None)) (sym same) (leaves honest k l))
+        (subst (λ (ops : List Op). IsBetween (S ++ J) [] ops) (J_is ∙ ap ops_of (sym is)) (between_again S refused J h));
+  }
+
+  -- ---- the answer of an opening
+
+  pub opened_takes : {R Z E : Type 0} (kept : R → List Op) (r : Result (Node R D Z G) E) (gateway : ℕ) (old : Slots) (deltas : List (List Op)) → deltas ≡ records gateway (image old)
+      → IfOk r (λ node. CountsAs (ops_of deltas) (state_of kept node).kept) → IfOk r (λ node. CountsAs (ops_of (records gateway (image old))) (state_of kept node).kept)
+  opened_takes kept (Ok node) gateway old deltas is h = subst (λ (ds : List (List Op)). CountsAs (ops_of ds) (state_of kept node).kept) is h
+  opened_takes kept (Err e) gateway old deltas is h = tt
+
+  pub opened_none : {R Z E : Type 0} (kept : R → List Op) (r : Result (Node R D Z G) E) (gateway : ℕ) (old : Slots) (deltas : List (List Op)) → deltas ≡ records gateway (image old)
+      → IfOk r (λ node. deltas ≡ [] → (state_of kept node).kept ≡ []) → IfOk r (λ node. records gateway (image old) ≡ [] → (state_of kept node).kept ≡ [])
+  opened_none kept (Ok node) gateway old deltas is h = λ none. h (is ∙ none)
+  opened_none kept (Err e) gateway old deltas is h = tt
+
+  pub opened_again : {R Z E : Type 0} (kept : R → List Op) (r : Result (Node R D Z G) E) (journal : Journal D G) (gateway : ℕ) (old : Slots) (deltas : List (List Op))
+      → gateway_of journal ≡ gateway → deltas ≡ records gateway (image old) → Leaves gateway (G.slots (disk_of journal)) deltas
+      → IfOk r (λ node. (state_of kept node).journal ≡ journal) → IfOk r (λ node. CountsAs (ops_of deltas) (state_of kept node).kept)
+      → IfOk r (λ node. (S refused : List Op) → IsBetween S refused (ops_of (records gateway (image old))) → HasTaken (S ++ ops_of (records gateway (image old))) [] (state_of kept node))
+  opened_again kept (Ok node) journal gateway old deltas same is leaves journal_is counts = λ S refused h.
+      taken_again (state_of kept node) gateway old S refused (ops_of (records gateway (image old))) deltas (ap gateway_of journal_is ∙ same) is refl
+      (subst (λ (ds : List (List Op)). CountsAs (ops_of ds) (state_of kept node).kept) is counts)
+      (λ honest. subst (λ (j : Journal D G). Leaves gateway (G.slots (disk_of j)) deltas) (sym journal_is) leaves) h
+  opened_again kept (Err e) journal gateway old deltas same is leaves journal_is counts = tt
+
+pub opened_leaves : {D T F : Type 0} (slots : D → Slots) (r : Result T (D × F)) (d : D) (gateway : ℕ) (old : Slots) → LeavesNoMore gateway old (slots d) → IfErr r (λ refused. refused.0 ≡ d) → IfErr r (λ refused. LeavesNoMore gateway old (slots refused.0))
+opened_leaves slots (Ok x) d gateway old h is = tt
+opened_leaves slots (Err refused) d gateway old h is = subst (λ e. LeavesNoMore gateway old (slots e)) (sym is) h
+
+-- ---- the slots of a refused opening
+
+pub misfit_leaves : (gateway : ℕ) (old new : Slots) (deltas : List (List Op)) (refusal : Refusal) → new ≡ recovered gateway (image old) → DoNotFit deltas refusal → LeavesSlots gateway old refusal new
+misfit_leaves gateway old new deltas (refusals.Conflict client) is h = is
+misfit_leaves gateway old new deltas refusals.Full is h = is
+misfit_leaves gateway old new deltas refusals.Memory is h = inr (inr is)
+misfit_leaves gateway old new deltas (refusals.Frame fault) is h = absurd h
+misfit_leaves gateway old new deltas refusals.Halted is h = absurd h
+misfit_leaves gateway old new deltas (refusals.Disk excuse) is h = absurd h
+misfit_leaves gateway old new deltas refusals.Exhausted is h = absurd h
+misfit_leaves gateway old new deltas (refusals.Journal fault) is h = absurd h
+
+pub fault_leaves : (gateway : ℕ) (old new : Slots) (fault : JournalFault) (excuse : Out) → (fault ≡ faults.Halted → ⊥) → ((fault ≡ faults.Disk → ⊥) → new ≡ synced_slots old)
+    → LeavesSlots gateway old (refusal_of fault excuse) new
+fault_leaves gateway old new faults.Disk excuse runs h = tt
+fault_leaves gateway old new faults.Halted excuse runs h = absurd (runs refl)
+fault_leaves gateway old new faults.Memory excuse runs h = inr (inl (h (λ e. absurd cc)))
+fault_leaves gateway old new faults.Foreign excuse runs h = h (λ e. absurd cc)
+fault_leaves gateway old new (faults.BadRecord slot at) excuse runs h = h (λ e. absurd cc)
+
+pub started_leaves : {D T F : Type 0} (slots : D → Slots) (told : F → Refusal) (r : Result T (D × F)) (d : D) (gateway : ℕ) (old : Slots) (deltas : List (List Op)) → slots d ≡ recovered gateway (image old)
+    → IfErr r (λ refused. refused.0 ≡ d) → IfErr r (λ refused. DoNotFit deltas (told refused.1)) → IfErr r (λ refused. LeavesSlots gateway old (told refused.1) (slots refused.0))
+started_leaves slots told (Ok x) d gateway old deltas known same misfit = tt
+started_leaves slots told (Err refused) d gateway old deltas known same misfit = misfit_leaves gateway old (slots refused.0) deltas (told refused.1) (ap slots same ∙ known) misfit
+
+pub started_fits : {T E : Type 0} (r : Result T E) (gateway : ℕ) (old : Slots) (deltas : List (List Op)) → deltas ≡ records gateway (image old)
+    → OnOk r (FitInTurn [] deltas) → OnOk r (FitInTurn [] (records gateway (image old)))
+started_fits (Ok x) gateway old deltas is h = subst (λ (ds : List (List Op)). FitInTurn [] ds) is h
+started_fits (Err e) gateway old deltas is h = tt

@@ -1,0 +1,16 @@
+use Rattle.std.proofs.Common.{List, [], subst, ◌∙◌}
+use Rattle.rep_ops.specs.declared.op.Op.{Op}
+use Rattle.rep_model.specs.Keep.{CountsAs}
+use Rattle.gw_node.specs.Taking.{ops_of}
+use Rattle.gw_node.specs.Opening.{FitInTurn}
+use Rattle.gw_node.proofs.opening.start.Goals as goal
+
+pub returns-in-Ok-clause-takes : goal.returns-in-Ok-clause-takes
+returns-in-Ok-clause-takes g c =
+    subst (λ (ds : List (List Op)). CountsAs (ops_of ds) (g.R.Replica.kept c.take_all.new.replica)) c.as_slice.ensures.value c.in-Ok.ensures.ok
+
+pub returns-in-Ok-clause-fits : goal.returns-in-Ok-clause-fits
+returns-in-Ok-clause-fits g c = subst (λ (ds : List (List Op)). FitInTurn [] ds) c.as_slice.ensures.value c.in-Ok.ensures.fits
+
+pub returns-in-Ok-clause-none : goal.returns-in-Ok-clause-none
+returns-in-Ok-clause-none g c = λ none. c.in-Ok.ensures.none (c.as_slice.ensures.value ∙ none)

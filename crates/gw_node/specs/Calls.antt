@@ -1,0 +1,134 @@
+-- What each call of a node may answer, and the node after it. A node that is halted refuses first of all.
+use Rattle.std.specs.Prelude.{◌≡◌, ◌≢◌, ◌⊎◌, ℕ, true, false, if◌then◌else◌, List, [], ◌∷◌, ◌++◌, Some, None, Result, Ok, Err}
+use Rattle.rep_ops.specs.declared.op.Op.{Op}
+use Rattle.rep_ops.specs.Making.{IsDeltaOf}
+use Rattle.rep_model.specs.Views.{view, is_named}
+use Rattle.rep_model.specs.Keep.{IsKeptOf}
+use Rattle.rep_model.specs.Taking.{Fits}
+use Rattle.sn_flow.specs.declared.plan.Plan.{Plan}
+use Rattle.sn_flow.specs.Plans.{seen_of}
+use Rattle.sn_flow.specs.Locals.{after_all, owned}
+use Rattle.jr_journal.specs.declared.disk.Disk.{Ghosts}
+use Rattle.jr_journal.specs.declared.journal.Journal.{Journal}
+use Rattle.gw_node.specs.declared.out.Out.{Out}
+use Rattle.gw_node.specs.declared.refusal.Refusal.{Refusal}
+use Rattle.gw_node.specs.declared.refusal.Refusal.TheVariants as refusals
+use Rattle.gw_node.specs.declared.step.Step.{Step}
+use Rattle.gw_node.specs.declared.step.Step.TheVariants as steps
+use Rattle.gw_node.specs.Occasions.{Occasion, Datagram, Clock, IsNoFrame}
+use Rattle.gw_node.specs.Parts.{State, is_halted, IsUnchanged, IsUntouched, only_sends}
+use Rattle.gw_node.specs.Writing.{IsWritten, IsFailed}
+use Rattle.gw_node.specs.Excuses.{IsExcuse}
+use Rattle.gw_node.specs.Plans.{IsPlanFor, IsMisfit, MakeNoDelta, Makes}
+
+-- ---- datagrams and ticks
+
+-- the plan was carried out
+pub record IsDone {D : Type 0} {G : Ghosts D} (old : State G) (plan : Plan) (out : Out) (new : State G) : Type 0 where
+  pub config : new.config ≡ old.config
+  pub records : new.records ≡ old.records
+  pub local : new.local ≡ after_all old.local plan.local
+  pub made : Makes plan.ops out.made old new
+  pub answer : out ≡ record (only_sends plan.sends) { made = out.made }
+
+-- the journal could not be written: nothing of the plan was done, and its client is told so
+pub record IsGivenUp {D : Type 0} {G : Ghosts D} (old : State G) (plan : Plan) (excuse : Out) (new : State G) : Type 0 where
+  pub some : plan.ops ≢ []
+  pub config : new.config ≡ old.config
+  pub records : new.records ≡ old.records
+  pub kept : new.kept ≡ old.kept
+  pub local : new.local ≡ old.local
+  pub delta : List Op
+  pub is_delta : IsDeltaOf plan.ops delta
+  pub fits : Fits old.kept delta
+  pub failed : IsFailed old.journal delta new.journal
+  pub answer : excuse ≡ only_sends excuse.sends
+
+-- the operations cannot be taken: their delta does not fit, or they make none
+abbrev pub AreTooMuch : List Op → List Op → Refusal → Type 0
+AreTooMuch kept ops refusal = ((delta : List Op) × IsDeltaOf ops delta × IsMisfit kept delta refusal) ⊎ ((refusal ≡ refusals.Full) × MakeNoDelta ops)
+
+-- A datagram comes, or time goes by. The node is halted; or the datagram is no frame; or its step needs a number after the last; or
+-- its operations cannot be taken; or the journal cannot be written; or the plan is carried out.
+abbrev pub OwnCall : {D : Type 0} {G : Ghosts D} → State G → Occasion → ℕ → Result Out Refusal → State G → Type 0
+OwnCall old occasion now (Err refusals.Halted) new = (is_halted old ≡ true) × IsUnchanged old new
+OwnCall old occasion now (Err (refusals.Frame fault)) new = (is_halted old ≡ false) × IsNoFrame occasion fault × IsUnchanged old new
+OwnCall old occasion now (Err refusals.Exhausted) new = (is_halted old ≡ false) × IsPlanFor old occasion now None × IsUnchanged old new
+OwnCall old occasion now (Err (refusals.Conflict client)) new =
+    (is_halted old ≡ false)
+    × ((plan : Plan) × IsPlanFor old occasion now (Some plan) × AreTooMuch old.kept plan.ops (refusals.Conflict client)) × IsUnchanged old new
+OwnCall old occasion now (Err refusals.Full) new =
+    (is_halted old ≡ false)
+    × ((plan : Plan) × IsPlanFor old occasion now (Some plan) × AreTooMuch old.kept plan.ops refusals.Full) × IsUnchanged old new
+OwnCall old occasion now (Err (refusals.Disk excuse)) new =
+    (is_halted old ≡ false)
+    × ((plan : Plan) × IsPlanFor old occasion now (Some plan) × IsExcuse occasion plan.sends excuse.sends × IsGivenUp old plan excuse new)
+OwnCall old occasion now (Err refusals.Memory) new = IsUnchanged old new
+OwnCall old occasion now (Err (refusals.Journal fault)) new = ⊥
+OwnCall old occasion now (Ok out) new =
+    (is_halted old ≡ false) × ((plan : Plan) × IsPlanFor old occasion now (Some plan) × IsDone old plan out new)
+
+-- ---- deltas
+
+-- a delta without operations is not written
+abbrev pub IsNoted : {D : Type 0} {G : Ghosts D} → Journal D G → List Op → Journal D G → Type 0
+IsNoted old [] new = IsUntouched old new
+IsNoted old (op ∷ ops) new = IsWritten old (op ∷ ops) new
+
+-- the delta is taken, and clients that another gateway now owns have no address here any more
+pub record IsTaken {D : Type 0} {G : Ghosts D} (old : State G) (delta : List Op) (new : State G) : Type 0 where
+  pub config : new.config ≡ old.config
+  pub records : new.records ≡ old.records
+  pub fits : Fits old.kept delta
+  pub kept : IsKeptOf (old.kept ++ delta) new.kept
+  pub local : new.local ≡ owned old.config.gateway (seen_of new.kept) old.local
+  pub noted : IsNoted old.journal delta new.journal
+
+-- it has operations and fits, and the journal could not be written
+pub record IsLeft {D : Type 0} {G : Ghosts D} (old : State G) (delta : List Op) (new : State G) : Type 0 where
+  pub some : delta ≢ []
+  pub config : new.config ≡ old.config
+  pub records : new.records ≡ old.records
+  pub kept : new.kept ≡ old.kept
+  pub local : new.local ≡ old.local
+  pub fits : Fits old.kept delta
+  pub failed : IsFailed old.journal delta new.journal
+
+-- A delta comes. The node is halted; or the delta does not fit; or the journal cannot be written; or the delta is taken, and nothing is
+-- sent.
+abbrev pub TakeCall : {D : Type 0} {G : Ghosts D} → State G → List Op → Result Out Refusal → State G → Type 0
+TakeCall old delta (Err refusals.Halted) new = (is_halted old ≡ true) × IsUnchanged old new
+TakeCall old delta (Err (refusals.Conflict client)) new = (is_halted old ≡ false) × IsMisfit old.kept delta (refusals.Conflict client) × IsUnchanged old new
+TakeCall old delta (Err refusals.Full) new = (is_halted old ≡ false) × IsMisfit old.kept delta refusals.Full × IsUnchanged old new
+TakeCall old delta (Err (refusals.Disk excuse)) new = (is_halted old ≡ false) × (excuse ≡ only_sends []) × IsLeft old delta new
+TakeCall old delta (Err refusals.Memory) new = IsUnchanged old new
+TakeCall old delta (Err (refusals.Frame fault)) new = ⊥
+TakeCall old delta (Err refusals.Exhausted) new = ⊥
+TakeCall old delta (Err (refusals.Journal fault)) new = ⊥
+TakeCall old delta (Ok out) new = (is_halted old ≡ false) × (out ≡ only_sends []) × IsTaken old delta new
+
+-- ---- views
+
+-- the client's view, where an operation names it
+abbrev pub shows : List Op → List ℕ → Out
+shows kept client = record (only_sends []) { view = if is_named client kept then Some (view client kept) else None }
+
+-- Somebody asks for a client's view; a halted node answers too.
+abbrev pub ViewCall : {D : Type 0} {G : Ghosts D} → State G → List ℕ → Result Out Refusal → State G → Type 0
+ViewCall old client (Ok out) new = (out ≡ shows old.kept client) × IsUnchanged old new
+ViewCall old client (Err refusals.Memory) new = IsUnchanged old new
+ViewCall old client (Err refusals.Halted) new = ⊥
+ViewCall old client (Err (refusals.Frame fault)) new = ⊥
+ViewCall old client (Err (refusals.Disk excuse)) new = ⊥
+ViewCall old client (Err (refusals.Conflict of)) new = ⊥
+ViewCall old client (Err refusals.Full) new = ⊥
+ViewCall old client (Err refusals.Exhausted) new = ⊥
+ViewCall old client (Err (refusals.Journal fault)) new = ⊥
+
+-- ---- steps
+
+abbrev pub StepCall : {D : Type 0} {G : Ghosts D} → State G → Step → Result Out Refusal → State G → Type 0
+StepCall old (steps.Frame from bytes now) answer new = OwnCall old (Datagram from bytes) now answer new
+StepCall old (steps.Take delta) answer new = TakeCall old delta answer new
+StepCall old (steps.Tick now) answer new = OwnCall old Clock now answer new
+StepCall old (steps.View client) answer new = ViewCall old client answer new

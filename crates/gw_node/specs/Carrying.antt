@@ -1,0 +1,63 @@
+-- Whatever set a node has taken before a call, which it has taken after it.
+use Rattle.std.specs.Prelude.{ℕ, List, [], ◌++◌, Option, Some, None, Result, Ok, Err}
+use Rattle.rep_ops.specs.declared.op.Op.{Op}
+use Rattle.rep_ops.specs.Making.{IsDeltaOf}
+use Rattle.rep_model.specs.Taking.{AllAgree}
+use Rattle.sn_flow.specs.declared.plan.Plan.{Plan}
+use Rattle.jr_journal.specs.declared.disk.Disk.{Ghosts}
+use Rattle.gw_node.specs.declared.out.Out.{Out}
+use Rattle.gw_node.specs.declared.refusal.Refusal.{Refusal}
+use Rattle.gw_node.specs.declared.refusal.Refusal.TheVariants as refusals
+use Rattle.gw_node.specs.declared.step.Step.{Step}
+use Rattle.gw_node.specs.declared.step.Step.TheVariants as steps
+use Rattle.gw_node.specs.Occasions.{Occasion, Datagram, Clock}
+use Rattle.gw_node.specs.Parts.{State}
+use Rattle.gw_node.specs.Plans.{IsPlanFor}
+use Rattle.gw_node.specs.Taking.{HasTaken}
+
+-- the set that was taken before, with the delta, where the delta contradicts nothing of it
+abbrev pub TakesMore : {D : Type 0} {G : Ghosts D} → State G → List Op → State G → Type 0
+TakesMore old delta new = (S : List Op) → AllAgree S delta → HasTaken S [] old → HasTaken (S ++ delta) [] new
+
+-- the set that was taken before; the delta was refused, and a crash may leave it all the same
+abbrev pub TakesNoMore : {D : Type 0} {G : Ghosts D} → State G → List Op → State G → Type 0
+TakesNoMore old delta new = (S : List Op) → AllAgree S delta → HasTaken S [] old → HasTaken S delta new
+
+-- the set that was taken before
+abbrev pub TakesNothing : {D : Type 0} {G : Ghosts D} → State G → State G → Type 0
+TakesNothing old new = (S refused : List Op) → HasTaken S refused old → HasTaken S refused new
+
+abbrev pub made_by : Option (List Op) → List Op
+made_by None = []
+made_by (Some delta) = delta
+
+-- by a delta
+abbrev pub CarriesOn : {D : Type 0} {G : Ghosts D} → State G → List Op → Result Out Refusal → State G → Type 0
+CarriesOn old delta (Ok out) new = TakesMore old delta new
+CarriesOn old delta (Err (refusals.Disk excuse)) new = TakesNoMore old delta new
+CarriesOn old delta (Err (refusals.Frame fault)) new = TakesNothing old new
+CarriesOn old delta (Err refusals.Halted) new = TakesNothing old new
+CarriesOn old delta (Err (refusals.Conflict client)) new = TakesNothing old new
+CarriesOn old delta (Err refusals.Full) new = TakesNothing old new
+CarriesOn old delta (Err refusals.Exhausted) new = TakesNothing old new
+CarriesOn old delta (Err (refusals.Journal fault)) new = TakesNothing old new
+CarriesOn old delta (Err refusals.Memory) new = TakesNothing old new
+
+-- by a datagram or a tick: what it made is taken; where the journal could not be written, the delta of the plan was refused
+abbrev pub OwnCarriesOn : {D : Type 0} {G : Ghosts D} → State G → Occasion → ℕ → Result Out Refusal → State G → Type 0
+OwnCarriesOn old occasion now (Ok out) new = TakesMore old (made_by out.made) new
+OwnCarriesOn old occasion now (Err (refusals.Disk excuse)) new =
+    (plan : Plan) × IsPlanFor old occasion now (Some plan) × ((delta : List Op) × IsDeltaOf plan.ops delta × TakesNoMore old delta new)
+OwnCarriesOn old occasion now (Err (refusals.Frame fault)) new = TakesNothing old new
+OwnCarriesOn old occasion now (Err refusals.Halted) new = TakesNothing old new
+OwnCarriesOn old occasion now (Err (refusals.Conflict client)) new = TakesNothing old new
+OwnCarriesOn old occasion now (Err refusals.Full) new = TakesNothing old new
+OwnCarriesOn old occasion now (Err refusals.Exhausted) new = TakesNothing old new
+OwnCarriesOn old occasion now (Err (refusals.Journal fault)) new = TakesNothing old new
+OwnCarriesOn old occasion now (Err refusals.Memory) new = TakesNothing old new
+
+abbrev pub StepCarriesOn : {D : Type 0} {G : Ghosts D} → State G → Step → Result Out Refusal → State G → Type 0
+StepCarriesOn old (steps.Frame from bytes now) answer new = OwnCarriesOn old (Datagram from bytes) now answer new
+StepCarriesOn old (steps.Take delta) answer new = CarriesOn old delta answer new
+StepCarriesOn old (steps.Tick now) answer new = OwnCarriesOn old Clock now answer new
+StepCarriesOn old (steps.View client) answer new = TakesNothing old new

@@ -1,0 +1,77 @@
+-- What the parts of a call come to. Only private functions cite these.
+use Rattle.std.specs.Prelude.{◌≡◌, ℕ, true, List, Option, Some, None, Result, Ok, Err}
+use Rattle.rep_ops.specs.declared.op.Op.{Op}
+use Rattle.sn_frame.specs.declared.frame.Frame.{Frame}
+use Rattle.sn_frame.specs.Faults.{IsFirstFault}
+use Rattle.sn_flow.specs.declared.config.Addr.{Addr}
+use Rattle.sn_flow.specs.declared.config.Send.{Send}
+use Rattle.sn_flow.specs.declared.plan.Plan.{Plan}
+use Rattle.sn_flow.specs.Plans.{seen_of}
+use Rattle.sn_deliver.specs.Steps.{step}
+use Rattle.sn_deliver.specs.Ticking.{tick}
+use Rattle.jr_journal.specs.declared.disk.Disk.{Ghosts}
+use Rattle.gw_node.specs.declared.out.Out.{Out}
+use Rattle.gw_node.specs.declared.refusal.Refusal.{Refusal}
+use Rattle.gw_node.specs.declared.refusal.Refusal.TheVariants as refusals
+use Rattle.gw_node.specs.Parts.{State, is_halted, IsUnchanged, only_sends}
+use Rattle.gw_node.specs.Plans.{MakeNoDelta}
+use Rattle.gw_node.specs.Calls.{IsDone, IsGivenUp, AreTooMuch}
+
+-- the bytes are no frame; want of memory says nothing of them
+abbrev pub IsNoFrameBy : List ℕ → Refusal → Type 0
+IsNoFrameBy bytes (refusals.Frame fault) = IsFirstFault bytes fault
+IsNoFrameBy bytes refusals.Memory = Unit {0}
+IsNoFrameBy bytes refusals.Halted = ⊥
+IsNoFrameBy bytes (refusals.Disk excuse) = ⊥
+IsNoFrameBy bytes (refusals.Conflict client) = ⊥
+IsNoFrameBy bytes refusals.Full = ⊥
+IsNoFrameBy bytes refusals.Exhausted = ⊥
+IsNoFrameBy bytes (refusals.Journal fault) = ⊥
+
+-- the plan for a frame, and that of a tick
+abbrev pub planned_for : {D : Type 0} {G : Ghosts D} → State G → Addr → Frame → ℕ → Option Plan
+planned_for old from frame now = step old.config.gateway old.config.predefined (seen_of old.kept) old.local from frame now
+
+abbrev pub ticked : {D : Type 0} {G : Ghosts D} → State G → ℕ → Option Plan
+ticked old now = tick old.config.gateway old.config.advertise old.config.field old.config.predefined (seen_of old.kept) old.local now
+
+-- there is none
+abbrev pub IsNoPlan : Option Plan → Refusal → Type 0
+IsNoPlan planned refusals.Exhausted = planned ≡ None
+IsNoPlan planned refusals.Memory = Unit {0}
+IsNoPlan planned (refusals.Frame fault) = ⊥
+IsNoPlan planned refusals.Halted = ⊥
+IsNoPlan planned (refusals.Disk excuse) = ⊥
+IsNoPlan planned (refusals.Conflict client) = ⊥
+IsNoPlan planned refusals.Full = ⊥
+IsNoPlan planned (refusals.Journal fault) = ⊥
+
+-- the operations make no delta
+abbrev pub HaveNoDelta : List Op → Refusal → Type 0
+HaveNoDelta ops refusals.Full = MakeNoDelta ops
+HaveNoDelta ops refusals.Memory = Unit {0}
+HaveNoDelta ops (refusals.Frame fault) = ⊥
+HaveNoDelta ops refusals.Halted = ⊥
+HaveNoDelta ops (refusals.Disk excuse) = ⊥
+HaveNoDelta ops (refusals.Conflict client) = ⊥
+HaveNoDelta ops refusals.Exhausted = ⊥
+HaveNoDelta ops (refusals.Journal fault) = ⊥
+
+-- a plan was carried out, or why it was not; `excuse` is what is answered where the journal cannot be written
+abbrev pub CarriedOut : {D : Type 0} {G : Ghosts D} → State G → Plan → Out → Result Out Refusal → State G → Type 0
+CarriedOut old plan excuse (Ok out) new = IsDone old plan out new
+CarriedOut old plan excuse (Err (refusals.Disk given)) new = (given ≡ excuse) × IsGivenUp old plan given new
+CarriedOut old plan excuse (Err refusals.Halted) new = (is_halted old ≡ true) × IsUnchanged old new
+CarriedOut old plan excuse (Err (refusals.Conflict client)) new = AreTooMuch old.kept plan.ops (refusals.Conflict client) × IsUnchanged old new
+CarriedOut old plan excuse (Err refusals.Full) new = AreTooMuch old.kept plan.ops refusals.Full × IsUnchanged old new
+CarriedOut old plan excuse (Err refusals.Memory) new = IsUnchanged old new
+CarriedOut old plan excuse (Err (refusals.Frame fault)) new = ⊥
+CarriedOut old plan excuse (Err refusals.Exhausted) new = ⊥
+CarriedOut old plan excuse (Err (refusals.Journal fault)) new = ⊥
+
+-- the plan, if there is one, was carried out, or why it was not; `excuse` makes of what would have been sent what is sent in its place
+abbrev pub Answers : {D : Type 0} {G : Ghosts D} → State G → Option Plan → (List Send → List Send) → Result Out Refusal → State G → Type 0
+Answers old planned excuse (Err refusals.Exhausted) new = (planned ≡ None) × IsUnchanged old new
+Answers old planned excuse (Err refusals.Memory) new = IsUnchanged old new
+Answers old planned excuse answer new =
+    (plan : Plan) × (planned ≡ Some plan) × CarriedOut old plan (only_sends (excuse plan.sends)) answer new

@@ -1,0 +1,10 @@
+pub mod Occasions
+pub mod Parts
+pub mod Writing
+pub mod Excuses
+pub mod Plans
+pub mod Calls
+pub mod Handling
+pub mod Taking
+pub mod Carrying
+pub mod Opening

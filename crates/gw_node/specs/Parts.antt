@@ -1,0 +1,78 @@
+-- The parts of a node, and what a call answers.
+use Rattle.std.specs.Prelude.{◌≡◌, ℕ, Bool, List, [], None, Result, Ok, Err}
+use Rattle.std.specs.Arc.{arc_value}
+use Rattle.std.specs.declared.sync.Arc.{Arc}
+use Rattle.std.specs.declared.alloc.Global.{Global}
+use Rattle.rep_ops.specs.declared.op.Op.{Op}
+use Rattle.sn_flow.specs.declared.config.Config.{Config}
+use Rattle.sn_flow.specs.declared.config.Send.{Send}
+use Rattle.sn_flow.specs.Locals.{Local}
+use Rattle.jr_journal.specs.declared.disk.Disk.{Ghosts}
+use Rattle.jr_journal.specs.declared.journal.Journal.{Journal}
+use Rattle.jr_journal.specs.Parts.{disk_of as disk_under, gateway_of, slot_of, is_halted as is_stopped}
+use Rattle.gw_node.specs.declared.node.Node.{Node}
+use Rattle.gw_node.specs.declared.out.Out.{Out}
+use Rattle.gw_node.specs.declared.fault.NodeFault.{NodeFault}
+use Rattle.gw_node.specs.declared.fault.NodeFault.TheVariants as faults
+use Rattle.gw_node.specs.declared.refusal.Refusal.{Refusal}
+use Rattle.gw_node.specs.declared.refusal.Refusal.TheVariants as refusals
+
+-- what a node is: what it was told, what its replica keeps, what else it knows, its journal, and how many records it read when it was
+-- opened
+pub record State {D : Type 0} (G : Ghosts D) : Type 0 where
+  pub config : Config
+  pub kept : List Op
+  pub local : Local
+  pub journal : Journal D G
+  pub records : ℕ
+
+abbrev pub state_of : {R Z D : Type 0} {G : Ghosts D} → (R → List Op) → Node R D Z G → State G
+state_of kept node = record { config = node.config; kept = kept node.replica; local = node.dialogs.local; journal = node.journal; records = node.records }
+
+-- how many records it read when it was opened
+abbrev pub records_of : {R Z D : Type 0} {G : Ghosts D} → Node R D Z G → ℕ
+records_of node = node.records
+
+-- the disk that its journal is on
+abbrev pub disk_of : {R Z D : Type 0} {G : Ghosts D} → Node R D Z G → D
+disk_of node = disk_under node.journal
+
+-- whether a write of its journal has failed since it was opened
+abbrev pub is_halted : {D : Type 0} {G : Ghosts D} → State G → Bool
+is_halted state = is_stopped state.journal
+
+-- a journal is as it was
+pub record IsUntouched {D : Type 0} {G : Ghosts D} (old new : Journal D G) : Type 0 where
+  pub gateway : gateway_of new ≡ gateway_of old
+  pub slot : slot_of new ≡ slot_of old
+  pub halted : is_stopped new ≡ is_stopped old
+  pub disk : disk_under new ≡ disk_under old
+
+-- and so is a node
+pub record IsUnchanged {D : Type 0} {G : Ghosts D} (old new : State G) : Type 0 where
+  pub config : new.config ≡ old.config
+  pub kept : new.kept ≡ old.kept
+  pub local : new.local ≡ old.local
+  pub journal : IsUntouched old.journal new.journal
+  pub records : new.records ≡ old.records
+
+-- ---- answers
+
+-- the same answer, whoever else has a share of it
+abbrev pub told : NodeFault → Refusal
+told (faults.Frame fault) = refusals.Frame fault
+told faults.Halted = refusals.Halted
+told (faults.Disk out) = refusals.Disk (arc_value out)
+told (faults.Conflict client) = refusals.Conflict client
+told faults.Full = refusals.Full
+told faults.Exhausted = refusals.Exhausted
+told (faults.Journal fault) = refusals.Journal fault
+told faults.Memory = refusals.Memory
+
+abbrev pub said : Result (Arc Out Global) NodeFault → Result Out Refusal
+said (Ok out) = Ok (arc_value out)
+said (Err fault) = Err (told fault)
+
+-- an answer that sends these datagrams and says nothing else
+abbrev pub only_sends : List Send → Out
+only_sends sends = record { sends = sends; made = None; answer = []; view = None }

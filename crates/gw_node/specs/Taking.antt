@@ -1,0 +1,33 @@
+-- What a node has taken, and what a crash would leave of it.
+use Rattle.std.specs.Prelude.{◌≡◌, ℕ, false, List, [], ◌++◌, None}
+use Rattle.std.specs.List.{flat_map}
+use Rattle.rep_ops.specs.declared.op.Op.{Op}
+use Rattle.rep_ops.specs.Sets.{Within}
+use Rattle.rep_model.specs.Keep.{keep, CountsAs}
+use Rattle.jr_journal.specs.declared.disk.Disk.{Ghosts}
+use Rattle.jr_journal.specs.Disk.{Image, EachCrash}
+use Rattle.jr_journal.specs.Records.{records}
+use Rattle.jr_journal.specs.Faults.{fault_of}
+use Rattle.jr_journal.specs.Parts.{disk_of, gateway_of}
+use Rattle.gw_node.specs.Parts.{State, is_halted}
+
+-- the operations of a list of deltas
+abbrev pub ops_of : List (List Op) → List Op
+ops_of deltas = flat_map (λ delta. delta) deltas
+
+-- J contains what must be kept of S, and lies within S and the refused delta
+pub record IsBetween (S refused J : List Op) : Type 0 where
+  pub lower : Within (keep S) J
+  pub upper : Within J (S ++ refused)
+
+-- an opening finds no fault in the image, and its records stand for S, but for the refused delta
+pub record StandsFor (gateway : ℕ) (S refused : List Op) (i : Image) : Type 0 where
+  pub sound : fault_of gateway i ≡ None
+  pub between : IsBetween S refused (ops_of (records gateway i))
+
+-- The node has taken the set S: its replica counts as S; and whatever a crash leaves of an honest disk stands for S, but for one
+-- refused delta, of which there is none as long as the node goes on.
+pub record HasTaken {D : Type 0} {G : Ghosts D} (S refused : List Op) (state : State G) : Type 0 where
+  pub counts : CountsAs S state.kept
+  pub quiet : is_halted state ≡ false → refused ≡ []
+  pub images : G.honest → EachCrash (λ i. StandsFor (gateway_of state.journal) S refused i) (G.slots (disk_of state.journal))

@@ -1,0 +1,186 @@
+//! A plan is carried out, and a delta is taken: room, delta, journal, replica, local state, in this order. What can be refused is
+//! refused before the journal is written; behind it nothing can be.
+
+ghost use Rattle.std.specs.Prelude.{◌≡◌, ◌≢◌, ◌++◌, [], IfOk, IfErr, OnOk};
+ghost use Rattle.rep_ops.specs.Making.{IsDeltaOf};
+ghost use Rattle.rep_model.specs.Taking.{Fits};
+ghost use Rattle.rep_model.specs.Keep.{IsKeptOf};
+ghost use Rattle.gw_node.specs.Parts.{state_of, IsUnchanged, only_sends};
+ghost use Rattle.gw_node.specs.Plans.{IsMisfit};
+ghost use Rattle.gw_node.specs.Writing.{WrittenAs, WrittenIfMade, WrittenIfAny, refusal_of};
+ghost use Rattle.gw_node.specs.Calls.{TakeCall, IsDone};
+ghost use Rattle.gw_node.specs.Handling.{HaveNoDelta, CarriedOut};
+ghost use Rattle.gw_node.specs.declared.refusal.Refusal.TheVariants as refusals;
+
+use super::node::Node;
+use super::out::Out;
+use super::refusal::Refusal;
+use super::shares::{Names, Shares};
+use jr_journal::{Disk, Journal, JournalFault};
+use octets::Sequence;
+use rep_model::{Replica, TakeFault};
+use rep_ops::{Delta, Op, OpsFault};
+use sn_flow::Plan;
+use std::alloc::Global;
+
+/// The delta of these operations.
+fn delta_of(alloc: Global, ops: Vec<Op>) -> Result<Delta, Refusal>
+    ensures ok { IfOk result (λ delta. IsDeltaOf ops.items delta) }
+    ensures err { IfErr result (HaveNoDelta ops.items) }
+{
+    match Delta::from_ops(alloc, ops) {
+        Ok(delta) => Ok(delta),
+        Err(OpsFault::Memory) => Err(Refusal::Memory),
+        Err(_) => Err(Refusal::Full),
+    }
+}
+
+/// Makes ready to take a delta.
+pub(crate) fn prepare<R: Replica>(
+    alloc: Global,
+    replica: &mut R,
+    delta: &Delta,
+) -> Result<R::Staged, Refusal>
+    ensures unchanged { R.kept replica.new ≡ R.kept replica.old }
+    ensures fits { OnOk result (Fits (R.kept replica.old) delta.now) }
+    ensures ready { IfOk result (λ staged. R.ready replica.new staged) }
+    ensures taken { IfOk result (λ staged. IsKeptOf (R.kept replica.old ++ delta.now) (R.after replica.new staged)) }
+    ensures misfit { IfErr result (λ refusal. IsMisfit (R.kept replica.old) delta.now refusal) }
+{
+    match replica.prepare(alloc, delta) {
+        Ok(staged) => Ok(staged),
+        Err(TakeFault::Conflict { client }) => match Names::new(alloc, client) {
+            Ok(client) => Err(Refusal::Conflict { client }),
+            Err(_) => Err(Refusal::Memory),
+        },
+        Err(TakeFault::Full { .. }) => Err(Refusal::Full),
+        Err(TakeFault::Memory) => Err(Refusal::Memory),
+    }
+}
+
+/// Writes a delta to the journal.
+fn write<D: Disk + Drop>(
+    alloc: Global,
+    journal: &mut Journal<D>,
+    delta: &Delta,
+) -> Result<(), JournalFault>
+    ensures { WrittenAs journal.old delta.now result journal.new }
+{
+    journal.append(alloc, delta)
+}
+
+/// Writes a delta to the journal, if there is one.
+fn write_if_made<D: Disk + Drop>(
+    alloc: Global,
+    journal: &mut Journal<D>,
+    made: &Option<Delta>,
+) -> Result<(), JournalFault>
+    ensures { WrittenIfMade journal.old made.now result journal.new }
+{
+    match made {
+        Some(delta) => write(alloc, journal, delta),
+        None => Ok(()),
+    }
+}
+
+/// Writes a delta to the journal, if it has operations.
+fn write_if_any<D: Disk + Drop>(
+    alloc: Global,
+    journal: &mut Journal<D>,
+    delta: &Delta,
+) -> Result<(), JournalFault>
+    ensures { WrittenIfAny journal.old delta.now result journal.new }
+{
+    if delta.is_empty() {
+        return Ok(());
+    }
+    write(alloc, journal, delta)
+}
+
+/// A refusal of the journal, with what is answered.
+fn refused(fault: JournalFault, excuse: Shares) -> Refusal
+    ensures { result ≡ refusal_of fault excuse }
+{
+    match fault {
+        JournalFault::Disk => Refusal::Disk { excuse },
+        JournalFault::Halted => Refusal::Halted,
+        JournalFault::Memory => Refusal::Memory,
+        JournalFault::Foreign | JournalFault::BadRecord { .. } => Refusal::Journal { fault },
+    }
+}
+
+/// Carries out a plan without operations: what it notes is noted.
+pub(crate) fn note<R: Replica, D: Disk + Drop>(
+    alloc: Global,
+    node: &mut Node<R, D>,
+    plan: Plan,
+) -> Result<Shares, Refusal>
+    requires { plan.ops ≡ [] }
+    ensures ok { IfOk result (λ out. IsDone (state_of R.kept node.old) plan out (state_of R.kept node.new)) }
+    ensures err { IfErr result (λ refusal. (refusal ≡ refusals.Memory) × IsUnchanged (state_of R.kept node.old) (state_of R.kept node.new)) }
+{
+    let Plan {
+        ops: _,
+        sends,
+        local,
+    } = plan;
+    node.dialogs.prepare(local.as_slice())?;
+    let answer = Shares::new(alloc, Out::of_sends(alloc, sends))?;
+    node.dialogs.commit(local);
+    Ok(answer)
+}
+
+/// Carries out a plan with operations: they become one delta, which is written to the journal and taken, and what the plan notes is
+/// noted. `excuse` is answered where the journal cannot be written.
+pub(crate) fn carry_out<R: Replica, D: Disk + Drop>(
+    alloc: Global,
+    node: &mut Node<R, D>,
+    plan: Plan,
+    excuse: Out,
+) -> Result<Shares, Refusal>
+    requires some { plan.ops ≢ [] }
+    requires excuse { excuse ≡ only_sends excuse.sends }
+    ensures { CarriedOut (state_of R.kept node.old) plan excuse result (state_of R.kept node.new) }
+{
+    let Plan { ops, sends, local } = plan;
+    node.dialogs.prepare(local.as_slice())?;
+    let delta = match delta_of(alloc, ops.into_vec()) {
+        Ok(delta) => delta,
+        Err(refusal) => return Err(refusal),
+    };
+    let staged = prepare(alloc, &mut node.replica, &delta)?;
+    let excuse = Shares::new(alloc, excuse)?;
+    let answer = Shares::new(alloc, Out::of_plan(alloc, sends, delta))?;
+    match write_if_made(alloc, &mut node.journal, &answer.out().made) {
+        Ok(()) => {
+            node.replica.commit(staged);
+            node.dialogs.commit(local);
+            Ok(answer)
+        }
+        Err(fault) => Err(refused(fault, excuse)),
+    }
+}
+
+/// Takes a delta: it is written to the journal, and clients that another gateway now owns have no address here any more.
+pub(crate) fn take_in<R: Replica, D: Disk + Drop>(
+    alloc: Global,
+    node: &mut Node<R, D>,
+    delta: &Delta,
+) -> Result<Shares, Refusal>
+    ensures { TakeCall (state_of R.kept node.old) delta.now result (state_of R.kept node.new) }
+{
+    if node.journal.is_halted() {
+        return Err(Refusal::Halted);
+    }
+    let ready = prepare(alloc, &mut node.replica, delta)?;
+    let nothing = Shares::new(alloc, Out::of_sends(alloc, Sequence::empty(alloc)))?;
+    let answer = Shares::new(alloc, Out::of_sends(alloc, Sequence::empty(alloc)))?;
+    match write_if_any(alloc, &mut node.journal, delta) {
+        Ok(()) => {
+            node.replica.commit(ready);
+            node.dialogs.keep_owned(node.config.gateway, &node.replica);
+            Ok(answer)
+        }
+        Err(fault) => Err(refused(fault, nothing)),
+    }
+}

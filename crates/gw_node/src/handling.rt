@@ -1,0 +1,205 @@
+//! What the calls of a node do, up to the answer.
+
+ghost use Rattle.std.specs.Prelude.{◌≡◌, Some, [], IfOk, IfErr};
+ghost use Rattle.sn_frame.specs.Bodies.{IsMessage, IsValue};
+ghost use Rattle.sn_frame.specs.Grammar.{Spells};
+ghost use Rattle.gw_node.specs.Occasions.{Datagram, Clock};
+ghost use Rattle.gw_node.specs.Excuses.{excuses as defined_excuses};
+ghost use Rattle.gw_node.specs.Parts.{state_of, only_sends};
+ghost use Rattle.gw_node.specs.Calls.{OwnCall, shows, StepCall};
+ghost use Rattle.gw_node.specs.Handling.{IsNoFrameBy, IsNoPlan, planned_for, ticked, CarriedOut, Answers};
+ghost use Rattle.gw_node.specs.declared.refusal.Refusal.TheVariants as refusals;
+
+use super::carrying::{carry_out, note, take_in};
+use super::excuse::excuses;
+use super::node::Node;
+use super::out::Out;
+use super::refusal::Refusal;
+use super::shares::Shares;
+use super::step::Step;
+use jr_journal::Disk;
+use octets::Sequence;
+use rep_model::Replica;
+use rep_ops::ClientId;
+use sn_deliver::{step as plan_step, tick as plan_tick};
+use sn_flow::{Addr, Plan, StepFault};
+use sn_frame::{Frame, FrameFault, decode};
+use std::alloc::Global;
+
+/// The frame that a datagram spells.
+fn read(alloc: Global, bytes: &[u8]) -> Result<Frame, Refusal>
+    ensures ok { IfOk result (λ frame. IsMessage frame × IsValue frame × Spells bytes.now frame) }
+    ensures err { IfErr result (IsNoFrameBy bytes.now) }
+{
+    match decode(alloc, bytes) {
+        Ok(frame) => Ok(frame),
+        Err(FrameFault::Memory) => Err(Refusal::Memory),
+        Err(fault) => Err(Refusal::Frame { fault }),
+    }
+}
+
+/// The plan for a frame from an address at a moment.
+fn plan_for<R: Replica, D: Disk>(
+    alloc: Global,
+    node: &Node<R, D>,
+    from: Addr,
+    frame: &Frame,
+    now: u64,
+) -> Result<Plan, Refusal>
+    requires { IsMessage frame.now }
+    ensures ok { IfOk result (λ plan. planned_for (state_of R.kept node.now) from frame.now now ≡ Some plan) }
+    ensures err { IfErr result (IsNoPlan (planned_for (state_of R.kept node.now) from frame.now now)) }
+{
+    match plan_step(
+        alloc,
+        &node.config,
+        &node.replica,
+        &node.dialogs,
+        from,
+        frame,
+        now,
+    ) {
+        Ok(plan) => Ok(plan),
+        Err(StepFault::Exhausted) => Err(Refusal::Exhausted),
+        Err(StepFault::Memory) => Err(Refusal::Memory),
+    }
+}
+
+/// The plan of a tick at a moment.
+fn plan_of_tick<R: Replica, D: Disk>(
+    alloc: Global,
+    node: &Node<R, D>,
+    now: u64,
+) -> Result<Plan, Refusal>
+    ensures ok { IfOk result (λ plan. ticked (state_of R.kept node.now) now ≡ Some plan) }
+    ensures err { IfErr result (IsNoPlan (ticked (state_of R.kept node.now) now)) }
+{
+    match plan_tick(alloc, &node.config, &node.replica, &node.dialogs, now) {
+        Ok(plan) => Ok(plan),
+        Err(StepFault::Exhausted) => Err(Refusal::Exhausted),
+        Err(StepFault::Memory) => Err(Refusal::Memory),
+    }
+}
+
+/// Carries out the plan for a frame from an address.
+fn carry_for_frame<R: Replica, D: Disk + Drop>(
+    alloc: Global,
+    node: &mut Node<R, D>,
+    from: Addr,
+    frame: &Frame,
+    plan: Plan,
+) -> Result<Shares, Refusal>
+    ensures { CarriedOut (state_of R.kept node.old) plan (only_sends (defined_excuses from frame.now plan.sends)) result (state_of R.kept node.new) }
+{
+    if plan.ops.is_empty() {
+        return note(alloc, node, plan);
+    }
+    let excuse = excuses(alloc, from, frame, plan.sends.as_slice())?;
+    carry_out(alloc, node, plan, Out::of_sends(alloc, excuse))
+}
+
+/// Carries out the plan of a tick. Nobody waits for its answer.
+fn carry_for_tick<R: Replica, D: Disk + Drop>(
+    alloc: Global,
+    node: &mut Node<R, D>,
+    plan: Plan,
+) -> Result<Shares, Refusal>
+    ensures { CarriedOut (state_of R.kept node.old) plan (only_sends []) result (state_of R.kept node.new) }
+{
+    if plan.ops.is_empty() {
+        return note(alloc, node, plan);
+    }
+    carry_out(
+        alloc,
+        node,
+        plan,
+        Out::of_sends(alloc, Sequence::empty(alloc)),
+    )
+}
+
+/// A frame comes from an address at a moment.
+fn answer_frame<R: Replica, D: Disk + Drop>(
+    alloc: Global,
+    node: &mut Node<R, D>,
+    from: Addr,
+    frame: &Frame,
+    now: u64,
+) -> Result<Shares, Refusal>
+    requires { IsMessage frame.now }
+    ensures { Answers (state_of R.kept node.old) (planned_for (state_of R.kept node.old) from frame.now now) (defined_excuses from frame.now) result (state_of R.kept node.new) }
+{
+    match plan_for(alloc, node, from, frame, now) {
+        Ok(plan) => carry_for_frame(alloc, node, from, frame, plan),
+        Err(refusal) => Err(refusal),
+    }
+}
+
+/// A datagram comes from an address at a moment.
+pub(crate) fn handle_frame<R: Replica, D: Disk + Drop>(
+    alloc: Global,
+    node: &mut Node<R, D>,
+    from: Addr,
+    bytes: &[u8],
+    now: u64,
+) -> Result<Shares, Refusal>
+    ensures { OwnCall (state_of R.kept node.old) (Datagram from bytes.now) now result (state_of R.kept node.new) }
+{
+    if node.is_halted() {
+        return Err(Refusal::Halted);
+    }
+    match read(alloc, bytes) {
+        Ok(frame) => answer_frame(alloc, node, from, &frame, now),
+        Err(refusal) => Err(refusal),
+    }
+}
+
+/// Time goes by: a moment.
+pub(crate) fn handle_tick<R: Replica, D: Disk + Drop>(
+    alloc: Global,
+    node: &mut Node<R, D>,
+    now: u64,
+) -> Result<Shares, Refusal>
+    ensures { OwnCall (state_of R.kept node.old) Clock now result (state_of R.kept node.new) }
+{
+    if node.journal.is_halted() {
+        return Err(Refusal::Halted);
+    }
+    match plan_of_tick(alloc, node, now) {
+        Ok(plan) => carry_for_tick(alloc, node, plan),
+        Err(refusal) => Err(refusal),
+    }
+}
+
+/// Somebody asks for a client's view.
+pub(crate) fn handle_view<R: Replica, D: Disk>(
+    alloc: Global,
+    node: &Node<R, D>,
+    client: &ClientId,
+) -> Result<Shares, Refusal>
+    ensures ok { IfOk result (λ out. out ≡ shows (R.kept node.now.replica) client.now) }
+    ensures err { IfErr result (λ refusal. refusal ≡ refusals.Memory) }
+{
+    let view = match node.replica.view_of(client) {
+        Some(view) => Some(view.copy(alloc)?),
+        None => None,
+    };
+    Ok(Shares::new(alloc, Out::of_view(alloc, view))?)
+}
+
+/// A call, as a value.
+pub(crate) fn handle_step<R: Replica, D: Disk + Drop>(
+    alloc: Global,
+    node: &mut Node<R, D>,
+    step: &Step,
+) -> Result<Shares, Refusal>
+    ensures { StepCall (state_of R.kept node.old) step.now result (state_of R.kept node.new) }
+{
+    match step {
+        Step::Frame { from, bytes, now } => {
+            handle_frame(alloc, node, *from, bytes.as_slice(), *now)
+        }
+        Step::Take { delta } => take_in(alloc, node, delta),
+        Step::Tick { now } => handle_tick(alloc, node, *now),
+        Step::View { client } => handle_view(alloc, node, client),
+    }
+}

@@ -1,0 +1,37 @@
+//! One gateway, with its journal.
+//!
+//! A datagram, a tick or a delta from another gateway is one call of a `Node`. What it makes or takes is written to the
+//! journal, and synced, before the replica has it and before anything is answered. Where the journal cannot be written the
+//! call is refused, the replica and the local state are as before, and the node is halted: it refuses every such call until
+//! it is opened again, from what its disk holds.
+//!
+//! - `node`: a gateway (`Node`) and its calls.
+//! - `opening`: a gateway is opened, and takes what its journal holds.
+//! - `handling`: what the calls do, up to the answer.
+//! - `carrying`: a plan is carried out, a delta is taken: room, delta, journal, replica, local state, in this order.
+//! - `excuse`: what a client is told where its frame came to nothing for want of a disk.
+//! - `step`: a call as a value (`Step`).
+//! - `out`, `fault`: what is answered (`Out`, `NodeFault`).
+//! - `shares`, `refusal`: the same with three shares of each answer, which are taken before the journal is written.
+//!
+//! The definitions are in `specs/`: `Occasions` (datagrams, ticks and their plans), `Parts` (what contracts see of a node),
+//! `Plans` (what a plan comes to), `Calls` (what each call may answer), `Writing` (what becomes of the journal), `Excuses`,
+//! `Taking` (what a node has taken, and what a crash leaves of it), `Carrying` (how a call carries that on), `Opening`.
+//! `Handling` is for private functions.
+#![tactic(auto)]
+
+mod carrying;
+mod excuse;
+mod fault;
+mod handling;
+mod node;
+mod opening;
+mod out;
+mod refusal;
+mod shares;
+mod step;
+
+pub use fault::NodeFault;
+pub use node::Node;
+pub use out::Out;
+pub use step::Step;

@@ -1,0 +1,203 @@
+//! One gateway.
+
+ghost use Rattle.std.specs.Prelude.{◌≡◌, ◌≤◌, ◌<◌, ◌++◌, List, [], None, true, false, length, IfOk, IfErr, OnOk, IsTrue, MatchResult};
+ghost use Rattle.rep_ops.specs.declared.op.Op.{Op};
+ghost use Rattle.rep_model.specs.Keep.{CountsAs};
+ghost use Rattle.rep_model.specs.Views.{clients as clients_of};
+ghost use Rattle.jr_journal.specs.Disk.{image};
+ghost use Rattle.jr_journal.specs.Records.{records};
+ghost use Rattle.jr_journal.specs.Faults.{is_fresh, fault_of};
+ghost use Rattle.jr_journal.specs.Opening.{recovered, is_quiet, LeavesNoMore};
+ghost use Rattle.gw_node.specs.declared.fault.NodeFault.TheVariants as faults;
+ghost use Rattle.gw_node.specs.Occasions.{Datagram, Clock};
+ghost use Rattle.gw_node.specs.Parts.{state_of, told, said, is_halted as is_stopped, disk_of, records_of};
+ghost use Rattle.gw_node.specs.Calls.{OwnCall, TakeCall, ViewCall, StepCall};
+ghost use Rattle.gw_node.specs.Taking.{ops_of, IsBetween, HasTaken};
+ghost use Rattle.gw_node.specs.Opening.{IsStarted, FitInTurn, MayRefuse, IsDiskFault, IsOpenFault, LeavesSlots};
+ghost use Rattle.gw_node.specs.Carrying.{CarriesOn, OwnCarriesOn, StepCarriesOn};
+
+use super::carrying::take_in;
+use super::fault::NodeFault;
+use super::handling::{handle_frame, handle_step, handle_tick, handle_view};
+use super::opening::{not_opened, nothing, start};
+use super::refusal::{Answer, one, three};
+use super::step::Step;
+use jr_journal::{Disk, Journal, MemoryDisk};
+use rep_model::Replica;
+use rep_ops::{ClientId, Delta};
+use sn_flow::{Addr, Config, Dialogs};
+use std::alloc::Global;
+
+/// A gateway: what it was told, what it keeps of what it has taken, which address is which client, and its journal.
+#[derive(Drop)]
+pub struct Node<R: Replica, D: Disk> {
+    pub(crate) config: Config,
+    pub(crate) replica: R,
+    pub(crate) dialogs: Dialogs,
+    pub(crate) journal: Journal<D>,
+    pub(crate) records: u64,
+}
+
+impl<R: Replica, D: Disk + Drop> Node<R, D> {
+    /// Opens a gateway on the disk of its journal, and takes what the journal holds; nothing of that is written again. The
+    /// gateway begins without bindings, dialogs and timers.
+    ///
+    /// First the journal is opened: `Disk` only where the disk failed, with nothing to be sent; `Journal` for what is in the
+    /// slots. Then its records are taken, one after the other: `Conflict` and `Full` for one that does not fit to those
+    /// before it. `Memory` may stand in the place of each. With a fault the disk comes back. Its slots may be synced by
+    /// then, a torn record cut away or a journal begun; on an honest disk no crash leaves what it could not have left
+    /// before.
+    pub fn open(alloc: Global, config: Config, disk: D) -> Result<Node<R, D>, (D, NodeFault)>
+        ensures starts { IfOk result (λ node. IsStarted config (state_of R.kept node)) }
+        ensures may { IfErr result (λ refused. MayRefuse (told refused.1)) }
+        ensures counts { MatchResult result (λ node. D.failures disk ≤ D.failures (disk_of node)) (λ refused. D.failures disk ≤ D.failures refused.0) }
+        ensures cause { IfErr result (λ refused. IsDiskFault (told refused.1) → D.failures disk < D.failures refused.0) }
+        ensures starved { D.starved disk ≡ true → MatchResult result (λ node. D.starved (disk_of node) ≡ true) (λ refused. D.starved refused.0 ≡ true) }
+        // It takes the records of the slots as they were found,
+        ensures records { D.honest → IfOk result (λ node. records_of node ≡ length (records config.gateway (image (D.slots disk)))) }
+        ensures takes { D.honest → IfOk result (λ node. CountsAs (ops_of (records config.gateway (image (D.slots disk)))) (state_of R.kept node).kept) }
+        ensures none { D.honest → IfOk result (λ node. records config.gateway (image (D.slots disk)) ≡ [] → (state_of R.kept node).kept ≡ []) }
+        // each of which fits to those before it,
+        ensures fits { D.honest → OnOk result (FitInTurn [] (records config.gateway (image (D.slots disk)))) }
+        // beside whatever set it had taken before it stopped.
+        ensures restarts { D.honest → IfOk result (λ node. (S refused : List Op) → IsBetween S refused (ops_of (records config.gateway (image (D.slots disk)))) →
+            HasTaken (S ++ ops_of (records config.gateway (image (D.slots disk)))) [] (state_of R.kept node)) }
+        ensures known { D.honest → IfOk result (λ node. D.slots (disk_of node) ≡ recovered config.gateway (image (D.slots disk))) }
+        // It is refused exactly where the format says so, or a record does not fit, or the disk failed, or memory ran out.
+        ensures found { D.honest → OnOk result (fault_of config.gateway (image (D.slots disk)) ≡ None) }
+        ensures fault { D.honest → IfErr result (λ refused. IsOpenFault config.gateway (image (D.slots disk)) (told refused.1)) }
+        // Refused for another cause than the disk, it leaves the slots as they were, synced, or as an opening leaves them.
+        ensures slots { D.honest → IfErr result (λ refused. LeavesSlots config.gateway (D.slots disk) (told refused.1) (D.slots refused.0)) }
+        // Whatever refused it, no crash leaves what it could not have left before.
+        ensures leaves { D.honest → IfErr result (λ refused. LeavesNoMore config.gateway (D.slots disk) (D.slots refused.0)) }
+        // A failure that is arranged for an append stays arranged, unless a journal is begun.
+        ensures quiet { D.honest → IsTrue (is_quiet (D.outlook disk) (is_fresh (image (D.slots disk)))) →
+            IfOk result (λ node. D.starved (disk_of node) ≡ false → D.outlook (disk_of node) ≡ D.outlook disk) }
+        ensures blameless { D.honest → IsTrue (is_quiet (D.outlook disk) (is_fresh (image (D.slots disk)))) →
+            IfErr result (λ refused. D.starved refused.0 ≡ false → (IsDiskFault (told refused.1) → ⊥) × (D.outlook refused.0 ≡ D.outlook disk)) }
+    {
+        let Ok(replica) = R::empty(alloc) else {
+            return Err((disk, NodeFault::Memory));
+        };
+        let Some(out) = nothing(alloc) else {
+            return Err((disk, NodeFault::Memory));
+        };
+        match Journal::open(alloc, disk, config.gateway) {
+            Ok((journal, deltas)) => start(alloc, config, replica, journal, deltas),
+            Err((disk, fault)) => Err((disk, not_opened(fault, out))),
+        }
+    }
+
+    /// A datagram comes from an address at a moment, which is in seconds. The step table says what becomes of it (MQTT-SN
+    /// 1.2 section 6; the frames are those of section 5.4). The operations of the step, if there are any, become one delta.
+    /// It is written to the journal and synced, then it is taken and what the step notes is noted; `sends` of the answer is
+    /// what is to be sent, and `made` is the delta, for the other gateways. A step without operations writes nothing.
+    ///
+    /// The faults, in the order in which they are looked for: `Halted`, a write of the journal has failed; `Frame`, the
+    /// bytes are no frame; `Exhausted`, the step needs an epoch or a sequence number after the last; `Conflict` and `Full`,
+    /// its operations cannot be taken, or make no delta; `Disk`, the disk failed. `Memory` may stand in the place of each.
+    ///
+    /// After `Disk` the node is halted, and what it keeps and knows is as before; `out` of the fault is to be sent: return
+    /// code 1, congestion (section 5.3.10), where the frame's answer has a return code. After each other fault nothing has
+    /// changed.
+    pub fn frame(&mut self, alloc: Global, from: Addr, bytes: &[u8], now: u64) -> Answer
+        ensures call { OwnCall (state_of R.kept self.old) (Datagram from bytes.now) now (said result) (state_of R.kept self.new) }
+        ensures taken { OwnCarriesOn (state_of R.kept self.old) (Datagram from bytes.now) now (said result) (state_of R.kept self.new) }
+    {
+        one(handle_frame(alloc, self, from, bytes, now))
+    }
+
+    /// A delta of another gateway comes. If it has operations it is written to the journal and synced; then it is taken, and
+    /// bindings and timers of clients that another gateway now owns are dropped. Nothing is sent, and the delta is not
+    /// handed on.
+    ///
+    /// The faults, in the order in which they are looked for: `Halted`, a write of the journal has failed; `Conflict` and
+    /// `Full`, the delta does not fit to what is kept; `Disk`, the disk failed. `Memory` may stand in the place of each.
+    /// After `Disk` the node is halted, what it keeps and knows is as before, and nothing is to be sent. After each other
+    /// fault nothing has changed.
+    pub fn take(&mut self, alloc: Global, delta: &Delta) -> Answer
+        ensures call { TakeCall (state_of R.kept self.old) delta.now (said result) (state_of R.kept self.new) }
+        ensures taken { CarriesOn (state_of R.kept self.old) delta.now (said result) (state_of R.kept self.new) }
+    {
+        one(take_in(alloc, self, delta))
+    }
+
+    /// Time goes by: it is this moment, in seconds. One thing is done that is due: ADVERTISE (MQTT-SN 1.2 section 6.1), or
+    /// what is due with one client: it is lost, and its will is published (6.3, 6.14); a frame is sent again (6.13);
+    /// messages that wait are delivered (6.10). What is written to the journal, taken, noted and sent is as with `frame`,
+    /// and so are the faults, of which `Frame` never comes. Nobody waits for the answer to a tick, so after `Disk` nothing
+    /// is to be sent.
+    pub fn tick(&mut self, alloc: Global, now: u64) -> Answer
+        ensures call { OwnCall (state_of R.kept self.old) Clock now (said result) (state_of R.kept self.new) }
+        ensures taken { OwnCarriesOn (state_of R.kept self.old) Clock now (said result) (state_of R.kept self.new) }
+    {
+        one(handle_tick(alloc, self, now))
+    }
+
+    /// Somebody asks for a client's view: `view` of the answer, or none where nothing names the client. A halted node
+    /// answers too. The only fault is `Memory`.
+    pub fn view(&self, alloc: Global, client: &ClientId) -> Answer
+        ensures { ViewCall (state_of R.kept self.now) client.now (said result) (state_of R.kept self.now) }
+    {
+        one(handle_view(alloc, self, client))
+    }
+
+    /// A call as a value. Its answer is given three times: the shares are taken before the journal is written, so that a call that was
+    /// done can always be told.
+    pub fn step(&mut self, alloc: Global, step: &Step) -> (Answer, Answer, Answer)
+        ensures call { StepCall (state_of R.kept self.old) step.now (said result.0) (state_of R.kept self.new) }
+        ensures taken { StepCarriesOn (state_of R.kept self.old) step.now (said result.0) (state_of R.kept self.new) }
+        ensures second { said result.1 ≡ said result.0 }
+        ensures third { said result.2 ≡ said result.0 }
+    {
+        three(handle_step(alloc, self, step))
+    }
+
+    /// The gateway's number.
+    pub fn gateway(&self) -> u8
+        ensures { result ≡ (state_of R.kept self.now).config.gateway }
+    {
+        self.config.gateway
+    }
+
+    /// Whether a write has failed since the node was opened.
+    pub fn is_halted(&self) -> bool
+        ensures { result ≡ is_stopped (state_of R.kept self.now) }
+    {
+        self.journal.is_halted()
+    }
+
+    /// The disk as it stands.
+    pub fn into_disk(self) -> D
+        ensures { result ≡ disk_of self }
+    {
+        self.journal.into_disk()
+    }
+
+    /// How many records were read when the node was opened.
+    pub fn records(&self) -> u64
+        ensures { result ≡ records_of self.now }
+    {
+        self.records
+    }
+
+    /// The clients that the node knows, in ascending order.
+    pub fn clients(&self, alloc: Global) -> Result<Vec<ClientId>, NodeFault>
+        ensures ok { IfOk result (λ all. all.items ≡ clients_of (state_of R.kept self.now).kept) }
+        ensures err { IfErr result (λ fault. fault ≡ faults.Memory) }
+    {
+        match self.replica.clients(alloc) {
+            Ok(clients) => Ok(clients),
+            Err(_) => Err(NodeFault::Memory),
+        }
+    }
+}
+
+impl<R: Replica> Node<R, MemoryDisk> {
+    /// Whether memory was refused in the disk.
+    pub fn starved(&self) -> bool
+        ensures { result ≡ (disk_of self.now).starved }
+    {
+        self.journal.starved()
+    }
+}

@@ -1,0 +1,61 @@
+//! What a node answers.
+
+ghost use Rattle.std.specs.Prelude.{◌≡◌, Some, []};
+ghost use Rattle.gw_node.specs.Parts.{only_sends};
+
+use octets::Sequence;
+use rep_model::ClientView;
+use rep_ops::Delta;
+use sn_flow::Send;
+use std::alloc::Global;
+
+/// What a node answers to a call. A digest, by which gateways tell one another what they have, comes with a later call.
+#[derive(Debug, Drop)]
+pub struct Out {
+    /// The datagrams to be sent, in their order.
+    pub sends: Sequence<Send>,
+    /// The delta that was made, if operations were made.
+    pub made: Option<Delta>,
+    /// The deltas that answer another gateway; none yet.
+    pub answer: Sequence<Delta>,
+    /// The view that was asked for, where the client is known.
+    pub view: Option<ClientView>,
+}
+
+impl Out {
+    /// An answer that sends these datagrams and says nothing else.
+    pub(crate) fn of_sends(alloc: Global, sends: Sequence<Send>) -> Out
+        ensures { result ≡ only_sends sends }
+    {
+        Out {
+            sends,
+            made: None,
+            answer: Sequence::empty(alloc),
+            view: None,
+        }
+    }
+
+    /// An answer that sends these datagrams and tells of the delta that was made.
+    pub(crate) fn of_plan(alloc: Global, sends: Sequence<Send>, delta: Delta) -> Out
+        ensures { result ≡ record (only_sends sends) { made = Some delta } }
+    {
+        Out {
+            sends,
+            made: Some(delta),
+            answer: Sequence::empty(alloc),
+            view: None,
+        }
+    }
+
+    /// An answer that shows a view.
+    pub(crate) fn of_view(alloc: Global, view: Option<ClientView>) -> Out
+        ensures { result ≡ record (only_sends []) { view = view } }
+    {
+        Out {
+            sends: Sequence::empty(alloc),
+            made: None,
+            answer: Sequence::empty(alloc),
+            view,
+        }
+    }
+}

@@ -1,0 +1,34 @@
+//! A call as a value.
+
+use octets::Octets;
+use rep_ops::{ClientId, Delta};
+use sn_flow::Addr;
+
+/// A call of a node, with its arguments. Moments are in seconds.
+#[derive(Debug, Drop)]
+pub enum Step {
+    /// A datagram comes from an address at a moment.
+    Frame {
+        /// The address that it comes from.
+        from: Addr,
+        /// Its bytes.
+        bytes: Octets,
+        /// The moment.
+        now: u64,
+    },
+    /// A delta comes.
+    Take {
+        /// The delta.
+        delta: Delta,
+    },
+    /// Time goes by: a moment.
+    Tick {
+        /// The moment.
+        now: u64,
+    },
+    /// Somebody asks for a client's view.
+    View {
+        /// The client.
+        client: ClientId,
+    },
+}

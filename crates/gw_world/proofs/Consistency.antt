@@ -1,0 +1,216 @@
+-- Every run leaves a field in which no name has two contents, and answers no Conflict.
+use Rattle.std.proofs.Common.{◌≡◌, ℕ, zero, suc, ◌-◌, ◌⊎◌, List, [], ◌∷◌, map, slice_get, Some, Contains, Result, Ok, Err, sym, ap, ◌∙◌, subst, inl, inr}
+use Rattle.std.specs.List.{AllByRecursion}
+use Rattle.std.proofs.lemmas.List.Elements.{All-from_recursion, All-contains}
+use Rattle.std.proofs.lemmas.Option.{none-some, same_Some}
+use Rattle.rep_ops.specs.declared.op.Op.{Op}
+use Rattle.rep_ops.specs.declared.op.Op.TheVariants.{Session as OfSession, Put as OfPut, Ack}
+use Rattle.rep_ops.specs.Deltas.{IsDelta}
+use Rattle.rep_ops.specs.Sets.{Stands, IsConsistent, Agrees}
+use Rattle.rep_model.specs.Keep.{keep}
+use Rattle.rep_model.specs.Taking.{AllAgree}
+use Rattle.rep_model.proofs.Joins.{all-moved}
+use Rattle.sn_flow.specs.declared.config.Config.{Config}
+use Rattle.sn_flow.proofs.Lists.{all-weaken}
+use Rattle.gw_world.specs.declared.event.Event.{Event}
+use Rattle.gw_world.specs.declared.event.Event.TheVariants.{Frame, Tick, Take, Show}
+use Rattle.gw_world.specs.declared.event.Answer.{Answer}
+use Rattle.gw_world.specs.declared.event.Answer.TheVariants.{Node, Views}
+use Rattle.gw_node.specs.declared.out.Out.{Out}
+use Rattle.gw_node.specs.declared.refusal.Refusal.{Refusal}
+use Rattle.gw_node.specs.Parts.{said}
+use Rattle.gw_node.specs.declared.refusal.Refusal.TheVariants as refusals
+use Rattle.gw_node.specs.declared.fault.NodeFault.TheVariants as faults
+use Rattle.gw_node.specs.Occasions.{Occasion, Datagram, Clock}
+use Rattle.gw_world.specs.Gateways.{Gateway, new_gateway}
+use Rattle.gw_world.specs.Field.{Field, new_field, IsAt, IsDeltaAt, changed, After, Run}
+use Rattle.gw_world.specs.Steps.{HaveName, IsConflict, OwnStep, TakeStep}
+use Rattle.gw_world.specs.Whole.{everything, IsHome, AreMadeOnce}
+use Rattle.gw_world.proofs.Alone.{stands-alone, agrees-alone, delta-place, contains_at}
+use Rattle.gw_world.proofs.Each.{all-at, all-places, each-all}
+use Rattle.gw_world.proofs.Held.{agrees_with_kept}
+use Rattle.gw_world.proofs.Numbers.{First, place_of-first, first-number, first-place_of}
+use Rattle.gw_world.proofs.Steadiness.{Still, Stepped, still, own-moves, SteadyField, steady-is, after-steady, start-steady, no-conflict}
+use Rattle.gw_world.proofs.Whole.{IsHeld, AreApart, Whole, held-alike, whole-silent, whole-still, whole-stepped}
+
+abbrev pub WholeField : Field → Type 0
+WholeField field = Whole field.gateways field.deltas
+
+-- the answer is no Conflict
+abbrev pub IsAtPeace : Result Out Refusal → Type 0
+IsAtPeace (Err (refusals.Conflict client)) = ⊥
+IsAtPeace answer = Unit {0}
+
+abbrev pub IsPeaceful : Answer → Type 0
+IsPeaceful (Node answer) = IsAtPeace (said answer)
+IsPeaceful (Views views) = Unit {0}
+
+-- ---- what one event does
+
+module _ (field : Field) (s : SteadyField field) (w : WholeField field) (n i : ℕ) (old : Gateway) (at : IsAt field n i old) where
+  own-first : First old.config.gateway field.gateways i
+  own-first =
+      let f : First n field.gateways i = place_of-first n i field.gateways at.0 in
+      subst (λ k. First k field.gateways i) (sym (first-number n i field.gateways old f at.1)) f
+
+  listed : (k : ℕ) (delta : List Op) → slice_get field.deltas k ≡ Some delta → AllByRecursion (IsHeld field.gateways) delta
+  listed k delta there = all-at (λ (D : List Op). AllByRecursion (IsHeld field.gateways) D) field.deltas k delta w.each.lists there
+
+  whole-moved : (next : Gateway) (made : List (List Op)) → Still old next made ⊎ Stepped old next made → WholeField (changed field i next made)
+  whole-moved next made (inl u) = whole-still field.gateways i old next field.deltas made at.1 u w
+  whole-moved next made (inr u) = whole-stepped field.gateways i old next field.deltas made at.1 own-first (s.flush old.config.gateway i old own-first at.1) u w
+
+  whole-taken : (next : Gateway) (made : List (List Op)) (k : ℕ) (delta : List Op) (answer : Result Out Refusal) → slice_get field.deltas k ≡ Some delta → TakeStep old delta answer next made → WholeField (changed field i next made)
+  whole-taken next made k delta (Err fault) there h = whole-still field.gateways i old next field.deltas made at.1 (still old next made h.1) w
+  whole-taken next made k delta (Ok out) there h =
+      whole-silent field.gateways i old next delta at.1 (ap (λ (x : Gateway). x.config) h.3) (ap (λ (x : Gateway). x.taken) h.3) field.deltas made (listed k delta there) h.2 w
+
+  own-peaceful : (occasion : Occasion) (now : ℕ) (answer : Result Out Refusal) (next : Gateway) (made : List (List Op)) → OwnStep old occasion now answer next made → IsAtPeace answer
+  own-peaceful occasion now (Ok out) next made h = tt
+  own-peaceful occasion now (Err (refusals.Frame fault)) next made h = tt
+  own-peaceful occasion now (Err (refusals.Conflict client)) next made h = no-conflict field n i old occasion now client next made (steady-is field s) at h
+  own-peaceful occasion now (Err refusals.Full) next made h = tt
+  own-peaceful occasion now (Err refusals.Exhausted) next made h = tt
+  own-peaceful occasion now (Err refusals.Halted) next made h = tt
+  own-peaceful occasion now (Err (refusals.Disk excuse)) next made h = tt
+  own-peaceful occasion now (Err (refusals.Journal fault)) next made h = tt
+  own-peaceful occasion now (Err refusals.Memory) next made h = tt
+
+  -- a listed delta has nothing that differs from what the gateway has under its name
+  listed-peaceful : (k : ℕ) (delta : List Op) (client : List ℕ) → slice_get field.deltas k ≡ Some delta → IsConflict old.taken delta client → ⊥
+  listed-peaceful k delta client there x =
+      x.differs (held-alike field.gateways x.old x.new
+      (All-contains (IsHeld field.gateways) old.taken x.old (All-from_recursion (IsHeld field.gateways) old.taken (w.each.sets i old at.1)) x.is_old)
+      (All-contains (IsHeld field.gateways) delta x.new (All-from_recursion (IsHeld field.gateways) delta (listed k delta there)) x.is_new)
+      x.named)
+
+  take-peaceful : (k : ℕ) (delta : List Op) (answer : Result Out Refusal) (next : Gateway) (made : List (List Op)) → slice_get field.deltas k ≡ Some delta → TakeStep old delta answer next made → IsAtPeace answer
+  take-peaceful k delta (Ok out) next made there h = tt
+  take-peaceful k delta (Err (refusals.Frame fault)) next made there h = tt
+  take-peaceful k delta (Err (refusals.Conflict client)) next made there h = listed-peaceful k delta client there h.0
+  take-peaceful k delta (Err refusals.Full) next made there h = tt
+  take-peaceful k delta (Err refusals.Exhausted) next made there h = tt
+  take-peaceful k delta (Err refusals.Halted) next made there h = tt
+  take-peaceful k delta (Err (refusals.Disk excuse)) next made there h = tt
+  take-peaceful k delta (Err (refusals.Journal fault)) next made there h = tt
+  take-peaceful k delta (Err refusals.Memory) next made there h = tt
+
+pub record Sound (new : Field) (answer : Answer) : Type 0 where
+  pub whole : WholeField new
+  pub peaceful : IsPeaceful answer
+
+after-sound : (old : Field) (event : Event) (answer : Answer) (new : Field) → After old event answer new → SteadyField old → WholeField old → Sound new answer
+after-sound old (Frame number from bytes now) (Node answer) new h s w = record {
+  whole = subst WholeField (sym h.6) (whole-moved old s w number h.0 h.1 h.4 h.2 h.3 (own-moves h.1 (Datagram from bytes) now (said answer) h.2 h.3 h.5));
+  peaceful = own-peaceful old s w number h.0 h.1 h.4 (Datagram from bytes) now (said answer) h.2 h.3 h.5;
+}
+after-sound old (Tick number now) (Node answer) new h s w = record {
+  whole = subst WholeField (sym h.6) (whole-moved old s w number h.0 h.1 h.4 h.2 h.3 (own-moves h.1 Clock now (said answer) h.2 h.3 h.5));
+  peaceful = own-peaceful old s w number h.0 h.1 h.4 Clock now (said answer) h.2 h.3 h.5;
+}
+after-sound old (Take number delta) (Node answer) new h s w = record {
+  whole = subst WholeField (sym h.8) (whole-taken old s w number h.0 h.1 h.5 h.2 h.3 (delta - 1) h.4 (said answer) h.6.1 h.7);
+  peaceful = take-peaceful old s w number h.0 h.1 h.5 (delta - 1) h.4 (said answer) h.2 h.3 h.6.1 h.7;
+}
+after-sound old (Show number) (Views views) new h s w = record { whole = subst WholeField (sym h.4) w; peaceful = tt }
+after-sound old (Frame number from bytes now) (Views views) new h s w = absurd h
+after-sound old (Tick number now) (Views views) new h s w = absurd h
+after-sound old (Take number delta) (Views views) new h s w = absurd h
+after-sound old (Show number) (Node answer) new h s w = absurd h
+
+-- ---- what a run does
+
+run-sound : (old : Field) (events : List Event) (answers : List Answer) (new : Field) → Run old events answers new → SteadyField old → WholeField old → WholeField new × AllByRecursion IsPeaceful answers
+run-sound old [] [] new h s w = (subst WholeField (sym h) w, tt)
+run-sound old (event ∷ events) (answer ∷ answers) new h s w =
+    let one = after-sound old event answer h.0 h.1 s w in
+    let more = run-sound h.0 events answers new h.2 (after-steady old event answer h.0 h.1 s) one.whole in
+    (more.0, (one.peaceful, more.1))
+run-sound old [] (answer ∷ answers) new h s w = absurd h
+run-sound old (event ∷ events) [] new h s w = absurd h
+
+pub start-taken : (configs : List Config) (j : ℕ) (gateway : Gateway) → slice_get (map new_gateway configs) j ≡ Some gateway → gateway.taken ≡ []
+start-taken [] j gateway e = absurd (none-some gateway e)
+start-taken (config ∷ configs) zero gateway e = ap (λ (x : Gateway). x.taken) (sym (same_Some (new_gateway config) gateway e))
+start-taken (config ∷ configs) (suc j) gateway e = start-taken configs j gateway e
+
+start-whole : (configs : List Config) → WholeField (new_field configs)
+start-whole configs = record {
+  each = record {
+    sets = λ j gateway there. subst (λ T. AllByRecursion (IsHeld (map new_gateway configs)) T) (sym (start-taken configs j gateway there)) tt;
+    lists = tt;
+  };
+  apart = λ i j one other a b at there inside within named. absurd (none-some one at);
+  proper = tt;
+}
+
+pub field-whole : (configs : List Config) (events : List Event) (answers : List Answer) (field : Field) → Run (new_field configs) events answers field → WholeField field × AllByRecursion IsPeaceful answers
+field-whole configs events answers field h = run-sound (new_field configs) events answers field h (start-steady configs) (start-whole configs)
+
+-- ---- what holds of a whole field
+
+module _ (field : Field) (w : WholeField field) where
+  held : (op : Op) → Contains (everything field) op → IsHeld field.gateways op
+  held op h = All-contains (IsHeld field.gateways) (everything field) op (All-from_recursion (IsHeld field.gateways) (everything field) (each-all (IsHeld field.gateways) field w.each)) h
+
+  pub parts-consistent : (part : List Op) → ((op : Op) → Contains part op → Contains (everything field) op) → IsConsistent part
+  parts-consistent part f = all-moved (Stands part) part (λ op h. stands-alone part op h (λ other there named. held-alike field.gateways other op (held other (f other there)) (held op (f op h)) named))
+
+  at-home : (op : Op) → IsHeld field.gateways op → IsHome field op
+  at-home (OfSession c s k o) h = (h.0, h.1, (first-place_of s.gateway h.0 field.gateways h.2, h.3), h.4)
+  at-home (OfPut c p) h = (h.0, h.1, (first-place_of p.origin h.0 field.gateways h.2, h.3), h.4)
+  at-home (Ack c origin first last) h = tt
+
+  taken-held : (gateway : Gateway) → Contains field.gateways gateway → AllByRecursion (IsHeld field.gateways) gateway.taken
+  taken-held gateway there = All-contains (λ (g : Gateway). AllByRecursion (IsHeld field.gateways) g.taken) field.gateways gateway
+      (All-from_recursion (λ (g : Gateway). AllByRecursion (IsHeld field.gateways) g.taken) field.gateways (all-places (λ (g : Gateway). AllByRecursion (IsHeld field.gateways) g.taken) field.gateways w.each.sets)) there
+
+  delta-held : (delta : List Op) → Contains field.deltas delta → AllByRecursion (IsHeld field.gateways) delta
+  delta-held delta there = All-contains (λ (D : List Op). AllByRecursion (IsHeld field.gateways) D) field.deltas delta
+      (All-from_recursion (λ (D : List Op). AllByRecursion (IsHeld field.gateways) D) field.deltas w.each.lists) there
+
+  delta-agrees : (gateway : Gateway) (delta : List Op) → Contains field.gateways gateway → Contains field.deltas delta → AllAgree gateway.taken delta
+  delta-agrees gateway delta in_field in_list = all-moved (Agrees gateway.taken) delta (λ op h. agrees-alone gateway.taken op (λ other there named.
+      held-alike field.gateways other op
+      (All-contains (IsHeld field.gateways) gateway.taken other (All-from_recursion (IsHeld field.gateways) gateway.taken (taken-held gateway in_field)) there)
+      (All-contains (IsHeld field.gateways) delta op (All-from_recursion (IsHeld field.gateways) delta (delta-held delta in_list)) h)
+      named))
+
+made-once : (deltas : List (List Op)) → AreApart deltas → AllByRecursion IsDelta deltas → AreMadeOnce deltas
+made-once deltas apart proper i j k l one other a b at there inside within named =
+    let same : i ≡ j = apart i j one other a b at there (contains_at one k a inside) (contains_at other l b within) named in
+    let whole : one ≡ other = same_Some one other (sym at ∙ ap (slice_get deltas) same ∙ there) in
+    (same, delta-place other (all-at IsDelta deltas j other proper there) k l a b (subst (λ D. slice_get D k ≡ Some a) whole inside) within named)
+
+-- ---- the laws
+
+pub field-consistent : (configs : List Config) (events : List Event) (answers : List Answer) (field : Field) → Run (new_field configs) events answers field → IsConsistent (everything field)
+field-consistent configs events answers field h = parts-consistent field (field-whole configs events answers field h).0 (everything field) (λ op there. there)
+
+pub field-parts : (configs : List Config) (events : List Event) (answers : List Answer) (field : Field) (part : List Op) → Run (new_field configs) events answers field → ((op : Op) → Contains part op → Contains (everything field) op) → IsConsistent part
+field-parts configs events answers field part h f = parts-consistent field (field-whole configs events answers field h).0 part f
+
+pub field-agrees : (configs : List Config) (events : List Event) (answers : List Answer) (field : Field) (gateway : Gateway) (delta : List Op) → Run (new_field configs) events answers field → Contains field.gateways gateway → Contains field.deltas delta → AllAgree gateway.taken delta × AllAgree (keep gateway.taken) delta
+field-agrees configs events answers field gateway delta h in_field in_list =
+    let agrees = delta-agrees field (field-whole configs events answers field h).0 gateway delta in_field in_list in
+    (agrees, all-weaken (Agrees gateway.taken) (Agrees (keep gateway.taken)) (agrees_with_kept gateway.taken) delta agrees)
+
+pub field-no_conflict : (configs : List Config) (events : List Event) (answers : List Answer) (field : Field) (number i k : ℕ) (gateway : Gateway) (delta : List Op) (client : List ℕ) (new : Gateway) (made : List (List Op)) → Run (new_field configs) events answers field → IsAt field number i gateway → IsDeltaAt field k delta → TakeStep gateway delta (Err (refusals.Conflict client)) new made → ⊥
+field-no_conflict configs events answers field number i k gateway delta client new made h at there step =
+    let w = (field-whole configs events answers field h).0 in
+    let alike = λ (old new : Op) (is_old : Contains gateway.taken old) (is_new : Contains delta new) (named : HaveName old new).
+    held-alike field.gateways old new
+    (All-contains (IsHeld field.gateways) gateway.taken old (All-from_recursion (IsHeld field.gateways) gateway.taken (w.each.sets i gateway at.1)) is_old)
+    (All-contains (IsHeld field.gateways) delta new (All-from_recursion (IsHeld field.gateways) delta (all-at (λ (D : List Op). AllByRecursion (IsHeld field.gateways) D) field.deltas (k - 1) delta w.each.lists there.1)) is_new)
+    named in
+    step.0.differs (alike step.0.old step.0.new step.0.is_old step.0.is_new step.0.named)
+
+pub field-never : (configs : List Config) (events : List Event) (answers : List Answer) (field : Field) (client : List ℕ) → Run (new_field configs) events answers field → Contains answers (Node (Err (faults.Conflict client))) → ⊥
+field-never configs events answers field client h there =
+    All-contains IsPeaceful answers (Node (Err (faults.Conflict client))) (All-from_recursion IsPeaceful answers (field-whole configs events answers field h).1) there
+
+pub field-home : (configs : List Config) (events : List Event) (answers : List Answer) (field : Field) (op : Op) → Run (new_field configs) events answers field → Contains (everything field) op → IsHome field op
+field-home configs events answers field op h there = let w = (field-whole configs events answers field h).0 in at-home field w op (held field w op there)
+
+pub field-once : (configs : List Config) (events : List Event) (answers : List Answer) (field : Field) → Run (new_field configs) events answers field → AreMadeOnce field.deltas
+field-once configs events answers field h = let w = (field-whole configs events answers field h).0 in made-once field.deltas w.apart w.proper

@@ -1,0 +1,107 @@
+-- What stands in a gateway's set stands in the list of deltas; so gateways that have taken all of it have the same.
+use Rattle.std.proofs.Common.{◌≡◌, ℕ, ◌-◌, ◌⊎◌, ◌↔◌, List, [], ◌∷◌, ◌++◌, map, flat_map, slice_get, Some, Contains, Result, Ok, Err, sym, ap, ◌∙◌, subst, append-nil, inl, inr}
+use Rattle.std.specs.List.{AllByRecursion}
+use Rattle.std.proofs.lemmas.List.Concat.{flat_map-append}
+use Rattle.std.proofs.lemmas.List.Elements.{All-from_recursion, All-contains, Contains-append_left, Contains-append_right}
+use Rattle.rep_ops.specs.declared.op.Op.{Op}
+use Rattle.rep_ops.specs.Sets.{Same}
+use Rattle.rep_model.proofs.Joins.{all-moved, same-elements}
+use Rattle.rep_model.proofs.Named.{clients-thin}
+use Rattle.rep_model.proofs.Thin.{thin-same, view-thin}
+use Rattle.sn_flow.specs.declared.config.Config.{Config}
+use Rattle.gw_world.specs.declared.event.Event.{Event}
+use Rattle.gw_world.specs.declared.event.Event.TheVariants.{Frame, Tick, Take, Show}
+use Rattle.gw_world.specs.declared.event.Answer.{Answer}
+use Rattle.gw_world.specs.declared.event.Answer.TheVariants.{Node, Views}
+use Rattle.gw_node.specs.declared.out.Out.{Out}
+use Rattle.gw_node.specs.declared.refusal.Refusal.{Refusal}
+use Rattle.gw_node.specs.Parts.{said}
+use Rattle.gw_node.specs.Occasions.{Datagram, Clock}
+use Rattle.gw_world.specs.Gateways.{Gateway}
+use Rattle.gw_world.specs.Field.{Field, new_field, changed, After, Run, shown}
+use Rattle.gw_world.specs.Steps.{TakeStep}
+use Rattle.gw_world.specs.Whole.{listed, everything, HasTakenAll}
+use Rattle.gw_world.proofs.Consistency.{start-taken, field-whole, parts-consistent}
+use Rattle.gw_world.proofs.Each.{all-at, all-places, flat-all, AllOf, EachOf, each-weaken, each-grown}
+use Rattle.gw_world.proofs.Steadiness.{Still, Stepped, still, own-moves}
+
+abbrev IsListed : List (List Op) → Op → Type 0
+IsListed deltas op = Contains (flat_map (λ (delta : List Op). delta) deltas) op
+
+-- each operation of a gateway's set stands in a delta
+abbrev AreListed : Field → Type 0
+AreListed field = EachOf (IsListed field.deltas) field.gateways field.deltas
+
+before-made : (deltas made : List (List Op)) (op : Op) → IsListed deltas op → IsListed (deltas ++ made) op
+before-made deltas made op h = subst (λ T. Contains T op) (sym (flat_map-append (λ (delta : List Op). delta) deltas made))
+    (Contains-append_left (flat_map (λ (delta : List Op). delta) deltas) (flat_map (λ (delta : List Op). delta) made) op h)
+
+all-made : (deltas made : List (List Op)) → AllOf (IsListed (deltas ++ made)) made
+all-made deltas made = flat-all (IsListed (deltas ++ made)) (λ (delta : List Op). delta) made
+    (all-moved (IsListed (deltas ++ made)) (flat_map (λ (delta : List Op). delta) made) (λ op h.
+    subst (λ T. Contains T op) (sym (flat_map-append (λ (delta : List Op). delta) deltas made))
+    (Contains-append_right (flat_map (λ (delta : List Op). delta) deltas) (flat_map (λ (delta : List Op). delta) made) op h)))
+
+module _ (field : Field) (w : AreListed field) (i : ℕ) (old next : Gateway) (made : List (List Op)) (is : slice_get field.gateways i ≡ Some old) where
+  still-listed : EachOf (IsListed (field.deltas ++ made)) field.gateways field.deltas
+  still-listed = each-weaken (IsListed field.deltas) (IsListed (field.deltas ++ made)) (before-made field.deltas made) field.gateways field.deltas w
+
+  listed-more : (more : List Op) → next.taken ≡ old.taken ++ more → AllByRecursion (IsListed (field.deltas ++ made)) more → AreListed (changed field i next made)
+  listed-more more taken news = each-grown (IsListed (field.deltas ++ made)) field.gateways field.deltas i old next more made is taken news (all-made field.deltas made) still-listed
+
+  listed-moved : Still old next made ⊎ Stepped old next made → AreListed (changed field i next made)
+  listed-moved (inl u) = listed-more [] (u.taken ∙ sym (append-nil old.taken)) tt
+  listed-moved (inr u) = listed-more u.delta u.taken (subst (λ m. AllOf (IsListed (field.deltas ++ made)) m) u.one (all-made field.deltas made)).0
+
+  listed-taken : (k : ℕ) (delta : List Op) (answer : Result Out Refusal) → slice_get field.deltas k ≡ Some delta → TakeStep old delta answer next made → AreListed (changed field i next made)
+  listed-taken k delta (Err fault) there h = listed-moved (inl (still old next made h.1))
+  listed-taken k delta (Ok out) there h = listed-more delta (ap (λ (x : Gateway). x.taken) h.3) (all-at (λ (D : List Op). AllByRecursion (IsListed (field.deltas ++ made)) D) field.deltas k delta still-listed.lists there)
+
+after-listed : (old : Field) (event : Event) (answer : Answer) (new : Field) → After old event answer new → AreListed old → AreListed new
+after-listed old (Frame number from bytes now) (Node answer) new h w =
+    subst AreListed (sym h.6) (listed-moved old w h.0 h.1 h.2 h.3 h.4.1 (own-moves h.1 (Datagram from bytes) now (said answer) h.2 h.3 h.5))
+after-listed old (Tick number now) (Node answer) new h w =
+    subst AreListed (sym h.6) (listed-moved old w h.0 h.1 h.2 h.3 h.4.1 (own-moves h.1 Clock now (said answer) h.2 h.3 h.5))
+after-listed old (Take number delta) (Node answer) new h w =
+    subst AreListed (sym h.8) (listed-taken old w h.0 h.1 h.2 h.3 h.5.1 (delta - 1) h.4 (said answer) h.6.1 h.7)
+after-listed old (Show number) (Views views) new h w = subst AreListed (sym h.4) w
+after-listed old (Frame number from bytes now) (Views views) new h w = absurd h
+after-listed old (Tick number now) (Views views) new h w = absurd h
+after-listed old (Take number delta) (Views views) new h w = absurd h
+after-listed old (Show number) (Node answer) new h w = absurd h
+
+run-listed : (old : Field) (events : List Event) (answers : List Answer) (new : Field) → Run old events answers new → AreListed old → AreListed new
+run-listed old [] [] new h w = subst AreListed (sym h) w
+run-listed old (event ∷ events) (answer ∷ answers) new h w = run-listed h.0 events answers new h.2 (after-listed old event answer h.0 h.1 w)
+run-listed old [] (answer ∷ answers) new h w = absurd h
+run-listed old (event ∷ events) [] new h w = absurd h
+
+start-listed : (configs : List Config) → AreListed (new_field configs)
+start-listed configs = record {
+  sets = λ j gateway there. subst (λ T. AllByRecursion (IsListed []) T) (sym (start-taken configs j gateway there)) tt;
+  lists = tt;
+}
+
+pub field-listed : (configs : List Config) (events : List Event) (answers : List Answer) (field : Field) (gateway : Gateway) (op : Op) → Run (new_field configs) events answers field → Contains field.gateways gateway → Contains gateway.taken op → Contains (listed field) op
+field-listed configs events answers field gateway op h in_field there =
+    let w = run-listed (new_field configs) events answers field h (start-listed configs) in
+    let all = All-contains (λ (g : Gateway). AllByRecursion (IsListed field.deltas) g.taken) field.gateways gateway
+    (All-from_recursion (λ (g : Gateway). AllByRecursion (IsListed field.deltas) g.taken) field.gateways (all-places (λ (g : Gateway). AllByRecursion (IsListed field.deltas) g.taken) field.gateways w.sets)) in_field in
+    All-contains (IsListed field.deltas) gateway.taken op (All-from_recursion (IsListed field.deltas) gateway.taken all) there
+
+pub field-alike : (configs : List Config) (events : List Event) (answers : List Answer) (field : Field) (one other : Gateway) → Run (new_field configs) events answers field → Contains field.gateways one → Contains field.gateways other → ((op : Op) → Contains one.taken op ↔ Contains other.taken op) → Same one.taken other.taken
+field-alike configs events answers field one other h in_field too alike =
+    let whole = (field-whole configs events answers field h).0 in
+    let part : (op : Op) → Contains one.taken op → Contains (everything field) op = λ op there.
+    Contains-append_right (flat_map (λ (gateway : Gateway). gateway.taken) field.gateways) (listed field) op (field-listed configs events answers field one op h in_field there) in
+    same-elements one.taken other.taken (parts-consistent field whole one.taken part) (λ op. (alike op).0) (λ op. (alike op).1)
+
+pub field-settled : (configs : List Config) (events : List Event) (answers : List Answer) (field : Field) (one other : Gateway) → Run (new_field configs) events answers field → Contains field.gateways one → Contains field.gateways other → HasTakenAll field one → HasTakenAll field other → Same one.taken other.taken
+field-settled configs events answers field one other h in_field too all others =
+    field-alike configs events answers field one other h in_field too (λ op. (
+      λ there. others op (field-listed configs events answers field one op h in_field there),
+      λ there. all op (field-listed configs events answers field other op h too there),
+    ))
+
+pub shown-same : (A B : List Op) → Same A B → shown A ≡ shown B
+shown-same A B s = λ i. map (λ c. (c, view-thin A B (thin-same A B s) c i)) (clients-thin A B (thin-same A B s) i)

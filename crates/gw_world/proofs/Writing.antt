@@ -1,0 +1,77 @@
+-- What an event adds to a field is under the number of the gateway that it is at.
+use Rattle.std.proofs.Common.{◌≡◌, ℕ, ◌-◌, ◌⊎◌, List, [], ◌∷◌, ◌++◌, set, slice_get, Some, IfSome, Contains, Result, Ok, Err, sym, ap, ◌∙◌, subst, append-nil, inl, inr}
+use Rattle.std.specs.List.{AllByRecursion}
+use Rattle.std.proofs.lemmas.List.Elements.{All-from_recursion, All-contains}
+use Rattle.rep_ops.specs.declared.op.Op.{Op}
+use Rattle.rep_model.proofs.Joins.{all-moved}
+use Rattle.gw_world.specs.declared.event.Event.{Event}
+use Rattle.gw_world.specs.declared.event.Event.TheVariants.{Frame, Tick, Take, Show}
+use Rattle.gw_world.specs.declared.event.Answer.{Answer}
+use Rattle.gw_world.specs.declared.event.Answer.TheVariants.{Node, Views}
+use Rattle.gw_node.specs.declared.out.Out.{Out}
+use Rattle.gw_node.specs.declared.refusal.Refusal.{Refusal}
+use Rattle.gw_node.specs.Parts.{said}
+use Rattle.gw_node.specs.Occasions.{Datagram, Clock}
+use Rattle.gw_world.specs.Gateways.{Gateway}
+use Rattle.gw_world.specs.Field.{Field, IsAt, changed, After, gateway_of}
+use Rattle.gw_world.specs.Steps.{TakeStep}
+use Rattle.gw_world.specs.Whole.{everything, number_of}
+use Rattle.gw_world.proofs.Each.{all-at, EachOf, each-weaken, each-grown, each-all, all-each}
+use Rattle.gw_world.proofs.Numbers.{place_of-first, first-number}
+use Rattle.gw_world.proofs.Steadiness.{Still, Stepped, still, own-moves}
+use Rattle.gw_world.proofs.Whole.{own-number}
+
+-- it stood in the field before, or it is under the number
+abbrev pub IsBeforeOrOf : Field → ℕ → Op → Type 0
+IsBeforeOrOf field n op = Contains (everything field) op ⊎ IfSome (number_of op) (λ m. m ≡ n)
+
+module _ (field : Field) (n : ℕ) where
+  abbrev pub HasWritten : Field → Type 0
+  HasWritten new = EachOf (IsBeforeOrOf field n) new.gateways new.deltas
+
+  before : HasWritten field
+  before = each-weaken (Contains (everything field)) (IsBeforeOrOf field n) (λ op h. inl h) field.gateways field.deltas
+      (all-each (Contains (everything field)) field (all-moved (Contains (everything field)) (everything field) (λ op h. h)))
+
+  module _ (i : ℕ) (old next : Gateway) (made : List (List Op)) (at : IsAt field n i old) where
+    written-more : (more : List Op) → next.taken ≡ old.taken ++ more → made ≡ [] → AllByRecursion (IsBeforeOrOf field n) more → HasWritten (changed field i next made)
+    written-more more taken none news =
+        subst (λ m. EachOf (IsBeforeOrOf field n) (set field.gateways i next) (field.deltas ++ m)) (sym none)
+        (each-grown (IsBeforeOrOf field n) field.gateways field.deltas i old next more [] at.1 taken news tt before)
+
+    written-still : Still old next made → HasWritten (changed field i next made)
+    written-still u = written-more [] (u.taken ∙ sym (append-nil old.taken)) u.none tt
+
+    written-stepped : Stepped old next made → HasWritten (changed field i next made)
+    written-stepped u =
+        let number : old.config.gateway ≡ n = first-number n i field.gateways old (place_of-first n i field.gateways at.0) at.1 in
+        let news : AllByRecursion (IsBeforeOrOf field n) u.delta = all-moved (IsBeforeOrOf field n) u.delta (λ op h. inr (subst (λ k. IfSome (number_of op) (λ m. m ≡ k)) number (own-number old next made u op h))) in
+        subst (λ m. EachOf (IsBeforeOrOf field n) (set field.gateways i next) (field.deltas ++ m)) (sym u.one)
+        (each-grown (IsBeforeOrOf field n) field.gateways field.deltas i old next u.delta (u.delta ∷ []) at.1 u.taken news (news, tt) before)
+
+    written-moved : Still old next made ⊎ Stepped old next made → HasWritten (changed field i next made)
+    written-moved (inl u) = written-still u
+    written-moved (inr u) = written-stepped u
+
+    written-taken : (k : ℕ) (delta : List Op) (answer : Result Out Refusal) → slice_get field.deltas k ≡ Some delta → TakeStep old delta answer next made → HasWritten (changed field i next made)
+    written-taken k delta (Err fault) there h = written-still (still old next made h.1)
+    written-taken k delta (Ok out) there h =
+        written-more delta (ap (λ (x : Gateway). x.taken) h.3) h.2 (all-at (λ (D : List Op). AllByRecursion (IsBeforeOrOf field n) D) field.deltas k delta before.lists there)
+
+after-written : (old new : Field) (event : Event) (answer : Answer) → After old event answer new → HasWritten old (gateway_of event) new
+after-written old new (Frame number from bytes now) (Node answer) h =
+    subst (HasWritten old number) (sym h.6) (written-moved old number h.0 h.1 h.2 h.3 h.4 (own-moves h.1 (Datagram from bytes) now (said answer) h.2 h.3 h.5))
+after-written old new (Tick number now) (Node answer) h =
+    subst (HasWritten old number) (sym h.6) (written-moved old number h.0 h.1 h.2 h.3 h.4 (own-moves h.1 Clock now (said answer) h.2 h.3 h.5))
+after-written old new (Take number delta) (Node answer) h =
+    subst (HasWritten old number) (sym h.8) (written-taken old number h.0 h.1 h.2 h.3 h.5 (delta - 1) h.4 (said answer) h.6.1 h.7)
+after-written old new (Show number) (Views views) h = subst (HasWritten old number) (sym h.4) (before old number)
+after-written old new (Frame number from bytes now) (Views views) h = absurd h
+after-written old new (Tick number now) (Views views) h = absurd h
+after-written old new (Take number delta) (Views views) h = absurd h
+after-written old new (Show number) (Node answer) h = absurd h
+
+pub after-writes : (old new : Field) (event : Event) (answer : Answer) (op : Op) → After old event answer new → Contains (everything new) op → Contains (everything old) op ⊎ IfSome (number_of op) (λ number. number ≡ gateway_of event)
+after-writes old new event answer op h there =
+    All-contains (IsBeforeOrOf old (gateway_of event)) (everything new) op
+    (All-from_recursion (IsBeforeOrOf old (gateway_of event)) (everything new) (each-all (IsBeforeOrOf old (gateway_of event)) new (after-written old new event answer h))) there

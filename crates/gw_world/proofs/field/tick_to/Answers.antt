@@ -1,0 +1,13 @@
+-- It goes on as the definition says.
+use Rattle.gw_node.specs.Occasions.{Clock}
+use Rattle.gw_node.specs.Parts.{state_of, said}
+use Rattle.gw_world.specs.Plans.{OwnKept}
+use Rattle.gw_world.specs.Calm.{StaysCalm}
+use Rattle.gw_world.proofs.Calmness.{own_calm, if_fed}
+use Rattle.gw_world.proofs.field.tick_to.Goals as goal
+
+pub returns-clause-ok : goal.returns-clause-ok
+returns-clause-ok g c =
+    if_fed c.unless_starved.result said (said c.tick-answer.result) (λ answer. StaysCalm (λ config kept local next after. OwnKept config kept local Clock c.args.now answer next after) (state_of g.R.Replica.kept c.args.node.now) (state_of g.R.Replica.kept c.tick-answer.new.self))
+    c.unless_starved.ensures.same c.unless_starved.ensures.memory c.unless_starved.ensures.fed
+    (λ memory fed. own_calm (state_of g.R.Replica.kept c.args.node.now) (state_of g.R.Replica.kept c.tick-answer.new.self) Clock c.args.now (said c.tick-answer.result) tt c.requires fed memory c.tick-answer.ensures.call)

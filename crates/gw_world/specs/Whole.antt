@@ -1,0 +1,41 @@
+-- A whole field: the sets of all its gateways, and all deltas of its list.
+use Rattle.std.specs.Prelude.{◌≡◌, ℕ, List, ◌++◌, flat_map, Option, Some, None, IfSome, slice_get, Contains}
+use Rattle.rep_ops.specs.declared.op.Op.{Op}
+use Rattle.rep_ops.specs.declared.op.Op.TheVariants.{Session as OfSession, Put as OfPut, Ack}
+use Rattle.rep_ops.specs.Sets.{Stands}
+use Rattle.gw_world.specs.Gateways.{Gateway}
+use Rattle.gw_world.specs.Field.{Field, IsAt}
+use Rattle.gw_world.specs.Steps.{HaveName}
+
+-- all operations of the deltas of the field's list
+abbrev pub listed : Field → List Op
+listed field = flat_map (λ (delta : List Op). delta) field.deltas
+
+-- all operations of the field: what its gateways have taken, and what the deltas of its list hold
+abbrev pub everything : Field → List Op
+everything field = flat_map (λ (gateway : Gateway). gateway.taken) field.gateways ++ listed field
+
+-- the number of the gateway in the operation's name: that of the stamp, or the origin of the message; acknowledgements contradict
+-- nothing, and for them it does not matter who writes them
+abbrev pub number_of : Op → Option ℕ
+number_of (OfSession c stamp counter change) = Some stamp.gateway
+number_of (OfPut c put) = Some put.origin
+number_of (Ack c origin first last) = None
+
+-- the operation stands in the set of the gateway of this number
+abbrev pub StandsAt : Field → Op → ℕ → Type 0
+StandsAt field op number = (i : ℕ) × (gateway : Gateway) × IsAt field number i gateway × Stands gateway.taken op
+
+-- a session operation or message stands in the set of the gateway whose number is in its name
+abbrev pub IsHome : Field → Op → Type 0
+IsHome field op = IfSome (number_of op) (λ number. StandsAt field op number)
+
+-- the name of a session operation or message stands in one place of one delta
+abbrev pub AreMadeOnce : List (List Op) → Type 0
+AreMadeOnce deltas =
+    (i j k l : ℕ) (one other : List Op) (a b : Op) → slice_get deltas i ≡ Some one → slice_get deltas j ≡ Some other
+    → slice_get one k ≡ Some a → slice_get other l ≡ Some b → HaveName a b → (i ≡ j) × (k ≡ l)
+
+-- every delta of the list has reached the gateway: it has taken each of their operations
+abbrev pub HasTakenAll : Field → Gateway → Type 0
+HasTakenAll field gateway = (op : Op) → Contains (listed field) op → Contains gateway.taken op
