@@ -247,7 +247,8 @@ pub fn run<R: Replica>(
     events: &[Event],
 ) -> Result<World<Node<R, MemoryDisk>>, WorldFault>
     ensures ok { IfOk result (λ world. IsWorld (λ node. keeping R.kept node) configs.now events.now world.answers world.deltas world.gateways) }
-    // At the end no node is halted, none was refused memory, and no failure is arranged on a disk.
+    // At the end no node is halted, none was refused memory, no failure is arranged on a disk; and whatever a crash leaves of a disk
+    // now is a journal whose records the node's replica counts as.
     ensures calm { IfOk result (λ world. AllByRecursion (λ node. IsCalm (state_of R.kept node)) world.gateways) }
     ensures err { IfErr result (IsStop configs.now events.now) }
 {
