@@ -5,7 +5,7 @@ set -eu
 top=$(cd "$(dirname "$0")/.." && pwd)
 work=$(mktemp -d)
 trap 'rm -rf "$work"' EXIT
-echo "Proving and building gw_sim; the first time takes some minutes." >&2
+echo "Proving and building gw_sim; the first time takes about half an hour." >&2
 (cd "$top/crates/gw_sim" && rt run <stdin >"$work/built" 2>"$work/told") || true
 program=$top/crates/gw_sim/out/gw_sim
 if ! cmp -s "$work/built" "$top/crates/gw_sim/stdout"; then
