@@ -1,2 +1,4 @@
 pub mod Covered
 pub mod Completing
+pub mod Entries
+pub mod Format

@@ -1,2 +1,5 @@
 pub mod Digests
 pub mod Answers
+pub mod WellMade
+pub mod Spelling
+pub mod Reading

@@ -14,4 +14,4 @@ mod entry;
 mod laws;
 
 pub use entry::{ClientEntry, OriginEntry};
-pub use laws::{answer_completes, digest_laws};
+pub use laws::{answer_completes, digest_laws, one_reading};
