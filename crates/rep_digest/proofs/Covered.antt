@@ -1,7 +1,7 @@
 -- What the digest of a set covers, the set has.
-use Rattle.std.proofs.Common.{◌≡◌, ℕ, zero, suc, ◌+◌, ◌<◌, ◌≤◌, ◌==◌, Bool, true, false, cond, not, ◌&&◌, ◌||◌, if◌then◌else◌, List, [], ◌∷◌, map, filter, length, Option, Some, None, is_some, IfSome, refl, sym, ap, ◌∙◌, true≢false, arith, eqb-true, le_antisymm, is_eq, Ordering, Less, Equal, Greater}
+use Rattle.std.proofs.Common.{◌≡◌, ℕ, zero, suc, ◌+◌, ◌<◌, ◌≤◌, ◌==◌, Bool, true, false, cond, not, ◌&&◌, ◌||◌, if◌then◌else◌, List, [], ◌∷◌, map, filter, length, Option, Some, None, is_some, IfSome, refl, sym, ap, subst, ◌∙◌, true≢false, arith, eqb-true, le_antisymm, is_eq, Ordering, Less, Equal, Greater}
 use Rattle.std.specs.Prelude.{nat_lt}
-use Rattle.std.specs.List.{list_any, filter_map, cons_option}
+use Rattle.std.specs.List.{find as find_first, filter_map, cons_option}
 use Rattle.std.specs.Ordering.{eq_by_cmp}
 use Rattle.std.specs.FinMap.{find}
 use Rattle.std.proofs.lemmas.Bool.{and_parts, ltb-true}
@@ -12,7 +12,7 @@ use Rattle.rep_ops.specs.declared.op.Put.{Put}
 use Rattle.rep_ops.specs.declared.op.Op.{Op}
 use Rattle.rep_ops.specs.Orders.{stamp_cmp, put_cmp}
 use Rattle.rep_ops.specs.Sets.{same_client, operation_at, put_at, is_acknowledged}
-use Rattle.rep_model.specs.Views.{gapless, then_more, visible, history_at, history, pending}
+use Rattle.rep_model.specs.Views.{gapless, then_more, visible, history_at, history, pending, clients}
 use Rattle.rep_model.specs.Keep.{is_below}
 use Rattle.rep_model.specs.Limits.{is_in_prefix, acknowledged}
 use Rattle.rep_model.specs.Ranges.{is_within, in_ranges}
@@ -24,7 +24,7 @@ use Rattle.rep_model.proofs.Limits.{in-acknowledged}
 use Rattle.rep_digest.specs.declared.entry.OriginEntry.{OriginEntry}
 use Rattle.rep_digest.specs.declared.entry.ClientEntry.{ClientEntry}
 use Rattle.rep_digest.specs.Digests.{number_of, waiting, origin_entry, has_ranges, numbers_from, origin_entries, client_entry, digest}
-use Rattle.rep_digest.specs.Answers.{says, says_of, covers_operation, covers_put, covers_acknowledgement}
+use Rattle.rep_digest.specs.Answers.{entry_of, ranges_of, ranges_in, acknowledged_in, waiting_in, sees, covers_operation, covers_put, covers_acknowledgement}
 
 -- one of the two holds
 pub by_or : {P : Type 0} (x y : Bool) → (x || y) ≡ true → (x ≡ true → P) → (y ≡ true → P) → P
@@ -33,28 +33,33 @@ by_or false y e f g = g e
 
 -- ---- what an entry says, the set says
 
-said : (test : ClientEntry → Bool) (T : List Op) (cs : List (List ℕ)) (c : List ℕ) → says test (map (client_entry T) cs) c ≡ true → test (client_entry T c) ≡ true
-said test T [] c e = absurd (true≢false (sym e))
-said test T (d ∷ cs) c e =
-    by_or (same_client c d && test (client_entry T d)) (says test (map (client_entry T) cs) c) e
-    (λ is. let w = and_parts (same_client c d) (test (client_entry T d)) is in ap (λ x. test (client_entry T x)) (same_client-true c d w.0) ∙ w.1)
-    (λ rest. said test T cs c rest)
+-- the entry of a client in the digest of a set is what the set says of it
+said : (P : Option ClientEntry → Type 0) (T : List Op) (cs : List (List ℕ)) (c : List ℕ) → P None → P (Some (client_entry T c)) → P (entry_of c (map (client_entry T) cs))
+said P T [] c none some = none
+said P T (d ∷ cs) c none some =
+    elim (same_client c d) as (λ b. same_client c d ≡ b → P (cond b (Some (client_entry T d)) (entry_of c (map (client_entry T) cs)))) [
+      | true ↦ λ is. subst (λ x. P (Some (client_entry T x))) (same_client-true c d is) some
+      | false ↦ λ _. said P T cs c none some
+    ] refl
 
-said_of : (test : OriginEntry → Bool) (c : List ℕ) (T : List Op) (os : List ℕ) (origin : ℕ) → list_any (λ o. (origin == o.origin) && test o) (filter has_ranges (map (origin_entry c T) os)) ≡ true
-    → test (origin_entry c T origin) ≡ true
-said_of test c T [] origin e = absurd (true≢false (sym e))
-said_of test c T (o ∷ os) origin e =
+said_of : (ranges : OriginEntry → List (ℕ × ℕ)) (n : ℕ) (c : List ℕ) (T : List Op) (os : List ℕ) (origin : ℕ)
+    → in_ranges n (ranges_of ranges (find_first (λ o. origin == o.origin) (filter has_ranges (map (origin_entry c T) os)))) ≡ true → in_ranges n (ranges (origin_entry c T origin)) ≡ true
+said_of ranges n c T [] origin e = absurd (true≢false (sym e))
+said_of ranges n c T (o ∷ os) origin e =
     let rest = filter has_ranges (map (origin_entry c T) os) in
-    elim (has_ranges (origin_entry c T o)) as (λ b. list_any (λ o. (origin == o.origin) && test o) (cond b (origin_entry c T o ∷ rest) rest) ≡ true → test (origin_entry c T origin) ≡ true) [
-      | true ↦ λ h. by_or ((origin == o) && test (origin_entry c T o)) (list_any (λ o. (origin == o.origin) && test o) rest) h
-          (λ is. let w = and_parts (origin == o) (test (origin_entry c T o)) is in ap (λ x. test (origin_entry c T x)) (eqb-true origin o w.0) ∙ w.1)
-          (λ more. said_of test c T os origin more)
-      | false ↦ λ h. said_of test c T os origin h
+    elim (has_ranges (origin_entry c T o)) as (λ b. in_ranges n (ranges_of ranges (find_first (λ o. origin == o.origin) (cond b (origin_entry c T o ∷ rest) rest))) ≡ true → in_ranges n (ranges (origin_entry c T origin)) ≡ true) [
+      | true ↦ λ h. elim (origin == o) as (λ b. (origin == o) ≡ b → in_ranges n (ranges_of ranges (cond b (Some (origin_entry c T o)) (find_first (λ o. origin == o.origin) rest))) ≡ true → in_ranges n (ranges (origin_entry c T origin)) ≡ true) [
+        | true ↦ λ is k. ap (λ x. in_ranges n (ranges (origin_entry c T x))) (eqb-true origin o is) ∙ k
+        | false ↦ λ _ k. said_of ranges n c T os origin k
+      ] refl h
+      | false ↦ λ h. said_of ranges n c T os origin h
     ] e
 
-said_of_origin : (test : OriginEntry → Bool) (c : List ℕ) (T : List Op) (origin : ℕ) → says_of test origin (client_entry T c) ≡ true → test (origin_entry c T origin) ≡ true
+said_ranges : (ranges : OriginEntry → List (ℕ × ℕ)) (n : ℕ) (c : List ℕ) (T : List Op) (origin : ℕ) → in_ranges n (ranges_in ranges origin (entry_of c (digest T))) ≡ true → in_ranges n (ranges (origin_entry c T origin)) ≡ true
 unfolding origin_entries
-said_of_origin test c T origin e = said_of test c T (numbers_from 1 255) origin e
+said_ranges ranges n c T origin =
+    said (λ e. in_ranges n (ranges_in ranges origin e) ≡ true → in_ranges n (ranges (origin_entry c T origin)) ≡ true) T (clients T) c
+    (λ e. absurd (true≢false (sym e))) (said_of ranges n c T (numbers_from 1 255) origin)
 
 -- ---- operations without a gap are there
 
@@ -119,19 +124,15 @@ module _ (c : List ℕ) (T : List Op) where
   pub covered_operation : (name : Stamp × ℕ) → covers_operation (digest T) c name ≡ true → is_below name.0 (visible c T) ≡ false → is_some (operation_at c T name) ≡ true
   covered_operation name e above =
       by_or (is_below name.0 (visible c T)) (is_in_prefix (visible c T) (length (history c T)) name)
-      (said (λ entry. is_below name.0 entry.stamp || is_in_prefix entry.stamp entry.prefix name) T _ c e)
+      (said (λ entry. sees entry name ≡ true → (is_below name.0 (visible c T) || is_in_prefix (visible c T) (length (history c T)) name) ≡ true) T (clients T) c (λ none. absurd (true≢false (sym none))) (λ s. s) e)
       (λ below. absurd (true≢false (sym below ∙ above)))
       (in_prefix_there c T name)
 
   pub covered_put : (name : ℕ × ℕ) → covers_put (digest T) c name ≡ true → is_acknowledged c T name ≡ false → is_some (put_at c T name) ≡ true
   covered_put name e unfinished =
-      let test : OriginEntry → Bool = λ o. in_ranges name.0 o.waiting || in_ranges name.0 o.acknowledged in
-      by_or (in_ranges name.0 (waiting c name.1 T)) (in_ranges name.0 (acknowledged c name.1 T))
-      (said_of_origin test c T name.1 (said (says_of test name.1) T _ c e))
-      (waiting_there c name.1 name.0 T)
-      (λ done. absurd (true≢false (sym done ∙ in-acknowledged c name.1 name.0 T ∙ unfinished)))
+      by_or (in_ranges name.0 (waiting_in name.1 (entry_of c (digest T)))) (in_ranges name.0 (acknowledged_in name.1 (entry_of c (digest T)))) e
+      (λ waits. waiting_there c name.1 name.0 T (said_ranges (λ o. o.waiting) name.0 c T name.1 waits))
+      (λ done. absurd (true≢false (sym (said_ranges (λ o. o.acknowledged) name.0 c T name.1 done) ∙ in-acknowledged c name.1 name.0 T ∙ unfinished)))
 
   pub covered_acknowledgement : (name : ℕ × ℕ) → covers_acknowledgement (digest T) c name ≡ true → is_acknowledged c T name ≡ true
-  covered_acknowledgement name e =
-      let test : OriginEntry → Bool = λ o. in_ranges name.0 o.acknowledged in
-      sym (in-acknowledged c name.1 name.0 T) ∙ said_of_origin test c T name.1 (said (says_of test name.1) T _ c e)
+  covered_acknowledgement name e = sym (in-acknowledged c name.1 name.0 T) ∙ said_ranges (λ o. o.acknowledged) name.0 c T name.1 e

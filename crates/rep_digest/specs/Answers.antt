@@ -1,6 +1,6 @@
 -- The answer to a digest: what must be kept and what the digest does not cover.
-use Rattle.std.specs.Prelude.{◌≡◌, ℕ, ◌==◌, Bool, not, ◌&&◌, ◌||◌, if◌then◌else◌, List, None}
-use Rattle.std.specs.List.{list_any}
+use Rattle.std.specs.Prelude.{◌≡◌, ℕ, ◌==◌, Bool, false, not, ◌&&◌, ◌||◌, if◌then◌else◌, List, [], Option, Some, None}
+use Rattle.std.specs.List.{find}
 use Rattle.rep_ops.specs.declared.op.Stamp.{Stamp}
 use Rattle.rep_ops.specs.declared.op.Op.{Op}
 use Rattle.rep_ops.specs.Sets.{same_client, operation_at, put_at, is_acknowledged}
@@ -11,25 +11,42 @@ use Rattle.rep_model.specs.Ranges.{in_ranges}
 use Rattle.rep_digest.specs.declared.entry.OriginEntry.{OriginEntry}
 use Rattle.rep_digest.specs.declared.entry.ClientEntry.{ClientEntry}
 
--- whether an entry of the client says so
-abbrev pub says : (ClientEntry → Bool) → List ClientEntry → List ℕ → Bool
-says test digest c = list_any (λ entry. same_client c entry.client && test entry) digest
+-- the entry of a client, if there is one
+abbrev pub entry_of : List ℕ → List ClientEntry → Option ClientEntry
+entry_of c digest = find (λ entry. same_client c entry.client) digest
 
--- whether the entry says so of the origin
-abbrev pub says_of : (OriginEntry → Bool) → ℕ → ClientEntry → Bool
-says_of test origin entry = list_any (λ o. (origin == o.origin) && test o) entry.origins
+-- the ranges of an origin's entry, or none
+abbrev pub ranges_of : (OriginEntry → List (ℕ × ℕ)) → Option OriginEntry → List (ℕ × ℕ)
+ranges_of ranges None = []
+ranges_of ranges (Some o) = ranges o
 
--- session operations are covered below the client's stamp, and at it without a gap from 0 on
+-- the ranges that an entry of a client has of an origin, or none
+abbrev pub ranges_in : (OriginEntry → List (ℕ × ℕ)) → ℕ → Option ClientEntry → List (ℕ × ℕ)
+ranges_in ranges origin None = []
+ranges_in ranges origin (Some entry) = ranges_of ranges (find (λ o. origin == o.origin) entry.origins)
+
+abbrev pub acknowledged_in : ℕ → Option ClientEntry → List (ℕ × ℕ)
+acknowledged_in origin entry = ranges_in (λ o. o.acknowledged) origin entry
+
+abbrev pub waiting_in : ℕ → Option ClientEntry → List (ℕ × ℕ)
+waiting_in origin entry = ranges_in (λ o. o.waiting) origin entry
+
+-- a session operation is seen below the stamp, and at it without a gap from 0 on
+abbrev pub sees : Option ClientEntry → Stamp × ℕ → Bool
+sees None name = false
+sees (Some entry) name = is_below name.0 entry.stamp || is_in_prefix entry.stamp entry.prefix name
+
+-- what a digest covers: session operations that it sees
 abbrev pub covers_operation : List ClientEntry → List ℕ → Stamp × ℕ → Bool
-covers_operation digest c name = says (λ entry. is_below name.0 entry.stamp || is_in_prefix entry.stamp entry.prefix name) digest c
+covers_operation digest c name = sees (entry_of c digest) name
 
--- messages are covered that wait or are acknowledged
+-- messages that wait or are acknowledged
 abbrev pub covers_put : List ClientEntry → List ℕ → ℕ × ℕ → Bool
-covers_put digest c name = says (says_of (λ o. in_ranges name.0 o.waiting || in_ranges name.0 o.acknowledged) name.1) digest c
+covers_put digest c name = in_ranges name.0 (waiting_in name.1 (entry_of c digest)) || in_ranges name.0 (acknowledged_in name.1 (entry_of c digest))
 
--- acknowledgements are covered that the digest has
+-- acknowledgements that it has
 abbrev pub covers_acknowledgement : List ClientEntry → List ℕ → ℕ × ℕ → Bool
-covers_acknowledgement digest c name = says (says_of (λ o. in_ranges name.0 o.acknowledged) name.1) digest c
+covers_acknowledgement digest c name = in_ranges name.0 (acknowledged_in name.1 (entry_of c digest))
 
 -- X is the set S without what the digest covers
 pub record IsRest (digest : List ClientEntry) (S X : List Op) : Type 0 where
