@@ -16,20 +16,28 @@ use Rattle.rep_digest.specs.declared.entry.ClientEntry.{ClientEntry}
 use Rattle.rep_digest.specs.Digests.{has_ranges}
 use Rattle.rep_digest.specs.WellMade.{IsRange, IsOrigin, OriginsAscend, IsEntry, ClientsAscend, IsDigest}
 use Rattle.rep_digest.specs.Spelling.{ranges_octets, range_octets, origin_octets, seen_octets, origins_octets, entry_octets, spelling, IsWithinLimit}
-use Rattle.rep_digest.specs.Reading.{entry_at, are_apart_from, are_apart, origins_ascend, is_ordered, is_next, may_follow, reading}
+use Rattle.rep_digest.specs.Reading.{entry_at, ranges_apart, are_apart, origins_ascend, is_ordered, is_next, may_follow, reading}
 use Rattle.rep_digest.proofs.Entries.{FitsRanges, FitsOrigin, FitsOrigins, FitsEntry, entry_law}
 
 -- ---- the order
 
-apart_from : (start : ℕ) (rs : List (ℕ × ℕ)) → AllByRecursion IsRange rs → are_apart_from start rs ≡ true → AreApartFrom start rs
-apart_from start [] h e = tt
-apart_from start (r ∷ rest) h e =
-    let w = and_parts (nat_le start r.0) (are_apart_from (r.1 + 2) rest) e in
-    (leb-true start r.0 w.0, h.0.last, apart_from (r.1 + 2) rest h.1 w.1)
+apart_behind : (r : ℕ × ℕ) (rest : List (ℕ × ℕ)) → AllByRecursion IsRange rest → ranges_apart (r ∷ rest) ≡ true → AreApartFrom (r.1 + 2) rest
+apart_behind r [] h e = tt
+apart_behind r (s ∷ rest) h e =
+    let w = and_parts (nat_lt (r.1 + 1) s.0) (ranges_apart (s ∷ rest)) e in
+    let far = ltb-true (r.1 + 1) s.0 w.0 in
+    (omega (arith, far), h.0.last, apart_behind s rest h.1 w.1)
 
-from_apart : (start : ℕ) (rs : List (ℕ × ℕ)) → AreApartFrom start rs → are_apart_from start rs ≡ true
+apart_from : (rs : List (ℕ × ℕ)) → AllByRecursion IsRange rs → ranges_apart rs ≡ true → AreApart rs
+apart_from [] h e = tt
+apart_from (r ∷ rest) h e = (omega arith, h.0.last, apart_behind r rest h.1 e)
+
+from_apart : (start : ℕ) (rs : List (ℕ × ℕ)) → AreApartFrom start rs → ranges_apart rs ≡ true
 from_apart start [] h = refl
-from_apart start (r ∷ rest) h = and_from (nat_le start r.0) (are_apart_from (r.1 + 2) rest) (le-leb start r.0 h.0) (from_apart (r.1 + 2) rest h.2)
+from_apart start (r ∷ []) h = refl
+from_apart start (r ∷ s ∷ rest) h =
+    let far = h.2.0 in
+    and_from (nat_lt (r.1 + 1) s.0) (ranges_apart (s ∷ rest)) (lt-ltb (r.1 + 1) s.0 (omega (arith, far))) (from_apart (r.1 + 2) (s ∷ rest) h.2)
 
 ascend_from : (os : List OriginEntry) → origins_ascend os ≡ true → OriginsAscend os
 ascend_from [] e = tt
@@ -40,6 +48,17 @@ from_ascend : (os : List OriginEntry) → OriginsAscend os → origins_ascend os
 from_ascend [] h = refl
 from_ascend (a ∷ []) h = refl
 from_ascend (a ∷ b ∷ rest) h = and_from (nat_lt a.origin b.origin) (origins_ascend (b ∷ rest)) (lt-ltb a.origin b.origin h.0) (from_ascend (b ∷ rest) h.1)
+
+-- fewer than two are in order
+pub short_ranges_apart : (rs : List (ℕ × ℕ)) → length rs < 2 → ranges_apart rs ≡ true
+short_ranges_apart [] lt = refl
+short_ranges_apart (r ∷ []) lt = refl
+short_ranges_apart (r ∷ s ∷ rest) lt = absurd (omega (arith, lt))
+
+pub short_origins_ascend : (os : List OriginEntry) → length os < 2 → origins_ascend os ≡ true
+short_origins_ascend [] lt = refl
+short_origins_ascend (a ∷ []) lt = refl
+short_origins_ascend (a ∷ b ∷ rest) lt = absurd (omega (arith, lt))
 
 -- entries that are in order, and clients that ascend
 abbrev Up : List ClientEntry → Type 0
@@ -73,13 +92,13 @@ order = record {
 
 an_origin : (o : OriginEntry) → FitsOrigin o → are_apart o ≡ true → IsOrigin o
 an_origin o h e =
-    let w = and_parts (are_apart_from 0 o.acknowledged) (are_apart_from 0 o.waiting) e in
+    let w = and_parts (ranges_apart o.acknowledged) (ranges_apart o.waiting) e in
     record {
       number = leb-true 1 o.origin h.0.0.1;
       octet = h.0.0.0;
       some = h.1;
-      acknowledged = (h.0.1.0.1, apart_from 0 o.acknowledged h.0.1.0.1 w.0);
-      waiting = (h.0.1.1.1, apart_from 0 o.waiting h.0.1.1.1 w.1);
+      acknowledged = (h.0.1.0.1, apart_from o.acknowledged h.0.1.0.1 w.0);
+      waiting = (h.0.1.1.1, apart_from o.waiting h.0.1.1.1 w.1);
     }
 
 some_origins : (os : List OriginEntry) → AllByRecursion FitsOrigin os → list_all are_apart os ≡ true → AllByRecursion IsOrigin os
@@ -169,7 +188,7 @@ fits_entry e n size le h =
 all_apart : (os : List OriginEntry) → AllByRecursion IsOrigin os → list_all are_apart os ≡ true
 all_apart [] h = refl
 all_apart (o ∷ os) h = and_from (are_apart o) (list_all are_apart os)
-    (and_from (are_apart_from 0 o.acknowledged) (are_apart_from 0 o.waiting) (from_apart 0 o.acknowledged h.0.acknowledged.1) (from_apart 0 o.waiting h.0.waiting.1)) (all_apart os h.1)
+    (and_from (ranges_apart o.acknowledged) (ranges_apart o.waiting) (from_apart 0 o.acknowledged h.0.acknowledged.1) (from_apart 0 o.waiting h.0.waiting.1)) (all_apart os h.1)
 
 ordered : (e : ClientEntry) → IsEntry e → is_ordered e ≡ true
 ordered e h = and_from (list_all are_apart e.origins) (origins_ascend e.origins) (all_apart e.origins h.origins) (from_ascend e.origins h.ascend)

@@ -45,13 +45,14 @@ entry_at = made entry_of (both client_at (both seen_at origins_at))
 
 -- ---- the order, looked at when an entry is whole
 
--- the test of `AreApartFrom`
-abbrev pub are_apart_from : ℕ → List (ℕ × ℕ) → Bool
-are_apart_from start [] = true
-are_apart_from start (r ∷ rest) = nat_le start r.0 && are_apart_from (r.1 + 2) rest
+-- each range leaves out a number after the one before it
+abbrev pub ranges_apart : List (ℕ × ℕ) → Bool
+ranges_apart [] = true
+ranges_apart (r ∷ []) = true
+ranges_apart (r ∷ s ∷ rest) = nat_lt (r.1 + 1) s.0 && ranges_apart (s ∷ rest)
 
 abbrev pub are_apart : OriginEntry → Bool
-are_apart o = are_apart_from 0 o.acknowledged && are_apart_from 0 o.waiting
+are_apart o = ranges_apart o.acknowledged && ranges_apart o.waiting
 
 -- the test of `OriginsAscend`
 abbrev pub origins_ascend : List OriginEntry → Bool

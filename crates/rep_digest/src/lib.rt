@@ -5,13 +5,20 @@
 //! what it would keep had it taken all that the peer has (`answer_completes`).
 //!
 //! - `entry`: what a digest says of a client, and of one origin's messages for it.
-//! - `laws`: that an answer completes.
+//! - `digest`: a digest (`Digest`), written as octets and read again.
+//! - `write`, `size`, `read`: the format, one function for each type of it.
+//! - `laws`: that an answer completes; that a digest is read off its spelling.
 //!
-//! The definitions are in `specs/`: `Digests` (the digest of a set), `Answers` (what a digest covers, and what is left).
+//! The definitions are in `specs/`: `Digests` (the digest of a set), `Answers` (what a digest covers, and what is
+//! left), `WellMade` (which entries make a digest), `Spelling` (its octets), `Reading` (what octets say, up to the
+//! first fault).
 #![tactic(auto)]
 
+mod digest;
 mod entry;
 mod laws;
+mod read;
 
+pub use digest::Digest;
 pub use entry::{ClientEntry, OriginEntry};
 pub use laws::{answer_completes, digest_laws, one_reading};

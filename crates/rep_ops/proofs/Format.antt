@@ -18,7 +18,7 @@ use Rattle.rep_ops.specs.Deltas.{IsDelta, IsAscending, IsBefore, IsApart}
 use Rattle.rep_ops.specs.Formats.{IsSpelled}
 use Rattle.rep_ops.specs.Making.{AreWellMade}
 use Rattle.rep_ops.specs.Orders.{name_cmp}
-use Rattle.rep_ops.specs.Reading.{AreOctets, Fails, op_at, is_apart, is_next, may_follow, reading}
+use Rattle.rep_ops.specs.Reading.{AreOctets, op_at, is_apart, is_next, may_follow, reading}
 use Rattle.rep_ops.specs.Sets.{same_client}
 use Rattle.rep_ops.specs.Spelling.{op_octets, spelling, max_octets}
 use Rattle.rep_ops.specs.Values.{AreValues}
@@ -113,17 +113,6 @@ cut_off = text_cut op_at op_octets FitsOp op_law may_follow IsAscending ascendin
 
 pub more_behind : (d : List Op) (rest : List ℕ) → FitsFront d → length (spelling d ++ rest) ≤ max_octets → rest ≢ [] → reading (spelling d ++ rest) ≡ Err faults.Trailing
 more_behind = text_behind op_at op_octets FitsOp op_law may_follow IsAscending ascending_order
-
--- what a call that did not read a spelling answered: that memory ran out
-pub only_memory : (fault : OpsFault) (d : List Op) (r : Result (List Op) OpsFault) → r ≡ Ok d → Fails fault r → fault ≡ faults.Memory
-only_memory faults.Twice d r e h = absurd (let wrong : Ok d ≡ Err faults.Twice = sym e ∙ h in cc)
-only_memory faults.Limit d r e h = absurd (let wrong : Ok d ≡ Err faults.Limit = sym e ∙ h in cc)
-only_memory faults.Memory d r e h = refl
-only_memory faults.Truncated d r e h = absurd (let wrong : Ok d ≡ Err faults.Truncated = sym e ∙ h in cc)
-only_memory faults.Version d r e h = absurd (let wrong : Ok d ≡ Err faults.Version = sym e ∙ h in cc)
-only_memory faults.Kind d r e h = absurd (let wrong : Ok d ≡ Err faults.Kind = sym e ∙ h in cc)
-only_memory faults.Order d r e h = absurd (let wrong : Ok d ≡ Err faults.Order = sym e ∙ h in cc)
-only_memory faults.Trailing d r e h = absurd (let wrong : Ok d ≡ Err faults.Trailing = sym e ∙ h in cc)
 
 -- the reading of octets that spell a delta
 pub spelled_again : (bytes : List ℕ) (d : List Op) → AreValues d → IsSpelled bytes d → reading bytes ≡ Ok d

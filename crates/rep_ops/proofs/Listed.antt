@@ -8,7 +8,7 @@ use Rattle.std.proofs.lemmas.List.{append-nil, nil_from_length, length-append}
 use Rattle.byteorder.specs.Endian.{big_bytes}
 use Rattle.rep_ops.specs.declared.fault.OpsFault.{OpsFault}
 use Rattle.rep_ops.specs.declared.fault.OpsFault.TheVariants as faults
-use Rattle.rep_ops.specs.Reading.{Reader, ◌>>=◌, AreOctets, octet_at, number_at, listed_at, text_at, whole_at, reading_of}
+use Rattle.rep_ops.specs.Reading.{Reader, ◌>>=◌, AreOctets, Fails, octet_at, number_at, listed_at, text_at, whole_at, reading_of}
 use Rattle.rep_ops.specs.Spelling.{text_of, max_octets}
 use Rattle.rep_ops.proofs.Laws.{IsBytes, Taken, IsStable, extended, Law, bind_ok, guard_ok, bind_stable, octet_law, wide32, number_law, ok_is}
 
@@ -212,3 +212,14 @@ module _ {A : Type 0} (p : Reader A) (text : A → List ℕ) (Fits : A → Type 
       let short : nat_lt max_octets (length (text_of text d ++ rest)) ≡ false = le-ltb _ _ size in
       let some : (length rest == 0) ≡ false = ne_eqb _ _ (λ z. ne (nil_from_length rest z)) in
       rw (short, text_law.again d rest fits, some) refl
+
+-- what a call answered that did not give what is read: that memory ran out
+pub only_memory : {A : Type 0} (fault : OpsFault) (d : A) (r : Result A OpsFault) → r ≡ Ok d → Fails fault r → fault ≡ faults.Memory
+only_memory faults.Twice d r e h = absurd (let wrong : Ok d ≡ Err faults.Twice = sym e ∙ h in cc)
+only_memory faults.Limit d r e h = absurd (let wrong : Ok d ≡ Err faults.Limit = sym e ∙ h in cc)
+only_memory faults.Memory d r e h = refl
+only_memory faults.Truncated d r e h = absurd (let wrong : Ok d ≡ Err faults.Truncated = sym e ∙ h in cc)
+only_memory faults.Version d r e h = absurd (let wrong : Ok d ≡ Err faults.Version = sym e ∙ h in cc)
+only_memory faults.Kind d r e h = absurd (let wrong : Ok d ≡ Err faults.Kind = sym e ∙ h in cc)
+only_memory faults.Order d r e h = absurd (let wrong : Ok d ≡ Err faults.Order = sym e ∙ h in cc)
+only_memory faults.Trailing d r e h = absurd (let wrong : Ok d ≡ Err faults.Trailing = sym e ∙ h in cc)
