@@ -1,9 +1,10 @@
 -- The reader of digests.
-use Rattle.std.proofs.Common.{◌≡◌, ℕ, ◌+◌, ◌<◌, ◌≤◌, ◌^◌, Bool, true, false, ◌&&◌, List, [], ◌∷◌, ◌++◌, length, Ok, refl, sym, ap, ◌∙◌, arith, leb-true, le-leb, Less, Ordering, Equal, Greater, is_lt}
+use Rattle.std.proofs.Common.{◌≡◌, ℕ, ◌+◌, ◌*◌, ◌<◌, ◌≤◌, ◌^◌, Bool, true, false, ◌&&◌, List, [], ◌∷◌, ◌++◌, length, take, get_or, Ok, refl, sym, ap, ◌∙◌, arith, leb-true, le-leb, Less, Ordering, Equal, Greater, is_lt}
 use Rattle.std.specs.Prelude.{nat_le, nat_lt}
 use Rattle.std.specs.List.{list_all, flat_map, AllByRecursion}
 use Rattle.std.proofs.lemmas.Bool.{and_parts, and_from, ltb-true, lt-ltb}
 use Rattle.std.proofs.lemmas.List.{length-append}
+use Rattle.std.proofs.lemmas.List.Folds.{length-flat_map-take}
 use Rattle.rep_ops.specs.Orders.{client_cmp}
 use Rattle.rep_ops.specs.Reading.{AreOctets, follows_last}
 use Rattle.byteorder.specs.Endian.{big_bytes}
@@ -15,7 +16,7 @@ use Rattle.rep_digest.specs.declared.entry.OriginEntry.{OriginEntry}
 use Rattle.rep_digest.specs.declared.entry.ClientEntry.{ClientEntry}
 use Rattle.rep_digest.specs.Digests.{has_ranges}
 use Rattle.rep_digest.specs.WellMade.{IsRange, IsOrigin, OriginsAscend, IsEntry, ClientsAscend, IsDigest}
-use Rattle.rep_digest.specs.Spelling.{ranges_octets, range_octets, origin_octets, seen_octets, origins_octets, entry_octets, spelling, IsWithinLimit}
+use Rattle.rep_digest.specs.Spelling.{ranges_octets, range_octets, origin_octets, seen_octets, origins_octets, entry_octets, spelling, IsWithinLimit, AreFew, IsWritable}
 use Rattle.rep_digest.specs.Reading.{entry_at, ranges_apart, are_apart, origins_ascend, is_ordered, is_next, may_follow, reading}
 use Rattle.rep_digest.proofs.Entries.{FitsRanges, FitsOrigin, FitsOrigins, FitsEntry, entry_law}
 
@@ -124,11 +125,15 @@ module _ {A : Type 0} (text : A → List ℕ) (P : A → Type 0) where
       let sum = length-append (text x) (flat_map text xs) in
       (h x (omega (arith, sum, size)), each_within xs n (omega (arith, sum, size)) h)
 
-length_ranges : (rs : List (ℕ × ℕ)) → length rs ≤ length (flat_map range_octets rs)
-length_ranges [] = omega arith
-length_ranges (r ∷ rs) = let more = length_ranges rs in let sum = length-append (range_octets r) (flat_map range_octets rs) in omega (arith, more, sum)
+-- a part and what stands before it are no longer than the whole
+pub length_more : {A : Type 0} (text : A → List ℕ) (xs : List A) (i : ℕ) (x : A) → i < length xs → x ≡ get_or xs i x → length (flat_map text (take i xs)) + length (text x) ≤ length (flat_map text xs)
+length_more text xs i x lt e = rw e (length-flat_map-take text xs i x lt)
 
-length_entries : (d : List ClientEntry) → length d ≤ length (flat_map entry_octets d)
+pub length_each_range : (rs : List (ℕ × ℕ)) → length (flat_map range_octets rs) ≡ 16 * length rs
+length_each_range [] = refl
+length_each_range (r ∷ rs) = let more = length_each_range rs in let sum = length-append (range_octets r) (flat_map range_octets rs) in omega (arith, more, sum)
+
+pub length_entries : (d : List ClientEntry) → length d ≤ length (flat_map entry_octets d)
 length_entries [] = omega arith
 length_entries (e ∷ d) = let more = length_entries d in let sum = length-append (entry_octets e) (flat_map entry_octets d) in omega (arith, more, sum)
 
@@ -151,7 +156,7 @@ few_origins (o ∷ os) start h up low le =
 
 few_ranges : (rs : List (ℕ × ℕ)) (n : ℕ) → length (ranges_octets rs) ≤ n → n ≤ max_octets → length rs < 2 ^ 32
 few_ranges rs n size le =
-    let some = length_ranges rs in
+    let some = length_each_range rs in
     let sum = length-append (big_bytes 4 (length rs)) (flat_map range_octets rs) in
     omega (arith, some, sum, size, le)
 
@@ -161,6 +166,10 @@ fits_origin o n size le h =
     let first : length (ranges_octets o.acknowledged) ≤ n = omega (arith, sum, size) in
     let second : length (ranges_octets o.waiting) ≤ n = omega (arith, sum, size) in
     (((h.octet, le-leb 1 o.origin h.number), ((few_ranges o.acknowledged n first le, h.acknowledged.0), (few_ranges o.waiting n second le, h.waiting.0))), h.some)
+
+each_weaker : {A : Type 0} (P Q : A → Type 0) → ((x : A) → P x → Q x) → (xs : List A) → AllByRecursion P xs → AllByRecursion Q xs
+each_weaker P Q f [] h = tt
+each_weaker P Q f (x ∷ xs) h = (f x h.0, each_weaker P Q f xs h.1)
 
 -- what follows from each is there for each
 followed : {A : Type 0} (P Q : A → Type 0) (xs : List A) → AllByRecursion (λ x. P x → Q x) xs → AllByRecursion P xs → AllByRecursion Q xs
@@ -207,6 +216,17 @@ fits_text d h size =
       fits = followed IsEntry FitsEntry d (each_within entry_octets (λ (e : ClientEntry). IsEntry e → FitsEntry e) d max_octets part (λ e s. fits_entry e max_octets s (omega arith))) h.entries;
       ascending = (all_ordered d h.entries, h.ascend);
     }
+
+-- ---- what is written has counts that fit
+
+few_origin : (o : OriginEntry) → FitsOrigin o → AreFew o
+few_origin o h = (h.0.1.0.0, h.0.1.1.0)
+
+a_writable : (e : ClientEntry) → FitsEntry e → IsWritable e
+a_writable e h = record { origins = h.origins.0; ranges = each_weaker FitsOrigin AreFew few_origin e.origins h.origins.1 }
+
+pub writable : (d : List ClientEntry) → IsDigest d → IsWithinLimit d → AllByRecursion IsWritable d
+writable d h size = each_weaker FitsEntry IsWritable a_writable d (fits_text d h size).fits
 
 -- ---- the whole
 

@@ -1,6 +1,6 @@
 //! A digest.
 
-ghost use Rattle.std.specs.Prelude.{◌≡◌, ◌⊎◌, List, Ok, Err, IfOk};
+ghost use Rattle.std.specs.Prelude.{◌≡◌, ◌⊎◌, ◌++◌, List, Ok, Err, IfOk, IfErr, OnOk, OnErr};
 ghost use Rattle.rep_ops.specs.Reading.{Gives};
 ghost use Rattle.rep_digest.specs.WellMade.{IsDigest};
 ghost use Rattle.rep_digest.specs.Spelling.{spelling, IsWithinLimit};
@@ -9,6 +9,7 @@ ghost use Rattle.rep_digest.specs.declared.entry.ClientEntry.{ClientEntry};
 
 use super::entry::ClientEntry;
 use super::read::read_digest;
+use super::write::write_digest;
 use rep_ops::OpsFault;
 use std::alloc::Global;
 use std::marker::Model;
@@ -41,6 +42,22 @@ impl Digest {
         ensures size { IsWithinLimit self.now }
     {
         self.entries.as_slice()
+    }
+
+    /// Appends the one spelling of the digest. On an error the vector is as it was.
+    pub fn encode(&self, _alloc: Global, out: &mut Vec<u8>) -> Result<(), OpsFault>
+        ensures ok { OnOk result (out.new.items ≡ out.old.items ++ spelling self.now) }
+        ensures err { OnErr result (out.new.items ≡ out.old.items) }
+        ensures memory { IfErr result (λ fault. fault ≡ OpsFault.Memory) }
+    {
+        let start = out.len();
+        match write_digest(out, self.entries()) {
+            Ok(()) => Ok(()),
+            Err(fault) => {
+                out.truncate(start);
+                Err(fault)
+            }
+        }
     }
 
     /// The digest that octets spell.

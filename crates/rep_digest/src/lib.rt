@@ -18,6 +18,8 @@ mod digest;
 mod entry;
 mod laws;
 mod read;
+mod size;
+mod write;
 
 pub use digest::Digest;
 pub use entry::{ClientEntry, OriginEntry};

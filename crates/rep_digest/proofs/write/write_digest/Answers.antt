@@ -1,0 +1,13 @@
+use Rattle.std.proofs.Common.{arith, length}
+use Rattle.std.specs.List.{flat_map}
+use Rattle.std.proofs.lemmas.List.{length-append}
+use Rattle.byteorder.specs.Endian.{big_bytes}
+use Rattle.rep_digest.specs.Spelling.{entry_octets}
+use Rattle.rep_digest.proofs.Format.{length_entries, writable}
+use Rattle.rep_digest.proofs.write.write_digest.Goals as goal
+
+pub overflow_cast-entries : goal.overflow_cast-entries
+overflow_cast-entries c = let few = length_entries c.args.entries.now in let size = c.requires.size in omega arith
+
+pub write_entries-requires : goal.write_entries-requires
+write_entries-requires c = writable c.args.entries.now c.requires.digest c.requires.size
