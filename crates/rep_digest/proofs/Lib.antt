@@ -2,3 +2,4 @@ pub mod Covered
 pub mod Completing
 pub mod Entries
 pub mod Format
+pub mod Grouping

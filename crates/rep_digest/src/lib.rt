@@ -16,6 +16,7 @@
 
 mod digest;
 mod entry;
+mod groups;
 mod laws;
 mod read;
 mod size;
