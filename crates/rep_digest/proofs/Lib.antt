@@ -3,3 +3,5 @@ pub mod Completing
 pub mod Entries
 pub mod Format
 pub mod Grouping
+pub mod Drafting
+pub mod Said

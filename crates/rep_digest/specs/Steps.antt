@@ -1,12 +1,15 @@
 -- How a digest is worked out of what a replica hands out.
-use Rattle.std.specs.Prelude.{ℕ, ◌+◌, ◌==◌, if◌then◌else◌, List, [], ◌∷◌, map, fold, Option, Some, None}
+use Rattle.std.specs.Prelude.{ℕ, ◌+◌, ◌==◌, if◌then◌else◌, List, [], ◌∷◌, map, filter, fold, Option, Some, None}
 use Rattle.std.specs.List.{filter_map}
 use Rattle.rep_ops.specs.declared.op.Put.{Put}
 use Rattle.rep_ops.specs.declared.op.Op.{Op}
 use Rattle.rep_ops.specs.declared.op.Op.TheVariants.{Session as OfSession, Put as OfPut, Ack}
 use Rattle.rep_ops.specs.Sets.{same_client}
 use Rattle.rep_digest.specs.declared.groups.Acknowledged.{Acknowledged}
+use Rattle.rep_model.specs.declared.view.ClientView.{ClientView}
 use Rattle.rep_digest.specs.declared.entry.OriginEntry.{OriginEntry}
+use Rattle.rep_digest.specs.declared.entry.ClientEntry.{ClientEntry}
+use Rattle.rep_digest.specs.Digests.{has_ranges, numbers_from}
 
 -- ---- the acknowledgements of each client
 
@@ -45,4 +48,12 @@ drafted acks pending origin = record {
   origin = origin;
   acknowledged = filter_map (numbers_of origin) acks;
   waiting = in_ranges_of (filter_map (seq_of origin) pending);
+}
+
+abbrev pub drafted_entry : List ℕ → ClientView → List Acknowledged → ClientEntry
+drafted_entry c view acks = record {
+  client = c;
+  stamp = view.stamp;
+  prefix = view.prefix;
+  origins = filter has_ranges (map (drafted acks view.pending) (numbers_from 1 255));
 }

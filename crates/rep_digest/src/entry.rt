@@ -1,5 +1,7 @@
 //! What a digest says of a client.
 
+ghost use Rattle.std.specs.Prelude.{◌≡◌};
+
 use octets::Sequence;
 use rep_ops::{ClientId, Stamp};
 
@@ -13,6 +15,17 @@ pub struct OriginEntry {
     pub acknowledged: Sequence<(u64, u64)>,
     /// The messages that wait: ranges, first and last.
     pub waiting: Sequence<(u64, u64)>,
+}
+
+impl OriginEntry {
+    ghost use Rattle.rep_digest.specs.Digests.{has_ranges as ranges_test};
+
+    /// Whether anything is said of the origin.
+    pub fn has_ranges(&self) -> bool
+        ensures { result ≡ ranges_test self.now }
+    {
+        self.acknowledged.len() > 0 || self.waiting.len() > 0
+    }
 }
 
 /// What a digest says of a client.

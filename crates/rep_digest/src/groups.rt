@@ -21,6 +21,21 @@ pub struct Acknowledged {
     pub last: u64,
 }
 
+impl Acknowledged {
+    ghost use Rattle.rep_digest.specs.Steps.{numbers_of};
+
+    /// The numbers, where they are of the origin.
+    pub fn numbers(&self, origin: u8) -> Option<(u64, u64)>
+        ensures { result ≡ numbers_of origin self.now }
+    {
+        if origin == self.origin {
+            Some((self.first, self.last))
+        } else {
+            None
+        }
+    }
+}
+
 /// For each client its acknowledgements in the deltas, in their order.
 pub fn acknowledgements(
     alloc: Global,

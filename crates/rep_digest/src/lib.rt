@@ -15,6 +15,7 @@
 #![tactic(auto)]
 
 mod digest;
+mod draft;
 mod entry;
 mod groups;
 mod laws;

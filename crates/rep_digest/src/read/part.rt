@@ -2,7 +2,6 @@
 
 ghost use Rattle.std.specs.Prelude.{◌≡◌, []};
 ghost use Rattle.rep_ops.specs.Reading.{Gives, range_at, many_at};
-ghost use Rattle.rep_digest.specs.Digests.{has_ranges as ranges_test};
 ghost use Rattle.rep_digest.specs.Reading.{ranges_at, origin_at, seen_at};
 
 use crate::entry::OriginEntry;
@@ -56,13 +55,6 @@ fn read_ranges(alloc: Global, bytes: &[u8]) -> Result<(Sequence<(u64, u64)>, &[u
     Ok((Sequence::new(ranges), rest))
 }
 
-/// Whether anything is said of the origin.
-pub fn has_ranges(origin: &OriginEntry) -> bool
-    ensures { result ≡ ranges_test origin.now }
-{
-    origin.acknowledged.len() > 0 || origin.waiting.len() > 0
-}
-
 /// An origin.
 #[tactic(auto, unfolding(crate::specs::Reading::origin_at))]
 pub fn read_origin(alloc: Global, bytes: &[u8]) -> Result<(OriginEntry, &[u8]), OpsFault>
@@ -76,7 +68,7 @@ pub fn read_origin(alloc: Global, bytes: &[u8]) -> Result<(OriginEntry, &[u8]), 
         acknowledged,
         waiting,
     };
-    if !has_ranges(&entry) {
+    if !entry.has_ranges() {
         return Err(OpsFault::Kind);
     }
     Ok((entry, rest))
