@@ -113,7 +113,7 @@ number_found seq origin (e ∷ es) all h =
       ] refl h
     ] refl
 
-waiting_there : (c : List ℕ) (origin seq : ℕ) (T : List Op) → in_ranges seq (waiting c origin T) ≡ true → is_some (put_at c T (seq, origin)) ≡ true
+pub waiting_there : (c : List ℕ) (origin seq : ℕ) (T : List Op) → in_ranges seq (waiting c origin T) ≡ true → is_some (put_at c T (seq, origin)) ≡ true
 waiting_there c origin seq T e =
     let found = number_found seq origin (waiting_entries c T) (waiting_under c T) (sym (in-joined seq (filter_map (number_of origin) (pending c T))) ∙ e) in
     kept_some (not (is_acknowledged c T (seq, origin))) (put_at c T (seq, origin)) (ap is_some (sym (waiting_found c T (seq, origin) ∙ pending_at-reads c T (seq, origin))) ∙ found)

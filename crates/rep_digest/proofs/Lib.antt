@@ -5,3 +5,5 @@ pub mod Format
 pub mod Grouping
 pub mod Drafting
 pub mod Said
+pub mod Made
+pub mod Worked

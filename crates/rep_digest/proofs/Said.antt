@@ -11,7 +11,8 @@ use Rattle.rep_ops.specs.declared.op.Op.TheVariants.{Session as OfSession, Put a
 use Rattle.rep_ops.specs.Orders.{put_cmp}
 use Rattle.rep_ops.specs.Sets.{same_client, is_acknowledged, Same}
 use Rattle.rep_ops.specs.Making.{AreWellMade}
-use Rattle.rep_ops.proofs.Names.{made_range}
+use Rattle.rep_ops.specs.WellMade.{is_well_made}
+use Rattle.rep_ops.proofs.Names.{made_range, nat_less, same_nat}
 use Rattle.rep_ops.proofs.Rising.{Past, Rising}
 use Rattle.rep_model.specs.Views.{pending}
 use Rattle.rep_model.specs.Limits.{range_of, joined, acknowledged}
@@ -26,7 +27,7 @@ use Rattle.rep_digest.specs.Steps.{acknowledged_by, group, numbers_of, seq_of, w
 -- ---- acknowledgements
 
 -- the ranges of a client's group are those of its acknowledgements in the operations
-numbers_one : (c : List ℕ) (o : ℕ) (op : Op) (W : List Op) → IsTrue (Rattle.rep_ops.specs.WellMade.is_well_made op)
+numbers_one : (c : List ℕ) (o : ℕ) (op : Op) (W : List Op) → IsTrue (is_well_made op)
     → filter_map (numbers_of o) (group W c) ≡ filter_map (range_of c o) W
     → filter_map (numbers_of o) (cons_option (acknowledged_by c op) (group W c)) ≡ cons_option (range_of c o op) (filter_map (range_of c o) W)
 numbers_one c o (OfSession d s i change) W made rest = rest
@@ -164,3 +165,93 @@ number_ranges k (r ∷ []) n h below le =
         agree true b f g = sym (f refl)
         agree false true f g = g refl
         agree false false f g = refl
+
+-- all numbers of a list, one behind the other
+numbers_ranges : (ns : List ℕ) (rs : List (ℕ × ℕ)) → AreApart rs → Ascend ns → AllByRecursion (λ n. (m : ℕ) → in_ranges m rs ≡ true → m < n) ns
+    → AreApart (fold with_number rs ns) × ((m : ℕ) → in_ranges m (fold with_number rs ns) ≡ (in_ranges m rs || is_number m ns))
+numbers_ranges [] rs h up below = (h, λ m. nothing (in_ranges m rs))
+  where
+    nothing : (b : Bool) → b ≡ (b || false)
+    nothing true = refl
+    nothing false = refl
+numbers_ranges (n ∷ ns) rs h up below =
+    let one = number_ranges 0 rs n h below.0 (omega arith) in
+    let more = numbers_ranges ns (with_number rs n) one.0 up.1 (both_below n ns rs (with_number rs n) one.1 up.0 below.1) in
+    (more.0, λ m. more.1 m ∙ ap (λ b. b || is_number m ns) (one.1 m) ∙ regroup (in_ranges m rs) (m == n) (is_number m ns))
+  where
+    regroup : (a b d : Bool) → ((a || b) || d) ≡ (a || (b || d))
+    regroup true b d = refl
+    regroup false b d = refl
+    by_or : (a b : Bool) (m n k : ℕ) → (a || b) ≡ true → (a ≡ true → m < k) → (b ≡ true → m < k) → m < k
+    by_or true b m n k e f g = f refl
+    by_or false b m n k e f g = g e
+    both_below : (n : ℕ) (ns : List ℕ) (rs new : List (ℕ × ℕ)) → ((m : ℕ) → in_ranges m new ≡ (in_ranges m rs || (m == n))) → AllByRecursion (λ k. n < k) ns
+        → AllByRecursion (λ k. (m : ℕ) → in_ranges m rs ≡ true → m < k) ns → AllByRecursion (λ k. (m : ℕ) → in_ranges m new ≡ true → m < k) ns
+    both_below n [] rs new is above below = tt
+    both_below n (k ∷ ns) rs new is above below =
+        ((λ m e. by_or (in_ranges m rs) (m == n) m n k (sym (is m) ∙ e) (λ t. below.0 m t) (λ t. let same = eqb-true m n t in omega (arith, same, above.0))), both_below n ns rs new is above.1 below.1)
+
+pub listed_ranges : (ns : List ℕ) → Ascend ns → AreApart (in_ranges_of ns) × ((m : ℕ) → in_ranges m (in_ranges_of ns) ≡ is_number m ns)
+listed_ranges ns up = numbers_ranges ns [] tt up (below_nothing ns)
+  where
+    below_nothing : (ns : List ℕ) → AllByRecursion (λ n. (m : ℕ) → false ≡ true → m < n) ns
+    below_nothing [] = tt
+    below_nothing (n ∷ ns) = ((λ m e. absurd (true≢false (sym e))), below_nothing ns)
+
+-- ---- the messages of an origin that wait
+
+in_numbers : (o m : ℕ) (puts : List Put) → in_ranges m (filter_map (number_of o) puts) ≡ is_number m (filter_map (seq_of o) puts)
+in_numbers o m [] = refl
+in_numbers o m (p ∷ puts) =
+    elim (o == p.origin) as (λ b. in_ranges m (cons_option (if b then Some (p.seq, p.seq) else None) (filter_map (number_of o) puts)) ≡ is_number m (cons_option (if b then Some p.seq else None) (filter_map (seq_of o) puts))) [
+      | true ↦ λ i. within_one m p.seq i || in_numbers o m puts i
+      | false ↦ in_numbers o m puts
+    ]
+
+pub are_numbers : (o : ℕ) (puts : List Put) → AllByRecursion IsRange (filter_map (number_of o) puts)
+are_numbers o [] = tt
+are_numbers o (p ∷ puts) =
+    elim (o == p.origin) as (λ b. AllByRecursion IsRange (cons_option (if b then Some (p.seq, p.seq) else None) (filter_map (number_of o) puts))) [ true ↦ (omega arith, are_numbers o puts) | false ↦ are_numbers o puts ]
+
+first : (a b : Bool) → T (a && b) → T a
+first true b p = tt
+first false b p = p
+
+second : (a b : Bool) → T (a && b) → T b
+second true b p = p
+second false b p = absurd p
+
+less_number : (a b : ℕ × ℕ) → T (is_lt (put_cmp a b)) → a.1 ≡ b.1 → a.0 < b.0
+less_number a b lt same =
+    elim (nat_cmp a.0 b.0) as (λ r. nat_cmp a.0 b.0 ≡ r → T (is_lt (ordering_then r (nat_cmp a.1 b.1))) → a.0 < b.0) [
+      | Less ↦ λ e _. nat_less a.0 b.0 e
+      | Equal ↦ λ _ t. absurd (subst (λ r. T (is_lt r)) (same_nat a.1 b.1 same) t)
+      | Greater ↦ λ _ t. absurd t
+    ] refl lt
+
+above_name : (o : ℕ) (name : ℕ × ℕ) (es : List ((ℕ × ℕ) × Put)) → name.1 ≡ o → T (below_all put_cmp name es) → AreUnderNames es → AllByRecursion (λ m. name.0 < m) (filter_map (seq_of o) (map (λ e. e.1) es))
+above_name o name [] own below under = tt
+above_name o name (e ∷ es) own below under =
+    elim (o == e.1.origin) as (λ b. (o == e.1.origin) ≡ b → AllByRecursion (λ m. name.0 < m) (cons_option (if b then Some e.1.seq else None) (filter_map (seq_of o) (map (λ e. e.1) es)))) [
+      | true ↦ λ t. (
+          less_number name (e.1.seq, e.1.origin) (subst (λ n. T (is_lt (put_cmp name n))) under.0 (first (is_lt (put_cmp name e.0)) (below_all put_cmp name es) below)) (own ∙ eqb-true o e.1.origin t),
+          above_name o name es own (second (is_lt (put_cmp name e.0)) (below_all put_cmp name es) below) under.1)
+      | false ↦ λ _. above_name o name es own (second (is_lt (put_cmp name e.0)) (below_all put_cmp name es) below) under.1
+    ] refl
+
+sorted_numbers : (o : ℕ) (es : List ((ℕ × ℕ) × Put)) → T (is_sorted put_cmp es) → AreUnderNames es → Ascend (filter_map (seq_of o) (map (λ e. e.1) es))
+sorted_numbers o [] sorted under = tt
+sorted_numbers o (e ∷ es) sorted under =
+    let below = first (below_all put_cmp e.0 es) (is_sorted put_cmp es) sorted in
+    let rest = sorted_numbers o es (second (below_all put_cmp e.0 es) (is_sorted put_cmp es) sorted) under.1 in
+    elim (o == e.1.origin) as (λ b. (o == e.1.origin) ≡ b → Ascend (cons_option (if b then Some e.1.seq else None) (filter_map (seq_of o) (map (λ e. e.1) es)))) [
+      | true ↦ λ t. (subst (λ (n : ℕ × ℕ). AllByRecursion (λ m. n.0 < m) (filter_map (seq_of o) (map (λ e. e.1) es))) under.0
+          (above_name o e.0 es (ap (λ (n : ℕ × ℕ). n.1) under.0 ∙ sym (eqb-true o e.1.origin t)) below under.1), rest)
+      | false ↦ λ _. rest
+    ] refl
+
+pub waiting_said : (c : List ℕ) (o : ℕ) (S : List Op) → in_ranges_of (filter_map (seq_of o) (pending c S)) ≡ waiting c o S
+waiting_said c o S =
+    let listed = listed_ranges (filter_map (seq_of o) (pending c S)) (sorted_numbers o (waiting_entries c S) (waiting_sorted c S) (waiting_under c S)) in
+    same_ranges 0 0 (in_ranges_of (filter_map (seq_of o) (pending c S))) (waiting c o S) listed.0 (apart-joined (filter_map (number_of o) (pending c S)) (are_numbers o (pending c S)))
+    (λ m. listed.1 m ∙ sym (in_numbers o m (pending c S)) ∙ sym (in-joined m (filter_map (number_of o) (pending c S))))

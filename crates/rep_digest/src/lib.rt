@@ -17,12 +17,15 @@
 mod digest;
 mod draft;
 mod entry;
+mod fault;
 mod groups;
 mod laws;
 mod read;
 mod size;
+mod working;
 mod write;
 
 pub use digest::Digest;
 pub use entry::{ClientEntry, OriginEntry};
 pub use laws::{answer_completes, digest_laws, one_reading};
+pub use working::digest_of;
