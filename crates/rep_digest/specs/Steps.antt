@@ -1,15 +1,19 @@
--- How a digest is worked out of what a replica hands out.
-use Rattle.std.specs.Prelude.{ℕ, ◌+◌, ◌==◌, if◌then◌else◌, List, [], ◌∷◌, map, filter, fold, Option, Some, None}
+-- How a digest is worked out of what a replica hands out, and what is left of it by the digest of another.
+use Rattle.std.specs.Prelude.{ℕ, ◌+◌, ◌-◌, ◌==◌, Bool, false, ◌||◌, if◌then◌else◌, nat_le, nat_lt, List, [], ◌∷◌, ◌++◌, map, filter, fold, Option, Some, None}
 use Rattle.std.specs.List.{filter_map}
 use Rattle.rep_ops.specs.declared.op.Put.{Put}
 use Rattle.rep_ops.specs.declared.op.Op.{Op}
 use Rattle.rep_ops.specs.declared.op.Op.TheVariants.{Session as OfSession, Put as OfPut, Ack}
+use Rattle.rep_ops.specs.Orders.{client_of}
 use Rattle.rep_ops.specs.Sets.{same_client}
 use Rattle.rep_digest.specs.declared.groups.Acknowledged.{Acknowledged}
 use Rattle.rep_model.specs.declared.view.ClientView.{ClientView}
 use Rattle.rep_digest.specs.declared.entry.OriginEntry.{OriginEntry}
 use Rattle.rep_digest.specs.declared.entry.ClientEntry.{ClientEntry}
+use Rattle.rep_model.specs.Keep.{keep}
+use Rattle.rep_model.specs.Ranges.{in_ranges}
 use Rattle.rep_digest.specs.Digests.{has_ranges, numbers_from}
+use Rattle.rep_digest.specs.Answers.{entry_of, acknowledged_in, waiting_in, sees, IsRest}
 
 -- ---- the acknowledgements of each client
 
@@ -57,3 +61,40 @@ drafted_entry c view acks = record {
   prefix = view.prefix;
   origins = filter has_ranges (map (drafted acks view.pending) (numbers_from 1 255));
 }
+
+-- ---- what a digest leaves of an operation
+
+-- ranges from the first that does not end before the number
+abbrev pub ending_from : ℕ → List (ℕ × ℕ) → List (ℕ × ℕ)
+ending_from n [] = []
+ending_from n (r ∷ rest) = if nat_lt r.1 n then ending_from n rest else r ∷ rest
+
+-- whether the first of the ranges begins at the number or before it
+abbrev pub begins_by : ℕ → List (ℕ × ℕ) → Bool
+begins_by n [] = false
+begins_by n (r ∷ rest) = nat_le r.0 n
+
+-- what of a range is in none of the ranges, which ascend
+abbrev pub outside : ℕ × ℕ → List (ℕ × ℕ) → List (ℕ × ℕ)
+outside r [] = r ∷ []
+outside r (s ∷ rest) =
+    if nat_lt r.1 s.0 then r ∷ []
+    else (if nat_lt s.1 r.0 then outside r rest
+    else (if nat_lt r.0 s.0 then (r.0, s.0 - 1) ∷ [] else []) ++ (if nat_lt s.1 r.1 then outside (s.1 + 1, r.1) rest else []))
+
+abbrev pub ack_of : List ℕ → ℕ → ℕ × ℕ → Op
+ack_of c origin r = Ack c origin r.0 r.1
+
+-- what an entry leaves of an operation
+abbrev pub left_of : Option ClientEntry → Op → List Op
+left_of entry (OfSession c stamp counter change) = if sees entry (stamp, counter) then [] else OfSession c stamp counter change ∷ []
+left_of entry (OfPut c put) = if in_ranges put.seq (waiting_in put.origin entry) || in_ranges put.seq (acknowledged_in put.origin entry) then [] else OfPut c put ∷ []
+left_of entry (Ack c origin first last) = map (ack_of c origin) (outside (first, last) (acknowledged_in origin entry))
+
+-- what a digest leaves of an operation
+abbrev pub left_by : List ClientEntry → Op → List Op
+left_by digest op = left_of (entry_of (client_of op) digest) op
+
+-- the operations are what a digest leaves of what must be kept
+abbrev pub IsLeft : List ClientEntry → List Op → List Op → Type 0
+IsLeft digest K X = IsRest digest (keep K) X

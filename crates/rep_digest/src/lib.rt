@@ -14,6 +14,8 @@
 //! first fault).
 #![tactic(auto)]
 
+mod answering;
+mod cover;
 mod digest;
 mod draft;
 mod entry;
@@ -25,6 +27,7 @@ mod size;
 mod working;
 mod write;
 
+pub use answering::answer;
 pub use digest::Digest;
 pub use entry::{ClientEntry, OriginEntry};
 pub use laws::{answer_completes, digest_laws, one_reading};

@@ -1,0 +1,179 @@
+//! The answer to a digest.
+
+ghost use Rattle.std.specs.Prelude.{◌≡◌, ◌≤◌, ◌||◌, ◌++◌, ◌∷◌, [], Some, map, if◌then◌else◌, IfOk, IfErr, OnOk};
+ghost use Rattle.std.specs.List.{flat_map, AllByRecursion};
+ghost use Rattle.rep_ops.specs.Making.{AreWellMade};
+ghost use Rattle.rep_ops.specs.Splitting.{all_of};
+ghost use Rattle.rep_model.specs.Ranges.{in_ranges as ranges_test, AreApart};
+ghost use Rattle.rep_digest.specs.Answers.{acknowledged_in, waiting_in, IsAnswer};
+ghost use Rattle.rep_digest.specs.WellMade.{IsEntry, IsDigest};
+ghost use Rattle.rep_digest.specs.Steps.{outside, ack_of, left_of, left_by, IsLeft};
+
+use super::cover::{ending_from, find_entry, find_origin, in_ranges, sees};
+use super::digest::Digest;
+use super::entry::{ClientEntry, OriginEntry};
+use super::fault::NoMemory;
+use rep_model::Replica;
+use rep_ops::{ClientId, Delta, Op, OpsFault, deltas_of};
+use std::alloc::Global;
+
+/// The operations that a replica must keep and that a digest does not cover, as deltas in the order of their names,
+/// each but the last as full as 8,388,608 octets allow. `Memory` is the only fault.
+pub fn answer<R: Replica>(
+    alloc: Global,
+    replica: &R,
+    digest: &Digest,
+) -> Result<Vec<Delta>, OpsFault>
+    ensures ok { IfOk result (λ deltas. IsAnswer digest.now (R.kept replica.now) deltas.items) }
+    ensures err { IfErr result (λ fault. fault ≡ OpsFault.Memory) }
+{
+    let ops = left_of_replica(alloc, replica, digest.entries())?;
+    deltas_of(alloc, ops)
+}
+
+/// What a digest leaves of the operations that a replica must keep.
+fn left_of_replica<R: Replica>(
+    alloc: Global,
+    replica: &R,
+    entries: &[ClientEntry],
+) -> Result<Vec<Op>, NoMemory>
+    requires { IsDigest entries.now }
+    ensures { IfOk result (λ ops. AreWellMade ops.items × IsLeft entries.now (R.kept replica.now) ops.items) }
+{
+    let held = replica.held(alloc)?;
+    left_of_deltas(alloc, entries, held.as_slice())
+}
+
+/// What a digest leaves of the operations of deltas.
+fn left_of_deltas(
+    alloc: Global,
+    entries: &[ClientEntry],
+    deltas: &[Delta],
+) -> Result<Vec<Op>, NoMemory>
+    requires { IsDigest entries.now }
+    ensures { IfOk result (λ ops. ops.items ≡ flat_map (left_by entries.now) (all_of deltas.now)) }
+{
+    let mut left = Vec::new(alloc);
+    for delta in deltas {
+        add_left(alloc, &mut left, entries, delta.ops())?;
+    }
+    Ok(left)
+}
+
+/// Copies what a digest leaves of operations behind the others.
+fn add_left(
+    alloc: Global,
+    left: &mut Vec<Op>,
+    entries: &[ClientEntry],
+    ops: &[Op],
+) -> Result<(), NoMemory>
+    requires { IsDigest entries.now }
+    ensures { OnOk result (left.new.items ≡ left.old.items ++ flat_map (left_by entries.now) ops.now) }
+{
+    for op in ops {
+        match find_entry(entries, op.client()) {
+            None => left.push(op.copy(alloc)?)?,
+            Some(entry) => add_left_by(alloc, left, entry, op)?,
+        }
+    }
+    Ok(())
+}
+
+/// Copies what an entry leaves of an operation behind the others.
+fn add_left_by(
+    alloc: Global,
+    left: &mut Vec<Op>,
+    entry: &ClientEntry,
+    op: &Op,
+) -> Result<(), NoMemory>
+    requires { IsEntry entry.now }
+    ensures { OnOk result (left.new.items ≡ left.old.items ++ left_of (Some entry.now) op.now) }
+{
+    match op {
+        Op::Session { stamp, counter, .. } => {
+            if !sees(entry, *stamp, *counter) {
+                left.push(op.copy(alloc)?)?;
+            }
+        }
+        Op::Put { put, .. } => {
+            if !covers(entry, put.origin, put.seq) {
+                left.push(op.copy(alloc)?)?;
+            }
+        }
+        Op::Ack {
+            client,
+            origin,
+            first,
+            last,
+        } => match find_origin(entry.origins.as_slice(), *origin) {
+            None => left.push(op.copy(alloc)?)?,
+            Some(said) => {
+                let ranges = ending_from(*first, said.acknowledged.as_slice());
+                add_outside(alloc, left, client, *origin, (*first, *last), ranges)?;
+            }
+        },
+    }
+    Ok(())
+}
+
+/// Whether a message waits or is acknowledged.
+fn covers(entry: &ClientEntry, origin: u8, seq: u64) -> bool
+    requires { IsEntry entry.now }
+    ensures { result ≡ (ranges_test seq (waiting_in origin (Some entry.now)) || ranges_test seq (acknowledged_in origin (Some entry.now))) }
+{
+    match find_origin(entry.origins.as_slice(), origin) {
+        None => false,
+        Some(said) => {
+            in_ranges(seq, said.waiting.as_slice()) || in_ranges(seq, said.acknowledged.as_slice())
+        }
+    }
+}
+
+/// Puts what of a range of acknowledgements is in none of the ranges behind the others.
+fn add_outside(
+    alloc: Global,
+    left: &mut Vec<Op>,
+    client: &ClientId,
+    origin: u8,
+    range: (u64, u64),
+    ranges: &[(u64, u64)],
+) -> Result<(), NoMemory>
+    requires { range.0 ≤ range.1 }
+    ensures { OnOk result (left.new.items ≡ left.old.items ++ map (ack_of client.now origin) (outside range ranges.now)) }
+{
+    let mut from = range.0;
+    for covered in ranges {
+        if range.1 < covered.0 {
+            break;
+        }
+        if covered.1 >= from {
+            if from < covered.0 {
+                left.push(ack(alloc, client, origin, from, covered.0 - 1)?)?;
+            }
+            if covered.1 >= range.1 {
+                return Ok(());
+            }
+            from = covered.1 + 1;
+        }
+    }
+    left.push(ack(alloc, client, origin, from, range.1)?)?;
+    Ok(())
+}
+
+/// The acknowledgements of the messages first to last.
+fn ack(
+    alloc: Global,
+    client: &ClientId,
+    origin: u8,
+    first: u64,
+    last: u64,
+) -> Result<Op, NoMemory>
+    ensures { IfOk result (λ op. op ≡ ack_of client.now origin (first, last)) }
+{
+    Ok(Op::Ack {
+        client: client.copy(alloc)?,
+        origin,
+        first,
+        last,
+    })
+}
