@@ -3,7 +3,10 @@ pub mod Completing
 pub mod Entries
 pub mod Format
 pub mod Grouping
+pub mod Finding
+pub mod Reaching
 pub mod Drafting
 pub mod Said
 pub mod Made
 pub mod Worked
+pub mod Left

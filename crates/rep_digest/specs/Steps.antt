@@ -1,5 +1,5 @@
 -- How a digest is worked out of what a replica hands out, and what is left of it by the digest of another.
-use Rattle.std.specs.Prelude.{ℕ, ◌+◌, ◌-◌, ◌==◌, Bool, false, ◌||◌, if◌then◌else◌, nat_le, nat_lt, List, [], ◌∷◌, ◌++◌, map, filter, fold, Option, Some, None}
+use Rattle.std.specs.Prelude.{ℕ, ◌+◌, ◌-◌, ◌==◌, Bool, false, ◌&&◌, ◌||◌, if◌then◌else◌, nat_le, nat_lt, List, [], ◌∷◌, ◌++◌, map, filter, fold, Option, Some, None}
 use Rattle.std.specs.List.{filter_map}
 use Rattle.rep_ops.specs.declared.op.Put.{Put}
 use Rattle.rep_ops.specs.declared.op.Op.{Op}
@@ -74,13 +74,27 @@ abbrev pub begins_by : ℕ → List (ℕ × ℕ) → Bool
 begins_by n [] = false
 begins_by n (r ∷ rest) = nat_le r.0 n
 
+-- whether the second range reaches into the first
+abbrev pub reaches : ℕ × ℕ → ℕ × ℕ → Bool
+reaches r s = nat_le s.0 r.1 && nat_le r.0 s.1
+
+-- what of a range is before one that reaches into it
+abbrev pub before : ℕ × ℕ → ℕ × ℕ → List (ℕ × ℕ)
+before r s = if nat_lt r.0 s.0 && reaches r s then (r.0, s.0 - 1) ∷ [] else []
+
+-- what of a range is behind another: all of it where that one does not reach into it
+abbrev pub behind : ℕ × ℕ → ℕ × ℕ → Option (ℕ × ℕ)
+behind r s = if reaches r s then (if nat_lt s.1 r.1 then Some (s.1 + 1, r.1) else None) else Some r
+
+-- what is left of what is still open of a range, among the ranges that follow, which ascend
+abbrev pub outside_from : Option (ℕ × ℕ) → List (ℕ × ℕ) → List (ℕ × ℕ)
+outside_from None ranges = []
+outside_from (Some r) [] = r ∷ []
+outside_from (Some r) (s ∷ rest) = before r s ++ outside_from (behind r s) rest
+
 -- what of a range is in none of the ranges, which ascend
 abbrev pub outside : ℕ × ℕ → List (ℕ × ℕ) → List (ℕ × ℕ)
-outside r [] = r ∷ []
-outside r (s ∷ rest) =
-    if nat_lt r.1 s.0 then r ∷ []
-    else (if nat_lt s.1 r.0 then outside r rest
-    else (if nat_lt r.0 s.0 then (r.0, s.0 - 1) ∷ [] else []) ++ (if nat_lt s.1 r.1 then outside (s.1 + 1, r.1) rest else []))
+outside r ranges = outside_from (Some r) ranges
 
 abbrev pub ack_of : List ℕ → ℕ → ℕ × ℕ → Op
 ack_of c origin r = Ack c origin r.0 r.1

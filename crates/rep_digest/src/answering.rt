@@ -7,7 +7,7 @@ ghost use Rattle.rep_ops.specs.Splitting.{all_of};
 ghost use Rattle.rep_model.specs.Ranges.{in_ranges as ranges_test, AreApart};
 ghost use Rattle.rep_digest.specs.Answers.{acknowledged_in, waiting_in, IsAnswer};
 ghost use Rattle.rep_digest.specs.WellMade.{IsEntry, IsDigest};
-ghost use Rattle.rep_digest.specs.Steps.{outside, ack_of, left_of, left_by, IsLeft};
+ghost use Rattle.rep_digest.specs.Steps.{before, behind as behind_range, outside, ack_of, left_of, left_by, IsLeft};
 
 use super::cover::{ending_from, find_entry, find_origin, in_ranges, sees};
 use super::digest::Digest;
@@ -141,39 +141,67 @@ fn add_outside(
     requires { range.0 ≤ range.1 }
     ensures { OnOk result (left.new.items ≡ left.old.items ++ map (ack_of client.now origin) (outside range ranges.now)) }
 {
-    let mut from = range.0;
+    let mut rest = Some(range);
     for covered in ranges {
-        if range.1 < covered.0 {
-            break;
-        }
-        if covered.1 >= from {
-            if from < covered.0 {
-                left.push(ack(alloc, client, origin, from, covered.0 - 1)?)?;
+        rest = match rest {
+            None => None,
+            Some(range) => {
+                add_before(alloc, left, client, origin, range, *covered)?;
+                behind(range, *covered)
             }
-            if covered.1 >= range.1 {
-                return Ok(());
-            }
-            from = covered.1 + 1;
-        }
+        };
     }
-    left.push(ack(alloc, client, origin, from, range.1)?)?;
+    match rest {
+        None => Ok(()),
+        Some(range) => add_range(alloc, left, client, origin, range),
+    }
+}
+
+/// Puts what of a range is before another behind the others, if that other reaches into the range.
+fn add_before(
+    alloc: Global,
+    left: &mut Vec<Op>,
+    client: &ClientId,
+    origin: u8,
+    range: (u64, u64),
+    covered: (u64, u64),
+) -> Result<(), NoMemory>
+    ensures { OnOk result (left.new.items ≡ left.old.items ++ map (ack_of client.now origin) (before range covered)) }
+{
+    if range.0 < covered.0 && covered.0 <= range.1 && range.0 <= covered.1 {
+        add_range(alloc, left, client, origin, (range.0, covered.0 - 1))?;
+    }
     Ok(())
 }
 
-/// The acknowledgements of the messages first to last.
-fn ack(
+/// What of a range is behind another.
+fn behind(range: (u64, u64), covered: (u64, u64)) -> Option<(u64, u64)>
+    ensures { result ≡ behind_range range covered }
+{
+    if range.1 < covered.0 || covered.1 < range.0 {
+        Some(range)
+    } else if covered.1 < range.1 {
+        Some((covered.1 + 1, range.1))
+    } else {
+        None
+    }
+}
+
+/// Puts the acknowledgements of a range behind the others.
+fn add_range(
     alloc: Global,
+    left: &mut Vec<Op>,
     client: &ClientId,
     origin: u8,
-    first: u64,
-    last: u64,
-) -> Result<Op, NoMemory>
-    ensures { IfOk result (λ op. op ≡ ack_of client.now origin (first, last)) }
+    range: (u64, u64),
+) -> Result<(), NoMemory>
+    ensures { OnOk result (left.new.items ≡ left.old.items ++ ack_of client.now origin range ∷ []) }
 {
-    Ok(Op::Ack {
+    left.push(Op::Ack {
         client: client.copy(alloc)?,
         origin,
-        first,
-        last,
-    })
+        first: range.0,
+        last: range.1,
+    })?;
+    Ok(())
 }
