@@ -1,10 +1,12 @@
 -- Where the entry of a client is found.
-use Rattle.std.proofs.Common.{◌≡◌, ℕ, true, false, List, [], ◌∷◌, get_or, Some, None, sym, ap, ◌∙◌, Less, Equal, Greater, is_eq, is_lt, refl}
+use Rattle.std.proofs.Common.{◌≡◌, ℕ, true, false, List, [], ◌∷◌, get_or, Some, None, sym, ap, subst, ◌∙◌, Bool, cond, is_some, true≢false, Less, Equal, Greater, is_eq, is_lt, refl}
 use Rattle.rep_ops.specs.Orders.{client_cmp}
 use Rattle.rep_ops.specs.Sets.{same_client}
 use Rattle.rep_model.proofs.Readers.{client_total}
 use Rattle.std.specs.Cmp.{on_total}
 use Rattle.std.proofs.lemmas.Bool.{and_from}
+use Rattle.std.proofs.lemmas.Option.{same_Some}
+use Rattle.std.specs.List.{find, AllByRecursion}
 use Rattle.sn_session.specs.Tables.{is_ascending, IsAt, IsGap}
 use Rattle.sn_session.proofs.Ascending.{Ascends, from_test}
 use Rattle.sn_session.proofs.Places.{find_at, find_gap}
@@ -36,3 +38,12 @@ found d at c e h = find_at (λ (e : ClientEntry). client_cmp e.client c) (λ e. 
 
 pub absent : (d : List ClientEntry) (at : ℕ) (c : List ℕ) → IsGap (λ e. client_cmp e.client c) d at → entry_of c d ≡ None
 absent d at c h = find_gap (λ (e : ClientEntry). client_cmp e.client c) (λ e. same_client c e.client) (passes c) (below c) (above c) d at h
+
+-- what holds of all holds of the one that is found
+pub found_all : {A : Type 0} (P : A → Type 0) (test : A → Bool) (xs : List A) → AllByRecursion P xs → (x : A) → find test xs ≡ Some x → P x
+found_all P test [] h x e = absurd (true≢false (sym (ap is_some e)))
+found_all {A} P test (y ∷ xs) h x e =
+    elim (test y) as (λ b. cond b (Some y) (find test xs) ≡ Some x → P x) [
+      | true ↦ λ is. subst P (same_Some y x is) h.0
+      | false ↦ λ rest. found_all P test xs h.1 x rest
+    ] e

@@ -14,7 +14,10 @@ use Rattle.rep_ops.specs.declared.op.Op.{Op}
 use Rattle.rep_ops.specs.declared.op.Op.TheVariants.{Session as OfSession, Put as OfPut, Ack}
 use Rattle.rep_ops.specs.Orders.{operation_cmp, put_cmp, client_of}
 use Rattle.rep_ops.specs.Sets.{same_client, operation_of, operations, operation_at, put_of, puts, put_at, acknowledges, is_acknowledged, Same}
-use Rattle.rep_ops.specs.Making.{AreWellMade}
+use Rattle.rep_ops.specs.Making.{AreWellMade, IsDeltaOf}
+use Rattle.rep_ops.specs.Splitting.{all_of}
+use Rattle.rep_model.specs.Keep.{keep}
+use Rattle.rep_model.specs.Held.{IsHeld}
 use Rattle.rep_ops.specs.WellMade.{is_well_made}
 use Rattle.rep_ops.proofs.Names.{made_range}
 use Rattle.rep_model.specs.Ranges.{is_within, in_ranges, AreApart}
@@ -23,7 +26,7 @@ use Rattle.rep_digest.specs.declared.entry.OriginEntry.{OriginEntry}
 use Rattle.rep_digest.specs.declared.entry.ClientEntry.{ClientEntry}
 use Rattle.rep_digest.specs.Answers.{entry_of, ranges_of, ranges_in, acknowledged_in, waiting_in, sees, covers_operation, covers_put, covers_acknowledgement, IsRest}
 use Rattle.rep_digest.specs.WellMade.{IsOrigin, IsEntry, IsDigest}
-use Rattle.rep_digest.specs.Steps.{outside, ack_of, left_of, left_by}
+use Rattle.rep_digest.specs.Steps.{outside, ack_of, left_of, left_by, IsLeft}
 use Rattle.rep_digest.proofs.Reaching.{in_outside, IsPartOf, parts}
 
 -- ---- the ranges that an entry has are apart
@@ -219,3 +222,13 @@ module _ (d : List ClientEntry) (is : IsDigest d) where
   pub left_made : (W : List Op) → AreWellMade W → AreWellMade (flat_map (left_by d) W)
   left_made [] made = tt
   left_made (op ∷ W) made = all_of_both (left_by d op) (flat_map (left_by d) W) (made_one op made.0) (left_made W made.1)
+
+  -- what is left of what a replica hands out
+  pub left_held : (K : List Op) (held : List (List Op)) (X : List Op) → IsHeld K held → X ≡ flat_map (left_by d) (all_of held) → AreWellMade X × IsLeft d K X
+  left_held K held X h e =
+      let W = all_of held in
+      let whole : h.0 ≡ W = sym h.2.whole in
+      let delta : IsDeltaOf (keep K) W = subst (λ (V : List Op). IsDeltaOf (keep K) V) whole h.1 in (
+        subst AreWellMade (sym e) (left_made W delta.delta.well_made),
+        subst (λ (Y : List Op). IsLeft d K Y) (sym e) (is_rest (keep K) W delta.delta.well_made delta.same),
+      )

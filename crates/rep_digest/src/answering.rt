@@ -1,17 +1,18 @@
 //! The answer to a digest.
 
-ghost use Rattle.std.specs.Prelude.{◌≡◌, ◌≤◌, ◌||◌, ◌++◌, ◌∷◌, [], Some, map, if◌then◌else◌, IfOk, IfErr, OnOk};
-ghost use Rattle.std.specs.List.{flat_map, AllByRecursion};
+ghost use Rattle.std.specs.Prelude.{◌≡◌, ◌≤◌, ◌||◌, ◌++◌, ◌∷◌, [], Some, map, IsTrue, IfOk, IfErr, OnOk};
+ghost use Rattle.std.specs.List.{flat_map};
 ghost use Rattle.rep_ops.specs.Making.{AreWellMade};
 ghost use Rattle.rep_ops.specs.Splitting.{all_of};
-ghost use Rattle.rep_model.specs.Ranges.{in_ranges as ranges_test, AreApart};
-ghost use Rattle.rep_digest.specs.Answers.{acknowledged_in, waiting_in, IsAnswer};
+ghost use Rattle.rep_ops.specs.WellMade.{is_well_made as made_test};
+ghost use Rattle.rep_model.specs.Ranges.{in_ranges as ranges_test};
+ghost use Rattle.rep_digest.specs.Answers.{acknowledged_in as acknowledged_of, waiting_in as waiting_of, IsAnswer};
 ghost use Rattle.rep_digest.specs.WellMade.{IsEntry, IsDigest};
 ghost use Rattle.rep_digest.specs.Steps.{before, behind as behind_range, outside, ack_of, left_of, left_by, IsLeft};
 
-use super::cover::{ending_from, find_entry, find_origin, in_ranges, sees};
+use super::cover::{acknowledged_in, ending_from, find_entry, in_ranges, sees, waiting_in};
 use super::digest::Digest;
-use super::entry::{ClientEntry, OriginEntry};
+use super::entry::ClientEntry;
 use super::fault::NoMemory;
 use rep_model::Replica;
 use rep_ops::{ClientId, Delta, Op, OpsFault, deltas_of};
@@ -67,16 +68,31 @@ fn add_left(
     entries: &[ClientEntry],
     ops: &[Op],
 ) -> Result<(), NoMemory>
-    requires { IsDigest entries.now }
+    requires digest { IsDigest entries.now }
+    requires made { AreWellMade ops.now }
     ensures { OnOk result (left.new.items ≡ left.old.items ++ flat_map (left_by entries.now) ops.now) }
 {
     for op in ops {
-        match find_entry(entries, op.client()) {
-            None => left.push(op.copy(alloc)?)?,
-            Some(entry) => add_left_by(alloc, left, entry, op)?,
-        }
+        add_left_of(alloc, left, entries, op)?;
     }
     Ok(())
+}
+
+/// Copies what a digest leaves of an operation behind the others.
+fn add_left_of(
+    alloc: Global,
+    left: &mut Vec<Op>,
+    entries: &[ClientEntry],
+    op: &Op,
+) -> Result<(), NoMemory>
+    requires digest { IsDigest entries.now }
+    requires made { IsTrue (made_test op.now) }
+    ensures { OnOk result (left.new.items ≡ left.old.items ++ left_by entries.now op.now) }
+{
+    match find_entry(entries, op.client()) {
+        None => Ok(left.push(op.copy(alloc)?)?),
+        Some(entry) => add_left_by(alloc, left, entry, op),
+    }
 }
 
 /// Copies what an entry leaves of an operation behind the others.
@@ -86,7 +102,8 @@ fn add_left_by(
     entry: &ClientEntry,
     op: &Op,
 ) -> Result<(), NoMemory>
-    requires { IsEntry entry.now }
+    requires entry { IsEntry entry.now }
+    requires made { IsTrue (made_test op.now) }
     ensures { OnOk result (left.new.items ≡ left.old.items ++ left_of (Some entry.now) op.now) }
 {
     match op {
@@ -105,13 +122,10 @@ fn add_left_by(
             origin,
             first,
             last,
-        } => match find_origin(entry.origins.as_slice(), *origin) {
-            None => left.push(op.copy(alloc)?)?,
-            Some(said) => {
-                let ranges = ending_from(*first, said.acknowledged.as_slice());
-                add_outside(alloc, left, client, *origin, (*first, *last), ranges)?;
-            }
-        },
+        } => {
+            let ranges = ending_from(*first, acknowledged_in(entry, *origin));
+            add_outside(alloc, left, client, *origin, (*first, *last), ranges)?;
+        }
     }
     Ok(())
 }
@@ -119,14 +133,9 @@ fn add_left_by(
 /// Whether a message waits or is acknowledged.
 fn covers(entry: &ClientEntry, origin: u8, seq: u64) -> bool
     requires { IsEntry entry.now }
-    ensures { result ≡ (ranges_test seq (waiting_in origin (Some entry.now)) || ranges_test seq (acknowledged_in origin (Some entry.now))) }
+    ensures { result ≡ (ranges_test seq (waiting_of origin (Some entry.now)) || ranges_test seq (acknowledged_of origin (Some entry.now))) }
 {
-    match find_origin(entry.origins.as_slice(), origin) {
-        None => false,
-        Some(said) => {
-            in_ranges(seq, said.waiting.as_slice()) || in_ranges(seq, said.acknowledged.as_slice())
-        }
-    }
+    in_ranges(seq, waiting_in(entry, origin)) || in_ranges(seq, acknowledged_in(entry, origin))
 }
 
 /// Puts what of a range of acknowledgements is in none of the ranges behind the others.

@@ -7,8 +7,8 @@ ghost use Rattle.rep_ops.specs.Orders.{client_cmp};
 ghost use Rattle.rep_model.specs.Keep.{is_below as below_test};
 ghost use Rattle.rep_model.specs.Limits.{is_in_prefix as prefix_test};
 ghost use Rattle.rep_model.specs.Ranges.{in_ranges as ranges_test, AreApart};
-ghost use Rattle.rep_digest.specs.Answers.{entry_of, sees as sees_test};
-ghost use Rattle.rep_digest.specs.WellMade.{ClientsAscend};
+ghost use Rattle.rep_digest.specs.Answers.{entry_of, acknowledged_in as acknowledged_of, waiting_in as waiting_of, sees as sees_test};
+ghost use Rattle.rep_digest.specs.WellMade.{IsEntry, ClientsAscend, IsDigest};
 ghost use Rattle.rep_digest.specs.Steps.{ending_from as ending_test, begins_by};
 
 use super::entry::{ClientEntry, OriginEntry};
@@ -16,8 +16,8 @@ use rep_ops::{ClientId, Stamp};
 
 /// The entry of a client. The time is logarithmic.
 pub fn find_entry<'a>(entries: &'a [ClientEntry], client: &ClientId) -> Option<&'a ClientEntry>
-    requires { ClientsAscend entries.now }
-    ensures { MatchOption result (entry_of client.now entries.now ≡ None) (λ entry. entry_of client.now entries.now ≡ Some entry.now) }
+    requires { IsDigest entries.now }
+    ensures { MatchOption result (entry_of client.now entries.now ≡ None) (λ entry. (entry_of client.now entries.now ≡ Some entry.now) × IsEntry entry.now) }
 {
     match place(entries, client) {
         Ok(at) => Some(&entries[at]),
@@ -34,7 +34,7 @@ fn place(entries: &[ClientEntry], client: &ClientId) -> Result<usize, usize>
 }
 
 /// The entry of an origin.
-pub fn find_origin(origins: &[OriginEntry], origin: u8) -> Option<&OriginEntry>
+fn find_origin(origins: &[OriginEntry], origin: u8) -> Option<&OriginEntry>
     ensures { MatchOption result (find (λ o. origin == o.origin) origins.now ≡ None) (λ entry. find (λ o. origin == o.origin) origins.now ≡ Some entry.now) }
 {
     for entry in origins {
@@ -43,6 +43,30 @@ pub fn find_origin(origins: &[OriginEntry], origin: u8) -> Option<&OriginEntry>
         }
     }
     None
+}
+
+/// The acknowledged ranges that the entry has of an origin.
+pub fn acknowledged_in(entry: &ClientEntry, origin: u8) -> &[(u64, u64)]
+    requires { IsEntry entry.now }
+    ensures ranges { result.now ≡ acknowledged_of origin (Some entry.now) }
+    ensures apart { AreApart result.now }
+{
+    match find_origin(entry.origins.as_slice(), origin) {
+        None => &[],
+        Some(said) => said.acknowledged.as_slice(),
+    }
+}
+
+/// The ranges of messages that wait which the entry has of an origin.
+pub fn waiting_in(entry: &ClientEntry, origin: u8) -> &[(u64, u64)]
+    requires { IsEntry entry.now }
+    ensures ranges { result.now ≡ waiting_of origin (Some entry.now) }
+    ensures apart { AreApart result.now }
+{
+    match find_origin(entry.origins.as_slice(), origin) {
+        None => &[],
+        Some(said) => said.waiting.as_slice(),
+    }
 }
 
 /// Whether the entry sees a session operation: below its stamp, or at it among those without a gap.
