@@ -4,7 +4,7 @@ use Rattle.std.proofs.lemmas.Bool.{false_from_ne_true}
 use Rattle.rep_ops.specs.declared.op.Stamp.{Stamp}
 use Rattle.rep_ops.specs.declared.op.Op.{Op}
 use Rattle.rep_ops.specs.Sets.{operation_at, put_at, is_acknowledged, Same}
-use Rattle.rep_model.specs.Views.{visible, history, clients}
+use Rattle.rep_model.specs.Views.{visible, history}
 use Rattle.rep_model.specs.Keep.{is_below, keep, CountsAs}
 use Rattle.rep_model.proofs.Lookup.{or_else}
 use Rattle.rep_model.proofs.Readers.{operation_at_both, put_at_both, is_acknowledged_both, operation_at_keep, put_at_keep, is_acknowledged_keep}
@@ -12,9 +12,7 @@ use Rattle.rep_model.proofs.Thin.{Thin, not_below-part, visible-thin, history-th
 use Rattle.rep_model.proofs.Joins.{same_by_counts}
 use Rattle.rep_model.proofs.Limits.{pending-counts, acknowledged-counts}
 use Rattle.rep_model.proofs.Named.{clients-counts}
-use Rattle.rep_digest.specs.declared.entry.OriginEntry.{OriginEntry}
-use Rattle.rep_digest.specs.declared.entry.ClientEntry.{ClientEntry}
-use Rattle.rep_digest.specs.Digests.{number_of, waiting, origin_entry, has_ranges, numbers_from, origin_entries, client_entry, digest}
+use Rattle.rep_digest.specs.Digests.{number_of, origin_entry, has_ranges, numbers_from, origin_entries, client_entry, digest}
 use Rattle.rep_digest.specs.Answers.{covers_operation, covers_put, covers_acknowledgement, IsRest}
 use Rattle.rep_digest.proofs.Covered.{covered_operation, covered_put, covered_acknowledgement}
 use Rattle.rep_model.specs.Limits.{joined}

@@ -1,5 +1,5 @@
 -- What the digest of a set covers, the set has.
-use Rattle.std.proofs.Common.{◌≡◌, ℕ, zero, suc, ◌+◌, ◌<◌, ◌≤◌, ◌==◌, Bool, true, false, cond, not, ◌&&◌, ◌||◌, if◌then◌else◌, List, [], ◌∷◌, map, filter, length, Option, Some, None, is_some, IfSome, refl, sym, ap, subst, ◌∙◌, true≢false, arith, eqb-true, le_antisymm, is_eq, Ordering, Less, Equal, Greater}
+use Rattle.std.proofs.Common.{◌≡◌, ℕ, zero, suc, ◌+◌, ◌<◌, ◌==◌, Bool, true, false, cond, not, ◌||◌, if◌then◌else◌, List, [], ◌∷◌, map, filter, length, Option, Some, None, is_some, refl, sym, ap, subst, ◌∙◌, true≢false, arith, eqb-true, le_antisymm, is_eq, Ordering, Less, Equal, Greater}
 use Rattle.std.specs.Prelude.{nat_lt}
 use Rattle.std.specs.List.{find as find_first, filter_map, cons_option}
 use Rattle.std.specs.Ordering.{eq_by_cmp}
@@ -14,7 +14,7 @@ use Rattle.rep_ops.specs.Orders.{stamp_cmp, put_cmp}
 use Rattle.rep_ops.specs.Sets.{same_client, operation_at, put_at, is_acknowledged}
 use Rattle.rep_model.specs.Views.{gapless, then_more, visible, history_at, history, pending, clients}
 use Rattle.rep_model.specs.Keep.{is_below}
-use Rattle.rep_model.specs.Limits.{is_in_prefix, acknowledged}
+use Rattle.rep_model.specs.Limits.{is_in_prefix}
 use Rattle.rep_model.specs.Ranges.{is_within, in_ranges}
 use Rattle.rep_model.proofs.Readers.{stamp_exact, put_total, same_client-true}
 use Rattle.rep_model.proofs.Thin.{kept_some, pending_at-reads}

@@ -1,6 +1,6 @@
 -- The reader of digests.
-use Rattle.std.proofs.Common.{◌≡◌, ℕ, ◌+◌, ◌*◌, ◌<◌, ◌≤◌, ◌^◌, Bool, true, false, ◌&&◌, List, [], ◌∷◌, ◌++◌, length, take, get_or, Ok, refl, sym, ap, ◌∙◌, arith, leb-true, le-leb, Less, Ordering, Equal, Greater, is_lt}
-use Rattle.std.specs.Prelude.{nat_le, nat_lt}
+use Rattle.std.proofs.Common.{◌≡◌, ℕ, ◌+◌, ◌*◌, ◌<◌, ◌≤◌, ◌^◌, true, List, [], ◌∷◌, ◌++◌, length, take, get_or, Ok, refl, ap, arith, leb-true, le-leb, Less, Ordering, Equal, Greater, is_lt}
+use Rattle.std.specs.Prelude.{nat_lt}
 use Rattle.std.specs.List.{list_all, flat_map, AllByRecursion}
 use Rattle.std.proofs.lemmas.Bool.{and_parts, and_from, ltb-true, lt-ltb}
 use Rattle.std.proofs.lemmas.List.{length-append}
@@ -14,11 +14,10 @@ use Rattle.rep_model.specs.Ranges.{AreApartFrom, AreApart}
 use Rattle.rep_model.proofs.Joins.{all-both, all-right}
 use Rattle.rep_digest.specs.declared.entry.OriginEntry.{OriginEntry}
 use Rattle.rep_digest.specs.declared.entry.ClientEntry.{ClientEntry}
-use Rattle.rep_digest.specs.Digests.{has_ranges}
 use Rattle.rep_digest.specs.WellMade.{IsRange, IsOrigin, OriginsAscend, IsEntry, ClientsAscend, IsDigest}
 use Rattle.rep_digest.specs.Spelling.{ranges_octets, range_octets, origin_octets, seen_octets, origins_octets, entry_octets, spelling, IsWithinLimit, AreFew, IsWritable}
 use Rattle.rep_digest.specs.Reading.{entry_at, ranges_apart, are_apart, origins_ascend, is_ordered, is_next, may_follow, reading}
-use Rattle.rep_digest.proofs.Entries.{FitsRanges, FitsOrigin, FitsOrigins, FitsEntry, entry_law}
+use Rattle.rep_digest.proofs.Entries.{FitsOrigin, FitsEntry, entry_law}
 
 -- ---- the order
 

@@ -1,12 +1,12 @@
 -- One operation more in the group of its client.
-use Rattle.std.proofs.Common.{◌≡◌, ℕ, zero, suc, ◌<◌, Bool, true, false, cond, if◌then◌else◌, List, [], ◌∷◌, ◌++◌, map, length, get_or, set, Option, Some, None, refl, sym, ap, ◌∙◌, arith, append-nil, Ordering, Less, Equal, Greater, is_eq}
-use Rattle.std.specs.List.{filter_map, cons_option, AllByRecursion}
+use Rattle.std.proofs.Common.{◌≡◌, ℕ, zero, suc, false, if◌then◌else◌, List, [], ◌∷◌, ◌++◌, get_or, set, Some, None, refl, sym, ap, ◌∙◌, append-nil, Ordering, Less, Equal, Greater, is_eq}
+use Rattle.std.specs.List.{cons_option}
 use Rattle.std.specs.List.Sorted.{IsStrictlySortedBy}
 use Rattle.std.specs.Ordering.{ordering_reverse}
 use Rattle.std.proofs.lemmas.List.Elements.{filter_map-append}
 use Rattle.std.proofs.lemmas.Map.Text.{is_eq-slice_cmp}
 use Rattle.rep_ops.specs.declared.op.Op.{Op}
-use Rattle.rep_ops.specs.declared.op.Op.TheVariants.{Session as OfSession, Put as OfPut, Ack}
+use Rattle.rep_ops.specs.declared.op.Op.TheVariants.{Ack}
 use Rattle.rep_ops.specs.Orders.{client_cmp}
 use Rattle.rep_ops.specs.Sets.{same_client}
 use Rattle.rep_model.proofs.Readers.{client_total}

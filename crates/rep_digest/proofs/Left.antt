@@ -1,18 +1,15 @@
 -- What a digest leaves of what must be kept is the rest that the definition asks for.
-use Rattle.std.proofs.Common.{◌≡◌, ℕ, ◌+◌, ◌<◌, ◌≤◌, Bool, true, false, cond, not, ◌&&◌, ◌||◌, ◌==◌, if◌then◌else◌, nat_le, List, [], ◌∷◌, ◌++◌, map, filter, filter_map, Option, Some, None, IfSome, refl, sym, ap, subst, ◌∙◌, arith, true≢false, leb-true, le-leb, eqb-true, append-nil}
+use Rattle.std.proofs.Common.{◌≡◌, ℕ, ◌≤◌, Bool, true, false, cond, not, ◌&&◌, ◌||◌, ◌==◌, if◌then◌else◌, nat_le, List, [], ◌∷◌, ◌++◌, map, filter, filter_map, Option, Some, None, refl, sym, ap, subst, ◌∙◌, arith, leb-true, le-leb, eqb-true}
 use Rattle.std.specs.Prelude.{IsTrue}
 use Rattle.std.specs.List.{list_any, flat_map, cons_option, AllByRecursion, find as find_first}
 use Rattle.std.specs.FinMap.{find}
 use Rattle.std.specs.FinMap.Entries.{find-where_key}
 use Rattle.std.proofs.lemmas.Bool.{and_parts, and_from}
-use Rattle.std.proofs.lemmas.List.Elements.{filter_map-append}
 use Rattle.std.proofs.lemmas.List.Folds.{list_any-append}
-use Rattle.sn_session.specs.declared.change.SessionOp.{SessionOp}
 use Rattle.rep_ops.specs.declared.op.Stamp.{Stamp}
-use Rattle.rep_ops.specs.declared.op.Put.{Put}
 use Rattle.rep_ops.specs.declared.op.Op.{Op}
 use Rattle.rep_ops.specs.declared.op.Op.TheVariants.{Session as OfSession, Put as OfPut, Ack}
-use Rattle.rep_ops.specs.Orders.{operation_cmp, put_cmp, client_of}
+use Rattle.rep_ops.specs.Orders.{operation_cmp, put_cmp}
 use Rattle.rep_ops.specs.Sets.{same_client, operation_of, operations, operation_at, put_of, puts, put_at, acknowledges, is_acknowledged, Same}
 use Rattle.rep_ops.specs.Making.{AreWellMade, IsDeltaOf}
 use Rattle.rep_ops.specs.Splitting.{all_of}
@@ -24,9 +21,9 @@ use Rattle.rep_model.specs.Ranges.{is_within, in_ranges, AreApart}
 use Rattle.rep_model.proofs.Readers.{operation_exact, put_exact, same_client-true}
 use Rattle.rep_digest.specs.declared.entry.OriginEntry.{OriginEntry}
 use Rattle.rep_digest.specs.declared.entry.ClientEntry.{ClientEntry}
-use Rattle.rep_digest.specs.Answers.{entry_of, ranges_of, ranges_in, acknowledged_in, waiting_in, sees, covers_operation, covers_put, covers_acknowledgement, IsRest}
+use Rattle.rep_digest.specs.Answers.{entry_of, ranges_of, acknowledged_in, waiting_in, sees, covers_operation, covers_put, covers_acknowledgement, IsRest}
 use Rattle.rep_digest.specs.WellMade.{IsOrigin, IsEntry, IsDigest}
-use Rattle.rep_digest.specs.Steps.{outside, ack_of, left_of, left_by, IsLeft}
+use Rattle.rep_digest.specs.Steps.{outside, ack_of, left_by, IsLeft}
 use Rattle.rep_digest.proofs.Reaching.{in_outside, IsPartOf, parts}
 
 -- ---- the ranges that an entry has are apart

@@ -1,9 +1,8 @@
 -- The digest of a set of operations that a delta may hold is a digest.
-use Rattle.std.proofs.Common.{◌≡◌, ℕ, zero, suc, ◌+◌, ◌<◌, ◌≤◌, ◌^◌, ◌==◌, Bool, true, false, cond, not, ◌&&◌, ◌||◌, if◌then◌else◌, nat_le, List, [], ◌∷◌, ◌++◌, map, filter, length, Option, Some, None, is_some, IfSome, Contains, refl, sym, ap, subst, ◌∙◌, arith, true≢false, leb-true, le-leb, eqb-true, Less}
+use Rattle.std.proofs.Common.{◌≡◌, ℕ, zero, suc, ◌+◌, ◌<◌, ◌≤◌, ◌^◌, true, false, cond, ◌||◌, if◌then◌else◌, nat_le, List, [], ◌∷◌, map, filter, length, Option, Some, None, is_some, IfSome, refl, sym, subst, ◌∙◌, arith, true≢false, leb-true, le-leb}
 use Rattle.std.specs.Prelude.{IsTrue}
-use Rattle.std.specs.List.{list_any, filter_map, cons_option, AllByRecursion}
+use Rattle.std.specs.List.{filter_map, AllByRecursion}
 use Rattle.std.specs.List.Sorted.{IsStrictlySortedBy}
-use Rattle.std.specs.FinMap.{find}
 use Rattle.std.proofs.lemmas.Bool.{and_parts, and_from, or_left, or_right}
 use Rattle.rep_ops.specs.ClientIds.{IsClientId}
 use Rattle.sn_session.specs.declared.change.SessionOp.{SessionOp}
@@ -24,12 +23,10 @@ use Rattle.rep_model.proofs.Readers.{stamp_total, operation_exact, put_exact, sa
 use Rattle.rep_model.proofs.Joins.{all-moved as all_moved}
 use Rattle.rep_model.proofs.Ranges.{apart-joined}
 use Rattle.rep_model.proofs.Greatest.{has, greatest-has}
-use Rattle.rep_model.specs.Views.{greatest}
 use Rattle.rep_ops.specs.Orders.{stamp_cmp}
 use Rattle.rep_model.proofs.Named.{clients-named, clients-ascend}
 use Rattle.rep_model.proofs.Limits.{in-acknowledged, apart-acknowledged}
 use Rattle.rep_digest.specs.declared.entry.OriginEntry.{OriginEntry}
-use Rattle.rep_digest.specs.declared.entry.ClientEntry.{ClientEntry}
 use Rattle.rep_digest.specs.Digests.{number_of, waiting, origin_entry, has_ranges, numbers_from, origin_entries, client_entry, digest}
 use Rattle.rep_digest.specs.WellMade.{IsRange, IsOrigin, IsSeen, OriginsAscend, IsEntry, ClientsAscend, IsDigest}
 use Rattle.rep_digest.proofs.Covered.{waiting_there}

@@ -1,5 +1,5 @@
 -- What a draft says of an origin is what the set says.
-use Rattle.std.proofs.Common.{◌≡◌, ℕ, zero, suc, ◌+◌, ◌<◌, ◌≤◌, ◌==◌, Bool, true, false, cond, not, ◌&&◌, ◌||◌, T, if◌then◌else◌, nat_le, List, [], ◌∷◌, ◌++◌, map, filter, fold, length, Option, Some, None, IfSome, refl, sym, ap, subst, ◌∙◌, arith, true≢false, leb-true, le-leb, eqb-true, eq-eqb, Less, is_lt, Ordering, Equal, Greater, nat_cmp}
+use Rattle.std.proofs.Common.{◌≡◌, ℕ, ◌+◌, ◌<◌, ◌≤◌, ◌==◌, Bool, true, false, ◌&&◌, ◌||◌, T, if◌then◌else◌, nat_le, List, [], ◌∷◌, map, fold, Some, None, IfSome, refl, sym, ap, subst, ◌∙◌, arith, true≢false, leb-true, le-leb, eqb-true, eq-eqb, Less, is_lt, Equal, Greater, nat_cmp}
 use Rattle.std.specs.Prelude.{IsTrue}
 use Rattle.std.specs.List.{list_any, filter_map, cons_option, AllByRecursion}
 use Rattle.std.specs.Ordering.{ordering_then}
@@ -9,18 +9,17 @@ use Rattle.rep_ops.specs.declared.op.Put.{Put}
 use Rattle.rep_ops.specs.declared.op.Op.{Op}
 use Rattle.rep_ops.specs.declared.op.Op.TheVariants.{Session as OfSession, Put as OfPut, Ack}
 use Rattle.rep_ops.specs.Orders.{put_cmp}
-use Rattle.rep_ops.specs.Sets.{same_client, is_acknowledged, Same}
+use Rattle.rep_ops.specs.Sets.{same_client}
 use Rattle.rep_ops.specs.Making.{AreWellMade}
 use Rattle.rep_ops.specs.WellMade.{is_well_made}
 use Rattle.rep_ops.proofs.Names.{made_range, nat_less, same_nat}
 use Rattle.rep_ops.proofs.Rising.{Past, Rising}
 use Rattle.rep_model.specs.Views.{pending}
-use Rattle.rep_model.specs.Limits.{range_of, joined, acknowledged}
+use Rattle.rep_model.specs.Limits.{range_of}
 use Rattle.rep_model.specs.Ranges.{is_within, in_ranges, AreApartFrom, AreApart}
 use Rattle.rep_model.proofs.Readers.{same_client-true}
 use Rattle.rep_model.proofs.Waiting.{AreUnderNames, waiting_entries, waiting_under, waiting_sorted}
-use Rattle.rep_model.proofs.Ranges.{IsRange, within-parts, in-joined, apart-joined, in-apart, same_ranges}
-use Rattle.rep_digest.specs.declared.groups.Acknowledged.{Acknowledged}
+use Rattle.rep_model.proofs.Ranges.{IsRange, within-parts, in-joined, apart-joined, same_ranges}
 use Rattle.rep_digest.specs.Digests.{number_of, waiting}
 use Rattle.rep_digest.specs.Steps.{acknowledged_by, group, numbers_of, seq_of, with_number, in_ranges_of}
 

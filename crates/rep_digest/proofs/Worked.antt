@@ -1,9 +1,8 @@
 -- A digest that is worked out of what a replica hands out is the digest of what it keeps.
-use Rattle.std.proofs.Common.{◌≡◌, ℕ, zero, suc, ◌+◌, ◌<◌, Bool, List, [], ◌∷◌, ◌++◌, map, filter, length, take, get_or, refl, sym, ap, subst, ◌∙◌, arith}
+use Rattle.std.proofs.Common.{◌≡◌, ℕ, zero, suc, ◌+◌, ◌<◌, List, [], ◌∷◌, ◌++◌, map, filter, length, take, get_or, refl, sym, ap, subst, ◌∙◌, arith}
 use Rattle.std.proofs.lemmas.List.{map-append, take_more}
 use Rattle.std.specs.List.{filter_map}
 use Rattle.rep_ops.specs.declared.op.Op.{Op}
-use Rattle.rep_ops.specs.Sets.{is_acknowledged}
 use Rattle.rep_ops.specs.Making.{IsDeltaOf}
 use Rattle.rep_ops.specs.Splitting.{all_of}
 use Rattle.rep_ops.proofs.Joined.{rising_ascending}
@@ -11,14 +10,12 @@ use Rattle.rep_model.specs.Views.{pending, view, clients}
 use Rattle.rep_model.specs.Keep.{keep, CountsAs}
 use Rattle.rep_model.specs.Held.{IsHeld}
 use Rattle.rep_model.specs.Limits.{range_of, acknowledged}
-use Rattle.rep_model.specs.Ranges.{in_ranges}
 use Rattle.rep_model.proofs.Readers.{is_acknowledged_keep}
 use Rattle.rep_model.proofs.Thin.{same_kept, thin-same, thin-keep}
 use Rattle.rep_model.proofs.Joins.{same_trans}
 use Rattle.rep_model.proofs.Ranges.{same_ranges}
 use Rattle.rep_model.proofs.Limits.{in-ranges_of, in-acknowledged, apart-acknowledged}
 use Rattle.rep_digest.specs.declared.groups.Acknowledged.{Acknowledged}
-use Rattle.rep_digest.specs.declared.entry.OriginEntry.{OriginEntry}
 use Rattle.rep_digest.specs.declared.entry.ClientEntry.{ClientEntry}
 use Rattle.rep_digest.specs.Digests.{origin_entry, has_ranges, numbers_from, origin_entries, client_entry, digest}
 use Rattle.rep_digest.specs.Steps.{group, groups, drafted, drafted_entry}

@@ -1,4 +1,4 @@
-use Rattle.std.proofs.Common.{◌≡◌, ℕ, ◌++◌, ap, sym, ◌∙◌, map}
+use Rattle.std.proofs.Common.{ℕ, ◌++◌, ap, sym, ◌∙◌, map}
 use Rattle.rep_digest.specs.Answers.{acknowledged_in}
 use Rattle.rep_digest.specs.Steps.{ending_from, outside, ack_of, left_of}
 use Rattle.std.specs.Prelude.{Some}

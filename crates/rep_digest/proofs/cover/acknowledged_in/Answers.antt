@@ -1,4 +1,4 @@
-use Rattle.std.proofs.Common.{◌≡◌, ◌==◌, List, Some, sym, ap, subst, ◌∙◌}
+use Rattle.std.proofs.Common.{◌==◌, List, sym, ap, subst, ◌∙◌}
 use Rattle.std.specs.List.{find}
 use Rattle.rep_model.specs.Ranges.{AreApart}
 use Rattle.rep_digest.specs.WellMade.{IsOrigin}

@@ -1,4 +1,4 @@
-use Rattle.std.proofs.Common.{◌≡◌, ap, ◌∙◌, arith, rules}
+use Rattle.std.proofs.Common.{◌≡◌, ◌∙◌, arith, rules}
 use Rattle.std.specs.Prelude.{nat_lt}
 use Rattle.std.proofs.lemmas.Fn.{always_returns_same}
 use Rattle.rep_digest.proofs.Reaching.{partitioned, drop_ending}

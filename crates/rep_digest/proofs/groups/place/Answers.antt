@@ -1,4 +1,3 @@
-use Rattle.std.proofs.Common.{◌≡◌}
 use Rattle.rep_ops.specs.Orders.{client_cmp}
 use Rattle.rep_model.proofs.Readers.{client_total}
 use Rattle.sn_session.proofs.Places.{placed}

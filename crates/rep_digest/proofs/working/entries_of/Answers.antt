@@ -1,4 +1,4 @@
-use Rattle.std.proofs.Common.{map, take, ap, ◌∙◌}
+use Rattle.std.proofs.Common.{ap, ◌∙◌}
 use Rattle.rep_model.specs.Views.{view}
 use Rattle.rep_digest.specs.Steps.{group, drafted_entry}
 use Rattle.rep_digest.proofs.Worked.{entry_more}

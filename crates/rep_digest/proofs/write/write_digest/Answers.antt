@@ -1,8 +1,4 @@
-use Rattle.std.proofs.Common.{arith, length}
-use Rattle.std.specs.List.{flat_map}
-use Rattle.std.proofs.lemmas.List.{length-append}
-use Rattle.byteorder.specs.Endian.{big_bytes}
-use Rattle.rep_digest.specs.Spelling.{entry_octets}
+use Rattle.std.proofs.Common.{arith}
 use Rattle.rep_digest.proofs.Format.{length_entries, writable}
 use Rattle.rep_digest.proofs.write.write_digest.Goals as goal
 
