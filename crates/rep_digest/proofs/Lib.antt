@@ -10,3 +10,4 @@ pub mod Said
 pub mod Made
 pub mod Worked
 pub mod Left
+pub mod Examples
