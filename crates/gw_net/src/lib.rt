@@ -1,0 +1,18 @@
+//! Links between gateways.
+//!
+//! Two gateways that are linked say their numbers, then what they have (digests), then what the other lacks (deltas). A link
+//! carries octets in pieces of any size.
+//!
+//! - `message`: what is said (`LinkMessage`).
+//! - `fault`: why a link is given up.
+//! - `front`: the message in front of a stream.
+//!
+//! The definitions are in `specs/`: `Messages` (messages and their octets), `Streams` (what a stream says).
+#![tactic(auto)]
+
+mod fault;
+mod front;
+mod message;
+
+pub use fault::LinkFault;
+pub use message::LinkMessage;
