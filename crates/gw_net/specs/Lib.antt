@@ -1,3 +1,4 @@
 pub mod Messages
 pub mod Streams
 pub mod Pieces
+pub mod Writing

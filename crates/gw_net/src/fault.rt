@@ -1,8 +1,10 @@
-//! Why a link is given up.
+//! Why a link is given up, and why a message was not written.
 
 ghost use Rattle.std.specs.Prelude.{◌≡◌};
 ghost use Rattle.gw_net.specs.declared.fault.LinkFault.TheVariants.{Memory};
+ghost use Rattle.gw_net.specs.declared.fault.LinkOutFault.TheVariants.{Memory as OutMemory};
 
+use rep_ops::OpsFault;
 use std::alloc::{AllocError, AllocFailed};
 use thiserror::Error;
 
@@ -39,5 +41,41 @@ impl<T: Drop> From<AllocFailed<T>> for LinkFault {
 
     fn from(_error: AllocFailed<T>) -> LinkFault {
         LinkFault::Memory
+    }
+}
+
+/// Why a message was not written.
+#[derive(Clone, Copy, Debug, PartialEq, Eq, Error)]
+pub enum LinkOutFault {
+    /// A write failed, or took no octet: this many octets of the message went out.
+    #[error("the link took {written} octets of a message")]
+    Write { written: usize },
+    /// Memory ran out. Nothing was written.
+    #[error("out of memory")]
+    Memory,
+}
+
+impl From<AllocError> for LinkOutFault {
+    ghost from_gives = { λ _ e. e ≡ OutMemory };
+
+    fn from(_error: AllocError) -> LinkOutFault {
+        LinkOutFault::Memory
+    }
+}
+
+impl<T: Drop> From<AllocFailed<T>> for LinkOutFault {
+    ghost from_gives = { λ _ e. e ≡ OutMemory };
+
+    fn from(_error: AllocFailed<T>) -> LinkOutFault {
+        LinkOutFault::Memory
+    }
+}
+
+// A digest and a delta are encoded; that is refused for want of memory alone.
+impl From<OpsFault> for LinkOutFault {
+    ghost from_gives = { λ _ e. e ≡ OutMemory };
+
+    fn from(_error: OpsFault) -> LinkOutFault {
+        LinkOutFault::Memory
     }
 }

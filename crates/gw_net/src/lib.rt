@@ -7,16 +7,19 @@
 //! - `fault`: why a link is given up.
 //! - `front`: the message in front of a stream.
 //! - `stream`: the end of a link at which pieces come in (`LinkIn`).
+//! - `out`: the end at which messages go out (`link_out`).
 //!
 //! The definitions are in `specs/`: `Messages` (messages and their octets), `Streams` (what a stream says), `Pieces` (what pieces of it
-//! give).
+//! give), `Writing` (what goes out).
 #![tactic(auto)]
 
 mod fault;
 mod front;
 mod message;
+mod out;
 mod stream;
 
-pub use fault::LinkFault;
+pub use fault::{LinkFault, LinkOutFault};
 pub use message::LinkMessage;
+pub use out::link_out;
 pub use stream::{Fed, LinkIn};
