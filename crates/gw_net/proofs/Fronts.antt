@@ -157,7 +157,7 @@ pub record IsBegun (stream : List ℕ) (messages : List LinkMessage) (rest : Lis
   pub all : AllByRecursion IsMessage messages
   pub parts : stream ≡ flat_map spelling messages ++ rest
 
-all_both : (xs ys : List LinkMessage) → AllByRecursion IsMessage xs → AllByRecursion IsMessage ys → AllByRecursion IsMessage (xs ++ ys)
+pub all_both : (xs ys : List LinkMessage) → AllByRecursion IsMessage xs → AllByRecursion IsMessage ys → AllByRecursion IsMessage (xs ++ ys)
 all_both [] ys f g = g
 all_both (x ∷ xs) ys f g = (f.0, all_both xs ys f.1 g)
 

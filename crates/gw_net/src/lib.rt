@@ -8,6 +8,7 @@
 //! - `front`: the message in front of a stream.
 //! - `stream`: the end of a link at which pieces come in (`LinkIn`).
 //! - `out`: the end at which messages go out (`link_out`).
+//! - `laws`: that a stream says one thing, however it is cut.
 //!
 //! The definitions are in `specs/`: `Messages` (messages and their octets), `Streams` (what a stream says), `Pieces` (what pieces of it
 //! give), `Writing` (what goes out).
@@ -15,11 +16,13 @@
 
 mod fault;
 mod front;
+mod laws;
 mod message;
 mod out;
 mod stream;
 
 pub use fault::{LinkFault, LinkOutFault};
+pub use laws::one_stream;
 pub use message::LinkMessage;
 pub use out::link_out;
 pub use stream::{Fed, LinkIn};
