@@ -26,3 +26,6 @@ pub use laws::one_stream;
 pub use message::LinkMessage;
 pub use out::link_out;
 pub use stream::{Fed, LinkIn};
+
+#[cfg(test)]
+mod tests;
