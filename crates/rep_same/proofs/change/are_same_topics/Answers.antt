@@ -1,6 +1,6 @@
-use Rattle.std.proofs.Common.{◌≡◌, sym, ◌∙◌}
-use Rattle.rep_plain.proofs.Equal.{topics_told}
-use Rattle.rep_plain.proofs.same.are_same_topics.Goals as goal
+use Rattle.std.proofs.Common.{sym, ◌∙◌}
+use Rattle.rep_same.proofs.Equal.{topics_told}
+use Rattle.rep_same.proofs.change.are_same_topics.Goals as goal
 
 pub returns : goal.returns
 returns c =

@@ -1,5 +1,5 @@
 -- Where the entries of two tables are told apart, so are the tables.
-use Rattle.std.proofs.Common.{◌≡◌, ℕ, Bool, List, sym, ap, ◌∙◌, Decides}
+use Rattle.std.proofs.Common.{◌≡◌, List, ap, Decides}
 use mathlib.Core.Bool.{beq}
 use Rattle.std.specs.Cmp.{booleans_Decides}
 use Rattle.std.specs.Cmp.Lexicographic.{pointwise, pointwise_decides}
