@@ -1,27 +1,38 @@
 # Nimhazel: a field of MQTT-SN 1.2 gateways.
 #
-#   make run    runs the simulator on the scripts of examples/ and shows script and output side by side
+#   make run    plays the scripts of examples/ and shows script and output side by side
+#   make prove  proves the simulator and all that it stands on, and builds it; make run plays it from then on
 #   make test   proves every crate from nothing, tries the edits that must fail, runs every test and program
-#   make edits  tries more edits that must fail, which make test leaves out for the sake of its time
-#   make bench  times the simulator, and the two codecs beside plain C
+#   make trust  writes docs/TRUST.md: the contracts that carry the promise, and what they stand on
+#   make edits  tries more edits that must fail, which make test leaves out for the sake of its time; CRATES=NAME those of a crate
+#   make bench  times the simulator, digests and answers, the lock, and the two codecs beside plain C
 #
-# All need the Rattle kit's command `rt`; make bench needs gcc and python3 as well.
+# All need the Rattle kit's command `rt`; make test and make trust need python3 as well, make bench gcc too.
 
-.PHONY: run test edits bench clean
+.PHONY: run prove test edits bench trust clean
 
 run:
 	@sh examples/show.sh
 
+prove:
+	@echo "Proving gw_sim and all that it stands on: some twenty minutes on four processors, the first time."
+	@cd crates/gw_sim && rt run <stdin >/dev/null
+
 # One task a processor: without RT_JOBS a large crate waits for memory that it does not need.
 test:
+	python3 tools/trust.py --check
 	RT_JOBS=$${RT_JOBS:-$$(nproc)} rt ci
 
+trust:
+	python3 tools/trust.py
+
 edits:
-	@.ci/edits
+	@.ci/edits $(CRATES)
 
 bench:
 	@sh bench/play.sh
 	@sh bench/codecs.sh
+	@sh bench/digests.sh
 
 clean:
 	rm -rf crates/*/out

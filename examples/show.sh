@@ -1,28 +1,57 @@
 #!/bin/sh
-# Builds gw_sim, plays the scripts of this folder, and shows script and output side by side. Where a file NAME.told stands beside
-# NAME.script, its lines explain those of the script.
+# Plays the scripts of this folder by the simulator, and shows script and output side by side. Where a file NAME.told stands
+# beside NAME.script, its lines explain those of the script.
+#
+# The proved program is used where it is there (`make prove` makes it); else a build that is not proved yet, and that is said.
 set -eu
 top=$(cd "$(dirname "$0")/.." && pwd)
 work=$(mktemp -d)
 trap 'rm -rf "$work"' EXIT
-echo "Proving and building gw_sim; the first time takes about half an hour." >&2
-(cd "$top/crates/gw_sim" && rt run <stdin >"$work/built" 2>"$work/told") || true
-program=$top/crates/gw_sim/out/gw_sim
-if ! cmp -s "$work/built" "$top/crates/gw_sim/stdout"; then
-    cat "$work/told" "$work/built" >&2
-    exit 1
-fi
+mkdir "$work/cases"
+
+# What a line prints is what the script up to it prints more than the script before it: one case for each line.
 for script in "$top"/examples/*.script; do
-    echo "== $(basename "$script" .script)"
-    told=${script%.script}.told
+    lines=$(wc -l <"$script")
+    number=0
+    while [ "$number" -lt "$lines" ]; do
+        number=$((number + 1))
+        head -n "$number" "$script" >"$work/cases/$(basename "$script" .script).$number"
+    done
+done
+
+# The program is the proved one of these sources: it is younger than each of them, and prints its stored run.
+is_proved() {
+    [ -x "$program" ] && [ -z "$(find "$top"/crates/*/src "$top"/crates/*/specs -newer "$program" -print 2>/dev/null | head -n 1)" ] &&
+        "$program" <"$top/crates/gw_sim/stdin" | cmp -s - "$top/crates/gw_sim/stdout"
+}
+
+program=$top/crates/gw_sim/out/gw_sim
+mkdir "$work/printed"
+if is_proved; then
+    for case in "$work"/cases/*; do
+        "$program" <"$case" >"$work/printed/$(basename "$case")" || true
+    done
+else
+    echo "This build of gw_sim is NOT PROVED: it shows what the program does, after some minutes. 'make prove' proves it."
+    echo
+    (cd "$top/crates/gw_sim" && rt try --cases "$work/cases") >"$work/all" 2>"$work/told" || {
+        cat "$work/told" "$work/all" >&2
+        exit 1
+    }
+    awk -v to="$work/printed/" '/^== /{ file = to $2; printf "" > file; next } /^cases?=/{ file = "" } file { print > file }' "$work/all"
+fi
+
+for script in "$top"/examples/*.script; do
+    name=$(basename "$script" .script)
+    told=$top/examples/$name.told
+    echo "== $name"
     seen=0
     number=0
-    # What a line prints is what the script up to it prints more than the script before it.
     while IFS= read -r line; do
         number=$((number + 1))
-        head -n "$number" "$script" | "$program" >"$work/printed" || true
-        tail -n +"$((seen + 1))" "$work/printed" >"$work/more"
-        seen=$(wc -l <"$work/printed")
+        printed=$work/printed/$name.$number
+        tail -n +"$((seen + 1))" "$printed" >"$work/more"
+        seen=$(wc -l <"$printed")
         left=$line
         if [ ! -s "$work/more" ]; then echo >"$work/more"; fi
         while IFS= read -r answer; do

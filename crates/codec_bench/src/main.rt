@@ -1,7 +1,7 @@
-//! Work for the two codecs and the journal, so that a stopwatch outside can time it.
+//! Work for the two codecs, the journal and digests, so that a stopwatch outside can time it.
 //!
-//! Each line of standard input names a work and how often it is done, as `frames 100`, `deltas 20` or
-//! `records 1000`.
+//! Each line of standard input names a work and how often it is done, as `frames 100`, `deltas 20`,
+//! `records 1000` or `digests 10`.
 //! The program makes its own data, the same in each run, and prints counts and a checksum of what the
 //! codec wrote. It reads no clock. The folder bench/ has the stopwatch, and the same work in C.
 //!
@@ -11,11 +11,15 @@
 //! - `operations`: the operations of a delta of about 8 MiB.
 //! - `deltas`: that delta encoded and decoded again.
 //! - `records`: one change of a session appended to a journal on a disk in memory.
+//! - `gateways`: two gateways of which one was away.
+//! - `digests`: the digest of that one, and the other's answer.
 #![tactic(auto)]
 
 mod datagrams;
 mod deltas;
+mod digests;
 mod frames;
+mod gateways;
 mod numbers;
 mod operations;
 mod records;
@@ -41,6 +45,10 @@ fn work(alloc: Global, line: &str) -> Result<String> {
         "frames" => frames::run(alloc, rounds),
         "deltas" => deltas::run(alloc, rounds),
         "records" => records::run(alloc, rounds),
-        _ => bail!("the works are frames, deltas and records"),
+        "digests" => digests::run(alloc, rounds),
+        _ => bail!("the works are frames, deltas, records and digests"),
     }
 }
+
+#[cfg(test)]
+mod tests;

@@ -1,5 +1,5 @@
 -- From what the parts of a call come to, to the call.
-use Rattle.std.proofs.Common.{◌≡◌, ◌≢◌, ℕ, ◌==◌, false, List, [], ◌∷◌, ◌++◌, length, Some, Result, Ok, Err, refl, ap, inr}
+use Rattle.std.proofs.Common.{◌≡◌, ◌≢◌, ℕ, ◌==◌, false, List, [], ◌∷◌, ◌++◌, length, Some, Result, Ok, Err, refl, ap, inl, inr}
 use Rattle.rep_ops.specs.declared.op.Op.{Op}
 use Rattle.rep_ops.specs.Making.{IsDeltaOf}
 use Rattle.rep_model.specs.Keep.{IsKeptOf}
@@ -20,7 +20,7 @@ use Rattle.gw_node.specs.Occasions.{Datagram}
 use Rattle.gw_node.specs.Parts.{State, is_halted, IsUnchanged, only_sends}
 use Rattle.gw_node.specs.Writing.{IsWritten, WrittenAs, WrittenIfAny, refusal_of}
 use Rattle.gw_node.specs.Excuses.{excuses}
-use Rattle.gw_node.specs.Plans.{Makes}
+use Rattle.gw_node.specs.Plans.{IsMisfit, Makes}
 use Rattle.gw_node.specs.Calls.{OwnCall, TakeCall, IsNoted}
 use Rattle.gw_node.specs.Handling.{HaveNoDelta, planned_for, CarriedOut, Answers}
 
@@ -60,6 +60,27 @@ module _ {D : Type 0} {G : Ghosts D} where
   no_delta old new plan excuse (refusals.Conflict client) h u = absurd h
   no_delta old new plan excuse refusals.Exhausted h u = absurd h
   no_delta old new plan excuse (refusals.Journal fault) h u = absurd h
+
+  -- a delta that cannot be taken
+  pub no_room : (old new : State G) (plan : Plan) (excuse : Out) (delta : List Op) (refusal : Refusal) → IsDeltaOf plan.ops delta → IsMisfit old.kept delta refusal → IsUnchanged old new → CarriedOut old plan excuse (Err refusal) new
+  no_room old new plan excuse delta (refusals.Conflict client) d h u = (inl (delta, d, h), u)
+  no_room old new plan excuse delta refusals.Full d h u = (inl (delta, d, h), u)
+  no_room old new plan excuse delta refusals.Memory d h u = u
+  no_room old new plan excuse delta (refusals.Frame fault) d h u = absurd h
+  no_room old new plan excuse delta refusals.Halted d h u = absurd h
+  no_room old new plan excuse delta (refusals.Disk given) d h u = absurd h
+  no_room old new plan excuse delta refusals.Exhausted d h u = absurd h
+  no_room old new plan excuse delta (refusals.Journal fault) d h u = absurd h
+
+  -- the journal refused the delta of a plan
+  pub given_up : (old new : State G) (plan : Plan) (excuse : Out) (delta : List Op) (fault : JournalFault) → plan.ops ≢ [] → excuse ≡ only_sends excuse.sends → IsDeltaOf plan.ops delta → Fits old.kept delta
+      → new.config ≡ old.config → new.kept ≡ old.kept → new.local ≡ old.local → new.records ≡ old.records → WrittenAs old.journal delta (Err fault) new.journal → CarriedOut old plan excuse (Err (refusal_of fault excuse)) new
+  given_up old new plan excuse delta faults.Disk some answer d fits config kept local records h =
+      (refl, record { some = some; config = config; records = records; kept = kept; local = local; delta = delta; is_delta = d; fits = fits; failed = h; answer = answer })
+  given_up old new plan excuse delta faults.Halted some answer d fits config kept local records h = (h.0, record { config = config; kept = kept; local = local; journal = h.1; records = records })
+  given_up old new plan excuse delta faults.Memory some answer d fits config kept local records h = record { config = config; kept = kept; local = local; journal = h; records = records }
+  given_up old new plan excuse delta faults.Foreign some answer d fits config kept local records h = absurd h
+  given_up old new plan excuse delta (faults.BadRecord slot at) some answer d fits config kept local records h = absurd h
 
   -- a frame was read, and its plan was carried out or not
   pub frame_answered : (old new : State G) (from : Addr) (bytes : List ℕ) (frame : Frame) (now : ℕ) (answer : Result Out Refusal) → is_halted old ≡ false → IsValue frame → Spells bytes frame

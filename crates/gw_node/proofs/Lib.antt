@@ -2,3 +2,4 @@ pub mod Calling
 pub mod Between
 pub mod Taken
 pub mod Started
+pub mod Failing

@@ -11,6 +11,7 @@ use Rattle.jr_journal.specs.Disk.{Slots, SlotBytes, Image, image, bytes_of, left
 use Rattle.jr_journal.specs.Records.{records}
 use Rattle.jr_journal.specs.Journals.{Opens}
 use Rattle.jr_journal.specs.Parts.{disk_of, gateway_of}
+use Rattle.rep_digest.specs.declared.entry.ClientEntry.{ClientEntry}
 use Rattle.gw_node.specs.declared.out.Out.{Out}
 use Rattle.gw_node.specs.declared.refusal.Refusal.{Refusal}
 use Rattle.gw_node.specs.declared.refusal.Refusal.TheVariants as refusals
@@ -22,7 +23,7 @@ use Rattle.gw_node.specs.Writing.{IsWritten, IsFailed}
 use Rattle.gw_node.specs.Plans.{Makes}
 use Rattle.gw_node.specs.Taking.{ops_of, IsBetween, StandsFor, HasTaken}
 use Rattle.gw_node.specs.Carrying.{TakesMore, TakesNoMore, TakesNothing, made_by, CarriesOn, OwnCarriesOn, StepCarriesOn}
-use Rattle.gw_node.specs.Calls.{OwnCall, TakeCall, ViewCall, StepCall, IsNoted}
+use Rattle.gw_node.specs.Calls.{OwnCall, TakeCall, ViewCall, DigestCall, AnswerCall, StepCall, IsNoted}
 use Rattle.gw_node.proofs.Between.{between_more, between_refused, between_left_over}
 
 -- ---- crashes that leave all
@@ -153,8 +154,32 @@ module _ {D : Type 0} {G : Ghosts D} where
   view_carries_on old new client (Err refusals.Exhausted) h = absurd h
   view_carries_on old new client (Err (refusals.Journal fault)) h = absurd h
 
+  digest_carries_on : (old new : State G) (answer : Result Out Refusal) → DigestCall old answer new → TakesNothing old new
+  digest_carries_on old new (Ok out) (within, is_out, same) = unchanged old new same
+  digest_carries_on old new (Err refusals.Full) h = unchanged old new h.1
+  digest_carries_on old new (Err refusals.Memory) h = unchanged old new h
+  digest_carries_on old new (Err refusals.Halted) h = absurd h
+  digest_carries_on old new (Err (refusals.Frame fault)) h = absurd h
+  digest_carries_on old new (Err (refusals.Disk excuse)) h = absurd h
+  digest_carries_on old new (Err (refusals.Conflict of)) h = absurd h
+  digest_carries_on old new (Err refusals.Exhausted) h = absurd h
+  digest_carries_on old new (Err (refusals.Journal fault)) h = absurd h
+
+  answer_carries_on : (old new : State G) (asked : List ClientEntry) (answer : Result Out Refusal) → AnswerCall old asked answer new → TakesNothing old new
+  answer_carries_on old new asked (Ok out) (is_answer, is_out, same) = unchanged old new same
+  answer_carries_on old new asked (Err refusals.Memory) h = unchanged old new h
+  answer_carries_on old new asked (Err refusals.Full) h = absurd h
+  answer_carries_on old new asked (Err refusals.Halted) h = absurd h
+  answer_carries_on old new asked (Err (refusals.Frame fault)) h = absurd h
+  answer_carries_on old new asked (Err (refusals.Disk excuse)) h = absurd h
+  answer_carries_on old new asked (Err (refusals.Conflict of)) h = absurd h
+  answer_carries_on old new asked (Err refusals.Exhausted) h = absurd h
+  answer_carries_on old new asked (Err (refusals.Journal fault)) h = absurd h
+
   pub step_carries_on : (old new : State G) (step : Step) (answer : Result Out Refusal) → StepCall old step answer new → StepCarriesOn old step answer new
   step_carries_on old new (steps.Frame from bytes now) answer h = own_carries_on old new (Datagram from bytes) now answer h
   step_carries_on old new (steps.Take delta) answer h = take_carries_on old new delta answer h
   step_carries_on old new (steps.Tick now) answer h = own_carries_on old new Clock now answer h
   step_carries_on old new (steps.View client) answer h = view_carries_on old new client answer h
+  step_carries_on old new steps.Digest answer h = digest_carries_on old new answer h
+  step_carries_on old new (steps.Answer asked) answer h = answer_carries_on old new asked answer h

@@ -1,10 +1,15 @@
 -- What each call of a node may answer, and the node after it. A node that is halted refuses first of all.
-use Rattle.std.specs.Prelude.{◌≡◌, ◌≢◌, ◌⊎◌, ℕ, true, false, if◌then◌else◌, List, [], ◌∷◌, ◌++◌, Some, None, Result, Ok, Err}
+use Rattle.std.specs.Prelude.{◌≡◌, ◌≢◌, ◌⊎◌, ◌<◌, ℕ, true, false, length, if◌then◌else◌, List, [], ◌∷◌, ◌++◌, Some, None, Result, Ok, Err}
 use Rattle.rep_ops.specs.declared.op.Op.{Op}
-use Rattle.rep_ops.specs.Making.{IsDeltaOf}
+use Rattle.rep_ops.specs.Making.{AreApart, IsDeltaOf}
 use Rattle.rep_model.specs.Views.{view, is_named}
 use Rattle.rep_model.specs.Keep.{IsKeptOf}
 use Rattle.rep_model.specs.Taking.{Fits}
+use Rattle.rep_ops.specs.Spelling.{max_octets}
+use Rattle.rep_digest.specs.declared.entry.ClientEntry.{ClientEntry}
+use Rattle.rep_digest.specs.Digests.{digest}
+use Rattle.rep_digest.specs.Answers.{IsAnswer}
+use Rattle.rep_digest.specs.Spelling.{spelling, IsWithinLimit}
 use Rattle.sn_flow.specs.declared.plan.Plan.{Plan}
 use Rattle.sn_flow.specs.Plans.{seen_of}
 use Rattle.sn_flow.specs.Locals.{after_all, owned}
@@ -23,11 +28,12 @@ use Rattle.gw_node.specs.Plans.{IsPlanFor, IsMisfit, MakeNoDelta, Makes}
 
 -- ---- datagrams and ticks
 
--- the plan was carried out
+-- the plan was carried out; no two of its operations have a name in common
 pub record IsDone {D : Type 0} {G : Ghosts D} (old : State G) (plan : Plan) (out : Out) (new : State G) : Type 0 where
   pub config : new.config ≡ old.config
   pub records : new.records ≡ old.records
   pub local : new.local ≡ after_all old.local plan.local
+  pub apart : AreApart plan.ops
   pub made : Makes plan.ops out.made old new
   pub answer : out ≡ record (only_sends plan.sends) { made = out.made }
 
@@ -125,6 +131,33 @@ ViewCall old client (Err refusals.Full) new = ⊥
 ViewCall old client (Err refusals.Exhausted) new = ⊥
 ViewCall old client (Err (refusals.Journal fault)) new = ⊥
 
+-- ---- digests and answers
+
+-- A gateway asks for the digest, which is that of what is kept; a halted node answers too. It is refused exactly where it is too long.
+abbrev pub DigestCall : {D : Type 0} {G : Ghosts D} → State G → Result Out Refusal → State G → Type 0
+DigestCall old (Ok out) new =
+    IsWithinLimit (digest old.kept) × (out ≡ record (only_sends []) { digest = Some (digest old.kept) }) × IsUnchanged old new
+DigestCall old (Err refusals.Full) new = (max_octets < length (spelling (digest old.kept))) × IsUnchanged old new
+DigestCall old (Err refusals.Memory) new = IsUnchanged old new
+DigestCall old (Err refusals.Halted) new = ⊥
+DigestCall old (Err (refusals.Frame fault)) new = ⊥
+DigestCall old (Err (refusals.Disk excuse)) new = ⊥
+DigestCall old (Err (refusals.Conflict of)) new = ⊥
+DigestCall old (Err refusals.Exhausted) new = ⊥
+DigestCall old (Err (refusals.Journal fault)) new = ⊥
+
+-- A gateway asks for what its digest does not cover of what must be kept; a halted node answers too.
+abbrev pub AnswerCall : {D : Type 0} {G : Ghosts D} → State G → List ClientEntry → Result Out Refusal → State G → Type 0
+AnswerCall old asked (Ok out) new = IsAnswer asked old.kept out.answer × (out ≡ record (only_sends []) { answer = out.answer }) × IsUnchanged old new
+AnswerCall old asked (Err refusals.Memory) new = IsUnchanged old new
+AnswerCall old asked (Err refusals.Full) new = ⊥
+AnswerCall old asked (Err refusals.Halted) new = ⊥
+AnswerCall old asked (Err (refusals.Frame fault)) new = ⊥
+AnswerCall old asked (Err (refusals.Disk excuse)) new = ⊥
+AnswerCall old asked (Err (refusals.Conflict of)) new = ⊥
+AnswerCall old asked (Err refusals.Exhausted) new = ⊥
+AnswerCall old asked (Err (refusals.Journal fault)) new = ⊥
+
 -- ---- steps
 
 abbrev pub StepCall : {D : Type 0} {G : Ghosts D} → State G → Step → Result Out Refusal → State G → Type 0
@@ -132,3 +165,5 @@ StepCall old (steps.Frame from bytes now) answer new = OwnCall old (Datagram fro
 StepCall old (steps.Take delta) answer new = TakeCall old delta answer new
 StepCall old (steps.Tick now) answer new = OwnCall old Clock now answer new
 StepCall old (steps.View client) answer new = ViewCall old client answer new
+StepCall old steps.Digest answer new = DigestCall old answer new
+StepCall old (steps.Answer asked) answer new = AnswerCall old asked answer new

@@ -61,3 +61,5 @@ StepCarriesOn old (steps.Frame from bytes now) answer new = OwnCarriesOn old (Da
 StepCarriesOn old (steps.Take delta) answer new = CarriesOn old delta answer new
 StepCarriesOn old (steps.Tick now) answer new = OwnCarriesOn old Clock now answer new
 StepCarriesOn old (steps.View client) answer new = TakesNothing old new
+StepCarriesOn old steps.Digest answer new = TakesNothing old new
+StepCarriesOn old (steps.Answer asked) answer new = TakesNothing old new

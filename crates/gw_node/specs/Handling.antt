@@ -1,7 +1,8 @@
 -- What the parts of a call come to. Only private functions cite these.
-use Rattle.std.specs.Prelude.{◌≡◌, ℕ, true, List, Option, Some, None, Result, Ok, Err}
+use Rattle.std.specs.Prelude.{◌≡◌, ◌≢◌, ℕ, true, List, Option, Some, None, Result, Ok, Err}
 use Rattle.rep_ops.specs.declared.op.Op.{Op}
 use Rattle.sn_frame.specs.declared.frame.Frame.{Frame}
+use Rattle.sn_frame.specs.declared.fault.FrameFault.TheVariants as frame_faults
 use Rattle.sn_frame.specs.Faults.{IsFirstFault}
 use Rattle.sn_flow.specs.declared.config.Addr.{Addr}
 use Rattle.sn_flow.specs.declared.config.Send.{Send}
@@ -19,7 +20,7 @@ use Rattle.gw_node.specs.Calls.{IsDone, IsGivenUp, AreTooMuch}
 
 -- the bytes are no frame; want of memory says nothing of them
 abbrev pub IsNoFrameBy : List ℕ → Refusal → Type 0
-IsNoFrameBy bytes (refusals.Frame fault) = IsFirstFault bytes fault
+IsNoFrameBy bytes (refusals.Frame fault) = IsFirstFault bytes fault × (fault ≢ frame_faults.Memory)
 IsNoFrameBy bytes refusals.Memory = Unit {0}
 IsNoFrameBy bytes refusals.Halted = ⊥
 IsNoFrameBy bytes (refusals.Disk excuse) = ⊥

@@ -8,3 +8,4 @@ pub mod Handling
 pub mod Taking
 pub mod Carrying
 pub mod Opening
+pub mod Failures

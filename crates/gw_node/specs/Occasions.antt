@@ -1,7 +1,8 @@
 -- What a gateway makes a plan for: a datagram, or that time goes by.
-use Rattle.std.specs.Prelude.{◌≡◌, ℕ, List, Option}
+use Rattle.std.specs.Prelude.{◌≡◌, ◌≢◌, ℕ, List, Option}
 use Rattle.sn_frame.specs.declared.frame.Frame.{Frame}
 use Rattle.sn_frame.specs.declared.fault.FrameFault.{FrameFault}
+use Rattle.sn_frame.specs.declared.fault.FrameFault.TheVariants as frame_faults
 use Rattle.sn_frame.specs.Bodies.{IsValue}
 use Rattle.sn_frame.specs.Grammar.{Spells}
 use Rattle.sn_frame.specs.Faults.{IsFirstFault}
@@ -26,7 +27,7 @@ IsPlanOf config seen local (Datagram from bytes) now plan =
 IsPlanOf config seen local Clock now plan =
     tick config.gateway config.advertise config.field config.predefined seen local now ≡ plan
 
--- the bytes of a datagram are no frame, and this is their first fault
+-- the bytes of a datagram are no frame, and this is their first fault; that memory ran out is none
 abbrev pub IsNoFrame : Occasion → FrameFault → Type 0
-IsNoFrame (Datagram from bytes) fault = IsFirstFault bytes fault
+IsNoFrame (Datagram from bytes) fault = IsFirstFault bytes fault × (fault ≢ frame_faults.Memory)
 IsNoFrame Clock fault = ⊥

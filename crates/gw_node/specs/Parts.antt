@@ -75,4 +75,4 @@ said (Err fault) = Err (told fault)
 
 -- an answer that sends these datagrams and says nothing else
 abbrev pub only_sends : List Send → Out
-only_sends sends = record { sends = sends; made = None; answer = []; view = None }
+only_sends sends = record { sends = sends; made = None; answer = []; digest = None; view = None }

@@ -2,7 +2,7 @@
 //! refused before the journal is written; behind it nothing can be.
 
 ghost use Rattle.std.specs.Prelude.{◌≡◌, ◌≢◌, ◌++◌, [], IfOk, IfErr, OnOk};
-ghost use Rattle.rep_ops.specs.Making.{IsDeltaOf};
+ghost use Rattle.rep_ops.specs.Making.{AreApart, IsDeltaOf};
 ghost use Rattle.rep_model.specs.Taking.{Fits};
 ghost use Rattle.rep_model.specs.Keep.{IsKeptOf};
 ghost use Rattle.gw_node.specs.Parts.{state_of, IsUnchanged, only_sends};
@@ -25,6 +25,7 @@ use std::alloc::Global;
 
 /// The delta of these operations.
 fn delta_of(alloc: Global, ops: Vec<Op>) -> Result<Delta, Refusal>
+    ensures apart { OnOk result (AreApart ops.items) }
     ensures ok { IfOk result (λ delta. IsDeltaOf ops.items delta) }
     ensures err { IfErr result (HaveNoDelta ops.items) }
 {

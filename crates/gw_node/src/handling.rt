@@ -1,12 +1,13 @@
 //! What the calls of a node do, up to the answer.
 
 ghost use Rattle.std.specs.Prelude.{◌≡◌, Some, [], IfOk, IfErr};
+ghost use Rattle.rep_digest.specs.Spelling.{IsWithinLimit};
 ghost use Rattle.sn_frame.specs.Bodies.{IsMessage, IsValue};
 ghost use Rattle.sn_frame.specs.Grammar.{Spells};
 ghost use Rattle.gw_node.specs.Occasions.{Datagram, Clock};
 ghost use Rattle.gw_node.specs.Excuses.{excuses as defined_excuses};
 ghost use Rattle.gw_node.specs.Parts.{state_of, only_sends};
-ghost use Rattle.gw_node.specs.Calls.{OwnCall, shows, StepCall};
+ghost use Rattle.gw_node.specs.Calls.{OwnCall, shows, DigestCall, AnswerCall, StepCall};
 ghost use Rattle.gw_node.specs.Handling.{IsNoFrameBy, IsNoPlan, planned_for, ticked, CarriedOut, Answers};
 ghost use Rattle.gw_node.specs.declared.refusal.Refusal.TheVariants as refusals;
 
@@ -19,8 +20,9 @@ use super::shares::Shares;
 use super::step::Step;
 use jr_journal::Disk;
 use octets::Sequence;
+use rep_digest::{Digest, answer, digest_of};
 use rep_model::Replica;
-use rep_ops::ClientId;
+use rep_ops::{ClientId, OpsFault};
 use sn_deliver::{step as plan_step, tick as plan_tick};
 use sn_flow::{Addr, Plan, StepFault};
 use sn_frame::{Frame, FrameFault, decode};
@@ -186,6 +188,42 @@ pub(crate) fn handle_view<R: Replica, D: Disk>(
     Ok(Shares::new(alloc, Out::of_view(alloc, view))?)
 }
 
+/// An answer that gives a digest, of which its type promises that it is not too long.
+fn give_digest(alloc: Global, digest: Digest) -> Result<Shares, Refusal>
+    ensures size { IsWithinLimit digest }
+    ensures ok { IfOk result (λ out. out ≡ record (only_sends []) { digest = Some digest }) }
+    ensures err { IfErr result (λ refusal. refusal ≡ refusals.Memory) }
+{
+    let _entries = digest.entries();
+    Ok(Shares::new(alloc, Out::of_digest(alloc, digest))?)
+}
+
+/// The digest of what is kept.
+pub(crate) fn handle_digest<R: Replica, D: Disk>(
+    alloc: Global,
+    node: &Node<R, D>,
+) -> Result<Shares, Refusal>
+    ensures { DigestCall (state_of R.kept node.now) result (state_of R.kept node.now) }
+{
+    match digest_of(alloc, &node.replica) {
+        Ok(digest) => give_digest(alloc, digest),
+        Err(OpsFault::Limit) => Err(Refusal::Full),
+        Err(_) => Err(Refusal::Memory),
+    }
+}
+
+/// What a digest does not cover of what must be kept.
+pub(crate) fn handle_answer<R: Replica, D: Disk>(
+    alloc: Global,
+    node: &Node<R, D>,
+    digest: &Digest,
+) -> Result<Shares, Refusal>
+    ensures { AnswerCall (state_of R.kept node.now) digest.now result (state_of R.kept node.now) }
+{
+    let deltas = answer(alloc, &node.replica, digest)?;
+    Ok(Shares::new(alloc, Out::of_answer(alloc, deltas))?)
+}
+
 /// A call, as a value.
 pub(crate) fn handle_step<R: Replica, D: Disk + Drop>(
     alloc: Global,
@@ -201,5 +239,7 @@ pub(crate) fn handle_step<R: Replica, D: Disk + Drop>(
         Step::Take { delta } => take_in(alloc, node, delta),
         Step::Tick { now } => handle_tick(alloc, node, *now),
         Step::View { client } => handle_view(alloc, node, client),
+        Step::Digest => handle_digest(alloc, node),
+        Step::Answer { digest } => handle_answer(alloc, node, digest),
     }
 }

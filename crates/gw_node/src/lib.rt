@@ -12,10 +12,11 @@
 //! - `excuse`: what a client is told where its frame came to nothing for want of a disk.
 //! - `step`: a call as a value (`Step`).
 //! - `out`, `fault`: what is answered (`Out`, `NodeFault`).
+//! - `same`, `same_out`: whether two calls, two answers or what was answered are equal (`same_step`, `same_answer`).
 //! - `shares`, `refusal`: the same with three shares of each answer, which are taken before the journal is written.
 //!
 //! The definitions are in `specs/`: `Occasions` (datagrams, ticks and their plans), `Parts` (what contracts see of a node),
-//! `Plans` (what a plan comes to), `Calls` (what each call may answer), `Writing` (what becomes of the journal), `Excuses`,
+//! `Plans` (what a plan comes to), `Calls` (what each call may answer), `Failures` (which answers tell of the disk), `Writing` (what becomes of the journal), `Excuses`,
 //! `Taking` (what a node has taken, and what a crash leaves of it), `Carrying` (how a call carries that on), `Opening`.
 //! `Handling` is for private functions.
 #![tactic(auto)]
@@ -28,10 +29,15 @@ mod node;
 mod opening;
 mod out;
 mod refusal;
+mod same;
+mod same_out;
 mod shares;
 mod step;
 
 pub use fault::NodeFault;
 pub use node::Node;
 pub use out::Out;
+pub use refusal::Answer;
+pub use rep_same::same_deltas;
+pub use same::{same_answer, same_step};
 pub use step::Step;

@@ -3,6 +3,7 @@
 ghost use Rattle.std.specs.Prelude.{◌≡◌, ◌≤◌, ◌<◌, ◌++◌, List, [], None, true, false, length, IfOk, IfErr, OnOk, IsTrue, MatchResult};
 ghost use Rattle.rep_ops.specs.declared.op.Op.{Op};
 ghost use Rattle.rep_model.specs.Keep.{CountsAs};
+ghost use Rattle.rep_model.specs.Held.{IsHeld};
 ghost use Rattle.rep_model.specs.Views.{clients as clients_of};
 ghost use Rattle.jr_journal.specs.Disk.{image};
 ghost use Rattle.jr_journal.specs.Records.{records};
@@ -11,18 +12,21 @@ ghost use Rattle.jr_journal.specs.Opening.{recovered, is_quiet, LeavesNoMore};
 ghost use Rattle.gw_node.specs.declared.fault.NodeFault.TheVariants as faults;
 ghost use Rattle.gw_node.specs.Occasions.{Datagram, Clock};
 ghost use Rattle.gw_node.specs.Parts.{state_of, told, said, is_halted as is_stopped, disk_of, records_of};
-ghost use Rattle.gw_node.specs.Calls.{OwnCall, TakeCall, ViewCall, StepCall};
+ghost use Rattle.gw_node.specs.Calls.{OwnCall, TakeCall, ViewCall, DigestCall, AnswerCall, StepCall};
 ghost use Rattle.gw_node.specs.Taking.{ops_of, IsBetween, HasTaken};
 ghost use Rattle.gw_node.specs.Opening.{IsStarted, FitInTurn, MayRefuse, IsDiskFault, IsOpenFault, LeavesSlots};
 ghost use Rattle.gw_node.specs.Carrying.{CarriesOn, OwnCarriesOn, StepCarriesOn};
 
 use super::carrying::take_in;
 use super::fault::NodeFault;
-use super::handling::{handle_frame, handle_step, handle_tick, handle_view};
+use super::handling::{
+    handle_answer, handle_digest, handle_frame, handle_step, handle_tick, handle_view,
+};
 use super::opening::{not_opened, nothing, start};
 use super::refusal::{Answer, one, three};
 use super::step::Step;
 use jr_journal::{Disk, Journal, MemoryDisk};
+use rep_digest::Digest;
 use rep_model::Replica;
 use rep_ops::{ClientId, Delta};
 use sn_flow::{Addr, Config, Dialogs};
@@ -142,6 +146,23 @@ impl<R: Replica, D: Disk + Drop> Node<R, D> {
         one(handle_view(alloc, self, client))
     }
 
+    /// A gateway asks for the digest: `digest` of the answer. A halted node answers too. The faults: `Full` where the digest
+    /// would be longer than 8,388,608 octets, or `Memory`.
+    pub fn digest(&self, alloc: Global) -> Answer
+        ensures { DigestCall (state_of R.kept self.now) (said result) (state_of R.kept self.now) }
+    {
+        one(handle_digest(alloc, self))
+    }
+
+    /// A gateway asks for what its digest does not cover: `answer`, the operations that must be kept here and that the digest
+    /// does not cover. With them that gateway has what it would have with all that this one has. A halted node answers too.
+    /// The only fault is `Memory`.
+    pub fn answer(&self, alloc: Global, digest: &Digest) -> Answer
+        ensures { AnswerCall (state_of R.kept self.now) digest.now (said result) (state_of R.kept self.now) }
+    {
+        one(handle_answer(alloc, self, digest))
+    }
+
     /// A call as a value. Its answer is given three times: the shares are taken before the journal is written, so that a call that was
     /// done can always be told.
     pub fn step(&mut self, alloc: Global, step: &Step) -> (Answer, Answer, Answer)
@@ -179,6 +200,18 @@ impl<R: Replica, D: Disk + Drop> Node<R, D> {
         ensures { result ≡ records_of self.now }
     {
         self.records
+    }
+
+    /// The operations that must be kept, in the order of their names, as deltas of which each but the last is as full as it can be.
+    /// A halted node tells them too. The only fault is `Memory`.
+    pub fn held(&self, alloc: Global) -> Result<Vec<Delta>, NodeFault>
+        ensures ok { IfOk result (λ deltas. IsHeld (state_of R.kept self.now).kept deltas.items) }
+        ensures err { IfErr result (λ fault. fault ≡ faults.Memory) }
+    {
+        match self.replica.held(alloc) {
+            Ok(deltas) => Ok(deltas),
+            Err(_) => Err(NodeFault::Memory),
+        }
     }
 
     /// The clients that the node knows, in ascending order.

@@ -4,20 +4,23 @@ ghost use Rattle.std.specs.Prelude.{◌≡◌, Some, []};
 ghost use Rattle.gw_node.specs.Parts.{only_sends};
 
 use octets::Sequence;
+use rep_digest::Digest;
 use rep_model::ClientView;
 use rep_ops::Delta;
 use sn_flow::Send;
 use std::alloc::Global;
 
-/// What a node answers to a call. A digest, by which gateways tell one another what they have, comes with a later call.
+/// What a node answers to a call.
 #[derive(Debug, Drop)]
 pub struct Out {
     /// The datagrams to be sent, in their order.
     pub sends: Sequence<Send>,
     /// The delta that was made, if operations were made.
     pub made: Option<Delta>,
-    /// The deltas that answer another gateway; none yet.
+    /// The deltas that answer the digest of another gateway.
     pub answer: Sequence<Delta>,
+    /// The digest that was asked for.
+    pub digest: Option<Digest>,
     /// The view that was asked for, where the client is known.
     pub view: Option<ClientView>,
 }
@@ -31,6 +34,7 @@ impl Out {
             sends,
             made: None,
             answer: Sequence::empty(alloc),
+            digest: None,
             view: None,
         }
     }
@@ -43,6 +47,7 @@ impl Out {
             sends,
             made: Some(delta),
             answer: Sequence::empty(alloc),
+            digest: None,
             view: None,
         }
     }
@@ -55,7 +60,34 @@ impl Out {
             sends: Sequence::empty(alloc),
             made: None,
             answer: Sequence::empty(alloc),
+            digest: None,
             view,
+        }
+    }
+
+    /// An answer that gives a digest.
+    pub(crate) fn of_digest(alloc: Global, digest: Digest) -> Out
+        ensures { result ≡ record (only_sends []) { digest = Some digest } }
+    {
+        Out {
+            sends: Sequence::empty(alloc),
+            made: None,
+            answer: Sequence::empty(alloc),
+            digest: Some(digest),
+            view: None,
+        }
+    }
+
+    /// An answer that gives deltas.
+    pub(crate) fn of_answer(alloc: Global, deltas: Vec<Delta>) -> Out
+        ensures { result ≡ record (only_sends []) { answer = deltas.items } }
+    {
+        Out {
+            sends: Sequence::empty(alloc),
+            made: None,
+            answer: Sequence::new(deltas),
+            digest: None,
+            view: None,
         }
     }
 }

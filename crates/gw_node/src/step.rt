@@ -1,6 +1,7 @@
 //! A call as a value.
 
 use octets::Octets;
+use rep_digest::Digest;
 use rep_ops::{ClientId, Delta};
 use sn_flow::Addr;
 
@@ -30,5 +31,12 @@ pub enum Step {
     View {
         /// The client.
         client: ClientId,
+    },
+    /// A gateway asks for the digest.
+    Digest,
+    /// A gateway asks for what its digest does not cover.
+    Answer {
+        /// The digest of that gateway.
+        digest: Digest,
     },
 }

@@ -113,7 +113,7 @@ module _ {D : Type 0} {G : Ghosts D} where
       → StaysCalm (λ config kept local next after. OwnKept config kept local occasion now answer next after) old new
   own_calm old new occasion now (Ok out) honest calm fed memory (runs, (plan, is_plan, done)) =
       let made = makes_calm plan.ops out.made old new honest calm fed done.made in
-      record { calm = made.0; configured = done.config; kept = (plan, is_plan, done.answer, done.local, made.1) }
+      record { calm = made.0; configured = done.config; kept = (plan, is_plan, done.answer, done.local, made.1, done.apart) }
   own_calm old new occasion now (Err refusals.Halted) honest calm fed memory h = absurd (running old calm h.0)
   own_calm old new occasion now (Err (refusals.Frame fault)) honest calm fed memory (runs, why, u) =
       record { calm = untouched old new calm u.kept u.journal; configured = u.config; kept = (u.kept, u.local, why) }

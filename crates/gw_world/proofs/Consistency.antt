@@ -1,5 +1,7 @@
--- Every run leaves a field in which no name has two contents, and answers no Conflict.
-use Rattle.std.proofs.Common.{◌≡◌, ℕ, zero, suc, ◌-◌, ◌⊎◌, List, [], ◌∷◌, map, slice_get, Some, Contains, Result, Ok, Err, sym, ap, ◌∙◌, subst, inl, inr}
+-- Every run leaves a field that is steady and in which no name has two contents, and answers no Conflict. That a gateway is flush
+-- after it took a delta rests on where the delta's names are at home; and where they are, on gateways that are flush. So both go
+-- by one induction.
+use Rattle.std.proofs.Common.{◌≡◌, ℕ, zero, suc, ◌-◌, ◌⊎◌, List, [], ◌∷◌, ◌++◌, map, slice_get, Some, Contains, Result, Ok, Err, sym, ap, subst, inl, inr}
 use Rattle.std.specs.List.{AllByRecursion}
 use Rattle.std.proofs.lemmas.List.Elements.{All-from_recursion, All-contains}
 use Rattle.std.proofs.lemmas.Option.{none-some, same_Some}
@@ -13,7 +15,7 @@ use Rattle.rep_model.proofs.Joins.{all-moved}
 use Rattle.sn_flow.specs.declared.config.Config.{Config}
 use Rattle.sn_flow.proofs.Lists.{all-weaken}
 use Rattle.gw_world.specs.declared.event.Event.{Event}
-use Rattle.gw_world.specs.declared.event.Event.TheVariants.{Frame, Tick, Take, Show}
+use Rattle.gw_world.specs.declared.event.Event.TheVariants.{Frame, Tick, Take, Answer as Asks, Show}
 use Rattle.gw_world.specs.declared.event.Answer.{Answer}
 use Rattle.gw_world.specs.declared.event.Answer.TheVariants.{Node, Views}
 use Rattle.gw_node.specs.declared.out.Out.{Out}
@@ -24,17 +26,29 @@ use Rattle.gw_node.specs.declared.fault.NodeFault.TheVariants as faults
 use Rattle.gw_node.specs.Occasions.{Occasion, Datagram, Clock}
 use Rattle.gw_world.specs.Gateways.{Gateway, new_gateway}
 use Rattle.gw_world.specs.Field.{Field, new_field, IsAt, IsDeltaAt, changed, After, Run}
-use Rattle.gw_world.specs.Steps.{HaveName, IsConflict, OwnStep, TakeStep}
-use Rattle.gw_world.specs.Whole.{everything, IsHome, AreMadeOnce}
-use Rattle.gw_world.proofs.Alone.{stands-alone, agrees-alone, delta-place, contains_at}
+use Rattle.gw_world.specs.Steps.{HaveName, IsWritable, IsConflict, OwnStep, TakeStep, AnswerStep}
+use Rattle.gw_world.specs.Steady.{IsKnown, IsSteady}
+use Rattle.gw_world.specs.Whole.{everything, IsHome}
+use Rattle.gw_world.proofs.Alone.{stands-alone, agrees-alone}
+use Rattle.gw_world.proofs.Answering.{answered, all-answered}
 use Rattle.gw_world.proofs.Each.{all-at, all-places, each-all}
 use Rattle.gw_world.proofs.Held.{agrees_with_kept}
 use Rattle.gw_world.proofs.Numbers.{First, place_of-first, first-number, first-place_of}
-use Rattle.gw_world.proofs.Steadiness.{Still, Stepped, still, own-moves, SteadyField, steady-is, after-steady, start-steady, no-conflict}
-use Rattle.gw_world.proofs.Whole.{IsHeld, AreApart, Whole, held-alike, whole-silent, whole-still, whole-stepped}
+use Rattle.gw_world.proofs.Steadiness.{Still, Stepped, still, own-moves, AreAllFlush, flush-moved, flush-fed, start-flush, no-conflict}
+use Rattle.gw_world.proofs.Whole.{IsHeld, Whole, held-alike, held-known, whole-silent, whole-still, whole-stepped, whole-joined}
+
+abbrev pub FlushField : Field → Type 0
+FlushField field = AreAllFlush field.gateways
 
 abbrev pub WholeField : Field → Type 0
 WholeField field = Whole field.gateways field.deltas
+
+pub steady-is : (field : Field) → FlushField field → WholeField field → IsSteady field
+steady-is field s w = record {
+  flush = λ number i gateway at. s number i gateway (place_of-first number i field.gateways at.0) at.1;
+  known = λ number i gateway at. all-weaken (λ (D : List Op). AllByRecursion (IsHeld field.gateways) D) (IsKnown number gateway.taken)
+      (λ D h. held-known field.gateways number i gateway (place_of-first number i field.gateways at.0) at.1 D h) field.deltas w.each.lists;
+}
 
 -- the answer is no Conflict
 abbrev pub IsAtPeace : Result Out Refusal → Type 0
@@ -47,28 +61,36 @@ IsPeaceful (Views views) = Unit {0}
 
 -- ---- what one event does
 
-module _ (field : Field) (s : SteadyField field) (w : WholeField field) (n i : ℕ) (old : Gateway) (at : IsAt field n i old) where
+module _ (field : Field) (s : FlushField field) (w : WholeField field) (n i : ℕ) (old : Gateway) (at : IsAt field n i old) where
+  at-first : First n field.gateways i
+  at-first = place_of-first n i field.gateways at.0
+
   own-first : First old.config.gateway field.gateways i
-  own-first =
-      let f : First n field.gateways i = place_of-first n i field.gateways at.0 in
-      subst (λ k. First k field.gateways i) (sym (first-number n i field.gateways old f at.1)) f
+  own-first = subst (λ k. First k field.gateways i) (sym (first-number n i field.gateways old at-first at.1)) at-first
+
+  flush-own : (next : Gateway) (made : List (List Op)) → Still old next made ⊎ Stepped old next made → FlushField (changed field i next made)
+  flush-own next made u = flush-moved field.gateways s n i old at-first at.1 next made u
 
   listed : (k : ℕ) (delta : List Op) → slice_get field.deltas k ≡ Some delta → AllByRecursion (IsHeld field.gateways) delta
   listed k delta there = all-at (λ (D : List Op). AllByRecursion (IsHeld field.gateways) D) field.deltas k delta w.each.lists there
 
   whole-moved : (next : Gateway) (made : List (List Op)) → Still old next made ⊎ Stepped old next made → WholeField (changed field i next made)
   whole-moved next made (inl u) = whole-still field.gateways i old next field.deltas made at.1 u w
-  whole-moved next made (inr u) = whole-stepped field.gateways i old next field.deltas made at.1 own-first (s.flush old.config.gateway i old own-first at.1) u w
+  whole-moved next made (inr u) = whole-stepped field.gateways i old next made at.1 own-first (s old.config.gateway i old own-first at.1) u field.deltas w
 
   whole-taken : (next : Gateway) (made : List (List Op)) (k : ℕ) (delta : List Op) (answer : Result Out Refusal) → slice_get field.deltas k ≡ Some delta → TakeStep old delta answer next made → WholeField (changed field i next made)
   whole-taken next made k delta (Err fault) there h = whole-still field.gateways i old next field.deltas made at.1 (still old next made h.1) w
   whole-taken next made k delta (Ok out) there h =
       whole-silent field.gateways i old next delta at.1 (ap (λ (x : Gateway). x.config) h.3) (ap (λ (x : Gateway). x.taken) h.3) field.deltas made (listed k delta there) h.2 w
 
+  flush-taken : (next : Gateway) (made : List (List Op)) (k : ℕ) (delta : List Op) (answer : Result Out Refusal) → slice_get field.deltas k ≡ Some delta → TakeStep old delta answer next made → FlushField (changed field i next made)
+  flush-taken next made k delta answer there h =
+      flush-fed field.gateways s n i old at-first at.1 next made delta answer (held-known field.gateways n i old at-first at.1 delta (listed k delta there)) h
+
   own-peaceful : (occasion : Occasion) (now : ℕ) (answer : Result Out Refusal) (next : Gateway) (made : List (List Op)) → OwnStep old occasion now answer next made → IsAtPeace answer
   own-peaceful occasion now (Ok out) next made h = tt
   own-peaceful occasion now (Err (refusals.Frame fault)) next made h = tt
-  own-peaceful occasion now (Err (refusals.Conflict client)) next made h = no-conflict field n i old occasion now client next made (steady-is field s) at h
+  own-peaceful occasion now (Err (refusals.Conflict client)) next made h = no-conflict field n i old occasion now client next made (steady-is field s w) at h
   own-peaceful occasion now (Err refusals.Full) next made h = tt
   own-peaceful occasion now (Err refusals.Exhausted) next made h = tt
   own-peaceful occasion now (Err refusals.Halted) next made h = tt
@@ -95,37 +117,72 @@ module _ (field : Field) (s : SteadyField field) (w : WholeField field) (n i : �
   take-peaceful k delta (Err (refusals.Journal fault)) next made there h = tt
   take-peaceful k delta (Err refusals.Memory) next made there h = tt
 
+-- deltas that answer a digest join the list
+pub whole-asked : (field : Field) (w : WholeField field) (j : ℕ) (asker peer : Gateway) (answer : Result Out Refusal) (made : List (List Op)) → slice_get field.gateways j ≡ Some peer → AnswerStep asker peer answer made → Whole field.gateways (field.deltas ++ made)
+whole-asked field w j asker peer answer made there h =
+    let a = answered asker peer answer made h in
+    whole-joined field.gateways field.deltas made (all-answered (IsHeld field.gateways) (λ c origin first last. tt) peer.taken made a (w.each.sets j peer there)) a.proper a.writable w
+
+asked-peaceful : (asker peer : Gateway) (answer : Result Out Refusal) (made : List (List Op)) → AnswerStep asker peer answer made → IsAtPeace answer
+asked-peaceful asker peer (Ok out) made h = tt
+asked-peaceful asker peer (Err (refusals.Frame fault)) made h = tt
+asked-peaceful asker peer (Err (refusals.Conflict client)) made h = h
+asked-peaceful asker peer (Err refusals.Full) made h = tt
+asked-peaceful asker peer (Err refusals.Exhausted) made h = tt
+asked-peaceful asker peer (Err refusals.Halted) made h = tt
+asked-peaceful asker peer (Err (refusals.Disk excuse)) made h = tt
+asked-peaceful asker peer (Err (refusals.Journal fault)) made h = tt
+asked-peaceful asker peer (Err refusals.Memory) made h = tt
+
 pub record Sound (new : Field) (answer : Answer) : Type 0 where
+  pub flush : FlushField new
   pub whole : WholeField new
   pub peaceful : IsPeaceful answer
 
-after-sound : (old : Field) (event : Event) (answer : Answer) (new : Field) → After old event answer new → SteadyField old → WholeField old → Sound new answer
-after-sound old (Frame number from bytes now) (Node answer) new h s w = record {
-  whole = subst WholeField (sym h.6) (whole-moved old s w number h.0 h.1 h.4 h.2 h.3 (own-moves h.1 (Datagram from bytes) now (said answer) h.2 h.3 h.5));
-  peaceful = own-peaceful old s w number h.0 h.1 h.4 (Datagram from bytes) now (said answer) h.2 h.3 h.5;
-}
-after-sound old (Tick number now) (Node answer) new h s w = record {
-  whole = subst WholeField (sym h.6) (whole-moved old s w number h.0 h.1 h.4 h.2 h.3 (own-moves h.1 Clock now (said answer) h.2 h.3 h.5));
-  peaceful = own-peaceful old s w number h.0 h.1 h.4 Clock now (said answer) h.2 h.3 h.5;
-}
+pub after-sound : (old : Field) (event : Event) (answer : Answer) (new : Field) → After old event answer new → FlushField old → WholeField old → Sound new answer
+after-sound old (Frame number from bytes now) (Node answer) new h s w =
+    let u = own-moves h.1 (Datagram from bytes) now (said answer) h.2 h.3 h.5 in record {
+      flush = subst FlushField (sym h.6) (flush-own old s w number h.0 h.1 h.4 h.2 h.3 u);
+      whole = subst WholeField (sym h.6) (whole-moved old s w number h.0 h.1 h.4 h.2 h.3 u);
+      peaceful = own-peaceful old s w number h.0 h.1 h.4 (Datagram from bytes) now (said answer) h.2 h.3 h.5;
+    }
+after-sound old (Tick number now) (Node answer) new h s w =
+    let u = own-moves h.1 Clock now (said answer) h.2 h.3 h.5 in record {
+      flush = subst FlushField (sym h.6) (flush-own old s w number h.0 h.1 h.4 h.2 h.3 u);
+      whole = subst WholeField (sym h.6) (whole-moved old s w number h.0 h.1 h.4 h.2 h.3 u);
+      peaceful = own-peaceful old s w number h.0 h.1 h.4 Clock now (said answer) h.2 h.3 h.5;
+    }
 after-sound old (Take number delta) (Node answer) new h s w = record {
+  flush = subst FlushField (sym h.8) (flush-taken old s w number h.0 h.1 h.5 h.2 h.3 (delta - 1) h.4 (said answer) h.6.1 h.7);
   whole = subst WholeField (sym h.8) (whole-taken old s w number h.0 h.1 h.5 h.2 h.3 (delta - 1) h.4 (said answer) h.6.1 h.7);
   peaceful = take-peaceful old s w number h.0 h.1 h.5 (delta - 1) h.4 (said answer) h.2 h.3 h.6.1 h.7;
 }
-after-sound old (Show number) (Views views) new h s w = record { whole = subst WholeField (sym h.4) w; peaceful = tt }
+after-sound old (Asks number peer) (Node answer) new h s w = record {
+  flush = subst FlushField (sym h.8) s;
+  whole = subst WholeField (sym h.8) (whole-asked old w h.1 h.2 h.3 (said answer) h.4 h.6.1 h.7);
+  peaceful = asked-peaceful h.2 h.3 (said answer) h.4 h.7;
+}
+after-sound old (Show number) (Views views) new h s w = record { flush = subst FlushField (sym h.4) s; whole = subst WholeField (sym h.4) w; peaceful = tt }
 after-sound old (Frame number from bytes now) (Views views) new h s w = absurd h
 after-sound old (Tick number now) (Views views) new h s w = absurd h
 after-sound old (Take number delta) (Views views) new h s w = absurd h
+after-sound old (Asks number peer) (Views views) new h s w = absurd h
 after-sound old (Show number) (Node answer) new h s w = absurd h
 
 -- ---- what a run does
 
-run-sound : (old : Field) (events : List Event) (answers : List Answer) (new : Field) → Run old events answers new → SteadyField old → WholeField old → WholeField new × AllByRecursion IsPeaceful answers
-run-sound old [] [] new h s w = (subst WholeField (sym h) w, tt)
+-- what a run leaves
+pub record Ran (new : Field) (answers : List Answer) : Type 0 where
+  pub flush : FlushField new
+  pub whole : WholeField new
+  pub peaceful : AllByRecursion IsPeaceful answers
+
+pub run-sound : (old : Field) (events : List Event) (answers : List Answer) (new : Field) → Run old events answers new → FlushField old → WholeField old → Ran new answers
+run-sound old [] [] new h s w = record { flush = subst FlushField (sym h) s; whole = subst WholeField (sym h) w; peaceful = tt }
 run-sound old (event ∷ events) (answer ∷ answers) new h s w =
     let one = after-sound old event answer h.0 h.1 s w in
-    let more = run-sound h.0 events answers new h.2 (after-steady old event answer h.0 h.1 s) one.whole in
-    (more.0, (one.peaceful, more.1))
+    let more = run-sound h.0 events answers new h.2 one.flush one.whole in
+    record { flush = more.flush; whole = more.whole; peaceful = (one.peaceful, more.peaceful) }
 run-sound old [] (answer ∷ answers) new h s w = absurd h
 run-sound old (event ∷ events) [] new h s w = absurd h
 
@@ -134,18 +191,21 @@ start-taken [] j gateway e = absurd (none-some gateway e)
 start-taken (config ∷ configs) zero gateway e = ap (λ (x : Gateway). x.taken) (sym (same_Some (new_gateway config) gateway e))
 start-taken (config ∷ configs) (suc j) gateway e = start-taken configs j gateway e
 
-start-whole : (configs : List Config) → WholeField (new_field configs)
+pub start-whole : (configs : List Config) → WholeField (new_field configs)
 start-whole configs = record {
   each = record {
     sets = λ j gateway there. subst (λ T. AllByRecursion (IsHeld (map new_gateway configs)) T) (sym (start-taken configs j gateway there)) tt;
     lists = tt;
   };
-  apart = λ i j one other a b at there inside within named. absurd (none-some one at);
   proper = tt;
+  writable = tt;
 }
 
-pub field-whole : (configs : List Config) (events : List Event) (answers : List Answer) (field : Field) → Run (new_field configs) events answers field → WholeField field × AllByRecursion IsPeaceful answers
-field-whole configs events answers field h = run-sound (new_field configs) events answers field h (start-steady configs) (start-whole configs)
+pub field-sound : (configs : List Config) (events : List Event) (answers : List Answer) (field : Field) → Run (new_field configs) events answers field → Ran field answers
+field-sound configs events answers field h = run-sound (new_field configs) events answers field h (start-flush configs) (start-whole configs)
+
+pub field-whole : (configs : List Config) (events : List Event) (answers : List Answer) (field : Field) → Run (new_field configs) events answers field → WholeField field
+field-whole configs events answers field h = (field-sound configs events answers field h).whole
 
 -- ---- what holds of a whole field
 
@@ -176,28 +236,25 @@ module _ (field : Field) (w : WholeField field) where
       (All-contains (IsHeld field.gateways) delta op (All-from_recursion (IsHeld field.gateways) delta (delta-held delta in_list)) h)
       named))
 
-made-once : (deltas : List (List Op)) → AreApart deltas → AllByRecursion IsDelta deltas → AreMadeOnce deltas
-made-once deltas apart proper i j k l one other a b at there inside within named =
-    let same : i ≡ j = apart i j one other a b at there (contains_at one k a inside) (contains_at other l b within) named in
-    let whole : one ≡ other = same_Some one other (sym at ∙ ap (slice_get deltas) same ∙ there) in
-    (same, delta-place other (all-at IsDelta deltas j other proper there) k l a b (subst (λ D. slice_get D k ≡ Some a) whole inside) within named)
-
 -- ---- the laws
 
+pub field-steady : (configs : List Config) (events : List Event) (answers : List Answer) (field : Field) → Run (new_field configs) events answers field → IsSteady field
+field-steady configs events answers field h = let r = field-sound configs events answers field h in steady-is field r.flush r.whole
+
 pub field-consistent : (configs : List Config) (events : List Event) (answers : List Answer) (field : Field) → Run (new_field configs) events answers field → IsConsistent (everything field)
-field-consistent configs events answers field h = parts-consistent field (field-whole configs events answers field h).0 (everything field) (λ op there. there)
+field-consistent configs events answers field h = parts-consistent field (field-whole configs events answers field h) (everything field) (λ op there. there)
 
 pub field-parts : (configs : List Config) (events : List Event) (answers : List Answer) (field : Field) (part : List Op) → Run (new_field configs) events answers field → ((op : Op) → Contains part op → Contains (everything field) op) → IsConsistent part
-field-parts configs events answers field part h f = parts-consistent field (field-whole configs events answers field h).0 part f
+field-parts configs events answers field part h f = parts-consistent field (field-whole configs events answers field h) part f
 
 pub field-agrees : (configs : List Config) (events : List Event) (answers : List Answer) (field : Field) (gateway : Gateway) (delta : List Op) → Run (new_field configs) events answers field → Contains field.gateways gateway → Contains field.deltas delta → AllAgree gateway.taken delta × AllAgree (keep gateway.taken) delta
 field-agrees configs events answers field gateway delta h in_field in_list =
-    let agrees = delta-agrees field (field-whole configs events answers field h).0 gateway delta in_field in_list in
+    let agrees = delta-agrees field (field-whole configs events answers field h) gateway delta in_field in_list in
     (agrees, all-weaken (Agrees gateway.taken) (Agrees (keep gateway.taken)) (agrees_with_kept gateway.taken) delta agrees)
 
 pub field-no_conflict : (configs : List Config) (events : List Event) (answers : List Answer) (field : Field) (number i k : ℕ) (gateway : Gateway) (delta : List Op) (client : List ℕ) (new : Gateway) (made : List (List Op)) → Run (new_field configs) events answers field → IsAt field number i gateway → IsDeltaAt field k delta → TakeStep gateway delta (Err (refusals.Conflict client)) new made → ⊥
 field-no_conflict configs events answers field number i k gateway delta client new made h at there step =
-    let w = (field-whole configs events answers field h).0 in
+    let w = field-whole configs events answers field h in
     let alike = λ (old new : Op) (is_old : Contains gateway.taken old) (is_new : Contains delta new) (named : HaveName old new).
     held-alike field.gateways old new
     (All-contains (IsHeld field.gateways) gateway.taken old (All-from_recursion (IsHeld field.gateways) gateway.taken (w.each.sets i gateway at.1)) is_old)
@@ -207,10 +264,12 @@ field-no_conflict configs events answers field number i k gateway delta client n
 
 pub field-never : (configs : List Config) (events : List Event) (answers : List Answer) (field : Field) (client : List ℕ) → Run (new_field configs) events answers field → Contains answers (Node (Err (faults.Conflict client))) → ⊥
 field-never configs events answers field client h there =
-    All-contains IsPeaceful answers (Node (Err (faults.Conflict client))) (All-from_recursion IsPeaceful answers (field-whole configs events answers field h).1) there
+    All-contains IsPeaceful answers (Node (Err (faults.Conflict client))) (All-from_recursion IsPeaceful answers (field-sound configs events answers field h).peaceful) there
 
 pub field-home : (configs : List Config) (events : List Event) (answers : List Answer) (field : Field) (op : Op) → Run (new_field configs) events answers field → Contains (everything field) op → IsHome field op
-field-home configs events answers field op h there = let w = (field-whole configs events answers field h).0 in at-home field w op (held field w op there)
+field-home configs events answers field op h there = let w = field-whole configs events answers field h in at-home field w op (held field w op there)
 
-pub field-once : (configs : List Config) (events : List Event) (answers : List Answer) (field : Field) → Run (new_field configs) events answers field → AreMadeOnce field.deltas
-field-once configs events answers field h = let w = (field-whole configs events answers field h).0 in made-once field.deltas w.apart w.proper
+pub field-well_made : (configs : List Config) (events : List Event) (answers : List Answer) (field : Field) (delta : List Op) → Run (new_field configs) events answers field → Contains field.deltas delta → IsDelta delta × IsWritable delta
+field-well_made configs events answers field delta h there =
+    let w = field-whole configs events answers field h in
+    (All-contains IsDelta field.deltas delta (All-from_recursion IsDelta field.deltas w.proper) there, All-contains IsWritable field.deltas delta (All-from_recursion IsWritable field.deltas w.writable) there)

@@ -1,12 +1,12 @@
 -- From what all gateways keep to the field, and over a whole list of events.
-use Rattle.std.proofs.Common.{◌≡◌, ℕ, ◌+◌, ◌-◌, ◌==◌, if◌then◌else◌, zero, suc, List, [], ◌∷◌, ◌++◌, map, Some, Result, slice_get, set, refl, sym, ap, ◌∙◌, subst, append-nil, take}
+use Rattle.std.proofs.Common.{◌≡◌, ℕ, ◌+◌, ◌-◌, ◌==◌, if◌then◌else◌, zero, suc, List, [], ◌∷◌, ◌++◌, map, Some, Result, slice_get, set, refl, sym, ap, ◌∙◌, subst, append-nil, take, inl, inr}
 use Rattle.rep_ops.specs.declared.op.Op.{Op}
 use Rattle.rep_model.specs.Views.{view}
 use Rattle.rep_model.proofs.Joins.{view-counts}
 use Rattle.rep_model.proofs.Named.{clients-counts}
 use Rattle.sn_flow.specs.declared.config.Config.{Config}
 use Rattle.gw_world.specs.declared.event.Event.{Event}
-use Rattle.gw_world.specs.declared.event.Event.TheVariants.{Frame, Tick, Take, Show}
+use Rattle.gw_world.specs.declared.event.Event.TheVariants.{Frame, Tick, Take, Answer as Asks, Show}
 use Rattle.gw_world.specs.declared.event.Answer.{Answer}
 use Rattle.gw_world.specs.declared.event.Answer.TheVariants.{Node, Views}
 use Rattle.gw_world.specs.declared.world.WorldFault.{WorldFault}
@@ -18,12 +18,12 @@ use Rattle.gw_node.specs.declared.out.Out.{Out}
 use Rattle.gw_node.specs.declared.fault.NodeFault.{NodeFault}
 use Rattle.gw_node.specs.Parts.{said}
 use Rattle.gw_world.specs.Gateways.{Gateway, new_gateway, place_from, place_of}
-use Rattle.gw_world.specs.Field.{Field, new_field, Steps, After, Run, NamesNoDelta, shown, gateway_of}
-use Rattle.gw_world.specs.Events.{made_of, Moves, OwnAnswered, EventKept, RunKept, StopsKept, IsStopKept, IsMissing}
+use Rattle.gw_world.specs.Field.{Field, new_field, Steps, After, Run, NamesNoGateway, NamesNoDelta, shown, gateway_of}
+use Rattle.gw_world.specs.Events.{made_of, answered_of, Moves, OwnAnswered, EventKept, RunKept, StopsKept, IsStopKept}
 use Rattle.gw_world.specs.Keeping.{IsShown, AreShown}
 use Rattle.gw_world.specs.Worlds.{IsWorld, IsStop}
 use Rattle.gw_world.proofs.Held.{keeps_nothing}
-use Rattle.gw_world.proofs.Shown.{keeping, own_taken, take_taken}
+use Rattle.gw_world.proofs.Shown.{keeping, own_taken, take_taken, ask_taken}
 
 -- a number has the same place in both lists
 pub place_shown : (n i : ℕ) (gs ks : List Gateway) → AreShown gs ks → place_from n i gs ≡ place_from n i ks
@@ -75,9 +75,9 @@ module _ (field : Field) (ks : List Gateway) (s : AreShown field.gateways ks) wh
   own_reaches : (deltas : List (List Op)) (listed : field.deltas ≡ deltas) (event : Event) (occasion : Occasion) (now : ℕ) (news : List Gateway) (next : List (List Op)) (answer : Result (Arc Out Global) NodeFault)
       → ((new : Field) → Steps field (gateway_of event) occasion now (said answer) new → After field event (Node answer) new)
       → ((i : ℕ) × (place_of (gateway_of event) ks ≡ Some i) × OwnAnswered ks deltas i occasion now news next (Node answer)) → Reaches field event (Node answer) news next
-  own_reaches deltas listed event occasion now news next answer is (i, place, ((old, new, moves, kept), is_next)) =
+  own_reaches deltas listed event occasion now news next answer is (i, place, ((old, new, moves, kept), (writable, is_next))) =
       let at = shown_at field.gateways ks i old s moves.place in
-      let leads = own_taken at.gateway old at.shown occasion now (said answer) new.taken new.local kept in
+      let leads = own_taken at.gateway old at.shown occasion now (said answer) new.taken new.local kept writable in
       let field_after : Field = record { gateways = set field.gateways i leads.next; deltas = field.deltas ++ made_of (said answer) } in
       record {
         new = field_after;
@@ -99,6 +99,25 @@ module _ (field : Field) (ks : List Gateway) (s : AreShown field.gateways ks) wh
         shown = moved i old new leads.next news moves leads.shown;
         listed = append-nil field.deltas ∙ (listed ∙ sym is_next);
       }
+  event_reaches deltas listed (Asks n m) news next (Node answer) (i, place, ((j, other, ((asker, peer, at, to, kept), (writable, is_next))), same)) =
+      let one = shown_at field.gateways ks i asker s at in
+      let two = shown_at field.gateways ks j peer s to in
+      record {
+        new = record field { deltas = field.deltas ++ answered_of (said answer) };
+        after = (
+          i,
+          j,
+          one.gateway,
+          two.gateway,
+          answered_of (said answer),
+          (place_there n i place, one.place),
+          (place_there m j other, two.place),
+          ask_taken one.gateway asker one.shown two.gateway peer two.shown (said answer) kept writable,
+          refl,
+        );
+        shown = subst (λ xs. AreShown field.gateways xs) (sym same) s;
+        listed = ap (λ ds. ds ++ answered_of (said answer)) listed ∙ sym is_next;
+      }
   event_reaches deltas listed (Show n) news next (Views views) (i, place, ((kept, there, is_views), same, is_next)) =
       let at = shown_at field.gateways ks i kept s there in
       let known : shown kept.taken ≡ shown at.gateway.taken =
@@ -112,6 +131,7 @@ module _ (field : Field) (ks : List Gateway) (s : AreShown field.gateways ks) wh
   event_reaches deltas listed (Frame n from bytes now) news next (Views views) (i, place, h) = absurd h
   event_reaches deltas listed (Tick n now) news next (Views views) (i, place, h) = absurd h
   event_reaches deltas listed (Take n delta) news next (Views views) (i, place, (ops, there, h, is_next)) = absurd h
+  event_reaches deltas listed (Asks n m) news next (Views views) (i, place, ((j, other, h), same)) = absurd h
   event_reaches deltas listed (Show n) news next (Node answer) (i, place, (h, same, is_next)) = absurd h
 
 -- a run goes on by one more event
@@ -136,30 +156,34 @@ kept_more olds ds events answers ks deltas event news next answer run one field 
     let r = event_reaches before.0 ks before.2 deltas before.3 event news next answer one in
     (r.new, run_more field before.0 r.new events answers event answer before.1 r.after, r.shown, r.listed)
 
-names_no_delta : (field : Field) (ks : List Gateway) (deltas : List (List Op)) (event : Event) (number n : ℕ) → AreShown field.gateways ks → field.deltas ≡ deltas
-    → (i : ℕ) → place_of (gateway_of event) ks ≡ Some i → IsMissing deltas event number (stops.NoDelta n) → NamesNoDelta field event
-names_no_delta field ks deltas (Frame g from bytes now) number n s listed i place h = absurd h
-names_no_delta field ks deltas (Tick g now) number n s listed i place h = absurd h
-names_no_delta field ks deltas (Show g) number n s listed i place h = absurd h
-names_no_delta field ks deltas (Take g delta) number n s listed i place h =
-    ((i, place_shown g 0 field.gateways ks s ∙ place), λ ops there. h.1 ops (there.0, ap (λ ds. slice_get ds (delta - 1)) (sym listed) ∙ there.1))
+names_no_gateway : (field : Field) (ks : List Gateway) (deltas : List (List Op)) (event : Event) → AreShown field.gateways ks
+    → NamesNoGateway (record { gateways = ks; deltas = deltas }) event → NamesNoGateway field event
+names_no_gateway field ks deltas (Frame g from bytes now) s h = place_shown g 0 field.gateways ks s ∙ h
+names_no_gateway field ks deltas (Tick g now) s h = place_shown g 0 field.gateways ks s ∙ h
+names_no_gateway field ks deltas (Take g delta) s h = place_shown g 0 field.gateways ks s ∙ h
+names_no_gateway field ks deltas (Asks g peer) s (inl h) = inl (place_shown g 0 field.gateways ks s ∙ h)
+names_no_gateway field ks deltas (Asks g peer) s (inr h) = inr (place_shown peer 0 field.gateways ks s ∙ h)
+names_no_gateway field ks deltas (Show g) s h = place_shown g 0 field.gateways ks s ∙ h
+
+names_no_delta : (field : Field) (ks : List Gateway) (deltas : List (List Op)) (event : Event) → AreShown field.gateways ks → field.deltas ≡ deltas
+    → NamesNoDelta (record { gateways = ks; deltas = deltas }) event → NamesNoDelta field event
+names_no_delta field ks deltas (Frame g from bytes now) s listed h = absurd h
+names_no_delta field ks deltas (Tick g now) s listed h = absurd h
+names_no_delta field ks deltas (Asks g peer) s listed h = absurd h
+names_no_delta field ks deltas (Show g) s listed h = absurd h
+names_no_delta field ks deltas (Take g delta) s listed ((i, place), missing) =
+    ((i, place_shown g 0 field.gateways ks s ∙ place), λ ops there. missing ops (there.0, ap (λ ds. slice_get ds (delta - 1)) (sym listed) ∙ there.1))
 
 -- the event after these stops the run
 pub stops_here : (olds : List Gateway) (ds : List (List Op)) (events : List Event) (k : ℕ) (answers : List Answer) (ks : List Gateway) (deltas : List (List Op))
     (event : Event) (fault : WorldFault)
     → RunKept olds ds (take k events) answers ks deltas → slice_get events k ≡ Some event → IsStopKept ks deltas event (k + 1) fault → StopsKept olds ds events fault
-stops_here olds ds events k answers ks deltas event (stops.NoGateway n) run there (number, place) = λ field s e.
+stops_here olds ds events k answers ks deltas event (stops.NoGateway n) run there (number, missing) = λ field s e.
     let before = run field s e in
-    (k, before.0, event, answers, before.1, there, number, place_shown (gateway_of event) 0 before.0.gateways ks before.2 ∙ place)
-stops_here olds ds events k answers ks deltas event (stops.NoDelta n) run there ((i, place), missing) = λ field s e.
+    (k, before.0, event, answers, before.1, there, number, names_no_gateway before.0 ks deltas event before.2 missing)
+stops_here olds ds events k answers ks deltas event (stops.NoDelta n) run there (number, missing) = λ field s e.
     let before = run field s e in
-    (k, before.0, event, answers, before.1, there, numbered deltas event (k + 1) n missing, names_no_delta before.0 ks deltas event (k + 1) n before.2 before.3 i place missing)
-  where
-    numbered : (deltas : List (List Op)) (event : Event) (number n : ℕ) → IsMissing deltas event number (stops.NoDelta n) → n ≡ number
-    numbered deltas (Frame g from bytes now) number n h = absurd h
-    numbered deltas (Tick g now) number n h = absurd h
-    numbered deltas (Take g delta) number n h = h.0
-    numbered deltas (Show g) number n h = absurd h
+    (k, before.0, event, answers, before.1, there, number, names_no_delta before.0 ks deltas event before.2 before.3 missing)
 stops_here olds ds events k answers ks deltas event stops.Memory run there h = tt
 
 -- what each node shows is what was taken shows

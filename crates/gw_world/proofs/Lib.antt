@@ -1,6 +1,7 @@
 pub mod Occurring
 pub mod Held
 pub mod Calmness
+pub mod Joining
 pub mod Moving
 pub mod Shown
 pub mod Fields
@@ -9,6 +10,13 @@ pub mod Steadiness
 pub mod Each
 pub mod Alone
 pub mod Whole
+pub mod Answering
 pub mod Consistency
 pub mod Writing
 pub mod Settling
+pub mod Splits
+pub mod Determined
+pub mod Replaying
+pub mod Stops
+pub mod Telling
+pub mod Catching

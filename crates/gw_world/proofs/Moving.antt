@@ -1,5 +1,5 @@
 -- What one gateway does in its place in the list of gateways.
-use Rattle.std.proofs.Common.{◌≡◌, ℕ, List, map, set, Option, Some, slice_get, Result, ap, ◌∙◌}
+use Rattle.std.proofs.Common.{◌≡◌, ℕ, List, map, set, Option, Some, None, slice_get, Result, refl, ap, ◌∙◌, inl, inr}
 use Rattle.std.specs.Option.{option_map}
 use Rattle.std.proofs.lemmas.Option.{slice_get-map}
 use Rattle.std.proofs.lemmas.List.{map-set}
@@ -7,13 +7,14 @@ use Rattle.rep_ops.specs.declared.op.Op.{Op}
 use Rattle.gw_node.specs.declared.out.Out.{Out}
 use Rattle.gw_node.specs.declared.refusal.Refusal.{Refusal}
 use Rattle.gw_world.specs.declared.event.Event.{Event}
+use Rattle.gw_world.specs.declared.event.Event.TheVariants.{Frame, Tick, Take, Answer as Asks, Show}
 use Rattle.gw_world.specs.declared.world.WorldFault.{WorldFault}
 use Rattle.gw_world.specs.declared.world.WorldFault.TheVariants as stops
 use Rattle.gw_node.specs.Occasions.{Occasion}
 use Rattle.gw_world.specs.Gateways.{Gateway, place_of}
 use Rattle.gw_world.specs.Field.{gateway_of}
-use Rattle.gw_world.specs.Plans.{OwnKept, TakeKept}
-use Rattle.gw_world.specs.Events.{Moves, OwnAt, TakeAt, IsMissing, IsStopKept}
+use Rattle.gw_world.specs.Plans.{OwnKept, TakeKept, AskKept}
+use Rattle.gw_world.specs.Events.{Moves, OwnAt, TakeAt, AskAt, IsMissing, IsStopKept}
 
 module _ {N : Type 0} (f : N → Gateway) (nodes : List N) (i : ℕ) (old new : N) (place : slice_get nodes i ≡ Some old) (configured : (f new).config ≡ (f old).config) where
   pub moves_in_place : Moves (map f nodes) i (f old) (f new) (map f (set nodes i new))
@@ -36,8 +37,30 @@ module _ {N : Type 0} (f : N → Gateway) (nodes : List N) (i : ℕ) (old new : 
 pub there_in_place : {N : Type 0} (f : N → Gateway) (nodes : List N) (i : ℕ) (node : N) → slice_get nodes i ≡ Some node → slice_get (map f nodes) i ≡ Some (f node)
 there_in_place {N} f nodes i node place = slice_get-map f nodes i ∙ ap (λ (x : Option N). option_map f x) place
 
+-- one gateway's digest goes to another, and both are what their nodes keep
+pub ask_in_place : {N : Type 0} (f : N → Gateway) (nodes : List N) (i j : ℕ) (asker peer : N) → slice_get nodes i ≡ Some asker → slice_get nodes j ≡ Some peer
+    → (answer : Result Out Refusal) → AskKept (f asker).taken (f peer).taken answer → AskAt (map f nodes) i j answer
+ask_in_place f nodes i j asker peer at to answer h = (f asker, f peer, there_in_place f nodes i asker at, there_in_place f nodes j peer to, h)
+
 pub missing_stops : (olds : List Gateway) (deltas : List (List Op)) (event : Event) (n : ℕ) (fault : WorldFault) (i : ℕ)
-    → place_of (gateway_of event) olds ≡ Some i → IsMissing deltas event n fault → IsStopKept olds deltas event n fault
-missing_stops olds deltas event n (stops.NoGateway m) i place h = absurd h
-missing_stops olds deltas event n (stops.NoDelta m) i place h = ((i, place), h)
+    → place_of (gateway_of event) olds ≡ Some i → IsMissing olds deltas event n fault → IsStopKept olds deltas event n fault
+missing_stops olds deltas (Asks g peer) n (stops.NoGateway m) i place (number, none) = (number, inr none)
+missing_stops olds deltas (Asks g peer) n (stops.NoDelta m) i place h = absurd h
+missing_stops olds deltas (Take g delta) n (stops.NoGateway m) i place h = absurd h
+missing_stops olds deltas (Take g delta) n (stops.NoDelta m) i place (number, none) = (number, ((i, place), none))
+missing_stops olds deltas (Frame g from bytes now) n (stops.NoGateway m) i place h = absurd (cc)
+missing_stops olds deltas (Frame g from bytes now) n (stops.NoDelta m) i place h = absurd (cc)
+missing_stops olds deltas (Tick g now) n (stops.NoGateway m) i place h = absurd (cc)
+missing_stops olds deltas (Tick g now) n (stops.NoDelta m) i place h = absurd (cc)
+missing_stops olds deltas (Show g) n (stops.NoGateway m) i place h = absurd (cc)
+missing_stops olds deltas (Show g) n (stops.NoDelta m) i place h = absurd (cc)
 missing_stops olds deltas event n stops.Memory i place h = tt
+
+-- the gateway that an event is at is not there
+pub absent_stops : (olds : List Gateway) (deltas : List (List Op)) (event : Event) (n : ℕ)
+    → place_of (gateway_of event) olds ≡ None → IsStopKept olds deltas event n (stops.NoGateway n)
+absent_stops olds deltas (Asks g peer) n none = (refl, inl none)
+absent_stops olds deltas (Frame g from bytes now) n none = (refl, none)
+absent_stops olds deltas (Tick g now) n none = (refl, none)
+absent_stops olds deltas (Take g delta) n none = (refl, none)
+absent_stops olds deltas (Show g) n none = (refl, none)

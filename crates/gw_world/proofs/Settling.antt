@@ -1,16 +1,17 @@
--- What stands in a gateway's set stands in the list of deltas; so gateways that have taken all of it have the same.
-use Rattle.std.proofs.Common.{◌≡◌, ℕ, ◌-◌, ◌⊎◌, ◌↔◌, List, [], ◌∷◌, ◌++◌, map, flat_map, slice_get, Some, Contains, Result, Ok, Err, sym, ap, ◌∙◌, subst, append-nil, inl, inr}
+-- What stands in a gateway's set stands in the list of deltas; so gateways that all of it has reached have the same.
+use Rattle.std.proofs.Common.{◌≡◌, ℕ, Bool, true, false, ◌-◌, ◌⊎◌, ◌↔◌, List, [], ◌∷◌, ◌++◌, map, flat_map, slice_get, Option, Some, None, Contains, Result, Ok, Err, refl, sym, ap, ◌∙◌, subst, append-nil, inl, inr}
 use Rattle.std.specs.List.{AllByRecursion}
 use Rattle.std.proofs.lemmas.List.Concat.{flat_map-append}
 use Rattle.std.proofs.lemmas.List.Elements.{All-from_recursion, All-contains, Contains-append_left, Contains-append_right}
 use Rattle.rep_ops.specs.declared.op.Op.{Op}
-use Rattle.rep_ops.specs.Sets.{Same}
-use Rattle.rep_model.proofs.Joins.{all-moved, same-elements}
+use Rattle.rep_ops.specs.Sets.{operation_at, put_at, is_acknowledged, Stands, Within, Same}
+use Rattle.rep_model.proofs.Joins.{all-moved, same-elements, same_sym, same_trans, within-standing}
 use Rattle.rep_model.proofs.Named.{clients-thin}
 use Rattle.rep_model.proofs.Thin.{thin-same, view-thin}
 use Rattle.sn_flow.specs.declared.config.Config.{Config}
+use Rattle.sn_flow.proofs.Lists.{all-append}
 use Rattle.gw_world.specs.declared.event.Event.{Event}
-use Rattle.gw_world.specs.declared.event.Event.TheVariants.{Frame, Tick, Take, Show}
+use Rattle.gw_world.specs.declared.event.Event.TheVariants.{Frame, Tick, Take, Answer as Asks, Show}
 use Rattle.gw_world.specs.declared.event.Answer.{Answer}
 use Rattle.gw_world.specs.declared.event.Answer.TheVariants.{Node, Views}
 use Rattle.gw_node.specs.declared.out.Out.{Out}
@@ -21,7 +22,7 @@ use Rattle.gw_world.specs.Gateways.{Gateway}
 use Rattle.gw_world.specs.Field.{Field, new_field, changed, After, Run, shown}
 use Rattle.gw_world.specs.Steps.{TakeStep}
 use Rattle.gw_world.specs.Whole.{listed, everything, HasTakenAll}
-use Rattle.gw_world.proofs.Consistency.{start-taken, field-whole, parts-consistent}
+use Rattle.gw_world.proofs.Consistency.{WholeField, start-taken, field-whole, parts-consistent}
 use Rattle.gw_world.proofs.Each.{all-at, all-places, flat-all, AllOf, EachOf, each-weaken, each-grown}
 use Rattle.gw_world.proofs.Steadiness.{Still, Stepped, still, own-moves}
 
@@ -57,6 +58,14 @@ module _ (field : Field) (w : AreListed field) (i : ℕ) (old next : Gateway) (m
   listed-taken k delta (Err fault) there h = listed-moved (inl (still old next made h.1))
   listed-taken k delta (Ok out) there h = listed-more delta (ap (λ (x : Gateway). x.taken) h.3) (all-at (λ (D : List Op). AllByRecursion (IsListed (field.deltas ++ made)) D) field.deltas k delta still-listed.lists there)
 
+-- more deltas join the list
+listed-joined : (field : Field) → AreListed field → (made : List (List Op)) → AreListed (record field { deltas = field.deltas ++ made })
+listed-joined field w made =
+    let more = each-weaken (IsListed field.deltas) (IsListed (field.deltas ++ made)) (before-made field.deltas made) field.gateways field.deltas w in record {
+      sets = more.sets;
+      lists = all-append (λ (D : List Op). AllByRecursion (IsListed (field.deltas ++ made)) D) field.deltas made more.lists (all-made field.deltas made);
+    }
+
 after-listed : (old : Field) (event : Event) (answer : Answer) (new : Field) → After old event answer new → AreListed old → AreListed new
 after-listed old (Frame number from bytes now) (Node answer) new h w =
     subst AreListed (sym h.6) (listed-moved old w h.0 h.1 h.2 h.3 h.4.1 (own-moves h.1 (Datagram from bytes) now (said answer) h.2 h.3 h.5))
@@ -64,10 +73,12 @@ after-listed old (Tick number now) (Node answer) new h w =
     subst AreListed (sym h.6) (listed-moved old w h.0 h.1 h.2 h.3 h.4.1 (own-moves h.1 Clock now (said answer) h.2 h.3 h.5))
 after-listed old (Take number delta) (Node answer) new h w =
     subst AreListed (sym h.8) (listed-taken old w h.0 h.1 h.2 h.3 h.5.1 (delta - 1) h.4 (said answer) h.6.1 h.7)
+after-listed old (Asks number peer) (Node answer) new h w = subst AreListed (sym h.8) (listed-joined old w h.4)
 after-listed old (Show number) (Views views) new h w = subst AreListed (sym h.4) w
 after-listed old (Frame number from bytes now) (Views views) new h w = absurd h
 after-listed old (Tick number now) (Views views) new h w = absurd h
 after-listed old (Take number delta) (Views views) new h w = absurd h
+after-listed old (Asks number peer) (Views views) new h w = absurd h
 after-listed old (Show number) (Node answer) new h w = absurd h
 
 run-listed : (old : Field) (events : List Event) (answers : List Answer) (new : Field) → Run old events answers new → AreListed old → AreListed new
@@ -91,17 +102,64 @@ field-listed configs events answers field gateway op h in_field there =
 
 pub field-alike : (configs : List Config) (events : List Event) (answers : List Answer) (field : Field) (one other : Gateway) → Run (new_field configs) events answers field → Contains field.gateways one → Contains field.gateways other → ((op : Op) → Contains one.taken op ↔ Contains other.taken op) → Same one.taken other.taken
 field-alike configs events answers field one other h in_field too alike =
-    let whole = (field-whole configs events answers field h).0 in
+    let whole = field-whole configs events answers field h in
     let part : (op : Op) → Contains one.taken op → Contains (everything field) op = λ op there.
     Contains-append_right (flat_map (λ (gateway : Gateway). gateway.taken) field.gateways) (listed field) op (field-listed configs events answers field one op h in_field there) in
     same-elements one.taken other.taken (parts-consistent field whole one.taken part) (λ op. (alike op).0) (λ op. (alike op).1)
 
+-- ---- by what is read of the sets
+
+-- what two options have in common is all that they have
+options-alike : {X : Type 0} (a b : Option X) → ((x : X) → a ≡ Some x → b ≡ Some x) → ((x : X) → b ≡ Some x → a ≡ Some x) → a ≡ b
+options-alike None None f g = refl
+options-alike None (Some y) f g = g y refl
+options-alike (Some x) b f g = sym (f x refl)
+
+tests-alike : (a b : Bool) → (a ≡ true → b ≡ true) → (b ≡ true → a ≡ true) → a ≡ b
+tests-alike true b f g = sym (f refl)
+tests-alike false true f g = g refl
+tests-alike false false f g = refl
+
+same-within : (A B : List Op) → Within A B → Within B A → Same A B
+same-within A B f g = record {
+  operations_same = λ c name. options-alike (operation_at c A name) (operation_at c B name) (f.operations_in c name) (g.operations_in c name);
+  puts_same = λ c name. options-alike (put_at c A name) (put_at c B name) (f.puts_in c name) (g.puts_in c name);
+  acknowledgements_same = λ c name. tests-alike (is_acknowledged c A name) (is_acknowledged c B name) (f.acknowledgements_in c name) (g.acknowledgements_in c name);
+}
+
+-- of parts of a field, that which has all operations of another has what stands in it
+parts-within : (field : Field) → WholeField field → (part other : List Op) → ((op : Op) → Contains part op → Contains (everything field) op) → ((op : Op) → Contains other op → Contains part op) → Within other part
+parts-within field w part other inside f =
+    within-standing part other (all-moved (Stands part) other (λ op h. All-contains (Stands part) part op (All-from_recursion (Stands part) part (parts-consistent field w part inside)) (f op h)))
+
+module _ (configs : List Config) (events : List Event) (answers : List Answer) (field : Field) (h : Run (new_field configs) events answers field) (gateway : Gateway) (in_field : Contains field.gateways gateway) where
+  list-inside : (op : Op) → Contains (listed field) op → Contains (everything field) op
+  list-inside op there = Contains-append_right (flat_map (λ (g : Gateway). g.taken) field.gateways) (listed field) op there
+
+  set-inside : (op : Op) → Contains gateway.taken op → Contains (everything field) op
+  set-inside op there = list-inside op (field-listed configs events answers field gateway op h in_field there)
+
+  taken-within : Within gateway.taken (listed field)
+  taken-within = parts-within field (field-whole configs events answers field h) (listed field) gateway.taken list-inside (λ op. field-listed configs events answers field gateway op h in_field)
+
+  taken-reached : (part : List Op) → ((op : Op) → Contains part op → Contains gateway.taken op) → Within part gateway.taken
+  taken-reached part f = parts-within field (field-whole configs events answers field h) gateway.taken part set-inside f
+
+  taken-all : HasTakenAll field gateway → Same gateway.taken (listed field)
+  taken-all all = same-within gateway.taken (listed field) taken-within all
+
+pub field-within : (configs : List Config) (events : List Event) (answers : List Answer) (field : Field) (gateway : Gateway) → Run (new_field configs) events answers field → Contains field.gateways gateway → Within gateway.taken (listed field)
+field-within configs events answers field gateway h in_field = taken-within configs events answers field h gateway in_field
+
+pub field-reached : (configs : List Config) (events : List Event) (answers : List Answer) (field : Field) (gateway : Gateway) (part : List Op) → Run (new_field configs) events answers field → Contains field.gateways gateway → ((op : Op) → Contains part op → Contains gateway.taken op) → Within part gateway.taken
+field-reached configs events answers field gateway part h in_field f = taken-reached configs events answers field h gateway in_field part f
+
+pub field-all : (configs : List Config) (events : List Event) (answers : List Answer) (field : Field) (gateway : Gateway) → Run (new_field configs) events answers field → Contains field.gateways gateway → HasTakenAll field gateway → Same gateway.taken (listed field)
+field-all configs events answers field gateway h in_field all = taken-all configs events answers field h gateway in_field all
+
 pub field-settled : (configs : List Config) (events : List Event) (answers : List Answer) (field : Field) (one other : Gateway) → Run (new_field configs) events answers field → Contains field.gateways one → Contains field.gateways other → HasTakenAll field one → HasTakenAll field other → Same one.taken other.taken
 field-settled configs events answers field one other h in_field too all others =
-    field-alike configs events answers field one other h in_field too (λ op. (
-      λ there. others op (field-listed configs events answers field one op h in_field there),
-      λ there. all op (field-listed configs events answers field other op h too there),
-    ))
+    same_trans (field-all configs events answers field one h in_field all) (same_sym (field-all configs events answers field other h too others))
 
 pub shown-same : (A B : List Op) → Same A B → shown A ≡ shown B
 shown-same A B s = λ i. map (λ c. (c, view-thin A B (thin-same A B s) c i)) (clients-thin A B (thin-same A B s) i)

@@ -1,7 +1,13 @@
 -- From what the gateways keep to what they have taken.
-use Rattle.std.proofs.Common.{◌≡◌, ℕ, List, [], ◌∷◌, ◌++◌, Option, Some, None, ◌⊎◌, Result, Ok, Err, refl, sym, ap, ◌∙◌, subst, inl, inr}
+use Rattle.std.proofs.Common.{◌≡◌, ℕ, ◌<◌, ◌≤◌, List, [], ◌∷◌, ◌++◌, length, Option, Some, None, ◌⊎◌, Result, Ok, Err, refl, sym, ap, ◌∙◌, subst, inl, inr, arith}
 use Rattle.std.specs.Option.{option_to_list}
+use Rattle.std.specs.List.{AllByRecursion}
 use Rattle.rep_ops.specs.declared.op.Op.{Op}
+use Rattle.rep_ops.specs.Spelling.{max_octets}
+use Rattle.rep_digest.specs.Answers.{IsAnswer}
+use Rattle.rep_digest.specs.Digests.{digest}
+use Rattle.rep_digest.specs.Spelling.{spelling, IsWithinLimit as IsDigestWithinLimit}
+use Rattle.rep_digest.proofs.Completing.{same_digest, same_answer}
 use Rattle.sn_flow.specs.Locals.{Local}
 use Rattle.sn_flow.specs.declared.plan.Plan.{Plan}
 use Rattle.sn_flow.specs.Plans.{seen_of}
@@ -11,10 +17,10 @@ use Rattle.gw_node.specs.declared.refusal.Refusal.{Refusal}
 use Rattle.gw_node.specs.declared.refusal.Refusal.TheVariants as refusals
 use Rattle.gw_node.specs.Occasions.{Occasion, IsPlanOf}
 use Rattle.gw_world.specs.Gateways.{Gateway}
-use Rattle.gw_world.specs.Steps.{OwnStep, TakeStep, IsMade, IsPlan, IsUnchanged, IsTooMuch, HasNoDelta}
+use Rattle.gw_world.specs.Steps.{OwnStep, TakeStep, AnswerStep, IsMade, IsPlan, IsUnchanged, IsTooMuch, HasNoDelta, IsWritable}
 use Rattle.gw_node.specs.Calls.{AreTooMuch}
-use Rattle.gw_world.specs.Plans.{OwnKept, TakeKept, IsPlanFor, Makes}
-use Rattle.gw_world.specs.Events.{made_of}
+use Rattle.gw_world.specs.Plans.{OwnKept, TakeKept, AskKept, IsPlanFor, Makes}
+use Rattle.gw_world.specs.Events.{made_of, answered_of}
 use Rattle.gw_world.specs.Keeping.{Keeps, IsShown}
 use Rattle.gw_world.proofs.Held.{keeps_more, seen_same, takable, conflict_with_taken, full_for_taken}
 
@@ -48,18 +54,18 @@ module _ (g k : Gateway) (s : IsShown g k) where
   unchanged : IsUnchanged g g []
   unchanged = record { same = refl; none = refl }
 
-  made_taken : (plan : Plan) (ops : List Op) (made : Option (List Op)) (kept : List Op) → Makes ops made k.taken kept
+  made_taken : (plan : Plan) (ops : List Op) (made : Option (List Op)) (kept : List Op) → Makes ops made k.taken kept → AllByRecursion IsWritable (option_to_list made)
       → Leads (λ next mades. IsMade ops g plan made next mades) k kept (after_all k.local plan.local) (option_to_list made)
-  made_taken plan [] None kept h = record {
+  made_taken plan [] None kept h writable = record {
     next = record g { local = after_all g.local plan.local };
     step = (refl, refl);
     shown = record { configured = s.configured; bound = ap (λ b. after_all b plan.local) s.bound; keeps = subst (λ K. Keeps g.taken K) (sym h) s.keeps };
   }
-  made_taken plan [] (Some delta) kept h = absurd h
-  made_taken plan (op ∷ ops) None kept h = absurd h
-  made_taken plan (op ∷ ops) (Some delta) kept (is_delta, fits, keeps) = record {
+  made_taken plan [] (Some delta) kept h writable = absurd h
+  made_taken plan (op ∷ ops) None kept h writable = absurd h
+  made_taken plan (op ∷ ops) (Some delta) kept (is_delta, fits, keeps) writable = record {
     next = record g { taken = g.taken ++ delta; local = after_all g.local plan.local };
-    step = (is_delta, takable g.taken k.taken delta s.keeps fits, refl, refl);
+    step = (is_delta, writable.0, takable g.taken k.taken delta s.keeps fits, refl, refl);
     shown = record { configured = s.configured; bound = ap (λ b. after_all b plan.local) s.bound; keeps = keeps_more g.taken k.taken delta kept s.keeps keeps };
   }
 
@@ -74,35 +80,35 @@ module _ (g k : Gateway) (s : IsShown g k) where
 
   -- what a datagram or a tick does by what is kept is a step by what was taken
   pub own_taken : (occasion : Occasion) (now : ℕ) (answer : Result Out Refusal) (kept : List Op) (local : Local)
-      → OwnKept k.config k.taken k.local occasion now answer kept local
+      → OwnKept k.config k.taken k.local occasion now answer kept local → AllByRecursion IsWritable (made_of answer)
       → Leads (λ next mades. OwnStep g occasion now answer next mades) k kept local (made_of answer)
-  own_taken occasion now (Ok out) kept local (plan, is_plan, answer, bound, makes) =
-      let made = made_taken plan plan.ops out.made kept makes in
+  own_taken occasion now (Ok out) kept local (plan, is_plan, answer, bound, makes, apart) writable =
+      let made = made_taken plan plan.ops out.made kept makes writable in
       record {
         next = made.next;
-        step = (plan, plan_taken occasion now (Some plan) is_plan, (answer, made.step));
+        step = (plan, plan_taken occasion now (Some plan) is_plan, (answer, made.step, apart));
         shown = record { configured = made.shown.configured; bound = bound ∙ made.shown.bound; keeps = made.shown.keeps };
       }
-  own_taken occasion now (Err (refusals.Frame f)) kept local (same_kept, same_local, first) =
+  own_taken occasion now (Err (refusals.Frame f)) kept local (same_kept, same_local, first) writable =
       record { next = g; step = (first, unchanged); shown = stays kept local same_kept same_local }
-  own_taken occasion now (Err refusals.Exhausted) kept local (same_kept, same_local, none) =
+  own_taken occasion now (Err refusals.Exhausted) kept local (same_kept, same_local, none) writable =
       record { next = g; step = (plan_taken occasion now None none, unchanged); shown = stays kept local same_kept same_local }
-  own_taken occasion now (Err (refusals.Conflict c)) kept local (same_kept, same_local, (plan, is_plan, h)) =
+  own_taken occasion now (Err (refusals.Conflict c)) kept local (same_kept, same_local, (plan, is_plan, h)) writable =
       record {
         next = g;
         step = (plan, plan_taken occasion now (Some plan) is_plan, conflict_taken plan c h, unchanged);
         shown = stays kept local same_kept same_local;
       }
-  own_taken occasion now (Err refusals.Full) kept local (same_kept, same_local, (plan, is_plan, h)) =
+  own_taken occasion now (Err refusals.Full) kept local (same_kept, same_local, (plan, is_plan, h)) writable =
       record {
         next = g;
         step = (plan, plan_taken occasion now (Some plan) is_plan, full_taken plan h, unchanged);
         shown = stays kept local same_kept same_local;
       }
-  own_taken occasion now (Err refusals.Halted) kept local (same_kept, same_local, h) = absurd h
-  own_taken occasion now (Err (refusals.Disk excuse)) kept local (same_kept, same_local, h) = absurd h
-  own_taken occasion now (Err (refusals.Journal fault)) kept local (same_kept, same_local, h) = absurd h
-  own_taken occasion now (Err refusals.Memory) kept local (same_kept, same_local, h) = absurd h
+  own_taken occasion now (Err refusals.Halted) kept local (same_kept, same_local, h) writable = absurd h
+  own_taken occasion now (Err (refusals.Disk excuse)) kept local (same_kept, same_local, h) writable = absurd h
+  own_taken occasion now (Err (refusals.Journal fault)) kept local (same_kept, same_local, h) writable = absurd h
+  own_taken occasion now (Err refusals.Memory) kept local (same_kept, same_local, h) writable = absurd h
 
   -- and so for a delta
   pub take_taken : (delta : List Op) (answer : Result Out Refusal) (kept : List Op) (local : Local)
@@ -128,3 +134,28 @@ module _ (g k : Gateway) (s : IsShown g k) where
   take_taken delta (Err refusals.Exhausted) kept local (same_kept, same_local, h) = absurd h
   take_taken delta (Err (refusals.Journal fault)) kept local (same_kept, same_local, h) = absurd h
   take_taken delta (Err refusals.Memory) kept local (same_kept, same_local, h) = absurd h
+
+-- more than the limit is not within it
+past : (n limit : ℕ) → limit < n → n ≤ limit → ⊥
+past n limit lt le = absurd (omega (arith, lt, le))
+
+-- and for the digest of one gateway that goes to another
+pub ask_taken : (g k : Gateway) → IsShown g k → (h l : Gateway) → IsShown h l → (answer : Result Out Refusal) → AskKept k.taken l.taken answer
+    → AllByRecursion IsWritable (answered_of answer) → AnswerStep g h answer (answered_of answer)
+ask_taken g k s h l t (Ok out) (within, (is_answer, is_out)) writable =
+    let same : digest k.taken ≡ digest g.taken = same_digest g.taken k.taken s.keeps.counts in (
+      subst IsDigestWithinLimit same within,
+      subst (λ d. IsAnswer d h.taken out.answer) same (same_answer h.taken l.taken t.keeps.counts (digest k.taken) out.answer is_answer),
+      writable,
+      is_out,
+    )
+ask_taken g k s h l t (Err refusals.Full) long writable =
+    let same : digest k.taken ≡ digest g.taken = same_digest g.taken k.taken s.keeps.counts in
+    (λ within. past (length (spelling (digest g.taken))) max_octets (subst (λ d. max_octets < length (spelling d)) same long) within, refl)
+ask_taken g k s h l t (Err (refusals.Frame fault)) answer writable = absurd answer
+ask_taken g k s h l t (Err refusals.Halted) answer writable = absurd answer
+ask_taken g k s h l t (Err (refusals.Disk excuse)) answer writable = absurd answer
+ask_taken g k s h l t (Err (refusals.Conflict client)) answer writable = absurd answer
+ask_taken g k s h l t (Err refusals.Exhausted) answer writable = absurd answer
+ask_taken g k s h l t (Err (refusals.Journal fault)) answer writable = absurd answer
+ask_taken g k s h l t (Err refusals.Memory) answer writable = absurd answer

@@ -1,6 +1,6 @@
--- A field stays steady.
-use Rattle.std.proofs.Common.{◌≡◌, ℕ, ◌-◌, ◌⊎◌, List, [], ◌∷◌, ◌++◌, slice_get, Option, Some, None, is_some, option_map, true, Contains, true≢false, Result, Ok, Err, refl, sym, ap, ◌∙◌, subst, append-nil, inl, inr}
-use Rattle.std.specs.List.{AllByRecursion}
+-- The gateways of a field stay flush.
+use Rattle.std.proofs.Common.{◌≡◌, ℕ, ◌⊎◌, List, [], ◌∷◌, ◌++◌, map, set, slice_get, Option, Some, None, is_some, option_map, true, Contains, true≢false, Result, Ok, Err, refl, sym, ap, ◌∙◌, subst, inl, inr}
+use Rattle.std.specs.Option.{option_to_list}
 use Rattle.std.proofs.lemmas.Option.{none-some, same_Some, slice_get-map}
 use Rattle.rep_ops.specs.declared.op.Op.{Op}
 use Rattle.rep_ops.specs.declared.op.Op.TheVariants.{Session as OfSession, Put as OfPut}
@@ -13,25 +13,18 @@ use Rattle.sn_flow.specs.declared.plan.Plan.{Plan}
 use Rattle.sn_flow.specs.Plans.{seen_of}
 use Rattle.sn_flow.specs.Own.{IsOfDraft}
 use Rattle.sn_flow.specs.Flush.{IsFlush, AreFlush}
-use Rattle.sn_flow.proofs.Lists.{all-append, all-weaken}
 use Rattle.sn_deliver.proofs.Drafting.{step-drafted, tick-drafted}
-use Rattle.sn_flow.proofs.Stepping.{step-fits, step-flush, step-known, step-foreign, step-new_operation, step-new_put}
-use Rattle.sn_flow.proofs.Known.{known-stays}
+use Rattle.sn_flow.proofs.Stepping.{step-fits, step-flush, step-new_operation, step-new_put}
 use Rattle.sn_flow.proofs.Flushness.{flush-start, flush-taken}
-use Rattle.gw_world.specs.declared.event.Event.{Event}
-use Rattle.gw_world.specs.declared.event.Event.TheVariants.{Frame, Tick, Take, Show}
-use Rattle.gw_world.specs.declared.event.Answer.{Answer}
-use Rattle.gw_world.specs.declared.event.Answer.TheVariants.{Node, Views}
 use Rattle.gw_node.specs.declared.out.Out.{Out}
 use Rattle.gw_node.specs.declared.refusal.Refusal.{Refusal}
 use Rattle.gw_node.specs.declared.refusal.Refusal.TheVariants as refusals
-use Rattle.gw_node.specs.Parts.{said}
 use Rattle.gw_node.specs.Occasions.{Occasion, Datagram, Clock}
 use Rattle.gw_world.specs.Gateways.{Gateway, new_gateway}
-use Rattle.gw_world.specs.Field.{Field, new_field, IsAt, changed, After, Run}
-use Rattle.gw_world.specs.Steps.{HaveName, IsUnchanged, IsMade, IsPlan, OwnStep, TakeStep}
+use Rattle.gw_world.specs.Field.{Field, IsAt}
+use Rattle.gw_world.specs.Steps.{HaveName, IsUnchanged, IsWritable, IsMade, IsPlan, OwnStep, TakeStep}
+use Rattle.gw_world.specs.Events.{made_of}
 use Rattle.gw_world.specs.Steady.{IsKnown, IsSteady}
-use Rattle.gw_world.proofs.Each.{all-at}
 use Rattle.gw_world.proofs.Numbers.{First, place_of-first, first-number, first-set}
 use Rattle.gw_world.proofs.Occurring.{is_there}
 
@@ -47,6 +40,7 @@ pub record Stepped (old new : Gateway) (made : List (List Op)) : Type 0 where
   pub drafted : IsOfDraft old.config.gateway (seen_of old.taken) plan
   pub delta : List Op
   pub proper : IsDelta delta
+  pub writable : IsWritable delta
   pub same : Same delta plan.ops
   pub config : new.config ≡ old.config
   pub taken : new.taken ≡ old.taken ++ delta
@@ -64,10 +58,11 @@ made-moves old plan (op ∷ ops) (Some delta) new made p e h = inr (record {
   drafted = p;
   delta = delta;
   proper = h.0.delta;
+  writable = h.1;
   same = subst (Same delta) (sym e) h.0.same;
-  config = ap (λ (x : Gateway). x.config) h.3;
-  taken = ap (λ (x : Gateway). x.taken) h.3;
-  one = h.2;
+  config = ap (λ (x : Gateway). x.config) h.4;
+  taken = ap (λ (x : Gateway). x.taken) h.4;
+  one = h.3;
 })
 
 plan-drafted : (old : Gateway) (occasion : Occasion) (now : ℕ) (plan : Plan) → IsPlan old occasion now (Some plan) → IsOfDraft old.config.gateway (seen_of old.taken) plan
@@ -85,105 +80,65 @@ own-moves old occasion now (Err (refusals.Disk excuse)) new made h = absurd h
 own-moves old occasion now (Err (refusals.Journal fault)) new made h = absurd h
 own-moves old occasion now (Err refusals.Memory) new made h = absurd h
 
--- the same, by the first gateway of each number
-pub record Steady (gateways : List Gateway) (deltas : List (List Op)) : Type 0 where
-  pub flush : (n j : ℕ) (gateway : Gateway) → First n gateways j → slice_get gateways j ≡ Some gateway → AreFlush n gateway.taken
-  pub known : (n j : ℕ) (gateway : Gateway) → First n gateways j → slice_get gateways j ≡ Some gateway → AllByRecursion (IsKnown n gateway.taken) deltas
+-- the delta that was made is the one that the answer tells of
+told-made : (old : Gateway) (plan : Plan) (ops : List Op) (delta : Option (List Op)) (new : Gateway) (made : List (List Op)) → IsMade ops old plan delta new made → made ≡ option_to_list delta
+told-made old plan [] None new made h = h.0
+told-made old plan [] (Some delta) new made h = absurd h
+told-made old plan (op ∷ ops) None new made h = absurd h
+told-made old plan (op ∷ ops) (Some delta) new made h = h.3
 
-module _ (field : Field) (s : Steady field.gateways field.deltas) (n i : ℕ) (old : Gateway) (f : First n field.gateways i) (is : slice_get field.gateways i ≡ Some old) where
+pub own-told : (old : Gateway) (occasion : Occasion) (now : ℕ) (answer : Result Out Refusal) (new : Gateway) (made : List (List Op)) → OwnStep old occasion now answer new made → made ≡ made_of answer
+own-told old occasion now (Ok out) new made h = told-made old h.0 h.0.ops out.made new made h.2.1
+own-told old occasion now (Err (refusals.Frame fault)) new made h = h.1.none
+own-told old occasion now (Err refusals.Exhausted) new made h = h.1.none
+own-told old occasion now (Err (refusals.Conflict client)) new made h = h.3.none
+own-told old occasion now (Err refusals.Full) new made h = h.3.none
+own-told old occasion now (Err refusals.Halted) new made h = absurd h
+own-told old occasion now (Err (refusals.Disk excuse)) new made h = absurd h
+own-told old occasion now (Err (refusals.Journal fault)) new made h = absurd h
+own-told old occasion now (Err refusals.Memory) new made h = absurd h
+
+-- the first gateway of each number is flush
+abbrev pub AreAllFlush : List Gateway → Type 0
+AreAllFlush gateways = (n j : ℕ) (gateway : Gateway) → First n gateways j → slice_get gateways j ≡ Some gateway → AreFlush n gateway.taken
+
+module _ (gs : List Gateway) (s : AreAllFlush gs) (n i : ℕ) (old : Gateway) (f : First n gs i) (is : slice_get gs i ≡ Some old) where
   -- one gateway became another
-  updated : (next : Gateway) (made : List (List Op)) → next.config ≡ old.config → AreFlush n next.taken → AllByRecursion (IsKnown n next.taken) (field.deltas ++ made) → ((m : ℕ) → ¬ (m ≡ n) → (T : List Op) → AllByRecursion (IsKnown m T) made) → Steady (changed field i next made).gateways (changed field i next made).deltas
-  updated next made config flush known others = record {
-    flush = λ m j gateway h e. elim (first-set n m i j field.gateways old next gateway f is config h e) [
-      | inl own ↦ λ c. subst (λ k. IsFlush k c gateway.taken) (sym own.0) (subst (λ (x : Gateway). IsFlush n c x.taken) (sym own.1) (flush c))
-      | inr other ↦ s.flush m j gateway other.1 other.2
-    ];
-    known = λ m j gateway h e. elim (first-set n m i j field.gateways old next gateway f is config h e) [
-      | inl own ↦ subst (λ k. AllByRecursion (IsKnown k gateway.taken) (field.deltas ++ made)) (sym own.0) (subst (λ (x : Gateway). AllByRecursion (IsKnown n x.taken) (field.deltas ++ made)) (sym own.1) known)
-      | inr other ↦ all-append (IsKnown m gateway.taken) field.deltas made (s.known m j gateway other.1 other.2) (others m other.0 gateway.taken)
-    ];
-  }
+  updated : (next : Gateway) → next.config ≡ old.config → AreFlush n next.taken → AreAllFlush (set gs i next)
+  updated next config flush m j gateway h e = elim (first-set n m i j gs old next gateway f is config h e) [
+    | inl own ↦ λ c. subst (λ k. IsFlush k c gateway.taken) (sym own.0) (subst (λ (x : Gateway). IsFlush n c x.taken) (sym own.1) (flush c))
+    | inr other ↦ s m j gateway other.1 other.2
+  ]
 
   flush-before : AreFlush n old.taken
-  flush-before = s.flush n i old f is
+  flush-before = s n i old f is
 
-  known-before : AllByRecursion (IsKnown n old.taken) field.deltas
-  known-before = s.known n i old f is
+  flush-still : (next : Gateway) (made : List (List Op)) → Still old next made → AreAllFlush (set gs i next)
+  flush-still next made u = updated next u.config (λ c. subst (λ T. IsFlush n c T) (sym u.taken) (flush-before c))
 
-  -- what was known is known of a larger set
-  known-more : (more : List Op) → AllByRecursion (IsKnown n (old.taken ++ more)) field.deltas
-  known-more more = all-weaken (IsKnown n old.taken) (IsKnown n (old.taken ++ more)) (λ D k c. known-stays n c old.taken D more (k c)) field.deltas known-before
-
-  updated-still : (next : Gateway) (made : List (List Op)) → Still old next made → Steady (changed field i next made).gateways (changed field i next made).deltas
-  updated-still next made u = updated next made u.config
-      (λ c. subst (λ T. IsFlush n c T) (sym u.taken) (flush-before c))
-      (subst (λ ds. AllByRecursion (IsKnown n next.taken) (field.deltas ++ ds)) (sym u.none) (subst (AllByRecursion (IsKnown n next.taken)) (sym (append-nil field.deltas)) (subst (λ T. AllByRecursion (IsKnown n T) field.deltas) (sym u.taken) known-before)))
-      (λ m _ T. subst (AllByRecursion (IsKnown m T)) (sym u.none) tt)
-
-  updated-stepped : (next : Gateway) (made : List (List Op)) → Stepped old next made → Steady (changed field i next made).gateways (changed field i next made).deltas
-  updated-stepped next made u =
-      let number : old.config.gateway ≡ n = first-number n i field.gateways old f is in
+  flush-stepped : (next : Gateway) (made : List (List Op)) → Stepped old next made → AreAllFlush (set gs i next)
+  flush-stepped next made u =
+      let number : old.config.gateway ≡ n = first-number n i gs old f is in
       let p : IsOfDraft n (seen_of old.taken) u.plan = subst (λ k. IsOfDraft k (seen_of old.taken) u.plan) number u.drafted in
-      updated next made u.config
-      (λ c. subst (λ T. IsFlush n c T) (sym u.taken) (step-flush n old.taken u.plan p u.delta u.same flush-before c))
-      (subst (λ ds. AllByRecursion (IsKnown n next.taken) (field.deltas ++ ds)) (sym u.one) (subst (λ T. AllByRecursion (IsKnown n T) (field.deltas ++ u.delta ∷ [])) (sym u.taken)
-      (all-append (IsKnown n (old.taken ++ u.delta)) field.deltas (u.delta ∷ []) (known-more u.delta) (step-known n old.taken u.plan p u.delta u.same flush-before, tt))))
-      (λ m other T. subst (AllByRecursion (IsKnown m T)) (sym u.one) (λ c. step-foreign n old.taken u.plan p u.delta u.same m other c T, tt))
+      updated next u.config (λ c. subst (λ T. IsFlush n c T) (sym u.taken) (step-flush n old.taken u.plan p u.delta u.same flush-before c))
 
-  updated-moved : (next : Gateway) (made : List (List Op)) → Still old next made ⊎ Stepped old next made → Steady (changed field i next made).gateways (changed field i next made).deltas
-  updated-moved next made (inl u) = updated-still next made u
-  updated-moved next made (inr u) = updated-stepped next made u
+  pub flush-moved : (next : Gateway) (made : List (List Op)) → Still old next made ⊎ Stepped old next made → AreAllFlush (set gs i next)
+  flush-moved next made (inl u) = flush-still next made u
+  flush-moved next made (inr u) = flush-stepped next made u
 
-  updated-taken : (next : Gateway) (made : List (List Op)) (k : ℕ) (delta : List Op) (answer : Result Out Refusal) → slice_get field.deltas k ≡ Some delta → TakeStep old delta answer next made → Steady (changed field i next made).gateways (changed field i next made).deltas
-  updated-taken next made k delta (Err fault) there h = updated-still next made (still old next made h.1)
-  updated-taken next made k delta (Ok out) there h =
+  -- it took a delta that has no news of what it wrote itself
+  pub flush-fed : (next : Gateway) (made : List (List Op)) (delta : List Op) (answer : Result Out Refusal) → IsKnown n old.taken delta → TakeStep old delta answer next made → AreAllFlush (set gs i next)
+  flush-fed next made delta (Err fault) news h = flush-still next made (still old next made h.1)
+  flush-fed next made delta (Ok out) news h =
       let taken : next.taken ≡ old.taken ++ delta = ap (λ (x : Gateway). x.taken) h.3 in
-      let news : IsKnown n old.taken delta = all-at (IsKnown n old.taken) field.deltas k delta known-before there in
-      updated next made (ap (λ (x : Gateway). x.config) h.3)
-      (λ c. subst (λ T. IsFlush n c T) (sym taken) (flush-taken n c old.taken delta (news c) (flush-before c)))
-      (subst (λ ds. AllByRecursion (IsKnown n next.taken) (field.deltas ++ ds)) (sym h.2) (subst (AllByRecursion (IsKnown n next.taken)) (sym (append-nil field.deltas)) (subst (λ T. AllByRecursion (IsKnown n T) field.deltas) (sym taken) (known-more delta))))
-      (λ m _ T. subst (AllByRecursion (IsKnown m T)) (sym h.2) tt)
+      updated next (ap (λ (x : Gateway). x.config) h.3) (λ c. subst (λ T. IsFlush n c T) (sym taken) (flush-taken n c old.taken delta (news c) (flush-before c)))
 
-abbrev pub SteadyField : Field → Type 0
-SteadyField field = Steady field.gateways field.deltas
-
-pub after-steady : (old : Field) (event : Event) (answer : Answer) (new : Field) → After old event answer new → SteadyField old → SteadyField new
-after-steady old (Frame number from bytes now) (Node answer) new h s =
-    subst SteadyField (sym h.6) (updated-moved old s number h.0 h.1 (place_of-first number h.0 old.gateways h.4.0) h.4.1 h.2 h.3 (own-moves h.1 (Datagram from bytes) now (said answer) h.2 h.3 h.5))
-after-steady old (Tick number now) (Node answer) new h s =
-    subst SteadyField (sym h.6) (updated-moved old s number h.0 h.1 (place_of-first number h.0 old.gateways h.4.0) h.4.1 h.2 h.3 (own-moves h.1 Clock now (said answer) h.2 h.3 h.5))
-after-steady old (Take number delta) (Node answer) new h s =
-    subst SteadyField (sym h.8) (updated-taken old s number h.0 h.1 (place_of-first number h.0 old.gateways h.5.0) h.5.1 h.2 h.3 (delta - 1) h.4 (said answer) h.6.1 h.7)
-after-steady old (Show number) (Views views) new h s = subst SteadyField (sym h.4) s
-after-steady old (Frame number from bytes now) (Views views) new h s = absurd h
-after-steady old (Tick number now) (Views views) new h s = absurd h
-after-steady old (Take number delta) (Views views) new h s = absurd h
-after-steady old (Show number) (Node answer) new h s = absurd h
-
-run-steady : (old : Field) (events : List Event) (answers : List Answer) (new : Field) → Run old events answers new → SteadyField old → SteadyField new
-run-steady old [] [] new h s = subst SteadyField (sym h) s
-run-steady old (event ∷ events) (answer ∷ answers) new h s = run-steady h.0 events answers new h.2 (after-steady old event answer h.0 h.1 s)
-run-steady old [] (answer ∷ answers) new h s = absurd h
-run-steady old (event ∷ events) [] new h s = absurd h
-
-pub start-steady : (configs : List Config) → SteadyField (new_field configs)
-start-steady configs = record {
-  flush = λ n j gateway f e c. empty (slice_get configs j) n c gateway (sym (slice_get-map new_gateway configs j) ∙ e);
-  known = λ n j gateway f e. tt;
-}
+pub start-flush : (configs : List Config) → AreAllFlush (map new_gateway configs)
+start-flush configs n j gateway f e c = empty (slice_get configs j) (sym (slice_get-map new_gateway configs j) ∙ e)
   where
-    empty : (o : Option Config) (n : ℕ) (c : List ℕ) (gateway : Gateway) → option_map new_gateway o ≡ Some gateway → IsFlush n c gateway.taken
-    empty None n c gateway e = absurd (none-some gateway e)
-    empty (Some config) n c gateway e = subst (λ (x : Gateway). IsFlush n c x.taken) (same_Some (new_gateway config) gateway e) (flush-start n c)
-
-pub steady-is : (field : Field) → SteadyField field → IsSteady field
-steady-is field s = record {
-  flush = λ number i gateway at. s.flush number i gateway (place_of-first number i field.gateways at.0) at.1;
-  known = λ number i gateway at. s.known number i gateway (place_of-first number i field.gateways at.0) at.1;
-}
-
-pub field-steady : (configs : List Config) (events : List Event) (answers : List Answer) (field : Field) → Run (new_field configs) events answers field → IsSteady field
-field-steady configs events answers field h = steady-is field (run-steady (new_field configs) events answers field h (start-steady configs))
+    empty : (o : Option Config) → option_map new_gateway o ≡ Some gateway → IsFlush n c gateway.taken
+    empty None e = absurd (none-some gateway e)
+    empty (Some config) e = subst (λ (x : Gateway). IsFlush n c x.taken) (same_Some (new_gateway config) gateway e) (flush-start n c)
 
 some_none : {X : Type 0} (o : Option X) → is_some o ≡ true → o ≡ None → ⊥
 some_none o h e = true≢false (sym h ∙ ap is_some e)

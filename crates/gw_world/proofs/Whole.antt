@@ -11,12 +11,13 @@ use Rattle.rep_model.proofs.Joins.{all-moved}
 use Rattle.sn_flow.specs.declared.plan.Plan.{Plan}
 use Rattle.sn_flow.specs.Plans.{seen_of}
 use Rattle.sn_flow.specs.Own.{IsOwn, IsFresh, IsOfDraft}
-use Rattle.sn_flow.specs.Flush.{AreFlush}
+use Rattle.sn_flow.specs.Flush.{AreFlush, stamp_of}
 use Rattle.sn_flow.proofs.Lists.{all-append, all-weaken}
 use Rattle.sn_flow.proofs.Names.{plan-own}
 use Rattle.sn_flow.proofs.Stepping.{step-new_operation, step-new_put}
 use Rattle.gw_world.specs.Gateways.{Gateway}
-use Rattle.gw_world.specs.Steps.{HaveName}
+use Rattle.gw_world.specs.Steps.{HaveName, IsWritable}
+use Rattle.gw_world.specs.Steady.{IsKnown}
 use Rattle.gw_world.specs.Whole.{number_of}
 use Rattle.gw_world.proofs.Alone.{turned, some-is, delta-stands, stands-left, stands-right, stands-contains}
 use Rattle.gw_world.proofs.Each.{all-at, AllOf, EachOf, each-weaken, each-grown}
@@ -37,6 +38,12 @@ AreApart deltas = (i j : ℕ) (one other : List Op) (a b : Op) → slice_get del
 
 pub record Whole (gateways : List Gateway) (deltas : List (List Op)) : Type 0 where
   pub each : EachOf (IsHeld gateways) gateways deltas
+  pub proper : AllByRecursion IsDelta deltas
+  pub writable : AllByRecursion IsWritable deltas
+
+-- the same of deltas that were made; none has a name of another
+pub record Made (gateways : List Gateway) (deltas : List (List Op)) : Type 0 where
+  pub each : AllOf (IsHeld gateways) deltas
   pub apart : AreApart deltas
   pub proper : AllByRecursion IsDelta deltas
 
@@ -77,21 +84,47 @@ module _ (gs : List Gateway) (i : ℕ) (old next : Gateway) (more : List Op) (is
   held-more (OfPut c p) h = at-more (OfPut c p) p.origin h
   held-more (Ack c origin first last) h = tt
 
-  pub whole-grown : (deltas made : List (List Op)) → AllByRecursion (IsHeld (set gs i next)) more → AllOf (IsHeld (set gs i next)) made → AreApart (deltas ++ made) → AllByRecursion IsDelta made → Whole gs deltas → Whole (set gs i next) (deltas ++ made)
-  whole-grown deltas made news listed apart proper w = record {
+  pub whole-grown : (deltas made : List (List Op)) → AllByRecursion (IsHeld (set gs i next)) more → AllOf (IsHeld (set gs i next)) made → AllByRecursion IsDelta made → AllByRecursion IsWritable made → Whole gs deltas → Whole (set gs i next) (deltas ++ made)
+  whole-grown deltas made news listed proper writable w = record {
     each = each-grown (IsHeld (set gs i next)) gs deltas i old next more made is taken news listed (each-weaken (IsHeld gs) (IsHeld (set gs i next)) held-more gs deltas w.each);
-    apart = apart;
     proper = all-append IsDelta deltas made w.proper proper;
+    writable = all-append IsWritable deltas made w.writable writable;
   }
+
+  each-held : (deltas : List (List Op)) → AllOf (IsHeld gs) deltas → AllOf (IsHeld (set gs i next)) deltas
+  each-held deltas h = all-weaken (λ (D : List Op). AllByRecursion (IsHeld gs) D) (λ (D : List Op). AllByRecursion (IsHeld (set gs i next)) D)
+      (λ D all. all-weaken (IsHeld gs) (IsHeld (set gs i next)) held-more D all) deltas h
+
+  -- what was made stays so
+  pub made-kept : (deltas : List (List Op)) → Made gs deltas → Made (set gs i next) deltas
+  made-kept deltas m = record { each = each-held deltas m.each; apart = m.apart; proper = m.proper }
 
   -- and makes no delta
   pub whole-silent : (deltas made : List (List Op)) → AllByRecursion (IsHeld gs) more → made ≡ [] → Whole gs deltas → Whole (set gs i next) (deltas ++ made)
   whole-silent deltas made news none w =
       subst (λ m. Whole (set gs i next) (deltas ++ m)) (sym none)
-      (whole-grown deltas [] (all-weaken (IsHeld gs) (IsHeld (set gs i next)) held-more more news) tt (subst AreApart (sym (append-nil deltas)) w.apart) tt w)
+      (whole-grown deltas [] (all-weaken (IsHeld gs) (IsHeld (set gs i next)) held-more more news) tt tt tt w)
 
 pub whole-still : (gs : List Gateway) (i : ℕ) (old next : Gateway) (deltas made : List (List Op)) → slice_get gs i ≡ Some old → Still old next made → Whole gs deltas → Whole (set gs i next) (deltas ++ made)
 whole-still gs i old next deltas made is u w = whole-silent gs i old next [] is u.config (u.taken ∙ sym (append-nil old.taken)) deltas made tt u.none w
+
+-- deltas that answer a digest join the list
+pub whole-joined : (gs : List Gateway) (deltas made : List (List Op)) → AllOf (IsHeld gs) made → AllByRecursion IsDelta made → AllByRecursion IsWritable made → Whole gs deltas → Whole gs (deltas ++ made)
+whole-joined gs deltas made listed proper writable w = record {
+  each = record { sets = w.each.sets; lists = all-append (λ (D : List Op). AllByRecursion (IsHeld gs) D) deltas made w.each.lists listed };
+  proper = all-append IsDelta deltas made w.proper proper;
+  writable = all-append IsWritable deltas made w.writable writable;
+}
+
+-- ---- what is held brings nobody news of what it wrote itself
+
+pub held-known : (gs : List Gateway) (n j : ℕ) (gateway : Gateway) → First n gs j → slice_get gs j ≡ Some gateway → (D : List Op) → AllByRecursion (IsHeld gs) D → IsKnown n gateway.taken D
+held-known gs n j gateway f is D all c epoch counter change e =
+    let op = OfSession c (stamp_of epoch n) counter change in
+    let h = All-contains (IsHeld gs) D op (All-from_recursion (IsHeld gs) D all) (operation_occurs c D (stamp_of epoch n, counter) change e) in
+    let place : h.0 ≡ j = first-one n h.0 j gs h.2 f in
+    let same : h.1 ≡ gateway = same_Some h.1 gateway (sym h.3 ∙ ap (slice_get gs) place ∙ is) in
+    subst (λ (g : Gateway). Stands g.taken op) same h.4
 
 -- ---- a gateway writes
 
@@ -121,7 +154,7 @@ same-number (OfSession c s k o) (OfSession d t j p) n h e = (λ i. (h.1 i).gatew
 same-number (OfPut c p) (OfPut d q) n h e = h.1 ∙ e
 same-number a b n h e = absurd h
 
-module _ (gs : List Gateway) (i : ℕ) (old next : Gateway) (deltas made : List (List Op)) (is : slice_get gs i ≡ Some old) (f : First old.config.gateway gs i) (flush : AreFlush old.config.gateway old.taken) (u : Stepped old next made) (w : Whole gs deltas) where
+module _ (gs : List Gateway) (i : ℕ) (old next : Gateway) (made : List (List Op)) (is : slice_get gs i ≡ Some old) (f : First old.config.gateway gs i) (flush : AreFlush old.config.gateway old.taken) (u : Stepped old next made) where
   new-fresh : (op : Op) → Contains u.delta op → IsFresh old.taken op
   new-fresh (OfSession c s k o) h = step-new_operation old.config.gateway old.taken u.plan u.drafted u.delta u.same flush c (s, k) (is_there u.delta (OfSession c s k o) h)
   new-fresh (OfPut c p) h = step-new_put old.config.gateway old.taken u.plan u.drafted u.delta u.same flush c (p.seq, p.origin) (is_there u.delta (OfPut c p) h)
@@ -152,28 +185,38 @@ module _ (gs : List Gateway) (i : ℕ) (old next : Gateway) (deltas made : List 
   held-apart (Ack c origin first last) (OfPut d p) h there named e = named
   held-apart (Ack c origin first last) (Ack d from start end) h there named e = named
 
-  -- no name of a listed delta is written again
-  listed-apart : (k : ℕ) (one : List Op) (a b : Op) → slice_get deltas k ≡ Some one → Contains one a → Contains u.delta b → HaveName a b → ⊥
-  listed-apart k one a b at inside there named =
-      let all = all-at (λ (delta : List Op). AllByRecursion (IsHeld gs) delta) deltas k one w.each.lists at in
-      held-apart a b (All-contains (IsHeld gs) one a (All-from_recursion (IsHeld gs) one all) inside) there named
-      (same-number a b old.config.gateway named (own-number old next made u b there))
+  news : AllByRecursion (IsHeld (set gs i next)) u.delta
+  news = all-moved (IsHeld (set gs i next)) u.delta new-held
 
-  made-apart : AreApart (deltas ++ u.delta ∷ [])
-  made-apart k l one other a b at there inside within named =
-      elim (pushed-cases deltas u.delta one k at) [
-        | inl before ↦ elim (pushed-cases deltas u.delta other l there) [
-          | inl too ↦ w.apart k l one other a b before too inside within named
-          | inr last ↦ absurd (listed-apart k one a b before inside (subst (λ (D : List Op). Contains D b) last.1 within) named)
-        ]
-        | inr new ↦ elim (pushed-cases deltas u.delta other l there) [
-          | inl too ↦ absurd (listed-apart l other b a too within (subst (λ (D : List Op). Contains D a) new.1 inside) (turned a b named))
-          | inr last ↦ new.0 ∙ sym last.0
-        ]
-      ]
-
-  pub whole-stepped : Whole (set gs i next) (deltas ++ made)
-  whole-stepped =
-      let news = all-moved (IsHeld (set gs i next)) u.delta new-held in
+  pub whole-stepped : (deltas : List (List Op)) → Whole gs deltas → Whole (set gs i next) (deltas ++ made)
+  whole-stepped deltas w =
       subst (λ m. Whole (set gs i next) (deltas ++ m)) (sym u.one)
-      (whole-grown gs i old next u.delta is u.config u.taken deltas (u.delta ∷ []) news (news, tt) made-apart (u.proper, tt) w)
+      (whole-grown gs i old next u.delta is u.config u.taken deltas (u.delta ∷ []) news (news, tt) (u.proper, tt) (u.writable, tt) w)
+
+  module _ (ts : List (List Op)) (m : Made gs ts) where
+    -- no name of a delta that was made is written again
+    listed-apart : (k : ℕ) (one : List Op) (a b : Op) → slice_get ts k ≡ Some one → Contains one a → Contains u.delta b → HaveName a b → ⊥
+    listed-apart k one a b at inside there named =
+        let all = all-at (λ (delta : List Op). AllByRecursion (IsHeld gs) delta) ts k one m.each at in
+        held-apart a b (All-contains (IsHeld gs) one a (All-from_recursion (IsHeld gs) one all) inside) there named
+        (same-number a b old.config.gateway named (own-number old next made u b there))
+
+    made-apart : AreApart (ts ++ u.delta ∷ [])
+    made-apart k l one other a b at there inside within named =
+        elim (pushed-cases ts u.delta one k at) [
+          | inl before ↦ elim (pushed-cases ts u.delta other l there) [
+            | inl too ↦ m.apart k l one other a b before too inside within named
+            | inr last ↦ absurd (listed-apart k one a b before inside (subst (λ (D : List Op). Contains D b) last.1 within) named)
+          ]
+          | inr new ↦ elim (pushed-cases ts u.delta other l there) [
+            | inl too ↦ absurd (listed-apart l other b a too within (subst (λ (D : List Op). Contains D a) new.1 inside) (turned a b named))
+            | inr last ↦ new.0 ∙ sym last.0
+          ]
+        ]
+
+    pub made-stepped : Made (set gs i next) (ts ++ u.delta ∷ [])
+    made-stepped = record {
+      each = all-append (λ (D : List Op). AllByRecursion (IsHeld (set gs i next)) D) ts (u.delta ∷ []) (made-kept gs i old next u.delta is u.config u.taken ts m).each (news, tt);
+      apart = made-apart;
+      proper = all-append IsDelta ts (u.delta ∷ []) m.proper (u.proper, tt);
+    }

@@ -4,8 +4,9 @@ use Rattle.std.specs.List.{AllByRecursion}
 use Rattle.std.proofs.lemmas.List.Elements.{All-from_recursion, All-contains}
 use Rattle.rep_ops.specs.declared.op.Op.{Op}
 use Rattle.rep_model.proofs.Joins.{all-moved}
+use Rattle.sn_flow.proofs.Lists.{all-append}
 use Rattle.gw_world.specs.declared.event.Event.{Event}
-use Rattle.gw_world.specs.declared.event.Event.TheVariants.{Frame, Tick, Take, Show}
+use Rattle.gw_world.specs.declared.event.Event.TheVariants.{Frame, Tick, Take, Answer as Asks, Show}
 use Rattle.gw_world.specs.declared.event.Answer.{Answer}
 use Rattle.gw_world.specs.declared.event.Answer.TheVariants.{Node, Views}
 use Rattle.gw_node.specs.declared.out.Out.{Out}
@@ -14,8 +15,9 @@ use Rattle.gw_node.specs.Parts.{said}
 use Rattle.gw_node.specs.Occasions.{Datagram, Clock}
 use Rattle.gw_world.specs.Gateways.{Gateway}
 use Rattle.gw_world.specs.Field.{Field, IsAt, changed, After, gateway_of}
-use Rattle.gw_world.specs.Steps.{TakeStep}
+use Rattle.gw_world.specs.Steps.{TakeStep, AnswerStep}
 use Rattle.gw_world.specs.Whole.{everything, number_of}
+use Rattle.gw_world.proofs.Answering.{answered, all-answered}
 use Rattle.gw_world.proofs.Each.{all-at, EachOf, each-weaken, each-grown, each-all, all-each}
 use Rattle.gw_world.proofs.Numbers.{place_of-first, first-number}
 use Rattle.gw_world.proofs.Steadiness.{Still, Stepped, still, own-moves}
@@ -58,6 +60,14 @@ module _ (field : Field) (n : ℕ) where
     written-taken k delta (Ok out) there h =
         written-more delta (ap (λ (x : Gateway). x.taken) h.3) h.2 (all-at (λ (D : List Op). AllByRecursion (IsBeforeOrOf field n) D) field.deltas k delta before.lists there)
 
+  -- what a peer answers stands in its set
+  written-asked : (j : ℕ) (asker peer : Gateway) (answer : Result Out Refusal) (made : List (List Op)) → slice_get field.gateways j ≡ Some peer → AnswerStep asker peer answer made → HasWritten (record field { deltas = field.deltas ++ made })
+  written-asked j asker peer answer made there h = record {
+    sets = before.sets;
+    lists = all-append (λ (D : List Op). AllByRecursion (IsBeforeOrOf field n) D) field.deltas made before.lists
+        (all-answered (IsBeforeOrOf field n) (λ c origin first last. inr tt) peer.taken made (answered asker peer answer made h) (before.sets j peer there));
+  }
+
 after-written : (old new : Field) (event : Event) (answer : Answer) → After old event answer new → HasWritten old (gateway_of event) new
 after-written old new (Frame number from bytes now) (Node answer) h =
     subst (HasWritten old number) (sym h.6) (written-moved old number h.0 h.1 h.2 h.3 h.4 (own-moves h.1 (Datagram from bytes) now (said answer) h.2 h.3 h.5))
@@ -65,10 +75,13 @@ after-written old new (Tick number now) (Node answer) h =
     subst (HasWritten old number) (sym h.6) (written-moved old number h.0 h.1 h.2 h.3 h.4 (own-moves h.1 Clock now (said answer) h.2 h.3 h.5))
 after-written old new (Take number delta) (Node answer) h =
     subst (HasWritten old number) (sym h.8) (written-taken old number h.0 h.1 h.2 h.3 h.5 (delta - 1) h.4 (said answer) h.6.1 h.7)
+after-written old new (Asks number peer) (Node answer) h =
+    subst (HasWritten old number) (sym h.8) (written-asked old number h.1 h.2 h.3 (said answer) h.4 h.6.1 h.7)
 after-written old new (Show number) (Views views) h = subst (HasWritten old number) (sym h.4) (before old number)
 after-written old new (Frame number from bytes now) (Views views) h = absurd h
 after-written old new (Tick number now) (Views views) h = absurd h
 after-written old new (Take number delta) (Views views) h = absurd h
+after-written old new (Asks number peer) (Views views) h = absurd h
 after-written old new (Show number) (Node answer) h = absurd h
 
 pub after-writes : (old new : Field) (event : Event) (answer : Answer) (op : Op) → After old event answer new → Contains (everything new) op → Contains (everything old) op ⊎ IfSome (number_of op) (λ number. number ≡ gateway_of event)

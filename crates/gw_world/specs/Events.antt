@@ -2,9 +2,10 @@
 -- what it has taken.
 use Rattle.std.specs.Prelude.{◌≡◌, ℕ, ◌+◌, ◌-◌, ◌≤◌, take, Vec, List, [], ◌++◌, Some, None, Result, Ok, Err, slice_get, slice_set}
 use Rattle.std.specs.Option.{option_to_list}
+use Rattle.std.specs.List.{AllByRecursion}
 use Rattle.rep_ops.specs.declared.op.Op.{Op}
 use Rattle.gw_world.specs.declared.event.Event.{Event}
-use Rattle.gw_world.specs.declared.event.Event.TheVariants.{Frame, Tick, Take, Show}
+use Rattle.gw_world.specs.declared.event.Event.TheVariants.{Frame, Tick, Take, Answer as Asks, Show}
 use Rattle.gw_node.specs.declared.out.Out.{Out}
 use Rattle.gw_node.specs.declared.refusal.Refusal.{Refusal}
 use Rattle.gw_node.specs.Parts.{said}
@@ -14,8 +15,9 @@ use Rattle.gw_world.specs.declared.world.WorldFault.{WorldFault}
 use Rattle.gw_world.specs.declared.world.WorldFault.TheVariants as stops
 use Rattle.gw_node.specs.Occasions.{Occasion, Datagram, Clock}
 use Rattle.gw_world.specs.Gateways.{Gateway, place_of}
-use Rattle.gw_world.specs.Plans.{OwnKept, TakeKept}
-use Rattle.gw_world.specs.Field.{Field, Run, NoGateway, NamesNoDelta, shown, gateway_of}
+use Rattle.gw_world.specs.Steps.{IsWritable}
+use Rattle.gw_world.specs.Plans.{OwnKept, TakeKept, AskKept}
+use Rattle.gw_world.specs.Field.{Field, Run, NamesNoGateway, NamesNoDelta, shown, gateway_of}
 use Rattle.gw_world.specs.Keeping.{AreShown}
 use Rattle.std.specs.declared.alloc.Global.{Global}
 
@@ -23,6 +25,11 @@ use Rattle.std.specs.declared.alloc.Global.{Global}
 abbrev pub made_of : Result Out Refusal → List (List Op)
 made_of (Ok out) = option_to_list out.made
 made_of (Err refusal) = []
+
+-- the deltas that answer a digest
+abbrev pub answered_of : Result Out Refusal → List (List Op)
+answered_of (Ok out) = out.answer
+answered_of (Err refusal) = []
 
 -- the i-th gateway became another; what it was told stays
 pub record Moves (olds : List Gateway) (i : ℕ) (old new : Gateway) (news : List Gateway) : Type 0 where
@@ -40,15 +47,33 @@ TakeAt olds i delta answer news =
     (old : Gateway) × (new : Gateway) × Moves olds i old new news
     × TakeKept old.config old.taken old.local delta answer new.taken new.local
 
+-- the digest of the i-th gateway goes to the j-th
+abbrev pub AskAt : List Gateway → ℕ → ℕ → Result Out Refusal → Type 0
+AskAt olds i j answer =
+    (asker peer : Gateway) × (slice_get olds i ≡ Some asker) × (slice_get olds j ≡ Some peer) × AskKept asker.taken peer.taken answer
+
+-- these deltas, each of which can be written, joined the list
+abbrev pub Join : List (List Op) → List (List Op) → List (List Op) → Type 0
+Join deltas more next = AllByRecursion IsWritable more × (next ≡ deltas ++ more)
+
 -- the answer to a datagram or a tick, and the list of deltas after it
 abbrev pub OwnAnswered : List Gateway → List (List Op) → ℕ → Occasion → ℕ → List Gateway → List (List Op) → Answer → Type 0
-OwnAnswered olds deltas i occasion now news next (Node answer) = OwnAt olds i occasion now (said answer) news × (next ≡ deltas ++ made_of (said answer))
+OwnAnswered olds deltas i occasion now news next (Node answer) = OwnAt olds i occasion now (said answer) news × Join deltas (made_of (said answer)) next
 OwnAnswered olds deltas i occasion now news next (Views views) = ⊥
 
 -- the answer to a delta
 abbrev pub TakeAnswered : List Gateway → ℕ → List Op → List Gateway → Answer → Type 0
 TakeAnswered olds i delta news (Node answer) = TakeAt olds i delta (said answer) news
 TakeAnswered olds i delta news (Views views) = ⊥
+
+-- the answer of a peer in its place to the digest of the i-th gateway, and the list of deltas after it
+abbrev pub AskAnswered : List Gateway → List (List Op) → ℕ → ℕ → List (List Op) → Answer → Type 0
+AskAnswered olds deltas i j next (Node answer) = AskAt olds i j (said answer) × Join deltas (answered_of (said answer)) next
+AskAnswered olds deltas i j next (Views views) = ⊥
+
+-- the same, of the peer of a number
+abbrev pub PeerAnswered : List Gateway → List (List Op) → ℕ → ℕ → List (List Op) → Answer → Type 0
+PeerAnswered olds deltas i peer next answer = (j : ℕ) × (place_of peer olds ≡ Some j) × AskAnswered olds deltas i j next answer
 
 -- what a gateway shows
 abbrev pub ShowAnswered : List Gateway → ℕ → Answer → Type 0
@@ -65,25 +90,34 @@ EventAt olds deltas i (Frame number from bytes now) news next answer = OwnAnswer
 EventAt olds deltas i (Tick number now) news next answer = OwnAnswered olds deltas i Clock now news next answer
 EventAt olds deltas i (Take number delta) news next answer =
     (ops : List Op) × IsListed deltas delta ops × TakeAnswered olds i ops news answer × (next ≡ deltas)
+EventAt olds deltas i (Asks number peer) news next answer = PeerAnswered olds deltas i peer next answer × (news ≡ olds)
 EventAt olds deltas i (Show number) news next answer = ShowAnswered olds i answer × (news ≡ olds) × (next ≡ deltas)
 
 abbrev pub EventKept : List Gateway → List (List Op) → Event → List Gateway → List (List Op) → Answer → Type 0
 EventKept olds deltas event news next answer = (i : ℕ) × (place_of (gateway_of event) olds ≡ Some i) × EventAt olds deltas i event news next answer
 
--- why the event at a gateway has no answer: it names no delta of the list; or memory ran out
-abbrev pub IsMissing : List (List Op) → Event → ℕ → WorldFault → Type 0
-IsMissing deltas event number (stops.NoGateway n) = ⊥
-IsMissing deltas (Take gateway delta) number (stops.NoDelta n) = (n ≡ number) × ((ops : List Op) → IsListed deltas delta ops → ⊥)
-IsMissing deltas (Frame gateway from bytes now) number (stops.NoDelta n) = ⊥
-IsMissing deltas (Tick gateway now) number (stops.NoDelta n) = ⊥
-IsMissing deltas (Show gateway) number (stops.NoDelta n) = ⊥
-IsMissing deltas event number stops.Memory = Unit {0}
+-- why the event at a gateway has no answer: its peer is not there; it names no delta of the list; or memory ran out
+abbrev pub NoPeer : List Gateway → ℕ → ℕ → WorldFault → Type 0
+NoPeer olds peer number (stops.NoGateway n) = (n ≡ number) × (place_of peer olds ≡ None)
+NoPeer olds peer number (stops.NoDelta n) = ⊥
+NoPeer olds peer number stops.Memory = Unit {0}
+
+abbrev pub NoDelta : List (List Op) → ℕ → ℕ → WorldFault → Type 0
+NoDelta deltas delta number (stops.NoGateway n) = ⊥
+NoDelta deltas delta number (stops.NoDelta n) = (n ≡ number) × ((ops : List Op) → IsListed deltas delta ops → ⊥)
+NoDelta deltas delta number stops.Memory = Unit {0}
+
+abbrev pub IsMissing : List Gateway → List (List Op) → Event → ℕ → WorldFault → Type 0
+IsMissing olds deltas (Asks gateway peer) number fault = NoPeer olds peer number fault
+IsMissing olds deltas (Take gateway delta) number fault = NoDelta deltas delta number fault
+IsMissing olds deltas (Frame gateway from bytes now) number fault = fault ≡ stops.Memory
+IsMissing olds deltas (Tick gateway now) number fault = fault ≡ stops.Memory
+IsMissing olds deltas (Show gateway) number fault = fault ≡ stops.Memory
 
 -- why the event of this number stops a run
 abbrev pub IsStopKept : List Gateway → List (List Op) → Event → ℕ → WorldFault → Type 0
-IsStopKept olds deltas event number (stops.NoGateway n) = (n ≡ number) × (place_of (gateway_of event) olds ≡ None)
-IsStopKept olds deltas event number (stops.NoDelta n) =
-    ((i : ℕ) × (place_of (gateway_of event) olds ≡ Some i)) × IsMissing deltas event number (stops.NoDelta n)
+IsStopKept olds deltas event number (stops.NoGateway n) = (n ≡ number) × NamesNoGateway (record { gateways = olds; deltas = deltas }) event
+IsStopKept olds deltas event number (stops.NoDelta n) = (n ≡ number) × NamesNoDelta (record { gateways = olds; deltas = deltas }) event
 IsStopKept olds deltas event number stops.Memory = Unit {0}
 
 -- what the gateways keep after a list of events
@@ -100,7 +134,7 @@ abbrev pub StopsKept : List Gateway → List (List Op) → List Event → WorldF
 StopsKept olds deltas events (stops.NoGateway n) =
     (field : Field) → AreShown field.gateways olds → field.deltas ≡ deltas
     → (k : ℕ) × (new : Field) × (event : Event) × (answers : List Answer) × Run field (take k events) answers new × (slice_get events k ≡ Some event)
-    × (n ≡ k + 1) × NoGateway new (gateway_of event)
+    × (n ≡ k + 1) × NamesNoGateway new event
 StopsKept olds deltas events (stops.NoDelta n) =
     (field : Field) → AreShown field.gateways olds → field.deltas ≡ deltas
     → (k : ℕ) × (new : Field) × (event : Event) × (answers : List Answer) × Run field (take k events) answers new × (slice_get events k ≡ Some event)

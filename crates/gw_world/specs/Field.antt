@@ -1,11 +1,11 @@
 -- A field of gateways, and what a list of events may do to it.
-use Rattle.std.specs.Prelude.{◌≡◌, ℕ, ◌-◌, ◌≤◌, List, [], ◌∷◌, ◌++◌, map, Some, None, Result, slice_get, slice_set}
+use Rattle.std.specs.Prelude.{◌≡◌, ◌⊎◌, ℕ, ◌-◌, ◌≤◌, List, [], ◌∷◌, ◌++◌, map, Option, Some, None, Result, slice_get, slice_set}
 use Rattle.rep_ops.specs.declared.op.Op.{Op}
 use Rattle.rep_model.specs.declared.view.ClientView.{ClientView}
 use Rattle.rep_model.specs.Views.{view, clients}
 use Rattle.sn_flow.specs.declared.config.Config.{Config}
 use Rattle.gw_world.specs.declared.event.Event.{Event}
-use Rattle.gw_world.specs.declared.event.Event.TheVariants.{Frame, Tick, Take, Show}
+use Rattle.gw_world.specs.declared.event.Event.TheVariants.{Frame, Tick, Take, Answer as Asks, Show}
 use Rattle.gw_world.specs.declared.event.Answer.{Answer}
 use Rattle.gw_node.specs.declared.out.Out.{Out}
 use Rattle.gw_node.specs.declared.refusal.Refusal.{Refusal}
@@ -13,9 +13,9 @@ use Rattle.gw_node.specs.Parts.{said}
 use Rattle.gw_world.specs.declared.event.Answer.TheVariants.{Node, Views}
 use Rattle.gw_node.specs.Occasions.{Occasion, Datagram, Clock}
 use Rattle.gw_world.specs.Gateways.{Gateway, new_gateway, place_of}
-use Rattle.gw_world.specs.Steps.{OwnStep, TakeStep}
+use Rattle.gw_world.specs.Steps.{OwnStep, TakeStep, AnswerStep}
 
--- the gateways, and the deltas made, in the order of making
+-- the gateways, and the deltas made or answered, in the order of making
 pub record Field : Type 0 where
   pub gateways : List Gateway
   pub deltas : List (List Op)
@@ -46,6 +46,13 @@ Steps old number occasion now answer new =
     (i : ℕ) × (gateway : Gateway) × (next : Gateway) × (made : List (List Op))
     × IsAt old number i gateway × OwnStep gateway occasion now answer next made × (new ≡ changed old i next made)
 
+-- what the digest of a gateway, sent to a peer, may do: the deltas that the peer answers join the list, and nothing else changes
+abbrev pub Asked : Field → ℕ → ℕ → Result Out Refusal → Field → Type 0
+Asked old number other answer new =
+    (i j : ℕ) × (gateway : Gateway) × (peer : Gateway) × (made : List (List Op))
+    × IsAt old number i gateway × IsAt old other j peer × AnswerStep gateway peer answer made
+    × (new ≡ record old { deltas = old.deltas ++ made })
+
 -- what one event may do: its answer, and the field after it
 abbrev pub After : Field → Event → Answer → Field → Type 0
 After old (Frame number from bytes now) (Node answer) new = Steps old number (Datagram from bytes) now (said answer) new
@@ -53,11 +60,13 @@ After old (Tick number now) (Node answer) new = Steps old number Clock now (said
 After old (Take number delta) (Node answer) new =
     (i : ℕ) × (gateway : Gateway) × (next : Gateway) × (made : List (List Op)) × (ops : List Op)
     × IsAt old number i gateway × IsDeltaAt old delta ops × TakeStep gateway ops (said answer) next made × (new ≡ changed old i next made)
+After old (Asks number peer) (Node answer) new = Asked old number peer (said answer) new
 After old (Show number) (Views views) new =
     (i : ℕ) × (gateway : Gateway) × IsAt old number i gateway × (views ≡ shown gateway.taken) × (new ≡ old)
 After old (Frame number from bytes now) (Views views) new = ⊥
 After old (Tick number now) (Views views) new = ⊥
 After old (Take number delta) (Views views) new = ⊥
+After old (Asks number peer) (Views views) new = ⊥
 After old (Show number) (Node answer) new = ⊥
 
 -- what a list of events may do, one after the other
@@ -76,11 +85,29 @@ abbrev pub gateway_of : Event → ℕ
 gateway_of (Frame number from bytes now) = number
 gateway_of (Tick number now) = number
 gateway_of (Take number delta) = number
+gateway_of (Asks number peer) = number
 gateway_of (Show number) = number
+
+-- the other gateway that an event names, if it names one
+abbrev pub peer_of : Event → Option ℕ
+peer_of (Asks number peer) = Some peer
+peer_of (Frame number from bytes now) = None
+peer_of (Tick number now) = None
+peer_of (Take number delta) = None
+peer_of (Show number) = None
+
+-- the event names a gateway that is not there, as the one that it is at or as the other
+abbrev pub NamesNoGateway : Field → Event → Type 0
+NamesNoGateway field (Asks number peer) = NoGateway field number ⊎ NoGateway field peer
+NamesNoGateway field (Frame number from bytes now) = NoGateway field number
+NamesNoGateway field (Tick number now) = NoGateway field number
+NamesNoGateway field (Take number delta) = NoGateway field number
+NamesNoGateway field (Show number) = NoGateway field number
 
 -- the event names a gateway that is there, and a delta that is not
 abbrev pub NamesNoDelta : Field → Event → Type 0
 NamesNoDelta field (Take number delta) = ((i : ℕ) × (place_of number field.gateways ≡ Some i)) × ((ops : List Op) → IsDeltaAt field delta ops → ⊥)
 NamesNoDelta field (Frame number from bytes now) = ⊥
 NamesNoDelta field (Tick number now) = ⊥
+NamesNoDelta field (Asks number peer) = ⊥
 NamesNoDelta field (Show number) = ⊥

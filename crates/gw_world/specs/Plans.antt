@@ -1,7 +1,12 @@
 -- What a gateway's calls answer, by what its replica keeps, where no disk fails.
-use Rattle.std.specs.Prelude.{◌≡◌, ℕ, List, [], ◌∷◌, ◌++◌, Option, Some, None, Result, Ok, Err}
+use Rattle.std.specs.Prelude.{◌≡◌, ◌<◌, ℕ, List, [], ◌∷◌, ◌++◌, length, Option, Some, None, Result, Ok, Err}
 use Rattle.rep_ops.specs.declared.op.Op.{Op}
-use Rattle.rep_ops.specs.Making.{IsDeltaOf}
+use Rattle.rep_ops.specs.Making.{AreApart, IsDeltaOf}
+use Rattle.rep_ops.specs.Spelling.{max_octets}
+use Rattle.rep_digest.specs.declared.entry.ClientEntry.{ClientEntry}
+use Rattle.rep_digest.specs.Answers.{IsAnswer}
+use Rattle.rep_digest.specs.Digests.{digest}
+use Rattle.rep_digest.specs.Spelling.{spelling, IsWithinLimit as IsDigestWithinLimit}
 use Rattle.rep_model.specs.Keep.{IsKeptOf}
 use Rattle.rep_model.specs.Taking.{Fits}
 use Rattle.sn_flow.specs.declared.config.Config.{Config}
@@ -45,6 +50,7 @@ abbrev pub OwnKept : Config → List Op → Local → Occasion → ℕ → Resul
 OwnKept config kept local occasion now (Ok out) next after =
     (plan : Plan) × IsPlanFor config kept local occasion now (Some plan)
     × (out ≡ record (only_sends plan.sends) { made = out.made }) × (after ≡ after_all local plan.local) × Makes plan.ops out.made kept next
+    × AreApart plan.ops
 OwnKept config kept local occasion now (Err refusal) next after =
     (next ≡ kept) × (after ≡ local) × IsOwnRefusal config kept local occasion now refusal
 
@@ -65,3 +71,20 @@ TakeKept config kept local delta (Ok out) next after =
     (out ≡ only_sends []) × Fits kept delta × IsKeptOf (kept ++ delta) next
     × (after ≡ owned config.gateway (seen_of next) local)
 TakeKept config kept local delta (Err refusal) next after = (next ≡ kept) × (after ≡ local) × IsTakeRefusal kept delta refusal
+
+-- what a peer answers to a digest, by what it keeps
+abbrev pub IsAnswered : List ClientEntry → List Op → Result Out Refusal → Type 0
+IsAnswered asked kept (Ok out) = IsAnswer asked kept out.answer × (out ≡ record (only_sends []) { answer = out.answer })
+IsAnswered asked kept (Err refusal) = ⊥
+
+-- what the digest of what is kept comes to at a peer, by what that one keeps
+abbrev pub AskKept : List Op → List Op → Result Out Refusal → Type 0
+AskKept kept other (Ok out) = IsDigestWithinLimit (digest kept) × IsAnswered (digest kept) other (Ok out)
+AskKept kept other (Err refusals.Full) = max_octets < length (spelling (digest kept))
+AskKept kept other (Err (refusals.Frame fault)) = ⊥
+AskKept kept other (Err refusals.Halted) = ⊥
+AskKept kept other (Err (refusals.Disk excuse)) = ⊥
+AskKept kept other (Err (refusals.Conflict client)) = ⊥
+AskKept kept other (Err refusals.Exhausted) = ⊥
+AskKept kept other (Err (refusals.Journal fault)) = ⊥
+AskKept kept other (Err refusals.Memory) = ⊥

@@ -1,12 +1,18 @@
 -- What one event may do at one gateway: its answer, the gateway after it, and the delta that it makes, if it makes one. Want of
 -- memory is no answer: it ends a run. No disk fails, so no gateway is halted.
 use Rattle.std.specs.Prelude.{◌≡◌, ◌≢◌, ◌⊎◌, ℕ, List, [], ◌∷◌, ◌++◌, Option, Some, None, Result, Ok, Err, Contains}
+use Rattle.std.specs.List.{AllByRecursion}
 use Rattle.rep_ops.specs.declared.op.Op.{Op}
 use Rattle.rep_ops.specs.declared.op.Op.TheVariants.{Session as OfSession, Put as OfPut}
 use Rattle.rep_ops.specs.declared.fault.OpsFault.{OpsFault}
 use Rattle.rep_ops.specs.declared.fault.OpsFault.TheVariants as ops_faults
 use Rattle.rep_ops.specs.Orders.{client_of}
-use Rattle.rep_ops.specs.Making.{IsDeltaOf, IsRefusal}
+use Rattle.rep_ops.specs.Making.{AreApart, IsDeltaOf, IsRefusal}
+use Rattle.rep_ops.specs.Values.{AreValues}
+use Rattle.rep_ops.specs.Spelling.{IsWithinLimit}
+use Rattle.rep_digest.specs.Answers.{IsAnswer}
+use Rattle.rep_digest.specs.Digests.{digest}
+use Rattle.rep_digest.specs.Spelling.{IsWithinLimit as IsDigestWithinLimit}
 use Rattle.rep_model.specs.declared.fault.Limit.{Limit}
 use Rattle.rep_model.specs.Keep.{keep}
 use Rattle.rep_model.specs.Taking.{AllAgree}
@@ -53,6 +59,11 @@ pub record IsUnchanged (old new : Gateway) (made : List (List Op)) : Type 0 wher
   pub same : new ≡ old
   pub none : made ≡ []
 
+-- the delta can be written: its numbers fit their octets, and together they are not too many
+pub record IsWritable (delta : List Op) : Type 0 where
+  pub values : AreValues delta
+  pub limit : IsWithinLimit delta
+
 -- The plan was carried out: what it says was sent and noted, and its operations, if there are any, are one delta that the
 -- gateway took.
 abbrev pub IsMade : List Op → Gateway → Plan → Option (List Op) → Gateway → List (List Op) → Type 0
@@ -60,12 +71,13 @@ IsMade [] old plan (Some delta) new made = ⊥
 IsMade [] old plan None new made = (made ≡ []) × (new ≡ record old { local = after_all old.local plan.local })
 IsMade (op ∷ ops) old plan None new made = ⊥
 IsMade (op ∷ ops) old plan (Some delta) new made =
-    IsDeltaOf (op ∷ ops) delta × IsTakable old.taken delta × (made ≡ delta ∷ [])
+    IsDeltaOf (op ∷ ops) delta × IsWritable delta × IsTakable old.taken delta × (made ≡ delta ∷ [])
     × (new ≡ record old { taken = old.taken ++ delta; local = after_all old.local plan.local })
 
--- The answer is what the plan sends and the delta that was made, and says nothing else.
+-- The answer is what the plan sends and the delta that was made, and says nothing else. No two operations of the plan have a name in common.
 abbrev pub IsCarriedOut : Gateway → Plan → Out → Gateway → List (List Op) → Type 0
-IsCarriedOut old plan out new made = (out ≡ record (only_sends plan.sends) { made = out.made }) × IsMade plan.ops old plan out.made new made
+IsCarriedOut old plan out new made =
+    (out ≡ record (only_sends plan.sends) { made = out.made }) × IsMade plan.ops old plan out.made new made × AreApart plan.ops
 
 -- the plan for the occasion, by what the gateway has taken
 abbrev pub IsPlan : Gateway → Occasion → ℕ → Option Plan → Type 0
@@ -100,3 +112,18 @@ TakeStep old delta (Ok out) new made =
     (out ≡ only_sends []) × IsTakable old.taken delta × (made ≡ [])
     × (new ≡ record old { taken = old.taken ++ delta; local = owned old.config.gateway (seen_of (old.taken ++ delta)) old.local })
 TakeStep old delta (Err fault) new made = IsRefused old.taken delta fault × IsUnchanged old new made
+
+-- A gateway's digest goes to a peer, which answers with what it must keep and the digest does not cover. Neither changes. A digest that is
+-- too long is not made, and nobody answers.
+abbrev pub AnswerStep : Gateway → Gateway → Result Out Refusal → List (List Op) → Type 0
+AnswerStep asker peer (Ok out) made =
+    IsDigestWithinLimit (digest asker.taken) × IsAnswer (digest asker.taken) peer.taken made × AllByRecursion IsWritable made
+    × (out ≡ record (only_sends []) { answer = made })
+AnswerStep asker peer (Err refusals.Full) made = (¬ (IsDigestWithinLimit (digest asker.taken))) × (made ≡ [])
+AnswerStep asker peer (Err (refusals.Frame fault)) made = ⊥
+AnswerStep asker peer (Err refusals.Exhausted) made = ⊥
+AnswerStep asker peer (Err (refusals.Conflict client)) made = ⊥
+AnswerStep asker peer (Err refusals.Halted) made = ⊥
+AnswerStep asker peer (Err (refusals.Disk excuse)) made = ⊥
+AnswerStep asker peer (Err (refusals.Journal fault)) made = ⊥
+AnswerStep asker peer (Err refusals.Memory) made = ⊥

@@ -1,11 +1,17 @@
--- A whole field: the sets of all its gateways, and all deltas of its list.
-use Rattle.std.specs.Prelude.{◌≡◌, ℕ, List, ◌++◌, flat_map, Option, Some, None, IfSome, slice_get, Contains}
+-- A whole field: the sets of all its gateways, all deltas of its list, and what answers tell of.
+use Rattle.std.specs.Prelude.{◌≡◌, ℕ, List, [], ◌++◌, flat_map, Option, Some, None, IfSome, slice_get}
 use Rattle.rep_ops.specs.declared.op.Op.{Op}
 use Rattle.rep_ops.specs.declared.op.Op.TheVariants.{Session as OfSession, Put as OfPut, Ack}
-use Rattle.rep_ops.specs.Sets.{Stands}
+use Rattle.rep_ops.specs.Sets.{Stands, Within}
+use Rattle.gw_node.specs.Parts.{said}
+use Rattle.gw_world.specs.declared.event.Event.{Event}
+use Rattle.gw_world.specs.declared.event.Event.TheVariants.{Frame, Tick, Take, Answer as Asks, Show}
+use Rattle.gw_world.specs.declared.event.Answer.{Answer}
+use Rattle.gw_world.specs.declared.event.Answer.TheVariants.{Node, Views}
 use Rattle.gw_world.specs.Gateways.{Gateway}
 use Rattle.gw_world.specs.Field.{Field, IsAt}
 use Rattle.gw_world.specs.Steps.{HaveName}
+use Rattle.gw_world.specs.Events.{made_of, answered_of}
 
 -- all operations of the deltas of the field's list
 abbrev pub listed : Field → List Op
@@ -36,6 +42,32 @@ AreMadeOnce deltas =
     (i j k l : ℕ) (one other : List Op) (a b : Op) → slice_get deltas i ≡ Some one → slice_get deltas j ≡ Some other
     → slice_get one k ≡ Some a → slice_get other l ≡ Some b → HaveName a b → (i ≡ j) × (k ≡ l)
 
--- every delta of the list has reached the gateway: it has taken each of their operations
+-- the delta that an answer tells of as made
+abbrev pub made_by : Answer → List (List Op)
+made_by (Node answer) = made_of (said answer)
+made_by (Views views) = []
+
+-- an event that may make operations: a datagram comes, or time goes by
+abbrev pub MayMake : Event → Type 0
+MayMake (Frame number from bytes now) = Unit {0}
+MayMake (Tick number now) = Unit {0}
+MayMake (Take number delta) = ⊥
+MayMake (Asks number peer) = ⊥
+MayMake (Show number) = ⊥
+
+-- all deltas that the answers tell of as made, in their order
+abbrev pub told : List Answer → List (List Op)
+told answers = flat_map made_by answers
+
+-- the deltas that an answer brings into the list: the one that was made, or those that answer a digest
+abbrev pub brought_by : Answer → List (List Op)
+brought_by (Node answer) = made_of (said answer) ++ answered_of (said answer)
+brought_by (Views views) = []
+
+-- all deltas that the answers bring, in their order
+abbrev pub brought : List Answer → List (List Op)
+brought answers = flat_map brought_by answers
+
+-- every delta of the list has reached the gateway: what they hold stands in its set, by whatever operations
 abbrev pub HasTakenAll : Field → Gateway → Type 0
-HasTakenAll field gateway = (op : Op) → Contains (listed field) op → Contains gateway.taken op
+HasTakenAll field gateway = Within (listed field) gateway.taken

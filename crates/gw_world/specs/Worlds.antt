@@ -9,7 +9,7 @@ use Rattle.gw_world.specs.declared.world.WorldFault.{WorldFault}
 use Rattle.gw_world.specs.declared.world.WorldFault.TheVariants as stops
 use Rattle.gw_world.specs.Gateways.{Gateway}
 use Rattle.gw_world.specs.Keeping.{AreShown}
-use Rattle.gw_world.specs.Field.{Field, new_field, Run, NoGateway, NamesNoDelta, gateway_of}
+use Rattle.gw_world.specs.Field.{Field, new_field, Run, NamesNoGateway, NamesNoDelta}
 
 -- The events led the field, from its start, to these answers and deltas; and there is a node for each of its gateways, in the
 -- order of the configs. `held` is the gateway that a node is, with what its replica keeps in the place of what was taken: it has
@@ -32,7 +32,7 @@ pub record Before (configs : List Config) (events : List Event) (k : ℕ) (field
 -- why there is no result: an event, numbered from 1, names no gateway, or no delta of the list as it then is; or memory ran out
 abbrev pub IsStop : List Config → List Event → WorldFault → Type 0
 IsStop configs events (stops.NoGateway n) =
-    (k : ℕ) × (field : Field) × (event : Event) × Before configs events k field event × (n ≡ k + 1) × NoGateway field (gateway_of event)
+    (k : ℕ) × (field : Field) × (event : Event) × Before configs events k field event × (n ≡ k + 1) × NamesNoGateway field event
 IsStop configs events (stops.NoDelta n) =
     (k : ℕ) × (field : Field) × (event : Event) × Before configs events k field event × (n ≡ k + 1) × NamesNoDelta field event
 IsStop configs events stops.Memory = Unit {0}

@@ -27,6 +27,11 @@ pub enum Event {
         gateway: u8,
         delta: u64,
     },
+    /// A gateway's digest goes to a peer, and what the peer answers joins the list.
+    Answer {
+        gateway: u8,
+        peer: u8,
+    },
     /// What a gateway knows is shown.
     Show {
         gateway: u8,
@@ -35,7 +40,7 @@ pub enum Event {
 
 impl Event {
     ghost use Rattle.std.specs.Prelude.{◌≡◌};
-    ghost use Rattle.gw_world.specs.Field.{gateway_of};
+    ghost use Rattle.gw_world.specs.Field.{gateway_of, peer_of};
 
     /// The number of the gateway that the event is at.
     pub fn gateway(&self) -> u8
@@ -45,7 +50,19 @@ impl Event {
             Event::Frame { gateway, .. } => *gateway,
             Event::Tick { gateway, .. } => *gateway,
             Event::Take { gateway, .. } => *gateway,
+            Event::Answer { gateway, .. } => *gateway,
             Event::Show { gateway } => *gateway,
+        }
+    }
+
+    /// The number of the other gateway that the event names, if it names one.
+    pub fn peer(&self) -> Option<u8>
+        ensures { result ≡ peer_of self.now }
+    {
+        match self {
+            Event::Answer { peer, .. } => Some(*peer),
+            Event::Frame { .. } | Event::Tick { .. } | Event::Take { .. } | Event::Show { .. } =>
+                None,
         }
     }
 }
@@ -53,7 +70,7 @@ impl Event {
 /// The answer to an event.
 #[derive(Debug, Drop)]
 pub enum Answer {
-    /// A gateway's answer to a frame, a tick or a delta.
+    /// A gateway's answer to a frame, a tick or a delta; a peer's answer to a digest, or why there is no digest.
     Node(Result<Arc<Out>, NodeFault>),
     /// The clients that a gateway knows, in ascending order, with their views.
     Views(Sequence<(ClientId, ClientView)>),

@@ -1,12 +1,12 @@
 //! One event in a field of gateways.
 
-ghost use Rattle.std.specs.Prelude.{◌≡◌, ◌<◌, false, IfOk, IfErr, OnOk, IfSome, length, map, vec_len};
+ghost use Rattle.std.specs.Prelude.{◌≡◌, ◌<◌, false, Ok, IfOk, IfErr, OnOk, IfSome, length, map, vec_len};
 ghost use Rattle.std.specs.List.{AllByRecursion};
 ghost use Rattle.rep_model.specs.Views.{view as view_by};
 ghost use Rattle.gw_node.specs.Parts.{state_of, said, disk_of};
 ghost use Rattle.gw_node.specs.Occasions.{Datagram, Clock};
 ghost use Rattle.gw_world.specs.Calm.{IsCalm, IsFed, StaysCalm, keeping};
-ghost use Rattle.gw_world.specs.Plans.{OwnKept, TakeKept};
+ghost use Rattle.gw_world.specs.Plans.{OwnKept, TakeKept, IsAnswered, AskKept};
 ghost use Rattle.gw_world.specs.Events.{OwnAt, TakeAt};
 ghost use Rattle.gw_world.specs.Field.{shown};
 ghost use Rattle.gw_world.specs.Gateways.{place_of as gateway_place};
@@ -15,6 +15,7 @@ use super::world::WorldFault;
 use gw_node::{Node, NodeFault, Out};
 use jr_journal::MemoryDisk;
 use octets::Sequence;
+use rep_digest::Digest;
 use rep_model::{ClientView, Replica};
 use rep_ops::{ClientId, Delta};
 use sn_flow::Addr;
@@ -149,6 +150,42 @@ pub fn take_at<R: Replica>(
 {
     let node = &mut nodes[place];
     take_to(alloc, node, delta)
+}
+
+/// What a peer answers to a digest.
+fn answer_of<R: Replica>(
+    alloc: Global,
+    peer: &Node<R, MemoryDisk>,
+    digest: &Digest,
+) -> Result<Arc<Out>, WorldFault>
+    ensures ok { IfOk result (λ out.
+        IsAnswered digest.now (keeping R.kept peer.now).taken (said (Ok out))) }
+    ensures err { IfErr result (λ fault. fault ≡ WorldFault.Memory) }
+{
+    match peer.answer(alloc, digest) {
+        Ok(out) => Ok(out),
+        Err(_) => Err(WorldFault::Memory),
+    }
+}
+
+/// The digest of a gateway goes to a peer: what that one answers, or why there is no digest.
+pub fn ask<R: Replica>(
+    alloc: Global,
+    asker: &Node<R, MemoryDisk>,
+    peer: &Node<R, MemoryDisk>,
+) -> Result<Result<Arc<Out>, NodeFault>, WorldFault>
+    ensures ok { IfOk result (λ answer.
+        AskKept (keeping R.kept asker.now).taken (keeping R.kept peer.now).taken (said answer)) }
+    ensures err { IfErr result (λ fault. fault ≡ WorldFault.Memory) }
+{
+    match asker.digest(alloc) {
+        Ok(out) => match &out.digest {
+            Some(digest) => Ok(Ok(answer_of(alloc, peer, digest)?)),
+            None => Err(WorldFault::Memory),
+        },
+        Err(NodeFault::Full) => Ok(Err(NodeFault::Full)),
+        Err(_) => Err(WorldFault::Memory),
+    }
 }
 
 /// The view of a client that a gateway knows.

@@ -1,24 +1,27 @@
 //! The laws of a field. Each function does nothing; its contract is a law, proved for all runs.
 
-ghost use Rattle.std.specs.Prelude.{◌≡◌, ℕ, ◌⊎◌, ◌↔◌, List, Some, Err, IfSome, Contains};
+ghost use Rattle.std.specs.Prelude.{◌≡◌, ℕ, ◌⊎◌, ◌↔◌, List, ◌++◌, Some, None, Ok, Err, IfSome, Contains, slice_get};
 ghost use Rattle.rep_ops.specs.declared.op.Op.{Op};
+ghost use Rattle.rep_ops.specs.Deltas.{IsDelta};
 ghost use Rattle.rep_ops.specs.Making.{IsDeltaOf};
-ghost use Rattle.rep_ops.specs.Sets.{IsConsistent, Same};
-ghost use Rattle.rep_model.specs.Keep.{keep};
+ghost use Rattle.rep_ops.specs.Sets.{IsConsistent, Within, Same};
+ghost use Rattle.rep_ops.specs.Splitting.{all_of};
+ghost use Rattle.rep_model.specs.Keep.{keep, CountsAs};
 ghost use Rattle.rep_model.specs.Taking.{AllAgree};
 ghost use Rattle.sn_flow.specs.declared.config.Config.{Config};
 ghost use Rattle.sn_flow.specs.declared.plan.Plan.{Plan};
 ghost use Rattle.gw_world.specs.declared.event.Event.{Event};
 ghost use Rattle.gw_world.specs.declared.event.Answer.{Answer};
 ghost use Rattle.gw_world.specs.declared.event.Answer.TheVariants.{Node};
+ghost use Rattle.gw_node.specs.declared.out.Out.{Out};
 ghost use Rattle.gw_node.specs.declared.fault.NodeFault.TheVariants as faults;
 ghost use Rattle.gw_node.specs.declared.refusal.Refusal.TheVariants as refusals;
 ghost use Rattle.gw_node.specs.Occasions.{Occasion};
 ghost use Rattle.gw_world.specs.Gateways.{Gateway};
-ghost use Rattle.gw_world.specs.Field.{Field, new_field, IsAt, IsDeltaAt, After, Run, gateway_of, shown};
-ghost use Rattle.gw_world.specs.Steps.{IsPlan, OwnStep, TakeStep};
+ghost use Rattle.gw_world.specs.Field.{Field, new_field, IsAt, IsDeltaAt, After, Run, gateway_of, peer_of, shown};
+ghost use Rattle.gw_world.specs.Steps.{IsWritable, IsPlan, OwnStep, TakeStep, AnswerStep};
 ghost use Rattle.gw_world.specs.Steady.{IsSteady};
-ghost use Rattle.gw_world.specs.Whole.{listed, everything, number_of, IsHome, AreMadeOnce, HasTakenAll};
+ghost use Rattle.gw_world.specs.Whole.{listed, everything, number_of, IsHome, AreMadeOnce, made_by, MayMake, told, brought, HasTakenAll};
 
 /// Whatever happens in a field, each gateway stays flush, and what it wrote itself comes back to it as it
 /// wrote it. So the operations that it makes contradict nothing that it has taken, and no datagram and
@@ -31,12 +34,16 @@ pub fn steady_field()
 
 /// A field never contradicts itself. In whatever all its gateways have taken and all deltas of its list
 /// hold, no name of a session operation or a message stands for two operations, and so in each part of
-/// it, however it is put together. A delta of the list agrees with what any gateway has taken, and with
-/// what it must keep of that; so no delivery of it, and no event of a run at all, is answered by
-/// Conflict.
+/// it, however it is put together. Each delta of the list is a delta, with counter 0 exactly at the
+/// operations that take a session, and can be written. A delta of the list agrees with what any gateway
+/// has taken, and with what it must keep of that; so no delivery of it, and no event of a run at all, is
+/// answered by Conflict.
 pub fn consistent_field()
     ensures consistent { (configs : List Config) (events : List Event) (answers : List Answer) (field : Field) → Run (new_field configs) events answers field → IsConsistent (everything field) }
     ensures parts { (configs : List Config) (events : List Event) (answers : List Answer) (field : Field) (part : List Op) → Run (new_field configs) events answers field → ((op : Op) → Contains part op → Contains (everything field) op) → IsConsistent part }
+    ensures well_made { (configs : List Config) (events : List Event) (answers : List Answer)
+        (field : Field) (delta : List Op) → Run (new_field configs) events answers field
+        → Contains field.deltas delta → IsDelta delta × IsWritable delta }
     ensures agrees { (configs : List Config) (events : List Event) (answers : List Answer) (field : Field) (gateway : Gateway) (delta : List Op) → Run (new_field configs) events answers field → Contains field.gateways gateway → Contains field.deltas delta → AllAgree gateway.taken delta × AllAgree (keep gateway.taken) delta }
     ensures no_conflict { (configs : List Config) (events : List Event) (answers : List Answer) (field : Field) (number i k : ℕ) (gateway : Gateway) (delta : List Op) (client : List ℕ) (new : Gateway) (made : List (List Op)) → Run (new_field configs) events answers field → IsAt field number i gateway → IsDeltaAt field k delta → TakeStep gateway delta (Err (refusals.Conflict client)) new made → ⊥ }
     ensures never { (configs : List Config) (events : List Event) (answers : List Answer) (field : Field) (client : List ℕ) → Run (new_field configs) events answers field → Contains answers (Node (Err (faults.Conflict client))) → ⊥ }
@@ -44,21 +51,75 @@ pub fn consistent_field()
 
 /// No session operation and no message is made twice. Each that is anywhere in a field stands in the set
 /// of the gateway whose number is in its name. What an event adds to a field is named after the gateway
-/// that the event is at: nobody else writes under that number. And in all deltas of the list a name
-/// stands in one place.
+/// that the event is at: nobody else writes under that number. In all deltas that answers tell of as
+/// made, a name stands in one place; only answers to datagrams and ticks tell of any; and whatever has a
+/// name was told of. The list is what the answers bring, in their order: deltas that were made, and
+/// deltas that answer a digest, which repeat what was made before. Where no digest is sent, in the whole
+/// list a name stands in one place.
 pub fn made_once()
     ensures home { (configs : List Config) (events : List Event) (answers : List Answer) (field : Field) (op : Op) → Run (new_field configs) events answers field → Contains (everything field) op → IsHome field op }
     ensures writes { (old new : Field) (event : Event) (answer : Answer) (op : Op) → After old event answer new → Contains (everything new) op → Contains (everything old) op ⊎ IfSome (number_of op) (λ number. number ≡ gateway_of event) }
-    ensures once { (configs : List Config) (events : List Event) (answers : List Answer) (field : Field) → Run (new_field configs) events answers field → AreMadeOnce field.deltas }
+    ensures once { (configs : List Config) (events : List Event) (answers : List Answer)
+        (field : Field)
+        → Run (new_field configs) events answers field → AreMadeOnce (told answers) }
+    ensures makes { (old new : Field) (event : Event) (answer : Answer) (delta : List Op)
+        → After old event answer new → Contains (made_by answer) delta → MayMake event }
+    ensures told { (configs : List Config) (events : List Event) (answers : List Answer)
+        (field : Field) (op : Op) → Run (new_field configs) events answers field
+        → Contains (everything field) op
+        → IfSome (number_of op) (λ number. Contains (all_of (told answers)) op) }
+    ensures list { (configs : List Config) (events : List Event) (answers : List Answer)
+        (field : Field) → Run (new_field configs) events answers field
+        → field.deltas ≡ brought answers }
+    ensures unasked { (configs : List Config) (events : List Event) (answers : List Answer)
+        (field : Field) → Run (new_field configs) events answers field
+        → ((event : Event) → Contains events event → peer_of event ≡ None)
+        → AreMadeOnce field.deltas }
 {}
 
-/// Gateways that have taken the same have the same. Nothing stands in a gateway's set that no delta of
-/// the list has. Two gateways that have taken the same operations, in whatever order and however often,
-/// have equal sets; so have two that every delta of the list has reached. And gateways with equal sets
-/// show the same.
+/// Gateways that have taken the same have the same. Nothing stands in a gateway's set that does not
+/// stand in the list. Two gateways that have taken the same operations, in whatever order and however
+/// often, have equal sets. What a gateway has taken, operation by operation, stands in its set. A
+/// gateway that every delta of the list has reached has what the list has, by whatever operations it
+/// came, and so two of them have equal sets. And gateways with equal sets show the same.
 pub fn settled_field()
     ensures listed { (configs : List Config) (events : List Event) (answers : List Answer) (field : Field) (gateway : Gateway) (op : Op) → Run (new_field configs) events answers field → Contains field.gateways gateway → Contains gateway.taken op → Contains (listed field) op }
+    ensures within { (configs : List Config) (events : List Event) (answers : List Answer)
+        (field : Field) (gateway : Gateway) → Run (new_field configs) events answers field
+        → Contains field.gateways gateway → Within gateway.taken (listed field) }
     ensures alike { (configs : List Config) (events : List Event) (answers : List Answer) (field : Field) (one other : Gateway) → Run (new_field configs) events answers field → Contains field.gateways one → Contains field.gateways other → ((op : Op) → Contains one.taken op ↔ Contains other.taken op) → Same one.taken other.taken }
+    ensures reached { (configs : List Config) (events : List Event) (answers : List Answer)
+        (field : Field) (gateway : Gateway) (part : List Op)
+        → Run (new_field configs) events answers field → Contains field.gateways gateway
+        → ((op : Op) → Contains part op → Contains gateway.taken op) → Within part gateway.taken }
+    ensures all { (configs : List Config) (events : List Event) (answers : List Answer)
+        (field : Field) (gateway : Gateway) → Run (new_field configs) events answers field
+        → Contains field.gateways gateway
+        → HasTakenAll field gateway → Same gateway.taken (listed field) }
     ensures settled { (configs : List Config) (events : List Event) (answers : List Answer) (field : Field) (one other : Gateway) → Run (new_field configs) events answers field → Contains field.gateways one → Contains field.gateways other → HasTakenAll field one → HasTakenAll field other → Same one.taken other.taken }
     ensures shown { (one other : List Op) → Same one other → shown one ≡ shown other }
+{}
+
+/// The answer to its digest completes a gateway. With the deltas that a peer answers, in whatever order
+/// and however often they come, a gateway keeps what it would keep with the peer's whole set, whatever
+/// it takes later. And in a run: once what was answered has reached the gateway, by these deltas or by
+/// others, the set that the peer had when it answered has nothing to add to what the gateway keeps.
+pub fn answered_field()
+    ensures completes { (asker peer : Gateway) (out : Out) (made : List (List Op)) (later : List Op)
+        → AnswerStep asker peer (Ok out) made
+        → Same (keep ((asker.taken ++ all_of made) ++ later))
+        (keep ((asker.taken ++ peer.taken) ++ later)) }
+    ensures however { (asker peer : Gateway) (out : Out) (made : List (List Op))
+        (taken later : List Op) → AnswerStep asker peer (Ok out) made
+        → ((op : Op) → Contains taken op ↔ Contains (all_of made) op)
+        → Same (keep ((asker.taken ++ taken) ++ later))
+        (keep ((asker.taken ++ peer.taken) ++ later)) }
+    ensures caught_up { (configs : List Config) (events more : List Event)
+        (answers replies : List Answer) (old new : Field) (number other i j : ℕ)
+        (asker peer later : Gateway) (out : Out) (made : List (List Op))
+        → Run (new_field configs) events answers old
+        → IsAt old number i asker → IsAt old other j peer → AnswerStep asker peer (Ok out) made
+        → Run (record old { deltas = old.deltas ++ made }) more replies new
+        → slice_get new.gateways i ≡ Some later
+        → Within (all_of made) later.taken → CountsAs (later.taken ++ peer.taken) later.taken }
 {}

@@ -1,26 +1,29 @@
 //! A field of gateways, run from a list of events.
 //!
 //! `run` is the whole system without sockets and clocks: gateways start empty, with their journals on disks in memory,
-//! events come one after the other, and the result is what each gateway answered, what deltas were made, and the gateways as
-//! they then are. What it must give is defined in `specs/` over sets of operations alone: `Gateways` and `Field` (a field,
+//! events come one after the other, and the result is what each gateway answered, what deltas were made or answered, and the
+//! gateways as they then are. What it must give is defined in `specs/` over sets of operations alone: `Gateways` and `Field` (a field,
 //! and what events may do to it), `Steps` (what one event may do at one gateway), `Worlds` (the result). No journal, map or
 //! cache stands there, and of a replica only what it keeps.
 //!
 //! - `event`: what can happen (`Event`), and what is answered (`Answer`).
 //! - `world`: the result of a run (`World`), or why there is none (`WorldFault`).
-//! - `field`: one event at one gateway.
+//! - `field`: one event at one gateway, or between two.
 //! - `running`: the run.
 //! - `laws`: what holds of every run.
+//! - `again`: nothing but the events fixes a run.
 #![tactic(auto)]
 
+mod again;
 mod event;
 mod field;
 mod laws;
 mod running;
 mod world;
 
+pub use again::one_run;
 pub use event::{Answer, Event};
 pub use gw_node::{NodeFault, Out};
-pub use laws::{consistent_field, made_once, settled_field, steady_field};
+pub use laws::{answered_field, consistent_field, made_once, settled_field, steady_field};
 pub use running::run;
 pub use world::{World, WorldFault};

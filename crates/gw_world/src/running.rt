@@ -1,18 +1,18 @@
 //! The run.
 
-ghost use Rattle.std.specs.Prelude.{◌≡◌, ◌++◌, ◌<◌, List, MatchOption, IfOk, IfErr, OnOk, map, vec_len};
-ghost use Rattle.std.specs.Option.{option_to_list};
+ghost use Rattle.std.specs.Prelude.{◌≡◌, ◌++◌, ◌∷◌, [], ◌<◌, List, MatchOption, IfOk, IfErr, OnOk, length, map, vec_len};
 ghost use Rattle.std.specs.List.{AllByRecursion};
 ghost use Rattle.gw_node.specs.Occasions.{Datagram, Clock};
 ghost use Rattle.gw_node.specs.Parts.{state_of, said};
 ghost use Rattle.gw_world.specs.Calm.{IsCalm, keeping};
-ghost use Rattle.gw_world.specs.Events.{made_of, OwnAnswered, TakeAnswered, ShowAnswered, IsListed, EventAt, EventKept, IsMissing, IsStopKept, PlayedKept, StopsKept};
+ghost use Rattle.gw_world.specs.Events.{made_of, answered_of, Join, OwnAnswered, TakeAnswered, AskAnswered, PeerAnswered, ShowAnswered, IsListed, EventAt, EventKept, NoPeer, IsMissing, IsStopKept, PlayedKept, StopsKept};
 ghost use Rattle.gw_world.specs.Gateways.{new_gateway};
+ghost use Rattle.gw_world.specs.Steps.{IsWritable};
 ghost use Rattle.gw_world.specs.Worlds.{IsWorld, IsStop};
 ghost use Rattle.rep_ops.specs.declared.op.Op.{Op};
 
 use super::event::{Answer, Event};
-use super::field::{frame_at, place_of, show_at, take_at, tick_at};
+use super::field::{ask, frame_at, place_of, show_at, take_at, tick_at};
 use super::world::{World, WorldFault};
 use gw_node::{Node, NodeFault, Out};
 use jr_journal::MemoryDisk;
@@ -23,13 +23,24 @@ use sn_flow::{Addr, Config};
 use std::alloc::Global;
 use std::sync::Arc;
 
-/// Puts the delta that an answer tells of on the list.
-fn record(alloc: Global, deltas: &mut Vec<Delta>, made: &Option<Delta>) -> Result<(), WorldFault>
-    ensures ok { OnOk result (deltas.new.items ≡ deltas.old.items ++ option_to_list made.now) }
+/// Puts a delta on the list. Its type promises that it can be written.
+fn record(alloc: Global, deltas: &mut Vec<Delta>, delta: &Delta) -> Result<(), WorldFault>
+    ensures ok { OnOk result (deltas.new.items ≡ deltas.old.items ++ delta.now ∷ []) }
+    ensures writable { IsWritable delta.now }
     ensures err { IfErr result (λ fault. fault ≡ WorldFault.Memory) }
 {
-    if let Some(delta) = made {
-        deltas.push(delta.copy(alloc)?)?;
+    let _ops = delta.ops();
+    deltas.push(delta.copy(alloc)?)?;
+    Ok(())
+}
+
+/// Puts deltas on the list, in their order.
+fn record_all(alloc: Global, deltas: &mut Vec<Delta>, more: &[Delta]) -> Result<(), WorldFault>
+    ensures ok { OnOk result (Join deltas.old.items more.now deltas.new.items) }
+    ensures err { IfErr result (λ fault. fault ≡ WorldFault.Memory) }
+{
+    for delta in more {
+        record(alloc, deltas, delta)?;
     }
     Ok(())
 }
@@ -40,11 +51,29 @@ fn record_made(
     deltas: &mut Vec<Delta>,
     answer: &Result<Arc<Out>, NodeFault>,
 ) -> Result<(), WorldFault>
-    ensures ok { OnOk result (deltas.new.items ≡ deltas.old.items ++ made_of (said answer.now)) }
+    ensures ok { OnOk result (Join deltas.old.items (made_of (said answer.now)) deltas.new.items) }
     ensures err { IfErr result (λ fault. fault ≡ WorldFault.Memory) }
 {
     match answer {
-        Ok(out) => record(alloc, deltas, &out.made),
+        Ok(out) => match &out.made {
+            Some(delta) => record(alloc, deltas, delta),
+            None => Ok(()),
+        },
+        Err(_) => Ok(()),
+    }
+}
+
+/// Puts the deltas on the list that a peer answered.
+fn record_answered(
+    alloc: Global,
+    deltas: &mut Vec<Delta>,
+    answer: &Result<Arc<Out>, NodeFault>,
+) -> Result<(), WorldFault>
+    ensures ok { OnOk result (Join deltas.old.items (answered_of (said answer.now)) deltas.new.items) }
+    ensures err { IfErr result (λ fault. fault ≡ WorldFault.Memory) }
+{
+    match answer {
+        Ok(out) => record_all(alloc, deltas, out.answer.as_slice()),
         Err(_) => Ok(()),
     }
 }
@@ -105,6 +134,45 @@ fn play_take<R: Replica>(
     Ok(Answer::Node(take_at(alloc, nodes, place, delta)?))
 }
 
+/// The digest of the gateway in one place goes to the gateway in another, and what that one answers joins the list.
+fn play_ask<R: Replica>(
+    alloc: Global,
+    nodes: &[Node<R, MemoryDisk>],
+    deltas: &mut Vec<Delta>,
+    place: usize,
+    other: usize,
+) -> Result<Answer, WorldFault>
+    requires place { place < length nodes.now }
+    requires other { other < length nodes.now }
+    ensures ok { IfOk result (AskAnswered (map (λ node. keeping R.kept node) nodes.now) deltas.old.items
+        place other deltas.new.items) }
+    ensures err { IfErr result (λ fault. fault ≡ WorldFault.Memory) }
+{
+    let answer = ask(alloc, &nodes[place], &nodes[other])?;
+    record_answered(alloc, deltas, &answer)?;
+    Ok(Answer::Node(answer))
+}
+
+/// The digest of the gateway in this place goes to the gateway of the number `peer`. Events are numbered.
+fn play_answer<R: Replica>(
+    alloc: Global,
+    nodes: &[Node<R, MemoryDisk>],
+    deltas: &mut Vec<Delta>,
+    place: usize,
+    peer: u8,
+    number: u64,
+) -> Result<Answer, WorldFault>
+    requires { place < length nodes.now }
+    ensures ok { IfOk result (PeerAnswered (map (λ node. keeping R.kept node) nodes.now) deltas.old.items
+        place peer deltas.new.items) }
+    ensures err { IfErr result (NoPeer (map (λ node. keeping R.kept node) nodes.now) peer number) }
+{
+    let Some(other) = place_of(nodes, peer) else {
+        return Err(WorldFault::NoGateway { event: number });
+    };
+    play_ask(alloc, nodes, deltas, place, other)
+}
+
 /// What the gateway in this place knows.
 fn play_show<R: Replica>(
     alloc: Global,
@@ -144,7 +212,8 @@ fn play_at<R: Replica>(
     requires calm { AllByRecursion (λ node. IsCalm (state_of R.kept node)) nodes.old.items }
     ensures calm { OnOk result (AllByRecursion (λ node. IsCalm (state_of R.kept node)) nodes.new.items) }
     ensures ok { IfOk result (EventAt (map (λ node. keeping R.kept node) nodes.old.items) deltas.old.items place event.now (map (λ node. keeping R.kept node) nodes.new.items) deltas.new.items) }
-    ensures err { IfErr result (IsMissing deltas.old.items event.now number) }
+    ensures err { IfErr result (IsMissing (map (λ node. keeping R.kept node) nodes.old.items) deltas.old.items
+        event.now number) }
 {
     match event {
         Event::Frame {
@@ -158,6 +227,9 @@ fn play_at<R: Replica>(
             Some(delta) => play_take(alloc, nodes, place, delta),
             None => Err(WorldFault::NoDelta { event: number }),
         },
+        Event::Answer { peer, .. } => {
+            play_answer(alloc, nodes.as_slice(), deltas, place, *peer, number)
+        }
         Event::Show { .. } => play_show(alloc, nodes, place),
     }
 }
@@ -239,8 +311,9 @@ fn play_all<R: Replica>(
 /// Runs a field of gateways: the gateways of these configs begin with nothing, and the events come one
 /// after the other.
 ///
-/// Each gateway has its journal on a disk in memory. The result has an answer for each event, the deltas that were made, and the gateways.
-/// There is no result where an event names a gateway or a delta that is not there, or memory runs out.
+/// Each gateway has its journal on a disk in memory. The result has an answer for each event, the list of the deltas that were
+/// made or answered, and the gateways. There is no result where an event names a gateway, as the one that it is at or as the
+/// peer, or else a delta that is not there, or memory runs out.
 pub fn run<R: Replica>(
     alloc: Global,
     configs: &[Config],

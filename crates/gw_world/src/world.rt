@@ -10,13 +10,13 @@ use sn_flow::StepFault;
 use std::alloc::{AllocError, AllocFailed};
 use thiserror::Error;
 
-/// The result of a run: an answer for each event, the deltas made, numbered from 1, and the gateways in
-/// the order of their configs.
+/// The result of a run: an answer for each event, the deltas made or answered, numbered from 1, and
+/// the gateways in the order of their configs.
 #[derive(Drop)]
 pub struct World<G> {
     /// An answer for each event, in their order.
     pub answers: Sequence<Answer>,
-    /// The deltas that were made; the first has number 1.
+    /// The deltas that were made, or that answered a digest, in their order; the first has number 1.
     pub deltas: Sequence<Delta>,
     /// The gateways, in the order of their configs.
     pub gateways: Sequence<G>,
@@ -25,7 +25,7 @@ pub struct World<G> {
 /// Why a run has no result. Events are numbered from 1.
 #[derive(Clone, Copy, Debug, PartialEq, Eq, Error)]
 pub enum WorldFault {
-    /// Fault 1: the event names no gateway.
+    /// Fault 1: the event names no gateway, as the one that it is at or as its peer.
     #[error("event {event} names a gateway that is not there")]
     NoGateway { event: u64 },
     /// Fault 2: the event names no delta.

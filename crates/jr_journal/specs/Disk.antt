@@ -69,9 +69,9 @@ EachCrash P d = (k l : ℕ) → P (after_crash k l d)
 
 -- ---- failures
 
--- an error is told only where the count of failures rose
+-- the count of failures rises where an error is told, and nowhere else
 abbrev pub HasCause : {T E : Type 0} → ℕ → ℕ → Result T E → Type 0
-HasCause old new result = (old ≤ new) × MatchResult result (λ _. Unit {0}) (λ _. old < new)
+HasCause old new result = (old ≤ new) × MatchResult result (λ _. new ≡ old) (λ _. old < new)
 
 -- what an append of this many bytes does by the failure that is arranged: nothing is known, none, or this one
 abbrev pub AppendsAs : Option (Option Plan) → ℕ → Result (Unit {0}) Short → Option (Option Plan) → Type 0

@@ -37,7 +37,7 @@ pub enum Plan {
 /// On an honest disk each call does what its clauses say. Of any other nothing is known but that a call
 /// fails only where the count of failures rises.
 pub trait Disk {
-    ghost use Rattle.std.specs.Prelude.{Bool, Option, Some, None, true, false, ℕ, ◌≡◌, ◌≤◌, ◌+◌, ◌⊎◌, length, take, drop, OnOk, OnErr, IfOk, IfErr};
+    ghost use Rattle.std.specs.Prelude.{Bool, Option, Some, None, true, false, ℕ, ◌≡◌, ◌≤◌, ◌+◌, ◌⊎◌, length, take, drop, OnOk, OnErr, IfOk, IfErr, IsErr};
     ghost use Rattle.jr_journal.specs.Disk.{Slots, HasCause, at, replaced, bytes_of, appended, all_synced, cut_to, AppendsAs, SyncsAs, GoesAs};
     ghost use Rattle.jr_journal.specs.declared.disk.Plan.{Plan};
 
@@ -79,6 +79,8 @@ pub trait Disk {
         ensures cause { HasCause (failures self.old) (failures self.new) result }
         ensures starved { starved self.old ≡ true → starved self.new ≡ true }
         ensures outlook { starved self.new ≡ false → AppendsAs (outlook self.old) (length bytes.now) result (outlook self.new) }
+        // Where memory was refused in it nothing went out, and the failure that is arranged still is.
+        ensures wanting { starved self.old ≡ false → starved self.new ≡ true → IsErr result × (slots self.new ≡ slots self.old) × (outlook self.new ≡ outlook self.old) }
         ensures within { IfErr result (λ short. short.written ≤ length bytes.now) }
         ensures ok { honest → OnOk result (slots self.new ≡ replaced (slots self.old) slot (appended (at (slots self.old) slot) bytes.now)) }
         ensures err { honest → IfErr result (λ short. slots self.new ≡ replaced (slots self.old) slot (appended (at (slots self.old) slot) (take short.written bytes.now))) };

@@ -31,7 +31,4 @@ pub use disk::{Disk, DiskFault, Plan, Short, Slot};
 pub use failures::Failures;
 pub use fault::JournalFault;
 pub use journal::Journal;
-pub use memory::MemoryDisk;
-
-#[cfg(test)]
-mod tests;
+pub use memory::{MemoryDisk, memory_disk_is_honest};

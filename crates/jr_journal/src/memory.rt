@@ -282,3 +282,13 @@ impl Disk for MemoryDisk {
         Ok(())
     }
 }
+
+/// Asks for an honest disk.
+fn ask_for_honesty<D: Disk>(_disk: &D)
+    requires { D.honest }
+{}
+
+/// The disk in memory is honest: it does what the clauses of `Disk` say of such a disk.
+pub fn memory_disk_is_honest(disk: &MemoryDisk) {
+    ask_for_honesty(disk);
+}

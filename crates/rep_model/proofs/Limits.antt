@@ -65,7 +65,7 @@ is_range_two false b first last tail h = h
 is_range_two true b first last tail h = is_range b first last tail h
 
 module _ (c : List ℕ) (origin : ℕ) where
-  in-ranges_of : (n : ℕ) (S : List Op) → in_ranges n (filter_map (range_of c origin) S) ≡ is_acknowledged c S (n, origin)
+  pub in-ranges_of : (n : ℕ) (S : List Op) → in_ranges n (filter_map (range_of c origin) S) ≡ is_acknowledged c S (n, origin)
   in-ranges_of n [] = refl
   in-ranges_of n (OfSession d stamp counter change ∷ S) = in-ranges_of n S
   in-ranges_of n (OfPut d put ∷ S) = in-ranges_of n S

@@ -86,7 +86,7 @@ same_kept N W t = record {
   acknowledgements_same = λ c name. is_acknowledged_keep c N name ∙ t.acknowledgements_same c name ∙ sym (is_acknowledged_keep c W name);
 }
 
-kept_some : {X : Type 0} (b : Bool) (x : Option X) → is_some (cond b x None) ≡ true → is_some x ≡ true
+pub kept_some : {X : Type 0} (b : Bool) (x : Option X) → is_some (cond b x None) ≡ true → is_some x ≡ true
 kept_some true x e = e
 kept_some false x e = absurd (true≢false (sym e))
 
@@ -141,7 +141,7 @@ some_first a (Some y) d f e = refl
 some_first None None d f e = e
 some_first (Some x) None d f e = absurd (true≢false (sym (f refl)))
 
-some_second : {X : Type 0} (a b d : Option X) → (is_some a ≡ true → is_some b ≡ true) → is_some (or_else d a) ≡ true → is_some (or_else d b) ≡ true
+pub some_second : {X : Type 0} (a b d : Option X) → (is_some a ≡ true → is_some b ≡ true) → is_some (or_else d a) ≡ true → is_some (or_else d b) ≡ true
 some_second a b (Some y) f e = refl
 some_second a b None f e = f e
 
@@ -153,11 +153,11 @@ pub some_right : {X : Type 0} (a b : Option X) → is_some b ≡ true → is_som
 some_right None b e = e
 some_right (Some x) b e = refl
 
-none_left : (a b : Bool) → (a || b) ≡ false → a ≡ false
+pub none_left : (a b : Bool) → (a || b) ≡ false → a ≡ false
 none_left false b e = refl
 none_left true b e = e
 
-none_right : (a b : Bool) → (a || b) ≡ false → b ≡ false
+pub none_right : (a b : Bool) → (a || b) ≡ false → b ≡ false
 none_right false b e = e
 none_right true b e = absurd (true≢false e)
 

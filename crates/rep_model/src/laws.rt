@@ -3,11 +3,11 @@
 ghost use Rattle.std.specs.Prelude.{◌≡◌, ℕ, ◌≤◌, ◌++◌, ◌||◌, ◌⊎◌, ◌↔◌, List, Some, true, false, IsTrue, Contains};
 ghost use Rattle.std.specs.List.{AllByRecursion};
 ghost use Rattle.std.specs.List.Sorted.{IsStrictlySortedBy};
-ghost use Rattle.rep_ops.specs.Orders.{client_cmp};
+ghost use Rattle.rep_ops.specs.Orders.{client_cmp, put_cmp};
 ghost use Rattle.rep_ops.specs.declared.op.Op.{Op};
 ghost use Rattle.rep_ops.specs.declared.op.Put.{Put};
 ghost use Rattle.rep_ops.specs.Sets.{is_acknowledged, IsConsistent, Agrees, Within, Same};
-ghost use Rattle.rep_model.specs.Views.{pending_at, view, unseen, clients, is_named};
+ghost use Rattle.rep_model.specs.Views.{pending_at, pending, view, unseen, clients, is_named};
 ghost use Rattle.rep_model.specs.Fresh.{next_epoch, next_seq};
 ghost use Rattle.rep_model.specs.Keep.{keep, IsKeptOf, CountsAs, Below};
 ghost use Rattle.rep_model.specs.Ranges.{is_within, in_ranges, AreApart};
@@ -96,4 +96,12 @@ pub fn range_laws()
     ensures one_form { (ranges others : List (ℕ × ℕ)) → AreApart ranges → AreApart others → ((seq : ℕ) → in_ranges seq ranges ≡ in_ranges seq others) → ranges ≡ others }
     ensures more_says { (range : ℕ × ℕ) (ranges : List (ℕ × ℕ)) (seq : ℕ) → in_ranges seq (with_range range ranges) ≡ (is_within seq range || in_ranges seq ranges) }
     ensures more_apart { (range : ℕ × ℕ) (ranges : List (ℕ × ℕ)) → AreApart ranges → range.0 ≤ range.1 → AreApart (with_range range ranges) }
+{}
+
+/// The messages that wait for a client, as its view lists them: exactly those that are found under their names, in the order
+/// of delivery, each once.
+pub fn pending_laws()
+    ensures listed { (c : List ℕ) (S : List Op) (put : Put) → Contains (pending c S) put ↔ (pending_at c S (put.seq, put.origin) ≡ Some put) }
+    ensures ascending { (c : List ℕ) (S : List Op) → IsStrictlySortedBy (λ (a b : Put). put_cmp (a.seq, a.origin) (b.seq, b.origin)) (pending c S) }
+    ensures leaves { (c : List ℕ) (S W : List Op) (put : Put) → Within S W → Contains (view c S).pending put → Contains (view c W).pending put ⊎ (is_acknowledged c W (put.seq, put.origin) ≡ true) }
 {}

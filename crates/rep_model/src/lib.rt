@@ -18,13 +18,12 @@
 mod fault;
 mod laws;
 mod replica;
-#[cfg(test)]
-mod tests;
 mod view;
 
 pub use fault::{Limit, TakeFault};
 pub use laws::{
-    client_laws, consistency, count_laws, join_laws, keep_laws, leaves_only, order_laws, range_laws,
+    client_laws, consistency, count_laws, join_laws, keep_laws, leaves_only, order_laws,
+    pending_laws, range_laws,
 };
 pub use replica::Replica;
 pub use view::{ClientView, Puts};

@@ -7,7 +7,7 @@ use Rattle.rep_ops.specs.declared.fault.OpsFault.TheVariants as faults
 use Rattle.rep_ops.specs.declared.op.Op.{Op}
 use Rattle.rep_ops.specs.declared.op.Op.TheVariants.{Session as OfSession, Ack}
 use Rattle.rep_ops.specs.Joining.{joined}
-use Rattle.rep_ops.specs.Reading.{reading, delta_at, front_at, ops_at, op_at, ack_at, range_at, client_at}
+use Rattle.rep_ops.specs.Reading.{reading, whole_at, text_at, listed_at, op_at, ack_at, range_at, client_at}
 use Rattle.rep_ops.specs.Spelling.{spelling}
 
 -- a client `s1`
@@ -36,15 +36,15 @@ acknowledged_spelled : spelling (Ack s1 2 1 1 ∷ []) ≡ acknowledged_octets
 acknowledged_spelled = refl
 
 acknowledged_read : reading acknowledged_octets ≡ Ok (Ack s1 2 1 1 ∷ [])
-unfolding delta_at front_at ops_at op_at ack_at range_at client_at
+unfolding whole_at text_at listed_at op_at ack_at range_at client_at
 acknowledged_read = refl
 
 other_version : reading (0x02 ∷ []) ≡ Err faults.Version
-unfolding delta_at front_at
+unfolding whole_at text_at
 other_version = refl
 
 nothing_there : reading [] ≡ Err faults.Truncated
-unfolding delta_at front_at
+unfolding whole_at text_at
 nothing_there = refl
 
 -- 1 to 2 and 3 to 3 are one range, and 4 is apart from 1 to 2

@@ -11,6 +11,7 @@ pub mod Canonical
 pub mod Writing
 pub mod Laws
 pub mod Loop
+pub mod Listed
 pub mod Many
 pub mod Tables
 pub mod Fields

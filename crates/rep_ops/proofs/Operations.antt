@@ -134,13 +134,13 @@ put_op_law =
 
 -- ---- acknowledgements
 
-abbrev range_text : ℕ × ℕ → List ℕ
+abbrev pub range_text : ℕ × ℕ → List ℕ
 range_text x = to_be_bytes w64 x.0 ++ to_be_bytes w64 x.1
 
-abbrev FitsRange : ℕ × ℕ → Type 0
+abbrev pub FitsRange : ℕ × ℕ → Type 0
 FitsRange x = (IsEight x.0 × (x.1 < 2 ^ 64)) × (nat_le x.0 x.1 ≡ true)
 
-range_law : Law range_at range_text FitsRange
+pub range_law : Law range_at range_text FitsRange
 unfolding range_at
 range_law =
     ranged_law (λ x. nat_le x.0 x.1) (both (ranged is_counted (number_at w64)) (number_at w64)) range_text (λ x. IsEight x.0 × (x.1 < 2 ^ 64))

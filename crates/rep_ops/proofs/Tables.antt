@@ -1,14 +1,14 @@
 -- The readers of parts that may be there, and of tables.
 use Rattle.std.proofs.Common.{◌≡◌, ℕ, zero, suc, ◌<◌, ◌≤◌, ◌^◌, Bool, true, false, cond, List, [], ◌∷◌, ◌++◌, length, Option, Some, None, Result, Ok, Err, refl, sym, ap, subst, ◌∙◌, inl, inr, append_assoc, arith}
 use Rattle.std.specs.Prelude.{nat_le}
-use Rattle.std.specs.Int.{w16, to_be_bytes}
+use Rattle.std.specs.Int.{Width, w16, to_be_bytes}
 use Rattle.std.specs.List.{flat_map, AllByRecursion}
 use Rattle.std.specs.declared.cmp.Ordering.{Ordering}
 use Rattle.std.proofs.lemmas.Bool.{leb-true, le-leb}
 use Rattle.std.proofs.lemmas.List.{append-nil}
 use Rattle.sn_session.specs.Tables.{is_ascending, IsTable}
 use Rattle.rep_ops.specs.declared.fault.OpsFault.{OpsFault}
-use Rattle.rep_ops.specs.Reading.{Reader, ◌>>=◌, ranged, number_at, flag_at, option_at, many_at, counted_at, table_at}
+use Rattle.rep_ops.specs.Reading.{Reader, ◌>>=◌, ranged, number_at, flag_at, option_at, many_at, counted_by, counted_at, table_at}
 use Rattle.rep_ops.specs.Sessions.{flag_octet, option_octets, table_octets}
 use Rattle.rep_ops.proofs.Laws.{IsBytes, Taken, IsStable, Law, bind_ok, bind_stable, ok_is, same_law, ranged_law, number_law, wide16}
 use Rattle.rep_ops.proofs.Fields.{flag_law}
@@ -96,6 +96,39 @@ many_stable p text Fits lp zero front bytes more = inr refl
 many_stable p text Fits lp (suc n) front bytes more =
     bind_stable more (p bytes) (p (bytes ++ more)) (λ x. many_at p n (front ++ x.0 ∷ []) x.1) (lp.stable bytes more) (λ x. many_stable p text Fits lp n (front ++ x.0 ∷ []) x.1 more)
 
+abbrev pub FitsCounted : {A : Type 0} → (ℕ → Type 0) → (A → Type 0) → List A → Type 0
+FitsCounted IsCount Fits xs = IsCount (length xs) × AllByRecursion Fits xs
+
+-- a count of which the law is known, and so many values
+module _ {A : Type 0} (count : Reader ℕ) (w : Width) (IsCount : ℕ → Type 0) (lc : Law count (to_be_bytes w) IsCount) (p : Reader A) (text : A → List ℕ) (Fits : A → Type 0) (lp : Law p text Fits) where
+  abbrev counted_octets : List A → List ℕ
+  counted_octets xs = to_be_bytes w (length xs) ++ flat_map text xs
+
+  counted_takes : (bytes : List ℕ) (x : List A × List ℕ) → IsBytes bytes → counted_by count p bytes ≡ Ok x → Taken counted_octets (FitsCounted IsCount Fits) bytes x
+  counted_takes bytes x fits e =
+      let b = bind_ok (count bytes) (λ n. many_at p n.0 [] n.1) x e in
+      let t = lc.takes bytes b.0 fits b.1 in
+      let o = many_takes p text Fits lp b.0.0 [] b.0.1 x t.rest b.2 in
+      let all : o.new ≡ x.0 = sym o.all in
+      let len : b.0.0 ≡ length x.0 = sym o.count ∙ ap length all in
+      record {
+        parts = t.parts ∙ (ap (λ (n : ℕ). to_be_bytes w n ++ b.0.1) len ∙ (ap (λ (z : List ℕ). to_be_bytes w (length x.0) ++ z) (o.parts ∙ ap (λ (z : List A). flat_map text z ++ x.1) all)
+            ∙ sym (append_assoc (to_be_bytes w (length x.0)) (flat_map text x.0) x.1)));
+        rest = o.rest;
+        fits = (subst IsCount len t.fits, subst (AllByRecursion Fits) all o.fits);
+      }
+
+  pub counted_law : Law (counted_by count p) counted_octets (FitsCounted IsCount Fits)
+  counted_law = record {
+    takes = λ bytes x fits e. counted_takes bytes x fits e;
+    again = λ xs rest fits.
+        ap (counted_by count p) (append_assoc (to_be_bytes w (length xs)) (flat_map text xs) rest)
+        ∙ (ap (λ (r : Result (ℕ × List ℕ) OpsFault). r >>= λ n. many_at p n.0 [] n.1) (lc.again (length xs) (flat_map text xs ++ rest) fits.0)
+        ∙ many_again p text Fits lp xs [] rest fits.1);
+    stable = λ bytes more.
+        bind_stable more (count bytes) (count (bytes ++ more)) (λ n. many_at p n.0 [] n.1) (lc.stable bytes more) (λ x. many_stable p text Fits lp x.0 [] x.1 more);
+  }
+
 abbrev count_at : Reader ℕ
 count_at = ranged (λ n. nat_le n 256) (number_at w16)
 
@@ -105,42 +138,13 @@ IsCount n = (n < 2 ^ 16) × (nat_le n 256 ≡ true)
 count_law : Law count_at (to_be_bytes w16) IsCount
 count_law = ranged_law (λ n. nat_le n 256) (number_at w16) (to_be_bytes w16) (λ n. n < 2 ^ 16) (number_law w16 (2 ^ 16) wide16)
 
-abbrev FitsCounted : {A : Type 0} → (A → Type 0) → List A → Type 0
-FitsCounted Fits xs = IsCount (length xs) × AllByRecursion Fits xs
-
-counted_takes : {A : Type 0} (p : Reader A) (text : A → List ℕ) (Fits : A → Type 0) → Law p text Fits → (bytes : List ℕ) (x : List A × List ℕ) → IsBytes bytes → counted_at p bytes ≡ Ok x
-    → Taken (table_octets text) (FitsCounted Fits) bytes x
-counted_takes {A} p text Fits lp bytes x fits e =
-    let b = bind_ok (count_at bytes) (λ count. many_at p count.0 [] count.1) x e in
-    let t = count_law.takes bytes b.0 fits b.1 in
-    let o = many_takes p text Fits lp b.0.0 [] b.0.1 x t.rest b.2 in
-    let all : o.new ≡ x.0 = sym o.all in
-    let len : b.0.0 ≡ length x.0 = sym o.count ∙ ap length all in
-    record {
-      parts = t.parts ∙ (ap (λ (n : ℕ). to_be_bytes w16 n ++ b.0.1) len ∙ (ap (λ (z : List ℕ). to_be_bytes w16 (length x.0) ++ z) (o.parts ∙ ap (λ (z : List A). flat_map text z ++ x.1) all)
-          ∙ sym (append_assoc (to_be_bytes w16 (length x.0)) (flat_map text x.0) x.1)));
-      rest = o.rest;
-      fits = (subst IsCount len t.fits, subst (AllByRecursion Fits) all o.fits);
-    }
-
-counted_law : {A : Type 0} (p : Reader A) (text : A → List ℕ) (Fits : A → Type 0) → Law p text Fits → Law (counted_at p) (table_octets text) (FitsCounted Fits)
-counted_law {A} p text Fits lp = record {
-  takes = λ bytes x fits e. counted_takes p text Fits lp bytes x fits e;
-  again = λ xs rest fits.
-      ap (counted_at p) (append_assoc (to_be_bytes w16 (length xs)) (flat_map text xs) rest)
-      ∙ (ap (λ (r : Result (ℕ × List ℕ) OpsFault). r >>= λ count. many_at p count.0 [] count.1) (count_law.again (length xs) (flat_map text xs ++ rest) fits.0)
-      ∙ many_again p text Fits lp xs [] rest fits.1);
-  stable = λ bytes more.
-      bind_stable more (count_at bytes) (count_at (bytes ++ more)) (λ count. many_at p count.0 [] count.1) (count_law.stable bytes more) (λ x. many_stable p text Fits lp x.0 [] x.1 more);
-}
-
 abbrev pub FitsTable : {A : Type 0} → (A → A → Ordering) → (A → Type 0) → List A → Type 0
 FitsTable cmp Fits xs = IsTable cmp xs × AllByRecursion Fits xs
 
 pub table_law : {A : Type 0} (cmp : A → A → Ordering) (p : Reader A) (text : A → List ℕ) (Fits : A → Type 0) → Law p text Fits → Law (table_at cmp p) (table_octets text) (FitsTable cmp Fits)
 table_law cmp p text Fits lp =
-    same_law (table_at cmp p) (table_octets text) (λ xs. FitsCounted Fits xs × (is_ascending cmp xs ≡ true))
-    (ranged_law (is_ascending cmp) (counted_at p) (table_octets text) (FitsCounted Fits) (counted_law p text Fits lp))
+    same_law (table_at cmp p) (table_octets text) (λ xs. FitsCounted IsCount Fits xs × (is_ascending cmp xs ≡ true))
+    (ranged_law (is_ascending cmp) (counted_at p) (table_octets text) (FitsCounted IsCount Fits) (counted_law count_at w16 IsCount count_law p text Fits lp))
     (table_octets text) (FitsTable cmp Fits)
     (λ xs h. (refl, ((h.1, leb-true _ _ h.0.0.1), h.0.1)))
     (λ xs h. (((let most = h.0.1 in omega arith, le-leb _ _ h.0.1), h.1), h.0.0))

@@ -86,6 +86,31 @@ topic_at = ranged (λ name. not (has_wildcard name)) (sized_at (λ n. nat_le 1 n
 unfoldable pub body_at : Reader (List ℕ)
 body_at = sized_at (λ n. nat_le n 4096) (number_at w16)
 
+-- ---- texts: a version, a count, and values of which each may stand behind those before it
+
+-- whether a value may stand behind these: right behind the last of them
+abbrev pub follows_last : {A : Type 0} → (A → A → Bool) → List A → A → Bool
+follows_last next [] x = true
+follows_last next (a ∷ []) x = next a x
+follows_last next (a ∷ b ∷ more) x = follows_last next (b ∷ more) x
+
+-- so many values, behind those that were read
+unfoldable pub listed_at : {A : Type 0} → Reader A → (List A → A → Bool) → ℕ → List A → Reader (List A)
+listed_at read follows zero front bytes = Ok (front, bytes)
+listed_at read follows (suc n) front bytes = read bytes >>= λ x. if follows front x.0 then listed_at read follows n (front ++ x.0 ∷ []) x.1 else Err faults.Order
+
+-- the version, the count and the values
+unfoldable pub text_at : {A : Type 0} → Reader A → (List A → A → Bool) → Reader (List A)
+text_at read follows bytes = octet_at bytes >>= λ version. if version.0 == 1 then (number_at w32 version.1 >>= λ count. listed_at read follows count.0 [] count.1) else Err faults.Version
+
+-- a text, and nothing behind it
+unfoldable pub whole_at : {A : Type 0} → Reader (List A) → List ℕ → Result (List A) OpsFault
+whole_at read bytes = read bytes >>= λ x. if length x.1 == 0 then Ok x.0 else Err faults.Trailing
+
+-- what the octets say, or why they are no such text
+abbrev pub reading_of : {A : Type 0} → Reader A → (List A → A → Bool) → List ℕ → Result (List A) OpsFault
+reading_of read follows bytes = if nat_lt max_octets (length bytes) then Err faults.Limit else whole_at (text_at read follows) bytes
+
 -- ---- sessions
 
 unfoldable pub flag_at : Reader Bool
@@ -106,9 +131,13 @@ abbrev pub many_at : {A : Type 0} → Reader A → ℕ → List A → Reader (Li
 many_at read zero front bytes = Ok (front, bytes)
 many_at read (suc n) front bytes = read bytes >>= λ x. many_at read n (front ++ x.0 ∷ []) x.1
 
--- how many entries there are, and the entries
+-- how many values there are, and the values
+abbrev pub counted_by : {A : Type 0} → Reader ℕ → Reader A → Reader (List A)
+counted_by count read bytes = count bytes >>= λ n. many_at read n.0 [] n.1
+
+-- at most 256 entries
 abbrev pub counted_at : {A : Type 0} → Reader A → Reader (List A)
-counted_at read bytes = ranged (λ n. nat_le n 256) (number_at w16) bytes >>= λ count. many_at read count.0 [] count.1
+counted_at read = counted_by (ranged (λ n. nat_le n 256) (number_at w16)) read
 
 -- a table; its order is looked at when it is whole
 abbrev pub table_at : {A : Type 0} → (A → A → Ordering) → Reader A → Reader (List A)
@@ -268,28 +297,17 @@ abbrev pub is_apart : Op → Op → Bool
 is_apart (Ack c origin first last) (Ack d other start end) = if same_client c d && (origin == other) then nat_lt (last + 1) start else true
 is_apart a b = true
 
+-- whether the operation may stand right behind the other
+abbrev pub is_next : Op → Op → Bool
+is_next a b = is_lt (name_cmp a b) && is_apart a b
+
 -- whether the operation may stand behind these
 abbrev pub may_follow : List Op → Op → Bool
-may_follow [] op = true
-may_follow (a ∷ []) op = is_lt (name_cmp a op) && is_apart a op
-may_follow (a ∷ b ∷ more) op = may_follow (b ∷ more) op
-
--- so many operations, behind those that were read
-unfoldable pub ops_at : ℕ → List Op → Reader (List Op)
-ops_at zero front bytes = Ok (front, bytes)
-ops_at (suc n) front bytes = op_at bytes >>= λ x. if may_follow front x.0 then ops_at n (front ++ x.0 ∷ []) x.1 else Err faults.Order
-
--- the version, the count and the operations
-unfoldable pub front_at : Reader (List Op)
-front_at bytes = octet_at bytes >>= λ version. if version.0 == 1 then (number_at w32 version.1 >>= λ count. ops_at count.0 [] count.1) else Err faults.Version
-
--- a delta, and nothing behind it
-unfoldable pub delta_at : List ℕ → Result (List Op) OpsFault
-delta_at bytes = front_at bytes >>= λ x. if length x.1 == 0 then Ok x.0 else Err faults.Trailing
+may_follow ops op = follows_last is_next ops op
 
 -- what the octets say, or why they are no delta
 abbrev pub reading : List ℕ → Result (List Op) OpsFault
-reading bytes = if nat_lt max_octets (length bytes) then Err faults.Limit else delta_at bytes
+reading = reading_of op_at may_follow
 
 -- numbers of 8 bits
 abbrev pub AreOctets : List ℕ → Type 0

@@ -22,9 +22,13 @@ op_octets (OfSession client stamp counter change) =
 op_octets (OfPut client put) = 2 ∷ client_octets client ++ put_octets put
 op_octets (Ack client origin first last) = 3 ∷ client_octets client ++ (origin ∷ big_bytes 8 first) ++ big_bytes 8 last
 
--- the version, how many operations there are, and the operations
+-- a text of the format: the version, how many values there are, and the values
+abbrev pub text_of : {A : Type 0} → (A → List ℕ) → List A → List ℕ
+text_of octets values = (1 ∷ big_bytes 4 (length values)) ++ flat_map octets values
+
+-- a delta is the text of its operations
 abbrev pub spelling : List Op → List ℕ
-spelling ops = (1 ∷ big_bytes 4 (length ops)) ++ flat_map op_octets ops
+spelling ops = text_of op_octets ops
 
 -- the most octets of a delta, 8 MiB
 abbrev pub max_octets : ℕ

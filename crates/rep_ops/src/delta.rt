@@ -99,6 +99,8 @@ impl Delta {
         ensures only { (d : List Op) → AreValues d → IsSpelled bytes.now d → (result ≡ Ok d) ⊎ (result ≡ Err OpsFault.Memory) }
         // Which fault it is.
         ensures exact { Gives (λ d. d) result (reading bytes.now) }
+        // Too many octets are told whatever memory there is.
+        ensures limit { 8388608 < length bytes.now → result ≡ Err OpsFault.Limit }
     {
         Ok(Delta {
             ops: read_delta(alloc, bytes)?,

@@ -10,7 +10,8 @@
 //!   as octets and read again.
 //! - `order`, `join`, `size`: names and their order, ranges joined, what a delta may hold.
 //! - `split`: a set of any size as deltas that fit (`deltas_of`).
-//! - `write`, `read`: the format, one function for each type of it.
+//! - `write`, `read`: the format, one function for each type of it. Formats above are made of the same fields (`read_octet`,
+//!   `read_client`, `write_client`).
 //! - `fault`: why operations or octets are refused.
 //!
 //! The definitions are in `specs/`: `Orders` (names and their order), `Sets` (what a set has under a
@@ -39,9 +40,10 @@ pub use client_id::ClientId;
 pub use delta::{Delta, no_prefix, one_delta, one_reading};
 pub use fault::OpsFault;
 pub use op::{Op, Put, Stamp};
+pub use read::{
+    read_client, read_counted_eight, read_counted_octet, read_eight, read_four, read_octet,
+    read_two,
+};
+pub use size::MAX_OCTETS;
 pub use split::deltas_of;
-
-#[cfg(test)]
-mod session_tests;
-#[cfg(test)]
-mod tests;
+pub use write::write_client;

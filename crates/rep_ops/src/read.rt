@@ -8,3 +8,7 @@ mod session;
 mod table;
 
 pub use delta::read_delta;
+pub use field::{
+    read_client, read_counted_eight, read_counted_octet, read_eight, read_four, read_octet,
+    read_two,
+};

@@ -19,7 +19,7 @@ use octets::{append_u32, append_u64};
 const VERSION: u8 = 1;
 
 /// Writes a client.
-fn write_client(out: &mut Vec<u8>, client: &ClientId) -> Result<(), OpsFault>
+pub fn write_client(out: &mut Vec<u8>, client: &ClientId) -> Result<(), OpsFault>
     ensures { Writes (client_octets client.now) out.old.items out.new.items result }
 {
     let name = client.bytes();

@@ -2,7 +2,6 @@ pub mod Places
 pub mod Maps
 pub mod Prefixes
 pub mod Entering
-pub mod Equal
 pub mod Workings
 pub mod Single
 pub mod Flat

@@ -12,7 +12,7 @@
 //! - `held`: what must be kept, as deltas.
 //! - `entry`: a client's operations and what they come to.
 //! - `reading`, `replay`, `waiting`, `ranges`: visible stamp, prefix and session, messages that wait,
-//!   acknowledgements; `same` tells whether two changes are equal.
+//!   acknowledgements.
 //! - `fault`: want of memory.
 //!
 //! The definitions are in `specs/`: `Rows` (clients with their operations, and what a move makes of
@@ -29,10 +29,7 @@ mod ranges;
 mod reading;
 mod replay;
 mod room;
-mod same;
 mod table;
-#[cfg(test)]
-mod tests;
 mod waiting;
 
 pub use plain::{Plain, Staged};

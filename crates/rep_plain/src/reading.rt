@@ -10,8 +10,8 @@ ghost use Rattle.rep_model.specs.Views.{visible};
 ghost use Rattle.rep_plain.specs.Steps.{first_of_two};
 ghost use Rattle.rep_model.specs.Fresh.{greatest_epoch, seq_of, largest};
 
-use super::same::is_same_change;
 use rep_ops::{ClientId, Op, Put, Stamp};
+use rep_same::same_change;
 use sn_session::SessionOp;
 
 /// The greatest stamp of the client whose Take is there.
@@ -128,7 +128,7 @@ pub(crate) fn agrees(ops: &[Op], op: &Op) -> bool
             counter,
             change,
         } => match operation_at(ops, client, (*stamp, *counter)) {
-            Some(kept) => is_same_change(kept, change),
+            Some(kept) => same_change(kept, change),
             None => true,
         },
         Op::Put { client, put } => match put_at(ops, client, (put.seq, put.origin)) {

@@ -13,61 +13,10 @@ use Rattle.rep_ops.specs.Sets.{same_client, puts, is_acknowledged}
 use Rattle.rep_model.specs.Views.{unacknowledged, pending_at, in_order, pending}
 use Rattle.rep_model.proofs.Lookup.{find-in_order, is_sorted-in_order}
 use Rattle.rep_model.proofs.Readers.{put_total, put_exact}
+use Rattle.rep_model.proofs.Waiting.{AreUnderNames, waiting_entries, waiting_under, waiting_sorted, waiting_found}
 use Rattle.sn_flow.specs.Names.{name_of}
 use Rattle.sn_deliver.specs.Exchanges.{same_name, is_done, left}
 use Rattle.sn_deliver.specs.Laws.{AreApart}
-
--- ---- entries stand under the names of their messages
-
-abbrev IsUnderName : (ℕ × ℕ) × Put → Type 0
-IsUnderName e = e.0 ≡ name_of e.1
-
-abbrev AreUnderNames : List ((ℕ × ℕ) × Put) → Type 0
-AreUnderNames es = AllByRecursion IsUnderName es
-
-put_under : (k : ℕ × ℕ) (v : Put) (es : List ((ℕ × ℕ) × Put)) → k ≡ name_of v → AreUnderNames es → AreUnderNames (put put_cmp k v es)
-put_under k v [] is all = (is, tt)
-put_under k v (e ∷ es) is all =
-    elim (put_cmp k e.0) as (λ o. put_cmp k e.0 ≡ o → AreUnderNames (by_order o ((k, v) ∷ e ∷ es) ((e.0, v) ∷ es) (e ∷ put put_cmp k v es))) [
-      | Less ↦ λ _. (is, all)
-      | Equal ↦ λ t. (sym (put_exact k e.0 t) ∙ is, all.1)
-      | Greater ↦ λ _. (all.0, put_under k v es is all.1)
-    ] refl
-
-in_order_under : (es : List ((ℕ × ℕ) × Put)) → AreUnderNames es → AreUnderNames (in_order put_cmp es)
-in_order_under [] all = tt
-in_order_under (e ∷ es) all = put_under e.0 e.1 (in_order put_cmp es) all.0 (in_order_under es all.1)
-
-kept_under : (b : Bool) (e : (ℕ × ℕ) × Put) (es : List ((ℕ × ℕ) × Put)) → e.0 ≡ name_of e.1 → AreUnderNames es → AreUnderNames (cond b (e ∷ es) es)
-kept_under true e es is all = (is, all)
-kept_under false e es is all = all
-
-filter_under : (test : (ℕ × ℕ) × Put → Bool) (es : List ((ℕ × ℕ) × Put)) → AreUnderNames es → AreUnderNames (filter test es)
-filter_under test [] all = tt
-filter_under test (e ∷ es) all = kept_under (test e) e (filter test es) all.0 (filter_under test es all.1)
-
-puts_under : (c : List ℕ) (S : List Op) → AreUnderNames (puts c S)
-puts_under c [] = tt
-puts_under c (OfSession d stamp counter change ∷ S) = puts_under c S
-puts_under c (OfPut d p ∷ S) =
-    elim (same_client c d) as (λ b. AreUnderNames (cons_option (if b then Some ((p.seq, p.origin), p) else None) (puts c S))) [
-      | true ↦ (refl, puts_under c S)
-      | false ↦ puts_under c S
-    ]
-puts_under c (Ack d origin first last ∷ S) = puts_under c S
-
--- what waits for the client, under names
-abbrev waiting : List ℕ → List Op → List ((ℕ × ℕ) × Put)
-waiting c S = in_order put_cmp (unacknowledged c S)
-
-waiting_under : (c : List ℕ) (S : List Op) → AreUnderNames (waiting c S)
-waiting_under c S = in_order_under (unacknowledged c S) (filter_under (λ e. not (is_acknowledged c S e.0)) (puts c S) (puts_under c S))
-
-waiting_sorted : (c : List ℕ) (S : List Op) → T (is_sorted put_cmp (waiting c S))
-waiting_sorted c S = is_sorted-in_order put_cmp put_total (unacknowledged c S)
-
-found : (c : List ℕ) (S : List Op) (name : ℕ × ℕ) → find put_cmp name (waiting c S) ≡ pending_at c S name
-found c S name = find-in_order put_cmp put_total name (unacknowledged c S)
 
 -- ---- names that are all different
 
@@ -110,14 +59,14 @@ sorted_apart (e ∷ es) sorted all = (
 
 -- the messages that wait have names that are all different
 pub pending-apart : (c : List ℕ) (S : List Op) → AreApart (pending c S)
-pending-apart c S = sorted_apart (waiting c S) (waiting_sorted c S) (waiting_under c S)
+pending-apart c S = sorted_apart (waiting_entries c S) (waiting_sorted c S) (waiting_under c S)
 
 -- ---- what waits, by the look-up of names
 
 pub pending-by : (c : List ℕ) (A B : List Op) → ((name : ℕ × ℕ) → pending_at c A name ≡ pending_at c B name) → pending c A ≡ pending c B
 pending-by c A B same =
-    ap (map (λ e. e.1)) (same_entries put_cmp put_total put_exact (waiting c A) (waiting c B) (waiting_sorted c A) (waiting_sorted c B)
-    (λ name. found c A name ∙ same name ∙ sym (found c B name)))
+    ap (map (λ e. e.1)) (same_entries put_cmp put_total put_exact (waiting_entries c A) (waiting_entries c B) (waiting_sorted c A) (waiting_sorted c B)
+    (λ name. waiting_found c A name ∙ same name ∙ sym (waiting_found c B name)))
 
 module _ (acks : List (ℕ × ℕ)) where
   abbrev stays : ℕ × ℕ → Bool
@@ -138,8 +87,8 @@ module _ (acks : List (ℕ × ℕ)) where
   pub pending-left : (c : List ℕ) (A B : List Op) → ((name : ℕ × ℕ) → pending_at c B name ≡ cond (stays name) (pending_at c A name) None)
       → pending c B ≡ left acks (pending c A)
   pending-left c A B same =
-      ap (map (λ e. e.1)) (same_entries put_cmp put_total put_exact (waiting c B) (where_key put_cmp stays (waiting c A))
-      (waiting_sorted c B) (is_sorted-where_key put_cmp stays (waiting c A) (waiting_sorted c A))
-      (λ name. found c B name ∙ same name ∙ ap (λ o. cond (stays name) o None) (sym (found c A name))
-      ∙ sym (find-where_key put_cmp stays name (λ x t. ap stays (sym (put_exact name x t))) (waiting c A))))
-      ∙ stay (waiting c A) (waiting_under c A)
+      ap (map (λ e. e.1)) (same_entries put_cmp put_total put_exact (waiting_entries c B) (where_key put_cmp stays (waiting_entries c A))
+      (waiting_sorted c B) (is_sorted-where_key put_cmp stays (waiting_entries c A) (waiting_sorted c A))
+      (λ name. waiting_found c B name ∙ same name ∙ ap (λ o. cond (stays name) o None) (sym (waiting_found c A name))
+      ∙ sym (find-where_key put_cmp stays name (λ x t. ap stays (sym (put_exact name x t))) (waiting_entries c A))))
+      ∙ stay (waiting_entries c A) (waiting_under c A)

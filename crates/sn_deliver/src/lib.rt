@@ -48,6 +48,3 @@ pub use serve::{ack_in, publish_in, pubrel_in};
 pub use table::step;
 pub use ticking::tick;
 pub use waking::wake;
-
-#[cfg(test)]
-mod tests;

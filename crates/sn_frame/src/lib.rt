@@ -26,6 +26,3 @@ pub use flags::{Flags, Qos, TopicIdType};
 pub use frame::{Frame, Will};
 pub use laws::{one_fault, one_meaning};
 pub use msg_type::MsgType;
-
-#[cfg(test)]
-mod tests;

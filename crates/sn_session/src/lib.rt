@@ -34,6 +34,3 @@ pub use session::Session;
 pub use subscriptions::{Subscription, Subscriptions};
 pub use topics::{TopicEntry, Topics};
 pub use will::{Will, WillTopic};
-
-#[cfg(test)]
-mod tests;

@@ -19,6 +19,3 @@ pub use filter::Filter;
 pub use matching::matches;
 pub use name::TopicName;
 pub use predefined::Predefined;
-
-#[cfg(test)]
-mod tests;

@@ -1,7 +1,7 @@
 //! The whole delta.
 
-ghost use Rattle.std.specs.Prelude.{◌≡◌, []};
-ghost use Rattle.rep_ops.specs.Reading.{Gives, is_apart as apart_test, may_follow as follow_test, ops_at, delta_at, reading};
+ghost use Rattle.std.specs.Prelude.{◌≡◌, ◌<◌, [], Err, length};
+ghost use Rattle.rep_ops.specs.Reading.{Gives, is_apart as apart_test, may_follow as follow_test, op_at, listed_at, reading};
 
 use super::field::{read_four, read_octet};
 use super::op::read_op;
@@ -54,7 +54,7 @@ fn may_follow(ops: &[Op], op: &Op) -> bool
 
 /// So many operations.
 fn read_ops(alloc: Global, count: u32, bytes: &[u8]) -> Result<(Vec<Op>, &[u8]), OpsFault>
-    ensures { Gives (λ x. (x.0.items, x.1.now)) result (ops_at count [] bytes.now) }
+    ensures { Gives (λ x. (x.0.items, x.1.now)) result (listed_at op_at follow_test count [] bytes.now) }
 {
     let mut ops = Vec::new(alloc);
     let mut rest = bytes;
@@ -70,9 +70,10 @@ fn read_ops(alloc: Global, count: u32, bytes: &[u8]) -> Result<(Vec<Op>, &[u8]),
 }
 
 /// The operations of the delta that the octets spell.
-#[tactic(auto, unfolding(crate::specs::Reading::delta_at, crate::specs::Reading::front_at))]
+#[tactic(auto, unfolding(crate::specs::Reading::whole_at, crate::specs::Reading::text_at))]
 pub fn read_delta(alloc: Global, bytes: &[u8]) -> Result<Vec<Op>, OpsFault>
-    ensures { Gives (λ v. v.items) result (reading bytes.now) }
+    ensures reads { Gives (λ v. v.items) result (reading bytes.now) }
+    ensures limit { 8388608 < length bytes.now → result ≡ Err OpsFault.Limit }
 {
     if bytes.len() > MAX_OCTETS {
         return Err(OpsFault::Limit);

@@ -1,7 +1,7 @@
 -- The event is at the gateway in the place of its number.
-use Rattle.std.proofs.Common.{refl, sym}
+use Rattle.std.proofs.Common.{sym}
 use Rattle.std.proofs.lemmas.Result.{IfOk-weaker, IfErr-weaker}
-use Rattle.gw_world.proofs.Moving.{missing_stops}
+use Rattle.gw_world.proofs.Moving.{missing_stops, absent_stops}
 use Rattle.gw_world.proofs.running.play_event.Goals as goal
 
 pub returns-in-Some-clause-ok : goal.returns-in-Some-clause-ok
@@ -15,4 +15,4 @@ returns-in-Some-clause-err g c =
     c.play_at.ensures.err
 
 pub returns-in-None-clause-err : goal.returns-in-None-clause-err
-returns-in-None-clause-err g c = (refl, sym (rw (c.as_slice.ensures.value, c.gateway.ensures) at c.in-None.ensures.place))
+returns-in-None-clause-err g c = absent_stops _ c.args.deltas.now.items c.args.event.now c.args.number (sym (rw (c.as_slice.ensures.value, c.gateway.ensures) at c.in-None.ensures.place))

@@ -1,0 +1,30 @@
+#!/bin/sh
+# A digest and the answer to it between two gateways of 1,000 clients with 20 messages each, of which the one lacks one in a hundred.
+#
+# Usage: bench/digests.sh [ROUNDS]
+#
+# Makes the digest of the one and the other's answer ROUNDS times (20), by crates/codec_bench. Rates are by processor time without what it
+# takes to make the two gateways, and the best of three runs counts: operations that the answering gateway holds.
+set -eu
+top=$(cd "$(dirname "$0")/.." && pwd)
+work=$(mktemp -d)
+trap 'rm -rf "$work"' EXIT
+rounds=${1:-20}
+program=$top/crates/codec_bench/out/codec_bench
+# rt builds nothing anew where the program is that of the sources.
+if ! (cd "$top/crates/codec_bench" && rt run <stdin >"$work/built" 2>&1); then
+    tail -n 20 "$work/built"
+    exit 1
+fi
+echo "load $(cut -d ' ' -f 1-3 /proc/loadavg 2>/dev/null || echo unknown), $(nproc) processors"
+for _ in 1 2 3; do
+    python3 "$top/bench/seconds.py" "$program" "digests 0" "$work/printed" >>"$work/without"
+    python3 "$top/bench/seconds.py" "$program" "digests $rounds" "$work/printed" >>"$work/with"
+done
+cat "$work/printed"
+awk -v a="$(sort -n "$work/with" | head -n 1)" -v b="$(sort -n "$work/without" | head -n 1)" -v n="$rounds" '
+    { gsub(/[^0-9 ]/, ""); split($0, count, " ") }
+    END {
+        printf "  %.1f digests with answers per second, %.0f operations per second\n", n / (a - b), n * count[4] / (a - b)
+        printf "  digest and answer are %.1f %% of the octets that are held\n", 100 * (count[1] + count[3]) / count[5]
+    }' "$work/printed"

@@ -1,0 +1,4 @@
+pub mod Messages
+pub mod Streams
+pub mod Pieces
+pub mod Writing

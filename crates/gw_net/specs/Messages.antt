@@ -1,0 +1,58 @@
+-- Link messages and their octets.
+use Rattle.std.specs.Prelude.{ℕ, ◌≤◌, ◌<◌, ◌^◌, ◌==◌, if◌then◌else◌, nat_le, List, [], ◌∷◌, ◌++◌, length, Option, Some, None, Result, Ok, Err}
+use Rattle.byteorder.specs.Endian.{big_bytes}
+use Rattle.rep_ops.specs.declared.fault.OpsFault.{OpsFault}
+use Rattle.rep_ops.specs.Deltas.{IsDelta}
+use Rattle.rep_ops.specs.Spelling.{spelling as delta_spelling, IsWithinLimit as IsDeltaWithinLimit}
+use Rattle.rep_ops.specs.Values.{AreValues}
+use Rattle.rep_ops.specs.Reading.{reading as delta_reading}
+use Rattle.rep_digest.specs.Reading.{reading as digest_reading}
+use Rattle.rep_digest.specs.Spelling.{spelling as digest_spelling, IsWithinLimit as IsDigestWithinLimit}
+use Rattle.rep_digest.specs.WellMade.{IsDigest}
+use Rattle.gw_net.specs.declared.message.LinkMessage.{LinkMessage}
+use Rattle.gw_net.specs.declared.message.LinkMessage.TheVariants.{Hello, Digest as OfDigest, Delta as OfDelta}
+
+-- 1 a hello, 2 a digest, 3 a delta
+abbrev pub kind_of : LinkMessage → ℕ
+kind_of (Hello gateway) = 1
+kind_of (OfDigest d) = 2
+kind_of (OfDelta d) = 3
+
+-- the gateway's number; or the spelling
+abbrev pub body_of : LinkMessage → List ℕ
+body_of (Hello gateway) = gateway ∷ []
+body_of (OfDigest d) = digest_spelling d
+body_of (OfDelta d) = delta_spelling d
+
+-- a message: its kind, the length of its body, and the body
+abbrev pub spelling : LinkMessage → List ℕ
+spelling m = kind_of m ∷ (big_bytes 4 (length (body_of m)) ++ body_of m)
+
+-- gateways have numbers from 1 to 255
+abbrev pub IsMessage : LinkMessage → Type 0
+IsMessage (Hello gateway) = (1 ≤ gateway) × (gateway < 2 ^ 8)
+IsMessage (OfDigest d) = IsDigest d × IsDigestWithinLimit d
+IsMessage (OfDelta d) = IsDelta d × AreValues d × IsDeltaWithinLimit d
+
+-- no gateway has the number 0
+abbrev pub IsNumbered : LinkMessage → Type 0
+IsNumbered (Hello gateway) = 1 ≤ gateway
+IsNumbered (OfDigest d) = Unit {0}
+IsNumbered (OfDelta d) = Unit {0}
+
+-- what was read, if it was
+abbrev pub read_or_none : {A B : Type 0} → (A → B) → Result A OpsFault → Option B
+read_or_none make (Ok x) = Some (make x)
+read_or_none make (Err fault) = None
+
+-- one octet that is not 0
+abbrev pub hello_at : List ℕ → Option LinkMessage
+hello_at [] = None
+hello_at (gateway ∷ []) = if nat_le 1 gateway then Some (Hello gateway) else None
+hello_at (gateway ∷ more ∷ rest) = None
+
+-- the message that a body of the kind is, if it is one
+unfoldable pub message_at : ℕ → List ℕ → Option LinkMessage
+message_at kind body =
+    if kind == 1 then hello_at body
+    else (if kind == 2 then read_or_none (λ d. OfDigest d) (digest_reading body) else read_or_none (λ d. OfDelta d) (delta_reading body))

@@ -1,0 +1,57 @@
+-- What a stream of octets says.
+use Rattle.std.specs.Prelude.{◌≡◌, ℕ, Bool, not, ◌&&◌, if◌then◌else◌, nat_le, nat_lt, List, [], ◌∷◌, ◌++◌, length, take, drop, Option, Some, None, Result, Ok, Err}
+use Rattle.std.specs.Int.{w32}
+use Rattle.std.specs.List.{flat_map, AllByRecursion}
+use Rattle.rep_ops.specs.declared.fault.OpsFault.{OpsFault}
+use Rattle.rep_ops.specs.Reading.{number_at}
+use Rattle.rep_ops.specs.Spelling.{max_octets}
+use Rattle.gw_net.specs.declared.fault.LinkFault.{LinkFault}
+use Rattle.gw_net.specs.declared.fault.LinkFault.TheVariants as faults
+use Rattle.gw_net.specs.declared.message.LinkMessage.{LinkMessage}
+use Rattle.gw_net.specs.Messages.{spelling, IsMessage, message_at}
+
+-- the message in front of a stream and the octets behind it; nothing where octets are wanting; or a fault
+abbrev pub Front : Type 0
+Front = Result (Option (LinkMessage × List ℕ)) LinkFault
+
+abbrev pub with_body : Option LinkMessage → List ℕ → Front
+with_body None rest = Err faults.Body
+with_body (Some m) rest = Ok (Some (m, rest))
+
+-- the length is looked at as soon as it is there, the body when it is whole
+abbrev pub sized_at : ℕ → Result (ℕ × List ℕ) OpsFault → Front
+sized_at kind (Err fault) = Ok None
+sized_at kind (Ok read) =
+    if nat_lt max_octets read.0 then Err faults.TooLong
+    else (if nat_lt (length read.1) read.0 then Ok None else with_body (message_at kind (take read.0 read.1)) (drop read.0 read.1))
+
+-- the kind is looked at first
+unfoldable pub front : List ℕ → Front
+front [] = Ok None
+front (kind ∷ rest) = if nat_le 1 kind && nat_le kind 3 then sized_at kind (number_at w32 rest) else Err faults.Kind
+
+-- what stands behind the messages: no whole message, or the fault
+abbrev pub Ends : List ℕ → Option LinkFault → Type 0
+Ends rest None = front rest ≡ Ok None
+Ends rest (Some fault) = front rest ≡ Err fault
+
+-- the messages are the longest list whose spellings, one after the other, begin the stream; behind them stands the fault, or no
+-- whole message
+pub record IsRead (stream : List ℕ) (messages : List LinkMessage) (fault : Option LinkFault) (rest : List ℕ) : Type 0 where
+  pub all : AllByRecursion IsMessage messages
+  pub parts : stream ≡ flat_map spelling messages ++ rest
+  pub ends : Ends rest fault
+
+-- ---- what a function returned, against the definitions: want of memory may stand in place of any answer
+
+abbrev pub IsFront : {X : Type 0} → (X → LinkMessage × List ℕ) → Result (Option X) LinkFault → Front → Type 0
+IsFront view (Ok None) f = f ≡ Ok None
+IsFront view (Ok (Some x)) f = f ≡ Ok (Some (view x))
+IsFront view (Err faults.Memory) f = Unit {0}
+IsFront view (Err fault) f = f ≡ Err fault
+
+abbrev pub IsBody : Result LinkMessage LinkFault → Option LinkMessage → Type 0
+IsBody (Ok m) o = o ≡ Some m
+IsBody (Err faults.Memory) o = Unit {0}
+IsBody (Err faults.Body) o = o ≡ None
+IsBody (Err fault) o = ⊥

@@ -1,0 +1,81 @@
+//! Why a link is given up, and why a message was not written.
+
+ghost use Rattle.std.specs.Prelude.{◌≡◌};
+ghost use Rattle.gw_net.specs.declared.fault.LinkFault.TheVariants.{Memory};
+ghost use Rattle.gw_net.specs.declared.fault.LinkOutFault.TheVariants.{Memory as OutMemory};
+
+use rep_ops::OpsFault;
+use std::alloc::{AllocError, AllocFailed};
+use thiserror::Error;
+
+/// Why what came over a link is no message, or is not read.
+#[derive(Clone, Copy, Debug, PartialEq, Eq, Error)]
+pub enum LinkFault {
+    /// Fault 1: the body of a message is longer than 8,388,608 octets.
+    #[error("a message of the link is longer than 8388608 octets")]
+    TooLong,
+    /// Fault 2: there is no such kind of message.
+    #[error("a message of the link is of no known kind")]
+    Kind,
+    /// Fault 3: the body is none of its kind.
+    #[error("the body of a message of the link is none of its kind")]
+    Body,
+    /// Fault 4: memory ran out. Nothing was taken.
+    #[error("out of memory")]
+    Memory,
+    /// Fault 5: an earlier piece had a fault.
+    #[error("the link has failed before")]
+    Failed,
+}
+
+impl From<AllocError> for LinkFault {
+    ghost from_gives = { λ _ e. e ≡ Memory };
+
+    fn from(_error: AllocError) -> LinkFault {
+        LinkFault::Memory
+    }
+}
+
+impl<T: Drop> From<AllocFailed<T>> for LinkFault {
+    ghost from_gives = { λ _ e. e ≡ Memory };
+
+    fn from(_error: AllocFailed<T>) -> LinkFault {
+        LinkFault::Memory
+    }
+}
+
+/// Why a message was not written.
+#[derive(Clone, Copy, Debug, PartialEq, Eq, Error)]
+pub enum LinkOutFault {
+    /// A write failed, or took no octet: this many octets of the message went out.
+    #[error("the link took {written} octets of a message")]
+    Write { written: usize },
+    /// Memory ran out. Nothing was written.
+    #[error("out of memory")]
+    Memory,
+}
+
+impl From<AllocError> for LinkOutFault {
+    ghost from_gives = { λ _ e. e ≡ OutMemory };
+
+    fn from(_error: AllocError) -> LinkOutFault {
+        LinkOutFault::Memory
+    }
+}
+
+impl<T: Drop> From<AllocFailed<T>> for LinkOutFault {
+    ghost from_gives = { λ _ e. e ≡ OutMemory };
+
+    fn from(_error: AllocFailed<T>) -> LinkOutFault {
+        LinkOutFault::Memory
+    }
+}
+
+// A digest and a delta are encoded; that is refused for want of memory alone.
+impl From<OpsFault> for LinkOutFault {
+    ghost from_gives = { λ _ e. e ≡ OutMemory };
+
+    fn from(_error: OpsFault) -> LinkOutFault {
+        LinkOutFault::Memory
+    }
+}

@@ -1,0 +1,17 @@
+-- Answers that tell of a failure of the disk.
+use Rattle.std.specs.Prelude.{ℕ, Result, Ok, Err}
+use Rattle.gw_node.specs.declared.out.Out.{Out}
+use Rattle.gw_node.specs.declared.refusal.Refusal.{Refusal}
+use Rattle.gw_node.specs.declared.refusal.Refusal.TheVariants as refusals
+
+-- one, where the answer is that the disk failed
+abbrev pub failed : Result Out Refusal → ℕ
+failed (Ok out) = 0
+failed (Err (refusals.Disk excuse)) = 1
+failed (Err refusals.Halted) = 0
+failed (Err (refusals.Frame fault)) = 0
+failed (Err refusals.Exhausted) = 0
+failed (Err (refusals.Conflict client)) = 0
+failed (Err refusals.Full) = 0
+failed (Err (refusals.Journal fault)) = 0
+failed (Err refusals.Memory) = 0

@@ -1,0 +1,71 @@
+-- The definitions on worked examples.
+use Rattle.std.proofs.Common.{◌≡◌, ◌++◌, [], ◌∷◌, None, Some, refl}
+use Rattle.std.specs.Prelude.{codes, Ok, Err}
+use Rattle.std.specs.Fmt.{digits}
+use Rattle.hex.specs.Hex.{decode_of, decode_pairs, encode_with}
+use Rattle.gw_world.specs.declared.event.Answer.TheVariants as answers
+use Rattle.gw_node.specs.declared.refusal.Refusal.TheVariants as refusals
+use Rattle.gw_node.specs.Parts.{only_sends}
+use Rattle.gw_world.specs.declared.world.WorldFault.TheVariants as world_faults
+use Rattle.sn_frame.specs.declared.fault.FrameFault.TheVariants as frame_faults
+use Rattle.gw_play.specs.Commands.{fields_of}
+use Rattle.gw_play.specs.Numbers.{value_of}
+use Rattle.gw_play.specs.Texts.{line_end}
+use Rattle.gw_play.specs.Printing.{send_line, refusal_text, said_text, put_line, client_text, answers_text, world_fault_line, bad_line_text}
+
+-- a field of leading zeros
+zeros : value_of (codes "0040") ≡ 40
+zeros = refl
+
+-- a space too many makes an empty field
+fields : fields_of (codes "show  1") ≡ codes "show" ∷ [] ∷ codes "1" ∷ []
+fields = refl
+
+-- digits of either case
+letters : decode_of (codes "aF00") ≡ Ok (0xaf ∷ 0 ∷ [])
+unfolding decode_pairs
+letters = refl
+
+-- a CONNACK for port 7
+datagram : send_line (record { to = record { host = 0; port = 7 }; bytes = 3 ∷ 5 ∷ 0 ∷ [] }) ≡ codes "to 7 030500" ++ line_end
+unfolding digits encode_with
+datagram = refl
+
+-- the second delta, and a step that did nothing
+delta : said_text 1 (Ok (record (only_sends []) { made = Some [] })) ≡ codes "delta 2" ++ line_end
+unfolding digits
+delta = refl
+
+nothing : said_text 1 (Ok (only_sends [])) ≡ codes "quiet" ++ line_end
+nothing = refl
+
+-- a CONNECT that came to nothing, since the journal could not be written
+failed : said_text 1 (Err (refusals.Disk (only_sends (record { to = record { host = 0; port = 7 }; bytes = 3 ∷ 5 ∷ 1 ∷ [] } ∷ []))))
+    ≡ codes "to 7 030501" ++ line_end ++ codes "refused N3" ++ line_end
+unfolding digits encode_with
+failed = refl
+
+-- a datagram of no octet
+no_frame : refusal_text (refusals.Frame frame_faults.Empty) ≡ codes "refused N1 F1" ++ line_end
+unfolding digits
+no_frame = refl
+
+-- a message of no octet
+waiting : put_line (record { origin = 2; seq = 1; topic = codes "ab"; qos = 0; body = [] }) ≡ codes "  put 1.2 0 6162 -" ++ line_end
+unfolding digits encode_with
+waiting = refl
+
+-- a client of which no Take came
+unknown : client_text (codes "s1", record { stamp = None; prefix = 0; session = None; pending = [] }) ≡ codes "client 7331 stamp none" ++ line_end
+unfolding digits encode_with
+unknown = refl
+
+-- why a run has no result
+no_gateway : world_fault_line (world_faults.NoGateway 3) ≡ codes "event 3: E1" ++ line_end
+unfolding digits
+no_gateway = refl
+
+-- a script's third line
+third : bad_line_text 3 ≡ codes "line 3: not a command" ++ line_end
+unfolding digits
+third = refl

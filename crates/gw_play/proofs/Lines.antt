@@ -1,0 +1,192 @@
+-- A line is read in one way.
+use Rattle.std.proofs.Common.{◌≡◌, ℕ, cond, List, [], ◌∷◌, Option, Some, None, refl, ap, sym, subst, ◌∙◌, ◌⊎◌, inl, inr, Bor, map, get_or}
+use Rattle.std.specs.Prelude.{Result, Ok, Err, codes}
+use Rattle.std.specs.Str.{bytes_eq}
+use Rattle.gw_play.specs.declared.command.Command.{Command}
+use Rattle.gw_play.specs.declared.command.Word.{Word}
+use Rattle.gw_play.specs.declared.command.Word.TheVariants as words
+use Rattle.gw_play.specs.declared.fault.LineFault.{LineFault}
+use Rattle.gw_play.specs.declared.fault.LineFault.TheVariants as faults
+use Rattle.gw_world.specs.declared.event.Event.TheVariants as events
+use Rattle.gw_play.specs.declared.command.Command.TheVariants as commands
+use Rattle.gw_play.specs.Commands.{fields_of, text_of, IsAddress, Says, Spells, Reads}
+use Rattle.gw_play.specs.Numbers.{IsNumber, value_of}
+use Rattle.gw_play.specs.Octets.{IsHex}
+use Rattle.sn_topic.specs.Topics.{IsName}
+use Rattle.hex.specs.Hex.{decode_of}
+use Rattle.hex.specs.declared.error.FromHexError.TheVariants.{OddLength}
+use Rattle.sn_flow.specs.declared.config.Addr.{Addr}
+
+-- the word of a text
+abbrev word_at : List ℕ → Option Word
+word_at text =
+    cond (bytes_eq text (codes "gateway")) (Some words.Gateway) (
+    cond (bytes_eq text (codes "frame")) (Some words.Frame) (
+    cond (bytes_eq text (codes "tick")) (Some words.Tick) (
+    cond (bytes_eq text (codes "take")) (Some words.Take) (
+    cond (bytes_eq text (codes "predefine")) (Some words.Predefine) (
+    cond (bytes_eq text (codes "answer")) (Some words.Answer) (
+    cond (bytes_eq text (codes "show")) (Some words.Show) None))))))
+
+word_at-text : (word : Word) → word_at (text_of word) ≡ Some word
+word_at-text words.Gateway = refl
+word_at-text words.Predefine = refl
+word_at-text words.Frame = refl
+word_at-text words.Tick = refl
+word_at-text words.Take = refl
+word_at-text words.Answer = refl
+word_at-text words.Show = refl
+
+-- no two words have one text
+pub one_word : (v w : Word) → text_of v ≡ text_of w → v ≡ w
+one_word v w same = let a = word_at-text v in let b = word_at-text w in let e = ap word_at same in cc
+
+-- what the fields behind a line's word say, the line spells
+pub spelled : (line first : List ℕ) (rest : List (List ℕ)) (word : Word) (r : Result Command LineFault)
+    → fields_of line ≡ first ∷ rest → text_of word ≡ first → Reads (Says word rest) r → Reads (Spells line) r
+spelled line first rest word (Ok command) cut named said = (word, rest, cut ∙ ap (λ (text : List ℕ). text ∷ rest) (sym named), said)
+spelled line first rest word (Err faults.NotACommand) cut named none = λ command (v, fields, other, said).
+    let same : text_of v ≡ text_of word = cc in
+    let tails : fields ≡ rest = cc in
+    let P : List (List ℕ) → Type 0 = λ xs. Says word xs command in
+    let Q : Word → Type 0 = λ w. Says w fields command in
+    none command (subst P tails (subst Q (one_word v word same) said))
+spelled line first rest word (Err faults.Memory) cut named h = tt
+
+-- a line whose first field is no word spells nothing
+pub unspelled : (line first : List ℕ) (rest : List (List ℕ)) → fields_of line ≡ first ∷ rest → ((word : Word) → text_of word ≡ first → ⊥)
+    → (command : Command) → Spells line command → ⊥
+unspelled line first rest cut none command (v, fields, other, said) = none v cc
+
+-- where the fourth field writes no octets, the fields say no frame
+pub no_octets : (fields : List (Bor (List ℕ))) (d : Bor (List ℕ)) → ((octets : List ℕ) → IsHex (get_or fields 3 d).now octets → ⊥)
+    → (command : Command) → Says words.Frame (map (λ (field : Bor (List ℕ)). field.now) fields) command → ⊥
+no_octets (a ∷ b ∷ c ∷ octets ∷ []) d none (commands.Happens (events.Frame gateway from bytes now)) said = none bytes said.3
+no_octets (a ∷ b ∷ c ∷ octets ∷ []) d none command said = said
+no_octets fields d none command said = said
+
+-- where the third field writes no octets, or none of a name, the fields say no predefined id
+pub no_name : (fields : List (Bor (List ℕ))) (d : Bor (List ℕ)) → ((octets : List ℕ) → IsHex (get_or fields 2 d).now octets → IsName octets → ⊥)
+    → (command : Command) → Says words.Predefine (map (λ (field : Bor (List ℕ)). field.now) fields) command → ⊥
+no_name (a ∷ b ∷ octets ∷ []) d none (commands.Predefine gateway id name) said = none name said.2 said.3
+no_name (a ∷ b ∷ octets ∷ []) d none command said = said
+no_name fields d none command said = said
+
+-- a text writes one number
+one_number : (bits : ℕ) (a b : List ℕ) (m n : ℕ) → a ≡ b → IsNumber bits a m → IsNumber bits b n → m ≡ n
+one_number bits a b m n same p q = sym p.1 ∙ ap value_of same ∙ q.1
+
+-- and one address
+one_address : (a b : List ℕ) (m n : Addr) → a ≡ b → IsAddress a m → IsAddress b n → m ≡ n
+one_address a b m n same p q =
+    let hosts : m.host ≡ n.host = p.0 ∙ sym q.0 in
+    let ports : m.port ≡ n.port = one_number 16 a b m.port n.port same p.1 q.1 in
+    λ i. record { host = hosts i; port = ports i }
+
+-- and one string of octets
+one_hex : (a b x y : List ℕ) → a ≡ b → IsHex a x → IsHex b y → x ≡ y
+one_hex a b x y same (inl p) (inl q) = p.1 ∙ sym q.1
+one_hex a b x y same (inl p) (inr q) = let e : decode_of b ≡ Err OddLength = ap decode_of (sym same ∙ p.0) in let f = q.1 in cc
+one_hex a b x y same (inr p) (inl q) = let e : decode_of a ≡ Err OddLength = ap decode_of (same ∙ q.0) in let f = p.1 in cc
+one_hex a b x y same (inr p) (inr q) = let e = p.1 in let f = q.1 in let d = ap decode_of same in cc
+
+-- what fields say behind each word
+gateway_says : (fields : List (List ℕ)) (c : Command) → Says words.Gateway fields c
+    → (text : List ℕ) × (g : ℕ) × (fields ≡ text ∷ []) × (c ≡ commands.Gateway g) × IsNumber 8 text g
+gateway_says (text ∷ []) (commands.Gateway g) said = (text, g, refl, refl, said)
+gateway_says fields c said = absurd said
+
+frame_says : (fields : List (List ℕ)) (c : Command) → Says words.Frame fields c
+    → (a b m o : List ℕ) × (g : ℕ) × (from : Addr) × (bytes : List ℕ) × (now : ℕ) × (fields ≡ a ∷ b ∷ m ∷ o ∷ [])
+    × (c ≡ commands.Happens (events.Frame g from bytes now)) × IsNumber 8 a g × IsAddress b from × IsNumber 64 m now × IsHex o bytes
+frame_says (a ∷ b ∷ m ∷ o ∷ []) (commands.Happens (events.Frame g from bytes now)) said =
+    (a, b, m, o, g, from, bytes, now, refl, refl, said.0, said.1, said.2, said.3)
+frame_says fields c said = absurd said
+
+tick_says : (fields : List (List ℕ)) (c : Command) → Says words.Tick fields c
+    → (a b : List ℕ) × (g d : ℕ) × (fields ≡ a ∷ b ∷ []) × (c ≡ commands.Happens (events.Tick g d)) × IsNumber 8 a g × IsNumber 64 b d
+tick_says (a ∷ b ∷ []) (commands.Happens (events.Tick g d)) said = (a, b, g, d, refl, refl, said.0, said.1)
+tick_says fields c said = absurd said
+
+take_says : (fields : List (List ℕ)) (c : Command) → Says words.Take fields c
+    → (a b : List ℕ) × (g d : ℕ) × (fields ≡ a ∷ b ∷ []) × (c ≡ commands.Happens (events.Take g d)) × IsNumber 8 a g × IsNumber 64 b d
+take_says (a ∷ b ∷ []) (commands.Happens (events.Take g d)) said = (a, b, g, d, refl, refl, said.0, said.1)
+take_says fields c said = absurd said
+
+answer_says : (fields : List (List ℕ)) (c : Command) → Says words.Answer fields c
+    → (a b : List ℕ) × (g p : ℕ) × (fields ≡ a ∷ b ∷ []) × (c ≡ commands.Happens (events.Answer g p)) × IsNumber 8 a g × IsNumber 8 b p
+answer_says (a ∷ b ∷ []) (commands.Happens (events.Answer g p)) said = (a, b, g, p, refl, refl, said.0, said.1)
+answer_says fields c said = absurd said
+
+show_says : (fields : List (List ℕ)) (c : Command) → Says words.Show fields c
+    → (text : List ℕ) × (g : ℕ) × (fields ≡ text ∷ []) × (c ≡ commands.Happens (events.Show g)) × IsNumber 8 text g
+show_says (text ∷ []) (commands.Happens (events.Show g)) said = (text, g, refl, refl, said)
+show_says fields c said = absurd said
+
+predefine_says : (fields : List (List ℕ)) (c : Command) → Says words.Predefine fields c
+    → (a b o : List ℕ) × (g i : ℕ) × (name : List ℕ) × (fields ≡ a ∷ b ∷ o ∷ []) × (c ≡ commands.Predefine g i name)
+    × IsNumber 8 a g × IsNumber 16 b i × IsHex o name × IsName name
+predefine_says (a ∷ b ∷ o ∷ []) (commands.Predefine g i name) said = (a, b, o, g, i, name, refl, refl, said.0, said.1, said.2, said.3)
+predefine_says fields c said = absurd said
+
+-- behind a word, fields say one command
+one_saying : (word : Word) (fields : List (List ℕ)) (c d : Command) → Says word fields c → Says word fields d → c ≡ d
+one_saying words.Gateway fields c d p q =
+    let x = gateway_says fields c p in
+    let y = gateway_says fields d q in
+    let e = x.2 in let f = y.2 in let h = x.3 in let k = y.3 in
+    let g : x.1 ≡ y.1 = one_number 8 x.0 y.0 x.1 y.1 (cc) x.4 y.4 in cc
+one_saying words.Frame fields c d p q =
+    let x = frame_says fields c p in
+    let y = frame_says fields d q in
+    let e = x.8 in let f = y.8 in let h = x.9 in let k = y.9 in
+    let g : x.4 ≡ y.4 = one_number 8 x.0 y.0 x.4 y.4 (cc) x.10 y.10 in
+    let from : x.5 ≡ y.5 = one_address x.1 y.1 x.5 y.5 (cc) x.11 y.11 in
+    let now : x.7 ≡ y.7 = one_number 64 x.2 y.2 x.7 y.7 (cc) x.12 y.12 in
+    let bytes : x.6 ≡ y.6 = one_hex x.3 y.3 x.6 y.6 (cc) x.13 y.13 in cc
+one_saying words.Predefine fields c d p q =
+    let x = predefine_says fields c p in
+    let y = predefine_says fields d q in
+    let e = x.6 in let f = y.6 in let h = x.7 in let k = y.7 in
+    let g : x.3 ≡ y.3 = one_number 8 x.0 y.0 x.3 y.3 (cc) x.8 y.8 in
+    let i : x.4 ≡ y.4 = one_number 16 x.1 y.1 x.4 y.4 (cc) x.9 y.9 in
+    let name : x.5 ≡ y.5 = one_hex x.2 y.2 x.5 y.5 (cc) x.10 y.10 in cc
+one_saying words.Tick fields c d p q =
+    let x = tick_says fields c p in
+    let y = tick_says fields d q in
+    let e = x.4 in let f = y.4 in let h = x.5 in let k = y.5 in
+    let g : x.2 ≡ y.2 = one_number 8 x.0 y.0 x.2 y.2 (cc) x.6 y.6 in
+    let now : x.3 ≡ y.3 = one_number 64 x.1 y.1 x.3 y.3 (cc) x.7 y.7 in cc
+one_saying words.Take fields c d p q =
+    let x = take_says fields c p in
+    let y = take_says fields d q in
+    let e = x.4 in let f = y.4 in let h = x.5 in let k = y.5 in
+    let g : x.2 ≡ y.2 = one_number 8 x.0 y.0 x.2 y.2 (cc) x.6 y.6 in
+    let delta : x.3 ≡ y.3 = one_number 64 x.1 y.1 x.3 y.3 (cc) x.7 y.7 in cc
+one_saying words.Answer fields c d p q =
+    let x = answer_says fields c p in
+    let y = answer_says fields d q in
+    let e = x.4 in let f = y.4 in let h = x.5 in let k = y.5 in
+    let g : x.2 ≡ y.2 = one_number 8 x.0 y.0 x.2 y.2 (cc) x.6 y.6 in
+    let peer : x.3 ≡ y.3 = one_number 8 x.1 y.1 x.3 y.3 (cc) x.7 y.7 in cc
+one_saying words.Show fields c d p q =
+    let x = show_says fields c p in
+    let y = show_says fields d q in
+    let e = x.2 in let f = y.2 in let h = x.3 in let k = y.3 in
+    let g : x.1 ≡ y.1 = one_number 8 x.0 y.0 x.1 y.1 (cc) x.4 y.4 in cc
+
+-- a line spells one command
+pub one_meaning : (line : List ℕ) (c d : Command) → Spells line c → Spells line d → c ≡ d
+one_meaning line c d (v, xs, e, p) (w, ys, f, q) =
+    let same : text_of w ≡ text_of v = cc in
+    let tails : ys ≡ xs = cc in
+    let P : List (List ℕ) → Type 0 = λ fields. Says v fields d in
+    let Q : Word → Type 0 = λ word. Says word ys d in
+    one_saying v xs c d p (subst P tails (subst Q (one_word w v same) q))
+
+-- a line that spells a command is read as it, unless memory runs out
+pub read_as : (line : List ℕ) (r : Result Command LineFault) → Reads (Spells line) r → (command : Command) → Spells line command
+    → (r ≡ Ok command) ⊎ (r ≡ Err faults.Memory)
+read_as line (Ok other) reads command spells = inl (ap (λ (c : Command). Ok c) (one_meaning line other command reads spells))
+read_as line (Err faults.NotACommand) reads command spells = absurd (reads command spells)
+read_as line (Err faults.Memory) reads command spells = inr refl

@@ -1,0 +1,145 @@
+-- What answers are printed as. Each line ends with a line feed.
+use Rattle.std.specs.Prelude.{ℕ, ◌+◌, ◌∷◌, ◌++◌, List, [], Option, Some, None, Result, Ok, Err, Bool, true, false, codes, flat_map, length}
+use Rattle.std.specs.Option.{option_to_list}
+use Rattle.std.specs.Fmt.{decimal}
+use Rattle.sn_frame.specs.Faults.{fault_number}
+use Rattle.sn_session.specs.declared.presence.Presence.{Presence}
+use Rattle.sn_session.specs.declared.presence.Presence.TheVariants as presences
+use Rattle.sn_session.specs.declared.session.Session.{Session}
+use Rattle.rep_ops.specs.declared.op.Op.{Op}
+use Rattle.rep_ops.specs.declared.op.Put.{Put}
+use Rattle.rep_ops.specs.declared.op.Stamp.{Stamp}
+use Rattle.rep_model.specs.declared.view.ClientView.{ClientView}
+use Rattle.sn_flow.specs.declared.config.Send.{Send}
+use Rattle.gw_world.specs.declared.event.Answer.{Answer}
+use Rattle.gw_world.specs.declared.event.Answer.TheVariants as answers
+use Rattle.gw_node.specs.declared.out.Out.{Out}
+use Rattle.gw_node.specs.declared.refusal.Refusal.{Refusal}
+use Rattle.gw_node.specs.declared.refusal.Refusal.TheVariants as refusals
+use Rattle.gw_node.specs.Parts.{said}
+use Rattle.gw_world.specs.declared.world.WorldFault.{WorldFault}
+use Rattle.gw_world.specs.declared.world.WorldFault.TheVariants as world_faults
+use Rattle.gw_play.specs.Texts.{◌▹◌, hex_text, line_end}
+use Rattle.gw_play.specs.Sessions.{tables_text}
+
+-- a datagram: its port and its octets
+abbrev pub send_line : Send → List ℕ
+send_line send = codes "to " ▹ decimal send.to.port ▹ codes " " ▹ hex_text send.bytes ▹ line_end
+
+-- a delta that joined the list, by its number
+abbrev pub delta_line : ℕ → List ℕ
+delta_line number = codes "delta " ▹ decimal number ▹ line_end
+
+-- deltas that joined the list, behind so many others
+abbrev pub delta_lines : ℕ → List (List Op) → List ℕ
+delta_lines before [] = []
+delta_lines before (delta ∷ rest) = delta_line (before + 1) ▹ delta_lines (before + 1) rest
+
+-- the deltas by which a step or an answer to a digest made the list longer
+abbrev pub joined : Out → List (List Op)
+joined out = option_to_list out.made ++ out.answer
+
+-- the datagrams and the deltas; nothing of both is quiet
+abbrev pub done_text : List Send → ℕ → List (List Op) → List ℕ
+done_text [] before [] = codes "quiet" ▹ line_end
+done_text sends before deltas = flat_map send_line sends ▹ delta_lines before deltas
+
+-- what a gateway did
+abbrev pub out_text : ℕ → Out → List ℕ
+out_text before out = done_text out.sends before (joined out)
+
+-- a refusal, by its number; what is sent all the same stands before it
+abbrev pub refusal_text : Refusal → List ℕ
+refusal_text (refusals.Frame fault) = codes "refused N1 F" ▹ decimal (fault_number fault) ▹ line_end
+refusal_text refusals.Halted = codes "refused N2" ▹ line_end
+refusal_text (refusals.Disk excuse) = flat_map send_line excuse.sends ▹ codes "refused N3" ▹ line_end
+refusal_text (refusals.Conflict client) = codes "refused N4" ▹ line_end
+refusal_text refusals.Full = codes "refused N5" ▹ line_end
+refusal_text refusals.Exhausted = codes "refused N6" ▹ line_end
+refusal_text refusals.Memory = codes "refused N7" ▹ line_end
+refusal_text (refusals.Journal fault) = codes "refused N8" ▹ line_end
+
+abbrev pub presence_word : Presence → List ℕ
+presence_word presences.Active = codes "active"
+presence_word presences.Asleep = codes "asleep"
+presence_word presences.Awake = codes "awake"
+presence_word presences.Disconnected = codes "disconnected"
+presence_word presences.Lost = codes "lost"
+
+-- whether the session began clean
+abbrev pub kind_word : Bool → List ℕ
+kind_word true = codes "clean"
+kind_word false = codes "kept"
+
+-- a stamp: epoch and gateway
+abbrev pub stamp_text : Stamp → List ℕ
+stamp_text stamp = decimal stamp.epoch ▹ codes "." ▹ decimal stamp.gateway
+
+-- what stands in the session itself
+abbrev pub session_text : Session → List ℕ
+session_text session =
+    presence_word session.presence ▹ codes " " ▹ kind_word session.clean ▹ codes " " ▹ decimal session.duration ▹ codes " next "
+    ▹ decimal session.next_id
+
+-- what is known of a client
+abbrev pub known_text : Option Stamp → ℕ → Option Session → List ℕ
+known_text (Some stamp) prefix (Some session) =
+    stamp_text stamp ▹ codes " prefix " ▹ decimal prefix ▹ codes " " ▹ session_text session ▹ line_end
+known_text stamp prefix session = codes "none" ▹ line_end
+
+-- a client, by its name
+abbrev pub client_line : List ℕ → ClientView → List ℕ
+client_line client view = codes "client " ▹ hex_text client ▹ codes " stamp " ▹ known_text view.stamp view.prefix view.session
+
+-- a message that waits
+abbrev pub put_line : Put → List ℕ
+put_line put =
+    codes "  put " ▹ decimal put.seq ▹ codes "." ▹ decimal put.origin ▹ codes " " ▹ decimal put.qos ▹ codes " " ▹ hex_text put.topic
+    ▹ codes " " ▹ hex_text put.body ▹ line_end
+
+-- the tables of the client's session, if it has one
+abbrev pub session_lines : Option Stamp → Option Session → List ℕ
+session_lines (Some stamp) (Some session) = tables_text session
+session_lines stamp session = []
+
+-- a client with its session and its messages
+abbrev pub client_text : List ℕ × ClientView → List ℕ
+client_text (client, view) = client_line client view ▹ session_lines view.stamp view.session ▹ flat_map put_line view.pending
+
+-- the clients that a gateway knows
+abbrev pub views_text : List (List ℕ × ClientView) → List ℕ
+views_text [] = codes "empty" ▹ line_end
+views_text (first ∷ rest) = flat_map client_text (first ∷ rest)
+
+-- what a gateway answered, behind so many deltas
+abbrev pub said_text : ℕ → Result Out Refusal → List ℕ
+said_text before (Ok out) = out_text before out
+said_text before (Err refusal) = refusal_text refusal
+
+abbrev pub answer_text : ℕ → Answer → List ℕ
+answer_text before (answers.Node answer) = said_text before (said answer)
+answer_text before (answers.Views views) = views_text views
+
+-- how many deltas there are behind it
+abbrev pub deltas_behind : ℕ → Result Out Refusal → ℕ
+deltas_behind before (Ok out) = before + length (joined out)
+deltas_behind before (Err refusal) = before
+
+abbrev pub deltas_after : ℕ → Answer → ℕ
+deltas_after before (answers.Node answer) = deltas_behind before (said answer)
+deltas_after before (answers.Views views) = before
+
+-- answers in their order
+abbrev pub answers_text : ℕ → List Answer → List ℕ
+answers_text before [] = []
+answers_text before (answer ∷ rest) = answer_text before answer ▹ answers_text (deltas_after before answer) rest
+
+-- why a run has no result
+abbrev pub world_fault_line : WorldFault → List ℕ
+world_fault_line (world_faults.NoGateway event) = codes "event " ▹ decimal event ▹ codes ": E1" ▹ line_end
+world_fault_line (world_faults.NoDelta event) = codes "event " ▹ decimal event ▹ codes ": E2" ▹ line_end
+world_fault_line world_faults.Memory = codes "E3" ▹ line_end
+
+-- a script whose line of this number is bad
+abbrev pub bad_line_text : ℕ → List ℕ
+bad_line_text number = codes "line " ▹ decimal number ▹ codes ": not a command" ▹ line_end

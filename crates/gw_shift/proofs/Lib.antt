@@ -1,0 +1,5 @@
+pub mod Histories
+pub mod Holding
+pub mod Handing
+pub mod Counting
+pub mod Strangers

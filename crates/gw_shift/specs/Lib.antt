@@ -1,0 +1,5 @@
+pub mod Calls
+pub mod Legal
+pub mod Passes
+pub mod Calling
+pub mod Closing

@@ -1,0 +1,132 @@
+//! Whether passes hold the calls of a history.
+
+ghost use Rattle.std.specs.Prelude.{◌≡◌, ◌↔◌, ◌≤◌, ◌-◌, IsTrue, MatchOption, slice_get, length};
+ghost use Rattle.rep_ops.specs.declared.op.Op.{Op};
+ghost use Rattle.gw_shift.specs.Closing.{StandsIn, has_number, is_held, AreOwn, AreKnown, HaveOpening, IsStrangeIn, IsStrange, taken_by};
+
+use super::entry::{Entry, HeldCall};
+use super::pass::Pass;
+use gw_node::{same_answer, same_deltas, same_step};
+use rep_ops::Delta;
+
+/// Whether the passes were made for this opening.
+pub(crate) fn have_opening(opening: &[Delta], passes: &[Pass]) -> bool
+    ensures { IsTrue result ↔ HaveOpening opening.now passes.now }
+{
+    let mut left = passes;
+    'passes: while let Some((pass, rest)) = left.split_first() {
+        if !same_deltas(pass.opening.as_slice(), opening) {
+            return false;
+        }
+        left = rest;
+    }
+    true
+}
+
+/// Whether a call of this number is among these.
+fn has(number: u64, calls: &[HeldCall]) -> bool
+    ensures { result ≡ has_number number calls.now }
+{
+    let mut left = calls;
+    'calls: while let Some((held, rest)) = left.split_first() {
+        if held.number == number {
+            return true;
+        }
+        left = rest;
+    }
+    false
+}
+
+/// Whether a pass holds a call of this number.
+fn holds(number: u64, passes: &[Pass]) -> bool
+    ensures { result ≡ is_held number passes.now }
+{
+    let mut left = passes;
+    'passes: while let Some((pass, rest)) = left.split_first() {
+        if has(number, pass.calls.as_slice()) {
+            return true;
+        }
+        left = rest;
+    }
+    false
+}
+
+/// Whether an entry is this call of that pass.
+fn is_same(entry: &Entry, place: u64, held: &HeldCall) -> bool
+    ensures { IsTrue result ↔ (entry.now ≡ record { place = place; step = held.now.step; answer = held.now.answer }) }
+{
+    entry.place == place
+        && same_step(&entry.step, &held.step)
+        && same_answer(&entry.answer, &held.answer)
+}
+
+/// Whether the history has the call at its number.
+fn stands_in(history: &[Entry], place: u64, held: &HeldCall) -> bool
+    ensures { IsTrue result ↔ StandsIn history.now place held.now }
+{
+    if held.number == 0 {
+        return false;
+    }
+    match history.get((held.number - 1) as usize) {
+        Some(entry) => is_same(entry, place, held),
+        None => false,
+    }
+}
+
+/// The number of the first call that the history has not so, or that another pass holds.
+fn first_strange_call(
+    history: &[Entry],
+    place: u64,
+    others: &[Pass],
+    calls: &[HeldCall],
+) -> Option<u64>
+    ensures { MatchOption result (AreOwn history.now place others.now calls.now) (IsStrangeIn history.now place others.now calls.now) }
+{
+    let mut left = calls;
+    'calls: while let Some((held, rest)) = left.split_first() {
+        if !stands_in(history, place, held) || holds(held.number, others) {
+            return Some(held.number);
+        }
+        left = rest;
+    }
+    None
+}
+
+/// The same of several passes.
+pub(crate) fn first_stranger(history: &[Entry], passes: &[Pass]) -> Option<u64>
+    ensures { MatchOption result (AreKnown history.now passes.now) (IsStrange history.now passes.now) }
+{
+    let mut left = passes;
+    'passes: while let Some((pass, rest)) = left.split_first() {
+        if let Some(number) = first_strange_call(history, pass.place, rest, pass.calls.as_slice()) {
+            return Some(number);
+        }
+        left = rest;
+    }
+    None
+}
+
+/// How many calls the passes hold.
+fn count(passes: &[Pass]) -> u64
+    requires { taken_by passes.now ≤ 4096 }
+    ensures { result ≡ taken_by passes.now }
+{
+    let mut total = 0;
+    let mut left = passes;
+    'passes: while let Some((pass, rest)) = left.split_first() {
+        total += pass.calls.len() as u64;
+        left = rest;
+    }
+    total
+}
+
+/// How many calls the passes hold of a history.
+#[tactic(auto, using(crate::proofs::Counting::no_more))]
+pub(crate) fn taken(history: &[Entry], passes: &[Pass]) -> u64
+    requires few { length history.now ≤ 4096 }
+    requires known { AreKnown history.now passes.now }
+    ensures { result ≡ taken_by passes.now }
+{
+    let _history = history;
+    count(passes)
+}

@@ -1,0 +1,122 @@
+//! What is under the lock of a shift.
+
+ghost use Rattle.std.specs.Prelude.{◌≡◌, ◌≤◌, vec_len, vec_capacity};
+ghost use Rattle.std.specs.Arc.{arc_value};
+ghost use Rattle.gw_node.specs.Parts.{state_of};
+ghost use Rattle.gw_shift.specs.Legal.{IsLegal};
+
+use super::ended::Ended;
+use super::entry::Entry;
+use super::fault::CallFault;
+use super::gathering::shares;
+use super::pass::Pass;
+use gw_node::{Answer, Node, Out, Step};
+use jr_journal::Disk;
+use rep_model::Replica;
+use rep_ops::Delta;
+use std::alloc::Global;
+use std::sync::Arc;
+
+/// A node, with what it held when the shift was opened, and the history of its calls since, for which all room was made then.
+#[derive(Drop)]
+pub struct Locked<R: Replica, D: Disk> {
+    pub(crate) node: Node<R, D>,
+    pub(crate) opening: Arc<Vec<Delta>>,
+    pub(crate) history: Vec<Entry>,
+    pub(crate) steps: u64,
+    pub ghost most: { vec_len history ≤ steps },
+    pub ghost room: { steps ≤ vec_capacity history },
+    pub ghost few: { steps ≤ 4096 },
+    pub ghost legal: { ∥ IsLegal (arc_value opening).items history.items (state_of R.kept node) ∥₁ },
+}
+
+impl<R: Replica, D: Disk + Drop> Locked<R, D> {
+    ghost use Rattle.std.specs.Prelude.{◌≡◌, ◌≤◌, ◌<◌, ◌+◌, ◌++◌, ◌∷◌, [], ℕ, IfOk, IfErr, vec_len, take, drop};
+    ghost use Rattle.gw_node.specs.Parts.{said};
+    ghost use Rattle.gw_shift.specs.Calls.{Call};
+    ghost use Rattle.gw_shift.specs.Passes.{call, made_after, told_by};
+    ghost use Rattle.gw_shift.specs.Calling.{Entered, NotEntered, IsNotTold};
+
+    /// Makes a call at the node, and enters it. The answer comes back twice.
+    fn make(&mut self, alloc: Global, place: u64, step: Arc<Step>) -> (Answer, Answer)
+        requires room { vec_len self.old.history < self.old.steps }
+        ensures history { self.new.history.items ≡ self.old.history.items ++ call place (arc_value step) (said result.0) ∷ [] }
+        ensures second { said result.1 ≡ said result.0 }
+        ensures opening { arc_value self.new.opening ≡ arc_value self.old.opening }
+        ensures steps { self.new.steps ≡ self.old.steps }
+    {
+        let (first, second, third) = self.node.step(alloc, &step);
+        self.history.push_reserved(Entry {
+            place,
+            step,
+            answer: third,
+        });
+        (first, second)
+    }
+
+    /// A call of a pass. The answer comes back twice, with the call's number.
+    pub(crate) fn call(
+        &mut self,
+        alloc: Global,
+        pass: &Pass,
+        step: Arc<Step>,
+    ) -> Result<(Answer, Answer, u64), CallFault>
+        ensures ok { IfOk result (λ r. Entered self.old.history.items pass.now (arc_value step) (said r.0) r.2 self.new.history.items) }
+        ensures second { IfOk result (λ r. said r.1 ≡ said r.0) }
+        ensures err { IfErr result (λ fault. NotEntered self.old.steps self.old.history.items pass.now fault self.new.history.items) }
+        ensures opening { arc_value self.new.opening ≡ arc_value self.old.opening }
+        ensures steps { self.new.steps ≡ self.old.steps }
+    {
+        let had = self.history.len() as u64;
+        if had >= self.steps {
+            return Err(CallFault::ShiftFull);
+        }
+        if had < pass.seen() {
+            return Err(CallFault::Behind { held: had });
+        }
+        let (answer, kept) = self.make(alloc, pass.place, step);
+        Ok((answer, kept, had + 1))
+    }
+
+    /// Shares of what was answered to the calls above a number that made a delta, with the numbers of the calls: the first of
+    /// them, at most so many.
+    pub(crate) fn made_above(
+        &self,
+        alloc: Global,
+        pass: &Pass,
+        number: u64,
+        max: usize,
+    ) -> Result<Vec<(u64, Arc<Out>)>, CallFault>
+        ensures ok { IfOk result (λ all. told_by all.items ≡ take max (made_after number (drop number self.now.history.items))) }
+        ensures err { IfErr result (λ fault. IsNotTold self.now.history.items pass.now fault) }
+    {
+        let had = self.history.len() as u64;
+        if had < pass.seen() {
+            return Err(CallFault::Behind { held: had });
+        }
+        if number >= had {
+            return Ok(Vec::new(alloc));
+        }
+        shares(
+            alloc,
+            &self.history.as_slice()[number as usize..],
+            number,
+            max,
+        )
+    }
+
+    /// The shift is over.
+    pub(crate) fn ended(self) -> Ended<R, D> {
+        let Locked {
+            node,
+            opening,
+            history,
+            steps: _,
+        } = self;
+        Ended {
+            node,
+            opening,
+            history,
+        }
+    }
+}

@@ -1,0 +1,153 @@
+//! A gateway that threads share.
+
+ghost use Rattle.std.specs.Prelude.{◌≡◌, ◌≤◌, ◌<◌, ℕ, IfOk, IfErr, Ok, length, vec_capacity, List, []};
+ghost use Rattle.std.specs.Arc.{arc_value};
+ghost use Rattle.rep_ops.specs.declared.op.Op.{Op};
+ghost use Rattle.rep_model.specs.Held.{IsHeld};
+ghost use Rattle.gw_node.specs.Parts.{state_of};
+ghost use Rattle.gw_shift.specs.Passes.{Climb, fresh};
+ghost use Rattle.gw_shift.specs.Calling.{Made, NotMade, MayNotTell};
+ghost use Rattle.gw_shift.specs.declared.fault.ShiftFault.TheVariants as refusals;
+
+use super::ended::Ended;
+use super::entry::{Entry, HeldCall};
+use super::fault::{CallFault, ShiftFault};
+use super::gathering::copies;
+use super::locked::Locked;
+use super::pass::{Pass, passes_of};
+use gw_node::{Node, Out, Step};
+use jr_journal::Disk;
+use rep_model::Replica;
+use rep_ops::Delta;
+use std::alloc::Global;
+use std::sync::{Arc, Mutex, Wait};
+
+/// A node under a lock, with the history of its calls. Threads share it by reference.
+#[derive(Drop)]
+pub struct Shift<R: Replica, D: Disk> {
+    locked: Mutex<Locked<R, D>>,
+}
+
+/// A locked node with no history yet.
+fn begun<R: Replica, D: Disk>(
+    node: Node<R, D>,
+    opening: Arc<Vec<Delta>>,
+    history: Vec<Entry>,
+    steps: u64,
+) -> Locked<R, D>
+    requires held { IsHeld (state_of R.kept node).kept (arc_value opening).items }
+    requires empty { history.items ≡ [] }
+    requires room { steps ≤ vec_capacity history }
+    requires few { steps ≤ 4096 }
+{
+    Locked {
+        node,
+        opening,
+        history,
+        steps,
+    }
+}
+
+impl<R: Replica, D: Disk + Drop> Shift<R, D> {
+    /// Opens a shift of a gateway, for so many passes and so many calls. What the gateway must keep is the *opening*, of which the
+    /// shift and each pass have a share; the passes hold nothing else. Room for all calls is made here. The only fault is
+    /// `Memory`, with which the gateway comes back as it was.
+    pub fn open(
+        alloc: Global,
+        node: Node<R, D>,
+        passes: usize,
+        steps: u64,
+    ) -> Result<(Shift<R, D>, Vec<Pass>), (Node<R, D>, ShiftFault)>
+        requires some { 0 < passes }
+        requires steps { (0 < steps) × (steps ≤ 4096) }
+        ensures ok { IfOk result (λ r. (opening : List (List Op)) × IsHeld (state_of R.kept node).kept opening × (r.1.items ≡ fresh opening passes)) }
+        ensures err { IfErr result (λ refused. (refused.0 ≡ node) × (refused.1 ≡ refusals.Memory)) }
+    {
+        let Ok(held) = node.held(alloc) else {
+            return Err((node, ShiftFault::Memory));
+        };
+        let Ok(opening) = Arc::new(alloc, held) else {
+            return Err((node, ShiftFault::Memory));
+        };
+        let Ok(all) = passes_of(alloc, &opening, passes) else {
+            return Err((node, ShiftFault::Memory));
+        };
+        let Ok(history) = Vec::with_capacity(alloc, steps as usize) else {
+            return Err((node, ShiftFault::Memory));
+        };
+        let shift = Shift {
+            locked: Mutex::new(begun(node, opening, history, steps)),
+        };
+        Ok((shift, all))
+    }
+
+    /// Makes a call at the gateway, under the lock. The pass comes back and holds the call, its answer and its number in the
+    /// history, where the calls are numbered from 1.
+    ///
+    /// The faults, in the order in which they are looked for: `ShiftFull`, the history has as many calls as the shift was opened
+    /// for; `Behind`, the pass has seen more calls than this history has; `Node`, the gateway refused, and its refusal is a call of
+    /// the history like any other. After the first two nothing was done, nor after `Memory`, which may stand in their place.
+    pub fn call(
+        &self,
+        rt: &impl Wait,
+        alloc: Global,
+        pass: Pass,
+        step: Arc<Step>,
+    ) -> Result<(Pass, Arc<Out>, u64), (Pass, CallFault)>
+        ensures ok { IfOk result (λ r. Made pass (arc_value step) (Ok (arc_value r.1)) r.2 r.0) }
+        ensures err { IfErr result (λ refused. NotMade pass (arc_value step) refused.1 refused.0) }
+    {
+        let mut pass = pass;
+        let Ok(shared) = step.clone() else {
+            return Err((pass, CallFault::Memory));
+        };
+        if pass.calls.reserve(1).is_err() {
+            return Err((pass, CallFault::Memory));
+        }
+        let entered = self.locked.lock(rt).call(alloc, &pass, step);
+        match entered {
+            Err(fault) => Err((pass, fault)),
+            Ok((answer, kept, number)) => {
+                pass.calls.push_reserved(HeldCall {
+                    number,
+                    step: shared,
+                    answer: kept,
+                });
+                pass.last = number;
+                match answer {
+                    Ok(out) => Ok((pass, out, number)),
+                    Err(fault) => Err((pass, CallFault::Node { number, fault })),
+                }
+            }
+        }
+    }
+
+    /// The deltas that the calls above a number made, with the numbers of the calls: the first of them, at most so many. Shares of them
+    /// are taken under the lock, and copies are made outside.
+    ///
+    /// The faults: `Behind`, the pass has seen more calls than this history has; or `Memory`.
+    #[tactic(auto, using(crate::proofs::Handing::taken_climbs, crate::proofs::Handing::taken_few))]
+    pub fn after(
+        &self,
+        rt: &impl Wait,
+        alloc: Global,
+        pass: &Pass,
+        number: u64,
+        max: usize,
+    ) -> Result<Vec<(u64, Delta)>, CallFault>
+        ensures numbers { IfOk result (λ all. Climb number all.items) }
+        ensures most { IfOk result (λ all. length all.items ≤ max) }
+        ensures err { IfErr result (MayNotTell pass.now) }
+    {
+        let found = self.locked.lock(rt).made_above(alloc, pass, number, max);
+        match found {
+            Ok(shares) => copies(alloc, shares.as_slice()),
+            Err(fault) => Err(fault),
+        }
+    }
+
+    /// Ends the shift.
+    pub fn end(self) -> Ended<R, D> {
+        self.locked.into_inner().ended()
+    }
+}

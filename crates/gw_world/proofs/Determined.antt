@@ -1,0 +1,259 @@
+-- What one event does at one gateway is fixed: two steps from the same gateway answer the same and lead to the same.
+use Rattle.std.proofs.Common.{◌≡◌, ◌⊎◌, ℕ, ◌<◌, List, [], ◌∷◌, ◌++◌, length, Option, Some, None, Result, Ok, Err, refl, sym, ap, ◌∙◌, subst, append-nil, arith, inl, inr}
+use Rattle.std.specs.Prelude.{◌≢◌}
+use Rattle.std.proofs.lemmas.Option.{none-some}
+use Rattle.sn_frame.specs.declared.fault.FrameFault.{FrameFault}
+use Rattle.sn_frame.proofs.Refusals.{one_frame, is_refused, one_first_fault}
+use Rattle.rep_ops.specs.declared.op.Op.{Op}
+use Rattle.rep_ops.specs.declared.fault.OpsFault.{OpsFault}
+use Rattle.rep_ops.specs.declared.fault.OpsFault.TheVariants as ops_faults
+use Rattle.rep_ops.specs.Making.{AreApart, IsDeltaOf, IsRefusal}
+use Rattle.rep_ops.specs.Spelling.{spelling, IsWithinLimit}
+use Rattle.rep_model.specs.Limits.{first_passed}
+use Rattle.rep_digest.specs.Digests.{digest}
+use Rattle.rep_digest.specs.Spelling.{IsWithinLimit as IsDigestWithinLimit}
+use Rattle.sn_flow.specs.declared.plan.Plan.{Plan}
+use Rattle.sn_flow.specs.Plans.{seen_of}
+use Rattle.sn_flow.specs.Locals.{after_all}
+use Rattle.sn_deliver.specs.Steps.{step}
+use Rattle.gw_node.specs.declared.out.Out.{Out}
+use Rattle.gw_node.specs.declared.refusal.Refusal.{Refusal}
+use Rattle.gw_node.specs.declared.refusal.Refusal.TheVariants as refusals
+use Rattle.gw_node.specs.Occasions.{Occasion, Datagram, Clock, IsNoFrame}
+use Rattle.gw_node.specs.Parts.{only_sends}
+use Rattle.gw_world.specs.Gateways.{Gateway}
+use Rattle.gw_world.specs.Steps.{IsUnchanged, IsRefused, IsMade, IsCarriedOut, IsPlan, IsTooMuch, HasNoDelta, OwnStep, TakeStep, AnswerStep}
+use Rattle.gw_world.proofs.Splits.{delta-one, answer-one}
+
+-- ---- operations that make a delta
+
+no-delta : IsDeltaOf [] []
+no-delta = record {
+  delta = record { well_made = tt; ascending = tt };
+  same = record { operations_same = λ c name. refl; puts_same = λ c name. refl; acknowledgements_same = λ c name. refl };
+}
+
+-- what has one delta within the limit makes it
+made-refused : (ops d : List Op) (fault : OpsFault) → fault ≢ ops_faults.Memory → AreApart ops → IsDeltaOf ops d → IsWithinLimit d → IsRefusal ops fault → ⊥
+made-refused ops d ops_faults.Kind n apart is within h = h apart.well_made
+made-refused ops d ops_faults.Twice n apart is within h = apart.once h.1
+made-refused ops d ops_faults.Limit n apart is within h =
+    let same : h.1.0 ≡ d = delta-one ops h.1.0 d h.1.1 is in
+    let passed : 8388608 < length (spelling d) = subst (λ (e : List Op). 8388608 < length (spelling e)) same h.1.2 in
+    omega (arith, within, passed)
+made-refused ops d ops_faults.Memory n apart is within h = n refl
+made-refused ops d ops_faults.Truncated n apart is within h = h
+made-refused ops d ops_faults.Version n apart is within h = h
+made-refused ops d ops_faults.Order n apart is within h = h
+made-refused ops d ops_faults.Trailing n apart is within h = h
+
+none-within : IsWithinLimit []
+none-within = omega arith
+
+-- ---- a plan that is carried out
+
+made-one : (ops : List Op) (old : Gateway) (plan : Plan) (d e : Option (List Op)) (new next : Gateway) (made mades : List (List Op))
+    → IsMade ops old plan d new made → IsMade ops old plan e next mades → (d ≡ e) × (new ≡ next) × (made ≡ mades)
+made-one [] old plan None None new next made mades h k = (refl, h.1 ∙ sym k.1, h.0 ∙ sym k.0)
+made-one [] old plan None (Some e) new next made mades h k = absurd k
+made-one [] old plan (Some d) e new next made mades h k = absurd h
+made-one (op ∷ ops) old plan None e new next made mades h k = absurd h
+made-one (op ∷ ops) old plan (Some d) None new next made mades h k = absurd k
+made-one (op ∷ ops) old plan (Some d) (Some e) new next made mades h k =
+    let same : d ≡ e = delta-one (op ∷ ops) d e h.0 k.0 in (
+      ap (λ (x : List Op). Some x) same,
+      h.4 ∙ ap (λ (x : List Op). record old { taken = old.taken ++ x; local = after_all old.local plan.local }) same ∙ sym k.4,
+      h.3 ∙ ap (λ (x : List Op). x ∷ []) same ∙ sym k.3,
+    )
+
+-- a plan that is carried out is not refused, where no limit was passed before
+made-full : (ops : List Op) (old : Gateway) (plan : Plan) (d : Option (List Op)) (new : Gateway) (made : List (List Op)) → first_passed old.taken ≡ None → AreApart ops → IsMade ops old plan d new made
+    → ((delta : List Op) × IsDeltaOf ops delta × IsRefused old.taken delta refusals.Full) ⊎ ((fault : OpsFault) × (fault ≢ ops_faults.Memory) × IsRefusal ops fault) → ⊥
+made-full [] old plan None new made room apart h (inl k) =
+    let same : k.0 ≡ [] = delta-one [] k.0 [] k.1 no-delta in
+    let nothing : old.taken ++ k.0 ≡ old.taken = ap (λ (x : List Op). old.taken ++ x) same ∙ append-nil old.taken in
+    none-some k.2.1.0 (sym room ∙ ap (λ (S : List Op). first_passed S) (sym nothing) ∙ k.2.1.1)
+made-full [] old plan None new made room apart h (inr k) = made-refused [] [] k.0 k.1 apart no-delta none-within k.2
+made-full [] old plan (Some d) new made room apart h k = absurd h
+made-full (op ∷ ops) old plan None new made room apart h k = absurd h
+made-full (op ∷ ops) old plan (Some d) new made room apart h (inl k) =
+    let same : k.0 ≡ d = delta-one (op ∷ ops) k.0 d k.1 h.0 in
+    none-some k.2.1.0 (sym h.2.room ∙ ap (λ (x : List Op). first_passed (old.taken ++ x)) (sym same) ∙ k.2.1.1)
+made-full (op ∷ ops) old plan (Some d) new made room apart h (inr k) = made-refused (op ∷ ops) d k.0 k.1 apart h.0 h.1.limit k.2
+
+made-room : (ops : List Op) (old : Gateway) (plan : Plan) (d : Option (List Op)) (new : Gateway) (made : List (List Op)) → first_passed old.taken ≡ None → IsMade ops old plan d new made → first_passed new.taken ≡ None
+made-room [] old plan None new made room h = ap (λ (g : Gateway). first_passed g.taken) h.1 ∙ room
+made-room [] old plan (Some d) new made room h = absurd h
+made-room (op ∷ ops) old plan None new made room h = absurd h
+made-room (op ∷ ops) old plan (Some d) new made room h = ap (λ (g : Gateway). first_passed g.taken) h.4 ∙ h.2.room
+
+-- ---- plans, and datagrams that are no frames
+
+plan-one : (old : Gateway) (occasion : Occasion) (now : ℕ) (p q : Option Plan) → IsPlan old occasion now p → IsPlan old occasion now q → p ≡ q
+plan-one old (Datagram from bytes) now p q h k =
+    let same : h.0 ≡ k.0 = one_frame bytes h.0 k.0 h.1 k.1 h.2 k.2 in
+    sym h.3 ∙ ap (λ frame. step old.config.gateway old.config.predefined (seen_of old.taken) old.local from frame now) same ∙ k.3
+plan-one old Clock now p q h k = sym h ∙ k
+
+fault-one : (occasion : Occasion) (d e : FrameFault) → IsNoFrame occasion d → IsNoFrame occasion e → d ≡ e
+fault-one (Datagram from bytes) d e h k = one_first_fault bytes d e h.0 k.0
+fault-one Clock d e h k = absurd h
+
+fault-plan : (old : Gateway) (occasion : Occasion) (now : ℕ) (fault : FrameFault) (p : Option Plan) → IsNoFrame occasion fault → IsPlan old occasion now p → ⊥
+fault-plan old (Datagram from bytes) now fault p h k = h.1 (is_refused bytes fault k.0 h.0 k.1 k.2)
+fault-plan old Clock now fault p h k = h
+
+-- ---- a datagram or a tick
+
+-- the answer is no Conflict
+abbrev pub IsAgreed : Result Out Refusal → Type 0
+IsAgreed answer = (client : List ℕ) → answer ≡ Err (refusals.Conflict client) → ⊥
+
+-- two answers, gateways and lists are the same
+abbrev pub Alike : Result Out Refusal → Result Out Refusal → Gateway → Gateway → List (List Op) → List (List Op) → Type 0
+Alike a b new next made mades = (a ≡ b) × (new ≡ next) × (made ≡ mades)
+
+alike-still : (old : Gateway) (a b c : Result Out Refusal) (new next : Gateway) (made mades : List (List Op)) → a ≡ c → b ≡ c → IsUnchanged old new made → IsUnchanged old next mades → Alike a b new next made mades
+alike-still old a b c new next made mades e f u v = (e ∙ sym f, u.same ∙ sym v.same, u.none ∙ sym v.none)
+
+still-room : (old new : Gateway) (made : List (List Op)) → first_passed old.taken ≡ None → IsUnchanged old new made → first_passed new.taken ≡ None
+still-room old new made room u = ap (λ (g : Gateway). first_passed g.taken) u.same ∙ room
+
+-- by the plan, if there is one
+abbrev Planned : Gateway → Option Plan → Result Out Refusal → Gateway → List (List Op) → Type 0
+Planned old None answer new made = (answer ≡ Err refusals.Exhausted) × IsUnchanged old new made
+Planned old (Some plan) answer new made =
+    ((answer ≡ Err refusals.Full) × (IsTooMuch old plan refusals.Full ⊎ HasNoDelta plan) × IsUnchanged old new made)
+    ⊎ ((out : Out) × (answer ≡ Ok out) × IsCarriedOut old plan out new made)
+
+abbrev NotRead : Gateway → Occasion → Result Out Refusal → Gateway → List (List Op) → Type 0
+NotRead old occasion answer new made = (fault : FrameFault) × IsNoFrame occasion fault × (answer ≡ Err (refusals.Frame fault)) × IsUnchanged old new made
+
+abbrev Read : Gateway → Occasion → ℕ → Result Out Refusal → Gateway → List (List Op) → Type 0
+Read old occasion now answer new made = (p : Option Plan) × IsPlan old occasion now p × Planned old p answer new made
+
+own-way : (old : Gateway) (occasion : Occasion) (now : ℕ) (answer : Result Out Refusal) (new : Gateway) (made : List (List Op)) → IsAgreed answer → OwnStep old occasion now answer new made
+    → NotRead old occasion answer new made ⊎ Read old occasion now answer new made
+own-way old occasion now (Ok out) new made agreed h = inr (Some h.0, h.1, inr (out, refl, h.2))
+own-way old occasion now (Err (refusals.Frame fault)) new made agreed h = inl (fault, h.0, refl, h.1)
+own-way old occasion now (Err refusals.Exhausted) new made agreed h = inr (None, h.0, (refl, h.1))
+own-way old occasion now (Err (refusals.Conflict client)) new made agreed h = absurd (agreed client refl)
+own-way old occasion now (Err refusals.Full) new made agreed h = inr (Some h.0, h.1, inl (refl, h.2, h.3))
+own-way old occasion now (Err refusals.Halted) new made agreed h = absurd h
+own-way old occasion now (Err (refusals.Disk excuse)) new made agreed h = absurd h
+own-way old occasion now (Err (refusals.Journal fault)) new made agreed h = absurd h
+own-way old occasion now (Err refusals.Memory) new made agreed h = absurd h
+
+planned-one : (old : Gateway) (p : Option Plan) (a b : Result Out Refusal) (new next : Gateway) (made mades : List (List Op)) → first_passed old.taken ≡ None
+    → Planned old p a new made → Planned old p b next mades → Alike a b new next made mades
+planned-one old None a b new next made mades room h k = alike-still old a b (Err refusals.Exhausted) new next made mades h.0 k.0 h.1 k.1
+planned-one old (Some plan) a b new next made mades room (inl h) (inl k) = alike-still old a b (Err refusals.Full) new next made mades h.0 k.0 h.2 k.2
+planned-one old (Some plan) a b new next made mades room (inl h) (inr k) = absurd (made-full plan.ops old plan k.0.made next mades room k.2.2 k.2.1 h.1)
+planned-one old (Some plan) a b new next made mades room (inr h) (inl k) = absurd (made-full plan.ops old plan h.0.made new made room h.2.2 h.2.1 k.1)
+planned-one old (Some plan) a b new next made mades room (inr h) (inr k) =
+    let m = made-one plan.ops old plan h.0.made k.0.made new next made mades h.2.1 k.2.1 in
+    let same : h.0 ≡ k.0 = h.2.0 ∙ ap (λ (d : Option (List Op)). record (only_sends plan.sends) { made = d }) m.0 ∙ sym k.2.0 in
+    (h.1 ∙ ap (λ (out : Out). Ok out) same ∙ sym k.1, m.1, m.2)
+
+planned-room : (old : Gateway) (p : Option Plan) (a : Result Out Refusal) (new : Gateway) (made : List (List Op)) → first_passed old.taken ≡ None → Planned old p a new made → first_passed new.taken ≡ None
+planned-room old None a new made room h = still-room old new made room h.1
+planned-room old (Some plan) a new made room (inl h) = still-room old new made room h.2
+planned-room old (Some plan) a new made room (inr h) = made-room plan.ops old plan h.0.made new made room h.2.1
+
+ways-one : (old : Gateway) (occasion : Occasion) (now : ℕ) (a b : Result Out Refusal) (new next : Gateway) (made mades : List (List Op)) → first_passed old.taken ≡ None
+    → NotRead old occasion a new made ⊎ Read old occasion now a new made → NotRead old occasion b next mades ⊎ Read old occasion now b next mades → Alike a b new next made mades
+ways-one old occasion now a b new next made mades room (inl h) (inl k) =
+    let same : h.0 ≡ k.0 = fault-one occasion h.0 k.0 h.1 k.1 in
+    alike-still old a b (Err (refusals.Frame k.0)) new next made mades (h.2 ∙ ap (λ (fault : FrameFault). Err (refusals.Frame fault)) same) k.2 h.3 k.3
+ways-one old occasion now a b new next made mades room (inl h) (inr k) = absurd (fault-plan old occasion now h.0 k.0 h.1 k.1)
+ways-one old occasion now a b new next made mades room (inr h) (inl k) = absurd (fault-plan old occasion now k.0 h.0 k.1 h.1)
+ways-one old occasion now a b new next made mades room (inr h) (inr k) =
+    let same : h.0 ≡ k.0 = plan-one old occasion now h.0 k.0 h.1 k.1 in
+    planned-one old k.0 a b new next made mades room (subst (λ (p : Option Plan). Planned old p a new made) same h.2) k.2
+
+ways-room : (old : Gateway) (occasion : Occasion) (now : ℕ) (a : Result Out Refusal) (new : Gateway) (made : List (List Op)) → first_passed old.taken ≡ None
+    → NotRead old occasion a new made ⊎ Read old occasion now a new made → first_passed new.taken ≡ None
+ways-room old occasion now a new made room (inl h) = still-room old new made room h.3
+ways-room old occasion now a new made room (inr h) = planned-room old h.0 a new made room h.2
+
+pub own-one : (old : Gateway) (occasion : Occasion) (now : ℕ) (a b : Result Out Refusal) (new next : Gateway) (made mades : List (List Op)) → first_passed old.taken ≡ None → IsAgreed a → IsAgreed b
+    → OwnStep old occasion now a new made → OwnStep old occasion now b next mades → Alike a b new next made mades
+own-one old occasion now a b new next made mades room f g h k =
+    ways-one old occasion now a b new next made mades room (own-way old occasion now a new made f h) (own-way old occasion now b next mades g k)
+
+pub own-room : (old : Gateway) (occasion : Occasion) (now : ℕ) (a : Result Out Refusal) (new : Gateway) (made : List (List Op)) → first_passed old.taken ≡ None → IsAgreed a
+    → OwnStep old occasion now a new made → first_passed new.taken ≡ None
+own-room old occasion now a new made room f h = ways-room old occasion now a new made room (own-way old occasion now a new made f h)
+
+-- ---- a delta
+
+abbrev Refuses : Gateway → List Op → Result Out Refusal → Gateway → List (List Op) → Type 0
+Refuses old delta answer new made = (answer ≡ Err refusals.Full) × IsRefused old.taken delta refusals.Full × IsUnchanged old new made
+
+abbrev Takes : Gateway → List Op → Result Out Refusal → Gateway → List (List Op) → Type 0
+Takes old delta answer new made = (out : Out) × (answer ≡ Ok out) × TakeStep old delta (Ok out) new made
+
+take-way : (old : Gateway) (delta : List Op) (answer : Result Out Refusal) (new : Gateway) (made : List (List Op)) → IsAgreed answer → TakeStep old delta answer new made
+    → Refuses old delta answer new made ⊎ Takes old delta answer new made
+take-way old delta (Ok out) new made agreed h = inr (out, refl, h)
+take-way old delta (Err refusals.Full) new made agreed h = inl (refl, h.0, h.1)
+take-way old delta (Err (refusals.Conflict client)) new made agreed h = absurd (agreed client refl)
+take-way old delta (Err (refusals.Frame fault)) new made agreed h = absurd h.0
+take-way old delta (Err refusals.Exhausted) new made agreed h = absurd h.0
+take-way old delta (Err refusals.Halted) new made agreed h = absurd h.0
+take-way old delta (Err (refusals.Disk excuse)) new made agreed h = absurd h.0
+take-way old delta (Err (refusals.Journal fault)) new made agreed h = absurd h.0
+take-way old delta (Err refusals.Memory) new made agreed h = absurd h.0
+
+takes-one : (old : Gateway) (delta : List Op) (a b : Result Out Refusal) (new next : Gateway) (made mades : List (List Op))
+    → Refuses old delta a new made ⊎ Takes old delta a new made → Refuses old delta b next mades ⊎ Takes old delta b next mades → Alike a b new next made mades
+takes-one old delta a b new next made mades (inl h) (inl k) = alike-still old a b (Err refusals.Full) new next made mades h.0 k.0 h.2 k.2
+takes-one old delta a b new next made mades (inl h) (inr k) = absurd (none-some h.1.1.0 (sym k.2.1.room ∙ h.1.1.1))
+takes-one old delta a b new next made mades (inr h) (inl k) = absurd (none-some k.1.1.0 (sym h.2.1.room ∙ k.1.1.1))
+takes-one old delta a b new next made mades (inr h) (inr k) =
+    (h.1 ∙ ap (λ (out : Out). Ok out) (h.2.0 ∙ sym k.2.0) ∙ sym k.1, h.2.3 ∙ sym k.2.3, h.2.2 ∙ sym k.2.2)
+
+pub take-one : (old : Gateway) (delta : List Op) (a b : Result Out Refusal) (new next : Gateway) (made mades : List (List Op)) → IsAgreed a → IsAgreed b
+    → TakeStep old delta a new made → TakeStep old delta b next mades → Alike a b new next made mades
+take-one old delta a b new next made mades f g h k = takes-one old delta a b new next made mades (take-way old delta a new made f h) (take-way old delta b next mades g k)
+
+takes-room : (old : Gateway) (delta : List Op) (a : Result Out Refusal) (new : Gateway) (made : List (List Op)) → first_passed old.taken ≡ None
+    → Refuses old delta a new made ⊎ Takes old delta a new made → first_passed new.taken ≡ None
+takes-room old delta a new made room (inl h) = still-room old new made room h.2
+takes-room old delta a new made room (inr h) = ap (λ (g : Gateway). first_passed g.taken) h.2.3 ∙ h.2.1.room
+
+pub take-room : (old : Gateway) (delta : List Op) (a : Result Out Refusal) (new : Gateway) (made : List (List Op)) → first_passed old.taken ≡ None → IsAgreed a
+    → TakeStep old delta a new made → first_passed new.taken ≡ None
+take-room old delta a new made room f h = takes-room old delta a new made room (take-way old delta a new made f h)
+
+-- ---- an answer to a digest
+
+abbrev TooLong : Gateway → Result Out Refusal → List (List Op) → Type 0
+TooLong asker answer made = (answer ≡ Err refusals.Full) × (¬ (IsDigestWithinLimit (digest asker.taken))) × (made ≡ [])
+
+abbrev Answered : Gateway → Gateway → Result Out Refusal → List (List Op) → Type 0
+Answered asker peer answer made = (out : Out) × (answer ≡ Ok out) × AnswerStep asker peer (Ok out) made
+
+asked-way : (asker peer : Gateway) (answer : Result Out Refusal) (made : List (List Op)) → AnswerStep asker peer answer made → TooLong asker answer made ⊎ Answered asker peer answer made
+asked-way asker peer (Ok out) made h = inr (out, refl, h)
+asked-way asker peer (Err refusals.Full) made h = inl (refl, h.0, h.1)
+asked-way asker peer (Err (refusals.Conflict client)) made h = absurd h
+asked-way asker peer (Err (refusals.Frame fault)) made h = absurd h
+asked-way asker peer (Err refusals.Exhausted) made h = absurd h
+asked-way asker peer (Err refusals.Halted) made h = absurd h
+asked-way asker peer (Err (refusals.Disk excuse)) made h = absurd h
+asked-way asker peer (Err (refusals.Journal fault)) made h = absurd h
+asked-way asker peer (Err refusals.Memory) made h = absurd h
+
+ways-asked : (asker peer : Gateway) (a b : Result Out Refusal) (made mades : List (List Op))
+    → TooLong asker a made ⊎ Answered asker peer a made → TooLong asker b mades ⊎ Answered asker peer b mades → (a ≡ b) × (made ≡ mades)
+ways-asked asker peer a b made mades (inl h) (inl k) = (h.0 ∙ sym k.0, h.2 ∙ sym k.2)
+ways-asked asker peer a b made mades (inl h) (inr k) = absurd (h.1 k.2.0)
+ways-asked asker peer a b made mades (inr h) (inl k) = absurd (k.1 h.2.0)
+ways-asked asker peer a b made mades (inr h) (inr k) =
+    let same : made ≡ mades = answer-one (digest asker.taken) peer.taken made mades h.2.1 k.2.1 in
+    let out : h.0 ≡ k.0 = h.2.3 ∙ ap (λ (ds : List (List Op)). record (only_sends []) { answer = ds }) same ∙ sym k.2.3 in
+    (h.1 ∙ ap (λ (o : Out). Ok o) out ∙ sym k.1, same)
+
+pub asked-one : (asker peer : Gateway) (a b : Result Out Refusal) (made mades : List (List Op)) → AnswerStep asker peer a made → AnswerStep asker peer b mades → (a ≡ b) × (made ≡ mades)
+asked-one asker peer a b made mades h k = ways-asked asker peer a b made mades (asked-way asker peer a made h) (asked-way asker peer b mades k)

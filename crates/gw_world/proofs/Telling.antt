@@ -1,0 +1,257 @@
+-- What the answers of a run tell of: the deltas that were made, no name in two places; whatever has a name was told of; and the list
+-- is what the answers bring.
+use Rattle.std.proofs.Common.{◌≡◌, ℕ, ◌-◌, ◌⊎◌, List, [], ◌∷◌, ◌++◌, set, slice_get, Some, None, IfSome, Contains, Result, Ok, Err, refl, sym, ap, ◌∙◌, subst, append-nil, append_assoc, inl, inr}
+use Rattle.std.specs.List.{AllByRecursion}
+use Rattle.std.proofs.lemmas.List.Concat.{flat_map-append}
+use Rattle.std.proofs.lemmas.List.Elements.{All-from_recursion, All-contains, Contains-append_left, Contains-append_right}
+use Rattle.std.proofs.lemmas.Option.{none-some, same_Some}
+use Rattle.rep_ops.specs.declared.op.Op.{Op}
+use Rattle.rep_ops.specs.declared.op.Op.TheVariants.{Session as OfSession, Put as OfPut, Ack}
+use Rattle.rep_ops.specs.Deltas.{IsDelta}
+use Rattle.rep_ops.specs.Splitting.{all_of}
+use Rattle.rep_model.proofs.Joins.{all-moved}
+use Rattle.sn_flow.specs.declared.config.Config.{Config}
+use Rattle.sn_flow.proofs.Lists.{all-append}
+use Rattle.gw_world.specs.declared.event.Event.{Event}
+use Rattle.gw_world.specs.declared.event.Event.TheVariants.{Frame, Tick, Take, Answer as Asks, Show}
+use Rattle.gw_world.specs.declared.event.Answer.{Answer}
+use Rattle.gw_world.specs.declared.event.Answer.TheVariants.{Node, Views}
+use Rattle.gw_node.specs.declared.out.Out.{Out}
+use Rattle.gw_node.specs.declared.refusal.Refusal.{Refusal}
+use Rattle.gw_node.specs.Parts.{said}
+use Rattle.gw_node.specs.Occasions.{Occasion, Datagram, Clock}
+use Rattle.gw_world.specs.Gateways.{Gateway}
+use Rattle.gw_world.specs.Field.{Field, new_field, IsAt, changed, After, Run, peer_of}
+use Rattle.gw_world.specs.Steps.{OwnStep, TakeStep, AnswerStep}
+use Rattle.gw_world.specs.Events.{made_of, answered_of}
+use Rattle.gw_world.specs.Whole.{everything, number_of, AreMadeOnce, made_by, MayMake, told, brought_by, brought}
+use Rattle.gw_world.proofs.Alone.{delta-place, contains_at}
+use Rattle.gw_world.proofs.Answering.{answered, answer-told, all-answered}
+use Rattle.gw_world.proofs.Consistency.{FlushField, WholeField, after-sound, start-taken, start-whole}
+use Rattle.gw_world.proofs.Each.{all-at, AllOf, EachOf, each-weaken, each-grown, each-all}
+use Rattle.gw_world.proofs.Numbers.{First, place_of-first, first-number}
+use Rattle.gw_world.proofs.Steadiness.{Still, Stepped, still, own-moves, own-told, start-flush}
+use Rattle.gw_world.proofs.Whole.{AreApart, Made, made-kept, made-stepped}
+
+-- a name was told of as made
+abbrev pub IsTold : List (List Op) → Op → Type 0
+IsTold ts op = IfSome (number_of op) (λ number. Contains (all_of ts) op)
+
+pub record Telling (field : Field) (ts : List (List Op)) : Type 0 where
+  pub once : Made field.gateways ts
+  pub all : EachOf (IsTold ts) field.gateways field.deltas
+
+if_some : (op : Op) (P Q : Op → Type 0) → (P op → Q op) → IfSome (number_of op) (λ number. P op) → IfSome (number_of op) (λ number. Q op)
+if_some (OfSession c s k o) P Q f h = f h
+if_some (OfPut c p) P Q f h = f h
+if_some (Ack c origin first last) P Q f h = tt
+
+always : (op : Op) (P : Op → Type 0) → P op → IfSome (number_of op) (λ number. P op)
+always (OfSession c s k o) P h = h
+always (OfPut c p) P h = h
+always (Ack c origin first last) P h = tt
+
+told-before : (ts made : List (List Op)) (op : Op) → IsTold ts op → IsTold (ts ++ made) op
+told-before ts made op h = if_some op (Contains (all_of ts)) (Contains (all_of (ts ++ made)))
+    (λ there. subst (λ T. Contains T op) (sym (flat_map-append (λ (delta : List Op). delta) ts made)) (Contains-append_left (all_of ts) (all_of made) op there)) h
+
+told-now : (ts made : List (List Op)) (op : Op) → Contains (all_of made) op → IsTold (ts ++ made) op
+told-now ts made op h = always op (Contains (all_of (ts ++ made)))
+    (subst (λ T. Contains T op) (sym (flat_map-append (λ (delta : List Op). delta) ts made)) (Contains-append_right (all_of ts) (all_of made) op h))
+
+-- ---- one event
+
+module _ (field : Field) (ts : List (List Op)) (t : Telling field ts) (i : ℕ) (old next : Gateway) (made : List (List Op)) (is : slice_get field.gateways i ≡ Some old) where
+  before : EachOf (IsTold (ts ++ made)) field.gateways field.deltas
+  before = each-weaken (IsTold ts) (IsTold (ts ++ made)) (told-before ts made) field.gateways field.deltas t.all
+
+  telling-quiet : (more : List Op) → next.config ≡ old.config → next.taken ≡ old.taken ++ more → AllByRecursion (IsTold ts) more → made ≡ [] → Telling (changed field i next made) (ts ++ made)
+  telling-quiet more config taken news none =
+      subst (λ m. Telling (changed field i next m) (ts ++ m)) (sym none)
+      (subst (λ T. Telling (changed field i next []) T) (sym (append-nil ts)) (record {
+        once = made-kept field.gateways i old next more is config taken ts t.once;
+        all = each-grown (IsTold ts) field.gateways field.deltas i old next more [] is taken news tt t.all;
+      }))
+
+  telling-still : Still old next made → Telling (changed field i next made) (ts ++ made)
+  telling-still u = telling-quiet [] u.config (u.taken ∙ sym (append-nil old.taken)) tt u.none
+
+  module _ (n : ℕ) (s : FlushField field) (f : First n field.gateways i) where
+    own : First old.config.gateway field.gateways i
+    own = subst (λ k. First k field.gateways i) (sym (first-number n i field.gateways old f is)) f
+
+    telling-stepped : Stepped old next made → Telling (changed field i next made) (ts ++ made)
+    telling-stepped u =
+        let news : AllByRecursion (IsTold (ts ++ made)) u.delta = all-moved (IsTold (ts ++ made)) u.delta
+        (λ op h. told-now ts made op (subst (λ m. Contains (all_of m) op) (sym u.one) (subst (λ T. Contains T op) (sym (append-nil u.delta)) h))) in record {
+          once = subst (λ m. Made (set field.gateways i next) (ts ++ m)) (sym u.one) (made-stepped field.gateways i old next made is own (s old.config.gateway i old own is) u ts t.once);
+          all = each-grown (IsTold (ts ++ made)) field.gateways field.deltas i old next u.delta made is u.taken news (subst (λ m. AllOf (IsTold (ts ++ made)) m) (sym u.one) (news, tt)) before;
+        }
+
+    telling-moved : Still old next made ⊎ Stepped old next made → Telling (changed field i next made) (ts ++ made)
+    telling-moved (inl u) = telling-still u
+    telling-moved (inr u) = telling-stepped u
+
+-- a step of a gateway's own tells of what it made
+telling-own : (field : Field) (ts : List (List Op)) (t : Telling field ts) (n i : ℕ) (old next : Gateway) (made : List (List Op)) → FlushField field → IsAt field n i old
+    → (occasion : Occasion) (now : ℕ) (answer : Result Out Refusal) → OwnStep old occasion now answer next made → Telling (changed field i next made) (ts ++ made_of answer)
+telling-own field ts t n i old next made s at occasion now answer h =
+    subst (λ m. Telling (changed field i next made) (ts ++ m)) (own-told old occasion now answer next made h)
+    (telling-moved field ts t i old next made at.1 n s (place_of-first n i field.gateways at.0) (own-moves old occasion now answer next made h))
+
+-- a delivery tells of nothing that was made
+take-told : (old next : Gateway) (delta : List Op) (answer : Result Out Refusal) (made : List (List Op)) → TakeStep old delta answer next made → (made ≡ []) × (made_of answer ≡ []) × (answered_of answer ≡ [])
+take-told old next delta (Ok out) made h = (h.2, ap (λ (o : Out). made_of (Ok o)) h.0, ap (λ (o : Out). o.answer) h.0)
+take-told old next delta (Err fault) made h = (h.1.none, refl, refl)
+
+telling-fed : (field : Field) (ts : List (List Op)) (t : Telling field ts) (i : ℕ) (old next : Gateway) (made : List (List Op)) → slice_get field.gateways i ≡ Some old
+    → (k : ℕ) (delta : List Op) (answer : Result Out Refusal) → slice_get field.deltas k ≡ Some delta → TakeStep old delta answer next made → Telling (changed field i next made) (ts ++ made)
+telling-fed field ts t i old next made is k delta (Err fault) there h = telling-still field ts t i old next made is (still old next made h.1)
+telling-fed field ts t i old next made is k delta (Ok out) there h =
+    telling-quiet field ts t i old next made is delta (ap (λ (x : Gateway). x.config) h.3) (ap (λ (x : Gateway). x.taken) h.3)
+    (all-at (λ (D : List Op). AllByRecursion (IsTold ts) D) field.deltas k delta t.all.lists there) h.2
+
+-- nor does an answer to a digest
+telling-asked : (field : Field) (ts : List (List Op)) → Telling field ts → (j : ℕ) (asker peer : Gateway) (answer : Result Out Refusal) (made : List (List Op)) → slice_get field.gateways j ≡ Some peer → AnswerStep asker peer answer made → Telling (record field { deltas = field.deltas ++ made }) ts
+telling-asked field ts t j asker peer answer made there h = record {
+  once = t.once;
+  all = record {
+    sets = t.all.sets;
+    lists = all-append (λ (D : List Op). AllByRecursion (IsTold ts) D) field.deltas made t.all.lists (all-answered (IsTold ts) (λ c origin first last. tt) peer.taken made (answered asker peer answer made h) (t.all.sets j peer there));
+  };
+}
+
+quiet : (field : Field) (ts none : List (List Op)) → none ≡ [] → Telling field ts → Telling field (ts ++ none)
+quiet field ts none e t = subst (λ m. Telling field (ts ++ m)) (sym e) (subst (Telling field) (sym (append-nil ts)) t)
+
+after-telling : (old : Field) (event : Event) (answer : Answer) (new : Field) (ts : List (List Op)) → After old event answer new → FlushField old → Telling old ts → Telling new (ts ++ made_by answer)
+after-telling old (Frame number from bytes now) (Node answer) new ts h s t =
+    subst (λ (x : Field). Telling x (ts ++ made_of (said answer))) (sym h.6) (telling-own old ts t number h.0 h.1 h.2 h.3 s h.4 (Datagram from bytes) now (said answer) h.5)
+after-telling old (Tick number now) (Node answer) new ts h s t =
+    subst (λ (x : Field). Telling x (ts ++ made_of (said answer))) (sym h.6) (telling-own old ts t number h.0 h.1 h.2 h.3 s h.4 Clock now (said answer) h.5)
+after-telling old (Take number delta) (Node answer) new ts h s t =
+    let none = take-told h.1 h.2 h.4 (said answer) h.3 h.7 in
+    subst (λ (x : Field). Telling x (ts ++ made_of (said answer))) (sym h.8)
+    (subst (λ m. Telling (changed old h.0 h.2 h.3) (ts ++ m)) (none.0 ∙ sym none.1) (telling-fed old ts t h.0 h.1 h.2 h.3 h.5.1 (delta - 1) h.4 (said answer) h.6.1 h.7))
+after-telling old (Asks number peer) (Node answer) new ts h s t =
+    subst (λ (x : Field). Telling x (ts ++ made_of (said answer))) (sym h.8)
+    (quiet (record old { deltas = old.deltas ++ h.4 }) ts (made_of (said answer)) (answer-told h.2 h.3 (said answer) h.4 h.7).0 (telling-asked old ts t h.1 h.2 h.3 (said answer) h.4 h.6.1 h.7))
+after-telling old (Show number) (Views views) new ts h s t = quiet new ts [] refl (subst (λ (x : Field). Telling x ts) (sym h.4) t)
+after-telling old (Frame number from bytes now) (Views views) new ts h s t = absurd h
+after-telling old (Tick number now) (Views views) new ts h s t = absurd h
+after-telling old (Take number delta) (Views views) new ts h s t = absurd h
+after-telling old (Asks number peer) (Views views) new ts h s t = absurd h
+after-telling old (Show number) (Node answer) new ts h s t = absurd h
+
+none-there : (none : List (List Op)) (delta : List Op) → none ≡ [] → Contains none delta → ⊥
+none-there none delta e h = All-contains (λ _. ⊥) [] delta (All-from_recursion (λ _. ⊥) [] tt) (subst (λ ds. Contains ds delta) e h)
+
+-- nothing is made but by a datagram or a tick
+pub after-makes : (old new : Field) (event : Event) (answer : Answer) (delta : List Op) → After old event answer new → Contains (made_by answer) delta → MayMake event
+after-makes old new (Frame number from bytes now) (Node answer) delta h there = tt
+after-makes old new (Tick number now) (Node answer) delta h there = tt
+after-makes old new (Take number at) (Node answer) delta h there = none-there (made_of (said answer)) delta (take-told h.1 h.2 h.4 (said answer) h.3 h.7).1 there
+after-makes old new (Asks number peer) (Node answer) delta h there = none-there (made_of (said answer)) delta (answer-told h.2 h.3 (said answer) h.4 h.7).0 there
+after-makes old new (Show number) (Views views) delta h there = none-there [] delta refl there
+after-makes old new (Frame number from bytes now) (Views views) delta h there = tt
+after-makes old new (Tick number now) (Views views) delta h there = tt
+after-makes old new (Take number at) (Views views) delta h there = absurd h
+after-makes old new (Asks number peer) (Views views) delta h there = absurd h
+after-makes old new (Show number) (Node answer) delta h there = absurd h
+
+-- an event brings these deltas into the list
+own-brought : (old next : Gateway) (occasion : Occasion) (now : ℕ) (answer : Result Out Refusal) (made : List (List Op)) → OwnStep old occasion now answer next made → answered_of answer ≡ []
+own-brought old next occasion now (Ok out) made h = ap (λ (o : Out). o.answer) h.2.0
+own-brought old next occasion now (Err fault) made h = refl
+
+only : {X : Type 0} (xs made none : List X) → made ≡ xs → none ≡ [] → made ≡ xs ++ none
+only xs made none e f = e ∙ sym (append-nil xs) ∙ ap (λ ys. xs ++ ys) (sym f)
+
+after-brought : (old : Field) (event : Event) (answer : Answer) (new : Field) → After old event answer new → new.deltas ≡ old.deltas ++ brought_by answer
+after-brought old (Frame number from bytes now) (Node answer) new h =
+    ap (λ (x : Field). x.deltas) h.6 ∙ ap (λ m. old.deltas ++ m) (only (made_of (said answer)) h.3 (answered_of (said answer)) (own-told h.1 (Datagram from bytes) now (said answer) h.2 h.3 h.5) (own-brought h.1 h.2 (Datagram from bytes) now (said answer) h.3 h.5))
+after-brought old (Tick number now) (Node answer) new h =
+    ap (λ (x : Field). x.deltas) h.6 ∙ ap (λ m. old.deltas ++ m) (only (made_of (said answer)) h.3 (answered_of (said answer)) (own-told h.1 Clock now (said answer) h.2 h.3 h.5) (own-brought h.1 h.2 Clock now (said answer) h.3 h.5))
+after-brought old (Take number delta) (Node answer) new h =
+    let none = take-told h.1 h.2 h.4 (said answer) h.3 h.7 in
+    ap (λ (x : Field). x.deltas) h.8 ∙ ap (λ m. old.deltas ++ m) (only (made_of (said answer)) h.3 (answered_of (said answer)) (none.0 ∙ sym none.1) none.2)
+after-brought old (Asks number peer) (Node answer) new h =
+    let r = answer-told h.2 h.3 (said answer) h.4 h.7 in
+    ap (λ (x : Field). x.deltas) h.8 ∙ ap (λ m. old.deltas ++ m) (r.1 ∙ ap (λ xs. xs ++ answered_of (said answer)) (sym r.0))
+after-brought old (Show number) (Views views) new h = ap (λ (x : Field). x.deltas) h.4 ∙ sym (append-nil old.deltas)
+after-brought old (Frame number from bytes now) (Views views) new h = absurd h
+after-brought old (Tick number now) (Views views) new h = absurd h
+after-brought old (Take number delta) (Views views) new h = absurd h
+after-brought old (Asks number peer) (Views views) new h = absurd h
+after-brought old (Show number) (Node answer) new h = absurd h
+
+-- where no digest is sent, it is told of all that it brings
+after-unasked : (old : Field) (event : Event) (answer : Answer) (new : Field) → After old event answer new → peer_of event ≡ None → brought_by answer ≡ made_by answer
+after-unasked old (Frame number from bytes now) (Node answer) new h e = ap (λ m. made_of (said answer) ++ m) (own-brought h.1 h.2 (Datagram from bytes) now (said answer) h.3 h.5) ∙ append-nil (made_of (said answer))
+after-unasked old (Tick number now) (Node answer) new h e = ap (λ m. made_of (said answer) ++ m) (own-brought h.1 h.2 Clock now (said answer) h.3 h.5) ∙ append-nil (made_of (said answer))
+after-unasked old (Take number delta) (Node answer) new h e = ap (λ m. made_of (said answer) ++ m) (take-told h.1 h.2 h.4 (said answer) h.3 h.7).2 ∙ append-nil (made_of (said answer))
+after-unasked old (Asks number peer) (Node answer) new h e = absurd (none-some peer (sym e))
+after-unasked old (Show number) (Views views) new h e = refl
+after-unasked old (Frame number from bytes now) (Views views) new h e = absurd h
+after-unasked old (Tick number now) (Views views) new h e = absurd h
+after-unasked old (Take number delta) (Views views) new h e = absurd h
+after-unasked old (Asks number peer) (Views views) new h e = absurd h
+after-unasked old (Show number) (Node answer) new h e = absurd h
+
+-- ---- a run
+
+run-telling : (old : Field) (events : List Event) (answers : List Answer) (new : Field) (ts : List (List Op)) → Run old events answers new → FlushField old → WholeField old → Telling old ts → Telling new (ts ++ told answers)
+run-telling old [] [] new ts h s w t = subst (λ (x : Field). Telling x (ts ++ [])) (sym h) (subst (Telling old) (sym (append-nil ts)) t)
+run-telling old (event ∷ events) (answer ∷ answers) new ts h s w t =
+    let one = after-sound old event answer h.0 h.1 s w in
+    subst (Telling new) (append_assoc ts (made_by answer) (told answers))
+    (run-telling h.0 events answers new (ts ++ made_by answer) h.2 one.flush one.whole (after-telling old event answer h.0 ts h.1 s t))
+run-telling old [] (answer ∷ answers) new ts h s w t = absurd h
+run-telling old (event ∷ events) [] new ts h s w t = absurd h
+
+pub run-brought : (old : Field) (events : List Event) (answers : List Answer) (new : Field) → Run old events answers new → new.deltas ≡ old.deltas ++ brought answers
+run-brought old [] [] new h = ap (λ (x : Field). x.deltas) h ∙ sym (append-nil old.deltas)
+run-brought old (event ∷ events) (answer ∷ answers) new h =
+    run-brought h.0 events answers new h.2 ∙ ap (λ ds. ds ++ brought answers) (after-brought old event answer h.0 h.1) ∙ append_assoc old.deltas (brought_by answer) (brought answers)
+run-brought old [] (answer ∷ answers) new h = absurd h
+run-brought old (event ∷ events) [] new h = absurd h
+
+run-unasked : (old : Field) (events : List Event) (answers : List Answer) (new : Field) → Run old events answers new → AllByRecursion (λ event. peer_of event ≡ None) events → brought answers ≡ told answers
+run-unasked old [] [] new h e = refl
+run-unasked old (event ∷ events) (answer ∷ answers) new h e =
+    ap (λ ds. ds ++ brought answers) (after-unasked old event answer h.0 h.1 e.0) ∙ ap (λ ds. made_by answer ++ ds) (run-unasked h.0 events answers new h.2 e.1)
+run-unasked old [] (answer ∷ answers) new h e = absurd h
+run-unasked old (event ∷ events) [] new h e = absurd h
+
+start-telling : (configs : List Config) → Telling (new_field configs) []
+start-telling configs = record {
+  once = record { each = tt; apart = λ i j one other a b at there inside within named. absurd (none-some one at); proper = tt };
+  all = record { sets = λ j gateway there. subst (λ T. AllByRecursion (IsTold []) T) (sym (start-taken configs j gateway there)) tt; lists = tt };
+}
+
+field-telling : (configs : List Config) (events : List Event) (answers : List Answer) (field : Field) → Run (new_field configs) events answers field → Telling field (told answers)
+field-telling configs events answers field h = run-telling (new_field configs) events answers field [] h (start-flush configs) (start-whole configs) (start-telling configs)
+
+-- ---- the laws
+
+made-once : (deltas : List (List Op)) → AreApart deltas → AllByRecursion IsDelta deltas → AreMadeOnce deltas
+made-once deltas apart proper i j k l one other a b at there inside within named =
+    let same : i ≡ j = apart i j one other a b at there (contains_at one k a inside) (contains_at other l b within) named in
+    let whole : one ≡ other = same_Some one other (sym at ∙ ap (slice_get deltas) same ∙ there) in
+    (same, delta-place other (all-at IsDelta deltas j other proper there) k l a b (subst (λ D. slice_get D k ≡ Some a) whole inside) within named)
+
+pub field-once : (configs : List Config) (events : List Event) (answers : List Answer) (field : Field) → Run (new_field configs) events answers field → AreMadeOnce (told answers)
+field-once configs events answers field h = let t = field-telling configs events answers field h in made-once (told answers) t.once.apart t.once.proper
+
+pub field-told : (configs : List Config) (events : List Event) (answers : List Answer) (field : Field) (op : Op) → Run (new_field configs) events answers field → Contains (everything field) op → IfSome (number_of op) (λ number. Contains (all_of (told answers)) op)
+field-told configs events answers field op h there =
+    All-contains (IsTold (told answers)) (everything field) op
+    (All-from_recursion (IsTold (told answers)) (everything field) (each-all (IsTold (told answers)) field (field-telling configs events answers field h).all)) there
+
+pub field-brought : (configs : List Config) (events : List Event) (answers : List Answer) (field : Field) → Run (new_field configs) events answers field → field.deltas ≡ brought answers
+field-brought configs events answers field h = run-brought (new_field configs) events answers field h
+
+pub field-unasked : (configs : List Config) (events : List Event) (answers : List Answer) (field : Field) → Run (new_field configs) events answers field → ((event : Event) → Contains events event → peer_of event ≡ None) → AreMadeOnce field.deltas
+field-unasked configs events answers field h f =
+    subst AreMadeOnce (sym (field-brought configs events answers field h ∙ run-unasked (new_field configs) events answers field h (all-moved (λ (event : Event). peer_of event ≡ None) events f)))
+    (field-once configs events answers field h)

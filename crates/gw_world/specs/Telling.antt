@@ -1,0 +1,17 @@
+-- What the answers to events say, whoever has a share of them.
+use Rattle.std.specs.Prelude.{ℕ, List, Result}
+use Rattle.rep_model.specs.declared.view.ClientView.{ClientView}
+use Rattle.gw_node.specs.declared.out.Out.{Out}
+use Rattle.gw_node.specs.declared.refusal.Refusal.{Refusal}
+use Rattle.gw_node.specs.Parts.{said}
+use Rattle.gw_world.specs.declared.event.Answer.{Answer}
+use Rattle.gw_world.specs.declared.event.Answer.TheVariants.{Node, Views}
+
+-- what a gateway sends, makes and answers, or why it refuses; or the clients that it knows, with their views
+pub data Told : Type 0 where
+  Said : Result Out Refusal → Told
+  Shown : List (List ℕ × ClientView) → Told
+
+abbrev pub told : Answer → Told
+told (Node answer) = Said (said answer)
+told (Views views) = Shown views

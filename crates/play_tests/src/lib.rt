@@ -1,0 +1,5 @@
+//! Playing a script whose reading or writing fails.
+#![tactic(auto)]
+
+#[cfg(test)]
+mod failures;

@@ -1,0 +1,243 @@
+-- The reader of digests.
+use Rattle.std.proofs.Common.{◌≡◌, ℕ, ◌+◌, ◌*◌, ◌<◌, ◌≤◌, ◌^◌, true, List, [], ◌∷◌, ◌++◌, length, take, get_or, Ok, refl, ap, arith, leb-true, le-leb, Less, Ordering, Equal, Greater, is_lt}
+use Rattle.std.specs.Prelude.{nat_lt}
+use Rattle.std.specs.List.{list_all, flat_map, AllByRecursion}
+use Rattle.std.proofs.lemmas.Bool.{and_parts, and_from, ltb-true, lt-ltb}
+use Rattle.std.proofs.lemmas.List.{length-append}
+use Rattle.std.proofs.lemmas.List.Folds.{length-flat_map-take}
+use Rattle.rep_ops.specs.Orders.{client_cmp}
+use Rattle.rep_ops.specs.Reading.{AreOctets, follows_last}
+use Rattle.byteorder.specs.Endian.{big_bytes}
+use Rattle.rep_ops.specs.Spelling.{client_octets, max_octets}
+use Rattle.rep_ops.proofs.Listed.{FitsText, Order, whole_takes, whole_again}
+use Rattle.rep_model.specs.Ranges.{AreApartFrom, AreApart}
+use Rattle.rep_model.proofs.Joins.{all-both, all-right}
+use Rattle.rep_digest.specs.declared.entry.OriginEntry.{OriginEntry}
+use Rattle.rep_digest.specs.declared.entry.ClientEntry.{ClientEntry}
+use Rattle.rep_digest.specs.WellMade.{IsRange, IsOrigin, OriginsAscend, IsEntry, ClientsAscend, IsDigest}
+use Rattle.rep_digest.specs.Spelling.{ranges_octets, range_octets, origin_octets, seen_octets, origins_octets, entry_octets, spelling, IsWithinLimit, AreFew, IsWritable}
+use Rattle.rep_digest.specs.Reading.{entry_at, ranges_apart, are_apart, origins_ascend, is_ordered, is_next, may_follow, reading}
+use Rattle.rep_digest.proofs.Entries.{FitsOrigin, FitsEntry, entry_law}
+
+-- ---- the order
+
+apart_behind : (r : ℕ × ℕ) (rest : List (ℕ × ℕ)) → AllByRecursion IsRange rest → ranges_apart (r ∷ rest) ≡ true → AreApartFrom (r.1 + 2) rest
+apart_behind r [] h e = tt
+apart_behind r (s ∷ rest) h e =
+    let w = and_parts (nat_lt (r.1 + 1) s.0) (ranges_apart (s ∷ rest)) e in
+    let far = ltb-true (r.1 + 1) s.0 w.0 in
+    (omega (arith, far), h.0.last, apart_behind s rest h.1 w.1)
+
+apart_from : (rs : List (ℕ × ℕ)) → AllByRecursion IsRange rs → ranges_apart rs ≡ true → AreApart rs
+apart_from [] h e = tt
+apart_from (r ∷ rest) h e = (omega arith, h.0.last, apart_behind r rest h.1 e)
+
+from_apart : (start : ℕ) (rs : List (ℕ × ℕ)) → AreApartFrom start rs → ranges_apart rs ≡ true
+from_apart start [] h = refl
+from_apart start (r ∷ []) h = refl
+from_apart start (r ∷ s ∷ rest) h =
+    let far = h.2.0 in
+    and_from (nat_lt (r.1 + 1) s.0) (ranges_apart (s ∷ rest)) (lt-ltb (r.1 + 1) s.0 (omega (arith, far))) (from_apart (r.1 + 2) (s ∷ rest) h.2)
+
+ascend_from : (os : List OriginEntry) → origins_ascend os ≡ true → OriginsAscend os
+ascend_from [] e = tt
+ascend_from (a ∷ []) e = tt
+ascend_from (a ∷ b ∷ rest) e = let w = and_parts (nat_lt a.origin b.origin) (origins_ascend (b ∷ rest)) e in (ltb-true a.origin b.origin w.0, ascend_from (b ∷ rest) w.1)
+
+from_ascend : (os : List OriginEntry) → OriginsAscend os → origins_ascend os ≡ true
+from_ascend [] h = refl
+from_ascend (a ∷ []) h = refl
+from_ascend (a ∷ b ∷ rest) h = and_from (nat_lt a.origin b.origin) (origins_ascend (b ∷ rest)) (lt-ltb a.origin b.origin h.0) (from_ascend (b ∷ rest) h.1)
+
+-- fewer than two are in order
+pub short_ranges_apart : (rs : List (ℕ × ℕ)) → length rs < 2 → ranges_apart rs ≡ true
+short_ranges_apart [] lt = refl
+short_ranges_apart (r ∷ []) lt = refl
+short_ranges_apart (r ∷ s ∷ rest) lt = absurd (omega (arith, lt))
+
+pub short_origins_ascend : (os : List OriginEntry) → length os < 2 → origins_ascend os ≡ true
+short_origins_ascend [] lt = refl
+short_origins_ascend (a ∷ []) lt = refl
+short_origins_ascend (a ∷ b ∷ rest) lt = absurd (omega (arith, lt))
+
+-- entries that are in order, and clients that ascend
+abbrev Up : List ClientEntry → Type 0
+Up d = AllByRecursion (λ e. is_ordered e ≡ true) d × ClientsAscend d
+
+lt_less : (o : Ordering) → is_lt o ≡ true → o ≡ Less
+lt_less Less e = refl
+lt_less Equal e = absurd cc
+lt_less Greater e = absurd cc
+
+clients_push : (front : List ClientEntry) (e : ClientEntry) → ClientsAscend front → follows_last is_next front e ≡ true → ClientsAscend (front ++ e ∷ [])
+clients_push [] e up t = tt
+clients_push (a ∷ []) e up t = (lt_less (client_cmp a.client e.client) t, tt)
+clients_push (a ∷ b ∷ more) e up t = (up.0, clients_push (b ∷ more) e up.1 t)
+
+clients_from : (front : List ClientEntry) (e : ClientEntry) (new : List ClientEntry) → ClientsAscend (front ++ e ∷ new) → follows_last is_next front e ≡ true
+clients_from [] e new up = refl
+clients_from (a ∷ []) e new up = ap is_lt up.0
+clients_from (a ∷ b ∷ more) e new up = clients_from (b ∷ more) e new up.1
+
+order : Order may_follow Up
+order = record {
+  none = (tt, tt);
+  push = λ front e up t.
+      let w = and_parts (is_ordered e) (follows_last is_next front e) t in
+      (all-both (λ (x : ClientEntry). is_ordered x ≡ true) front (e ∷ []) up.0 (w.0, tt), clients_push front e up.1 w.1);
+  from = λ front e new up. and_from (is_ordered e) (follows_last is_next front e) (all-right (λ (x : ClientEntry). is_ordered x ≡ true) front (e ∷ new) up.0).0 (clients_from front e new up.1);
+}
+
+-- ---- what was read is a digest
+
+an_origin : (o : OriginEntry) → FitsOrigin o → are_apart o ≡ true → IsOrigin o
+an_origin o h e =
+    let w = and_parts (ranges_apart o.acknowledged) (ranges_apart o.waiting) e in
+    record {
+      number = leb-true 1 o.origin h.0.0.1;
+      octet = h.0.0.0;
+      some = h.1;
+      acknowledged = (h.0.1.0.1, apart_from o.acknowledged h.0.1.0.1 w.0);
+      waiting = (h.0.1.1.1, apart_from o.waiting h.0.1.1.1 w.1);
+    }
+
+some_origins : (os : List OriginEntry) → AllByRecursion FitsOrigin os → list_all are_apart os ≡ true → AllByRecursion IsOrigin os
+some_origins [] h e = tt
+some_origins (o ∷ os) h e = let w = and_parts (are_apart o) (list_all are_apart os) e in (an_origin o h.0 w.0, some_origins os h.1 w.1)
+
+an_entry : (e : ClientEntry) → FitsEntry e → is_ordered e ≡ true → IsEntry e
+an_entry e h t =
+    let w = and_parts (list_all are_apart e.origins) (origins_ascend e.origins) t in
+    record { client = h.client; seen = h.seen; origins = some_origins e.origins h.origins.1 w.0; ascend = ascend_from e.origins w.1 }
+
+some_entries : (d : List ClientEntry) → AllByRecursion FitsEntry d → AllByRecursion (λ e. is_ordered e ≡ true) d → AllByRecursion IsEntry d
+some_entries [] h up = tt
+some_entries (e ∷ d) h up = (an_entry e h.0 up.0, some_entries d h.1 up.1)
+
+-- ---- a digest can be read
+
+-- what is said of each part that is no longer than the whole
+module _ {A : Type 0} (text : A → List ℕ) (P : A → Type 0) where
+  each_within : (xs : List A) (n : ℕ) → length (flat_map text xs) ≤ n → ((x : A) → length (text x) ≤ n → P x) → AllByRecursion P xs
+  each_within [] n size h = tt
+  each_within (x ∷ xs) n size h =
+      let sum = length-append (text x) (flat_map text xs) in
+      (h x (omega (arith, sum, size)), each_within xs n (omega (arith, sum, size)) h)
+
+-- a part and what stands before it are no longer than the whole
+pub length_more : {A : Type 0} (text : A → List ℕ) (xs : List A) (i : ℕ) (x : A) → i < length xs → x ≡ get_or xs i x → length (flat_map text (take i xs)) + length (text x) ≤ length (flat_map text xs)
+length_more text xs i x lt e = rw e (length-flat_map-take text xs i x lt)
+
+pub length_each_range : (rs : List (ℕ × ℕ)) → length (flat_map range_octets rs) ≡ 16 * length rs
+length_each_range [] = refl
+length_each_range (r ∷ rs) = let more = length_each_range rs in let sum = length-append (range_octets r) (flat_map range_octets rs) in omega (arith, more, sum)
+
+pub length_entries : (d : List ClientEntry) → length d ≤ length (flat_map entry_octets d)
+length_entries [] = omega arith
+length_entries (e ∷ d) = let more = length_entries d in let sum = length-append (entry_octets e) (flat_map entry_octets d) in omega (arith, more, sum)
+
+abbrev BeginsAt : ℕ → List OriginEntry → Type 0
+BeginsAt start [] = Unit {0}
+BeginsAt start (o ∷ os) = start ≤ o.origin
+
+begins : (o : OriginEntry) (os : List OriginEntry) → OriginsAscend (o ∷ os) → BeginsAt (o.origin + 1) os × OriginsAscend os
+begins o [] up = (tt, tt)
+begins o (p ∷ os) up = (omega (arith, up.0), up.1)
+
+-- at most one origin for each number
+few_origins : (os : List OriginEntry) (start : ℕ) → AllByRecursion IsOrigin os → OriginsAscend os → BeginsAt start os → start ≤ 256 → length os + start ≤ 256
+few_origins [] start h up low le = omega (arith, le)
+few_origins (o ∷ os) start h up low le =
+    let top = h.0.octet in
+    let b = begins o os up in
+    let more = few_origins os (o.origin + 1) h.1 b.1 b.0 (omega (arith, top)) in
+    omega (arith, more, low)
+
+few_ranges : (rs : List (ℕ × ℕ)) (n : ℕ) → length (ranges_octets rs) ≤ n → n ≤ max_octets → length rs < 2 ^ 32
+few_ranges rs n size le =
+    let some = length_each_range rs in
+    let sum = length-append (big_bytes 4 (length rs)) (flat_map range_octets rs) in
+    omega (arith, some, sum, size, le)
+
+fits_origin : (o : OriginEntry) (n : ℕ) → length (origin_octets o) ≤ n → n ≤ max_octets → IsOrigin o → FitsOrigin o
+fits_origin o n size le h =
+    let sum = length-append (ranges_octets o.acknowledged) (ranges_octets o.waiting) in
+    let first : length (ranges_octets o.acknowledged) ≤ n = omega (arith, sum, size) in
+    let second : length (ranges_octets o.waiting) ≤ n = omega (arith, sum, size) in
+    (((h.octet, le-leb 1 o.origin h.number), ((few_ranges o.acknowledged n first le, h.acknowledged.0), (few_ranges o.waiting n second le, h.waiting.0))), h.some)
+
+each_weaker : {A : Type 0} (P Q : A → Type 0) → ((x : A) → P x → Q x) → (xs : List A) → AllByRecursion P xs → AllByRecursion Q xs
+each_weaker P Q f [] h = tt
+each_weaker P Q f (x ∷ xs) h = (f x h.0, each_weaker P Q f xs h.1)
+
+-- what follows from each is there for each
+followed : {A : Type 0} (P Q : A → Type 0) (xs : List A) → AllByRecursion (λ x. P x → Q x) xs → AllByRecursion P xs → AllByRecursion Q xs
+followed P Q [] f h = tt
+followed P Q (x ∷ xs) f h = (f.0 h.0, followed P Q xs f.1 h.1)
+
+first_number : (os : List OriginEntry) → AllByRecursion IsOrigin os → BeginsAt 1 os
+first_number [] h = tt
+first_number (o ∷ os) h = h.0.number
+
+fits_entry : (e : ClientEntry) (n : ℕ) → length (entry_octets e) ≤ n → n ≤ max_octets → IsEntry e → FitsEntry e
+fits_entry e n size le h =
+    let outer = length-append (client_octets e.client) (seen_octets e.stamp e.prefix ++ origins_octets e.origins) in
+    let inner = length-append (seen_octets e.stamp e.prefix) (origins_octets e.origins) in
+    let count = length-append (big_bytes 2 (length e.origins)) (flat_map origin_octets e.origins) in
+    let part : length (flat_map origin_octets e.origins) ≤ n = omega (arith, outer, inner, count, size) in
+    let few = few_origins e.origins 1 h.origins h.ascend (first_number e.origins h.origins) (omega arith) in
+    record {
+      client = h.client;
+      seen = h.seen;
+      origins = (
+        omega (arith, few),
+        followed IsOrigin FitsOrigin e.origins
+            (each_within origin_octets (λ (o : OriginEntry). IsOrigin o → FitsOrigin o) e.origins n part (λ o s. fits_origin o n s le)) h.origins,
+      );
+    }
+
+all_apart : (os : List OriginEntry) → AllByRecursion IsOrigin os → list_all are_apart os ≡ true
+all_apart [] h = refl
+all_apart (o ∷ os) h = and_from (are_apart o) (list_all are_apart os)
+    (and_from (ranges_apart o.acknowledged) (ranges_apart o.waiting) (from_apart 0 o.acknowledged h.0.acknowledged.1) (from_apart 0 o.waiting h.0.waiting.1)) (all_apart os h.1)
+
+ordered : (e : ClientEntry) → IsEntry e → is_ordered e ≡ true
+ordered e h = and_from (list_all are_apart e.origins) (origins_ascend e.origins) (all_apart e.origins h.origins) (from_ascend e.origins h.ascend)
+
+all_ordered : (d : List ClientEntry) → AllByRecursion IsEntry d → AllByRecursion (λ e. is_ordered e ≡ true) d
+all_ordered [] h = tt
+all_ordered (e ∷ d) h = (ordered e h.0, all_ordered d h.1)
+
+pub fits_text : (d : List ClientEntry) → IsDigest d → IsWithinLimit d → FitsText FitsEntry Up d
+fits_text d h size =
+    let some = length_entries d in
+    let sum = length-append (big_bytes 4 (length d)) (flat_map entry_octets d) in
+    let part : length (flat_map entry_octets d) ≤ max_octets = omega (arith, sum, size) in
+    record {
+      few = omega (arith, some, part);
+      fits = followed IsEntry FitsEntry d (each_within entry_octets (λ (e : ClientEntry). IsEntry e → FitsEntry e) d max_octets part (λ e s. fits_entry e max_octets s (omega arith))) h.entries;
+      ascending = (all_ordered d h.entries, h.ascend);
+    }
+
+-- ---- what is written has counts that fit
+
+few_origin : (o : OriginEntry) → FitsOrigin o → AreFew o
+few_origin o h = (h.0.1.0.0, h.0.1.1.0)
+
+a_writable : (e : ClientEntry) → FitsEntry e → IsWritable e
+a_writable e h = record { origins = h.origins.0; ranges = each_weaker FitsOrigin AreFew few_origin e.origins h.origins.1 }
+
+pub writable : (d : List ClientEntry) → IsDigest d → IsWithinLimit d → AllByRecursion IsWritable d
+writable d h size = each_weaker FitsEntry IsWritable a_writable d (fits_text d h size).fits
+
+-- ---- the whole
+
+-- what is read is a digest, written so
+pub read_spelled : (bytes : List ℕ) (d : List ClientEntry) → AreOctets bytes → reading bytes ≡ Ok d → IsDigest d × IsWithinLimit d × (bytes ≡ spelling d)
+read_spelled bytes d octets e =
+    let w = whole_takes entry_at entry_octets FitsEntry entry_law may_follow Up order bytes d octets e in
+    (record { entries = some_entries d w.1.fits w.1.ascending.0; ascend = w.1.ascending.1 }, w.2, w.0)
+
+-- and what is written is read
+pub read_again : (d : List ClientEntry) → IsDigest d → IsWithinLimit d → reading (spelling d) ≡ Ok d
+read_again d h size = whole_again entry_at entry_octets FitsEntry entry_law may_follow Up order d (fits_text d h size) size

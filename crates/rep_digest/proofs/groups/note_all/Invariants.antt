@@ -1,0 +1,7 @@
+use Rattle.std.proofs.Common.{◌≡◌, ◌++◌, List, take}
+use Rattle.rep_ops.specs.declared.op.Op.{Op}
+use Rattle.rep_digest.specs.Steps.{groups}
+use Rattle.rep_digest.proofs.groups.note_all.Given as goal
+
+abbrev pub invariant-loop-op : goal.invariant-loop-op
+invariant-loop-op l = (W : List Op) → l.fn.groups.items ≡ groups l.clients W → l.groups.items ≡ groups l.clients (W ++ take l.op-index l.ops)

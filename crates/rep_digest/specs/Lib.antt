@@ -1,0 +1,6 @@
+pub mod Digests
+pub mod Answers
+pub mod WellMade
+pub mod Spelling
+pub mod Reading
+pub mod Steps

@@ -1,0 +1,75 @@
+-- Reading a digest from left to right, up to the first fault, by the readers of deltas.
+use Rattle.std.specs.Prelude.{ℕ, ◌+◌, ◌==◌, Bool, true, ◌&&◌, if◌then◌else◌, nat_le, nat_lt, List, [], ◌∷◌, Option, Some, None, Result}
+use Rattle.std.specs.Int.{w16, w32, w64}
+use Rattle.std.specs.List.{list_all}
+use Rattle.std.specs.Ordering.{is_lt}
+use Rattle.rep_ops.specs.declared.fault.OpsFault.{OpsFault}
+use Rattle.rep_ops.specs.declared.op.Stamp.{Stamp}
+use Rattle.rep_ops.specs.Orders.{client_cmp}
+use Rattle.rep_ops.specs.Reading.{Reader, both, made, ranged, octet_at, number_at, is_counted, client_at, range_at, counted_by, follows_last, reading_of}
+use Rattle.rep_digest.specs.declared.entry.OriginEntry.{OriginEntry}
+use Rattle.rep_digest.specs.declared.entry.ClientEntry.{ClientEntry}
+use Rattle.rep_digest.specs.Digests.{has_ranges}
+
+-- ---- the parts of an entry
+
+-- how many ranges, and the ranges
+unfoldable pub ranges_at : Reader (List (ℕ × ℕ))
+ranges_at = counted_by (number_at w32) range_at
+
+abbrev pub origin_of : ℕ × (List (ℕ × ℕ) × List (ℕ × ℕ)) → OriginEntry
+origin_of x = record { origin = x.0; acknowledged = x.1.0; waiting = x.1.1 }
+
+-- an origin of which something is said
+unfoldable pub origin_at : Reader OriginEntry
+origin_at = ranged has_ranges (made origin_of (both (ranged is_counted octet_at) (both ranges_at ranges_at)))
+
+-- epoch, gateway and prefix are all 0, or none of them is
+abbrev pub is_seen : ℕ × (ℕ × ℕ) → Bool
+is_seen x = if x.0 == 0 then (x.1.0 == 0) && (x.1.1 == 0) else nat_le 1 x.1.0 && nat_le 1 x.1.1 && nat_le x.1.1 256
+
+abbrev pub stamp_of : ℕ × (ℕ × ℕ) → Option Stamp
+stamp_of x = if x.0 == 0 then None else Some (record { epoch = x.0; gateway = x.1.0 })
+
+unfoldable pub seen_at : Reader (ℕ × (ℕ × ℕ))
+seen_at = ranged is_seen (both (number_at w64) (both octet_at (number_at w16)))
+
+unfoldable pub origins_at : Reader (List OriginEntry)
+origins_at = counted_by (number_at w16) origin_at
+
+abbrev pub entry_of : List ℕ × ((ℕ × (ℕ × ℕ)) × List OriginEntry) → ClientEntry
+entry_of x = record { client = x.0; stamp = stamp_of x.1.0; prefix = x.1.0.1.1; origins = x.1.1 }
+
+unfoldable pub entry_at : Reader ClientEntry
+entry_at = made entry_of (both client_at (both seen_at origins_at))
+
+-- ---- the order, looked at when an entry is whole
+
+-- each range leaves out a number after the one before it
+abbrev pub ranges_apart : List (ℕ × ℕ) → Bool
+ranges_apart [] = true
+ranges_apart (r ∷ []) = true
+ranges_apart (r ∷ s ∷ rest) = nat_lt (r.1 + 1) s.0 && ranges_apart (s ∷ rest)
+
+abbrev pub are_apart : OriginEntry → Bool
+are_apart o = ranges_apart o.acknowledged && ranges_apart o.waiting
+
+-- the test of `OriginsAscend`
+abbrev pub origins_ascend : List OriginEntry → Bool
+origins_ascend [] = true
+origins_ascend (a ∷ []) = true
+origins_ascend (a ∷ b ∷ rest) = nat_lt a.origin b.origin && origins_ascend (b ∷ rest)
+
+abbrev pub is_ordered : ClientEntry → Bool
+is_ordered e = list_all are_apart e.origins && origins_ascend e.origins
+
+abbrev pub is_next : ClientEntry → ClientEntry → Bool
+is_next a b = is_lt (client_cmp a.client b.client)
+
+-- whether the entry is in order, and may stand behind these
+abbrev pub may_follow : List ClientEntry → ClientEntry → Bool
+may_follow entries e = is_ordered e && follows_last is_next entries e
+
+-- what the octets say, or why they are no digest
+abbrev pub reading : List ℕ → Result (List ClientEntry) OpsFault
+reading = reading_of entry_at may_follow

@@ -1,0 +1,53 @@
+-- Which entries make a digest.
+use Rattle.std.specs.Prelude.{◌≡◌, ℕ, ◌≤◌, ◌<◌, ◌^◌, List, [], ◌∷◌, Option, Some, None, IsTrue}
+use Rattle.std.specs.List.{AllByRecursion}
+use Rattle.std.specs.declared.cmp.Ordering.TheVariants.{Less}
+use Rattle.rep_ops.specs.ClientIds.{IsClientId}
+use Rattle.rep_ops.specs.declared.op.Stamp.{Stamp}
+use Rattle.rep_ops.specs.Orders.{client_cmp}
+use Rattle.rep_model.specs.Ranges.{AreApart}
+use Rattle.rep_digest.specs.declared.entry.OriginEntry.{OriginEntry}
+use Rattle.rep_digest.specs.declared.entry.ClientEntry.{ClientEntry}
+use Rattle.rep_digest.specs.Digests.{has_ranges}
+
+-- a range begins at 1 or later, and does not end before it begins; its numbers have 64 bits
+pub record IsRange (r : ℕ × ℕ) : Type 0 where
+  pub first : 1 ≤ r.0
+  pub last : r.0 ≤ r.1
+  pub wide : r.1 < 2 ^ 64
+
+-- an origin 1 to 255 of which something is said, in ranges that are apart
+pub record IsOrigin (o : OriginEntry) : Type 0 where
+  pub number : 1 ≤ o.origin
+  pub octet : o.origin < 2 ^ 8
+  pub some : IsTrue (has_ranges o)
+  pub acknowledged : AllByRecursion IsRange o.acknowledged × AreApart o.acknowledged
+  pub waiting : AllByRecursion IsRange o.waiting × AreApart o.waiting
+
+-- no stamp and no prefix; or a stamp of which 1 to 256 operations are there without a gap
+abbrev pub IsSeen : Option Stamp → ℕ → Type 0
+IsSeen None prefix = prefix ≡ 0
+IsSeen (Some s) prefix = (1 ≤ s.epoch) × (s.epoch < 2 ^ 64) × (1 ≤ s.gateway) × (s.gateway < 2 ^ 8) × (1 ≤ prefix) × (prefix ≤ 256)
+
+-- origins in strictly ascending order
+abbrev pub OriginsAscend : List OriginEntry → Type 0
+OriginsAscend [] = Unit {0}
+OriginsAscend (a ∷ []) = Unit {0}
+OriginsAscend (a ∷ b ∷ rest) = (a.origin < b.origin) × OriginsAscend (b ∷ rest)
+
+pub record IsEntry (e : ClientEntry) : Type 0 where
+  pub client : IsClientId e.client
+  pub seen : IsSeen e.stamp e.prefix
+  pub origins : AllByRecursion IsOrigin e.origins
+  pub ascend : OriginsAscend e.origins
+
+-- clients in strictly ascending order
+abbrev pub ClientsAscend : List ClientEntry → Type 0
+ClientsAscend [] = Unit {0}
+ClientsAscend (a ∷ []) = Unit {0}
+ClientsAscend (a ∷ b ∷ rest) = (client_cmp a.client b.client ≡ Less) × ClientsAscend (b ∷ rest)
+
+-- an entry for each client, in ascending order
+pub record IsDigest (d : List ClientEntry) : Type 0 where
+  pub entries : AllByRecursion IsEntry d
+  pub ascend : ClientsAscend d

@@ -1,0 +1,42 @@
+//! What a digest says of a client.
+
+ghost use Rattle.std.specs.Prelude.{◌≡◌};
+
+use octets::Sequence;
+use rep_ops::{ClientId, Stamp};
+
+/// What a digest says of one origin's messages for a client. Ranges of sequence numbers are in ascending order,
+/// and neither overlap nor touch.
+#[derive(Debug, Drop)]
+pub struct OriginEntry {
+    /// The gateway that made the messages.
+    pub origin: u8,
+    /// The messages that are acknowledged: ranges, first and last.
+    pub acknowledged: Sequence<(u64, u64)>,
+    /// The messages that wait: ranges, first and last.
+    pub waiting: Sequence<(u64, u64)>,
+}
+
+impl OriginEntry {
+    ghost use Rattle.rep_digest.specs.Digests.{has_ranges as ranges_test};
+
+    /// Whether anything is said of the origin.
+    pub fn has_ranges(&self) -> bool
+        ensures { result ≡ ranges_test self.now }
+    {
+        self.acknowledged.len() > 0 || self.waiting.len() > 0
+    }
+}
+
+/// What a digest says of a client.
+#[derive(Debug, Drop)]
+pub struct ClientEntry {
+    /// Whose entry it is.
+    pub client: ClientId,
+    /// The visible stamp.
+    pub stamp: Option<Stamp>,
+    /// How many operations of that stamp are there from 0 on without a gap; at most 256.
+    pub prefix: u16,
+    /// The origins of messages that wait or are acknowledged, ascending.
+    pub origins: Sequence<OriginEntry>,
+}

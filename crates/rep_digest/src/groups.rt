@@ -1,0 +1,124 @@
+//! The acknowledgements of each client.
+
+ghost use Rattle.std.specs.Prelude.{◌≡◌, ◌++◌, ◌∷◌, [], List, length, IfOk, IfErr, OnOk};
+ghost use Rattle.std.specs.List.Sorted.{IsStrictlySortedBy};
+ghost use Rattle.sn_session.specs.Tables.{IsPlace};
+ghost use Rattle.rep_ops.specs.declared.op.Op.{Op};
+ghost use Rattle.rep_ops.specs.declared.op.Op.TheVariants.{Ack as OfAck};
+ghost use Rattle.rep_ops.specs.Orders.{client_cmp};
+ghost use Rattle.rep_ops.specs.Splitting.{all_of};
+ghost use Rattle.rep_digest.specs.Steps.{groups as all_groups};
+
+use octets::Sequence;
+use rep_ops::{ClientId, Delta, Op, OpsFault};
+use std::alloc::Global;
+
+/// The acknowledgements of the messages first to last of an origin.
+#[derive(Clone, Copy, Debug)]
+pub struct Acknowledged {
+    pub origin: u8,
+    pub first: u64,
+    pub last: u64,
+}
+
+/// For each client its acknowledgements in the deltas, in their order.
+pub fn acknowledgements(
+    alloc: Global,
+    clients: &[ClientId],
+    deltas: &[Delta],
+) -> Result<Vec<Sequence<Acknowledged>>, OpsFault>
+    requires { IsStrictlySortedBy client_cmp clients.now }
+    ensures ok { IfOk result (λ groups. groups.items ≡ all_groups clients.now (all_of deltas.now)) }
+    ensures err { IfErr result (λ fault. fault ≡ OpsFault.Memory) }
+{
+    let mut groups = no_groups(alloc, clients)?;
+    for delta in deltas {
+        note_all(&mut groups, clients, delta.ops())?;
+    }
+    Ok(groups)
+}
+
+/// No acknowledgement, for each client.
+fn no_groups(alloc: Global, clients: &[ClientId]) -> Result<Vec<Sequence<Acknowledged>>, OpsFault>
+    ensures ok { IfOk result (λ groups. groups.items ≡ all_groups clients.now []) }
+    ensures err { IfErr result (λ fault. fault ≡ OpsFault.Memory) }
+{
+    let mut groups = Vec::with_capacity(alloc, clients.len())?;
+    for _ in clients {
+        groups.push(Sequence::empty(alloc))?;
+    }
+    Ok(groups)
+}
+
+/// Puts the acknowledgements of each operation behind those of its client.
+fn note_all(
+    groups: &mut Vec<Sequence<Acknowledged>>,
+    clients: &[ClientId],
+    ops: &[Op],
+) -> Result<(), OpsFault>
+    requires { IsStrictlySortedBy client_cmp clients.now }
+    ensures ok { (W : List Op) → groups.old.items ≡ all_groups clients.now W → OnOk result (groups.new.items ≡ all_groups clients.now (W ++ ops.now)) }
+    ensures err { IfErr result (λ fault. fault ≡ OpsFault.Memory) }
+{
+    for op in ops {
+        note(groups, clients, op)?;
+    }
+    Ok(())
+}
+
+/// Puts the acknowledgements of an operation behind those of its client.
+fn note(
+    groups: &mut Vec<Sequence<Acknowledged>>,
+    clients: &[ClientId],
+    op: &Op,
+) -> Result<(), OpsFault>
+    requires { IsStrictlySortedBy client_cmp clients.now }
+    ensures ok { (W : List Op) → groups.old.items ≡ all_groups clients.now W → OnOk result (groups.new.items ≡ all_groups clients.now (W ++ op.now ∷ [])) }
+    ensures err { IfErr result (λ fault. fault ≡ OpsFault.Memory) }
+{
+    match op {
+        Op::Session { .. } => Ok(()),
+        Op::Put { .. } => Ok(()),
+        Op::Ack {
+            client,
+            origin,
+            first,
+            last,
+        } => {
+            let range = Acknowledged {
+                origin: *origin,
+                first: *first,
+                last: *last,
+            };
+            note_range(groups, clients, client, range)
+        }
+    }
+}
+
+/// Puts a range of acknowledgements behind those of its client, if the client is there.
+fn note_range(
+    groups: &mut Vec<Sequence<Acknowledged>>,
+    clients: &[ClientId],
+    client: &ClientId,
+    range: Acknowledged,
+) -> Result<(), OpsFault>
+    requires { IsStrictlySortedBy client_cmp clients.now }
+    ensures ok { (W : List Op) → groups.old.items ≡ all_groups clients.now W → OnOk result (groups.new.items ≡ all_groups clients.now (W ++ OfAck client.now range.origin range.first range.last ∷ [])) }
+    ensures err { IfErr result (λ fault. fault ≡ OpsFault.Memory) }
+{
+    match place(clients, client) {
+        Err(_) => Ok(()),
+        Ok(at) => match groups.get_mut(at) {
+            None => Ok(()),
+            Some(group) => Ok(group.push(range)?),
+        },
+    }
+}
+
+/// Where a client is, or where it would go. The time is logarithmic.
+fn place(clients: &[ClientId], client: &ClientId) -> Result<usize, usize>
+    requires { IsStrictlySortedBy client_cmp clients.now }
+    ensures { IsPlace (λ c. client_cmp c client.now) clients.now result }
+{
+    clients.binary_search(client)
+}

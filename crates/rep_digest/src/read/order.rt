@@ -1,0 +1,84 @@
+//! Whether an entry is in order, and where it may stand.
+
+ghost use Rattle.std.specs.Prelude.{◌≡◌};
+ghost use Rattle.std.specs.List.{list_all};
+ghost use Rattle.rep_digest.specs.Reading.{ranges_apart, are_apart as apart_test, origins_ascend as ascend_test, is_ordered as order_test, may_follow as follow_test};
+
+use crate::entry::{ClientEntry, OriginEntry};
+use std::cmp::Ordering;
+
+/// Whether each range leaves out a number after the one before it.
+fn are_apart(ranges: &[(u64, u64)]) -> bool
+    ensures { result ≡ ranges_apart ranges.now }
+{
+    let mut left = ranges;
+    while let [range, next, ..] = left {
+        if next.0 <= range.1 || next.0 - range.1 < 2 {
+            return false;
+        }
+        left = &left[1..];
+    }
+    true
+}
+
+/// Whether both lists of ranges are in order.
+fn is_apart(origin: &OriginEntry) -> bool
+    ensures { result ≡ apart_test origin.now }
+{
+    are_apart(origin.acknowledged.as_slice()) && are_apart(origin.waiting.as_slice())
+}
+
+/// Whether the origins strictly ascend.
+fn origins_ascend(origins: &[OriginEntry]) -> bool
+    ensures { result ≡ ascend_test origins.now }
+{
+    let mut left = origins;
+    while let [origin, next, ..] = left {
+        if next.origin <= origin.origin {
+            return false;
+        }
+        left = &left[1..];
+    }
+    true
+}
+
+/// Whether the ranges of all origins are in order.
+fn are_all_apart(origins: &[OriginEntry]) -> bool
+    ensures { result ≡ list_all apart_test origins.now }
+{
+    origins.iter().all(|origin| is_apart(origin))
+}
+
+/// Whether an entry may stand behind these.
+pub fn may_follow(entries: &[ClientEntry], entry: &ClientEntry) -> bool
+    ensures { result ≡ follow_test entries.now entry.now }
+{
+    is_ordered(entry) && is_behind(entries, entry)
+}
+
+/// Whether origins and ranges of an entry are in order.
+fn is_ordered(entry: &ClientEntry) -> bool
+    ensures { result ≡ order_test entry.now }
+{
+    are_all_apart(entry.origins.as_slice()) && origins_ascend(entry.origins.as_slice())
+}
+
+ghost use Rattle.rep_ops.specs.Reading.{follows_last};
+ghost use Rattle.rep_digest.specs.Reading.{is_next as next_test};
+
+/// Whether the client comes after those of the entries.
+fn is_behind(entries: &[ClientEntry], entry: &ClientEntry) -> bool
+    ensures { result ≡ follows_last next_test entries.now entry.now }
+{
+    match entries.last() {
+        None => true,
+        Some(last) => is_next(last, entry),
+    }
+}
+
+/// Whether the client of the second comes after that of the first.
+fn is_next(entry: &ClientEntry, next: &ClientEntry) -> bool
+    ensures { result ≡ next_test entry.now next.now }
+{
+    entry.client < next.client
+}

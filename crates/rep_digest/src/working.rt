@@ -1,0 +1,102 @@
+//! The digest of what a replica keeps.
+
+ghost use Rattle.std.specs.Prelude.{◌≡◌, ◌<◌, ◌⊎◌, List, length, map, IfOk, IfErr};
+ghost use Rattle.rep_ops.specs.declared.op.Op.{Op};
+ghost use Rattle.rep_ops.specs.Spelling.{max_octets};
+ghost use Rattle.rep_ops.specs.Splitting.{all_of};
+ghost use Rattle.rep_ops.specs.Values.{AreValues};
+ghost use Rattle.rep_model.specs.Views.{view, unseen as nothing_seen};
+ghost use Rattle.rep_digest.specs.Digests.{digest};
+ghost use Rattle.rep_digest.specs.WellMade.{IsDigest};
+ghost use Rattle.rep_digest.specs.Spelling.{spelling};
+ghost use Rattle.rep_digest.specs.Steps.{group, groups as all_groups, drafted_entry};
+
+use super::digest::Digest;
+use super::draft::entry_of;
+use super::entry::ClientEntry;
+use super::fault::NoMemory;
+use super::groups::{Acknowledged, acknowledgements};
+use super::size::is_within_limit;
+use octets::Sequence;
+use rep_model::{ClientView, Puts, Replica};
+use rep_ops::{ClientId, Delta, OpsFault};
+use std::alloc::Global;
+
+/// The digest of what a replica keeps, which is that of what it has taken.
+///
+/// `Limit` where it would be spelled in more than 8,388,608 octets.
+pub fn digest_of<R: Replica>(alloc: Global, replica: &R) -> Result<Digest, OpsFault>
+    ensures ok { IfOk result (λ made. made ≡ digest (R.kept replica.now)) }
+    ensures fault { IfErr result (λ fault. (fault ≡ OpsFault.Memory) ⊎ ((fault ≡ OpsFault.Limit) × (max_octets < length (spelling (digest (R.kept replica.now)))))) }
+{
+    let entries = worked_out(alloc, replica)?;
+    if !is_within_limit(entries.as_slice()) {
+        return Err(OpsFault::Limit);
+    }
+    Ok(Digest { entries })
+}
+
+/// The entries of the digest, however large.
+fn worked_out<R: Replica>(alloc: Global, replica: &R) -> Result<Vec<ClientEntry>, NoMemory>
+    ensures { IfOk result (λ entries. (entries.items ≡ digest (R.kept replica.now)) × IsDigest entries.items) }
+{
+    let clients = replica.clients(alloc)?;
+    let held = replica.held(alloc)?;
+    are_values(held.as_slice());
+    let groups = acknowledgements(alloc, clients.as_slice(), held.as_slice())?;
+    entries_of(alloc, replica, clients.as_slice(), groups.as_slice())
+}
+
+/// What the types of deltas promise of their operations.
+fn are_values(deltas: &[Delta])
+    ensures { AreValues (all_of deltas.now) }
+{
+    for delta in deltas {
+        let _ops = delta.ops();
+    }
+}
+
+/// The entries of clients, worked out of their views and groups.
+fn entries_of<R: Replica>(
+    alloc: Global,
+    replica: &R,
+    clients: &[ClientId],
+    groups: &[Sequence<Acknowledged>],
+) -> Result<Vec<ClientEntry>, NoMemory>
+    requires { length groups.now ≡ length clients.now }
+    ensures { (W : List Op) → groups.now ≡ all_groups clients.now W
+        → IfOk result (λ entries. entries.items ≡ map (λ c. drafted_entry c (view c (R.kept replica.now)) (group W c)) clients.now) }
+{
+    let mut entries = Vec::with_capacity(alloc, clients.len())?;
+    for i in 0..clients.len() {
+        entries.push(entry_in(alloc, replica, &clients[i], groups[i].as_slice())?)?;
+    }
+    Ok(entries)
+}
+
+/// The entry of a client.
+fn entry_in<R: Replica>(
+    alloc: Global,
+    replica: &R,
+    client: &ClientId,
+    acks: &[Acknowledged],
+) -> Result<ClientEntry, NoMemory>
+    ensures { IfOk result (λ entry. entry ≡ drafted_entry client.now (view client.now (R.kept replica.now)) acks.now) }
+{
+    match replica.view_of(client) {
+        Some(view) => Ok(entry_of(alloc, client, view, acks)?),
+        None => Ok(entry_of(alloc, client, &unseen(alloc), acks)?),
+    }
+}
+
+/// The view of a client that no operation names.
+fn unseen(alloc: Global) -> ClientView
+    ensures { result ≡ nothing_seen }
+{
+    ClientView {
+        stamp: None,
+        prefix: 0,
+        session: None,
+        pending: Puts::new(Vec::new(alloc)),
+    }
+}

@@ -1,0 +1,123 @@
+//! Writing a digest, one function for each type of its spelling.
+
+#![tactic(auto, using(rep_ops::proofs::Writing::keeps_itself, rep_ops::proofs::Writing::keeps_more, rep_ops::proofs::Writing::keeps_through))]
+
+ghost use Rattle.std.specs.Prelude.{◌<◌, ◌^◌, ◌++◌, ◌∷◌, length};
+ghost use Rattle.byteorder.specs.Endian.{big_bytes};
+ghost use Rattle.std.specs.List.{flat_map, AllByRecursion};
+ghost use Rattle.rep_ops.specs.Writing.{Writes};
+ghost use Rattle.rep_digest.specs.WellMade.{IsDigest};
+ghost use Rattle.rep_digest.specs.Spelling.{range_octets, ranges_octets, origin_octets, origins_octets, seen_octets, entry_octets, spelling, IsWithinLimit, AreFew, IsWritable};
+
+use super::entry::{ClientEntry, OriginEntry};
+use octets::{append_u16, append_u32, append_u64};
+use rep_ops::{OpsFault, Stamp, write_client};
+
+/// The version of the format.
+const VERSION: u8 = 1;
+
+/// Writes a range.
+fn write_range(out: &mut Vec<u8>, range: (u64, u64)) -> Result<(), OpsFault>
+    ensures { Writes (range_octets range) out.old.items out.new.items result }
+{
+    append_u64(out, range.0)?;
+    append_u64(out, range.1)?;
+    Ok(())
+}
+
+/// Writes ranges one after the other.
+fn write_each_range(out: &mut Vec<u8>, ranges: &[(u64, u64)]) -> Result<(), OpsFault>
+    ensures { Writes (flat_map range_octets ranges.now) out.old.items out.new.items result }
+{
+    for range in ranges {
+        write_range(out, *range)?;
+    }
+    Ok(())
+}
+
+/// Writes how many ranges there are, and the ranges.
+fn write_ranges(out: &mut Vec<u8>, ranges: &[(u64, u64)]) -> Result<(), OpsFault>
+    requires { length ranges.now < 2 ^ 32 }
+    ensures { Writes (ranges_octets ranges.now) out.old.items out.new.items result }
+{
+    append_u32(out, ranges.len() as u32)?;
+    write_each_range(out, ranges)?;
+    Ok(())
+}
+
+/// Writes an origin.
+fn write_origin(out: &mut Vec<u8>, origin: &OriginEntry) -> Result<(), OpsFault>
+    requires { AreFew origin.now }
+    ensures { Writes (origin_octets origin.now) out.old.items out.new.items result }
+{
+    out.push(origin.origin)?;
+    write_ranges(out, origin.acknowledged.as_slice())?;
+    write_ranges(out, origin.waiting.as_slice())?;
+    Ok(())
+}
+
+/// Writes origins one after the other.
+fn write_each_origin(out: &mut Vec<u8>, origins: &[OriginEntry]) -> Result<(), OpsFault>
+    requires { AllByRecursion AreFew origins.now }
+    ensures { Writes (flat_map origin_octets origins.now) out.old.items out.new.items result }
+{
+    for origin in origins {
+        write_origin(out, origin)?;
+    }
+    Ok(())
+}
+
+/// Writes epoch, gateway and prefix.
+fn write_numbers(out: &mut Vec<u8>, epoch: u64, gateway: u8, prefix: u16) -> Result<(), OpsFault>
+    ensures { Writes (big_bytes 8 epoch ++ gateway ∷ big_bytes 2 prefix) out.old.items out.new.items result }
+{
+    append_u64(out, epoch)?;
+    out.push(gateway)?;
+    append_u16(out, prefix)?;
+    Ok(())
+}
+
+/// Writes the stamp, all 0 where there is none, and the prefix.
+fn write_seen(out: &mut Vec<u8>, stamp: Option<Stamp>, prefix: u16) -> Result<(), OpsFault>
+    ensures { Writes (seen_octets stamp prefix) out.old.items out.new.items result }
+{
+    match stamp {
+        None => write_numbers(out, 0, 0, prefix),
+        Some(stamp) => write_numbers(out, stamp.epoch, stamp.gateway, prefix),
+    }
+}
+
+/// Writes an entry.
+fn write_entry(out: &mut Vec<u8>, entry: &ClientEntry) -> Result<(), OpsFault>
+    requires { IsWritable entry.now }
+    ensures { Writes (entry_octets entry.now) out.old.items out.new.items result }
+{
+    write_client(out, &entry.client)?;
+    write_seen(out, entry.stamp, entry.prefix)?;
+    append_u16(out, entry.origins.len() as u16)?;
+    write_each_origin(out, entry.origins.as_slice())?;
+    Ok(())
+}
+
+/// Writes entries one after the other.
+fn write_entries(out: &mut Vec<u8>, entries: &[ClientEntry]) -> Result<(), OpsFault>
+    requires { AllByRecursion IsWritable entries.now }
+    ensures { Writes (flat_map entry_octets entries.now) out.old.items out.new.items result }
+{
+    for entry in entries {
+        write_entry(out, entry)?;
+    }
+    Ok(())
+}
+
+/// Writes the digest of these entries.
+pub fn write_digest(out: &mut Vec<u8>, entries: &[ClientEntry]) -> Result<(), OpsFault>
+    requires digest { IsDigest entries.now }
+    requires size { IsWithinLimit entries.now }
+    ensures { Writes (spelling entries.now) out.old.items out.new.items result }
+{
+    out.push(VERSION)?;
+    append_u32(out, entries.len() as u32)?;
+    write_entries(out, entries)?;
+    Ok(())
+}

@@ -1,8 +1,0 @@
-use Rattle.std.proofs.Common.{◌≡◌, sym, ◌∙◌}
-use Rattle.rep_plain.proofs.Equal.{subscriptions_told}
-use Rattle.rep_plain.proofs.same.are_same_subscriptions.Goals as goal
-
-pub returns : goal.returns
-returns c =
-    let told = subscriptions_told c.args.a.now c.args.b.now in
-    (λ h. told.0 (sym c.eq.ensures ∙ h), λ e. c.eq.ensures ∙ told.1 e)

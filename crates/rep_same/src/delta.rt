@@ -1,0 +1,99 @@
+//! Whether two operations, two deltas or two lists of deltas are equal.
+
+ghost use Rattle.std.specs.Prelude.{◌≡◌, ◌↔◌, IsTrue};
+
+use super::change::same_change;
+use super::view::same_put;
+use rep_ops::{ClientId, Delta, Op};
+
+/// Whether two clients are one.
+pub fn same_client(a: &ClientId, b: &ClientId) -> bool
+    ensures { IsTrue result ↔ (a.now ≡ b.now) }
+{
+    a == b
+}
+
+/// Whether two operations are equal.
+fn same_op(a: &Op, b: &Op) -> bool
+    ensures { IsTrue result ↔ (a.now ≡ b.now) }
+{
+    match (a, b) {
+        (
+            Op::Session {
+                client,
+                stamp,
+                counter,
+                change,
+            },
+            Op::Session {
+                client: of,
+                stamp: under,
+                counter: at,
+                change: other,
+            },
+        ) => {
+            same_client(client, of) && stamp == under && counter == at && same_change(change, other)
+        }
+        (
+            Op::Put { client, put },
+            Op::Put {
+                client: of,
+                put: other,
+            },
+        ) => { same_client(client, of) && same_put(put, other) }
+        (
+            Op::Ack {
+                client,
+                origin,
+                first,
+                last,
+            },
+            Op::Ack {
+                client: of,
+                origin: by,
+                first: from,
+                last: to,
+            },
+        ) => same_client(client, of) && origin == by && first == from && last == to,
+        _ => false,
+    }
+}
+
+/// Whether two lists of operations are equal.
+fn same_ops(a: &[Op], b: &[Op]) -> bool
+    ensures { IsTrue result ↔ (a.now ≡ b.now) }
+{
+    let mut left = a;
+    let mut right = b;
+    'ops: while let (Some((x, xs)), Some((y, ys))) = (left.split_first(), right.split_first()) {
+        if !same_op(x, y) {
+            return false;
+        }
+        left = xs;
+        right = ys;
+    }
+    left.is_empty() && right.is_empty()
+}
+
+/// Whether two deltas are equal.
+pub fn same_delta(a: &Delta, b: &Delta) -> bool
+    ensures { IsTrue result ↔ (a.now ≡ b.now) }
+{
+    same_ops(a.ops(), b.ops())
+}
+
+/// Whether two lists of deltas are equal.
+pub fn same_deltas(a: &[Delta], b: &[Delta]) -> bool
+    ensures { IsTrue result ↔ (a.now ≡ b.now) }
+{
+    let mut left = a;
+    let mut right = b;
+    'deltas: while let (Some((x, xs)), Some((y, ys))) = (left.split_first(), right.split_first()) {
+        if !same_delta(x, y) {
+            return false;
+        }
+        left = xs;
+        right = ys;
+    }
+    left.is_empty() && right.is_empty()
+}

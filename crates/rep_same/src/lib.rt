@@ -1,0 +1,17 @@
+//! Whether two values of the field are equal: operations, deltas and views.
+//!
+//! No memory is taken. Each function answers true exactly where contracts see one value: whoever owns it, and wherever it
+//! lies. Lists are compared by loops, since a delta may have some hundred thousand operations.
+//!
+//! - `change`: changes of a session, and sessions.
+//! - `delta`: operations and deltas.
+//! - `view`: messages that wait, and views.
+#![tactic(auto)]
+
+mod change;
+mod delta;
+mod view;
+
+pub use change::{same_change, same_session};
+pub use delta::{same_client, same_delta, same_deltas};
+pub use view::{same_put, same_view};
