@@ -36,3 +36,6 @@ pub use fault::{CallFault, CloseFault, ShiftFault};
 pub use laws::strangers_are_not_known;
 pub use pass::Pass;
 pub use shift::Shift;
+
+#[cfg(test)]
+mod tests;
