@@ -53,11 +53,10 @@ fn a_digest_of_one_operation(rt: HostRuntime) -> Result<(), Fail> {
     let digest = digest_of(alloc, &replica(alloc, 0)?)?;
     let mut octets = Vec::new(alloc);
     digest.encode(alloc, &mut octets)?;
-    let (head, rest) = octets.as_slice().split_at(5);
-    assert_eq!(rt; head, [1, 0, 0, 0, 1].as_slice());
-    let (client, seen) = rest.split_at(11);
-    assert_eq!(rt; client, b"\x0asensor-000".as_slice());
-    assert_eq!(rt; seen, [0, 0, 0, 0, 0, 0, 0, 1, 1, 0, 1, 0, 0].as_slice());
+    assert_eq!(rt;
+        octets.as_slice(),
+        b"\x01\x00\x00\x00\x01\x0asensor-000\x00\x00\x00\x00\x00\x00\x00\x01\x01\x00\x01\x00\x00".as_slice()
+    );
     Ok(())
 }
 
