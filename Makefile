@@ -33,6 +33,7 @@ bench:
 	@sh bench/play.sh
 	@sh bench/codecs.sh
 	@sh bench/digests.sh
+	@sh bench/shift.sh
 
 clean:
 	rm -rf crates/*/out

@@ -35,7 +35,7 @@ PARTS = [
      "neither does it whether it gets a set or the answer to its digest.",
      "Nothing here says when gateways exchange what they have, or that every delta arrives.",
      ["rep_model::join_laws", "rep_model::keep_laws", "rep_model::order_laws", "rep_model::consistency", "rep_model::Replica",
-      "rep_digest::answer_completes"],
+      "rep_digest::answer_completes", "set_laws::set_order", "set_laws::set_joins", "set_laws::one_element"],
      []),
     ("A field never contradicts itself",
      "A field is a list of gateways, and of the deltas that they made. Events happen to it one after the other, and `run` gives "
@@ -44,7 +44,7 @@ PARTS = [
      "In these fields no disk fails and no gateway starts again, and `run` may always stop for want of memory. What one step does "
      "is named here and defined in part 4, and what a datagram spells in part 6.",
      ["gw_world::run", "gw_world::steady_field", "gw_world::consistent_field", "gw_world::made_once", "gw_world::settled_field",
-      "gw_world::one_run", "gw_world::answered_field"],
+      "gw_world::one_run", "gw_world::answered_field", "field_laws::own_full", "field_laws::takes_at_zero"],
      []),
     ("The step table",
      "What a gateway does with each frame of MQTT-SN 1.2, and when time goes by: what it sends, what it writes and what it notes. "
@@ -53,7 +53,7 @@ PARTS = [
      "always answer that memory ran out.",
      ["sn_deliver::step", "sn_deliver::tick", "sn_flow::connect", "sn_flow::disconnect", "sn_flow::will_topic", "sn_flow::will_msg",
       "sn_flow::will_topic_update", "sn_flow::will_msg_update", "sn_flow::register", "sn_flow::subscribe", "sn_flow::unsubscribe",
-      "sn_flow::other"],
+      "sn_flow::other", "plan_laws::every_plan"],
      ["sn_deliver/Steps/step", "sn_deliver/Ticking/tick", "sn_flow/Locals/after_all", "sn_flow/Locals/owned"]),
     ("The disk",
      "What a gateway makes or takes is written and synced before it is answered. After every crash its journal gives exactly what "

@@ -202,6 +202,8 @@ pub between_again : (S refused J : List Op) → IsBetween S refused J → IsBetw
 between_again S refused J h =
     record { lower = restart-lower S J h.lower; upper = within-nothing_more J (S ++ J) (restart-upper S J refused h.upper) }
 
+pub counts_back : (S refused J : List Op) → IsBetween S refused J → CountsAs (S ++ J) J
+counts_back S refused J h = counts-between (S ++ J) J (record { lower = restart-lower S J h.lower; upper = restart-upper S J refused h.upper })
+
 pub counts_again : (S refused J K : List Op) → IsBetween S refused J → CountsAs J K → CountsAs (S ++ J) K
-counts_again S refused J K h counts =
-    same_trans counts (counts-between (S ++ J) J (record { lower = restart-lower S J h.lower; upper = restart-upper S J refused h.upper }))
+counts_again S refused J K h counts = same_trans counts (counts_back S refused J h)

@@ -1,3 +1,5 @@
+pub mod Occurring
+pub mod Keeping
 pub mod Calling
 pub mod Between
 pub mod Taken

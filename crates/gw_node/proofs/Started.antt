@@ -4,7 +4,7 @@ use Rattle.std.proofs.lemmas.List.{drop_all, drop_more, take_more}
 use Rattle.rep_ops.specs.declared.op.Op.{Op}
 use Rattle.rep_model.specs.Keep.{CountsAs, IsKeptOf}
 use Rattle.rep_model.specs.Taking.{Fits}
-use Rattle.rep_model.proofs.Joins.{counts-refl, counts-join}
+use Rattle.rep_model.proofs.Joins.{counts-join}
 use Rattle.sn_flow.specs.declared.config.Config.{Config}
 use Rattle.sn_flow.specs.Locals.{no_local}
 use Rattle.jr_journal.specs.declared.disk.Disk.{Ghosts}
@@ -26,37 +26,40 @@ use Rattle.gw_node.specs.Writing.{refusal_of}
 use Rattle.gw_node.specs.Plans.{IsMisfit}
 use Rattle.gw_node.specs.Taking.{ops_of, IsBetween, HasTaken}
 use Rattle.gw_node.specs.Opening.{IsStarted, FitInTurn, HasMisfit, DoNotFit, IsOpenFault, IsDiskFault, MayRefuse, LeavesSlots}
-use Rattle.gw_node.proofs.Between.{ops_of_more, between_again, counts_again}
+use Rattle.gw_node.specs.Keeping.{Keeps}
+use Rattle.gw_node.proofs.Keeping.{keeps_more}
+use Rattle.gw_node.proofs.Between.{ops_of_more, between_again, counts_back, counts_again}
 use Rattle.gw_node.proofs.Taken.{opened, all_left}
 
 -- ---- deltas, one after the other
-
-pub counts_none : (kept : List Op) → kept ≡ [] → CountsAs [] kept
-counts_none kept none = subst (λ (K : List Op). CountsAs [] K) (sym none) (counts-refl [])
 
 pub counts_one_more : (deltas : List (List Op)) (delta kept next : List Op) → CountsAs (ops_of deltas) kept → IsKeptOf (kept ++ delta) next → CountsAs (ops_of (deltas ++ delta ∷ [])) next
 counts_one_more deltas delta kept next counts h =
     subst (λ (ops : List Op). CountsAs ops next) (sym (ops_of_more deltas delta)) (counts-join (ops_of deltas) kept delta next counts h)
 
-pub do_not_fit : (deltas : List (List Op)) (before : ℕ) (delta kept : List Op) (refusal : Refusal) → slice_get deltas before ≡ Some delta → CountsAs (ops_of (take before deltas)) kept → IsMisfit kept delta refusal → DoNotFit deltas refusal
-do_not_fit deltas before delta kept (refusals.Conflict client) is counts h = record { before = before; delta = delta; delta_is = is; kept = kept; counts = counts; misfit = h }
-do_not_fit deltas before delta kept refusals.Full is counts h = record { before = before; delta = delta; delta_is = is; kept = kept; counts = counts; misfit = h }
-do_not_fit deltas before delta kept refusals.Memory is counts h = tt
-do_not_fit deltas before delta kept (refusals.Frame fault) is counts h = absurd h
-do_not_fit deltas before delta kept refusals.Halted is counts h = absurd h
-do_not_fit deltas before delta kept (refusals.Disk excuse) is counts h = absurd h
-do_not_fit deltas before delta kept refusals.Exhausted is counts h = absurd h
-do_not_fit deltas before delta kept (refusals.Journal fault) is counts h = absurd h
+pub keeps_one_more : (deltas : List (List Op)) (delta kept next : List Op) → Keeps (ops_of deltas) kept → IsKeptOf (kept ++ delta) next → Keeps (ops_of (deltas ++ delta ∷ [])) next
+keeps_one_more deltas delta kept next keeps h =
+    subst (λ (ops : List Op). Keeps ops next) (sym (ops_of_more deltas delta)) (keeps_more (ops_of deltas) kept delta next keeps h)
+
+pub do_not_fit : (deltas : List (List Op)) (before : ℕ) (delta kept : List Op) (refusal : Refusal) → slice_get deltas before ≡ Some delta → Keeps (ops_of (take before deltas)) kept → IsMisfit kept delta refusal → DoNotFit deltas refusal
+do_not_fit deltas before delta kept (refusals.Conflict client) is keeps h = record { before = before; delta = delta; delta_is = is; kept = kept; keeps = keeps; misfit = h }
+do_not_fit deltas before delta kept refusals.Full is keeps h = record { before = before; delta = delta; delta_is = is; kept = kept; keeps = keeps; misfit = h }
+do_not_fit deltas before delta kept refusals.Memory is keeps h = tt
+do_not_fit deltas before delta kept (refusals.Frame fault) is keeps h = absurd h
+do_not_fit deltas before delta kept refusals.Halted is keeps h = absurd h
+do_not_fit deltas before delta kept (refusals.Disk excuse) is keeps h = absurd h
+do_not_fit deltas before delta kept refusals.Exhausted is keeps h = absurd h
+do_not_fit deltas before delta kept (refusals.Journal fault) is keeps h = absurd h
 
 -- the deltas from a place on fit where this one fits and those behind it
-pub fit_one_more : (deltas : List (List Op)) (i : ℕ) (delta kept : List Op) → i < length deltas → delta ≡ get_or deltas i delta → CountsAs (ops_of (take i deltas)) kept → Fits kept delta
+pub fit_one_more : (deltas : List (List Op)) (i : ℕ) (delta kept : List Op) → i < length deltas → delta ≡ get_or deltas i delta → Keeps (ops_of (take i deltas)) kept → Fits kept delta
     → FitInTurn (ops_of (take (i + 1) deltas)) (drop (i + 1) deltas) → FitInTurn (ops_of (take i deltas)) (drop i deltas)
-fit_one_more deltas i delta kept within is counts fits rest =
+fit_one_more deltas i delta kept within is keeps fits rest =
     let more : ops_of (take (i + 1) deltas) ≡ ops_of (take i deltas) ++ delta =
     ap ops_of (take_more deltas i delta within ∙ ap (λ x. take i deltas ++ x ∷ []) (sym is)) ∙ ops_of_more (take i deltas) delta in
     let from : drop i deltas ≡ delta ∷ drop (i + 1) deltas = drop_more deltas i delta within ∙ ap (λ x. x ∷ drop (i + 1) deltas) (sym is) in
     subst (λ (ds : List (List Op)). FitInTurn (ops_of (take i deltas)) ds) (sym from)
-    ((kept, counts, fits), subst (λ (S : List Op). FitInTurn S (drop (i + 1) deltas)) more rest)
+    ((kept, keeps, fits), subst (λ (S : List Op). FitInTurn S (drop (i + 1) deltas)) more rest)
 
 pub fit_at_the_end : (deltas : List (List Op)) (i : ℕ) → length deltas ≤ i → FitInTurn (ops_of (take i deltas)) (drop i deltas)
 fit_at_the_end deltas i past = subst (λ (ds : List (List Op)). FitInTurn (ops_of (take i deltas)) ds) (sym (drop_all i deltas past)) tt
@@ -146,15 +149,26 @@ module _ {D : Type 0} {G : Ghosts D} where
     images = λ honest k l.
         opened (gateway_of state.journal) (S ++ J) [] deltas (after_crash k l (G.slots (disk_of state.journal)))
         (subst (λ (g : ℕ). (records g (after_crash k l (G.slots (disk_of state.journal))) ≡ deltas) × (fault_of g (after_crash k l (G.slots (disk_of state.journal))) ≡ None)) (sym same) (leaves honest k l))
-        (subst (λ (ops : List Op). IsBetween (S ++ J) [] ops) (J_is ∙ ap ops_of (sym is)) (between_again S refused J h));
+        (subst (λ (ops : List Op). IsBetween (S ++ J) [] ops) (J_is ∙ ap ops_of (sym is)) (between_again S refused J h))
+        (inl (subst (λ (ops : List Op). CountsAs (S ++ J) ops) (J_is ∙ ap ops_of (sym is)) (counts_back S refused J h)));
   }
 
   -- ---- the answer of an opening
+
+  pub takes_kept : {R Z E : Type 0} (kept : R → List Op) (r : Result (Node R D Z G) E) (deltas : List (List Op))
+      → IfOk r (λ node. Keeps (ops_of deltas) (state_of kept node).kept) → IfOk r (λ node. CountsAs (ops_of deltas) (state_of kept node).kept)
+  takes_kept kept (Ok node) deltas h = h.counts
+  takes_kept kept (Err e) deltas h = tt
 
   pub opened_takes : {R Z E : Type 0} (kept : R → List Op) (r : Result (Node R D Z G) E) (gateway : ℕ) (old : Slots) (deltas : List (List Op)) → deltas ≡ records gateway (image old)
       → IfOk r (λ node. CountsAs (ops_of deltas) (state_of kept node).kept) → IfOk r (λ node. CountsAs (ops_of (records gateway (image old))) (state_of kept node).kept)
   opened_takes kept (Ok node) gateway old deltas is h = subst (λ (ds : List (List Op)). CountsAs (ops_of ds) (state_of kept node).kept) is h
   opened_takes kept (Err e) gateway old deltas is h = tt
+
+  pub opened_keeps : {R Z E : Type 0} (kept : R → List Op) (r : Result (Node R D Z G) E) (gateway : ℕ) (old : Slots) (deltas : List (List Op)) → deltas ≡ records gateway (image old)
+      → IfOk r (λ node. Keeps (ops_of deltas) (state_of kept node).kept) → IfOk r (λ node. Keeps (ops_of (records gateway (image old))) (state_of kept node).kept)
+  opened_keeps kept (Ok node) gateway old deltas is h = subst (λ (ds : List (List Op)). Keeps (ops_of ds) (state_of kept node).kept) is h
+  opened_keeps kept (Err e) gateway old deltas is h = tt
 
   pub opened_none : {R Z E : Type 0} (kept : R → List Op) (r : Result (Node R D Z G) E) (gateway : ℕ) (old : Slots) (deltas : List (List Op)) → deltas ≡ records gateway (image old)
       → IfOk r (λ node. deltas ≡ [] → (state_of kept node).kept ≡ []) → IfOk r (λ node. records gateway (image old) ≡ [] → (state_of kept node).kept ≡ [])

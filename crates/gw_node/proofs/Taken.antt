@@ -4,7 +4,7 @@ use Rattle.std.proofs.lemmas.List.{append-nil, take_all}
 use Rattle.rep_ops.specs.declared.op.Op.{Op}
 use Rattle.rep_model.specs.Keep.{CountsAs, IsKeptOf}
 use Rattle.rep_model.specs.Taking.{AllAgree}
-use Rattle.rep_model.proofs.Joins.{counts-join}
+use Rattle.rep_model.proofs.Joins.{counts-join, counts-more}
 use Rattle.jr_journal.specs.declared.disk.Disk.{Ghosts}
 use Rattle.jr_journal.specs.declared.journal.Journal.{Journal}
 use Rattle.jr_journal.specs.Disk.{Slots, SlotBytes, Image, image, bytes_of, left_of, after_crash, EachCrash}
@@ -21,10 +21,10 @@ use Rattle.gw_node.specs.Occasions.{Occasion, Datagram, Clock}
 use Rattle.gw_node.specs.Parts.{State, IsUnchanged, IsUntouched}
 use Rattle.gw_node.specs.Writing.{IsWritten, IsFailed}
 use Rattle.gw_node.specs.Plans.{Makes}
-use Rattle.gw_node.specs.Taking.{ops_of, IsBetween, StandsFor, HasTaken}
+use Rattle.gw_node.specs.Taking.{ops_of, IsBetween, IsWhole, StandsFor, HasTaken}
 use Rattle.gw_node.specs.Carrying.{TakesMore, TakesNoMore, TakesNothing, made_by, CarriesOn, OwnCarriesOn, StepCarriesOn}
 use Rattle.gw_node.specs.Calls.{OwnCall, TakeCall, ViewCall, DigestCall, AnswerCall, StepCall, IsNoted}
-use Rattle.gw_node.proofs.Between.{between_more, between_refused, between_left_over}
+use Rattle.gw_node.proofs.Between.{ops_of_more, between_more, between_refused, between_left_over}
 
 -- ---- crashes that leave all
 
@@ -43,12 +43,29 @@ stands_at gateway S refused d h =
 
 -- ---- one image
 
-pub opened : (gateway : ℕ) (S refused : List Op) (deltas : List (List Op)) (i : Image) → Opens gateway deltas i → IsBetween S refused (ops_of deltas) → StandsFor gateway S refused i
-opened gateway S refused deltas i opens h = record { sound = opens.1; between = subst (λ (ds : List (List Op)). IsBetween S refused (ops_of ds)) (sym opens.0) h }
+pub opened : (gateway : ℕ) (S refused : List Op) (deltas : List (List Op)) (i : Image) → Opens gateway deltas i → IsBetween S refused (ops_of deltas) → IsWhole S refused (ops_of deltas) → StandsFor gateway S refused i
+opened gateway S refused deltas i opens h whole = record {
+  sound = opens.1;
+  between = subst (λ (ds : List (List Op)). IsBetween S refused (ops_of ds)) (sym opens.0) h;
+  whole = subst (λ (ds : List (List Op)). IsWhole S refused (ops_of ds)) (sym opens.0) whole;
+}
 
-torn : (gateway : ℕ) (S D : List Op) (deltas : List (List Op)) (i : Image) → AllAgree S D → IsBetween S [] (ops_of deltas) → Opens gateway deltas i ⊎ Opens gateway (deltas ++ D ∷ []) i → StandsFor gateway S D i
-torn gateway S D deltas i all h (inl opens) = opened gateway S D deltas i opens (between_refused S D deltas h)
-torn gateway S D deltas i all h (inr opens) = opened gateway S D (deltas ++ D ∷ []) i opens (between_left_over S D deltas all h)
+-- where nothing was refused it counts as the set
+as_taken : (S J : List Op) → IsWhole S [] J → CountsAs S J
+as_taken S J (inl h) = h
+as_taken S J (inr h) = subst (λ (T : List Op). CountsAs T J) (append-nil S) h
+
+-- with one record more
+one_more : (S D : List Op) (deltas : List (List Op)) → CountsAs S (ops_of deltas) → CountsAs (S ++ D) (ops_of (deltas ++ D ∷ []))
+one_more S D deltas h =
+    subst (λ (ops : List Op). CountsAs (S ++ D) ops) (sym (ops_of_more deltas D))
+    (counts-more S (ops_of deltas) D h)
+
+torn : (gateway : ℕ) (S D : List Op) (deltas : List (List Op)) (i : Image) → AllAgree S D → IsBetween S [] (ops_of deltas) → IsWhole S [] (ops_of deltas) → Opens gateway deltas i ⊎ Opens gateway (deltas ++ D ∷ []) i → StandsFor gateway S D i
+torn gateway S D deltas i all h whole (inl opens) =
+    opened gateway S D deltas i opens (between_refused S D deltas h) (inl (as_taken S (ops_of deltas) whole))
+torn gateway S D deltas i all h whole (inr opens) =
+    opened gateway S D (deltas ++ D ∷ []) i opens (between_left_over S D deltas all h) (inr (one_more S D deltas (as_taken S (ops_of deltas) whole)))
 
 at_gateway : (a b : ℕ) (S refused : List Op) (d : Slots) → b ≡ a → EachCrash (λ i. StandsFor a S refused i) d → EachCrash (λ i. StandsFor b S refused i) d
 at_gateway a b S refused d same h = subst (λ (g : ℕ). EachCrash (λ i. StandsFor g S refused i) d) (sym same) h
@@ -64,7 +81,8 @@ module _ {D : Type 0} {G : Ghosts D} where
         let now = stands_at (gateway_of old.journal) S [] (G.slots (disk_of old.journal)) (h.images honest) in
         let deltas = records (gateway_of old.journal) (image (G.slots (disk_of old.journal))) in
         at_gateway (gateway_of old.journal) (gateway_of new.journal) (S ++ delta) [] (G.slots (disk_of new.journal)) w.gateway
-        (λ k l. opened (gateway_of old.journal) (S ++ delta) [] (deltas ++ delta ∷ []) (after_crash k l (G.slots (disk_of new.journal))) (w.durable honest k l) (between_more S delta deltas all now.between));
+        (λ k l. opened (gateway_of old.journal) (S ++ delta) [] (deltas ++ delta ∷ []) (after_crash k l (G.slots (disk_of new.journal))) (w.durable honest k l) (between_more S delta deltas all now.between)
+        (inl (one_more S delta deltas (as_taken S (ops_of deltas) now.whole))));
   }
 
   pub no_more : (old new : State G) (delta : List Op) → new.kept ≡ old.kept → IsFailed old.journal delta new.journal → TakesNoMore old delta new
@@ -75,7 +93,7 @@ module _ {D : Type 0} {G : Ghosts D} where
         let now = stands_at (gateway_of old.journal) S [] (G.slots (disk_of old.journal)) (h.images honest) in
         let deltas = records (gateway_of old.journal) (image (G.slots (disk_of old.journal))) in
         at_gateway (gateway_of old.journal) (gateway_of new.journal) S delta (G.slots (disk_of new.journal)) w.gateway
-        (λ k l. torn (gateway_of old.journal) S delta deltas (after_crash k l (G.slots (disk_of new.journal))) all now.between (w.torn honest k l));
+        (λ k l. torn (gateway_of old.journal) S delta deltas (after_crash k l (G.slots (disk_of new.journal))) all now.between now.whole (w.torn honest k l));
   }
 
   untouched_images : (old new : Journal D G) (S refused : List Op) → IsUntouched old new → (G.honest → EachCrash (λ i. StandsFor (gateway_of old) S refused i) (G.slots (disk_of old)))

@@ -5,6 +5,7 @@ pub mod Excuses
 pub mod Plans
 pub mod Calls
 pub mod Handling
+pub mod Keeping
 pub mod Taking
 pub mod Carrying
 pub mod Opening

@@ -1,7 +1,6 @@
 -- Opening a node: it takes what its journal holds.
 use Rattle.std.specs.Prelude.{◌≡◌, ◌⊎◌, ℕ, false, List, [], ◌∷◌, ◌++◌, Some, take, slice_get}
 use Rattle.rep_ops.specs.declared.op.Op.{Op}
-use Rattle.rep_model.specs.Keep.{CountsAs}
 use Rattle.rep_model.specs.Taking.{Fits}
 use Rattle.sn_flow.specs.declared.config.Config.{Config}
 use Rattle.sn_flow.specs.Locals.{no_local}
@@ -15,6 +14,7 @@ use Rattle.gw_node.specs.declared.refusal.Refusal.{Refusal}
 use Rattle.gw_node.specs.declared.refusal.Refusal.TheVariants as refusals
 use Rattle.gw_node.specs.Parts.{State, is_halted, only_sends}
 use Rattle.gw_node.specs.Plans.{IsMisfit}
+use Rattle.gw_node.specs.Keeping.{Keeps}
 use Rattle.gw_node.specs.Taking.{ops_of}
 
 -- a node that was just opened: it is not halted, and knows nothing but what its replica keeps
@@ -24,18 +24,18 @@ pub record IsStarted {D : Type 0} {G : Ghosts D} (config : Config) (state : Stat
   pub runs : is_halted state ≡ false
   pub gateway : gateway_of state.journal ≡ config.gateway
 
--- each of the deltas fits to what counts as the set with those before it
+-- each of the deltas fits to what is kept of the set with those before it
 abbrev pub FitInTurn : List Op → List (List Op) → Type 0
 FitInTurn S [] = Unit {0}
-FitInTurn S (delta ∷ deltas) = ((kept : List Op) × CountsAs S kept × Fits kept delta) × FitInTurn (S ++ delta) deltas
+FitInTurn S (delta ∷ deltas) = ((kept : List Op) × Keeps S kept × Fits kept delta) × FitInTurn (S ++ delta) deltas
 
--- one of the deltas does not fit to those before it
+-- one of the deltas does not fit to what is kept of those before it
 pub record HasMisfit (deltas : List (List Op)) (refusal : Refusal) : Type 0 where
   pub before : ℕ
   pub delta : List Op
   pub delta_is : slice_get deltas before ≡ Some delta
   pub kept : List Op
-  pub counts : CountsAs (ops_of (take before deltas)) kept
+  pub keeps : Keeps (ops_of (take before deltas)) kept
   pub misfit : IsMisfit kept delta refusal
 
 -- why deltas are not taken, one after the other

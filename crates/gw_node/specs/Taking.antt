@@ -1,5 +1,5 @@
 -- What a node has taken, and what a crash would leave of it.
-use Rattle.std.specs.Prelude.{◌≡◌, ℕ, false, List, [], ◌++◌, None}
+use Rattle.std.specs.Prelude.{◌≡◌, ◌⊎◌, ℕ, false, List, [], ◌++◌, None}
 use Rattle.std.specs.List.{flat_map}
 use Rattle.rep_ops.specs.declared.op.Op.{Op}
 use Rattle.rep_ops.specs.Sets.{Within}
@@ -20,10 +20,15 @@ pub record IsBetween (S refused J : List Op) : Type 0 where
   pub lower : Within (keep S) J
   pub upper : Within J (S ++ refused)
 
--- an opening finds no fault in the image, and its records stand for S, but for the refused delta
+-- J counts as S, or as S with the whole of the refused delta
+abbrev pub IsWhole : List Op → List Op → List Op → Type 0
+IsWhole S refused J = CountsAs S J ⊎ CountsAs (S ++ refused) J
+
+-- an opening finds no fault in the image, and its records stand for S, but for the refused delta, of which all is there or nothing
 pub record StandsFor (gateway : ℕ) (S refused : List Op) (i : Image) : Type 0 where
   pub sound : fault_of gateway i ≡ None
   pub between : IsBetween S refused (ops_of (records gateway i))
+  pub whole : IsWhole S refused (ops_of (records gateway i))
 
 -- The node has taken the set S: its replica counts as S; and whatever a crash leaves of an honest disk stands for S, but for one
 -- refused delta, of which there is none as long as the node goes on.

@@ -13,6 +13,7 @@ ghost use Rattle.gw_node.specs.declared.fault.NodeFault.TheVariants as faults;
 ghost use Rattle.gw_node.specs.Occasions.{Datagram, Clock};
 ghost use Rattle.gw_node.specs.Parts.{state_of, told, said, is_halted as is_stopped, disk_of, records_of};
 ghost use Rattle.gw_node.specs.Calls.{OwnCall, TakeCall, ViewCall, DigestCall, AnswerCall, StepCall};
+ghost use Rattle.gw_node.specs.Keeping.{Keeps};
 ghost use Rattle.gw_node.specs.Taking.{ops_of, IsBetween, HasTaken};
 ghost use Rattle.gw_node.specs.Opening.{IsStarted, FitInTurn, MayRefuse, IsDiskFault, IsOpenFault, LeavesSlots};
 ghost use Rattle.gw_node.specs.Carrying.{CarriesOn, OwnCarriesOn, StepCarriesOn};
@@ -60,6 +61,8 @@ impl<R: Replica, D: Disk + Drop> Node<R, D> {
         // It takes the records of the slots as they were found,
         ensures records { D.honest → IfOk result (λ node. records_of node ≡ length (records config.gateway (image (D.slots disk)))) }
         ensures takes { D.honest → IfOk result (λ node. CountsAs (ops_of (records config.gateway (image (D.slots disk)))) (state_of R.kept node).kept) }
+        // and keeps nothing that is not in them,
+        ensures keeps { D.honest → IfOk result (λ node. Keeps (ops_of (records config.gateway (image (D.slots disk)))) (state_of R.kept node).kept) }
         ensures none { D.honest → IfOk result (λ node. records config.gateway (image (D.slots disk)) ≡ [] → (state_of R.kept node).kept ≡ []) }
         // each of which fits to those before it,
         ensures fits { D.honest → OnOk result (FitInTurn [] (records config.gateway (image (D.slots disk)))) }

@@ -3,10 +3,10 @@
 ghost use Rattle.std.specs.Prelude.{◌≡◌, [], length, IfOk, IfErr, IfSome, OnOk};
 ghost use Rattle.std.specs.Arc.{arc_value};
 ghost use Rattle.jr_journal.specs.Parts.{disk_of as disk_under};
-ghost use Rattle.rep_model.specs.Keep.{CountsAs};
 ghost use Rattle.sn_flow.specs.Locals.{no_local};
 ghost use Rattle.gw_node.specs.Parts.{told, state_of, records_of, only_sends};
 ghost use Rattle.gw_node.specs.Writing.{refusal_of};
+ghost use Rattle.gw_node.specs.Keeping.{Keeps};
 ghost use Rattle.gw_node.specs.Taking.{ops_of};
 ghost use Rattle.gw_node.specs.Opening.{FitInTurn, DoNotFit};
 
@@ -26,7 +26,7 @@ use std::sync::Arc;
 /// Takes deltas, one after the other.
 fn take_all<R: Replica>(alloc: Global, replica: &mut R, deltas: &[Delta]) -> Result<(), Refusal>
     requires { R.kept replica.old ≡ [] }
-    ensures ok { OnOk result (CountsAs (ops_of deltas.now) (R.kept replica.new)) }
+    ensures ok { OnOk result (Keeps (ops_of deltas.now) (R.kept replica.new)) }
     ensures fits { OnOk result (FitInTurn [] deltas.now) }
     ensures none { OnOk result (deltas.now ≡ [] → R.kept replica.new ≡ []) }
     ensures err { IfErr result (DoNotFit deltas.now) }
@@ -53,7 +53,7 @@ pub(crate) fn start<R: Replica, D: Disk + Drop>(
     ensures local { IfOk result (λ node. (state_of R.kept node).local ≡ no_local) }
     ensures journal { IfOk result (λ node. (state_of R.kept node).journal ≡ journal) }
     ensures records { IfOk result (λ node. records_of node ≡ length deltas.items) }
-    ensures takes { IfOk result (λ node. CountsAs (ops_of deltas.items) (state_of R.kept node).kept) }
+    ensures keeps { IfOk result (λ node. Keeps (ops_of deltas.items) (state_of R.kept node).kept) }
     ensures fits { OnOk result (FitInTurn [] deltas.items) }
     ensures none { IfOk result (λ node. deltas.items ≡ [] → (state_of R.kept node).kept ≡ []) }
     ensures disk { IfErr result (λ refused. refused.0 ≡ disk_under journal) }

@@ -105,8 +105,12 @@ impl<R: Replica, D: Disk + Drop> Locked<R, D> {
         )
     }
 
-    /// The shift is over.
-    pub(crate) fn ended(self) -> Ended<R, D> {
+    /// The shift is over, and all of it comes back.
+    pub(crate) fn ended(self) -> Ended<R, D>
+        ensures node { result.node ≡ self.node }
+        ensures opening { result.opening ≡ self.opening }
+        ensures history { result.history ≡ self.history }
+    {
         let Locked {
             node,
             opening,

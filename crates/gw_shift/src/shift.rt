@@ -5,6 +5,7 @@ ghost use Rattle.std.specs.Arc.{arc_value};
 ghost use Rattle.rep_ops.specs.declared.op.Op.{Op};
 ghost use Rattle.rep_model.specs.Held.{IsHeld};
 ghost use Rattle.gw_node.specs.Parts.{state_of};
+ghost use Rattle.gw_shift.specs.Legal.{IsLegal};
 ghost use Rattle.gw_shift.specs.Passes.{Climb, fresh};
 ghost use Rattle.gw_shift.specs.Calling.{Made, NotMade, MayNotTell};
 ghost use Rattle.gw_shift.specs.declared.fault.ShiftFault.TheVariants as refusals;
@@ -146,8 +147,13 @@ impl<R: Replica, D: Disk + Drop> Shift<R, D> {
         }
     }
 
-    /// Ends the shift.
-    pub fn end(self) -> Ended<R, D> {
+    /// Ends the shift: the gateway comes back, with what it had to keep at the opening and the history of all its calls. Of which
+    /// calls these are only `Ended::close` tells.
+    pub fn end(self) -> Ended<R, D>
+        ensures few { length result.history.items ≤ 4096 }
+        // The calls that come back were answered one after the other, from the opening to the node that comes back.
+        ensures legal { ∥ IsLegal (arc_value result.opening).items result.history.items (state_of R.kept result.node) ∥₁ }
+    {
         self.locked.into_inner().ended()
     }
 }

@@ -17,7 +17,7 @@ use Rattle.rep_model.proofs.Readers.{operation_at_both, put_at_both, is_acknowle
 use Rattle.sn_flow.specs.Own.{IsFresh}
 use Rattle.sn_flow.proofs.Entries.{same_client-itself, none_or}
 use Rattle.gw_world.specs.Steps.{HaveName}
-use Rattle.gw_world.proofs.Occurring.{is_there, operation_occurs, put_occurs}
+use Rattle.gw_node.proofs.Occurring.{is_there, operation_occurs, put_occurs}
 
 pub some-is : {X : Type 0} (o : Option X) → is_some o ≡ true → (x : X) × (o ≡ Some x)
 some-is None h = absurd (true≢false (sym h))

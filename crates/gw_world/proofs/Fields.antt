@@ -22,7 +22,7 @@ use Rattle.gw_world.specs.Field.{Field, new_field, Steps, After, Run, NamesNoGat
 use Rattle.gw_world.specs.Events.{made_of, answered_of, Moves, OwnAnswered, EventKept, RunKept, StopsKept, IsStopKept}
 use Rattle.gw_world.specs.Keeping.{IsShown, AreShown}
 use Rattle.gw_world.specs.Worlds.{IsWorld, IsStop}
-use Rattle.gw_world.proofs.Held.{keeps_nothing}
+use Rattle.gw_node.proofs.Keeping.{keeps_nothing}
 use Rattle.gw_world.proofs.Shown.{keeping, own_taken, take_taken, ask_taken}
 
 -- a number has the same place in both lists

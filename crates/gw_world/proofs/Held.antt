@@ -1,6 +1,5 @@
 -- How what is kept follows what was taken.
 use Rattle.std.proofs.Common.{◌≡◌, ◌≢◌, ℕ, Bool, true, false, not, ◌⊎◌, List, [], ◌++◌, if◌then◌else◌, Option, Some, None, IfSome, Contains, refl, sym, ap, ◌∙◌, subst, inl, inr}
-use Rattle.std.proofs.lemmas.List.Elements.{Contains-append_left, Contains-append_right}
 use Rattle.sn_session.specs.declared.change.SessionOp.{SessionOp}
 use Rattle.rep_ops.specs.declared.op.Put.{Put}
 use Rattle.rep_ops.specs.declared.op.Op.{Op}
@@ -12,7 +11,7 @@ use Rattle.rep_model.specs.Views.{visible}
 use Rattle.rep_model.specs.Keep.{keep, is_below, IsKeptOf, CountsAs}
 use Rattle.rep_model.specs.Limits.{first_passed}
 use Rattle.rep_model.specs.Taking.{AllAgree, Fits, IsFaultOf}
-use Rattle.rep_model.proofs.Joins.{counts-refl, counts-join, view-counts, all-weaker}
+use Rattle.rep_model.proofs.Joins.{view-counts, all-weaker}
 use Rattle.rep_model.proofs.Named.{is_named-counts, clients-counts}
 use Rattle.rep_model.proofs.Fresh.{next_epoch-counts, next_seq-counts}
 use Rattle.rep_model.proofs.Limits.{first_passed-more}
@@ -20,15 +19,7 @@ use Rattle.rep_model.proofs.Lookup.{or_else}
 use Rattle.rep_model.proofs.Readers.{operation_at_both, put_at_both, operation_at_keep, put_at_keep}
 use Rattle.sn_flow.specs.Plans.{seen_of}
 use Rattle.gw_world.specs.Steps.{HaveName, IsConflict, IsTakable}
-use Rattle.gw_world.specs.Keeping.{Keeps}
-use Rattle.gw_world.proofs.Occurring.{operation_occurs, put_occurs}
-
-pub keeps_nothing : Keeps [] []
-keeps_nothing = record {
-  counts = counts-refl [];
-  operations_taken = λ c name change found. operation_occurs c [] name change found;
-  puts_taken = λ c name put found. put_occurs c [] name put found;
-}
+use Rattle.gw_node.specs.Keeping.{Keeps}
 
 -- a step reads the same of what is kept as of what was taken
 pub seen_same : (S K : List Op) → CountsAs S K → seen_of K ≡ seen_of S
@@ -38,28 +29,6 @@ seen_same S K counts = λ i. record {
   of = λ c. view-counts c S K counts i;
   epoch = λ c. next_epoch-counts c S K counts i;
   seq = λ c g. next_seq-counts c g S K counts i;
-}
-
-in_either : {X : Type 0} (a b : Option X) (x : X) → or_else a b ≡ Some x → (a ≡ Some x) ⊎ (b ≡ Some x)
-in_either None b x e = inr e
-in_either (Some y) b x e = inl e
-
--- what is kept after a delta was taken
-pub keeps_more : (S K D L : List Op) → Keeps S K → IsKeptOf (K ++ D) L → Keeps (S ++ D) L
-keeps_more S K D L k h = record {
-  counts = counts-join S K D L k.counts h;
-  operations_taken = λ c name change found.
-      let both = sym (operation_at_both c K D name) ∙ h.upper.operations_in c name change found in
-      elim (in_either (operation_at c K name) (operation_at c D name) change both) as (λ _. Contains (S ++ D) (OfSession c name.0 name.1 change)) [
-        | inl e ↦ Contains-append_left S D _ (k.operations_taken c name change e)
-        | inr e ↦ Contains-append_right S D _ (operation_occurs c D name change e)
-      ];
-  puts_taken = λ c name put found.
-      let both = sym (put_at_both c K D name) ∙ h.upper.puts_in c name put found in
-      elim (in_either (put_at c K name) (put_at c D name) put both) as (λ _. Contains (S ++ D) (OfPut c put) × ((put.seq, put.origin) ≡ name)) [
-        | inl e ↦ let p = k.puts_taken c name put e in (Contains-append_left S D _ p.0, p.1)
-        | inr e ↦ let p = put_occurs c D name put e in (Contains-append_right S D _ p.0, p.1)
-      ];
 }
 
 -- an operation that does not agree with what is kept differs from one that was taken

@@ -1,4 +1,3 @@
-pub mod Occurring
 pub mod Held
 pub mod Calmness
 pub mod Joining

@@ -21,8 +21,10 @@ use Rattle.gw_world.specs.Steps.{OwnStep, TakeStep, AnswerStep, IsMade, IsPlan, 
 use Rattle.gw_node.specs.Calls.{AreTooMuch}
 use Rattle.gw_world.specs.Plans.{OwnKept, TakeKept, AskKept, IsPlanFor, Makes}
 use Rattle.gw_world.specs.Events.{made_of, answered_of}
-use Rattle.gw_world.specs.Keeping.{Keeps, IsShown}
-use Rattle.gw_world.proofs.Held.{keeps_more, seen_same, takable, conflict_with_taken, full_for_taken}
+use Rattle.gw_node.specs.Keeping.{Keeps}
+use Rattle.gw_world.specs.Keeping.{IsShown}
+use Rattle.gw_node.proofs.Keeping.{keeps_more}
+use Rattle.gw_world.proofs.Held.{seen_same, takable, conflict_with_taken, full_for_taken}
 
 -- a gateway whose replica keeps this
 abbrev pub keeping : Gateway → List Op → Local → Gateway

@@ -26,7 +26,7 @@ use Rattle.gw_world.specs.Steps.{HaveName, IsUnchanged, IsWritable, IsMade, IsPl
 use Rattle.gw_world.specs.Events.{made_of}
 use Rattle.gw_world.specs.Steady.{IsKnown, IsSteady}
 use Rattle.gw_world.proofs.Numbers.{First, place_of-first, first-number, first-set}
-use Rattle.gw_world.proofs.Occurring.{is_there}
+use Rattle.gw_node.proofs.Occurring.{is_there}
 
 -- a gateway that took nothing and made nothing
 pub record Still (old new : Gateway) (made : List (List Op)) : Type 0 where

@@ -22,7 +22,7 @@ use Rattle.gw_world.specs.Whole.{number_of}
 use Rattle.gw_world.proofs.Alone.{turned, some-is, delta-stands, stands-left, stands-right, stands-contains}
 use Rattle.gw_world.proofs.Each.{all-at, AllOf, EachOf, each-weaken, each-grown}
 use Rattle.gw_world.proofs.Numbers.{First, first-one, first-kept, set-there}
-use Rattle.gw_world.proofs.Occurring.{is_there, operation_occurs, put_occurs}
+use Rattle.gw_node.proofs.Occurring.{is_there, operation_occurs, put_occurs}
 use Rattle.gw_world.proofs.Steadiness.{Still, Stepped, names-apart}
 
 -- the operation stands in the set of the first gateway of this number

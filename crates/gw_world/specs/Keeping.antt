@@ -1,19 +1,7 @@
 -- What a replica keeps of the set that its gateway has taken.
-use Rattle.std.specs.Prelude.{◌≡◌, ℕ, List, [], ◌∷◌, Some, Contains}
-use Rattle.sn_session.specs.declared.change.SessionOp.{SessionOp}
-use Rattle.rep_ops.specs.declared.op.Stamp.{Stamp}
-use Rattle.rep_ops.specs.declared.op.Put.{Put}
-use Rattle.rep_ops.specs.declared.op.Op.{Op}
-use Rattle.rep_ops.specs.declared.op.Op.TheVariants.{Session as OfSession, Put as OfPut}
-use Rattle.rep_ops.specs.Sets.{operation_at, put_at}
-use Rattle.rep_model.specs.Keep.{CountsAs}
+use Rattle.std.specs.Prelude.{◌≡◌, List, [], ◌∷◌}
+use Rattle.gw_node.specs.Keeping.{Keeps}
 use Rattle.gw_world.specs.Gateways.{Gateway}
-
--- what is kept counts as what was taken, and nothing is kept that was not taken
-pub record Keeps (taken kept : List Op) : Type 0 where
-  pub counts : CountsAs taken kept
-  pub operations_taken : (c : List ℕ) (name : Stamp × ℕ) (change : SessionOp) → operation_at c kept name ≡ Some change → Contains taken (OfSession c name.0 name.1 change)
-  pub puts_taken : (c : List ℕ) (name : ℕ × ℕ) (put : Put) → put_at c kept name ≡ Some put → Contains taken (OfPut c put) × ((put.seq, put.origin) ≡ name)
 
 -- `kept` is the gateway with what its replica keeps in the place of what it has taken
 pub record IsShown (gateway kept : Gateway) : Type 0 where

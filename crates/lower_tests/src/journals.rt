@@ -211,6 +211,19 @@ fn what_is_no_journal(rt: HostRuntime) -> Result<(), Fail> {
     Ok(())
 }
 
+#[test]
+fn a_record_of_four_billion_operations(rt: HostRuntime) -> Result<(), Fail> {
+    let alloc = rt.alloc();
+    let mut bytes = Vec::from_slice(alloc, &JOURNAL[..BEGUN])?;
+    bytes.extend_from_slice(&[0x44, 0, 0, 0, 5, 1, 0xff, 0xff, 0xff, 0xff])?;
+    let no_record = Some(JournalFault::BadRecord {
+        slot: Slot::First,
+        at: 14,
+    });
+    assert_eq!(rt; fault_on(alloc, &bytes, &[])?, no_record);
+    Ok(())
+}
+
 /// What two appends answer where a failure is arranged for the first, and how many records an open reads after a
 /// crash behind them that leaves so many unsynced bytes.
 fn after_failure(

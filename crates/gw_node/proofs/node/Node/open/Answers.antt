@@ -2,7 +2,7 @@
 use Rattle.std.proofs.Common.{refl, inl}
 use Rattle.jr_journal.specs.Parts.{disk_of}
 use Rattle.gw_node.specs.Parts.{told}
-use Rattle.gw_node.proofs.Started.{leaves_itself, leaves_no_more, opened_takes, opened_none, opened_again, opened_leaves, started_leaves, started_fits}
+use Rattle.gw_node.proofs.Started.{leaves_itself, leaves_no_more, takes_kept, opened_takes, opened_keeps, opened_none, opened_again, opened_leaves, started_leaves, started_fits}
 use Rattle.gw_node.proofs.node.Node.open.Goals as goal
 
 pub returns-in_default-clause-leaves : goal.returns-in_default-clause-leaves
@@ -13,7 +13,12 @@ returns-in_default-nothing-clause-leaves g c = λ honest. leaves_itself c.args.c
 
 pub returns-in-Ok-open-clause-takes : goal.returns-in-Ok-open-clause-takes
 returns-in-Ok-open-clause-takes g c = λ honest.
-    opened_takes g.R.Replica.kept c.start.result c.args.config.gateway (g.D.Disk.slots c.args.disk) c.in-Ok-open.deltas.items (c.in-Ok-open.ensures.records honest) c.start.ensures.takes
+    opened_takes g.R.Replica.kept c.start.result c.args.config.gateway (g.D.Disk.slots c.args.disk) c.in-Ok-open.deltas.items (c.in-Ok-open.ensures.records honest)
+    (takes_kept g.R.Replica.kept c.start.result c.in-Ok-open.deltas.items c.start.ensures.keeps)
+
+pub returns-in-Ok-open-clause-keeps : goal.returns-in-Ok-open-clause-keeps
+returns-in-Ok-open-clause-keeps g c = λ honest.
+    opened_keeps g.R.Replica.kept c.start.result c.args.config.gateway (g.D.Disk.slots c.args.disk) c.in-Ok-open.deltas.items (c.in-Ok-open.ensures.records honest) c.start.ensures.keeps
 
 pub returns-in-Ok-open-clause-none : goal.returns-in-Ok-open-clause-none
 returns-in-Ok-open-clause-none g c = λ honest.
@@ -22,7 +27,8 @@ returns-in-Ok-open-clause-none g c = λ honest.
 pub returns-in-Ok-open-clause-restarts : goal.returns-in-Ok-open-clause-restarts
 returns-in-Ok-open-clause-restarts g c = λ honest.
     opened_again g.R.Replica.kept c.start.result c.in-Ok-open.journal c.args.config.gateway (g.D.Disk.slots c.args.disk) c.in-Ok-open.deltas.items c.in-Ok-open.ensures.starts.1
-    (c.in-Ok-open.ensures.records honest) (c.in-Ok-open.ensures.durable honest) c.start.ensures.journal c.start.ensures.takes
+    (c.in-Ok-open.ensures.records honest) (c.in-Ok-open.ensures.durable honest) c.start.ensures.journal
+    (takes_kept g.R.Replica.kept c.start.result c.in-Ok-open.deltas.items c.start.ensures.keeps)
 
 pub returns-in-Ok-open-clause-leaves : goal.returns-in-Ok-open-clause-leaves
 returns-in-Ok-open-clause-leaves g c = λ honest.

@@ -1,0 +1,3 @@
+mod Examples
+pub mod OwnPlans
+pub mod Takes

@@ -1,0 +1,2 @@
+pub mod OwnPlans
+pub mod Takes

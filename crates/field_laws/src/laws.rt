@@ -1,0 +1,67 @@
+//! The laws. Each function does nothing; its contract is a law, proved for all runs.
+
+ghost use Rattle.std.specs.Prelude.{◌≡◌, ◌⊎◌, ℕ, List, Some, Err, Contains};
+ghost use Rattle.std.specs.List.{AllByRecursion};
+ghost use Rattle.sn_session.specs.declared.change.SessionOp.{SessionOp};
+ghost use Rattle.rep_ops.specs.declared.op.Stamp.{Stamp};
+ghost use Rattle.rep_ops.specs.declared.op.Op.{Op};
+ghost use Rattle.rep_ops.specs.declared.op.Op.TheVariants.{Session as OfSession};
+ghost use Rattle.rep_ops.specs.Making.{AreApart};
+ghost use Rattle.rep_ops.specs.Sets.{operation_at};
+ghost use Rattle.sn_flow.specs.declared.config.Config.{Config};
+ghost use Rattle.sn_flow.specs.declared.plan.Plan.{Plan};
+ghost use Rattle.plan_laws.specs.KeepsWell.{KeepsWell};
+ghost use Rattle.gw_node.specs.Occasions.{Occasion};
+ghost use Rattle.gw_node.specs.declared.refusal.Refusal.TheVariants as refusals;
+ghost use Rattle.gw_world.specs.declared.event.Event.{Event};
+ghost use Rattle.gw_world.specs.declared.event.Answer.{Answer};
+ghost use Rattle.gw_world.specs.Gateways.{Gateway};
+ghost use Rattle.gw_world.specs.Field.{Field, new_field, IsAt, Run};
+ghost use Rattle.gw_node.specs.Keeping.{Keeps};
+ghost use Rattle.gw_world.specs.Steps.{IsPlan, IsTooMuch, OwnStep};
+ghost use Rattle.field_laws.specs.OwnPlans.{AreNumbered, IsTooLong};
+ghost use Rattle.field_laws.specs.Takes.{IsTakeAtZero};
+
+/// In every run, whatever comes to a gateway: it keeps well, and the operations of its plan can be
+/// written. They are well made, with counter 0 exactly at those that take a session, and no two have a
+/// name in common.
+pub fn own_plans()
+    ensures keeps { (configs : List Config) (events : List Event) (answers : List Answer)
+        (field : Field) (number i : ℕ) (gateway : Gateway) → AreNumbered configs
+        → Run (new_field configs) events answers field → IsAt field number i gateway
+        → KeepsWell number gateway.taken gateway.local }
+    ensures apart { (configs : List Config) (events : List Event) (answers : List Answer)
+        (field : Field) (number i : ℕ) (gateway : Gateway) (occasion : Occasion) (now : ℕ)
+        (plan : Plan) → AreNumbered configs → Run (new_field configs) events answers field
+        → IsAt field number i gateway → IsPlan gateway occasion now (Some plan)
+        → AreApart plan.ops }
+{}
+
+/// In every run Full of what a gateway made itself means that a limit would be passed, or that the delta
+/// would have more than 8 MiB. It means nothing else.
+pub fn own_full()
+    ensures { (configs : List Config) (events : List Event) (answers : List Answer)
+        (field : Field) (number i : ℕ) (gateway new : Gateway) (occasion : Occasion) (now : ℕ)
+        (made : List (List Op)) → AreNumbered configs
+        → Run (new_field configs) events answers field → IsAt field number i gateway
+        → OwnStep gateway occasion now (Err refusals.Full) new made
+        → (plan : Plan) × IsPlan gateway occasion now (Some plan)
+        × (IsTooMuch gateway plan refusals.Full ⊎ IsTooLong plan) }
+{}
+
+/// In every run counter 0 stands exactly at the operations that take a session: in each delta of the
+/// list, in what each gateway has taken, and in whatever its replica keeps of that.
+pub fn takes_at_zero()
+    ensures listed { (configs : List Config) (events : List Event) (answers : List Answer)
+        (field : Field) (delta : List Op) → Run (new_field configs) events answers field
+        → Contains field.deltas delta → AllByRecursion IsTakeAtZero delta }
+    ensures taken { (configs : List Config) (events : List Event) (answers : List Answer)
+        (field : Field) (gateway : Gateway) → Run (new_field configs) events answers field
+        → Contains field.gateways gateway → AllByRecursion IsTakeAtZero gateway.taken }
+    ensures kept { (configs : List Config) (events : List Event) (answers : List Answer)
+        (field : Field) (gateway : Gateway) (kept : List Op) (c : List ℕ) (stamp : Stamp)
+        (counter : ℕ) (change : SessionOp) → Run (new_field configs) events answers field
+        → Contains field.gateways gateway → Keeps gateway.taken kept
+        → operation_at c kept (stamp, counter) ≡ Some change
+        → IsTakeAtZero (OfSession c stamp counter change) }
+{}

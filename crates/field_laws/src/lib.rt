@@ -1,0 +1,9 @@
+//! Laws of a field's own operations that stand beside the chain: nothing is built on them.
+//!
+//! - `laws`: in every run each plan of a gateway can be written, so that a gateway refuses what it made
+//!   itself only where a limit would be passed, or the delta be too long.
+#![tactic(auto)]
+
+mod laws;
+
+pub use laws::{own_full, own_plans, takes_at_zero};

@@ -1,0 +1,47 @@
+//! The names of the two files, and how they are opened.
+
+use std::alloc::Global;
+use std::fs::{File, Files};
+use thiserror::Error;
+
+/// Why the two files could not be had.
+#[derive(Clone, Copy, Debug, PartialEq, Eq, Error)]
+pub enum FileDiskFault {
+    /// A file cannot be opened or made.
+    #[error("the files of the journal cannot be opened")]
+    Files,
+    /// Memory ran out.
+    #[error("out of memory")]
+    Memory,
+}
+
+/// Opens a slot's file for reading and for writing at its end.
+pub(crate) fn open_slot<R: Files<File = File>>(
+    rt: &R,
+    alloc: Global,
+    path: &str,
+    ending: &str,
+) -> Result<File, FileDiskFault> {
+    let Ok(name) = format!(in alloc; "{path}.{ending}") else {
+        return Err(FileDiskFault::Memory);
+    };
+    let opened = File::options()
+        .read(true)
+        .append(true)
+        .create(true)
+        .open(rt, name.as_str());
+    opened.map_err(|_| FileDiskFault::Files)
+}
+
+/// Makes the names of new files durable: the folder is synced.
+pub(crate) fn sync_folder<R: Files<File = File>>(rt: &R, path: &str) -> Result<(), FileDiskFault> {
+    let folder = match path.rfind('/') {
+        None => ".",
+        Some(0) => "/",
+        Some(at) => &path[..at],
+    };
+    match File::open(rt, folder) {
+        Ok(opened) if opened.sync_all().is_ok() => Ok(()),
+        _ => Err(FileDiskFault::Files),
+    }
+}

@@ -1,0 +1,5 @@
+mod Digits
+mod Testing
+mod Items
+mod Firsts
+mod Naming

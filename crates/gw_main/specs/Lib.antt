@@ -1,0 +1,4 @@
+pub mod Numbers
+pub mod Addresses
+pub mod Keys
+pub mod Reading

@@ -1,0 +1,158 @@
+-- What a document says of each key, and which key is the first that it says nothing good of.
+use Rattle.std.specs.Prelude.{◌≡◌, ℕ, ℤ, pos, negsuc, ◌&&◌, nat_le, List, [], ◌∷◌, Option, Some, None, option_and_then, option_map, if◌then◌else◌, codes, string_bytes}
+use Rattle.sn_flow.specs.declared.config.Addr.{Addr}
+use Rattle.sn_topic.specs.Topics.{is_name}
+use Rattle.sn_topic.specs.Table.{Entries, is_table}
+use Rattle.toml.specs.Data.{Data, Items, no_items, item, Members, get_member, as_str, as_integer, as_array, as_table}
+use Rattle.toml.specs.Parse.{parse_document}
+use Rattle.gw_main.specs.declared.fault.Key.{Key}
+use Rattle.gw_main.specs.declared.fault.Key.TheVariants as keys
+use Rattle.gw_main.specs.declared.fault.SettingsFault.{SettingsFault}
+use Rattle.gw_main.specs.declared.fault.SettingsFault.TheVariants as faults
+use Rattle.gw_main.specs.declared.options.Settings.{Settings}
+use Rattle.gw_main.specs.Addresses.{address_of}
+use Rattle.gw_main.specs.Keys.{name_of}
+
+-- ---- values
+
+-- a whole number from one to another
+abbrev pub within : ℕ → ℕ → ℤ → Option ℕ
+within low high (pos n) = if nat_le low n && nat_le n high then Some n else None
+within low high (negsuc n) = None
+
+-- the number that is found, or another where nothing is
+abbrev pub number_in : ℕ → ℕ → Option ℕ → Option Data → Option ℕ
+number_in low high missing None = missing
+number_in low high missing (Some found) = option_and_then (within low high) (as_integer found)
+
+abbrev pub address_in : Option Data → Option Addr
+address_in found = option_and_then address_of (option_and_then as_str found)
+
+abbrev pub text_in : Option Data → Option (List ℕ)
+text_in found = option_and_then as_str found
+
+-- what each item is read as
+abbrev pub each : {A : Type 0} → (Data → Option A) → Items → Option (List A)
+each read no_items = Some []
+each read (item first rest) = option_and_then (λ one. option_map (λ more. one ∷ more) (each read rest)) (read first)
+
+-- the same of a list that is found; nothing is an empty list
+abbrev pub list_in : {A : Type 0} → (Data → Option A) → Option Data → Option (List A)
+list_in read None = Some []
+list_in read (Some found) = option_and_then (each read) (as_array found)
+
+abbrev pub address_item : Data → Option Addr
+address_item found = option_and_then address_of (as_str found)
+
+-- a topic's name: 1 to 256 octets without a wildcard
+abbrev pub name_of_text : List ℕ → Option (List ℕ)
+name_of_text text = if is_name text then Some text else None
+
+abbrev pub name_in : Option Data → Option (List ℕ)
+name_in found = option_and_then name_of_text (option_and_then as_str found)
+
+-- an id and the name that it stands for
+abbrev pub entry_from : Members → Option (ℕ × List ℕ)
+entry_from members =
+    option_and_then (λ id. option_map (λ name. (id, name)) (name_in (get_member (codes "topic") members))) (number_in 0 65535 None (get_member (codes "id") members))
+
+abbrev pub entry_item : Data → Option (ℕ × List ℕ)
+entry_item found = option_and_then entry_from (as_table found)
+
+-- entries of which no id is reserved and none stands twice
+abbrev pub table_from : Entries → Option Entries
+table_from entries = if is_table entries then Some entries else None
+
+-- ---- keys
+
+abbrev pub at : Key → Members → Option Data
+at key members = get_member (name_of key) members
+
+abbrev pub gateway_in : Members → Option ℕ
+gateway_in members = number_in 1 255 None (at keys.Gateway members)
+
+abbrev pub listen_in : Members → Option Addr
+listen_in members = address_in (at keys.Listen members)
+
+abbrev pub link_in : Members → Option Addr
+link_in members = address_in (at keys.Link members)
+
+abbrev pub journal_in : Members → Option (List ℕ)
+journal_in members = text_in (at keys.Journal members)
+
+abbrev pub workers_in : Members → Option ℕ
+workers_in members = number_in 1 8 (Some 2) (at keys.Workers members)
+
+abbrev pub steps_in : Members → Option ℕ
+steps_in members = number_in 1 4096 (Some 4096) (at keys.Steps members)
+
+abbrev pub advertise_in : Members → Option ℕ
+advertise_in members = number_in 0 65535 (Some 0) (at keys.Advertise members)
+
+abbrev pub field_in : Members → Option (List Addr)
+field_in members = list_in address_item (at keys.Field members)
+
+abbrev pub peers_in : Members → Option (List Addr)
+peers_in members = list_in address_item (at keys.Peers members)
+
+abbrev pub predefined_in : Members → Option Entries
+predefined_in members = option_and_then table_from (list_in entry_item (at keys.Predefined members))
+
+-- ---- the whole
+
+-- the settings hold what the document says of each key, or the key's default
+pub record Says (members : Members) (settings : Settings) : Type 0 where
+  pub gateway : gateway_in members ≡ Some settings.gateway
+  pub listen : listen_in members ≡ Some settings.listen
+  pub link : link_in members ≡ Some settings.link
+  pub journal : journal_in members ≡ Some (string_bytes settings.journal)
+  pub workers : workers_in members ≡ Some settings.workers
+  pub steps : steps_in members ≡ Some settings.steps
+  pub advertise : advertise_in members ≡ Some settings.advertise
+  pub field : field_in members ≡ Some settings.field.items
+  pub peers : peers_in members ≡ Some settings.peers.items
+  pub predefined : predefined_in members ≡ Some settings.predefined
+
+-- the key, where nothing was read, else what is found behind it
+abbrev pub or_else : {A : Type 0} → Option A → Key → Option Key → Option Key
+or_else None key behind = Some key
+or_else (Some value) key behind = behind
+
+-- the first key that is missing without a default, out of range or of another kind, in the order of the keys
+abbrev pub first_bad : Members → Option Key
+first_bad members =
+    or_else (gateway_in members) keys.Gateway
+    (or_else (listen_in members) keys.Listen
+    (or_else (link_in members) keys.Link
+    (or_else (journal_in members) keys.Journal
+    (or_else (workers_in members) keys.Workers
+    (or_else (steps_in members) keys.Steps
+    (or_else (advertise_in members) keys.Advertise
+    (or_else (field_in members) keys.Field
+    (or_else (peers_in members) keys.Peers
+    (or_else (predefined_in members) keys.Predefined None)))))))))
+
+-- the text is a document that says these settings
+abbrev pub IsRead : List ℕ → Settings → Type 0
+IsRead text settings = (members : Members) × (parse_document text ≡ Some members) × Says members settings
+
+-- why it is refused
+abbrev pub IsRefused : List ℕ → SettingsFault → Type 0
+IsRefused text faults.Text = parse_document text ≡ None
+IsRefused text (faults.Key key) = (members : Members) × (parse_document text ≡ Some members) × (first_bad members ≡ Some key)
+IsRefused text faults.Memory = Unit {0}
+
+-- why members are refused of which this is the first bad key
+abbrev pub IsBadOf : Option Key → SettingsFault → Type 0
+IsBadOf first faults.Text = ⊥
+IsBadOf first (faults.Key key) = first ≡ Some key
+IsBadOf first faults.Memory = Unit {0}
+
+abbrev pub IsBad : Members → SettingsFault → Type 0
+IsBad members fault = IsBadOf (first_bad members) fault
+
+-- why a key is
+abbrev pub IsBadAt : {A : Type 0} → Option A → Key → SettingsFault → Type 0
+IsBadAt read key faults.Text = ⊥
+IsBadAt read key (faults.Key told) = (read ≡ None) × (told ≡ key)
+IsBadAt read key faults.Memory = Unit {0}

@@ -1,0 +1,93 @@
+//! Why settings are refused.
+
+ghost use Rattle.std.specs.Prelude.{◌≡◌};
+ghost use Rattle.gw_main.specs.Keys.{name_of};
+ghost use Rattle.gw_main.specs.declared.fault.SettingsFault.TheVariants.{Memory as NoMemory};
+
+use std::alloc::{AllocError, AllocFailed};
+use thiserror::Error;
+
+/// A key of the settings, in the order in which the keys are looked at.
+#[derive(Clone, Copy, Debug, PartialEq, Eq, Error)]
+pub enum Key {
+    /// The gateway's number: 1 to 255.
+    #[error("gateway")]
+    Gateway,
+    /// The address of the UDP socket, as `a.b.c.d:port`.
+    #[error("listen")]
+    Listen,
+    /// The address at which links are accepted.
+    #[error("link")]
+    Link,
+    /// The path of the journal.
+    #[error("journal")]
+    Journal,
+    /// How many threads make calls for datagrams: 1 to 8, or else 2.
+    #[error("workers")]
+    Workers,
+    /// How many calls a shift has: 1 to 4,096, or else 4,096.
+    #[error("steps")]
+    Steps,
+    /// How many seconds pass between two ADVERTISE (MQTT-SN 1.2 section 5.4.1): 0 to 65,535; 0, or else, for none.
+    #[error("advertise")]
+    Advertise,
+    /// The addresses that ADVERTISE goes to, or else none.
+    #[error("field")]
+    Field,
+    /// The addresses of the gateways to be dialled, or else none.
+    #[error("peers")]
+    Peers,
+    /// The predefined topic ids: tables with `id` and `topic`, or else none.
+    #[error("predefined")]
+    Predefined,
+}
+
+impl Key {
+    /// How the key is written.
+    pub fn name(self) -> &'static str
+        ensures { result.now ≡ name_of self }
+    {
+        match self {
+            Key::Gateway => "gateway",
+            Key::Listen => "listen",
+            Key::Link => "link",
+            Key::Journal => "journal",
+            Key::Workers => "workers",
+            Key::Steps => "steps",
+            Key::Advertise => "advertise",
+            Key::Field => "field",
+            Key::Peers => "peers",
+            Key::Predefined => "predefined",
+        }
+    }
+}
+
+/// Why settings are refused.
+#[derive(Clone, Copy, Debug, PartialEq, Eq, Error)]
+pub enum SettingsFault {
+    /// The text is no TOML document.
+    #[error("text")]
+    Text,
+    /// The first key that is missing without a default, out of range, or of another kind.
+    #[error("{0}")]
+    Key(Key),
+    /// Memory ran out.
+    #[error("out of memory")]
+    Memory,
+}
+
+impl From<AllocError> for SettingsFault {
+    ghost from_gives = { λ _ e. e ≡ NoMemory };
+
+    fn from(_error: AllocError) -> SettingsFault {
+        SettingsFault::Memory
+    }
+}
+
+impl<T: Drop> From<AllocFailed<T>> for SettingsFault {
+    ghost from_gives = { λ _ e. e ≡ NoMemory };
+
+    fn from(_error: AllocFailed<T>) -> SettingsFault {
+        SettingsFault::Memory
+    }
+}

@@ -1,0 +1,25 @@
+//! What the daemon is told when it starts.
+//!
+//! - `parsing`: the settings of a text in TOML (`settings`).
+//! - `options`: what they hold (`Settings`).
+//! - `fault`: why they are refused (`SettingsFault`), and at which key (`Key`).
+//! - `keys`: what a document says of each key.
+//! - `lists`: lists of addresses and of predefined topic ids.
+//! - `addresses`: addresses as `a.b.c.d:port` (`address`).
+//! - `number`: numbers in decimal digits.
+//!
+//! The definitions are in `specs/`: `Numbers`, `Addresses`, `Keys` (how keys are written), `Reading` (what a document says of each
+//! key, and which key is the first that it says nothing good of).
+#![tactic(auto)]
+
+mod addresses;
+mod fault;
+mod keys;
+mod lists;
+mod number;
+pub mod options;
+mod parsing;
+
+pub use addresses::address;
+pub use fault::{Key, SettingsFault};
+pub use parsing::settings;

@@ -1,0 +1,161 @@
+//! Lists of addresses and of predefined topic ids.
+
+ghost use Rattle.std.specs.Prelude.{◌≡◌, ◌<◌, ◌^◌, ◌++◌, ℕ, IfOk, IfErr, IfSome, Ok, Some, None, option_map};
+ghost use Rattle.toml.specs.View.{view, items_view, table_view};
+ghost use Rattle.gw_main.specs.Reading.{each, list_in, address_item, entry_item, entry_from, name_of_text, name_in, at, predefined_in, IsBadAt};
+ghost use Rattle.gw_main.specs.declared.fault.Key.TheVariants as keys;
+
+use super::fault::{Key, SettingsFault};
+use super::keys::{address_item, found, number_in};
+use sn_flow::Addr;
+use sn_topic::{Predefined, TopicFault, TopicName};
+use std::alloc::Global;
+use toml::{Table, Value};
+
+/// The addresses of a list.
+#[tactic(auto, using(crate::proofs::Items::goes_on, crate::proofs::Items::stops, crate::proofs::Items::begins, crate::proofs::Items::ends))]
+fn addresses(alloc: Global, items: &[Value], key: Key) -> Result<Vec<Addr>, SettingsFault>
+    ensures ok { IfOk result (λ all. each address_item (items_view items.now) ≡ Some all.items) }
+    ensures err { IfErr result (IsBadAt (each address_item (items_view items.now)) key) }
+{
+    let mut all = Vec::new(alloc);
+    let mut left = items;
+    'items: while let Some((item, rest)) = left.split_first() {
+        let Some(addr) = address_item(item) else {
+            return Err(SettingsFault::Key(key));
+        };
+        if all.reserve(1).is_err() {
+            return Err(SettingsFault::Memory);
+        }
+        all.push_reserved(addr);
+        left = rest;
+    }
+    Ok(all)
+}
+
+/// The addresses at a key; none where it is not there.
+pub(crate) fn addresses_at(
+    alloc: Global,
+    table: &Table,
+    key: Key,
+) -> Result<Vec<Addr>, SettingsFault>
+    ensures ok { IfOk result (λ all. list_in address_item (at key (table_view table.now)) ≡ Some all.items) }
+    ensures err { IfErr result (IsBadAt (list_in address_item (at key (table_view table.now))) key) }
+{
+    match found(table, key.name()) {
+        None => Ok(Vec::new(alloc)),
+        Some(value) => match value.as_array() {
+            None => Err(SettingsFault::Key(key)),
+            Some(items) => addresses(alloc, items.as_slice(), key),
+        },
+    }
+}
+
+/// A text as the name of a topic, where it is one.
+#[tactic(auto, using(crate::proofs::Naming::named, crate::proofs::Naming::empty, crate::proofs::Naming::too_long, crate::proofs::Naming::wild))]
+fn named(alloc: Global, text: &[u8]) -> Result<Option<TopicName>, SettingsFault>
+    ensures ok { IfOk result (λ name. name ≡ name_of_text text.now) }
+    ensures err { IfErr result (λ fault. fault ≡ SettingsFault.Memory) }
+{
+    match TopicName::new(alloc, text) {
+        Ok(name) => Ok(Some(name)),
+        Err(TopicFault::Empty) => Ok(None),
+        Err(TopicFault::TooLong) => Ok(None),
+        Err(TopicFault::Wildcard) => Ok(None),
+        Err(TopicFault::Id) => Err(SettingsFault::Memory),
+        Err(TopicFault::Memory) => Err(SettingsFault::Memory),
+    }
+}
+
+/// The name of a topic.
+fn name_in(alloc: Global, found: Option<&Value>) -> Result<Option<TopicName>, SettingsFault>
+    ensures ok { IfOk result (λ name. name ≡ name_in (option_map (λ value. view value.now) found.entry)) }
+    ensures err { IfErr result (λ fault. fault ≡ SettingsFault.Memory) }
+{
+    match found {
+        None => Ok(None),
+        Some(value) => match value.as_str() {
+            None => Ok(None),
+            Some(text) => named(alloc, text.as_bytes()),
+        },
+    }
+}
+
+/// An id and the name that it stands for, in a table.
+fn entry_from(alloc: Global, table: &Table) -> Result<Option<(u16, TopicName)>, SettingsFault>
+    ensures ok { IfOk result (λ entry. entry ≡ entry_from (table_view table.now)) }
+    ensures err { IfErr result (λ fault. fault ≡ SettingsFault.Memory) }
+{
+    match number_in(found(table, "id"), 0, 65_535, None) {
+        None => Ok(None),
+        Some(id) => match name_in(alloc, found(table, "topic")) {
+            Err(fault) => Err(fault),
+            Ok(None) => Ok(None),
+            Ok(Some(name)) => Ok(Some((id as u16, name))),
+        },
+    }
+}
+
+/// An id and the name that it stands for, where a value is a table of both.
+fn entry(alloc: Global, item: &Value) -> Result<Option<(u16, TopicName)>, SettingsFault>
+    ensures ok { IfOk result (λ entry. entry ≡ entry_item (view item.now)) }
+    ensures err { IfErr result (λ fault. fault ≡ SettingsFault.Memory) }
+{
+    match item.as_table() {
+        None => Ok(None),
+        Some(table) => entry_from(alloc, table),
+    }
+}
+
+/// The entries of a list.
+#[tactic(auto, using(crate::proofs::Items::goes_on, crate::proofs::Items::stops, crate::proofs::Items::begins, crate::proofs::Items::ends))]
+fn entries(alloc: Global, items: &[Value]) -> Result<Vec<(u16, TopicName)>, SettingsFault>
+    ensures ok { IfOk result (λ all. each entry_item (items_view items.now) ≡ Some all.items) }
+    ensures err { IfErr result (IsBadAt (each entry_item (items_view items.now)) keys.Predefined) }
+{
+    let mut all = Vec::new(alloc);
+    let mut left = items;
+    'items: while let Some((item, rest)) = left.split_first() {
+        match entry(alloc, item) {
+            Err(_) => return Err(SettingsFault::Memory),
+            Ok(None) => return Err(SettingsFault::Key(Key::Predefined)),
+            Ok(Some(one)) => {
+                if all.reserve(1).is_err() {
+                    return Err(SettingsFault::Memory);
+                }
+                all.push_reserved(one);
+            }
+        }
+        left = rest;
+    }
+    Ok(all)
+}
+
+/// The entries under the key of the predefined topic ids; none where it is not there.
+fn entries_at(alloc: Global, table: &Table) -> Result<Vec<(u16, TopicName)>, SettingsFault>
+    ensures ok { IfOk result (λ all. list_in entry_item (at keys.Predefined (table_view table.now)) ≡ Some all.items) }
+    ensures err { IfErr result (IsBadAt (list_in entry_item (at keys.Predefined (table_view table.now))) keys.Predefined) }
+{
+    match found(table, Key::Predefined.name()) {
+        None => Ok(Vec::new(alloc)),
+        Some(value) => match value.as_array() {
+            None => Err(SettingsFault::Key(Key::Predefined)),
+            Some(items) => entries(alloc, items.as_slice()),
+        },
+    }
+}
+
+/// The predefined topic ids.
+#[tactic(auto, using(crate::proofs::Naming::tabled, crate::proofs::Naming::not_tabled))]
+pub(crate) fn predefined_at(alloc: Global, table: &Table) -> Result<Predefined, SettingsFault>
+    ensures ok { IfOk result (λ made. predefined_in (table_view table.now) ≡ Some made) }
+    ensures err { IfErr result (IsBadAt (predefined_in (table_view table.now)) keys.Predefined) }
+{
+    match entries_at(alloc, table) {
+        Err(fault) => Err(fault),
+        Ok(entries) => match Predefined::new(alloc, entries) {
+            Ok(made) => Ok(made),
+            Err(_) => Err(SettingsFault::Key(Key::Predefined)),
+        },
+    }
+}

@@ -1,0 +1,29 @@
+//! What the settings hold.
+
+use sn_flow::Addr;
+use sn_topic::Predefined;
+
+/// What a daemon is told when it starts.
+#[derive(Debug, Drop)]
+pub struct Settings {
+    /// The gateway's number: 1 to 255.
+    pub gateway: u8,
+    /// The address of the UDP socket.
+    pub listen: Addr,
+    /// The address at which links are accepted.
+    pub link: Addr,
+    /// The path of the journal; its files have `.0` and `.1` behind it.
+    pub journal: String,
+    /// How many threads make calls for datagrams: 1 to 8.
+    pub workers: u8,
+    /// How many calls a shift has: 1 to 4,096.
+    pub steps: u16,
+    /// How many seconds pass between two ADVERTISE; 0 for none.
+    pub advertise: u16,
+    /// The addresses that ADVERTISE goes to.
+    pub field: Vec<Addr>,
+    /// The addresses of the gateways to be dialled.
+    pub peers: Vec<Addr>,
+    /// The predefined topic ids.
+    pub predefined: Predefined,
+}

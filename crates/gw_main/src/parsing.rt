@@ -1,0 +1,61 @@
+//! The settings of a text.
+
+ghost use Rattle.std.specs.Prelude.{◌≡◌, ◌≤◌, IfOk, IfErr, Some};
+ghost use Rattle.toml.specs.View.{table_view};
+ghost use Rattle.gw_main.specs.Reading.{Says, IsBad, IsRead, IsRefused};
+
+use super::fault::{Key, SettingsFault};
+use super::keys::{address_at, number_at, text_at};
+use super::lists::{addresses_at, predefined_at};
+use super::options::Settings;
+use std::alloc::Global;
+use toml::Table;
+
+/// Reads settings. Each key has its value, or its default where it is not there; other keys are ignored.
+///
+/// The faults: `Text`, the text is no TOML document; `Key`, the first key that is missing without a default, out of range or of
+/// another kind; or `Memory`.
+pub fn settings(alloc: Global, text: &str) -> Result<Settings, SettingsFault>
+    ensures ok { IfOk result (IsRead text.now) }
+    ensures err { IfErr result (IsRefused text.now) }
+{
+    match toml::table_from_str(alloc, text) {
+        Ok(table) => settings_of(alloc, &table),
+        Err(error) => {
+            if error.is_memory() {
+                Err(SettingsFault::Memory)
+            } else {
+                Err(SettingsFault::Text)
+            }
+        }
+    }
+}
+
+/// What a document says.
+fn settings_of(alloc: Global, table: &Table) -> Result<Settings, SettingsFault>
+    ensures ok { IfOk result (Says (table_view table.now)) }
+    ensures err { IfErr result (IsBad (table_view table.now)) }
+{
+    let gateway = number_at(table, Key::Gateway, 1, 255, None)?;
+    let listen = address_at(table, Key::Listen)?;
+    let link = address_at(table, Key::Link)?;
+    let journal = text_at(alloc, table, Key::Journal)?;
+    let workers = number_at(table, Key::Workers, 1, 8, Some(2))?;
+    let steps = number_at(table, Key::Steps, 1, 4096, Some(4096))?;
+    let advertise = number_at(table, Key::Advertise, 0, 65_535, Some(0))?;
+    let field = addresses_at(alloc, table, Key::Field)?;
+    let peers = addresses_at(alloc, table, Key::Peers)?;
+    let predefined = predefined_at(alloc, table)?;
+    Ok(Settings {
+        gateway: gateway as u8,
+        listen,
+        link,
+        journal,
+        workers: workers as u8,
+        steps: steps as u16,
+        advertise: advertise as u16,
+        field,
+        peers,
+        predefined,
+    })
+}

@@ -1,0 +1,5 @@
+pub mod Count
+pub mod Queue
+pub mod Serving
+pub mod Handling
+pub mod Work

@@ -1,0 +1,95 @@
+//! The one reader: it numbers what comes and puts it into the queue.
+
+ghost use Rattle.std.specs.Prelude.{◌≡◌, ◌<◌, ◌≤◌, [], Some, IfOk, IfErr, IfSome};
+ghost use Rattle.crossbeam_channel.specs.Claims.{view, IsSeatAt};
+ghost use Rattle.crossbeam_channel.specs.Ends.{sends_on};
+ghost use Rattle.gw_serve.specs.Count.{one_to};
+ghost use Rattle.gw_serve.specs.Queue.{hand};
+ghost use Rattle.gw_serve.specs.declared.worker.Cause.TheVariants as causes;
+
+use crate::bell::Bell;
+use crate::queue::{Datagram, Sender, Sends, Ticket};
+use crate::worker::Cause;
+use gw_wire::Wire;
+use std::alloc::Global;
+use std::sync::Wait;
+use std::sync::atomic::{AtomicBool, Ordering};
+
+/// How the reading ended.
+#[derive(Drop)]
+pub struct Reading {
+    /// How many numbers were given.
+    pub count: u64,
+    /// Why it ended early.
+    pub fault: Option<Cause>,
+}
+
+/// Reads for so many turns, or until it is to stop.
+pub fn read_all<R: Wait, W: Wire>(
+    rt: &R,
+    alloc: Global,
+    sender: &Sender,
+    ticket: &mut Ticket,
+    wire: &mut W,
+    buffer: &mut [u8],
+    bell: &Bell,
+    stop: &AtomicBool,
+    turns: u64,
+) -> Reading
+    requires channel { IsSeatAt (sends_on sender.now) ticket.old }
+    requires part { 0 < (view ticket.old).parts }
+    requires fresh { (view ticket.old).sent ≡ [] }
+    ensures channel { IsSeatAt (sends_on sender.now) ticket.new }
+    ensures numbers { view ticket.new ≡ hand (view ticket.old).parts (one_to result.count) (view ticket.old).taken }
+    ensures wire { result.fault ≡ Some causes.Wire → W.failures wire.old < W.failures wire.new }
+{
+    let mut count: u64 = 0;
+    let mut fault = None;
+    for turn in 0..turns {
+        let _ = turn;
+        if stop.load(Ordering::SeqCst) {
+            break;
+        }
+        match take_in(alloc, wire, buffer, count + 1) {
+            Err(cause) => {
+                fault = Some(cause);
+                break;
+            }
+            Ok(None) => {}
+            Ok(Some(datagram)) => {
+                if sender.try_send_as::<Sends, R>(rt, ticket, datagram).is_ok() {
+                    count += 1;
+                    bell.ring(rt);
+                }
+            }
+        }
+    }
+    bell.close(rt);
+    Reading { count, fault }
+}
+
+/// What comes, under a number.
+fn take_in<W: Wire>(
+    alloc: Global,
+    wire: &mut W,
+    buffer: &mut [u8],
+    number: u64,
+) -> Result<Option<Datagram>, Cause>
+    ensures number { IfOk result (λ r. IfSome r (λ d. d.number ≡ number)) }
+    ensures wire { IfErr result (λ c. c ≡ causes.Wire → W.failures wire.old < W.failures wire.new) }
+    ensures more { W.failures wire.old ≤ W.failures wire.new }
+{
+    match wire.recv(buffer) {
+        Err(_) => Err(Cause::Wire),
+        Ok(None) => Ok(None),
+        Ok(Some(arrival)) => match Vec::from_slice(alloc, &buffer[..arrival.size]) {
+            Err(_) => Err(Cause::Memory),
+            Ok(bytes) => Ok(Some(Datagram {
+                number,
+                from: arrival.from,
+                bytes,
+                moment: arrival.moment,
+            })),
+        },
+    }
+}

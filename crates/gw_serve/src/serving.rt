@@ -1,0 +1,458 @@
+//! Serving: one reader, a worker for each pass, and the account of all numbers at the end.
+
+ghost use Rattle.std.specs.Prelude.{◌≡◌, ◌≤◌, ◌<◌, ◌+◌, ◌-◌, ◌^◌, ◌++◌, ℕ, Some, None, List, [], ◌∷◌, length, map, vec_len, vec_capacity, IfOk, IfErr, All};
+ghost use Rattle.crossbeam_channel.specs.Claims.{view, IsSeatAt};
+ghost use Rattle.crossbeam_channel.specs.Ends.{sends_on, receives_on};
+ghost use Rattle.gw_serve.specs.Count.{weigh, times, one_to};
+ghost use Rattle.gw_serve.specs.Queue.{hand, whole};
+ghost use Rattle.gw_serve.specs.Serving.{EachGains};
+ghost use Rattle.gw_serve.specs.Work.{IsFreshSlot, IsDone, IsWorked, IsWorkedSlot, WorkedFrom, DoneFrom, IsGathered, pass_of};
+ghost use Rattle.gw_shift.specs.Calls.{Holder};
+ghost use Rattle.gw_serve.specs.declared.worker.Cause.TheVariants as causes;
+
+use crate::bell::Bell;
+use crate::queue::{Cut, Datagram, Drains, Fair, Hand, Receiver, Sender, Ticket};
+use crate::reader::{Reading, read_all};
+use crate::worker::{Cause, Seat, Taken, Trouble, work};
+use crossbeam_channel::bounded_with;
+use gw_shift::{Pass, Shift};
+use gw_wire::{Gate, Post, Wire};
+use jr_journal::Disk;
+use rep_model::Replica;
+use std::alloc::{AllocError, Global};
+use std::sync::Wait;
+use std::sync::atomic::AtomicBool;
+use std::thread;
+use std::thread::Threads;
+
+/// How many datagrams the queue holds.
+pub const CAPACITY: usize = 64;
+
+/// The largest datagram, and more.
+pub const LARGEST: usize = 65_536;
+
+/// What serving did.
+#[derive(Drop)]
+pub struct Served<'a, R: Replica, D: Disk> {
+    /// The shift that was lent.
+    pub shift: &'a Shift<R, D>,
+    /// The passes, each in its place.
+    pub passes: Vec<Pass>,
+    /// The datagrams that became calls, with the numbers of these.
+    pub taken: Vec<Taken>,
+    /// The numbers of the other datagrams.
+    pub left: Vec<u64>,
+}
+
+/// Why serving ended early.
+#[derive(Drop)]
+pub struct ServeFault<'a, R: Replica, D: Disk> {
+    /// The shift that was lent.
+    pub shift: &'a Shift<R, D>,
+    /// The passes, each in its place.
+    pub passes: Vec<Pass>,
+    /// Why.
+    pub cause: Cause,
+}
+
+/// Serves datagrams until the shift has had all its calls, or for so many turns of the reader and then until the queue is empty.
+///
+/// One thread reads; there is a worker for each pass. Each datagram that finds room in the queue gets the next number, from 1 on;
+/// one that finds the queue full is dropped without a number. Replies are sent behind the lock, also those of a gateway whose
+/// disk has just failed.
+///
+/// Each number is handed back once, in `taken` or in `left`. The passes hold what they held and the calls of `taken`, pass by
+/// pass, and nothing else. The faults: `Wire`, a receive failed; `Memory`; `Behind`, a pass has seen more calls than the
+/// shift has. With each of them every pass comes back too, and has gained nothing but calls of datagrams.
+pub fn serve<'a, T, R, D, W, P, G>(
+    rt: &T,
+    alloc: Global,
+    shift: &'a Shift<R, D>,
+    passes: Vec<Pass>,
+    wire: &mut W,
+    post: &P,
+    gate: &G,
+    turns: u64,
+) -> Result<Served<'a, R, D>, ServeFault<'a, R, D>>
+where
+    T: Threads + Wait + Sync,
+    R: Replica + Send,
+    R::Staged: Send,
+    D: Disk + Drop + Send,
+    W: Wire,
+    P: Post + Sync,
+    G: Gate + Sync,
+    requires some { 0 < vec_len passes }
+    ensures datagrams { IfOk result (λ s. (n : ℕ) × ((x : ℕ) → times x (map (λ t. t.datagram) s.taken.items ++ s.left.items) ≡ times x (one_to n))) }
+    ensures passes { IfOk result (λ s. EachGains passes.items (map (λ t. t.step) s.taken.items) s.passes.items) }
+    ensures wire { IfErr result (λ f. f.cause ≡ causes.Wire → W.failures wire.old < W.failures wire.new) }
+    ensures back { IfErr result (λ f. (numbers : List ℕ) × EachGains passes.items numbers f.passes.items) }
+{
+    let Ok(room) = Room::new(alloc, passes.len()) else {
+        return Err(ServeFault {
+            shift,
+            passes,
+            cause: Cause::Memory,
+        });
+    };
+    let Ok((sender, receiver, mut root)) = bounded_with::<Datagram, Hand, Fair, Global>(
+        alloc, CAPACITY,
+    ) else {
+        return Err(ServeFault {
+            shift,
+            passes,
+            cause: Cause::Memory,
+        });
+    };
+    serve_in(
+        rt, alloc, shift, passes, room, &sender, &receiver, &mut root, wire, post, gate, turns,
+    )
+}
+
+/// The same, with room for all that must not be lost and with a queue in which nothing was.
+fn serve_in<'a, T, R, D, W, P, G>(
+    rt: &T,
+    alloc: Global,
+    shift: &'a Shift<R, D>,
+    passes: Vec<Pass>,
+    room: Room,
+    sender: &Sender,
+    receiver: &Receiver,
+    root: &mut Ticket,
+    wire: &mut W,
+    post: &P,
+    gate: &G,
+    turns: u64,
+) -> Result<Served<'a, R, D>, ServeFault<'a, R, D>>
+where
+    T: Threads + Wait + Sync,
+    R: Replica + Send,
+    R::Staged: Send,
+    D: Disk + Drop + Send,
+    W: Wire,
+    P: Post + Sync,
+    G: Gate + Sync,
+    requires some { 0 < vec_len passes }
+    requires slots { (room.slots.items ≡ []) × (vec_len passes ≤ vec_capacity room.slots) }
+    requires back { (room.back.items ≡ []) × (vec_len passes ≤ vec_capacity room.back) }
+    requires channel { receives_on receiver.now ≡ sends_on sender.now }
+    requires root { IsSeatAt (sends_on sender.now) root.old × (view root.old ≡ hand whole [] []) }
+    ensures datagrams { IfOk result (λ s. (n : ℕ) × ((x : ℕ) → times x (map (λ t. t.datagram) s.taken.items ++ s.left.items) ≡ times x (one_to n))) }
+    ensures passes { IfOk result (λ s. EachGains passes.items (map (λ t. t.step) s.taken.items) s.passes.items) }
+    ensures wire { IfErr result (λ f. f.cause ≡ causes.Wire → W.failures wire.old < W.failures wire.new) }
+    ensures back { IfErr result (λ f. (numbers : List ℕ) × EachGains passes.items numbers f.passes.items) }
+{
+    let Room {
+        slots,
+        back,
+        mut buffer,
+    } = room;
+    let mut slots = seated(alloc, sender, root, passes, slots);
+    let bell = Bell::new();
+    let stop = AtomicBool::new(false);
+    let reading = read_and_work(
+        rt,
+        alloc,
+        shift,
+        sender,
+        receiver,
+        &bell,
+        &stop,
+        post,
+        gate,
+        turns,
+        slots.as_mut_slice(),
+        root,
+        wire,
+        buffer.as_mut_slice(),
+    );
+    let mut gathered = gather(alloc, sender, root, slots, back);
+    let rest = drain(rt, receiver, root, &mut gathered.left);
+    match first_cause(reading.fault, first_trouble(gathered.fault, rest)) {
+        Some(cause) => Err(ServeFault {
+            shift,
+            passes: gathered.passes,
+            cause,
+        }),
+        None => Ok(Served {
+            shift,
+            passes: gathered.passes,
+            taken: gathered.taken,
+            left: gathered.left,
+        }),
+    }
+}
+
+/// The cause of the reader, or else that of the workers.
+fn first_cause(reader: Option<Cause>, worker: Option<Trouble>) -> Option<Cause>
+    ensures none { result ≡ None → worker ≡ None }
+    ensures wire { result ≡ Some causes.Wire → reader ≡ Some causes.Wire }
+{
+    match reader {
+        Some(cause) => Some(cause),
+        None => match worker {
+            Some(Trouble::Memory) => Some(Cause::Memory),
+            Some(Trouble::Behind) => Some(Cause::Behind),
+            None => None,
+        },
+    }
+}
+
+/// What serving needs before it begins, so that no pass is lost for want of memory.
+#[derive(Drop)]
+struct Room {
+    slots: Vec<Option<Seat>>,
+    back: Vec<Pass>,
+    buffer: Vec<u8>,
+}
+
+impl Room {
+    fn new(alloc: Global, count: usize) -> Result<Room, AllocError>
+        ensures slots { IfOk result (λ r. (r.slots.items ≡ []) × (count ≤ vec_capacity r.slots)) }
+        ensures back { IfOk result (λ r. (r.back.items ≡ []) × (count ≤ vec_capacity r.back)) }
+    {
+        let slots = Vec::with_capacity(alloc, count)?;
+        let back = Vec::with_capacity(alloc, count)?;
+        let buffer = Vec::from_elem(alloc, 0, LARGEST)?;
+        Ok(Room {
+            slots,
+            back,
+            buffer,
+        })
+    }
+}
+
+/// A seat for each pass.
+fn seated(
+    alloc: Global,
+    sender: &Sender,
+    root: &mut Ticket,
+    passes: Vec<Pass>,
+    mut slots: Vec<Option<Seat>>,
+) -> Vec<Option<Seat>>
+    requires channel { IsSeatAt (sends_on sender.now) root.old × (view root.old ≡ hand whole [] []) }
+    requires room { (slots.items ≡ []) × (vec_len passes ≤ vec_capacity slots) }
+    ensures channel { IsSeatAt (sends_on sender.now) root.new × (view root.new ≡ hand (whole - length passes.items) [] []) }
+    ensures fresh { All (IsFreshSlot (sends_on sender.now)) result.items }
+    ensures passes { map pass_of result.items ≡ passes.items }
+{
+    for pass in passes {
+        let ticket = sender.another::<Cut>(root);
+        let seat = Seat::new(alloc, pass, ticket);
+        slots.push_reserved(Some(seat));
+    }
+    slots
+}
+
+/// The reader in this thread, and the workers in others.
+fn read_and_work<T, R, D, W, P, G>(
+    rt: &T,
+    alloc: Global,
+    shift: &Shift<R, D>,
+    sender: &Sender,
+    receiver: &Receiver,
+    bell: &Bell,
+    stop: &AtomicBool,
+    post: &P,
+    gate: &G,
+    turns: u64,
+    slots: &mut [Option<Seat>],
+    root: &mut Ticket,
+    wire: &mut W,
+    buffer: &mut [u8],
+) -> Reading
+where
+    T: Threads + Wait + Sync,
+    R: Replica + Send,
+    R::Staged: Send,
+    D: Disk + Drop + Send,
+    W: Wire,
+    P: Post + Sync,
+    G: Gate + Sync,
+    requires channel { receives_on receiver.now ≡ sends_on sender.now }
+    requires fresh { All (IsFreshSlot (receives_on receiver.now)) slots.old }
+    requires root { IsSeatAt (sends_on sender.now) root.old × (0 < (view root.old).parts) × ((view root.old).sent ≡ []) }
+    ensures slots { WorkedFrom (receives_on receiver.now) slots.old slots.new }
+    ensures root { IsSeatAt (sends_on sender.now) root.new × (view root.new ≡ hand (view root.old).parts (one_to result.count) (view root.old).taken) }
+    ensures wire { result.fault ≡ Some causes.Wire → W.failures wire.old < W.failures wire.new }
+{
+    let mut working = ||
+        requires { All (IsFreshSlot (receives_on receiver.now)) slots.now }
+        ensures { WorkedFrom (receives_on receiver.entry.now) slots.entry.now slots.exit.now }
+    { work_all(rt, alloc, shift, receiver, bell, stop, post, gate, slots) };
+    let mut reading = || -> Reading
+        requires { IsSeatAt (sends_on sender.now) root.now × (0 < (view root.now).parts) × ((view root.now).sent ≡ []) }
+        ensures { IsSeatAt (sends_on sender.entry.now) root.exit.now × (view root.exit.now ≡ hand (view root.entry.now).parts (one_to result.count) (view root.entry.now).taken) × (result.fault ≡ Some causes.Wire → W.failures wire.entry.now < W.failures wire.exit.now) }
+    { read_all(rt, alloc, sender, root, wire, buffer, bell, stop, turns) };
+    let ((), read) = thread::join_mut(rt, &mut working, &mut reading);
+    read
+}
+
+/// A worker at each place.
+fn work_all<T, R, D, P, G>(
+    rt: &T,
+    alloc: Global,
+    shift: &Shift<R, D>,
+    receiver: &Receiver,
+    bell: &Bell,
+    stop: &AtomicBool,
+    post: &P,
+    gate: &G,
+    slots: &mut [Option<Seat>],
+)
+where
+    T: Threads + Wait + Sync,
+    R: Replica + Send,
+    R::Staged: Send,
+    D: Disk + Drop + Send,
+    P: Post + Sync,
+    G: Gate + Sync,
+    requires fresh { All (IsFreshSlot (receives_on receiver.now)) slots.old }
+    ensures worked { WorkedFrom (receives_on receiver.now) slots.old slots.new }
+{
+    let count = slots.len();
+    if count > 0 {
+        let at = |_place: usize, slot: &mut Option<Seat>|
+            requires { IsFreshSlot (receives_on receiver.now) slot.now }
+            ensures { IsWorkedSlot (receives_on receiver.entry.now) slot.entry.now slot.exit.now }
+        { work_at(rt, alloc, shift, receiver, bell, stop, post, gate, slot) };
+        thread::for_each_mut(rt, slots, count, &at);
+    }
+}
+
+/// The work at one place.
+fn work_at<T: Wait, R: Replica, D: Disk + Drop, P: Post, G: Gate>(
+    rt: &T,
+    alloc: Global,
+    shift: &Shift<R, D>,
+    receiver: &Receiver,
+    bell: &Bell,
+    stop: &AtomicBool,
+    post: &P,
+    gate: &G,
+    slot: &mut Option<Seat>,
+)
+    requires fresh { IsFreshSlot (receives_on receiver.now) slot.old }
+    ensures worked { IsWorkedSlot (receives_on receiver.now) slot.old slot.new }
+{
+    if let Some(seat) = slot.take() {
+        *slot = Some(work(rt, alloc, shift, receiver, bell, stop, post, gate, seat));
+    }
+}
+
+/// What all seats together did.
+#[derive(Drop)]
+struct Gathered {
+    passes: Vec<Pass>,
+    taken: Vec<Taken>,
+    left: Vec<u64>,
+    fault: Option<Trouble>,
+}
+
+/// Takes the seats' passes and lists together.
+fn gather(
+    alloc: Global,
+    sender: &Sender,
+    root: &mut Ticket,
+    slots: Vec<Option<Seat>>,
+    mut back: Vec<Pass>,
+) -> Gathered
+    requires channel { IsSeatAt (sends_on sender.now) root.old }
+    requires parts { ((view root.old).parts + length slots.items ≡ whole) × (0 < (view root.old).parts) }
+    requires none { (view root.old).taken ≡ [] }
+    requires done { All (IsDone (sends_on sender.now)) slots.items }
+    requires room { (back.items ≡ []) × (length slots.items ≤ vec_capacity back) }
+    ensures channel { IsSeatAt (sends_on sender.now) root.new }
+    ensures parts { (view root.new).parts ≡ whole }
+    ensures sent { (view root.new).sent ≡ (view root.old).sent }
+    ensures count { length result.passes.items ≡ length slots.items }
+    ensures back { (before : List Holder) → DoneFrom (sends_on sender.now) before slots.items → (numbers : List ℕ) × EachGains before numbers result.passes.items }
+    ensures all { result.fault ≡ None → (before : List Holder) → DoneFrom (sends_on sender.now) before slots.items → IsGathered before (view root.new) result.taken.items result.left.items result.passes.items }
+{
+    let mut taken = Vec::new(alloc);
+    let mut left = Vec::new(alloc);
+    let mut fault = None;
+    for slot in slots {
+        if let Some(seat) = slot {
+            let trouble = join_seat(sender, root, seat, &mut back, &mut taken, &mut left);
+            fault = first_trouble(fault, trouble);
+        }
+    }
+    Gathered {
+        passes: back,
+        taken,
+        left,
+        fault,
+    }
+}
+
+/// Takes one seat's pass and lists to those of others.
+fn join_seat(
+    sender: &Sender,
+    root: &mut Ticket,
+    seat: Seat,
+    back: &mut Vec<Pass>,
+    taken: &mut Vec<Taken>,
+    left: &mut Vec<u64>,
+) -> Option<Trouble>
+    requires channel { IsSeatAt (sends_on sender.now) root.old }
+    requires part { 0 < (view root.old).parts }
+    requires done { (before : Holder) × IsWorked (sends_on sender.now) before seat }
+    requires room { vec_len back.old < vec_capacity back.old }
+    ensures channel { IsSeatAt (sends_on sender.now) root.new }
+    ensures parts { (view root.new).parts ≡ (view root.old).parts + 1 }
+    ensures sent { (view root.new).sent ≡ (view root.old).sent }
+    ensures back { (vec_len back.new ≡ vec_len back.old + 1) × (vec_capacity back.new ≡ vec_capacity back.old) }
+    ensures gains { (before : Holder) → IsWorked (sends_on sender.now) before seat → (done : List Holder) (numbers : List ℕ) → EachGains done numbers back.old.items → (more : List ℕ) × EachGains (done ++ before ∷ []) more back.new.items }
+    ensures gathered { result ≡ None → (before : Holder) → IsWorked (sends_on sender.now) before seat → (done : List Holder) → IsGathered done (view root.old) taken.old.items left.old.items back.old.items → IsGathered (done ++ before ∷ []) (view root.new) taken.new.items left.new.items back.new.items }
+{
+    let Seat {
+        pass,
+        ticket,
+        taken: mut mine,
+        left: mut others,
+        fault,
+    } = seat;
+    sender.absorb::<Cut>(root, ticket);
+    back.push_reserved(pass);
+    let Ok(()) = taken.append(&mut mine) else {
+        return Some(Trouble::Memory);
+    };
+    let Ok(()) = left.append(&mut others) else {
+        return Some(Trouble::Memory);
+    };
+    fault
+}
+
+/// Takes what is left in the queue.
+fn drain<T: Wait>(
+    rt: &T,
+    receiver: &Receiver,
+    root: &mut Ticket,
+    left: &mut Vec<u64>,
+) -> Option<Trouble>
+    requires channel { IsSeatAt (receives_on receiver.now) root.old }
+    requires part { (view root.old).parts ≡ whole }
+    ensures all { result ≡ None → (h : ℕ → ℕ) → weigh h (view root.old).sent + weigh h left.old.items ≡ weigh h (view root.old).taken + weigh h left.new.items }
+{
+    for _ in rt.forever() {
+        if left.reserve(1).is_err() {
+            return Some(Trouble::Memory);
+        }
+        match receiver.try_recv_as::<Drains, T>(rt, root) {
+            Ok(datagram) => left.push_reserved(datagram.number),
+            Err(_) => return None,
+        }
+    }
+    unreachable!()
+}
+
+/// The first that there is.
+fn first_trouble(a: Option<Trouble>, b: Option<Trouble>) -> Option<Trouble>
+    ensures none { result ≡ None → (a ≡ None) × (b ≡ None) }
+{
+    match a {
+        Some(_) => a,
+        None => b,
+    }
+}

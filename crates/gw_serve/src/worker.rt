@@ -1,0 +1,269 @@
+//! A worker: it takes numbers, makes their calls, and sends the replies when a call is done.
+
+ghost use Rattle.std.specs.Prelude.{◌≡◌, ◌<◌, ℕ, true, vec_len, vec_capacity, Some, None, List, [], ◌∷◌, ◌++◌, map};
+ghost use Rattle.crossbeam_channel.specs.Ends.{receives_on};
+ghost use Rattle.gw_serve.specs.Handling.{IsHandled, IsRefused};
+ghost use Rattle.gw_serve.specs.Work.{IsFresh, IsWorked};
+
+use crate::bell::Bell;
+use crate::queue::{Datagram, Receiver, Takes, Ticket};
+use gw_node::{NodeFault, Out, Step};
+use gw_shift::{CallFault, Pass, Shift};
+use gw_wire::{Gate, Post};
+use jr_journal::Disk;
+use octets::Octets;
+use rep_model::Replica;
+use std::alloc::Global;
+use std::sync::atomic::{AtomicBool, Ordering};
+use std::sync::{Arc, Wait};
+use thiserror::Error;
+
+/// Why serving ended early.
+#[derive(Clone, Copy, Debug, PartialEq, Eq, Error)]
+pub enum Cause {
+    /// A receive failed.
+    #[error("a receive failed")]
+    Wire,
+    /// Memory ran out, also where the gateway said so.
+    #[error("out of memory")]
+    Memory,
+    /// A pass had seen more calls than the shift has.
+    #[error("a pass has seen more calls than the shift has")]
+    Behind,
+}
+
+/// Why a worker ended early.
+#[derive(Clone, Copy, Debug, PartialEq, Eq)]
+pub enum Trouble {
+    /// Memory ran out.
+    Memory,
+    /// Its pass had seen more calls than the shift has.
+    Behind,
+}
+
+/// A datagram's number, and that of the call that it became.
+#[derive(Clone, Copy, Debug, PartialEq, Eq)]
+pub struct Taken {
+    /// The number of the datagram.
+    pub datagram: u64,
+    /// The number of the call in the shift's history.
+    pub step: u64,
+}
+
+/// A worker's place: its rights, and what it did.
+#[derive(Drop)]
+pub struct Seat {
+    /// Its right to call the shift.
+    pub pass: Pass,
+    /// Its right to take from the queue.
+    pub ticket: Ticket,
+    /// What became calls.
+    pub taken: Vec<Taken>,
+    /// The numbers of the others.
+    pub left: Vec<u64>,
+    /// Why it ended early.
+    pub fault: Option<Trouble>,
+}
+
+impl Seat {
+    /// A seat in which nothing was done.
+    pub fn new(alloc: Global, pass: Pass, ticket: Ticket) -> Seat
+        ensures pass { result.pass ≡ pass }
+        ensures ticket { result.ticket ≡ ticket }
+        ensures fresh { (result.taken.items ≡ []) × (result.left.items ≡ []) × (result.fault ≡ None) }
+    {
+        Seat {
+            pass,
+            ticket,
+            taken: Vec::new(alloc),
+            left: Vec::new(alloc),
+            fault: None,
+        }
+    }
+}
+
+/// What became of a datagram.
+#[derive(Clone, Copy, Debug)]
+pub enum Handled {
+    /// It became the call of this number.
+    Stepped(u64),
+    /// The shift has had all its calls.
+    Refused,
+    /// The worker must end.
+    Failed(Trouble),
+}
+
+/// Works until the queue is closed and empty, and has the reader stop where it failed.
+pub fn work<T: Wait, R: Replica, D: Disk + Drop, P: Post, G: Gate>(
+    rt: &T,
+    alloc: Global,
+    shift: &Shift<R, D>,
+    receiver: &Receiver,
+    bell: &Bell,
+    stop: &AtomicBool,
+    post: &P,
+    gate: &G,
+    seat: Seat,
+) -> Seat
+    requires { IsFresh (receives_on receiver.now) seat }
+    ensures { IsWorked (receives_on receiver.now) seat.pass result }
+{
+    let seat = take_all(rt, alloc, shift, receiver, bell, stop, post, gate, seat);
+    if seat.fault.is_some() {
+        stop.store(true, Ordering::SeqCst);
+    }
+    seat
+}
+
+/// Takes numbers until the queue is closed and empty. Room for a number is made before it is taken, so each that was taken is
+/// told of.
+fn take_all<T: Wait, R: Replica, D: Disk + Drop, P: Post, G: Gate>(
+    rt: &T,
+    alloc: Global,
+    shift: &Shift<R, D>,
+    receiver: &Receiver,
+    bell: &Bell,
+    stop: &AtomicBool,
+    post: &P,
+    gate: &G,
+    seat: Seat,
+) -> Seat
+    requires { IsFresh (receives_on receiver.now) seat }
+    ensures { IsWorked (receives_on receiver.now) seat.pass result }
+{
+    let Seat {
+        mut pass,
+        mut ticket,
+        mut taken,
+        mut left,
+        fault: _,
+    } = seat;
+    for _ in rt.forever() {
+        if !has_room(&mut taken, &mut left) {
+            return seat_of(pass, ticket, taken, left, Some(Trouble::Memory));
+        }
+        let heard = bell.heard(rt);
+        match receiver.try_recv_as::<Takes, T>(rt, &mut ticket) {
+            Ok(datagram) => {
+                let number = datagram.number;
+                let (after, handled) = handle(rt, alloc, shift, post, gate, pass, datagram);
+                pass = after;
+                match handled {
+                    Handled::Stepped(step) => {
+                        taken.push_reserved(Taken {
+                            datagram: number,
+                            step,
+                        });
+                    }
+                    Handled::Refused => {
+                        left.push_reserved(number);
+                        stop.store(true, Ordering::SeqCst);
+                    }
+                    Handled::Failed(cause) => {
+                        return seat_of(pass, ticket, taken, left, Some(cause));
+                    }
+                }
+            }
+            Err(_) => {
+                if heard.closed {
+                    return seat_of(pass, ticket, taken, left, None);
+                }
+                bell.wait_past(rt, heard);
+            }
+        }
+    }
+    unreachable!()
+}
+
+/// A seat of these parts.
+fn seat_of(
+    pass: Pass,
+    ticket: Ticket,
+    taken: Vec<Taken>,
+    left: Vec<u64>,
+    fault: Option<Trouble>,
+) -> Seat
+    ensures { result ≡ record { pass = pass; ticket = ticket; taken = taken; left = left; fault = fault } }
+{
+    Seat {
+        pass,
+        ticket,
+        taken,
+        left,
+        fault,
+    }
+}
+
+/// Makes room for one more number in either list.
+fn has_room(taken: &mut Vec<Taken>, left: &mut Vec<u64>) -> bool
+    ensures same { (taken.new.items ≡ taken.old.items) × (left.new.items ≡ left.old.items) }
+    ensures room { result ≡ true → (vec_len taken.new < vec_capacity taken.new) × (vec_len left.new < vec_capacity left.new) }
+{
+    taken.reserve(1).is_ok() && left.reserve(1).is_ok()
+}
+
+/// Makes the call of a datagram, and sends its replies behind the lock.
+fn handle<T: Wait, R: Replica, D: Disk + Drop, P: Post, G: Gate>(
+    rt: &T,
+    alloc: Global,
+    shift: &Shift<R, D>,
+    post: &P,
+    gate: &G,
+    pass: Pass,
+    datagram: Datagram,
+) -> (Pass, Handled)
+    ensures { IsHandled pass result.1 result.0 }
+{
+    let Datagram {
+        number,
+        from,
+        bytes,
+        moment,
+    } = datagram;
+    let frame = Step::Frame {
+        from,
+        bytes: Octets::new(bytes),
+        now: moment,
+    };
+    let Ok(step) = Arc::new(alloc, frame) else {
+        return (pass, Handled::Failed(Trouble::Memory));
+    };
+    match shift.call(rt, alloc, pass, step) {
+        Ok((pass, out, made)) => {
+            send_all(post, gate, number, &out);
+            (pass, Handled::Stepped(made))
+        }
+        Err((pass, fault)) => (pass, refused(post, gate, number, fault)),
+    }
+}
+
+/// What a refused call means for its datagram. A gateway whose disk failed may still have something to send.
+fn refused<P: Post, G: Gate>(post: &P, gate: &G, number: u64, fault: CallFault) -> Handled
+    ensures { IsRefused fault result }
+{
+    match fault {
+        CallFault::ShiftFull => Handled::Refused,
+        CallFault::Behind { .. } => Handled::Failed(Trouble::Behind),
+        CallFault::Memory => Handled::Failed(Trouble::Memory),
+        CallFault::Node {
+            number: made,
+            fault,
+        } => match fault {
+            NodeFault::Memory => Handled::Failed(Trouble::Memory),
+            NodeFault::Disk { out } => {
+                send_all(post, gate, number, &out);
+                Handled::Stepped(made)
+            }
+            _ => Handled::Stepped(made),
+        },
+    }
+}
+
+/// Sends what a call answered. A reply whose send fails is dropped: the client tries again.
+fn send_all<P: Post, G: Gate>(post: &P, gate: &G, number: u64, out: &Arc<Out>) {
+    gate.before_send(number);
+    for reply in out.sends.as_slice() {
+        let _ = post.send(reply.to, reply.bytes.as_slice());
+    }
+    gate.sent(number);
+}

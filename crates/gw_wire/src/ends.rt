@@ -1,0 +1,64 @@
+//! What a gateway asks of the outside: where datagrams come from, where replies go, and who is told of them.
+
+use sn_flow::Addr;
+use thiserror::Error;
+
+/// A datagram that came.
+#[derive(Clone, Copy, Debug, PartialEq, Eq)]
+pub struct Arrival {
+    /// Its sender.
+    pub from: Addr,
+    /// How many octets it has; they are in the front of the buffer.
+    pub size: usize,
+    /// When it came, in seconds.
+    pub moment: u64,
+}
+
+/// A receive failed.
+#[derive(Clone, Copy, Debug, PartialEq, Eq, Error)]
+#[error("a receive failed")]
+pub struct WireFault;
+
+/// A send failed.
+#[derive(Clone, Copy, Debug, PartialEq, Eq, Error)]
+#[error("a send failed")]
+pub struct Unsent;
+
+/// Where datagrams come from. One thread has it.
+pub trait Wire {
+    ghost use Rattle.std.specs.Prelude.{◌≤◌, ℕ, length, IfOk, IfSome};
+    ghost use Rattle.jr_journal.specs.Disk.{HasCause};
+
+    /// How many receives have failed.
+    ghost failures: { Self → ℕ };
+
+    /// The next datagram, in the front of the buffer, or nothing where none came for a while.
+    fn recv(&mut self, buffer: &mut [u8]) -> Result<Option<Arrival>, WireFault>
+        ensures cause { HasCause (failures self.old) (failures self.new) result }
+        ensures size { IfOk result (λ came. IfSome came (λ arrival. arrival.size ≤ length buffer.new)) };
+}
+
+/// Where replies go. Threads share it.
+pub trait Post {
+    /// Sends a datagram to an address. Nothing is said of whether it arrives.
+    fn send(&self, to: Addr, bytes: &[u8]) -> Result<(), Unsent>;
+}
+
+/// Who is told of the replies to a datagram, by the datagram's number. Threads share it.
+pub trait Gate {
+    /// The replies to a datagram are about to be sent; they are once this returns.
+    fn before_send(&self, number: u64);
+
+    /// They were sent.
+    fn sent(&self, number: u64);
+}
+
+/// A gate that lets everything pass.
+#[derive(Clone, Copy, Debug, PartialEq, Eq)]
+pub struct OpenGate;
+
+impl Gate for OpenGate {
+    fn before_send(&self, _number: u64) {}
+
+    fn sent(&self, _number: u64) {}
+}

@@ -1,0 +1,16 @@
+//! Where datagrams come from and where replies go.
+//!
+//! - `ends`: what a gateway asks of the outside (`Wire`, `Post`, `Gate`).
+//! - `udp`: a wire and a post over one UDP socket (`Socket`, with `Ears` and `Mouth`).
+//!
+//! The definitions are in `specs/Addresses`: addresses as the system has them.
+//!
+//! What comes over a socket and whether a datagram arrives is not said by any contract; what is proved is that a receive fails
+//! only where the wire counts a failure, and that a datagram lies within the buffer.
+#![tactic(auto)]
+
+mod ends;
+mod udp;
+
+pub use ends::{Arrival, Gate, OpenGate, Post, Unsent, Wire, WireFault};
+pub use udp::{Ears, Mouth, Socket, address};

@@ -1,0 +1,174 @@
+//! One UDP socket, from which one thread reads and through which any thread sends.
+
+ghost use Rattle.std.specs.Prelude.{◌≡◌, IfOk};
+ghost use Rattle.gw_wire.specs.Addresses.{IsAddress, addr_of};
+
+use super::ends::{Arrival, Post, Unsent, Wire, WireFault};
+use jr_journal::Failures;
+use mio::net::UdpSocket;
+use mio::{Events, Interest, Poll, Token};
+use sn_flow::Addr;
+use std::alloc::Global;
+use std::io;
+use std::io::ErrorKind;
+use std::net::{Ipv4Addr, Net, SocketAddr, SocketAddrV4};
+use std::time::{Clock, Duration, SystemTime};
+
+/// How many milliseconds a receive waits for a datagram.
+const A_WHILE: u64 = 100;
+
+/// A UDP socket with what tells that it is readable.
+#[derive(Drop)]
+pub struct Socket {
+    socket: UdpSocket,
+    poll: Poll,
+    events: Events,
+    /// The address that it is bound to, as the system tells it.
+    pub local: SocketAddr,
+    /// How many receives have failed.
+    pub failures: Failures,
+}
+
+/// The reader's side of a socket.
+#[derive(Drop)]
+pub struct Ears<'a, C: Clock> {
+    clock: &'a C,
+    socket: &'a UdpSocket,
+    poll: &'a mut Poll,
+    events: &'a mut Events,
+    /// How many receives have failed.
+    pub failures: Failures,
+}
+
+/// The side by which threads send.
+#[derive(Clone, Copy, Drop)]
+pub struct Mouth<'a> {
+    socket: &'a UdpSocket,
+}
+
+/// An address as the system has it: one of IPv4.
+pub fn address(addr: Addr) -> SocketAddr
+    ensures { IsAddress addr result }
+{
+    SocketAddr::V4(SocketAddrV4::new(Ipv4Addr::from_bits(addr.host), addr.port))
+}
+
+/// The host and the port of the system's address.
+fn addr_of(from: SocketAddrV4) -> Addr
+    ensures { result ≡ addr_of from }
+{
+    Addr {
+        host: from.ip().to_bits(),
+        port: from.port(),
+    }
+}
+
+impl Socket {
+    /// A socket that is bound to an address; with port 0 to a free port. No receive of it has failed.
+    pub fn bind<N: Net>(net: &N, alloc: Global, addr: Addr) -> io::Result<Socket>
+        ensures { IfOk result (λ made. made.failures.count ≡ 0) }
+    {
+        let mut socket = UdpSocket::bind(net, address(addr))?;
+        let poll = Poll::new(net)?;
+        let events = Events::with_capacity(alloc, 4)?;
+        poll.registry()
+            .register(&mut socket, Token(0), Interest::READABLE)?;
+        let local = socket.local_addr()?;
+        Ok(Socket {
+            socket,
+            poll,
+            events,
+            local,
+            failures: Failures::none(),
+        })
+    }
+
+    /// The two sides. Those who read count failures from here on.
+    pub fn sides<'a, C: Clock>(&'a mut self, clock: &'a C) -> (Ears<'a, C>, Mouth<'a>)
+        ensures { result.0.failures.count ≡ 0 }
+    {
+        let Socket {
+            socket,
+            poll,
+            events,
+            local: _,
+            failures: _,
+        } = self;
+        let ears = Ears {
+            clock,
+            socket,
+            poll,
+            events,
+            failures: Failures::none(),
+        };
+        (ears, Mouth { socket })
+    }
+}
+
+impl<'a, C: Clock> Ears<'a, C> {
+    /// A datagram that is there, or nothing. A sender that has no IPv4 address is nothing.
+    fn look(&self, buffer: &mut [u8]) -> io::Result<Option<(usize, Addr)>> {
+        match self.socket.recv_from(buffer) {
+            Ok((size, SocketAddr::V4(from))) => Ok(Some((size, addr_of(from)))),
+            Ok((_, SocketAddr::V6(_))) => Ok(None),
+            Err(e) if e.kind() == ErrorKind::WouldBlock || e.kind() == ErrorKind::Interrupted => {
+                Ok(None)
+            }
+            Err(e) => Err(e),
+        }
+    }
+
+    /// A datagram that is there, or comes within a while. Each wait follows a look that found nothing, as edge-triggered
+    /// readiness wants it.
+    fn wait(&mut self, buffer: &mut [u8]) -> io::Result<Option<(usize, Addr)>>
+        ensures { self.new.failures.count ≡ self.old.failures.count }
+    {
+        if let Some(found) = self.look(buffer)? {
+            return Ok(Some(found));
+        }
+        self.poll
+            .poll(self.events, Some(Duration::from_millis(A_WHILE)))?;
+        self.look(buffer)
+    }
+
+    /// The system clock's seconds since 1970.
+    fn moment(&self) -> u64 {
+        match SystemTime::now(self.clock) {
+            Ok(now) => match now.duration_since(SystemTime::UNIX_EPOCH) {
+                Ok(since) => since.as_secs(),
+                Err(_) => 0,
+            },
+            Err(_) => 0,
+        }
+    }
+}
+
+impl<'a, C: Clock> Wire for Ears<'a, C> {
+    ghost failures = { λ w. w.failures.count };
+
+    fn recv(&mut self, buffer: &mut [u8]) -> Result<Option<Arrival>, WireFault> {
+        match self.wait(buffer) {
+            Ok(None) => Ok(None),
+            Ok(Some((size, from))) => {
+                if size > buffer.len() {
+                    return Ok(None);
+                }
+                let moment = self.moment();
+                Ok(Some(Arrival { from, size, moment }))
+            }
+            Err(_) => {
+                self.failures = Failures::next(&self.failures);
+                Err(WireFault)
+            }
+        }
+    }
+}
+
+impl<'a> Post for Mouth<'a> {
+    fn send(&self, to: Addr, bytes: &[u8]) -> Result<(), Unsent> {
+        match self.socket.send_to(bytes, address(to)) {
+            Ok(_) => Ok(()),
+            Err(_) => Err(Unsent),
+        }
+    }
+}

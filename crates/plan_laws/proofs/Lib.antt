@@ -1,0 +1,9 @@
+mod Examples
+pub mod Sessions
+pub mod Kept
+pub mod Sound
+pub mod Written
+pub mod Following
+pub mod Rows
+pub mod Serving
+pub mod Steps

@@ -1,0 +1,28 @@
+-- What holds of a gateway in every run, and what its plans are made from.
+use Rattle.std.specs.Prelude.{ℕ, ◌≤◌, Bool, true, List, IsTrue}
+use Rattle.std.specs.List.{AllByRecursion}
+use Rattle.rep_ops.specs.declared.op.Op.{Op}
+use Rattle.rep_ops.specs.Making.{AreWellMade}
+use Rattle.rep_ops.specs.Ranges.{is_qos}
+use Rattle.sn_flow.specs.declared.local.Awaited.{Awaited}
+use Rattle.sn_flow.specs.declared.local.Awaited.TheVariants.{Topic, Message}
+use Rattle.sn_flow.specs.declared.local.WillDialog.{WillDialog}
+use Rattle.sn_flow.specs.Locals.{Local}
+use Rattle.sn_flow.specs.Flush.{AreFlush}
+
+-- whether the topic of a will that was given, if it was, has a quality of service of 0 to 2
+abbrev pub is_asked : Awaited → Bool
+is_asked Topic = true
+is_asked (Message topic) = is_qos topic.qos
+
+-- and so in every dialog
+abbrev pub AreAsked : List WillDialog → Type 0
+AreAsked dialogs = AllByRecursion (λ (dialog : WillDialog). IsTrue (is_asked dialog.awaited)) dialogs
+
+-- the gateway has a number from 1 on; what it has written itself reads back; what it has taken is well made; and so are the topics
+-- of wills that it was given
+pub record KeepsWell (g : ℕ) (S : List Op) (local : Local) : Type 0 where
+  pub numbered : 1 ≤ g
+  pub flush : AreFlush g S
+  pub made : AreWellMade S
+  pub asked : AreAsked local.dialogs

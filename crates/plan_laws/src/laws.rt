@@ -1,0 +1,44 @@
+//! The laws. Each function does nothing; its contract is a law, proved for every row of the step table.
+
+ghost use Rattle.std.specs.Prelude.{◌≡◌, ℕ, ◌≤◌, ◌++◌, List, [], Some};
+ghost use Rattle.sn_topic.specs.Table.{Entries};
+ghost use Rattle.sn_frame.specs.declared.frame.Frame.{Frame};
+ghost use Rattle.rep_ops.specs.declared.op.Op.{Op};
+ghost use Rattle.rep_ops.specs.Making.{AreApart, AreWellMade, IsDeltaOf};
+ghost use Rattle.sn_flow.specs.declared.config.Addr.{Addr};
+ghost use Rattle.sn_flow.specs.declared.plan.Plan.{Plan};
+ghost use Rattle.sn_flow.specs.Locals.{Local, no_local, after_all, owned};
+ghost use Rattle.sn_flow.specs.Own.{AddsNone};
+ghost use Rattle.sn_flow.specs.Plans.{Seen, seen_of};
+ghost use Rattle.sn_deliver.specs.Steps.{step};
+ghost use Rattle.sn_deliver.specs.Ticking.{tick};
+ghost use Rattle.plan_laws.specs.KeepsWell.{KeepsWell};
+
+/// The operations of a plan can always be written: of each frame and of each tick, at a gateway that
+/// keeps well, they are well made, and no two of them have a name in common, acknowledgements neither.
+pub fn every_plan()
+    ensures steps { (g : ℕ) (predefined : Entries) (S : List Op) (local : Local) (a : Addr)
+        (frame : Frame) (now : ℕ) (plan : Plan) → KeepsWell g S local
+        → step g predefined (seen_of S) local a frame now ≡ Some plan → AreApart plan.ops }
+    ensures ticks { (g advertise : ℕ) (field : List Addr) (predefined : Entries) (S : List Op)
+        (local : Local) (now : ℕ) (plan : Plan) → KeepsWell g S local
+        → tick g advertise field predefined (seen_of S) local now ≡ Some plan
+        → AreApart plan.ops }
+{}
+
+/// A gateway keeps well, from its start on: when it takes what a step or a tick of its own made, and when
+/// it takes a delta that has nothing new under its own stamps.
+pub fn keeps_well()
+    ensures start { (g : ℕ) → 1 ≤ g → KeepsWell g [] no_local }
+    ensures steps { (g : ℕ) (predefined : Entries) (S : List Op) (local : Local) (a : Addr)
+        (frame : Frame) (now : ℕ) (plan : Plan) (delta : List Op) → KeepsWell g S local
+        → step g predefined (seen_of S) local a frame now ≡ Some plan → IsDeltaOf plan.ops delta
+        → KeepsWell g (S ++ delta) (after_all local plan.local) }
+    ensures ticks { (g advertise : ℕ) (field : List Addr) (predefined : Entries) (S : List Op)
+        (local : Local) (now : ℕ) (plan : Plan) (delta : List Op) → KeepsWell g S local
+        → tick g advertise field predefined (seen_of S) local now ≡ Some plan
+        → IsDeltaOf plan.ops delta → KeepsWell g (S ++ delta) (after_all local plan.local) }
+    ensures taken { (g : ℕ) (S delta : List Op) (local : Local) (seen : Seen)
+        → KeepsWell g S local → AreWellMade delta → ((c : List ℕ) → AddsNone g c S delta)
+        → KeepsWell g (S ++ delta) (owned g seen local) }
+{}

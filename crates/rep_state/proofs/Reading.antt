@@ -1,0 +1,169 @@
+-- What is read off the entry of a client.
+use Rattle.std.proofs.Common.{◌≡◌, ℕ, ◌+◌, max, Bool, true, false, not, cond, ◌==◌, ◌&&◌, ◌||◌, if◌then◌else◌, List, [], ◌∷◌, ◌++◌, map, filter, suc, length, count_by, Option, Some, T, refl, sym, ap, ◌∙◌, subst, arith, le-leb, eqb-true, nat_cmp, Vec, Global}
+use Rattle.std.specs.List.{list_any, AllByRecursion}
+use Rattle.std.specs.Option.{option_map}
+use Rattle.std.specs.Cmp.{unsigned_tied}
+use Rattle.std.specs.Map.{keys_of}
+use Rattle.std.specs.FinMap.{find, is_sorted}
+use Rattle.std.specs.FinMap.Entries.{below_all}
+use Rattle.std.proofs.lemmas.Bool.Decides.{nat_tests}
+use Rattle.sn_session.specs.declared.change.SessionOp.{SessionOp}
+use Rattle.rep_ops.specs.declared.op.Stamp.{Stamp}
+use Rattle.rep_ops.specs.declared.op.Put.{Put}
+use Rattle.rep_ops.specs.declared.op.Op.{Op}
+use Rattle.rep_ops.specs.declared.op.Op.TheVariants.{Ack}
+use Rattle.rep_ops.specs.Orders.{client_cmp}
+use Rattle.rep_model.specs.Fresh.{largest, seq_of, greatest_epoch}
+use Rattle.rep_model.specs.Ranges.{AreApartFrom}
+use Rattle.rep_model.specs.Views.{names}
+use Rattle.std.specs.Ordering.{is_eq}
+use Rattle.std.proofs.lemmas.List.Sums.{length-filter}
+use Rattle.rep_ops.specs.Orders.{put_cmp}
+use Rattle.rep_plain.specs.Rows.{own, or_nothing, has_any}
+use Rattle.rep_state.proofs.Rows.{find_rows}
+use Rattle.rep_state.specs.Tables.{plain_of, rows_of}
+use Rattle.rep_plain.proofs.Flat.{find_below}
+use Rattle.rep_state.specs.declared.entry.Entry.{Entry}
+use Rattle.rep_state.specs.Mail.{Range, name_of, put_named}
+use Rattle.rep_state.specs.Origins.{origins_of, or_no_range, ranges_at, ranges_in, IsOrigin, AreOrigins}
+use Rattle.rep_state.specs.Kept.{of_log, of_mail, of_acks}
+use Rattle.rep_state.specs.Entries.{row_of}
+use Rattle.rep_state.specs.Numbers.{epoch_of, seq_from}
+use Rattle.rep_state.proofs.Client.{itself, kept_operations}
+
+-- ---- whether there is anything
+
+any_both : (a b : List Op) → has_any (a ++ b) ≡ (has_any a || has_any b)
+any_both [] b = refl
+any_both (x ∷ a) b = refl
+
+some_length : {A : Type 0} (x : A) (xs : List A) → not (length (x ∷ xs) == 0) ≡ true
+some_length x xs = let e : (length (x ∷ xs) == 0) ≡ false = grind (arith, nat_tests) in ap not e
+
+any_log : (c : List ℕ) (es : List ((Stamp × ℕ) × SessionOp)) → has_any (of_log c es) ≡ not (length es == 0)
+any_log c [] = refl
+any_log c (e ∷ es) = sym (some_length e es)
+
+any_mail : (c : List ℕ) (ps : List Put) → has_any (of_mail c ps) ≡ not (length ps == 0)
+any_mail c [] = refl
+any_mail c (p ∷ ps) = sym (some_length p ps)
+
+pub acks_both : (c : List ℕ) (xs ys : List Range) → of_acks c (xs ++ ys) ≡ of_acks c xs ++ of_acks c ys
+acks_both c [] ys = refl
+acks_both c (x ∷ xs) ys = ap (λ rest. Ack c x.0 x.1.0 x.1.1 ∷ rest) (acks_both c xs ys)
+
+any_origin : (c : List ℕ) (o : ℕ) (rs : List (ℕ × ℕ)) → has_any (of_acks c (map (λ r. (o, r)) rs)) ≡ not (length rs == 0)
+any_origin c o [] = refl
+any_origin c o (r ∷ rs) = sym (some_length r rs)
+
+any_acks : (c : List ℕ) (os : List (ℕ × List (ℕ × ℕ))) → has_any (of_acks c (ranges_in os)) ≡ list_any (λ (o : ℕ × List (ℕ × ℕ)). not (length o.1 == 0)) os
+any_acks c [] = refl
+any_acks c (o ∷ os) = ap has_any (acks_both c (map (λ r. (o.0, r)) o.1) (ranges_in os)) ∙ any_both (of_acks c (map (λ r. (o.0, r)) o.1)) (of_acks c (ranges_in os)) ∙ (λ i. any_origin c o.0 o.1 i || any_acks c os i)
+
+pub any_row : (c : List ℕ) (e : Entry) → has_any (row_of c e) ≡ (not (length e.known.entries == 0) || (not (length e.seen.pending == 0) || list_any (λ (o : ℕ × List (ℕ × ℕ)). not (length o.1 == 0)) e.acks))
+any_row c e =
+    any_both (of_log c e.known.entries) (of_mail c e.seen.pending ++ of_acks c (ranges_in e.acks))
+    ∙ (λ i. any_log c e.known.entries i || (any_both (of_mail c e.seen.pending) (of_acks c (ranges_in e.acks)) ∙ (λ j. any_mail c e.seen.pending j || any_acks c e.acks j)) i)
+
+pub any_ranges : (es : List (ℕ × Vec (ℕ × ℕ) Global)) → list_any (λ (v : Vec (ℕ × ℕ) Global). not (length v.items == 0)) (map (λ e. e.1) es) ≡ list_any (λ (o : ℕ × List (ℕ × ℕ)). not (length o.1 == 0)) (origins_of es)
+any_ranges [] = refl
+any_ranges (e ∷ es) = ap (λ b. not (length e.1.items == 0) || b) (any_ranges es)
+
+-- ---- numbers
+
+largest_both : {A : Type 0} (f : A → ℕ) (a b : List A) → largest f (a ++ b) ≡ max (largest f a) (largest f b)
+largest_both f [] b = omega arith
+largest_both f (x ∷ a) b = let rest = largest_both f a b in omega (arith, rest)
+
+pub largest_last : {A : Type 0} (f : A → ℕ) (a : List A) (x : A) → largest f (a ++ x ∷ []) ≡ max (f x) (largest f a)
+largest_last f a x = let both = largest_both f a (x ∷ []) in omega (arith, both)
+
+module _ (c : List ℕ) (g : ℕ) where
+  largest_log : (es : List ((Stamp × ℕ) × SessionOp)) → largest (seq_of c g) (of_log c es) ≡ 0
+  largest_log [] = refl
+  largest_log (e ∷ es) = let rest = largest_log es in omega (arith, rest)
+
+  largest_mail : (ps : List Put) → largest (seq_of c g) (of_mail c ps) ≡ largest (seq_from g) ps
+  largest_mail [] = refl
+  largest_mail (p ∷ ps) = λ i. max (if itself c i && (g == p.origin) then p.seq else 0) (largest_mail ps i)
+
+  largest_origin : (o k : ℕ) (rs : List (ℕ × ℕ)) → AreApartFrom k rs → largest (seq_of c g) (of_acks c (map (λ r. (o, r)) rs)) ≡ (if g == o then largest (λ (r : ℕ × ℕ). r.1) rs else 0)
+  largest_origin o k [] h = elim (g == o) as (λ b. ◌≡◌ {A = ℕ} 0 (if b then 0 else 0)) [ true ↦ refl | false ↦ refl ]
+  largest_origin o k (r ∷ rs) h =
+      (λ i. max (if itself c i && (g == o) && le-leb r.0 r.1 h.1 i then r.1 else 0) (largest_origin o (r.1 + 2) rs h.2 i))
+      ∙ elim (g == o) as (λ b. max (if b && true then r.1 else 0) (if b then largest (λ (r : ℕ × ℕ). r.1) rs else 0) ≡ (if b then max r.1 (largest (λ (r : ℕ × ℕ). r.1) rs) else 0)) [ true ↦ refl | false ↦ refl ]
+
+  first : (a b : Bool) → T (a && b) → T a
+  first true b p = tt
+  first false b p = p
+
+  second : (a b : Bool) → T (a && b) → T b
+  second true b p = p
+  second false b p = absurd p
+
+  largest_acks : (os : List (ℕ × List (ℕ × ℕ))) → T (is_sorted nat_cmp os) → AllByRecursion (λ (o : ℕ × List (ℕ × ℕ)). IsOrigin o.0 o.1) os → largest (seq_of c g) (of_acks c (ranges_in os)) ≡ largest (λ (r : ℕ × ℕ). r.1) (ranges_at g os)
+  largest_acks [] h apart = refl
+  largest_acks (o ∷ os) h apart =
+      let rest = largest_acks os (second (below_all nat_cmp o.0 os) (is_sorted nat_cmp os) h) apart.1 in
+      ap (largest (seq_of c g)) (acks_both c (map (λ r. (o.0, r)) o.1) (ranges_in os))
+      ∙ largest_both (seq_of c g) (of_acks c (map (λ r. (o.0, r)) o.1)) (of_acks c (ranges_in os))
+      ∙ (λ i. max (largest_origin o.0 1 o.1 apart.0.1 i) (rest i))
+      ∙ elim (g == o.0) as (λ b. (g == o.0) ≡ b → max (if b then largest (λ (r : ℕ × ℕ). r.1) o.1 else 0) (largest (λ (r : ℕ × ℕ). r.1) (ranges_at g os)) ≡ largest (λ (r : ℕ × ℕ). r.1) (or_no_range (cond b (Some o.1) (find nat_cmp g os)))) [
+        | true ↦ λ t.
+            let same : g ≡ o.0 = eqb-true g o.0 t in
+            let below = subst (λ k. T (below_all nat_cmp k os)) (sym same) (first (below_all nat_cmp o.0 os) (is_sorted nat_cmp os) h) in
+            ap (λ x. max (largest (λ (r : ℕ × ℕ). r.1) o.1) (largest (λ (r : ℕ × ℕ). r.1) (or_no_range x))) (find_below nat_cmp g os below)
+            ∙ (let e : max (largest (λ (r : ℕ × ℕ). r.1) o.1) 0 ≡ largest (λ (r : ℕ × ℕ). r.1) o.1 = omega arith in e)
+        | false ↦ λ _. let e : max 0 (largest (λ (r : ℕ × ℕ). r.1) (ranges_at g os)) ≡ largest (λ (r : ℕ × ℕ). r.1) (ranges_at g os) = omega arith in e
+      ] refl
+      ∙ sym (ap (λ b. largest (λ (r : ℕ × ℕ). r.1) (or_no_range (cond b (Some o.1) (find nat_cmp g os)))) (unsigned_tied g o.0))
+
+  -- the greatest sequence number is that of a message that waits, or the end of a range
+  pub largest_row : (e : Entry) → AreOrigins e.acks → largest (seq_of c g) (row_of c e) ≡ max (largest (seq_from g) e.seen.pending) (largest (λ (r : ℕ × ℕ). r.1) (ranges_at g e.acks))
+  largest_row e h =
+      let all = largest_both (seq_of c g) (of_log c e.known.entries) (of_mail c e.seen.pending ++ of_acks c (ranges_in e.acks)) in
+      let mail = largest_both (seq_of c g) (of_mail c e.seen.pending) (of_acks c (ranges_in e.acks)) in
+      all ∙ (λ i. max (largest_log e.known.entries i) ((mail ∙ (λ j. max (largest_mail e.seen.pending j) (largest_acks e.acks h.sorted h.apart j))) i))
+      ∙ (let e : max 0 (max (largest (seq_from g) e.seen.pending) (largest (λ (r : ℕ × ℕ). r.1) (ranges_at g e.acks))) ≡ max (largest (seq_from g) e.seen.pending) (largest (λ (r : ℕ × ℕ). r.1) (ranges_at g e.acks)) = omega arith in e)
+
+names_keys : (es : List ((Stamp × ℕ) × SessionOp)) → largest (λ (name : Stamp × ℕ). name.0.epoch) (names es) ≡ largest epoch_of (keys_of es)
+names_keys [] = refl
+names_keys (e ∷ es) = ap (max e.0.0.epoch) (names_keys es)
+
+pub epoch_row : (c : List ℕ) (e : Entry) → greatest_epoch c (row_of c e) ≡ largest epoch_of (keys_of e.known.entries)
+epoch_row c e = ap (λ es. largest (λ (name : Stamp × ℕ). name.0.epoch) (names es)) (kept_operations c e.known.entries e.seen.pending (ranges_in e.acks)) ∙ names_keys e.known.entries
+
+-- ---- lists of entries
+
+pub any_plain : (test : List ℕ × Entry → Bool) (xs : List (Vec ℕ Global × Entry)) → list_any (λ (x : Vec ℕ Global × Entry). test (x.0.items, x.1)) xs ≡ list_any test (map (λ e. (e.0.items, e.1)) xs)
+any_plain test [] = refl
+any_plain test (x ∷ xs) = ap (λ b. test (x.0.items, x.1) || b) (any_plain test xs)
+
+unnamed_length : (test : List ℕ → Bool) (xs : List (Vec ℕ Global × Entry)) → length (filter (λ (x : Vec ℕ Global × Entry). test x.0.items) xs) ≡ length (filter (λ (row : List ℕ × List Op). test row.0) (rows_of (plain_of xs)))
+unnamed_length test [] = refl
+unnamed_length test (x ∷ xs) = elim (test x.0.items) as (λ b. length (cond b (x ∷ filter (λ (x : Vec ℕ Global × Entry). test x.0.items) xs) (filter (λ (x : Vec ℕ Global × Entry). test x.0.items) xs)) ≡ length (cond b ((x.0.items, row_of x.0.items x.1) ∷ filter (λ (row : List ℕ × List Op). test row.0) (rows_of (plain_of xs))) (filter (λ (row : List ℕ × List Op). test row.0) (rows_of (plain_of xs))))) [
+  | true ↦ ap suc (unnamed_length test xs)
+  | false ↦ unnamed_length test xs
+]
+
+pub count_rows : (test : List ℕ → Bool) (xs : List (Vec ℕ Global × Entry)) → count_by (λ (x : Vec ℕ Global × Entry). test x.0.items) xs ≡ count_by (λ (row : List ℕ × List Op). test row.0) (rows_of (plain_of xs))
+count_rows test xs = sym (length-filter (λ (x : Vec ℕ Global × Entry). test x.0.items) xs) ∙ unnamed_length test xs ∙ length-filter (λ (row : List ℕ × List Op). test row.0) (rows_of (plain_of xs))
+
+-- ---- the entry that a look-up finds
+
+pub own_found : (c : List ℕ) (es : List (List ℕ × Entry)) (o : Option Entry) → o ≡ find client_cmp c es → or_nothing (option_map (row_of c) o) ≡ own c (rows_of es)
+own_found c es o h = ap (λ o. or_nothing (option_map (row_of c) o)) h ∙ sym (ap or_nothing (find_rows c es))
+
+-- ---- loops
+
+pub largest_step : {A : Type 0} (f : A → ℕ) (x : A) (rest it : List A) (most new all : ℕ) → it ≡ x ∷ rest → new ≡ max (f x) most → max most (largest f it) ≡ all → max new (largest f rest) ≡ all
+largest_step f x rest it most new all is more h = let here = sym (ap (λ it. max most (largest f it)) is) ∙ h in omega (arith, more, here)
+
+pub largest_done : {A : Type 0} (f : A → ℕ) (it : List A) (most all : ℕ) → it ≡ [] → max most (largest f it) ≡ all → most ≡ all
+largest_done f it most all is h = let here = sym (ap (λ it. max most (largest f it)) is) ∙ h in omega (arith, here)
+
+pub put_here : (q : ℕ × ℕ) (x : Put) (rest : List Put) → is_eq (put_cmp q (name_of x)) ≡ true → Some x ≡ put_named q (x ∷ rest)
+put_here q x rest h = sym (ap (λ b. cond b (Some x) (put_named q rest)) h)
+
+pub put_later : (q : ℕ × ℕ) (x : Put) (rest : List Put) → is_eq (put_cmp q (name_of x)) ≡ false → put_named q (x ∷ rest) ≡ put_named q rest
+put_later q x rest h = ap (λ b. cond b (Some x) (put_named q rest)) h

@@ -1,0 +1,16 @@
+use Rattle.std.proofs.Common.{refl, ap, ◌∙◌}
+use Rattle.rep_model.specs.Limits.{above_a_gap}
+use Rattle.rep_plain.specs.Steps.{capped}
+use Rattle.rep_state.specs.Origins.{above_gaps}
+use Rattle.rep_state.proofs.Acknowledged.{above_more}
+use Rattle.rep_state.proofs.acks.Acks.exceptions.Goals as goal
+
+pub loop-below-init : goal.loop-below-init
+unfolding above_gaps
+loop-below-init c = refl
+
+pub loop-below-preserved : goal.loop-below-preserved
+loop-below-preserved c =
+    above_more c.args.self.now c.loop-below.below c.above_gap.result c.loop-below.count _
+    (c.above_gap.ensures ∙ ap (λ rs. capped (above_a_gap rs)) c.numbers.ensures.numbers)
+    c.loop-below.invariant c.saturating_add-count.ensures

@@ -1,0 +1,14 @@
+use Rattle.std.proofs.Common.{Contains, sym, subst}
+use Rattle.std.proofs.lemmas.List.Elements.{Contains-get_or}
+use Rattle.std.proofs.lemmas.Result.{err_from_is_err_and}
+use Rattle.rep_plain.specs.Rows.{flat}
+use Rattle.rep_plain.proofs.Found.{refused}
+use Rattle.rep_state.specs.Tables.{by_client, rows_of}
+use Rattle.rep_state.proofs.agreeing.check.Goals as goal
+
+pub returns-in_err-check_one-clause-fault : goal.returns-in_err-check_one-clause-fault
+returns-in_err-check_one-clause-fault c =
+    let p = err_from_is_err_and c.from_residual.result c.from_residual.ensures.1 in
+    let delta = c.args.delta.now in
+    let here = subst (Contains delta) (sym c.op-item.is) (Contains-get_or delta c.loop-op.op-index c.op-item.result c.loop-op-test.true) in
+    rw (p.1, p.2) (refused (flat (rows_of (by_client c.args.table.now.entries))) delta c.op-item.result c.in_err-check_one.field-0.0 here c.in_err-check_one.ensures.fault)

@@ -1,0 +1,10 @@
+use Rattle.std.proofs.Common.{◌||◌, ◌==◌, not, length, sym, ap, ◌∙◌}
+use Rattle.rep_state.proofs.Reading.{any_row}
+use Rattle.rep_state.proofs.entry.Entry.has_operations.Goals as goal
+
+pub returns : goal.returns
+returns c =
+    λ client.
+    c.any_of.ensures
+    ∙ (λ i. c.any_change-log.ensures i || ((c.any_put-mail.ensures ∙ ap (λ ps. not (length ps == 0)) c.as_slice.ensures) i || c.has_ranges.ensures i))
+    ∙ sym (any_row client c.args.self.now)

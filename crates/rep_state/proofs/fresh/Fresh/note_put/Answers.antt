@@ -1,0 +1,58 @@
+use Rattle.std.proofs.Common.{◌≡◌, true, false, ◌||◌, is_some, sym, ap, ◌∙◌}
+use Rattle.std.specs.List.{list_any}
+use Rattle.std.specs.BTreeMap.{insert_entry}
+use Rattle.std.specs.FinMap.{find, put as place}
+use Rattle.rep_ops.specs.Orders.{put_cmp}
+use Rattle.rep_ops.specs.declared.op.Put.{Put}
+use Rattle.rep_model.proofs.Lookup.{or_else}
+use Rattle.rep_plain.proofs.Maps.{insert_is_put}
+use Rattle.rep_state.specs.Mail.{name_of, covers, put_named, weave}
+use Rattle.rep_state.specs.Origins.{ranges_in}
+use Rattle.rep_state.specs.Entries.{messages}
+use Rattle.rep_state.proofs.Rising.{find_weave}
+use Rattle.rep_state.proofs.Changes.{put_skipped, put_more}
+use Rattle.rep_state.proofs.Freshness.{found_message, in_weave, not_there, under_more, sorted_more, made_more, found_more, apart_more}
+use Rattle.rep_state.proofs.fresh.Fresh.note_put.Goals as goal
+
+pub returns-then-has : goal.returns-then-has
+returns-then-has c =
+    λ client fresh own.
+    let f = c.args.self.now in
+    let es = f.news.entries in
+    let waiting = c.args.waiting.now in
+    let p = c.args.put.now in
+    let rs = ranges_in f.acks in
+    let cov = list_any (covers (name_of p)) rs in
+    let known : ((cov || is_some (put_named (name_of p) waiting)) || is_some (find put_cmp (name_of p) es)) ≡ true = sym c.has.ensures ∙ c.if-has.true in
+    let split = find_weave (name_of p) waiting (messages es) (fresh.apart (name_of p)) ∙ ap (or_else (put_named (name_of p) waiting)) (found_message (name_of p) es fresh.under) in (
+      fresh,
+      put_skipped client f.log.known.entries f.log.stamp fresh.folded.visible fresh.folded.none_below p rs (weave waiting (messages es)) (λ free. ap is_some split ∙ in_weave cov (put_named (name_of p) waiting) (find put_cmp (name_of p) es) known free),
+    )
+
+pub returns : goal.returns
+returns c =
+    λ client fresh own.
+    let f = c.args.self.now in
+    let es = f.news.entries in
+    let new = c.insert.new.self.entries in
+    let waiting = c.args.waiting.now in
+    let p = c.args.put.now in
+    let rs = ranges_in f.acks in
+    let cov = list_any (covers (name_of p)) rs in
+    let known : ((cov || is_some (put_named (name_of p) waiting)) || is_some (find put_cmp (name_of p) es)) ≡ false = sym c.has.ensures ∙ c.if-has.false in
+    let none = not_there cov (put_named (name_of p) waiting) (find put_cmp (name_of p) es) known in
+    let is : new ≡ place put_cmp (name_of p) p es = c.in_ok-insert.ensures.entries ∙ ap (λ (x : Put). insert_entry put_cmp es (name_of x) x) c.in_ok-put.ensures.ok ∙ insert_is_put put_cmp (name_of p) p es in
+    let apart = apart_more waiting es new p fresh.under fresh.apart none.0 is in (
+      record {
+        folded = fresh.folded;
+        ordered = fresh.ordered;
+        changes = fresh.changes;
+        sorted = sorted_more waiting es new p fresh.under fresh.apart none.0 is fresh.sorted;
+        under = under_more waiting es new p fresh.under fresh.apart none.0 is;
+        made = made_more waiting es new p fresh.under fresh.apart none.0 is own fresh.made;
+        apart = apart;
+        origins = fresh.origins;
+      },
+      put_more client f.log.known.entries f.log.stamp fresh.folded.visible fresh.folded.none_below p rs waiting (messages es) (messages new) fresh.apart apart
+          (found_more waiting es new p fresh.under fresh.apart none.0 is) none.0 (found_message (name_of p) es fresh.under ∙ none.1),
+    )

@@ -1,0 +1,9 @@
+use Rattle.std.proofs.Common.{T, take}
+use Rattle.std.specs.FinMap.{is_sorted}
+use Rattle.rep_ops.specs.Orders.{client_cmp}
+use Rattle.rep_state.specs.Tables.{by_client}
+use Rattle.rep_state.specs.Groups.{AreGroups}
+use Rattle.rep_state.proofs.grouping.grown.Given as goal
+
+abbrev pub invariant-loop-op : goal.invariant-loop-op
+invariant-loop-op l = AreGroups (by_client l.table.entries) (take l.op-index l.ops) l.groups.entries × T (is_sorted client_cmp l.groups.entries)

@@ -1,0 +1,113 @@
+//! Whether a delta contradicts what is kept.
+
+ghost use Rattle.std.specs.Prelude.{◌≡◌, ◌⊎◌, ◌↔◌, IsTrue, OnOk, IfErr, ℕ, List};
+ghost use Rattle.std.specs.Option.{option_copied};
+ghost use Rattle.std.specs.Ordering.{is_eq};
+ghost use Rattle.rep_ops.specs.Orders.{client_of, put_cmp};
+ghost use Rattle.rep_ops.specs.Sets.{Agrees};
+ghost use Rattle.rep_model.specs.Taking.{AllAgree, IsFaultOf};
+ghost use Rattle.rep_plain.specs.Rows.{flat, own, AreRows};
+ghost use Rattle.rep_plain.specs.Tables.{IsRefusalOf};
+ghost use Rattle.rep_state.specs.Entries.{row_of};
+ghost use Rattle.rep_state.specs.Mail.{name_of, put_named};
+ghost use Rattle.rep_state.specs.Tables.{by_client, rows_of};
+
+use super::entry::Entry;
+use super::table::{Table, entry_of};
+use rep_model::TakeFault;
+use rep_ops::{ClientId, Op, Put};
+use rep_same::same_change;
+use std::alloc::Global;
+
+/// Tests each operation of a delta against what is kept under its name.
+pub(crate) fn check(alloc: Global, table: &Table, delta: &[Op]) -> Result<(), TakeFault>
+    requires { AreRows (rows_of (by_client table.now.entries)) }
+    ensures agree { OnOk result (AllAgree (flat (rows_of (by_client table.now.entries))) delta.now) }
+    ensures fault { IfErr result (IsFaultOf (flat (rows_of (by_client table.now.entries))) delta.now) }
+{
+    for op in delta {
+        check_one(alloc, table, op)?;
+    }
+    Ok(())
+}
+
+/// Tests an operation.
+fn check_one(alloc: Global, table: &Table, op: &Op) -> Result<(), TakeFault>
+    requires { AreRows (rows_of (by_client table.now.entries)) }
+    ensures agrees { OnOk result (Agrees (flat (rows_of (by_client table.now.entries))) op.now) }
+    ensures fault { IfErr result (IsRefusalOf (flat (rows_of (by_client table.now.entries))) op.now) }
+{
+    if !agrees(table, op) {
+        return Err(conflict(alloc, op.client()));
+    }
+    Ok(())
+}
+
+/// The refusal of a delta that contradicts an operation of the client.
+fn conflict(alloc: Global, client: &ClientId) -> TakeFault
+    ensures { (result ≡ TakeFault.Conflict client.now) ⊎ (result ≡ TakeFault.Memory) }
+{
+    match client.copy(alloc) {
+        Ok(client) => TakeFault::Conflict { client },
+        Err(_) => TakeFault::Memory,
+    }
+}
+
+/// Whether an operation contradicts nothing that is kept of its client.
+fn agrees(table: &Table, op: &Op) -> bool
+    ensures { IsTrue result
+        ↔ Agrees (own (client_of op.now) (rows_of (by_client table.now.entries))) op.now }
+{
+    match entry_of(table, op.client().bytes()) {
+        Some(entry) => agrees_with(entry, op),
+        None => true,
+    }
+}
+
+/// Whether an operation contradicts nothing that is kept of its client, which is this.
+fn agrees_with(entry: &Entry, op: &Op) -> bool
+    ensures { IsTrue result ↔ Agrees (row_of (client_of op.now) entry.now) op.now }
+{
+    match op {
+        Op::Session {
+            stamp,
+            counter,
+            change,
+            ..
+        } => match entry.known.get(&(*stamp, *counter)) {
+            Some(kept) => same_change(kept, change),
+            None => true,
+        },
+        Op::Put { put, .. } => match find_put(entry.seen.pending.as_slice(), put.seq, put.origin) {
+            Some(kept) => same_put(kept, put),
+            None => true,
+        },
+        Op::Ack { .. } => true,
+    }
+}
+
+/// Whether the messages are equal.
+fn same_put(put: &Put, other: &Put) -> bool
+    ensures { IsTrue result ↔ (put.now ≡ other.now) }
+{
+    put == other
+}
+
+/// The message of that name.
+fn find_put<'a>(puts: &'a [Put], seq: u64, origin: u8) -> Option<&'a Put>
+    ensures { option_copied result ≡ put_named (seq, origin) puts.now }
+{
+    for put in puts {
+        if has_name(put, seq, origin) {
+            return Some(put);
+        }
+    }
+    None
+}
+
+/// Whether the message has that name.
+fn has_name(put: &Put, seq: u64, origin: u8) -> bool
+    ensures { result ≡ is_eq (put_cmp (seq, origin) (name_of put.now)) }
+{
+    seq.cmp(&put.seq).then(origin.cmp(&put.origin)).is_eq()
+}

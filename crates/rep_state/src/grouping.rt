@@ -1,0 +1,159 @@
+//! What a delta changes of each client that it names.
+
+ghost use Rattle.std.specs.Prelude.{◌≡◌, ◌++◌, ◌∷◌, [], IsTrue, IfOk, OnOk, ℕ, List, T, false};
+ghost use Rattle.std.specs.Ordering.{is_eq};
+ghost use Rattle.std.specs.List.{AllByRecursion};
+ghost use Rattle.std.specs.FinMap.{find, is_sorted};
+ghost use Rattle.rep_ops.specs.declared.op.Op.{Op};
+ghost use Rattle.rep_ops.specs.Orders.{client_cmp};
+ghost use Rattle.rep_ops.specs.WellMade.{is_well_made};
+ghost use Rattle.rep_plain.specs.Rows.{own};
+ghost use Rattle.rep_state.specs.Entries.{IsFresh, fresh_row};
+ghost use Rattle.rep_state.specs.Tables.{plain_of, by_client, rows_of, AreKept, AreWorkedOut};
+ghost use Rattle.rep_state.specs.Groups.{waiting_of, IsTaken, AreGroups, fresh_rows};
+
+use super::entry::Entry;
+use super::fault::NoMemory;
+use super::fresh::Fresh;
+use super::table::{Table, copy_octets, entry_of};
+use rep_ops::{ClientId, Op, Put};
+use std::alloc::Global;
+use std::collections::BTreeMap;
+
+/// For each client that the operations name: what they change of it.
+pub(crate) fn grown(
+    alloc: Global,
+    table: &Table,
+    ops: &[Op],
+) -> Result<BTreeMap<ClientId, Fresh>, NoMemory>
+    requires kept { AreKept (by_client table.now.entries) }
+    requires made { AllByRecursion (λ op. IsTrue (is_well_made op)) ops.now }
+    ensures groups { IfOk result (λ groups.
+        AreGroups (by_client table.now.entries) ops.now groups.entries) }
+    ensures sorted { IfOk result (λ groups. T (is_sorted client_cmp groups.entries)) }
+    ensures fresh { IfOk result (λ groups. AllByRecursion
+        (λ g. IsFresh (waiting_of g.0 (by_client table.now.entries)) g.1) groups.entries) }
+{
+    let mut groups = BTreeMap::new(alloc);
+    for op in ops {
+        add_to_group(alloc, table, &mut groups, op)?;
+    }
+    Ok(groups)
+}
+
+/// Takes an operation into the group of its client.
+fn add_to_group(
+    alloc: Global,
+    table: &Table,
+    groups: &mut BTreeMap<ClientId, Fresh>,
+    op: &Op,
+) -> Result<(), NoMemory>
+    requires kept { AreKept (by_client table.now.entries) }
+    requires made { IsTrue (is_well_made op.now) }
+    requires groups { (D : List Op) × AreGroups (by_client table.now.entries) D groups.old.entries }
+    ensures groups { (D : List Op)
+        → AreGroups (by_client table.now.entries) D groups.old.entries
+        → OnOk result
+        (AreGroups (by_client table.now.entries) (D ++ op.now ∷ []) groups.new.entries) }
+    ensures sorted { OnOk result (T (is_sorted client_cmp groups.new.entries)) }
+{
+    let client = op.client().copy(alloc)?;
+    let mut fresh = take_group(alloc, table, groups, &client)?;
+    fresh.note(alloc, waiting(table, &client), op)?;
+    groups.insert(client, fresh)?;
+    Ok(())
+}
+
+/// Takes what is changed of a client out of the groups; what the table has of it, where nothing is changed yet.
+fn take_group(
+    alloc: Global,
+    table: &Table,
+    groups: &mut BTreeMap<ClientId, Fresh>,
+    client: &ClientId,
+) -> Result<Fresh, NoMemory>
+    requires kept { AreKept (by_client table.now.entries) }
+    requires groups { (D : List Op) × AreGroups (by_client table.now.entries) D groups.old.entries }
+    ensures fresh { IfOk result (λ fresh.
+        IsFresh (waiting_of client.now (by_client table.now.entries)) fresh) }
+    ensures taken { (D : List Op)
+        → AreGroups (by_client table.now.entries) D groups.old.entries
+        → IfOk result (λ fresh. IsTaken client.now (by_client table.now.entries) D
+        (fresh_row client.now (waiting_of client.now (by_client table.now.entries)) fresh)) }
+    ensures others { (c : List ℕ)
+        → is_eq (client_cmp client.now c) ≡ false
+        → find client_cmp c groups.new.entries ≡ find client_cmp c groups.old.entries }
+{
+    match groups.remove(client) {
+        Some(fresh) => Ok(fresh),
+        None => unchanged(alloc, table, client),
+    }
+}
+
+/// What the table has of a client, to be changed.
+fn unchanged(alloc: Global, table: &Table, client: &ClientId) -> Result<Fresh, NoMemory>
+    requires { AreKept (by_client table.now.entries) }
+    ensures fresh { IfOk result (λ fresh.
+        IsFresh (waiting_of client.now (by_client table.now.entries)) fresh) }
+    ensures row { IfOk result (λ fresh.
+        fresh_row client.now (waiting_of client.now (by_client table.now.entries)) fresh
+        ≡ own client.now (rows_of (by_client table.now.entries))) }
+{
+    match entry_of(table, client.bytes()) {
+        Some(entry) => Fresh::of(alloc, entry),
+        None => Fresh::of(alloc, &Entry::empty(alloc)),
+    }
+}
+
+/// The messages that wait for the client.
+fn waiting<'a>(table: &'a Table, client: &ClientId) -> &'a [Put]
+    ensures { result.now ≡ waiting_of client.now (by_client table.now.entries) }
+{
+    match entry_of(table, client.bytes()) {
+        Some(entry) => entry.seen.pending.as_slice(),
+        None => &[],
+    }
+}
+
+/// What is kept of each client once its group is taken.
+pub(crate) fn worked_out(
+    alloc: Global,
+    table: &Table,
+    groups: BTreeMap<ClientId, Fresh>,
+) -> Result<Vec<(Vec<u8>, Entry)>, NoMemory>
+    requires kept { AreKept (by_client table.now.entries) }
+    requires fresh { AllByRecursion
+        (λ g. IsFresh (waiting_of g.0 (by_client table.now.entries)) g.1) groups.entries }
+    ensures rows { IfOk result (λ fresh. rows_of (plain_of fresh.items)
+        ≡ fresh_rows (by_client table.now.entries) groups.entries) }
+    ensures worked_out { IfOk result (λ fresh. AreWorkedOut (plain_of fresh.items)) }
+{
+    let mut made = Vec::with_capacity(alloc, groups.len())?;
+    for (client, fresh) in groups {
+        push_entry(alloc, table, &mut made, &client, fresh)?;
+    }
+    Ok(made)
+}
+
+/// Puts what is kept of the client once its group is taken behind the others.
+fn push_entry(
+    alloc: Global,
+    table: &Table,
+    made: &mut Vec<(Vec<u8>, Entry)>,
+    client: &ClientId,
+    fresh: Fresh,
+) -> Result<(), NoMemory>
+    requires kept { AreKept (by_client table.now.entries) }
+    requires fresh { IsFresh (waiting_of client.now (by_client table.now.entries)) fresh }
+    ensures rows { OnOk result (rows_of (plain_of made.new.items)
+        ≡ rows_of (plain_of made.old.items) ++ (
+          client.now,
+          fresh_row client.now (waiting_of client.now (by_client table.now.entries)) fresh,
+        ) ∷ []) }
+    ensures worked_out { AreWorkedOut (plain_of made.old.items)
+        → OnOk result (AreWorkedOut (plain_of made.new.items)) }
+{
+    let entry = fresh.into_entry(alloc, waiting(table, client))?;
+    let key = copy_octets(alloc, client.bytes())?;
+    made.push((key, entry))?;
+    Ok(())
+}

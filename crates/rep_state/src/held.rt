@@ -1,0 +1,209 @@
+//! All clients in order, and what is kept of them.
+
+ghost use Rattle.std.specs.Prelude.{◌≡◌, ◌+◌, ◌<◌, ◌++◌, ◌∷◌, [], IfOk, OnOk, ℕ, length, drop, filter};
+ghost use Rattle.std.specs.BTreeMap.{keys};
+ghost use Rattle.std.specs.Map.{keys_of};
+ghost use Rattle.rep_ops.specs.declared.op.Op.TheVariants.{Session as OfSession, Put as OfPut};
+ghost use Rattle.rep_model.specs.Held.{IsHeld};
+ghost use Rattle.rep_plain.specs.Rows.{flat, own, has_any, named_rows};
+ghost use Rattle.rep_state.specs.Entries.{row_of};
+ghost use Rattle.rep_state.specs.Kept.{of_log, of_mail};
+ghost use Rattle.rep_state.specs.Tables.{by_client, rows_of, names_in, own_of_all, IsTable};
+
+use super::entry::Entry;
+use super::fault::NoMemory;
+use super::table::{Table, entry_of, has_operations};
+use rep_ops::{ClientId, Delta, Op, Put, Stamp, deltas_of};
+use sn_session::SessionOp;
+use std::alloc::Global;
+use std::collections::BTreeMap;
+
+/// The clients in ascending order, with those that have an empty place.
+fn all_clients(alloc: Global, table: &Table) -> Result<Vec<ClientId>, NoMemory>
+    ensures { IfOk result (λ clients. clients.items ≡ keys_of (by_client table.now.entries)) }
+{
+    let mut names = BTreeMap::new(alloc);
+    let mut i = table.len();
+    while i > 0 {
+        i -= 1;
+        enter_name(alloc, &mut names, table, i)?;
+    }
+    into_clients(alloc, names)
+}
+
+/// Enters the name of the client at a place in front of those behind it.
+fn enter_name(
+    alloc: Global,
+    names: &mut BTreeMap<ClientId, ()>,
+    table: &Table,
+    place: usize,
+) -> Result<(), NoMemory>
+    requires { place < length table.now.entries }
+    ensures { names.old.entries ≡ names_in (drop (place + 1) table.now.entries)
+        → OnOk result (names.new.entries ≡ names_in (drop place table.now.entries)) }
+{
+    match table.get_index(place) {
+        Some((client, _)) => {
+            let client = ClientId::new(alloc, client.as_slice())?;
+            names.insert(client, ())?;
+            Ok(())
+        }
+        None => Ok(()),
+    }
+}
+
+/// The clients in order.
+fn into_clients(alloc: Global, names: BTreeMap<ClientId, ()>) -> Result<Vec<ClientId>, NoMemory>
+    ensures { IfOk result (λ clients. clients.items ≡ keys names) }
+{
+    let clients = names.into_keys().collect(alloc)?;
+    Ok(clients)
+}
+
+/// The clients that have operations, in ascending order.
+pub(crate) fn named_clients(alloc: Global, table: &Table) -> Result<Vec<ClientId>, NoMemory>
+    ensures { IfOk result (λ clients.
+        clients.items ≡ named_rows (rows_of (by_client table.now.entries))) }
+{
+    let mut clients = all_clients(alloc, table)?;
+    keep_named(&mut clients, table);
+    Ok(clients)
+}
+
+/// Drops the clients that have no operations.
+fn keep_named(clients: &mut Vec<ClientId>, table: &Table)
+    ensures { clients.new.items
+        ≡ filter (λ c. has_any (own c (rows_of (by_client table.now.entries)))) clients.old.items }
+{
+    clients.retain(|client| has_operations(table, client.bytes()));
+}
+
+/// What is kept, as deltas.
+pub(crate) fn held(alloc: Global, table: &Table) -> Result<Vec<Delta>, NoMemory>
+    requires { (n : ℕ) × IsTable (by_client table.now.entries) n }
+    ensures { IfOk result (λ deltas.
+        IsHeld (flat (rows_of (by_client table.now.entries))) deltas.items) }
+{
+    let kept = kept_ops(alloc, table)?;
+    Ok(deltas_of(alloc, kept)?)
+}
+
+/// What is kept, client by client.
+fn kept_ops(alloc: Global, table: &Table) -> Result<Vec<Op>, NoMemory>
+    ensures { IfOk result (λ kept. kept.items ≡ flat (rows_of (by_client table.now.entries))) }
+{
+    let mut kept = Vec::new(alloc);
+    let clients = all_clients(alloc, table)?;
+    push_all(alloc, &mut kept, table, clients.as_slice())?;
+    Ok(kept)
+}
+
+/// Puts what is kept of these clients behind the others.
+fn push_all(
+    alloc: Global,
+    kept: &mut Vec<Op>,
+    table: &Table,
+    clients: &[ClientId],
+) -> Result<(), NoMemory>
+    ensures { OnOk result (kept.new.items
+        ≡ kept.old.items ++ own_of_all clients.now (rows_of (by_client table.now.entries))) }
+{
+    for client in clients {
+        push_own(alloc, kept, table, client)?;
+    }
+    Ok(())
+}
+
+/// Puts what is kept of the client behind the others.
+fn push_own(
+    alloc: Global,
+    kept: &mut Vec<Op>,
+    table: &Table,
+    client: &ClientId,
+) -> Result<(), NoMemory>
+    ensures { OnOk result (kept.new.items
+        ≡ kept.old.items ++ own client.now (rows_of (by_client table.now.entries))) }
+{
+    match entry_of(table, client.bytes()) {
+        Some(entry) => push_row(alloc, kept, client, entry),
+        None => Ok(()),
+    }
+}
+
+/// Puts what is kept of the client, which is this, behind the others.
+fn push_row(
+    alloc: Global,
+    kept: &mut Vec<Op>,
+    client: &ClientId,
+    entry: &Entry,
+) -> Result<(), NoMemory>
+    ensures { OnOk result (kept.new.items ≡ kept.old.items ++ row_of client.now entry.now) }
+{
+    push_log(alloc, kept, client, &entry.known)?;
+    push_mail(alloc, kept, client, entry.seen.pending.as_slice())?;
+    entry.acks.push_to(alloc, kept, client)?;
+    Ok(())
+}
+
+/// Puts the client's session operations behind the others.
+fn push_log(
+    alloc: Global,
+    kept: &mut Vec<Op>,
+    client: &ClientId,
+    known: &BTreeMap<(Stamp, u8), SessionOp>,
+) -> Result<(), NoMemory>
+    ensures { OnOk result (kept.new.items ≡ kept.old.items ++ of_log client.now known.now.entries) }
+{
+    for (name, change) in known {
+        push_session(alloc, kept, client, *name, change)?;
+    }
+    Ok(())
+}
+
+/// Puts a session operation of the client behind the others.
+fn push_session(
+    alloc: Global,
+    kept: &mut Vec<Op>,
+    client: &ClientId,
+    name: (Stamp, u8),
+    change: &SessionOp,
+) -> Result<(), NoMemory>
+    ensures { OnOk result (kept.new.items
+        ≡ kept.old.items ++ OfSession client.now name.0 name.1 change.now ∷ []) }
+{
+    let op = Op::Session {
+        client: client.copy(alloc)?,
+        stamp: name.0,
+        counter: name.1,
+        change: change.copy(alloc)?,
+    };
+    kept.push(op)?;
+    Ok(())
+}
+
+/// Puts the messages that wait for the client behind the others.
+fn push_mail(
+    alloc: Global,
+    kept: &mut Vec<Op>,
+    client: &ClientId,
+    puts: &[Put],
+) -> Result<(), NoMemory>
+    ensures { OnOk result (kept.new.items ≡ kept.old.items ++ of_mail client.now puts.now) }
+{
+    for put in puts {
+        push_put(alloc, kept, client, put)?;
+    }
+    Ok(())
+}
+
+/// Puts a message of the client behind the others.
+fn push_put(alloc: Global, kept: &mut Vec<Op>, client: &ClientId, put: &Put) -> Result<(), NoMemory>
+    ensures { OnOk result (kept.new.items ≡ kept.old.items ++ OfPut client.now put.now ∷ []) }
+{
+    let op = Op::Put {
+        client: client.copy(alloc)?,
+        put: put.copy(alloc)?,
+    };
+    kept.push(op)?;
+    Ok(())
+}

@@ -1,0 +1,53 @@
+//! The folded replica of a set of operations (`Folded`): it forgets what no answer needs.
+//!
+//! Of a client only what must be kept is held: the session operations of the visible stamp and those above
+//! it, which wait for their Take (`Log`); the messages that wait, in the order of delivery; and per origin the
+//! acknowledged numbers as ranges (`Acks`), so that what was acknowledged in order is one range for ever. The
+//! view and the counts stand beside them (`Entry`), and are never worked out from the past again.
+//!
+//! A delta is taken in two steps. `prepare` tests it against what is kept, before it changes anything; works out
+//! what it makes of each client that it names, operation by operation (`Fresh`), where each may be new, may wait,
+//! may be below the visible stamp or acknowledged already, and after each of them what is held is exactly what must
+//! be kept of all that came; counts what the limits speak of; and makes places for new clients. `commit` moves the
+//! entries into their places, for which no memory is needed.
+//!
+//! - `replica`: the replica and what it promises (`Folded`, `Staged`).
+//! - `table`, `room`: the table of clients, the limits, places and the move of fresh entries.
+//! - `agreeing`: whether a delta contradicts what is kept.
+//! - `grouping`: what a delta changes of each client that it names.
+//! - `numbers`, `held`: the last numbers of a client; all clients in order, and what is kept of them.
+//! - `entry`, `fresh`: what is kept of a client, and what a delta changes of it.
+//! - `log`: the session operations of a client, with the visible stamp, the prefix and the session.
+//! - `acks`: acknowledged numbers.
+//! - `weaving`, `settling`: messages that wait, with new ones in their places, without the acknowledged ones.
+//! - `fault`: want of memory.
+//!
+//! The definitions are in `specs/`: `Logs`, `Mail` and `Origins` (of session operations, messages and
+//! acknowledgements), `Kept` (all three as a list of operations), `Entries` (what holds of an entry, and of a
+//! change), `Tables` (of clients), `Groups` (the changes of a delta, client by client), `Numbers`. Lemmas that carry
+//! the step from one operation to the next are in `proofs/`: `Steps`, `One`, `Changes`; from a client to all of
+//! them: `Groups`, `Working`, `Passing`, `Fitting`; of places and moves: `Rows`, `Placing`, `Walking`.
+#![tactic(auto)]
+
+mod acks;
+mod agreeing;
+mod entry;
+mod fault;
+mod fresh;
+mod grouping;
+mod held;
+mod log;
+mod numbers;
+mod replica;
+mod room;
+mod settling;
+mod table;
+mod weaving;
+
+pub use acks::Acks;
+pub use entry::Entry;
+pub use fault::NoMemory;
+pub use fresh::Fresh;
+pub use log::Log;
+pub use rep_model::{ClientView, Limit, Puts, Replica, TakeFault};
+pub use replica::{Folded, Staged};

@@ -1,0 +1,97 @@
+//! The last numbers of a client.
+
+ghost use Rattle.std.specs.Prelude.{◌≡◌, ℕ, List, max};
+ghost use Rattle.rep_model.specs.Fresh.{greatest_epoch, seq_of, largest};
+ghost use Rattle.rep_plain.specs.Rows.{own};
+ghost use Rattle.rep_state.specs.Entries.{row_of};
+ghost use Rattle.rep_state.specs.Numbers.{epoch_of, seq_from};
+ghost use Rattle.rep_state.specs.Tables.{by_client, rows_of};
+ghost use Rattle.std.specs.BTreeMap.{keys};
+
+use super::entry::Entry;
+use super::table::{Table, entry_of};
+use rep_ops::{ClientId, Put, Stamp};
+use sn_session::SessionOp;
+use std::collections::BTreeMap;
+
+/// The greatest epoch of the client, or 0.
+pub(crate) fn last_epoch(table: &Table, client: &ClientId) -> u64
+    ensures { result
+        ≡ greatest_epoch client.now (own client.now (rows_of (by_client table.now.entries))) }
+{
+    match entry_of(table, client.bytes()) {
+        Some(entry) => greatest_epoch(&entry.known),
+        None => 0,
+    }
+}
+
+/// The greatest sequence number of the client and the gateway, or 0.
+pub(crate) fn last_seq(table: &Table, client: &ClientId, gateway: u8) -> u64
+    ensures { result
+        ≡ largest (seq_of client.now gateway) (own client.now (rows_of (by_client table.now.entries))) }
+{
+    match entry_of(table, client.bytes()) {
+        Some(entry) => greatest_seq(entry, gateway),
+        None => 0,
+    }
+}
+
+/// The greatest epoch of the operations, or 0.
+fn greatest_epoch(known: &BTreeMap<(Stamp, u8), SessionOp>) -> u64
+    ensures { result ≡ largest epoch_of (keys known.now) }
+{
+    let mut most = 0;
+    for name in known.keys() {
+        most = larger(name.0.epoch, most);
+    }
+    most
+}
+
+/// The greatest sequence number of the gateway that the entry names, or 0.
+fn greatest_seq(entry: &Entry, gateway: u8) -> u64
+    ensures { (c : List ℕ) → result ≡ largest (seq_of c gateway) (row_of c entry.now) }
+{
+    let sent = greatest_put(entry.seen.pending.as_slice(), gateway);
+    let taken = greatest_end(entry.acks.numbers(gateway));
+    larger(sent, taken)
+}
+
+/// The larger of the two.
+fn larger(a: u64, b: u64) -> u64
+    ensures { result ≡ max a b }
+{
+    a.max(b)
+}
+
+/// The greatest sequence number of the gateway's messages, or 0.
+fn greatest_put(puts: &[Put], gateway: u8) -> u64
+    ensures { result ≡ largest (seq_from gateway) puts.now }
+{
+    let mut most = 0;
+    let mut i = puts.len();
+    while i > 0 {
+        i -= 1;
+        most = seq_from(&puts[i], gateway).max(most);
+    }
+    most
+}
+
+/// The sequence number of a message of the gateway, or 0.
+fn seq_from(put: &Put, gateway: u8) -> u64
+    ensures { result ≡ seq_from gateway put.now }
+{
+    if gateway == put.origin { put.seq } else { 0 }
+}
+
+/// The greatest end of the ranges, or 0.
+fn greatest_end(ranges: &[(u64, u64)]) -> u64
+    ensures { result ≡ largest (λ range. range.1) ranges.now }
+{
+    let mut most = 0;
+    let mut i = ranges.len();
+    while i > 0 {
+        i -= 1;
+        most = ranges[i].1.max(most);
+    }
+    most
+}

@@ -1,0 +1,124 @@
+//! The folded replica.
+
+ghost use Rattle.std.specs.Prelude.{◌≡◌};
+
+use super::agreeing::check;
+use super::entry::Entry;
+use super::grouping::{grown, worked_out};
+use super::held::{held, named_clients};
+use super::numbers::{last_epoch, last_seq};
+use super::room::{make_room, move_in};
+use super::table::{Table, count_new, entry_of, passed};
+use indexmap::IndexMap;
+use rep_model::{ClientView, Replica, TakeFault};
+use rep_ops::{ClientId, Delta};
+use std::alloc::Global;
+use std::marker::Model;
+
+/// The folded replica: of each client what must be kept, and what it comes to.
+#[derive(Debug, Drop)]
+pub struct Folded {
+    /// The clients. An empty place is seen by no query.
+    table: Table,
+    /// How many clients have operations.
+    named: usize,
+}
+
+impl Model for Folded {
+    ghost use Rattle.std.specs.Prelude.{List, ℕ};
+    ghost use Rattle.rep_ops.specs.declared.op.Op.{Op};
+
+    ghost Value = { List (List ℕ × List Op) };
+
+    ghost use Rattle.rep_state.specs.Tables.{by_client, rows_of, IsTable};
+
+    ghost view = { λ p. rows_of (by_client p.table.entries) };
+
+    ghost invariant = { λ p. IsTable (by_client p.table.entries) p.named };
+}
+
+/// A delta that fits: what is kept of the clients that it names once it is taken.
+#[derive(Debug, Drop)]
+pub struct Staged {
+    /// The entries, each under the octets of its client.
+    fresh: Vec<(Vec<u8>, Entry)>,
+    /// How many clients have operations once they are in their places.
+    named: usize,
+}
+
+impl Model for Staged {
+    ghost use Rattle.std.specs.Prelude.{List, ℕ, ◌≤◌};
+    ghost use Rattle.rep_ops.specs.declared.op.Op.{Op};
+
+    ghost Value = { List (List ℕ × List Op) × ℕ };
+
+    ghost use Rattle.rep_state.specs.Tables.{plain_of, rows_of, AreKept};
+
+    ghost view = { λ s. (rows_of (plain_of s.fresh.items), s.named) };
+
+    ghost invariant = { λ s. AreKept (plain_of s.fresh.items) × (s.named ≤ 4096) };
+}
+
+impl Replica for Folded {
+    ghost use Rattle.std.specs.Prelude.{◌≡◌};
+    ghost use Rattle.rep_plain.specs.Rows.{flat, moved, count_named};
+    ghost use Rattle.rep_plain.specs.Tables.{HaveRoom};
+
+    type Staged = Staged;
+
+    ghost kept = { λ rows. flat rows };
+
+    ghost after = { λ rows staged. flat (moved rows staged.0) };
+
+    ghost ready = { λ rows staged. HaveRoom rows staged.0 × (staged.1 ≡ count_named (moved rows staged.0)) };
+
+    fn empty(alloc: Global) -> Result<Folded, TakeFault> {
+        Ok(Folded {
+            table: IndexMap::new(alloc),
+            named: 0,
+        })
+    }
+
+    fn prepare(&mut self, alloc: Global, delta: &Delta) -> Result<Staged, TakeFault> {
+        let ops = delta.ops();
+        check(alloc, &self.table, ops)?;
+        let groups = grown(alloc, &self.table, ops)?;
+        let fresh = worked_out(alloc, &self.table, groups)?;
+        let named = self.named + count_new(&self.table, fresh.as_slice());
+        if let Some(limit) = passed(named, fresh.as_slice()) {
+            return Err(TakeFault::Full { limit });
+        }
+        make_room(alloc, &mut self.table, fresh.as_slice())?;
+        Ok(Staged { fresh, named })
+    }
+
+    fn commit(&mut self, staged: Staged) {
+        let Staged { fresh, named } = staged;
+        move_in(&mut self.table, fresh);
+        self.named = named;
+    }
+
+    fn view_of(&self, client: &ClientId) -> Option<&ClientView> {
+        let entry = entry_of(&self.table, client.bytes())?;
+        if !entry.has_operations() {
+            return None;
+        }
+        Some(&entry.seen)
+    }
+
+    fn clients(&self, alloc: Global) -> Result<Vec<ClientId>, TakeFault> {
+        Ok(named_clients(alloc, &self.table)?)
+    }
+
+    fn next_epoch(&self, client: &ClientId) -> Option<u64> {
+        last_epoch(&self.table, client).checked_add(1)
+    }
+
+    fn next_seq(&self, client: &ClientId, gateway: u8) -> Option<u64> {
+        last_seq(&self.table, client, gateway).checked_add(1)
+    }
+
+    fn held(&self, alloc: Global) -> Result<Vec<Delta>, TakeFault> {
+        Ok(held(alloc, &self.table)?)
+    }
+}

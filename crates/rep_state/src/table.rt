@@ -1,0 +1,126 @@
+//! The table of clients.
+
+ghost use Rattle.std.specs.Prelude.{◌≡◌, ◌+◌, IfOk, nat_lt, not, length, count_by};
+ghost use Rattle.std.specs.Option.{option_copied};
+ghost use Rattle.std.specs.List.{list_any};
+ghost use Rattle.std.specs.FinMap.{find};
+ghost use Rattle.rep_ops.specs.Orders.{client_cmp};
+ghost use Rattle.rep_plain.specs.Rows.{own, has_any, count_new};
+ghost use Rattle.rep_plain.specs.Tables.{passed_of};
+ghost use Rattle.rep_state.specs.Tables.{plain_of, by_client, rows_of, passed_by};
+
+use super::entry::Entry;
+use super::fault::NoMemory;
+use indexmap::IndexMap;
+use rep_model::Limit;
+use std::alloc::Global;
+
+/// The clients with what the replica keeps of them, under the octets of their names, in the order in which they came.
+pub(crate) type Table = IndexMap<Vec<u8>, Entry>;
+
+/// The most clients that a replica holds.
+const MOST_CLIENTS: usize = 4096;
+
+/// The most messages that wait for a client.
+const MOST_PENDING: usize = 16384;
+
+/// The most session operations of a client that wait for earlier ones.
+const MOST_PARKED: usize = 4096;
+
+/// The most acknowledgements of a client above a number that is not acknowledged.
+const MOST_EXCEPTIONS: u64 = 16384;
+
+/// The client's entry.
+pub(crate) fn entry_of<'a>(table: &'a Table, client: &[u8]) -> Option<&'a Entry>
+    ensures { option_copied result ≡ find client_cmp client.now (by_client table.now.entries) }
+{
+    table.get(client)
+}
+
+/// Whether the client has operations.
+pub(crate) fn has_operations(table: &Table, client: &[u8]) -> bool
+    ensures { result ≡ has_any (own client.now (rows_of (by_client table.now.entries))) }
+{
+    match entry_of(table, client) {
+        Some(entry) => entry.has_operations(),
+        None => false,
+    }
+}
+
+/// Equal octets.
+pub(crate) fn copy_octets(alloc: Global, octets: &[u8]) -> Result<Vec<u8>, NoMemory>
+    ensures { IfOk result (λ made. made.items ≡ octets.now) }
+{
+    let mut made = Vec::new(alloc);
+    made.extend_from_slice(octets)?;
+    Ok(made)
+}
+
+/// The first limit that is passed once the fresh entries are in their places, where `count` clients are named then.
+pub(crate) fn passed(count: usize, fresh: &[(Vec<u8>, Entry)]) -> Option<Limit>
+    ensures { result ≡ passed_by count (plain_of fresh.now) }
+{
+    let pending = any_pending(fresh);
+    let parked = any_parked(fresh);
+    let exceptions = any_exceptions(fresh);
+    first_limit(count, pending, parked, exceptions)
+}
+
+/// The first limit that is passed: of clients, of pending, of parked and of exceptions.
+fn first_limit(count: usize, pending: bool, parked: bool, exceptions: bool) -> Option<Limit>
+    ensures { result ≡ passed_of count pending parked exceptions }
+{
+    if count > MOST_CLIENTS {
+        Some(Limit::Clients)
+    } else if pending {
+        Some(Limit::Pending)
+    } else if parked {
+        Some(Limit::Parked)
+    } else if exceptions {
+        Some(Limit::Exceptions)
+    } else {
+        None
+    }
+}
+
+/// Whether too many messages wait for one of the clients.
+fn any_pending(fresh: &[(Vec<u8>, Entry)]) -> bool
+    ensures { result ≡ list_any (λ f. nat_lt 16384 (length f.1.seen.pending)) fresh.now }
+{
+    fresh
+        .iter()
+        .any(|row| row.1.seen.pending.len() > MOST_PENDING)
+}
+
+/// Whether too many session operations of one of the clients wait.
+fn any_parked(fresh: &[(Vec<u8>, Entry)]) -> bool
+    ensures { result ≡ list_any (λ f. nat_lt 4096 f.1.parked) fresh.now }
+{
+    fresh.iter().any(|row| row.1.parked > MOST_PARKED)
+}
+
+/// Whether one of the clients has too many exceptions.
+fn any_exceptions(fresh: &[(Vec<u8>, Entry)]) -> bool
+    ensures { result ≡ list_any (λ f. nat_lt 16384 f.1.exceptions) fresh.now }
+{
+    fresh.iter().any(|row| row.1.exceptions > MOST_EXCEPTIONS)
+}
+
+/// How many of the fresh clients had no operations.
+pub(crate) fn count_new(table: &Table, fresh: &[(Vec<u8>, Entry)]) -> usize
+    ensures { result
+        ≡ count_new (rows_of (by_client table.now.entries)) (rows_of (plain_of fresh.now)) }
+{
+    count_unnamed(table, fresh)
+}
+
+/// How many of the entries are of clients that have no operations.
+fn count_unnamed(table: &Table, fresh: &[(Vec<u8>, Entry)]) -> usize
+    ensures { result ≡ count_by
+        (λ f. not (has_any (own f.0.items (rows_of (by_client table.now.entries))))) fresh.now }
+{
+    fresh
+        .iter()
+        .filter(|row| !has_operations(table, row.0.as_slice()))
+        .count()
+}

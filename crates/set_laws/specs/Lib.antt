@@ -1,0 +1,2 @@
+pub mod Exceptions
+pub mod Joins
