@@ -26,7 +26,7 @@ pub struct Heard {
 
 impl Bell {
     /// A bell that has not rung.
-    pub fn new() -> Bell {
+    pub(crate) fn new() -> Bell {
         Bell {
             rings: Mutex::new(Rings {
                 count: 0,
@@ -37,21 +37,21 @@ impl Bell {
     }
 
     /// Wakes one that waits.
-    pub fn ring<R: Wait>(&self, rt: &R) {
+    pub(crate) fn ring<R: Wait>(&self, rt: &R) {
         let mut rings = self.rings.lock(rt);
         rings.count = rings.count.wrapping_add(1);
         self.rung.notify_one();
     }
 
     /// Wakes all, for good.
-    pub fn close<R: Wait>(&self, rt: &R) {
+    pub(crate) fn close<R: Wait>(&self, rt: &R) {
         let mut rings = self.rings.lock(rt);
         rings.closed = true;
         self.rung.notify_all();
     }
 
     /// What a worker remembers before it looks into the queue.
-    pub fn heard<R: Wait>(&self, rt: &R) -> Heard {
+    pub(crate) fn heard<R: Wait>(&self, rt: &R) -> Heard {
         let rings = self.rings.lock(rt);
         Heard {
             count: rings.count,
@@ -60,7 +60,7 @@ impl Bell {
     }
 
     /// Waits for a ring since then.
-    pub fn wait_past<R: Wait>(&self, rt: &R, heard: Heard) {
+    pub(crate) fn wait_past<R: Wait>(&self, rt: &R, heard: Heard) {
         let rings = self.rung.wait_while(rt, self.rings.lock(rt), |rings| {
             rings.count == heard.count && !rings.closed
         });
