@@ -1,0 +1,92 @@
+//! Faults, and what to do.
+
+use crate::looking::Fault;
+use crate::shown::name;
+use jr_journal::{JournalFault, Slot};
+use jr_read::Misfit;
+use rep_model::{Limit, TakeFault};
+use std::alloc::{AllocError, Global};
+
+/// How a fault is called where a gateway tells it.
+pub fn number(fault: &Fault) -> &'static str {
+    match fault {
+        Fault::Journal(JournalFault::Disk) => "J1",
+        Fault::Journal(JournalFault::Foreign) => "J2",
+        Fault::Journal(JournalFault::BadRecord { .. }) => "J3",
+        Fault::Journal(JournalFault::Memory) => "J4",
+        Fault::Journal(JournalFault::Halted) => "J5",
+        Fault::Record(misfit) => match &misfit.fault {
+            TakeFault::Conflict { .. } | TakeFault::Full { .. } => "J3",
+            TakeFault::Memory => "J4",
+        },
+    }
+}
+
+/// What to do.
+pub fn advice(fault: &Fault) -> &'static str {
+    match fault {
+        Fault::Journal(JournalFault::Foreign) =>
+            "look at the number that the gateway was given, and do not delete the files before you know whose they are",
+        Fault::Journal(JournalFault::BadRecord { .. }) =>
+            "octets that were synced have changed: keep a copy of both files; the records in front are whole",
+        Fault::Journal(_) => "try again",
+        Fault::Record(misfit) => match &misfit.fault {
+            TakeFault::Conflict { .. } =>
+                "keep a copy of both files: a number was used twice, or a gateway went on from an older copy of its journal",
+            TakeFault::Full { .. } =>
+                "keep a copy of both files: no gateway takes so much, so none has written this record",
+            TakeFault::Memory => "give the program more memory",
+        },
+    }
+}
+
+/// The number of a slot.
+pub fn slot_number(slot: Slot) -> u8 {
+    match slot {
+        Slot::First => 0,
+        Slot::Second => 1,
+    }
+}
+
+/// What is wrong, in words.
+pub fn words(alloc: Global, fault: &Fault) -> Result<String, AllocError> {
+    match fault {
+        Fault::Journal(JournalFault::Foreign) => String::from_str(
+            alloc,
+            "no journal of this gateway: another header, a second slot that is not empty, or no seal",
+        ),
+        Fault::Journal(JournalFault::BadRecord { slot, at }) => {
+            let number = slot_number(*slot);
+            let at = *at;
+            format!(in alloc; "neither a record nor a seal at octet {at} of slot {number}")
+        }
+        Fault::Journal(fault) => format!(in alloc; "{fault}"),
+        Fault::Record(misfit) => misfit_words(alloc, misfit),
+    }
+}
+
+/// What is wrong with a record beside those before it.
+fn misfit_words(alloc: Global, misfit: &Misfit) -> Result<String, AllocError> {
+    let before = misfit.before;
+    match &misfit.fault {
+        TakeFault::Conflict { client } => {
+            let client = name(alloc, client.bytes())?;
+            format!(in alloc; "record {before} contradicts one in front of it, of client {client}")
+        }
+        TakeFault::Full { limit } => {
+            let limit = limit_words(*limit);
+            format!(in alloc; "with record {before} there are too many {limit}")
+        }
+        TakeFault::Memory => String::from_str(alloc, "out of memory"),
+    }
+}
+
+/// What there is too much of.
+fn limit_words(limit: Limit) -> &'static str {
+    match limit {
+        Limit::Clients => "clients",
+        Limit::Pending => "messages that wait for one client",
+        Limit::Parked => "session operations that wait for earlier ones",
+        Limit::Exceptions => "acknowledgements above one that is missing",
+    }
+}

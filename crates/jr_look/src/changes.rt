@@ -1,0 +1,164 @@
+//! Operations in words.
+
+use crate::clients::{exchange, session, will};
+use crate::shown::{message, name};
+use octets::Octets;
+use rep_ops::{Op, Put};
+use sn_session::{Outbound, Presence, SessionOp, WillTopic};
+use std::alloc::{AllocError, Global};
+
+/// The lines of an operation.
+pub fn operation(alloc: Global, text: &mut String, op: &Op) -> Result<(), AllocError> {
+    let client = name(alloc, op.client().bytes())?;
+    match op {
+        Op::Session {
+            stamp,
+            counter,
+            change,
+            ..
+        } => {
+            let epoch = stamp.epoch;
+            let gateway = stamp.gateway;
+            let counter = *counter;
+            write!(
+                text,
+                "  client {client} stamp {epoch}.{gateway} change {counter}: "
+            )?;
+            session_change(alloc, text, change)
+        }
+        Op::Put { put, .. } => {
+            write!(text, "  client {client} ")?;
+            waiting(alloc, text, put)
+        }
+        Op::Ack {
+            origin,
+            first,
+            last,
+            ..
+        } => {
+            let (origin, first, last) = (*origin, *first, *last);
+            writeln!(
+                text,
+                "  client {client} has messages {first} to {last} of gateway {origin}"
+            )
+        }
+    }
+}
+
+/// The rest of the line of a message that waits.
+pub fn waiting(alloc: Global, text: &mut String, put: &Put) -> Result<(), AllocError> {
+    let seq = put.seq;
+    let origin = put.origin;
+    let qos = put.qos;
+    let topic = name(alloc, put.topic.bytes())?;
+    let body = message(alloc, put.body.as_slice())?;
+    writeln!(
+        text,
+        "waits for message {seq} of gateway {origin}: {topic} qos {qos}, {body}"
+    )
+}
+
+/// The rest of the line of a session's change.
+fn session_change(alloc: Global, text: &mut String, change: &SessionOp) -> Result<(), AllocError> {
+    match change {
+        SessionOp::Take(taken) => {
+            text.push_str("taken over as ")?;
+            session(alloc, text, taken)
+        }
+        SessionOp::Presence { presence, duration } => presence_line(text, *presence, *duration),
+        SessionOp::Register { id, name, known } => {
+            registered(alloc, text, *id, name.bytes(), *known)
+        }
+        SessionOp::Subscribe { filter, qos } => subscribed(alloc, text, filter.bytes(), *qos),
+        SessionOp::Unsubscribe { filter } => unsubscribed(alloc, text, filter.bytes()),
+        SessionOp::WillTopic(topic) => will_topic(alloc, text, topic),
+        SessionOp::WillMsg(octets) => will_message(alloc, text, octets),
+        SessionOp::Received { id } => {
+            let id = *id;
+            writeln!(text, "message id {id} was received")
+        }
+        SessionOp::Released { id } => {
+            let id = *id;
+            writeln!(text, "message id {id} was released")
+        }
+        SessionOp::Outbound { exchange, next_id } => exchange_line(text, exchange, *next_id),
+    }
+}
+
+/// Where the client is.
+pub fn presence_word(presence: Presence) -> &'static str {
+    match presence {
+        Presence::Active => "active",
+        Presence::Asleep => "asleep",
+        Presence::Awake => "awake",
+        Presence::Disconnected => "disconnected",
+        Presence::Lost => "lost",
+    }
+}
+
+/// The client is elsewhere.
+fn presence_line(text: &mut String, presence: Presence, duration: u16) -> Result<(), AllocError> {
+    let word = presence_word(presence);
+    writeln!(text, "{word}, {duration} seconds")
+}
+
+/// An id stands for a topic.
+pub fn registered(
+    alloc: Global,
+    text: &mut String,
+    id: u16,
+    topic: &[u8],
+    known: bool,
+) -> Result<(), AllocError> {
+    let topic = name(alloc, topic)?;
+    let word = if known { "known" } else { "not known" };
+    writeln!(text, "topic id {id} is {topic}, {word} to the client")
+}
+
+/// The client asks for topics.
+pub fn subscribed(
+    alloc: Global,
+    text: &mut String,
+    filter: &[u8],
+    qos: u8,
+) -> Result<(), AllocError> {
+    let filter = name(alloc, filter)?;
+    writeln!(text, "subscribed to {filter} qos {qos}")
+}
+
+/// The client no longer asks for topics.
+fn unsubscribed(alloc: Global, text: &mut String, filter: &[u8]) -> Result<(), AllocError> {
+    let filter = name(alloc, filter)?;
+    writeln!(text, "no longer subscribed to {filter}")
+}
+
+/// The will has another topic.
+fn will_topic(
+    alloc: Global,
+    text: &mut String,
+    topic: &Option<WillTopic>,
+) -> Result<(), AllocError> {
+    match topic {
+        None => text.push_str("no will\n"),
+        Some(topic) => will(alloc, text, topic.topic.bytes(), topic.qos, topic.retain),
+    }
+}
+
+/// The will has another message.
+fn will_message(alloc: Global, text: &mut String, octets: &Octets) -> Result<(), AllocError> {
+    let body = message(alloc, octets.as_slice())?;
+    writeln!(text, "the will's message is {body}")
+}
+
+/// The exchange goes on, or is over.
+fn exchange_line(
+    text: &mut String,
+    begun: &Option<Outbound>,
+    next_id: u16,
+) -> Result<(), AllocError> {
+    match begun {
+        None => text.push_str("no exchange")?,
+        Some(outbound) => exchange(text, *outbound)?,
+    }
+    writeln!(text, ", the next message id is {next_id}")
+}

@@ -1,0 +1,153 @@
+//! What the records come to for each client, in words.
+
+use crate::changes::{presence_word, registered, subscribed, waiting};
+use crate::shown::{message, name};
+use rep_model::{ClientView, Replica};
+use rep_ops::ClientId;
+use rep_state::Folded;
+use sn_session::{Outbound, Phase, Session, Will};
+use std::alloc::{AllocError, Global};
+
+/// The lines of all clients.
+pub fn clients(alloc: Global, text: &mut String, replica: &Folded) -> Result<(), AllocError> {
+    let Ok(all) = replica.clients(alloc) else {
+        return Err(AllocError);
+    };
+    for client in all.as_slice() {
+        if let Some(view) = replica.view_of(client) {
+            one(alloc, text, client, view)?;
+        }
+    }
+    Ok(())
+}
+
+/// The lines of a client.
+fn one(
+    alloc: Global,
+    text: &mut String,
+    client: &ClientId,
+    view: &ClientView,
+) -> Result<(), AllocError> {
+    let client = name(alloc, client.bytes())?;
+    write!(text, "client {client} ")?;
+    owned(alloc, text, view)?;
+    for put in view.pending.as_slice() {
+        text.push_str("  ")?;
+        waiting(alloc, text, put)?;
+    }
+    Ok(())
+}
+
+/// Who owns a client, and the session.
+fn owned(alloc: Global, text: &mut String, view: &ClientView) -> Result<(), AllocError> {
+    let Some(stamp) = &view.stamp else {
+        return text.push_str("is owned by no gateway\n");
+    };
+    let epoch = stamp.epoch;
+    let gateway = stamp.gateway;
+    let prefix = view.prefix;
+    write!(
+        text,
+        "is owned by gateway {gateway} since epoch {epoch}, changes {prefix}: "
+    )?;
+    match &view.session {
+        None => text.push_str("no session\n"),
+        Some(seen) => session(alloc, text, seen),
+    }
+}
+
+/// The rest of the line of a session, and the lines of its tables.
+pub fn session(alloc: Global, text: &mut String, seen: &Session) -> Result<(), AllocError> {
+    let presence = presence_word(seen.presence);
+    let kind = if seen.clean { "clean" } else { "kept" };
+    let duration = seen.duration;
+    let next = seen.next_id;
+    writeln!(
+        text,
+        "{presence}, {kind}, {duration} seconds, the next message id is {next}"
+    )?;
+    topics(alloc, text, seen)?;
+    subscriptions(alloc, text, seen)?;
+    if let Some(told) = &seen.will {
+        last_will(alloc, text, told)?;
+    }
+    received(text, seen)?;
+    if let Some(outbound) = &seen.outbound {
+        text.push_str("    ")?;
+        exchange(text, *outbound)?;
+        text.push_str("\n")?;
+    }
+    Ok(())
+}
+
+/// A line for each topic id.
+fn topics(alloc: Global, text: &mut String, seen: &Session) -> Result<(), AllocError> {
+    for entry in seen.topics.as_slice() {
+        text.push_str("    ")?;
+        registered(alloc, text, entry.id, entry.name.bytes(), entry.known)?;
+    }
+    Ok(())
+}
+
+/// A line for each subscription.
+fn subscriptions(alloc: Global, text: &mut String, seen: &Session) -> Result<(), AllocError> {
+    for entry in seen.subscriptions.as_slice() {
+        text.push_str("    ")?;
+        subscribed(alloc, text, entry.filter.bytes(), entry.qos)?;
+    }
+    Ok(())
+}
+
+/// The lines of a will.
+fn last_will(alloc: Global, text: &mut String, told: &Will) -> Result<(), AllocError> {
+    text.push_str("    ")?;
+    will(alloc, text, told.topic.bytes(), told.qos, told.retain)?;
+    let body = message(alloc, told.message.as_slice())?;
+    writeln!(text, "    the will's message is {body}")
+}
+
+/// The rest of the line of a will.
+pub fn will(
+    alloc: Global,
+    text: &mut String,
+    topic: &[u8],
+    qos: u8,
+    retain: bool,
+) -> Result<(), AllocError> {
+    let topic = name(alloc, topic)?;
+    let word = if retain { ", retained" } else { "" };
+    writeln!(text, "a will on {topic} qos {qos}{word}")
+}
+
+/// A line for each message id that was received.
+fn received(text: &mut String, seen: &Session) -> Result<(), AllocError> {
+    for id in seen.received.as_slice() {
+        let id = *id;
+        writeln!(text, "    message id {id} was received")?;
+    }
+    Ok(())
+}
+
+/// An exchange, without the end of its line.
+pub fn exchange(text: &mut String, outbound: Outbound) -> Result<(), AllocError> {
+    let Outbound {
+        origin,
+        seq,
+        msg_id,
+        phase,
+    } = outbound;
+    let word = phase_word(phase);
+    write!(
+        text,
+        "message {seq} of gateway {origin} is {word} under id {msg_id}"
+    )
+}
+
+/// How far an exchange is.
+pub fn phase_word(phase: Phase) -> &'static str {
+    match phase {
+        Phase::Registering => "registering",
+        Phase::Published => "published",
+        Phase::Released => "released",
+    }
+}

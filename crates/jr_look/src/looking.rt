@@ -1,0 +1,123 @@
+//! What there is to show.
+
+use crate::stop::Stop;
+use jr_journal::{JournalFault, Slot};
+use jr_read::{Misfit, Reading, owner, read, take_all};
+use rep_model::{Replica, TakeFault};
+use rep_state::Folded;
+use std::alloc::Global;
+
+/// The octets of a journal that was begun and has no record.
+const BEGUN: usize = 14;
+
+/// Why an opening would refuse.
+#[derive(Drop)]
+pub enum Fault {
+    /// The journal's own opening refuses.
+    Journal(JournalFault),
+    /// A record does not fit to those before it.
+    Record(Misfit),
+}
+
+/// A record that the end of the slot cuts.
+#[derive(Clone, Copy)]
+pub struct Torn {
+    /// Its first octet.
+    pub at: usize,
+    /// How many octets there are of it.
+    pub octets: usize,
+}
+
+/// What there is to show.
+#[derive(Drop)]
+pub struct Findings {
+    /// The number of the gateway that would open it, if the journal tells one or one was given.
+    pub gateway: Option<u8>,
+    /// The number that the header of the first slot tells, if it is long enough.
+    pub told: Option<u8>,
+    /// How many octets the first slot has.
+    pub first: usize,
+    /// How many octets the second slot has.
+    pub second: usize,
+    /// There is no journal yet: an opening begins one.
+    pub is_fresh: bool,
+    /// The records that an opening reads, or where it refuses a record those in front.
+    pub reading: Option<Reading>,
+    /// What the end cuts.
+    pub torn: Option<Torn>,
+    /// Why an opening would refuse.
+    pub fault: Option<Fault>,
+    /// What the records come to.
+    pub replica: Option<Folded>,
+}
+
+/// What there is to show of two slots. `asked` is the number of the gateway, where one was given.
+pub fn look_at(
+    alloc: Global,
+    asked: Option<u8>,
+    first: &[u8],
+    second: &[u8],
+) -> Result<Findings, Stop> {
+    let told = owner(first);
+    let gateway = asked.or(told);
+    let mut seen = Findings {
+        gateway,
+        told,
+        first: first.len(),
+        second: second.len(),
+        is_fresh: false,
+        reading: None,
+        torn: None,
+        fault: None,
+        replica: None,
+    };
+    match read(alloc, gateway.unwrap_or(0), first, second) {
+        Ok(reading) => settle(alloc, &mut seen, reading)?,
+        Err(JournalFault::Memory) => return Err(Stop::Memory),
+        Err(fault) => {
+            seen.reading = front(alloc, gateway.unwrap_or(0), first, fault);
+            seen.fault = Some(Fault::Journal(fault));
+        }
+    }
+    Ok(seen)
+}
+
+/// What the records in front of a bad one are.
+fn front(alloc: Global, gateway: u8, first: &[u8], fault: JournalFault) -> Option<Reading> {
+    match fault {
+        JournalFault::BadRecord {
+            slot: Slot::First,
+            at,
+        } if at <= first.len() => {
+            let (whole, _) = first.split_at(at);
+            read(alloc, gateway, whole, &[]).ok()
+        }
+        _ => None,
+    }
+}
+
+/// The records are read, and are taken one after the other.
+fn settle(alloc: Global, seen: &mut Findings, reading: Reading) -> Result<(), Stop> {
+    if seen.first < BEGUN {
+        seen.is_fresh = true;
+    } else if reading.whole < seen.first {
+        seen.torn = Some(Torn {
+            at: reading.whole,
+            octets: seen.first - reading.whole,
+        });
+    }
+    let Ok(mut replica) = Folded::empty(alloc) else {
+        return Err(Stop::Memory);
+    };
+    match take_all(alloc, &mut replica, reading.records.as_slice()) {
+        Ok(()) => seen.replica = Some(replica),
+        Err(misfit) => {
+            if matches!(&misfit.fault, TakeFault::Memory) {
+                return Err(Stop::Memory);
+            }
+            seen.fault = Some(Fault::Record(misfit));
+        }
+    }
+    seen.reading = Some(reading);
+    Ok(())
+}

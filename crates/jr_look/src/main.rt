@@ -1,0 +1,90 @@
+//! Shows what an opening would read of the journal in two files, and writes nothing to them.
+//!
+//! - `words`: the words of the command line.
+//! - `slots`: the two files.
+//! - `looking`: what there is to show (`Findings`).
+//! - `shown`: octets as text.
+//! - `plain`, `changes`, `clients`: a report in words.
+//! - `object`, `members`: a report as a JSON object.
+//! - `advice`: faults, and what to do.
+#![tactic(auto)]
+
+mod advice;
+mod changes;
+mod clients;
+mod looking;
+mod members;
+mod object;
+mod plain;
+mod shown;
+mod slots;
+mod stop;
+mod words;
+
+use crate::looking::{Findings, look_at};
+use crate::slots::slot_at;
+use crate::stop::Stop;
+use crate::words::{Options, read_words};
+use std::alloc::Global;
+use std::env::Env;
+use std::fs::{File, Files};
+use std::io::Write;
+use std::process::ExitCode;
+use std::{env, io};
+
+/// The exit status where an opening would refuse.
+const REFUSED: u8 = 2;
+
+/// The exit status where there is nothing to show.
+const STOPPED: u8 = 1;
+
+fn main(rt: HostRuntime) -> ExitCode {
+    let errors = rt.stderr();
+    let mut out = io::writer(&rt);
+    let mut err = io::writer(&errors);
+    match look(&rt, rt.alloc(), &mut out) {
+        Ok(true) => ExitCode::SUCCESS,
+        Ok(false) => ExitCode::from(REFUSED),
+        Err(stop) => {
+            let _ = writeln!(&mut err, "jr_look: {stop}");
+            ExitCode::from(STOPPED)
+        }
+    }
+}
+
+/// Reads, and prints what there is. Says whether an opening would take the journal.
+fn look<T: Env + Files<File = File>, O: Write>(
+    rt: &T,
+    alloc: Global,
+    out: &mut O,
+) -> Result<bool, Stop> {
+    let Some(asked) = asked(rt, alloc) else {
+        return Err(Stop::Arguments);
+    };
+    let first = slot_at(rt, alloc, asked.path.as_str(), "0")?;
+    let second = slot_at(rt, alloc, asked.path.as_str(), "1")?;
+    let seen = look_at(alloc, asked.gateway, first.as_slice(), second.as_slice())?;
+    let text = report(alloc, &seen, asked.is_json)?;
+    if out.write_all(text.as_bytes()).is_err() {
+        return Err(Stop::Output);
+    }
+    Ok(seen.fault.is_none())
+}
+
+/// The report.
+fn report(alloc: Global, seen: &Findings, is_json: bool) -> Result<String, Stop> {
+    if is_json {
+        Ok(object::report(alloc, seen)?)
+    } else {
+        Ok(plain::report(alloc, seen)?)
+    }
+}
+
+/// What the command line asks for.
+fn asked<T: Env>(rt: &T, alloc: Global) -> Option<Options> {
+    let mut words = Vec::new(alloc);
+    for word in env::args(&(rt, alloc)).ok()? {
+        words.push(word).ok()?;
+    }
+    read_words(alloc, words.as_slice())
+}

@@ -1,0 +1,259 @@
+//! Operations and sessions as JSON.
+
+use crate::changes::presence_word;
+use crate::clients::phase_word;
+use crate::shown::quoted;
+use octets::Octets;
+use rep_ops::{Op, Put};
+use sn_session::{Outbound, Presence, Session, SessionOp, Will, WillTopic};
+use sn_topic::{Filter, TopicName};
+use std::alloc::{AllocError, Global};
+
+/// What stands between members: nothing in front of the first.
+pub fn comma(text: &mut String, index: usize) -> Result<(), AllocError> {
+    if index > 0 {
+        text.push_str(",")
+    } else {
+        Ok(())
+    }
+}
+
+/// An operation.
+pub fn operation(alloc: Global, text: &mut String, op: &Op) -> Result<(), AllocError> {
+    let client = quoted(alloc, op.client().bytes())?;
+    write!(text, "{{\"client\":{client},")?;
+    match op {
+        Op::Session {
+            stamp,
+            counter,
+            change,
+            ..
+        } => {
+            let epoch = stamp.epoch;
+            let gateway = stamp.gateway;
+            let counter = *counter;
+            write!(
+                text,
+                "\"epoch\":{epoch},\"gateway\":{gateway},\"counter\":{counter},\"change\":"
+            )?;
+            session_change(alloc, text, change)?;
+        }
+        Op::Put { put, .. } => {
+            text.push_str("\"change\":\"put\",")?;
+            waiting(alloc, text, put)?;
+        }
+        Op::Ack {
+            origin,
+            first,
+            last,
+            ..
+        } => {
+            let (origin, first, last) = (*origin, *first, *last);
+            write!(
+                text,
+                "\"change\":\"ack\",\"origin\":{origin},\"first\":{first},\"last\":{last}"
+            )?;
+        }
+    }
+    text.push_str("}")
+}
+
+/// The members of a message that waits.
+pub fn waiting(alloc: Global, text: &mut String, put: &Put) -> Result<(), AllocError> {
+    let seq = put.seq;
+    let origin = put.origin;
+    let qos = put.qos;
+    let topic = quoted(alloc, put.topic.bytes())?;
+    let body = quoted(alloc, put.body.as_slice())?;
+    write!(
+        text,
+        "\"origin\":{origin},\"seq\":{seq},\"topic\":{topic},\"qos\":{qos},\"body\":{body}"
+    )
+}
+
+/// A session's change, and its members.
+fn session_change(alloc: Global, text: &mut String, change: &SessionOp) -> Result<(), AllocError> {
+    match change {
+        SessionOp::Take(taken) => {
+            text.push_str("\"take\",\"session\":")?;
+            session_of(alloc, text, taken)
+        }
+        SessionOp::Presence { presence, duration } => elsewhere(text, *presence, *duration),
+        SessionOp::Register { id, name, known } => {
+            text.push_str("\"register\",")?;
+            registered(alloc, text, *id, name, *known)
+        }
+        SessionOp::Subscribe { filter, qos } => {
+            text.push_str("\"subscribe\",")?;
+            subscribed(alloc, text, filter, *qos)
+        }
+        SessionOp::Unsubscribe { filter } => unsubscribed(alloc, text, filter),
+        SessionOp::WillTopic(topic) => will_topic(alloc, text, topic),
+        SessionOp::WillMsg(octets) => will_message(alloc, text, octets),
+        SessionOp::Received { id } => {
+            let id = *id;
+            write!(text, "\"received\",\"id\":{id}")
+        }
+        SessionOp::Released { id } => {
+            let id = *id;
+            write!(text, "\"released\",\"id\":{id}")
+        }
+        SessionOp::Outbound { exchange, next_id } => outbound(text, exchange, *next_id),
+    }
+}
+
+/// The client is elsewhere.
+fn elsewhere(text: &mut String, presence: Presence, duration: u16) -> Result<(), AllocError> {
+    let word = presence_word(presence);
+    write!(
+        text,
+        "\"presence\",\"presence\":\"{word}\",\"duration\":{duration}"
+    )
+}
+
+/// The members of a topic id.
+fn registered(
+    alloc: Global,
+    text: &mut String,
+    id: u16,
+    name: &TopicName,
+    known: bool,
+) -> Result<(), AllocError> {
+    let topic = quoted(alloc, name.bytes())?;
+    write!(text, "\"id\":{id},\"topic\":{topic},\"known\":{known}")
+}
+
+/// The members of a subscription.
+fn subscribed(
+    alloc: Global,
+    text: &mut String,
+    filter: &Filter,
+    qos: u8,
+) -> Result<(), AllocError> {
+    let filter = quoted(alloc, filter.bytes())?;
+    write!(text, "\"filter\":{filter},\"qos\":{qos}")
+}
+
+/// The client no longer asks for topics.
+fn unsubscribed(alloc: Global, text: &mut String, filter: &Filter) -> Result<(), AllocError> {
+    let filter = quoted(alloc, filter.bytes())?;
+    write!(text, "\"unsubscribe\",\"filter\":{filter}")
+}
+
+/// The will has another topic.
+fn will_topic(
+    alloc: Global,
+    text: &mut String,
+    topic: &Option<WillTopic>,
+) -> Result<(), AllocError> {
+    match topic {
+        None => text.push_str("\"will_topic\",\"topic\":null"),
+        Some(told) => {
+            let topic = quoted(alloc, told.topic.bytes())?;
+            let qos = told.qos;
+            let retain = told.retain;
+            write!(
+                text,
+                "\"will_topic\",\"topic\":{topic},\"qos\":{qos},\"retain\":{retain}"
+            )
+        }
+    }
+}
+
+/// The will has another message.
+fn will_message(alloc: Global, text: &mut String, octets: &Octets) -> Result<(), AllocError> {
+    let body = quoted(alloc, octets.as_slice())?;
+    write!(text, "\"will_message\",\"message\":{body}")
+}
+
+/// The exchange goes on, or is over.
+fn outbound(text: &mut String, begun: &Option<Outbound>, next_id: u16) -> Result<(), AllocError> {
+    text.push_str("\"exchange\",\"exchange\":")?;
+    exchange(text, begun)?;
+    write!(text, ",\"next_id\":{next_id}")
+}
+
+/// An exchange.
+fn exchange(text: &mut String, begun: &Option<Outbound>) -> Result<(), AllocError> {
+    let Some(outbound) = begun else {
+        return text.push_str("null");
+    };
+    let origin = outbound.origin;
+    let seq = outbound.seq;
+    let id = outbound.msg_id;
+    let phase = phase_word(outbound.phase);
+    write!(
+        text,
+        "{{\"origin\":{origin},\"seq\":{seq},\"id\":{id},\"phase\":\"{phase}\"}}"
+    )
+}
+
+/// A session.
+pub fn session_of(alloc: Global, text: &mut String, seen: &Session) -> Result<(), AllocError> {
+    let presence = presence_word(seen.presence);
+    let clean = seen.clean;
+    let duration = seen.duration;
+    let next = seen.next_id;
+    write!(
+        text,
+        "{{\"presence\":\"{presence}\",\"clean\":{clean},\"duration\":{duration}"
+    )?;
+    write!(text, ",\"next_id\":{next},\"topics\":[")?;
+    topics(alloc, text, seen)?;
+    text.push_str("],\"subscriptions\":[")?;
+    subscriptions(alloc, text, seen)?;
+    text.push_str("],\"will\":")?;
+    will(alloc, text, &seen.will)?;
+    text.push_str(",\"received\":[")?;
+    received(text, seen)?;
+    text.push_str("],\"exchange\":")?;
+    exchange(text, &seen.outbound)?;
+    text.push_str("}")
+}
+
+/// The topic ids of a session.
+fn topics(alloc: Global, text: &mut String, seen: &Session) -> Result<(), AllocError> {
+    for (index, entry) in seen.topics.as_slice().iter().enumerate() {
+        comma(text, index)?;
+        text.push_str("{")?;
+        registered(alloc, text, entry.id, &entry.name, entry.known)?;
+        text.push_str("}")?;
+    }
+    Ok(())
+}
+
+/// The subscriptions of a session.
+fn subscriptions(alloc: Global, text: &mut String, seen: &Session) -> Result<(), AllocError> {
+    for (index, entry) in seen.subscriptions.as_slice().iter().enumerate() {
+        comma(text, index)?;
+        text.push_str("{")?;
+        subscribed(alloc, text, &entry.filter, entry.qos)?;
+        text.push_str("}")?;
+    }
+    Ok(())
+}
+
+/// A will.
+fn will(alloc: Global, text: &mut String, told: &Option<Will>) -> Result<(), AllocError> {
+    let Some(told) = told else {
+        return text.push_str("null");
+    };
+    let topic = quoted(alloc, told.topic.bytes())?;
+    let qos = told.qos;
+    let retain = told.retain;
+    let body = quoted(alloc, told.message.as_slice())?;
+    write!(
+        text,
+        "{{\"topic\":{topic},\"qos\":{qos},\"retain\":{retain},\"message\":{body}}}"
+    )
+}
+
+/// The message ids that were received.
+fn received(text: &mut String, seen: &Session) -> Result<(), AllocError> {
+    for (index, id) in seen.received.as_slice().iter().enumerate() {
+        comma(text, index)?;
+        let id = *id;
+        write!(text, "{id}")?;
+    }
+    Ok(())
+}

@@ -1,0 +1,177 @@
+//! The report as a JSON object. Names and messages are in hexadecimal digits.
+
+use crate::advice::{advice, number, slot_number};
+use crate::looking::{Fault, Findings, Torn};
+use crate::members::{comma, operation, session_of, waiting};
+use crate::shown::quoted;
+use jr_journal::JournalFault;
+use jr_read::{Misfit, Place, Reading};
+use rep_model::{ClientView, Replica, TakeFault};
+use rep_ops::{ClientId, Delta, Put};
+use rep_state::Folded;
+use std::alloc::{AllocError, Global};
+
+/// The report as a JSON object.
+pub fn report(alloc: Global, seen: &Findings) -> Result<String, AllocError> {
+    let mut text = String::new(alloc);
+    head(&mut text, seen)?;
+    if let Some(reading) = &seen.reading {
+        records(alloc, &mut text, reading)?;
+    }
+    if let Some(torn) = &seen.torn {
+        torn_end(&mut text, torn)?;
+    }
+    if let Some(fault) = &seen.fault {
+        refusal(alloc, &mut text, fault)?;
+    }
+    if let Some(replica) = &seen.replica {
+        clients(alloc, &mut text, replica)?;
+    }
+    text.push_str("}\n")?;
+    Ok(text)
+}
+
+/// Whose journal it is, and how long its slots are.
+fn head(text: &mut String, seen: &Findings) -> Result<(), AllocError> {
+    match seen.gateway {
+        Some(gateway) => write!(text, "{{\"gateway\":{gateway}")?,
+        None => text.push_str("{\"gateway\":null")?,
+    }
+    match seen.told {
+        Some(told) => write!(text, ",\"header\":{told}")?,
+        None => text.push_str(",\"header\":null")?,
+    }
+    let first = seen.first;
+    let second = seen.second;
+    let fresh = seen.is_fresh;
+    write!(text, ",\"slots\":[{first},{second}],\"fresh\":{fresh}")
+}
+
+/// The records.
+fn records(alloc: Global, text: &mut String, reading: &Reading) -> Result<(), AllocError> {
+    let places = reading.places.as_slice();
+    text.push_str(",\"records\":[")?;
+    for (index, delta) in reading.records.as_slice().iter().enumerate() {
+        comma(text, index)?;
+        place(text, places.get(index))?;
+        operations(alloc, text, delta)?;
+    }
+    text.push_str("]")
+}
+
+/// Where a record stands.
+fn place(text: &mut String, found: Option<&Place>) -> Result<(), AllocError> {
+    match found {
+        None => text.push_str("{"),
+        Some(place) => {
+            let at = place.at;
+            let octets = place.octets;
+            write!(text, "{{\"at\":{at},\"octets\":{octets},")
+        }
+    }
+}
+
+/// The operations of a record.
+fn operations(alloc: Global, text: &mut String, delta: &Delta) -> Result<(), AllocError> {
+    text.push_str("\"operations\":[")?;
+    for (index, op) in delta.ops().iter().enumerate() {
+        comma(text, index)?;
+        operation(alloc, text, op)?;
+    }
+    text.push_str("]}")
+}
+
+/// A record that the end cuts.
+fn torn_end(text: &mut String, torn: &Torn) -> Result<(), AllocError> {
+    let at = torn.at;
+    let octets = torn.octets;
+    write!(text, ",\"torn\":{{\"at\":{at},\"octets\":{octets}}}")
+}
+
+/// Why an opening refuses.
+fn refusal(alloc: Global, text: &mut String, fault: &Fault) -> Result<(), AllocError> {
+    let number = number(fault);
+    write!(text, ",\"fault\":{{\"number\":\"{number}\"")?;
+    match fault {
+        Fault::Journal(fault) => bad_place(text, *fault)?,
+        Fault::Record(misfit) => bad_record(alloc, text, misfit)?,
+    }
+    let advice = advice(fault);
+    write!(text, ",\"advice\":\"{advice}\"}}")
+}
+
+/// Where the octets are bad.
+fn bad_place(text: &mut String, fault: JournalFault) -> Result<(), AllocError> {
+    match fault {
+        JournalFault::BadRecord { slot, at } => {
+            let slot = slot_number(slot);
+            write!(text, ",\"slot\":{slot},\"at\":{at}")
+        }
+        _ => Ok(()),
+    }
+}
+
+/// Which record does not fit.
+fn bad_record(alloc: Global, text: &mut String, misfit: &Misfit) -> Result<(), AllocError> {
+    let before = misfit.before;
+    write!(text, ",\"record\":{before}")?;
+    match &misfit.fault {
+        TakeFault::Conflict { client } => {
+            let client = quoted(alloc, client.bytes())?;
+            write!(text, ",\"client\":{client}")
+        }
+        _ => Ok(()),
+    }
+}
+
+/// What the records come to.
+fn clients(alloc: Global, text: &mut String, replica: &Folded) -> Result<(), AllocError> {
+    let Ok(all) = replica.clients(alloc) else {
+        return Err(AllocError);
+    };
+    text.push_str(",\"clients\":[")?;
+    for (index, client) in all.as_slice().iter().enumerate() {
+        comma(text, index)?;
+        if let Some(view) = replica.view_of(client) {
+            one(alloc, text, client, view)?;
+        }
+    }
+    text.push_str("]")
+}
+
+/// A client.
+fn one(
+    alloc: Global,
+    text: &mut String,
+    client: &ClientId,
+    view: &ClientView,
+) -> Result<(), AllocError> {
+    let client = quoted(alloc, client.bytes())?;
+    write!(text, "{{\"client\":{client}")?;
+    if let Some(stamp) = &view.stamp {
+        let epoch = stamp.epoch;
+        let gateway = stamp.gateway;
+        let prefix = view.prefix;
+        write!(
+            text,
+            ",\"epoch\":{epoch},\"gateway\":{gateway},\"changes\":{prefix}"
+        )?;
+    }
+    if let Some(session) = &view.session {
+        text.push_str(",\"session\":")?;
+        session_of(alloc, text, session)?;
+    }
+    waits(alloc, text, view.pending.as_slice())
+}
+
+/// The messages that wait for a client.
+fn waits(alloc: Global, text: &mut String, puts: &[Put]) -> Result<(), AllocError> {
+    text.push_str(",\"waits\":[")?;
+    for (index, put) in puts.iter().enumerate() {
+        comma(text, index)?;
+        text.push_str("{")?;
+        waiting(alloc, text, put)?;
+        text.push_str("}")?;
+    }
+    text.push_str("]}")
+}

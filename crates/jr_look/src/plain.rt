@@ -1,0 +1,94 @@
+//! The report in words.
+
+use crate::advice::{advice, number, words};
+use crate::changes::operation;
+use crate::clients::clients;
+use crate::looking::{Fault, Findings, Torn};
+use jr_read::{Place, Reading};
+use rep_ops::Delta;
+use std::alloc::{AllocError, Global};
+
+/// The report in words.
+pub fn report(alloc: Global, seen: &Findings) -> Result<String, AllocError> {
+    let mut text = String::new(alloc);
+    head(&mut text, seen)?;
+    if let Some(reading) = &seen.reading {
+        records(alloc, &mut text, reading)?;
+    }
+    if let Some(torn) = &seen.torn {
+        torn_end(&mut text, torn)?;
+    }
+    if let Some(fault) = &seen.fault {
+        refusal(alloc, &mut text, fault)?;
+    }
+    if let Some(replica) = &seen.replica {
+        clients(alloc, &mut text, replica)?;
+    }
+    Ok(text)
+}
+
+/// Whose journal it is, and how long its slots are.
+fn head(text: &mut String, seen: &Findings) -> Result<(), AllocError> {
+    match seen.gateway {
+        Some(gateway) => writeln!(text, "gateway {gateway}")?,
+        None => text.push_str("no gateway\n")?,
+    }
+    match seen.told {
+        Some(told) => writeln!(text, "the header tells gateway {told}")?,
+        None => text.push_str("no header tells a gateway\n")?,
+    }
+    let first = seen.first;
+    let second = seen.second;
+    writeln!(text, "octets in slot 0: {first}, in slot 1: {second}")?;
+    if seen.is_fresh {
+        text.push_str("no journal yet: an opening begins one\n")?;
+    }
+    Ok(())
+}
+
+/// The records, each behind a line with its place.
+fn records(alloc: Global, text: &mut String, reading: &Reading) -> Result<(), AllocError> {
+    let places = reading.places.as_slice();
+    for (index, delta) in reading.records.as_slice().iter().enumerate() {
+        one_record(alloc, text, index, places.get(index), delta)?;
+    }
+    Ok(())
+}
+
+/// A record.
+fn one_record(
+    alloc: Global,
+    text: &mut String,
+    before: usize,
+    place: Option<&Place>,
+    delta: &Delta,
+) -> Result<(), AllocError> {
+    if let Some(place) = place {
+        let at = place.at;
+        let octets = place.octets;
+        writeln!(text, "record {before} at {at}, octets {octets}")?;
+    }
+    for op in delta.ops() {
+        operation(alloc, text, op)?;
+    }
+    Ok(())
+}
+
+/// A record that the end cuts.
+fn torn_end(text: &mut String, torn: &Torn) -> Result<(), AllocError> {
+    let at = torn.at;
+    let octets = torn.octets;
+    writeln!(
+        text,
+        "torn at {at}, octets {octets}: an opening cuts them away"
+    )
+}
+
+/// Why an opening refuses.
+fn refusal(alloc: Global, text: &mut String, fault: &Fault) -> Result<(), AllocError> {
+    let number = number(fault);
+    let words = words(alloc, fault)?;
+    let advice = advice(fault);
+    writeln!(text, "refused {number}: {words}")?;
+    writeln!(text, "advice: {advice}")
+}

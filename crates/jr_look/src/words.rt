@@ -1,0 +1,37 @@
+//! The words of the command line.
+
+use clap::{Arg, ArgAction, Command};
+use std::alloc::Global;
+
+/// What was asked for.
+#[derive(Drop)]
+pub struct Options {
+    /// The path of the journal, without the endings of its two files.
+    pub path: String,
+    /// The number of the gateway that is to open it; none for the number that the journal tells.
+    pub gateway: Option<u8>,
+    /// A JSON object in place of words.
+    pub is_json: bool,
+}
+
+/// Reads the words, the program's name first. Nothing where they do not parse, `--help` among them, or where memory ran out.
+pub fn read_words(alloc: Global, words: &[String]) -> Option<Options> {
+    let path = Arg::new(alloc, "path")
+        .required(true)
+        .action(ArgAction::Set);
+    let gateway = Arg::new(alloc, "gateway")
+        .long("gateway")
+        .action(ArgAction::Set)
+        .value_parser(clap::value_parser!(u8).range(0..=255));
+    let json = Arg::new(alloc, "json")
+        .long("json")
+        .action(ArgAction::SetTrue);
+    let command = Command::new(alloc, "jr_look").arg(path).ok()?;
+    let command = command.arg(gateway).ok()?.arg(json).ok()?;
+    let matches = command.try_get_matches_from(words).ok()?;
+    Some(Options {
+        path: String::from_str(alloc, matches.get_str("path")?).ok()?,
+        gateway: matches.get_one::<u8>("gateway"),
+        is_json: matches.get_flag("json"),
+    })
+}
