@@ -2,3 +2,4 @@ pub mod Numbers
 pub mod Addresses
 pub mod Keys
 pub mod Reading
+pub mod Beginning

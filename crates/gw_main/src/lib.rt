@@ -7,12 +7,14 @@
 //! - `lists`: lists of addresses and of predefined topic ids.
 //! - `addresses`: addresses as `a.b.c.d:port` (`address`).
 //! - `number`: numbers in decimal digits.
+//! - `beginning`: a gateway as its settings say, opened (`begin`).
 //!
 //! The definitions are in `specs/`: `Numbers`, `Addresses`, `Keys` (how keys are written), `Reading` (what a document says of each
-//! key, and which key is the first that it says nothing good of).
+//! key, and which key is the first that it says nothing good of), `Beginning` (what the gateway is told, and how a refused opening is).
 #![tactic(auto)]
 
 mod addresses;
+mod beginning;
 mod fault;
 mod keys;
 mod lists;
@@ -21,5 +23,6 @@ pub mod options;
 mod parsing;
 
 pub use addresses::address;
+pub use beginning::{NO_JOURNAL, begin};
 pub use fault::{Key, SettingsFault};
 pub use parsing::settings;

@@ -13,4 +13,4 @@ mod ends;
 mod udp;
 
 pub use ends::{Arrival, Gate, OpenGate, Post, Unsent, Wire, WireFault};
-pub use udp::{Ears, Mouth, Socket, address};
+pub use udp::{Ears, Mouth, Socket, address, moment};

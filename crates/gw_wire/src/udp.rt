@@ -130,16 +130,16 @@ impl<'a, C: Clock> Ears<'a, C> {
             .poll(self.events, Some(Duration::from_millis(A_WHILE)))?;
         self.look(buffer)
     }
+}
 
-    /// The system clock's seconds since 1970.
-    fn moment(&self) -> u64 {
-        match SystemTime::now(self.clock) {
-            Ok(now) => match now.duration_since(SystemTime::UNIX_EPOCH) {
-                Ok(since) => since.as_secs(),
-                Err(_) => 0,
-            },
+/// The system clock's seconds since 1970.
+pub fn moment<C: Clock>(clock: &C) -> u64 {
+    match SystemTime::now(clock) {
+        Ok(now) => match now.duration_since(SystemTime::UNIX_EPOCH) {
+            Ok(since) => since.as_secs(),
             Err(_) => 0,
-        }
+        },
+        Err(_) => 0,
     }
 }
 
@@ -153,7 +153,7 @@ impl<'a, C: Clock> Wire for Ears<'a, C> {
                 if size > buffer.len() {
                     return Ok(None);
                 }
-                let moment = self.moment();
+                let moment = moment(self.clock);
                 Ok(Some(Arrival { from, size, moment }))
             }
             Err(_) => {

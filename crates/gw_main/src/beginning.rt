@@ -1,0 +1,126 @@
+//! Opening a gateway as its settings say.
+
+ghost use Rattle.std.specs.Prelude.{◌≡◌, IfOk, IfErr, length};
+ghost use Rattle.rep_model.specs.Views.{clients as clients_of};
+ghost use Rattle.jr_journal.specs.Disk.{image};
+ghost use Rattle.jr_journal.specs.Records.{records};
+ghost use Rattle.gw_node.specs.Parts.{state_of, told, records_of};
+ghost use Rattle.gw_node.specs.Keeping.{Keeps};
+ghost use Rattle.gw_node.specs.Taking.{ops_of};
+ghost use Rattle.gw_node.specs.Opening.{IsStarted, MayRefuse};
+ghost use Rattle.gw_main.specs.Beginning.{config_of, number_of, journal_number};
+ghost use Rattle.gw_node.specs.declared.fault.NodeFault.TheVariants as faults;
+
+use super::options::Settings;
+use gw_node::{Node, NodeFault};
+use jr_journal::{Disk, JournalFault};
+use octets::Sequence;
+use rep_model::Replica;
+use sn_flow::Config;
+use std::alloc::Global;
+use std::io::Write;
+
+/// The status of a program whose journal cannot be opened.
+pub const NO_JOURNAL: u8 = 2;
+
+/// Opens the gateway of these settings on a disk, and prints how it stands: its number, how many records its journal has, and of
+/// how many clients it knows.
+///
+/// Where it cannot be opened the line names the journal's fault by its number, and the answer is the program's status, 2: J1 the disk
+/// failed; J2 the slots are no journal of this gateway; J3 a record is damaged, or contradicts those before it; J4 memory ran out.
+/// A line that cannot be printed is let go.
+pub fn begin<R: Replica, D: Disk + Drop, O: Write, E: Write>(
+    alloc: Global,
+    settings: &Settings,
+    disk: D,
+    out: &mut O,
+    err: &mut E,
+) -> Result<Node<R, D>, u8>
+    ensures starts { IfOk result (λ node. IsStarted (config_of settings.now) (state_of R.kept node)) }
+    ensures records { D.honest → IfOk result (λ node. records_of node ≡ length (records settings.now.gateway (image (D.slots disk)))) }
+    ensures keeps { D.honest → IfOk result (λ node. Keeps (ops_of (records settings.now.gateway (image (D.slots disk)))) (state_of R.kept node).kept) }
+    ensures status { IfErr result (λ status. status ≡ 2) }
+{
+    match open(alloc, settings, disk) {
+        Ok((node, clients)) => {
+            let _ = writeln!(
+                out,
+                "gateway {} records {} clients {}",
+                settings.gateway,
+                node.records(),
+                clients
+            );
+            Ok(node)
+        }
+        Err(fault) => {
+            let _ = writeln!(err, "sngw: journal J{}", number_of(&fault));
+            Err(NO_JOURNAL)
+        }
+    }
+}
+
+/// Opens the gateway, and counts its clients.
+fn open<R: Replica, D: Disk + Drop>(
+    alloc: Global,
+    settings: &Settings,
+    disk: D,
+) -> Result<(Node<R, D>, usize), NodeFault>
+    ensures starts { IfOk result (λ opened. IsStarted (config_of settings.now) (state_of R.kept opened.0)) }
+    ensures records { D.honest → IfOk result (λ opened. records_of opened.0 ≡ length (records settings.now.gateway (image (D.slots disk)))) }
+    ensures keeps { D.honest → IfOk result (λ opened. Keeps (ops_of (records settings.now.gateway (image (D.slots disk)))) (state_of R.kept opened.0).kept) }
+    ensures clients { IfOk result (λ opened. opened.1 ≡ length (clients_of (state_of R.kept opened.0).kept)) }
+    ensures may { IfErr result (λ fault. MayRefuse (told fault)) }
+{
+    let config = config_of(alloc, settings)?;
+    match Node::open(alloc, config, disk) {
+        Err((_, fault)) => Err(fault),
+        Ok(node) => match node.clients(alloc) {
+            Err(_) => Err(NodeFault::Memory),
+            Ok(clients) => Ok((node, clients.len())),
+        },
+    }
+}
+
+/// What the gateway is told.
+fn config_of(alloc: Global, settings: &Settings) -> Result<Config, NodeFault>
+    ensures ok { IfOk result (λ config. config ≡ config_of settings.now) }
+    ensures err { IfErr result (λ fault. fault ≡ faults.Memory) }
+{
+    let Ok(field) = Vec::from_slice(alloc, settings.field.as_slice()) else {
+        return Err(NodeFault::Memory);
+    };
+    let Ok(predefined) = settings.predefined.copy(alloc) else {
+        return Err(NodeFault::Memory);
+    };
+    Ok(Config {
+        gateway: settings.gateway,
+        advertise: settings.advertise,
+        field: Sequence::new(field),
+        predefined,
+    })
+}
+
+/// The number of the journal's fault by which a refused opening is told.
+fn number_of(fault: &NodeFault) -> u8
+    ensures { result ≡ number_of (told fault.now) }
+{
+    match fault {
+        NodeFault::Journal { fault } => number_of_journal(*fault),
+        NodeFault::Disk { .. } => 1,
+        NodeFault::Conflict { .. } | NodeFault::Full => 3,
+        NodeFault::Frame { .. } | NodeFault::Halted | NodeFault::Exhausted | NodeFault::Memory => 4,
+    }
+}
+
+/// The number of a fault of the journal.
+fn number_of_journal(fault: JournalFault) -> u8
+    ensures { result ≡ journal_number fault }
+{
+    match fault {
+        JournalFault::Disk => 1,
+        JournalFault::Foreign => 2,
+        JournalFault::BadRecord { .. } => 3,
+        JournalFault::Memory => 4,
+        JournalFault::Halted => 5,
+    }
+}

@@ -1,0 +1,31 @@
+-- What a thread adds to its pass.
+use Rattle.std.specs.Prelude.{◌≡◌, Bool, true, false, List, ◌++◌, All}
+use Rattle.gw_node.specs.declared.step.Step.{Step}
+use Rattle.gw_node.specs.declared.step.Step.TheVariants as steps
+use Rattle.gw_shift.specs.Calls.{Held, Holder}
+
+-- the pass holds what it held, and these calls behind it
+abbrev pub with_calls : Holder → List Held → Holder
+with_calls pass more = record { place = pass.place; opening = pass.opening; calls = pass.calls ++ more }
+
+-- the pass holds what it held and then calls of one kind, and nothing else
+abbrev pub Adds : (Step → Bool) → Holder → Holder → Type 0
+Adds is before after = (more : List Held) × (after ≡ with_calls before more) × All (λ (held : Held). is held.step ≡ true) more
+
+-- the clock's
+abbrev pub is_tick : Step → Bool
+is_tick (steps.Frame from bytes now) = false
+is_tick (steps.Take delta) = false
+is_tick (steps.Tick now) = true
+is_tick (steps.View client) = false
+is_tick steps.Digest = false
+is_tick (steps.Answer digest) = false
+
+-- another gateway's: a delta is taken, a digest is given or answered
+abbrev pub is_of_link : Step → Bool
+is_of_link (steps.Frame from bytes now) = false
+is_of_link (steps.Take delta) = true
+is_of_link (steps.Tick now) = false
+is_of_link (steps.View client) = false
+is_of_link steps.Digest = true
+is_of_link (steps.Answer digest) = true

@@ -1,0 +1,64 @@
+//! A link that is open.
+
+ghost use Rattle.std.specs.Prelude.{◌≡◌, true};
+ghost use Rattle.std.specs.Arc.{arc_value};
+ghost use Rattle.gw_run.specs.Adding.{is_of_link};
+
+use gw_net::LinkIn;
+use gw_node::Step;
+use std::alloc::Global;
+use std::collections::VecDeque;
+use std::sync::Arc;
+
+/// Which end made the connection.
+#[derive(Clone, Copy, Debug, PartialEq, Eq)]
+pub enum Origin {
+    /// This one dialled the peer of this place in the settings.
+    Dialled(usize),
+    /// The other one.
+    Accepted,
+}
+
+/// What came over a link, as the call that it asks for.
+#[derive(Drop)]
+pub(crate) struct Heard {
+    pub(crate) step: Arc<Step>,
+    pub ghost of_link: { is_of_link (arc_value step) ≡ true },
+}
+
+/// A link that is open.
+#[derive(Drop)]
+pub struct Link<S: Drop> {
+    pub(crate) stream: S,
+    pub(crate) origin: Origin,
+    /// The octets of a message that is not whole.
+    pub(crate) incoming: LinkIn,
+    /// What came and was not heard yet, in its order.
+    pub(crate) waiting: VecDeque<Heard>,
+    /// What came behind it is no message.
+    pub(crate) failed: bool,
+    /// This end has said its number and its digest.
+    pub(crate) greeted: bool,
+    /// The number of the last call of the shift whose delta was told.
+    pub(crate) told: u64,
+}
+
+impl<S: Drop> Link<S> {
+    /// A link over which nothing was said.
+    pub fn new(alloc: Global, stream: S, origin: Origin) -> Link<S> {
+        Link {
+            stream,
+            origin,
+            incoming: LinkIn::new(),
+            waiting: VecDeque::new(alloc),
+            failed: false,
+            greeted: false,
+            told: 0,
+        }
+    }
+
+    /// A new shift numbers its calls from 1; what the last one made was told.
+    pub(crate) fn begin_shift(&mut self) {
+        self.told = 0;
+    }
+}

@@ -1,0 +1,106 @@
+//! What outlives a shift: the links of a gateway, and when its clock last ticked.
+
+use crate::link::{Link, Origin};
+use std::alloc::Global;
+use std::sync::atomic::{AtomicU64, Ordering};
+use std::sync::{Mutex, Wait};
+
+/// How many links that others dialled may be open at once.
+pub const MOST_ACCEPTED: usize = 8;
+
+#[derive(Drop)]
+struct Links<S: Drop> {
+    /// Those that wait for a seat.
+    waiting: Vec<Link<S>>,
+    /// For each peer of the settings, whether a link that was dialled is open.
+    dialled: Vec<bool>,
+    /// How many that were accepted are open.
+    accepted: usize,
+}
+
+/// What outlives a shift: the links that wait for a seat, how many are open, and the second in which the clock last ticked.
+#[derive(Drop)]
+pub struct Pool<S: Drop> {
+    links: Mutex<Links<S>>,
+    ticked: AtomicU64,
+}
+
+impl<S: Drop> Pool<S> {
+    /// No link is open. `None` where memory ran out.
+    pub fn new(alloc: Global, peers: usize) -> Option<Pool<S>> {
+        let mut dialled = Vec::new(alloc);
+        for _ in 0..peers {
+            if dialled.push(false).is_err() {
+                return None;
+            }
+        }
+        Some(Pool {
+            links: Mutex::new(Links {
+                waiting: Vec::new(alloc),
+                dialled,
+                accepted: 0,
+            }),
+            ticked: AtomicU64::new(0),
+        })
+    }
+
+    /// Whether the clock has not ticked in this second. From now on it has.
+    pub(crate) fn may_tick(&self, second: u64) -> bool {
+        self.ticked.swap(second, Ordering::SeqCst) != second
+    }
+
+    /// Whether one more link of this origin may be open.
+    pub fn may_open<T: Wait>(&self, rt: &T, origin: Origin) -> bool {
+        let links = self.links.lock(rt);
+        match origin {
+            Origin::Accepted => links.accepted < MOST_ACCEPTED,
+            Origin::Dialled(peer) => match links.dialled.get(peer) {
+                Some(open) => !*open,
+                None => false,
+            },
+        }
+    }
+
+    /// A link was made: it waits for a seat. Where memory ran out it is closed.
+    pub fn open<T: Wait>(&self, rt: &T, link: Link<S>) {
+        let mut links = self.links.lock(rt);
+        let origin = link.origin;
+        if links.waiting.push(link).is_ok() {
+            note(&mut links, origin, true);
+        }
+    }
+
+    /// A link that waits for a seat, if there is one.
+    pub(crate) fn take<T: Wait>(&self, rt: &T) -> Option<Link<S>> {
+        self.links.lock(rt).waiting.pop()
+    }
+
+    /// A link waits for the next shift. Where memory ran out it is closed.
+    pub(crate) fn give_back<T: Wait>(&self, rt: &T, link: Link<S>) {
+        let mut links = self.links.lock(rt);
+        let origin = link.origin;
+        if links.waiting.push(link).is_err() {
+            note(&mut links, origin, false);
+        }
+    }
+
+    /// A link is closed.
+    pub(crate) fn lose<T: Wait>(&self, rt: &T, link: Link<S>) {
+        let origin = link.origin;
+        link.drop();
+        note(&mut self.links.lock(rt), origin, false);
+    }
+}
+
+/// Notes that a link of this origin is open, or is no more.
+fn note<S: Drop>(links: &mut Links<S>, origin: Origin, is_open: bool) {
+    match origin {
+        Origin::Accepted if is_open => links.accepted = links.accepted.saturating_add(1),
+        Origin::Accepted => links.accepted = links.accepted.saturating_sub(1),
+        Origin::Dialled(peer) => {
+            if let Some(open) = links.dialled.get_mut(peer) {
+                *open = is_open;
+            }
+        }
+    }
+}

@@ -1,0 +1,153 @@
+//! What goes out over a link.
+
+ghost use Rattle.std.specs.Prelude.{◌≡◌};
+ghost use Rattle.gw_run.specs.Adding.{Adds, is_of_link};
+
+use crate::calling::{End, call};
+use crate::link::Link;
+use crate::stage::Stage;
+use gw_net::{LinkMessage, LinkOutFault, link_out};
+use gw_node::{Out, Step};
+use gw_shift::{CallFault, Pass, Shift};
+use jr_journal::Disk;
+use rep_digest::Digest;
+use rep_model::Replica;
+use rep_ops::Delta;
+use std::alloc::Global;
+use std::io::Write;
+use std::sync::{Arc, Wait};
+
+/// How many deltas are asked of the shift at once.
+const AT_ONCE: usize = 64;
+
+/// Says a message. A stream that does not take it is lost.
+fn sent(outcome: Result<(), LinkOutFault>) -> Result<(), End> {
+    match outcome {
+        Ok(()) => Ok(()),
+        Err(LinkOutFault::Memory) => Err(End::Memory),
+        Err(LinkOutFault::Write { .. }) => Err(End::Lost),
+    }
+}
+
+/// Says the number of this gateway.
+fn say_hello<S: Write>(alloc: Global, stream: &mut S, gateway: u8) -> Result<(), End> {
+    if gateway == 0 {
+        return Err(End::Lost);
+    }
+    sent(link_out(alloc, stream, &LinkMessage::Hello(gateway)))
+}
+
+/// An equal digest, by its octets.
+fn equal(alloc: Global, digest: &Digest) -> Result<Digest, End> {
+    let mut octets = Vec::new(alloc);
+    if digest.encode(alloc, &mut octets).is_err() {
+        return Err(End::Memory);
+    }
+    match Digest::decode(alloc, octets.as_slice()) {
+        Ok(digest) => Ok(digest),
+        Err(_) => Err(End::Memory),
+    }
+}
+
+/// Says a digest.
+fn say_digest<S: Write>(alloc: Global, stream: &mut S, digest: &Digest) -> Result<(), End> {
+    let digest = equal(alloc, digest)?;
+    sent(link_out(alloc, stream, &LinkMessage::Digest(digest)))
+}
+
+/// Says a delta.
+fn say_delta<S: Write>(alloc: Global, stream: &mut S, delta: Delta) -> Result<(), End> {
+    sent(link_out(alloc, stream, &LinkMessage::Delta(delta)))
+}
+
+/// Says what the other end lacks.
+pub(crate) fn say_answer<S: Write>(
+    alloc: Global,
+    stream: &mut S,
+    deltas: &[Delta],
+) -> Result<(), End> {
+    for delta in deltas {
+        let Ok(delta) = delta.copy(alloc) else {
+            return Err(End::Memory);
+        };
+        say_delta(alloc, stream, delta)?;
+    }
+    Ok(())
+}
+
+/// Says the number of this gateway and what it has, once.
+pub(crate) fn greet<T: Wait, R: Replica, D: Disk + Drop, S: Write + Drop>(
+    rt: &T,
+    alloc: Global,
+    shift: &Shift<R, D>,
+    pass: Pass,
+    link: &mut Link<S>,
+    gateway: u8,
+    stage: &Stage,
+) -> (Pass, Result<(), End>)
+    ensures { Adds is_of_link pass result.0 }
+{
+    if link.greeted {
+        return (pass, Ok(()));
+    }
+    let Ok(step) = Arc::new(alloc, Step::Digest) else {
+        return (pass, Err(End::Memory));
+    };
+    let (pass, answered) = call(rt, alloc, shift, pass, step, stage);
+    match answered {
+        Err(end) => (pass, Err(end)),
+        Ok(out) => (pass, say_greeting(alloc, link, gateway, out)),
+    }
+}
+
+/// The same once the digest is known; a gateway whose digest would be too large says its number alone.
+fn say_greeting<S: Write + Drop>(
+    alloc: Global,
+    link: &mut Link<S>,
+    gateway: u8,
+    out: Option<Arc<Out>>,
+) -> Result<(), End> {
+    link.greeted = true;
+    say_hello(alloc, &mut link.stream, gateway)?;
+    if let Some(out) = out {
+        if let Some(digest) = out.digest.as_ref() {
+            say_digest(alloc, &mut link.stream, digest)?;
+        }
+    }
+    Ok(())
+}
+
+/// Tells of each delta that the gateway made in this shift and that was not told of.
+pub(crate) fn tell_all<T: Wait, R: Replica, D: Disk + Drop, S: Write + Drop>(
+    rt: &T,
+    alloc: Global,
+    shift: &Shift<R, D>,
+    pass: &Pass,
+    link: &mut Link<S>,
+) -> Result<(), End> {
+    for _ in rt.forever() {
+        let made = match shift.after(rt, alloc, pass, link.told, AT_ONCE) {
+            Ok(made) => made,
+            Err(CallFault::Behind { .. }) => return Err(End::Behind),
+            Err(_) => return Err(End::Memory),
+        };
+        if made.is_empty() {
+            return Ok(());
+        }
+        tell_some(alloc, link, made)?;
+    }
+    unreachable!()
+}
+
+/// Tells of these deltas, which calls of these numbers made.
+fn tell_some<S: Write + Drop>(
+    alloc: Global,
+    link: &mut Link<S>,
+    made: Vec<(u64, Delta)>,
+) -> Result<(), End> {
+    for (number, delta) in made {
+        say_delta(alloc, &mut link.stream, delta)?;
+        link.told = number;
+    }
+    Ok(())
+}

@@ -1,0 +1,96 @@
+//! A link during a shift.
+
+ghost use Rattle.gw_run.specs.Adding.{Adds, is_of_link};
+
+use crate::calling::End;
+use crate::hearing::{hear_all, listen};
+use crate::link::Link;
+use crate::saying::{greet, tell_all};
+use crate::stage::{Phase, Stage};
+use gw_shift::{Pass, Shift};
+use jr_journal::Disk;
+use rep_model::Replica;
+use std::alloc::Global;
+use std::io::{Read, Write};
+use std::sync::Wait;
+use std::time::Clock;
+
+/// How many milliseconds a link that may make no more calls waits for the end of the shift.
+const A_MOMENT: u64 = 20;
+
+/// Talks over a link until the shift is over, and then has told of each delta that the gateway made in it: `Full`, and the link
+/// stays open. Or says why the link, or more, is at an end.
+#[tactic(auto, using(crate::proofs::Adding::adds_more, crate::proofs::Adding::adds_none))]
+pub(crate) fn talk<T: Wait + Clock, R: Replica, D: Disk + Drop, S: Read + Write + Drop>(
+    rt: &T,
+    alloc: Global,
+    shift: &Shift<R, D>,
+    pass: Pass,
+    link: &mut Link<S>,
+    gateway: u8,
+    piece: &mut [u8],
+    stage: &Stage,
+) -> (Pass, End)
+    ensures { Adds is_of_link pass result.0 }
+{
+    let mut pass = pass;
+    for _ in rt.forever() {
+        let phase = stage.phase(rt);
+        let (after, turned) = take_turn(rt, alloc, shift, pass, link, gateway, stage);
+        pass = after;
+        if let Err(end) = wait_or_listen(rt, alloc, link, piece, stage, phase, turned) {
+            return (pass, end);
+        }
+    }
+    unreachable!()
+}
+
+/// Hears what has come, and tells what is new.
+#[tactic(auto, using(crate::proofs::Adding::adds_more, crate::proofs::Adding::adds_none))]
+fn take_turn<T: Wait, R: Replica, D: Disk + Drop, S: Write + Drop>(
+    rt: &T,
+    alloc: Global,
+    shift: &Shift<R, D>,
+    pass: Pass,
+    link: &mut Link<S>,
+    gateway: u8,
+    stage: &Stage,
+) -> (Pass, Result<(), End>)
+    ensures { Adds is_of_link pass result.0 }
+{
+    let (pass, greeted) = greet(rt, alloc, shift, pass, link, gateway, stage);
+    if let Err(end) = greeted {
+        return (pass, Err(end));
+    }
+    let (pass, heard) = hear_all(rt, alloc, shift, pass, link, stage);
+    match heard {
+        Ok(()) | Err(End::Full) => match tell_all(rt, alloc, shift, &pass, link) {
+            Ok(()) => (pass, heard),
+            Err(end) => (pass, Err(end)),
+        },
+        Err(end) => (pass, Err(end)),
+    }
+}
+
+/// Reads on, or waits where no more calls may be made. At the shift's end that is an end too.
+fn wait_or_listen<T: Wait + Clock, S: Read + Drop>(
+    rt: &T,
+    alloc: Global,
+    link: &mut Link<S>,
+    piece: &mut [u8],
+    stage: &Stage,
+    phase: Phase,
+    turned: Result<(), End>,
+) -> Result<(), End> {
+    match turned {
+        Ok(()) | Err(End::Full) if phase == Phase::Quiet => Err(End::Full),
+        Ok(()) if link.failed => Err(End::Lost),
+        Ok(()) => listen(alloc, link, piece),
+        Err(End::Full) => {
+            stage.close(rt);
+            stage.wait(rt, Phase::Closing, A_MOMENT);
+            Ok(())
+        }
+        Err(end) => Err(end),
+    }
+}

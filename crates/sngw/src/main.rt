@@ -1,0 +1,99 @@
+//! The gateway's program: a gateway on a wire, with its journal in two files.
+//!
+//! It reads its settings, opens the gateway on its journal, and then works shift by shift: in each, threads serve datagrams, the
+//! clock ticks, and the links to other gateways talk. When a shift is over the history of its calls and what its threads hold of it
+//! are compared, and the next one begins. It may be stopped at any moment: what it answered for is on its disk.
+//!
+//! - `words`: the words of the command line.
+//! - `reading`: the settings file.
+//! - `stop`: why the program ends early (`Stop`).
+//! - `running`: shifts one after the other.
+//! - `doors`: how links are made: peers are dialled, others are accepted.
+//! - `working`: the threads of one shift.
+//! - `watched`: the wire, which ends with the shift.
+#![tactic(auto)]
+
+mod doors;
+mod reading;
+mod running;
+mod stop;
+mod watched;
+mod words;
+mod working;
+
+use crate::reading::settings_at;
+use crate::running::run;
+use crate::stop::Stop;
+use crate::words::{Asked, asked_by};
+use file_disk::{FileDisk, FileDiskFault};
+use gw_main::begin;
+use gw_main::options::Settings;
+use gw_node::Node;
+use rep_state::Folded;
+use std::alloc::Global;
+use std::env::Env;
+use std::fs::{File, Files};
+use std::io::{Print, Write};
+use std::net::{Net, TcpListener, TcpStream};
+use std::process::ExitCode;
+use std::sync::Wait;
+use std::thread::Threads;
+use std::time::Clock;
+use std::{env, io};
+
+fn main(rt: HostRuntime) -> ExitCode {
+    let errors = rt.stderr();
+    let mut out = io::writer(&rt);
+    let mut err = io::writer(&errors);
+    match start(&rt, rt.alloc(), &mut out, &mut err) {
+        Ok(()) => ExitCode::SUCCESS,
+        Err(stop) => {
+            if stop != Stop::Opening {
+                let _ = writeln!(&mut err, "sngw: {stop}");
+            }
+            ExitCode::from(stop.status())
+        }
+    }
+}
+
+/// Everything that the program does.
+fn start<T, O: Write, E: Write>(rt: &T, alloc: Global, out: &mut O, err: &mut E) -> Result<(), Stop>
+where
+    T: Env + Files<File = File> + Print + Threads + Wait + Sync + Clock,
+    T: Net<Listener = TcpListener, Stream = TcpStream>,
+{
+    let Some(asked) = asked_of(rt, alloc) else {
+        return Err(Stop::Arguments);
+    };
+    let settings = settings_at(rt, alloc, asked.config.as_str())?;
+    let disk = disk_at(rt, alloc, &settings)?;
+    let Ok(node) = begin::<Folded, FileDisk, O, E>(alloc, &settings, disk, out, err) else {
+        return Err(Stop::Opening);
+    };
+    if asked.shifts == 0 {
+        return Ok(());
+    }
+    run(rt, alloc, &settings, node, asked.shifts)
+}
+
+/// What the command line asks for.
+fn asked_of<T: Env>(rt: &T, alloc: Global) -> Option<Asked> {
+    let mut words = Vec::new(alloc);
+    for word in env::args(&(rt, alloc)).ok()? {
+        words.push(word).ok()?;
+    }
+    asked_by(alloc, words.as_slice())
+}
+
+/// The two files of the journal.
+fn disk_at<T: Files<File = File>>(
+    rt: &T,
+    alloc: Global,
+    settings: &Settings,
+) -> Result<FileDisk, Stop> {
+    match FileDisk::at(rt, alloc, settings.journal.as_str()) {
+        Ok(disk) => Ok(disk),
+        Err(FileDiskFault::Files) => Err(Stop::Disk),
+        Err(FileDiskFault::Memory) => Err(Stop::NoMemory),
+    }
+}

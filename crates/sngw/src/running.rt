@@ -1,0 +1,141 @@
+//! Shifts one after the other.
+
+use crate::doors::{Door, doors_of, keep_all};
+use crate::stop::Stop;
+use crate::working::work;
+use gw_main::options::Settings;
+use gw_node::Node;
+use gw_run::{Phase, Pool, Stage};
+use gw_wire::{Socket, address};
+use jr_journal::Disk;
+use rep_model::Replica;
+use std::alloc::Global;
+use std::io::Print;
+use std::net::{Net, TcpListener, TcpStream};
+use std::sync::{Mutex, Wait};
+use std::thread;
+use std::thread::Threads;
+use std::time::Clock;
+
+/// Works so many shifts. The sockets are open from before the first to behind the last.
+pub fn run<T, R, D>(
+    rt: &T,
+    alloc: Global,
+    settings: &Settings,
+    node: Node<R, D>,
+    shifts: u64,
+) -> Result<(), Stop>
+where
+    T: Threads + Wait + Sync + Clock + Print + Net<Listener = TcpListener, Stream = TcpStream>,
+    R: Replica + Send,
+    R::Staged: Send,
+    D: Disk + Drop + Send,
+{
+    let Ok(mut socket) = Socket::bind(rt, alloc, settings.listen) else {
+        return Err(Stop::Socket);
+    };
+    let Ok(listener) = TcpListener::bind(rt, address(settings.link)) else {
+        return Err(Stop::Socket);
+    };
+    if listener.set_nonblocking(true).is_err() {
+        return Err(Stop::Socket);
+    }
+    let Some(pool) = Pool::new(alloc, settings.peers.len()) else {
+        return Err(Stop::Memory);
+    };
+    let Some(mut doors) = doors_of(alloc, settings) else {
+        return Err(Stop::Memory);
+    };
+    let place = Mutex::new(Some(node));
+    let over = Stage::new();
+    run_beside(
+        rt,
+        alloc,
+        settings,
+        &place,
+        &mut socket,
+        shifts,
+        doors.as_mut_slice(),
+        &listener,
+        &pool,
+        &over,
+    )
+}
+
+/// The shifts beside the doors.
+fn run_beside<T, R, D>(
+    rt: &T,
+    alloc: Global,
+    settings: &Settings,
+    place: &Mutex<Option<Node<R, D>>>,
+    socket: &mut Socket,
+    shifts: u64,
+    doors: &mut [Door],
+    listener: &TcpListener,
+    pool: &Pool<TcpStream>,
+    over: &Stage,
+) -> Result<(), Stop>
+where
+    T: Threads + Wait + Sync + Clock + Print + Net<Listener = TcpListener, Stream = TcpStream>,
+    R: Replica + Send,
+    R::Staged: Send,
+    D: Disk + Drop + Send,
+{
+    let mut keeping = || {
+        keep_all(rt, alloc, doors, listener, pool, over);
+    };
+    let mut shifting = || -> Result<(), Stop> {
+        work_through(rt, alloc, settings, place, socket, pool, shifts, over)
+    };
+    let ((), worked) = thread::join_mut(rt, &mut keeping, &mut shifting);
+    worked
+}
+
+/// The shifts, and then the end of the doors.
+fn work_through<T, R, D>(
+    rt: &T,
+    alloc: Global,
+    settings: &Settings,
+    place: &Mutex<Option<Node<R, D>>>,
+    socket: &mut Socket,
+    pool: &Pool<TcpStream>,
+    shifts: u64,
+    over: &Stage,
+) -> Result<(), Stop>
+where
+    T: Threads + Wait + Sync + Clock + Print,
+    R: Replica + Send,
+    R::Staged: Send,
+    D: Disk + Drop + Send,
+{
+    let worked = work_all(rt, alloc, settings, place, socket, pool, shifts);
+    over.go_to(rt, Phase::Quiet);
+    worked
+}
+
+/// The shifts, each with a line when it is over.
+fn work_all<T, R, D>(
+    rt: &T,
+    alloc: Global,
+    settings: &Settings,
+    place: &Mutex<Option<Node<R, D>>>,
+    socket: &mut Socket,
+    pool: &Pool<TcpStream>,
+    shifts: u64,
+) -> Result<(), Stop>
+where
+    T: Threads + Wait + Sync + Clock + Print,
+    R: Replica + Send,
+    R::Staged: Send,
+    D: Disk + Drop + Send,
+{
+    for number in 0..shifts {
+        let Some(node) = place.lock(rt).take() else {
+            return Ok(());
+        };
+        let (node, steps) = work(rt, alloc, settings, node, socket, pool)?;
+        *place.lock(rt) = Some(node);
+        let _ = println!(rt; "shift {} steps {}", number + 1, steps);
+    }
+    Ok(())
+}

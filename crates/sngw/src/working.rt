@@ -1,0 +1,321 @@
+//! The threads of one shift.
+
+ghost use Rattle.std.specs.Prelude.{◌<◌, ◌≤◌};
+
+use crate::stop::Stop;
+use crate::watched::Watched;
+use gw_main::options::Settings;
+use gw_node::Node;
+use gw_run::{End, MOST_ACCEPTED, Phase, Pool, Seat, Stage, sit, tick_all};
+use gw_serve::{Cause, serve};
+use gw_shift::{Closed, Pass, Shift};
+use gw_wire::{Mouth, OpenGate, Socket, Wire};
+use jr_journal::Disk;
+use rep_model::Replica;
+use std::alloc::Global;
+use std::net::TcpStream;
+use std::sync::Wait;
+use std::thread;
+use std::thread::Threads;
+use std::time::Clock;
+
+/// The passes of a shift, by what they are for.
+#[derive(Drop)]
+struct Crew {
+    /// For datagrams.
+    serving: Vec<Pass>,
+    /// For ticks.
+    ticking: Vec<Option<Seat>>,
+    /// For links.
+    linking: Vec<Option<Seat>>,
+}
+
+/// Works one shift: the gateway comes back, with how many calls were made.
+pub fn work<T, R, D>(
+    rt: &T,
+    alloc: Global,
+    settings: &Settings,
+    node: Node<R, D>,
+    socket: &mut Socket,
+    pool: &Pool<TcpStream>,
+) -> Result<(Node<R, D>, usize), Stop>
+where
+    T: Threads + Wait + Sync + Clock,
+    R: Replica + Send,
+    R::Staged: Send,
+    D: Disk + Drop + Send,
+{
+    let workers = usize::from(settings.workers).max(1);
+    let links = settings.peers.len().saturating_add(MOST_ACCEPTED);
+    let steps = steps_of(settings);
+    let count = workers.saturating_add(1).saturating_add(links);
+    let Ok((shift, passes)) = Shift::open(alloc, node, count, steps) else {
+        return Err(Stop::Memory);
+    };
+    let Some(mut crew) = crew_of(alloc, passes, workers) else {
+        return Err(Stop::Memory);
+    };
+    let stage = Stage::new();
+    work_all(rt, alloc, settings, &shift, &mut crew, socket, pool, &stage)?;
+    close(alloc, shift, crew)
+}
+
+/// How many calls a shift has.
+fn steps_of(settings: &Settings) -> u64
+    ensures { (0 < result) × (result ≤ 4096) }
+{
+    u64::from(settings.steps).clamp(1, 4_096)
+}
+
+/// So many passes serve, one ticks, and the others are for links.
+fn crew_of(alloc: Global, passes: Vec<Pass>, workers: usize) -> Option<Crew> {
+    let mut crew = Crew {
+        serving: Vec::new(alloc),
+        ticking: Vec::new(alloc),
+        linking: Vec::new(alloc),
+    };
+    for pass in passes {
+        if crew.serving.len() < workers {
+            crew.serving.push(pass).ok()?;
+        } else if crew.ticking.is_empty() {
+            crew.ticking.push(Some(Seat { pass, end: None })).ok()?;
+        } else {
+            crew.linking.push(Some(Seat { pass, end: None })).ok()?;
+        }
+    }
+    Some(crew)
+}
+
+/// Links beside ticks beside datagrams, until the shift is over. Once the last two are, the gateway makes no more deltas, and the
+/// links tell what is left.
+fn work_all<T, R, D>(
+    rt: &T,
+    alloc: Global,
+    settings: &Settings,
+    shift: &Shift<R, D>,
+    crew: &mut Crew,
+    socket: &mut Socket,
+    pool: &Pool<TcpStream>,
+    stage: &Stage,
+) -> Result<(), Stop>
+where
+    T: Threads + Wait + Sync + Clock,
+    R: Replica + Send,
+    R::Staged: Send,
+    D: Disk + Drop + Send,
+{
+    let gateway = settings.gateway;
+    let Crew {
+        serving,
+        ticking,
+        linking,
+    } = crew;
+    let mut talking = || {
+        sit_all(
+            rt,
+            alloc,
+            shift,
+            linking.as_mut_slice(),
+            pool,
+            gateway,
+            stage,
+        );
+    };
+    let mut working = || -> Result<(), Stop> {
+        let seats = ticking.as_mut_slice();
+        let served = serve_and_tick(
+            rt, alloc, settings, shift, serving, seats, socket, pool, stage,
+        );
+        stage.go_to(rt, Phase::Quiet);
+        served
+    };
+    let ((), served) = thread::join_mut(rt, &mut talking, &mut working);
+    served
+}
+
+/// A thread for each seat of links.
+fn sit_all<T, R, D>(
+    rt: &T,
+    alloc: Global,
+    shift: &Shift<R, D>,
+    seats: &mut [Option<Seat>],
+    pool: &Pool<TcpStream>,
+    gateway: u8,
+    stage: &Stage,
+)
+where
+    T: Threads + Wait + Sync + Clock,
+    R: Replica + Send,
+    R::Staged: Send,
+    D: Disk + Drop + Send,
+{
+    let count = seats.len();
+    if count > 0 {
+        let at = |_place: usize, slot: &mut Option<Seat>| {
+            if let Some(seat) = slot.take() {
+                *slot = Some(sit(rt, alloc, shift, seat, pool, gateway, stage));
+            }
+        };
+        thread::for_each_mut(rt, seats, count, &at);
+    }
+}
+
+/// Ticks beside datagrams.
+fn serve_and_tick<T, R, D>(
+    rt: &T,
+    alloc: Global,
+    settings: &Settings,
+    shift: &Shift<R, D>,
+    passes: &mut Vec<Pass>,
+    seats: &mut [Option<Seat>],
+    socket: &mut Socket,
+    pool: &Pool<TcpStream>,
+    stage: &Stage,
+) -> Result<(), Stop>
+where
+    T: Threads + Wait + Sync + Clock,
+    R: Replica + Send,
+    R::Staged: Send,
+    D: Disk + Drop + Send,
+{
+    let (mut ears, mouth) = socket.sides(rt);
+    let mut watched = Watched::new(rt, &mut ears, stage, steps_of(settings));
+    serve_beside(
+        rt,
+        alloc,
+        shift,
+        passes,
+        seats,
+        &mut watched,
+        &mouth,
+        pool,
+        stage,
+    )
+}
+
+/// The same at the two sides of the socket.
+fn serve_beside<T, R, D, W>(
+    rt: &T,
+    alloc: Global,
+    shift: &Shift<R, D>,
+    passes: &mut Vec<Pass>,
+    seats: &mut [Option<Seat>],
+    wire: &mut W,
+    mouth: &Mouth<'_>,
+    pool: &Pool<TcpStream>,
+    stage: &Stage,
+) -> Result<(), Stop>
+where
+    T: Threads + Wait + Sync + Clock,
+    R: Replica + Send,
+    R::Staged: Send,
+    D: Disk + Drop + Send,
+    W: Wire,
+{
+    let mut ticking = || tick_at(rt, alloc, shift, seats, stage, mouth, pool);
+    let mut serving = || -> Result<(), Stop> {
+        let served = serve_all(rt, alloc, shift, passes, wire, mouth, stage);
+        stage.close(rt);
+        served
+    };
+    let ((), served) = thread::join_mut(rt, &mut ticking, &mut serving);
+    served
+}
+
+/// Ticks at the seat.
+fn tick_at<T, R, D>(
+    rt: &T,
+    alloc: Global,
+    shift: &Shift<R, D>,
+    seats: &mut [Option<Seat>],
+    stage: &Stage,
+    mouth: &Mouth<'_>,
+    pool: &Pool<TcpStream>,
+)
+where
+    T: Wait + Clock,
+    R: Replica,
+    D: Disk + Drop,
+{
+    for slot in seats {
+        if let Some(seat) = slot.take() {
+            let (pass, end) = tick_all(rt, alloc, shift, seat.pass, stage, mouth, pool);
+            *slot = Some(Seat { pass, end });
+        }
+    }
+}
+
+/// Serves datagrams until the shift has had all its calls, or is to close.
+fn serve_all<T, R, D, W>(
+    rt: &T,
+    alloc: Global,
+    shift: &Shift<R, D>,
+    passes: &mut Vec<Pass>,
+    wire: &mut W,
+    mouth: &Mouth<'_>,
+    stage: &Stage,
+) -> Result<(), Stop>
+where
+    T: Threads + Wait + Sync,
+    R: Replica + Send,
+    R::Staged: Send,
+    D: Disk + Drop + Send,
+    W: Wire,
+{
+    let given = std::mem::replace(passes, Vec::new(alloc));
+    if given.is_empty() {
+        return Ok(());
+    }
+    match serve(rt, alloc, shift, given, wire, mouth, &OpenGate, u64::MAX) {
+        Ok(served) => {
+            *passes = served.passes;
+            Ok(())
+        }
+        Err(fault) => {
+            *passes = fault.passes;
+            match fault.cause {
+                Cause::Wire if stage.phase(rt) != Phase::Serving => Ok(()),
+                Cause::Wire => Err(Stop::Socket),
+                Cause::Memory => Err(Stop::Memory),
+                Cause::Behind => Err(Stop::History),
+            }
+        }
+    }
+}
+
+/// Ends the shift, and compares its history with what its threads hold.
+fn close<R, D>(alloc: Global, shift: Shift<R, D>, crew: Crew) -> Result<(Node<R, D>, usize), Stop>
+where
+    R: Replica,
+    D: Disk + Drop,
+{
+    let mut passes = crew.serving;
+    gather(&mut passes, crew.ticking)?;
+    gather(&mut passes, crew.linking)?;
+    let _ = alloc;
+    match shift.end().close(passes) {
+        Ok(Closed { node, history }) => {
+            let steps = history.len();
+            Ok((node, steps))
+        }
+        Err(_) => Err(Stop::History),
+    }
+}
+
+/// Takes the passes from their seats, unless one was left for a cause that ends the program.
+fn gather(passes: &mut Vec<Pass>, seats: Vec<Option<Seat>>) -> Result<(), Stop> {
+    for slot in seats {
+        if let Some(seat) = slot {
+            match seat.end {
+                None | Some(End::Full) | Some(End::Lost) => {}
+                Some(End::Memory) => return Err(Stop::Memory),
+                Some(End::Behind) => return Err(Stop::History),
+                Some(End::Halted) => return Err(Stop::Disk),
+            }
+            if passes.push(seat.pass).is_err() {
+                return Err(Stop::Memory);
+            }
+        }
+    }
+    Ok(())
+}
