@@ -1,0 +1,846 @@
+#!/usr/bin/env python3
+"""Tries the daemon: what it tells and its statuses, clients over UDP, linked gateways, kills, the turn of shifts, hostile octets.
+
+Usage: bench/daemon.py PROGRAM [PART..] [--kills N] [--datagrams N] [--streams N] [--requests N] [--growth MIB] [--seed N]
+
+The parts, all where none is named:
+
+  messages  every message and status of the program that can be provoked
+  loopback  a client sleeps and wakes at one gateway, also where the daemon is killed in between
+  links     two and three gateways, linked in a ring; one is killed, another hands the messages over
+  kills     the daemon is killed N times (100) amid publications; what was acknowledged is there in the end
+  shifts    N requests (600) over shifts of 16 calls are all answered
+  hostile   N datagrams (20,000) and N streams of a link (500) that were made up: the daemon answers, and grows by MIB (64) at most
+
+All goes on at 127.0.0.1, at ports that the system gives, in a folder that is gone afterwards. Status 0 only where nothing failed.
+"""
+import argparse
+import os
+import random
+import select
+import signal
+import socket
+import struct
+import subprocess
+import sys
+import tempfile
+import time
+
+sys.dont_write_bytecode = True
+from gateway import (AGAIN, CONNECTED, GONE, HOST, PONG, Client, Failed, Gateway, at_port, connect, expect, frame, free_ports, leave,
+                     number, opened, ping, publish, published, register, search, settings_text, subscribe, until, with_the_starter)
+
+# The journal of gateway 1 behind the CONNECT of a client s1: header, seal, and a record (docs/JOURNAL.md).
+HEADER = bytes.fromhex("534e4a31 01 0000000000000001")
+SEAL = b"\x53"
+DELTA = bytes.fromhex("0100000001 01 027331 0000000000000001 01 00 0000 01 003c 0001 0000000000000000")
+RECORD = b"\x44" + len(DELTA).to_bytes(4, "big") + DELTA
+
+
+class Account:
+    """Counts what was tried, and goes on behind what failed."""
+
+    def __init__(self):
+        self.tried, self.failed = 0, 0
+
+    def check(self, words: str, trial) -> None:
+        self.tried += 1
+        try:
+            said = trial()
+            print(f"  ok    {words}{': ' + said if said else ''}", flush=True)
+        except (Failed, OSError, subprocess.SubprocessError, IndexError, ValueError) as why:
+            self.failed += 1
+            print(f"  FAIL  {words}: {why}", flush=True)
+
+
+# ---- messages and statuses
+
+
+def run(program: str, arguments: list, folder: str, limit: int = 0) -> tuple:
+    """One run to its end: status, standard output and standard error."""
+    try:
+        done = subprocess.run([program] + arguments, stdin=subprocess.DEVNULL, capture_output=True, cwd=folder, timeout=30,
+                              preexec_fn=with_the_starter(limit))
+    except subprocess.TimeoutExpired:
+        raise Failed("it did not end within 30 seconds") from None
+    return done.returncode, done.stdout.decode(errors="replace"), done.stderr.decode(errors="replace")
+
+
+def wanted(got: tuple, status: int, told: str, printed: str = None) -> None:
+    """Of a refusal one line is told, and nothing else."""
+    expect(got[0] == status and got[2] == told,
+           f"status {got[0]} and {got[2][:200]!r} on the error stream, wanted {status} and {told!r}")
+    if printed is not None:
+        expect(got[1] == printed, f"{got[1][:200]!r} on standard output, wanted {printed!r}")
+
+
+class Texts:
+    """Settings of a gateway that could run, and files with them and with others."""
+
+    def __init__(self, program: str, folder: str):
+        self.program, self.folder, self.count = program, folder, 0
+        self.port, self.link = free_ports(2)
+        self.good = {"gateway": "1", "listen": at_port(self.port), "link": at_port(self.link), "journal": f'"{folder}/journal"'}
+
+    def file(self, text: bytes) -> str:
+        self.count += 1
+        path = os.path.join(self.folder, f"settings-{self.count}.toml")
+        with open(path, "wb") as file:
+            file.write(text)
+        return path
+
+    def run_text(self, text: bytes, shifts: str = "0") -> tuple:
+        return run(self.program, ["--config", self.file(text), "--shifts", shifts], self.folder)
+
+    def run_with(self, shifts: str = "0", **values) -> tuple:
+        return self.run_text(settings_text({**self.good, **values}).encode(), shifts)
+
+
+BAD = {
+    "gateway": [None, "0", "256", "-1", '"1"', "1.0", "true"],
+    "listen": [None, '"127.0.0.1"', '"127.0.0.1:65536"', '"256.0.0.1:1"', '"127.0.0:1"', '"+1.0.0.1:1"', '"localhost:1"', '""', "7"],
+    "link": [None, '"127.0.0.1"', '"127.0.0.1:"', '"127.0.0.1:-1"', '"127.0.0.1:1 "', "7"],
+    "journal": [None, "1", "[]", "true"],
+    "workers": ["0", "9", "-1", '"2"', "1.5"],
+    "steps": ["0", "4097", "-1", '"16"'],
+    "advertise": ["-1", "65536", '"1"'],
+    "field": ['"127.0.0.1:1"', '["127.0.0.1"]', "[1]", '["127.0.0.1:1", ""]', "1"],
+    "peers": ['"127.0.0.1:1"', '["127.0.0.1"]', "[1]", '["127.0.0.1:1", "::1"]', "1"],
+    "predefined": ["1", "[1]", '["a"]', "[{ id = 1 }]", '[{ topic = "a" }]', '[{ id = 0, topic = "a" }]', '[{ id = 65535, topic = "a" }]',
+                   '[{ id = 1, topic = "a" }, { id = 1, topic = "b" }]', '[{ id = 1, topic = "" }]', '[{ id = 1, topic = "a/#" }]',
+                   f'[{{ id = 1, topic = "{"a" * 257}" }}]', '[{ id = "1", topic = "a" }]'],
+}
+
+
+def try_arguments(account: Account, texts: Texts) -> None:
+    good = texts.file(settings_text(texts.good).encode())
+    lists = [[], ["--help"], ["--config"], ["--shifts", "0"], ["--config", good, "--shifts"], ["--config", good, "--shifts", "-1"],
+             ["--config", good, "--shifts", "1000001"], ["--config", good, "--shifts", "some"], ["--config", good, "--shifts", ""],
+             ["--config", good, "--shifts", "0", "more"], ["--config", good, "--shifts", "0", "--help"], ["--nothing"], [good]]
+    for arguments in lists:
+        words = " ".join("FILE" if word == good else word or "''" for word in arguments) or "no arguments"
+        account.check(f"arguments: {words}", lambda: wanted(run(texts.program, arguments, texts.folder), 1, "sngw: arguments\n", ""))
+
+
+def try_files(account: Account, texts: Texts) -> None:
+    def refused(path: str, told: str = "file") -> None:
+        wanted(run(texts.program, ["--config", path, "--shifts", "0"], texts.folder), 1, f"sngw: settings {told}\n", "")
+
+    good = settings_text(texts.good).encode()
+    account.check("settings file: not there", lambda: refused(os.path.join(texts.folder, "nowhere.toml")))
+    account.check("settings file: a folder", lambda: refused(texts.folder))
+    account.check("settings file: 32 MiB", lambda: refused(texts.file(good + (b"#" * 63 + b"\n") * (1 << 19))))
+    for name, octets in [("a lone octet", b"\xff"), ("a cut character", b"\xe2\x82"), ("a surrogate", b"\xed\xa0\x80")]:
+        account.check(f"settings text: no UTF-8, {name}", lambda: refused(texts.file(good + b"# " + octets + b"\n"), "text"))
+
+
+def try_keys(account: Account, texts: Texts) -> None:
+    for text in [b"gateway = = 1\n", b"gateway\n", b"[gateway\n", b"gateway = 1\ngateway = 1\n", b'listen = "\n']:
+        account.check(f"settings text: {text!r}", lambda: wanted(texts.run_text(text), 1, "sngw: settings text\n", ""))
+    for key, values in BAD.items():
+        for value in values:
+            shown = "not there" if value is None else value if len(value) < 60 else value[:40] + ".."
+            account.check(f"settings {key}: {shown}",
+                          lambda: wanted(texts.run_with(**{key: value}), 1, f"sngw: settings {key}\n", ""))
+    for place, key in enumerate(BAD):
+        wrong = {other: values[-1] for other, values in list(BAD.items())[place:]}
+        account.check(f"settings {key}: the first of {len(wrong)} that are wrong",
+                      lambda: wanted(texts.run_with(**wrong), 1, f"sngw: settings {key}\n", ""))
+
+
+def try_good_settings(account: Account, texts: Texts) -> None:
+    """What may stand in a settings file; each opens a journal of its own."""
+    good = {
+        "no more than there must be": {},
+        "the least": {"workers": "1", "steps": "1", "advertise": "0", "field": "[]", "peers": "[]", "predefined": "[]"},
+        "the most": {"workers": "8", "steps": "4096", "advertise": "65535"},
+        "lists": {"field": '["127.0.0.1:1", "127.0.0.1:2"]', "peers": '["127.0.0.1:3"]',
+                  "predefined": f'[{{ id = 1, topic = "a/b" }}, {{ id = 65534, topic = "{"a" * 256}" }}]'},
+        "a key that nobody knows": {"unknown": "[1, 2]"},
+    }
+    for place, (words, values) in enumerate(good.items()):
+        values = {"journal": f'"{texts.folder}/good-{place}"', **values}
+        account.check(f"good settings: {words}", lambda: wanted(texts.run_with(**values), 0, "", "gateway 1 records 0 clients 0\n"))
+    tables = settings_text({**texts.good, "gateway": "255", "journal": f'"{texts.folder}/good-tables"'})
+    tables += '[[predefined]]\nid = 7\ntopic = "a"\n\n[[predefined]]\nid = 8\ntopic = "b"\n'
+    account.check("good settings: predefined as tables, gateway 255",
+                  lambda: wanted(texts.run_text(tables.encode()), 0, "", "gateway 255 records 0 clients 0\n"))
+
+
+def try_journals(account: Account, texts: Texts) -> None:
+    def opened_with(name: str, first: bytes, second: bytes = b"") -> tuple:
+        path = os.path.join(texts.folder, name)
+        for ending, octets in ((".0", first), (".1", second)):
+            with open(path + ending, "wb") as file:
+                file.write(octets)
+        return texts.run_with(journal=f'"{path}"')
+
+    def refused(fault: str, name: str, first: bytes, second: bytes = b"") -> None:
+        wanted(opened_with(name, first, second), 2, f"sngw: journal {fault}\n")
+
+    account.check("journal J1: a folder that is not there",
+                  lambda: wanted(texts.run_with(journal=f'"{texts.folder}/nowhere/journal"'), 2, "sngw: journal J1\n"))
+    os.mkdir(os.path.join(texts.folder, "taken.0"))
+    account.check("journal J1: a folder in the place of its file",
+                  lambda: wanted(texts.run_with(journal=f'"{texts.folder}/taken"'), 2, "sngw: journal J1\n"))
+    other = HEADER[:4] + b"\x02" + HEADER[5:] + SEAL
+    foreign = [("another gateway's number", other, b""), ("other octets", b"something else", b""),
+               ("a second file that is not empty", HEADER + SEAL, b"\x00"), ("no seal", HEADER + RECORD, b"")]
+    for place, (words, first, second) in enumerate(foreign):
+        account.check(f"journal J2: {words}", lambda: refused("J2", f"foreign-{place}", first, second))
+    whole = HEADER + SEAL + RECORD
+    damaged = [("another tag", whole + b"\x45"), ("a second seal", whole + SEAL),
+               ("a record over the limit", whole + b"\x44\x00\x80\x00\x01"),
+               ("a delta of another version", HEADER + SEAL + RECORD[:5] + b"\x02" + RECORD[6:]),
+               ("a record of one octet", whole + b"\x44\x00\x00\x00\x01\x00"), ("a record of nothing", whole + b"\x44\x00\x00\x00\x00")]
+    for place, (words, first) in enumerate(damaged):
+        account.check(f"journal J3: {words}", lambda: refused("J3", f"damaged-{place}", first))
+    for length in range(0, len(whole) + 1):
+        if length in (0, 1, 13, 14, 15, 20, len(whole) - 1, len(whole)):
+            records = 1 if length == len(whole) else 0
+            said = f"gateway 1 records {records} clients {records}\n"
+            account.check(f"a journal cut to {length} octets opens",
+                          lambda: wanted(opened_with(f"cut-{length}", whole[:length]), 0, "", said))
+
+
+def try_sockets(account: Account, texts: Texts) -> None:
+    taken = socket.socket(socket.AF_INET, socket.SOCK_DGRAM)
+    busy = socket.socket(socket.AF_INET, socket.SOCK_STREAM)
+    with taken, busy:
+        taken.bind((HOST, 0))
+        busy.bind((HOST, 0))
+        busy.listen(1)
+        listen, link = at_port(taken.getsockname()[1]), at_port(busy.getsockname()[1])
+        journal = f'"{texts.folder}/sockets"'
+        account.check("socket: the UDP port is taken",
+                      lambda: wanted(texts.run_with("1", listen=listen, journal=journal), 3, "sngw: socket\n"))
+        account.check("socket: the TCP port is taken",
+                      lambda: wanted(texts.run_with("1", link=link, journal=journal), 3, "sngw: socket\n"))
+        account.check("no shifts: both ports are taken, and no socket is opened",
+                      lambda: wanted(texts.run_with("0", listen=listen, link=link, journal=journal), 0, "",
+                                     "gateway 1 records 0 clients 0\n"))
+
+
+def try_memory(account: Account, texts: Texts) -> None:
+    """A journal of 512 MiB is opened by a process that may have 256 MiB."""
+    path = os.path.join(texts.folder, "large")
+    with open(path + ".0", "wb") as file:
+        file.write(HEADER + SEAL + RECORD)
+        file.truncate(1 << 29)
+    settings = texts.file(settings_text({**texts.good, "journal": f'"{path}"'}).encode())
+
+    def trial() -> str:
+        got = run(texts.program, ["--config", settings, "--shifts", "0"], texts.folder, 1 << 28)
+        expect((got[0], got[2]) in ((2, "sngw: journal J4\n"), (4, "sngw: memory\n")),
+               f"status {got[0]} and {got[2][:200]!r}, wanted 2 with 'sngw: journal J4' or 4 with 'sngw: memory'")
+        return got[2].strip()
+
+    account.check("memory: a journal larger than what the process may have", trial)
+    os.remove(path + ".0")
+
+
+def part_messages(account: Account, program: str, folder: str, _) -> None:
+    texts = Texts(program, folder)
+    for trial in (try_arguments, try_files, try_keys, try_good_settings, try_journals, try_sockets, try_memory):
+        trial(account, texts)
+
+
+# ---- one gateway
+
+
+def puback(client: Client, field: bytes, body: bytes, message: int, flags: int = 0x22) -> None:
+    """A publication at quality of service 1 is acknowledged with code 0."""
+    client.ask(publish(field, body, message, flags), published(field, message))
+
+
+def try_first_answers(gateway: Gateway) -> None:
+    with Client(b"s1", gateway) as one:
+        expect(one.ask(bytes.fromhex("08040001003c7331"), b"\x03") == CONNECTED, "CONNECT was answered otherwise")
+        got = one.ask(subscribe(b"ab", 1), b"\x08\x13")
+        expect(got == bytes.fromhex("0813200001000100"), f"SUBSCRIBE was answered {got.hex()}")
+        got = one.ask(register(b"t/b", 2), b"\x07\x0b")
+        expect(got == bytes.fromhex("070b0002000200"), f"REGISTER was answered {got.hex()}")
+        one.ask(ping(), PONG)
+        got = one.ask(subscribe(b"t/+", 3), b"\x08\x13")
+        expect(got == bytes.fromhex("0813200000000300"), f"SUBSCRIBE with a wildcard was answered {got.hex()}")
+        one.ask(leave(), GONE)
+        got = one.ask(publish(b"ab", b"x", 1), b"\x02")
+        expect(got == GONE, f"PUBLISH of a client that left was answered {got.hex()}")
+
+
+def try_sleep(gateway: Gateway, cut: bool) -> str:
+    """A message that waits for a sleeper comes when it wakes, also where the daemon was killed in between."""
+    name = b"sleeper-cut" if cut else b"sleeper"
+    topic = b"t/" + name
+    with Client(name, gateway) as sleeper, Client(b"publisher", gateway) as publisher:
+        sleeper.connect()
+        sleeper.ask(subscribe(topic), b"\x08\x13\x20\x00\x01")
+        sleeper.sleep()
+        publisher.connect(clean=True)
+        answer = publisher.ask(register(topic, 1), b"\x07\x0b")
+        field, told = answer[2:4], ""
+        for message, body in ((2, b"first"), (3, b"second")):
+            puback(publisher, field, body, message, 0x20)
+        if cut:
+            gateway.kill()
+            records, clients = gateway.start()
+            expect(records >= 6 and clients >= 2, f"{records} records and {clients} clients were read")
+            told = f"{records} records, {clients} clients"
+        got = publisher.sends_once(sleeper.wake())
+        expect(got == [b"first", b"second"], f"the sleeper got {got}")
+        again = sleeper.wake()
+        expect(again == [], f"the sleeper woke again and got {again}")
+        return told
+
+
+def try_active(gateway: Gateway) -> str:
+    """A client that is there gets a message without asking: time goes by at the daemon."""
+    with Client(b"listener", gateway) as listener, Client(b"publisher", gateway) as publisher:
+        listener.connect()
+        listener.ask(subscribe(b"li", 1, 0x22), b"\x08\x13")
+        publisher.connect(clean=True)
+        began = time.monotonic()
+        puback(publisher, b"li", b"now", 1)
+        got = listener.hear(10)
+        expect(got == [b"now"], f"it got {got} within 10 seconds")
+        return f"{time.monotonic() - began:.2f} seconds"
+
+
+def try_qualities(gateway: Gateway) -> None:
+    """Publications at -1, 0 and 2, and by a predefined id, wait for a sleeper in their order."""
+    with Client(b"quality", gateway) as sleeper, Client(b"publisher", gateway) as publisher:
+        sleeper.connect()
+        sleeper.ask(subscribe(b"qq", 1, 0x22), b"\x08\x13")
+        sleeper.ask(subscribe(number(7), 2, 0x21), b"\x08\x13\x20\x00\x07")
+        sleeper.sleep()
+        publisher.send(publish(b"qq", b"without a connection", 0, 0x62))
+        gateway.await_octets(b"without a connection")
+        publisher.connect(clean=True)
+        publisher.send(publish(b"qq", b"at 0", 0, 0x02))
+        gateway.await_octets(b"at 0")
+        publisher.ask(publish(b"qq", b"at 2", 9, 0x42), frame(0x0F, number(9)))
+        publisher.ask(frame(0x10, number(9)), frame(0x0E, number(9)))
+        puback(publisher, number(7), b"predefined", 10, 0x21)
+        got = publisher.sends_once(sleeper.wake())
+        expect(got == [b"without a connection", b"at 0", b"at 2", b"predefined"], f"the sleeper got {got}")
+
+
+def try_advertise(program: str, folder: str) -> None:
+    """ADVERTISE comes to the addresses of the field, again and again."""
+    with socket.socket(socket.AF_INET, socket.SOCK_DGRAM) as hearer:
+        hearer.bind((HOST, 0))
+        hearer.settimeout(10)
+        field = f'["{HOST}:{hearer.getsockname()[1]}"]'
+        with Gateway(program, folder, 9, advertise="1", field=field) as gateway:
+            gateway.start()
+            for _ in range(2):
+                try:
+                    octets, sender = hearer.recvfrom(65536)
+                except TimeoutError:
+                    raise Failed("none came within 10 seconds") from None
+                expect((octets, sender) == (bytes.fromhex("0500090001"), gateway.address), f"{octets.hex()} came from {sender}")
+
+
+def part_loopback(account: Account, program: str, folder: str, _) -> None:
+    with Gateway(program, folder, 1, predefined='[{ id = 7, topic = "p/seven" }]') as gateway:
+        account.check("a gateway starts", lambda: gateway.start() and None)
+        account.check("first answers", lambda: try_first_answers(gateway))
+        account.check("a client sleeps and wakes", lambda: try_sleep(gateway, False))
+        account.check("the daemon is killed between sleep and wake", lambda: try_sleep(gateway, True))
+        account.check("a message comes to a client that is there", lambda: try_active(gateway))
+        account.check("qualities of service and a predefined id", lambda: try_qualities(gateway))
+        account.check("the daemon still runs", gateway.alive)
+    account.check("ADVERTISE", lambda: try_advertise(program, folder))
+
+
+# ---- linked gateways
+
+
+def ring(program: str, folder: str, count: int) -> list:
+    """Gateways of which each dials the next."""
+    ports = free_ports(2 * count)
+    pairs = list(zip(ports[::2], ports[1::2]))
+    return [Gateway(program, folder, place + 1, pairs[place], peers=f"[{at_port(pairs[(place + 1) % count][1])}]")
+            for place in range(count)]
+
+
+def take_over(gateways: list, killed: Gateway, waker: Gateway, tag: bytes) -> str:
+    """Sleep at the first, publish at the second, which is killed then, and wake at another."""
+    topic, body = b"take/" + tag, b"kept " + tag
+    with Client(b"s-" + tag, gateways[0]) as sleeper, Client(b"p-" + tag, gateways[1]) as publisher:
+        sleeper.connect()
+        sleeper.ask(subscribe(topic), b"\x08\x13\x20\x00\x01")
+        sleeper.sleep()
+        heard = gateways[1].await_octets(topic)
+        publisher.connect(clean=True)
+        field = publisher.ask(register(topic, 1), b"\x07\x0b")[2:4]
+        puback(publisher, field, body, 2, 0x20)
+        moved = waker.await_octets(body)
+        waker.settle()
+        killed.kill()
+        sleeper.gateway = waker
+        got = publisher.sends_once(sleeper.wake())
+        expect(got == [body], f"the sleeper woke at gateway {waker.number} and got {got}")
+        again = sleeper.wake()
+        expect(again == [], f"the sleeper woke again and got {again}")
+    return f"deltas took {heard * 1000:.0f} and {moved * 1000:.0f} ms"
+
+
+def catch_up(gateways: list) -> str:
+    """A gateway that was away gets what was published meanwhile."""
+    away = gateways[2]
+    with Client(b"s-away", gateways[0]) as sleeper, Client(b"p-away", gateways[1]) as publisher:
+        sleeper.connect()
+        sleeper.ask(subscribe(b"aw", 1, 0x22), b"\x08\x13")
+        sleeper.sleep()
+        gateways[1].await_octets(b"s-away")
+        away.kill()
+        publisher.connect(clean=True)
+        puback(publisher, b"aw", b"while it was away", 1)
+        gateways[0].await_octets(b"while it was away")
+        away.start()
+        moved = away.await_octets(b"while it was away", 30)
+        away.settle()
+        sleeper.gateway = away
+        got = publisher.sends_once(sleeper.wake())
+        expect(got == [b"while it was away"], f"the sleeper got {got}")
+        return f"it had what it lacked {moved * 1000:.0f} ms after its first answer"
+
+
+def with_ring(program: str, folder: str, count: int, trial) -> str:
+    gateways = ring(program, folder, count)
+    try:
+        for gateway in gateways:
+            gateway.start()
+        return trial(gateways)
+    finally:
+        for gateway in gateways:
+            gateway.kill()
+
+
+def part_links(account: Account, program: str, folder: str, _) -> None:
+    def trial_in(name: str, count: int, trial) -> str:
+        place = os.path.join(folder, name)
+        os.mkdir(place)
+        return with_ring(program, place, count, trial)
+
+    account.check("two gateways: sleep at 1, publish at 2, kill 2, wake at 1",
+                  lambda: trial_in("two", 2, lambda g: take_over(g, g[1], g[0], b"two")))
+    account.check("two gateways: sleep at 1, publish at 2, kill 1, wake at 2",
+                  lambda: trial_in("two-first", 2, lambda g: take_over(g, g[0], g[1], b"two-first")))
+    account.check("three gateways: sleep at 1, publish at 2, kill 2, wake at 3",
+                  lambda: trial_in("three", 3, lambda g: take_over(g, g[1], g[2], b"three")))
+    account.check("three gateways: 3 is away, publish at 2, start 3, wake at 3", lambda: trial_in("away", 3, catch_up))
+
+
+# ---- kills
+
+WINDOW = 8  # publications that are not answered yet
+MOST = 80  # publications of a round
+ROUNDS = 10  # rounds to a subscriber, for which at most 1,024 messages may wait
+
+
+def publish_and_kill(gateway: Gateway, publisher: Client, topic: bytes, first: int, stop: int) -> tuple:
+    """Publishes with a window, and kills the daemon behind so many answers. Gives what was sent and what was acknowledged.
+
+    Nothing is sent twice: what was not answered within a second is given up."""
+    sent, acknowledged, waiting, end = {}, set(), set(), time.monotonic() + 30
+    publisher.flush()
+    while len(acknowledged) < stop and len(sent) < MOST + WINDOW:
+        while len(waiting) < WINDOW and len(sent) < MOST + WINDOW:
+            message = (first + len(sent)) % 65535 + 1
+            waiting.add(message)
+            sent[message] = b"%08d" % (first + len(sent))
+            publisher.send(publish(topic, sent[message], message))
+        octets = publisher.receive(1)
+        if octets is None:
+            waiting.clear()
+            expect(time.monotonic() < end, f"{len(acknowledged)} of {len(sent)} publications were acknowledged within 30 seconds")
+        note(octets, sent, acknowledged)
+        waiting -= acknowledged
+    gateway.kill()
+    while (octets := publisher.receive(0.02)) is not None:
+        note(octets, sent, acknowledged)
+    return list(sent.values()), {sent[message] for message in acknowledged}
+
+
+def note(octets, sent: dict, acknowledged: set) -> None:
+    """A PUBACK."""
+    if octets is None:
+        return
+    kind, body = opened(octets)
+    message = int.from_bytes(body[2:4], "big") if kind == 0x0D else 0
+    if message in sent:
+        expect(body[4] == 0, f"a publication was refused with code {body[4]}")
+        acknowledged.add(message)
+
+
+def read_back(gateway: Gateway, place: int, sent: list, acknowledged: set) -> int:
+    """What the subscriber of this place gets. Each message that was acknowledged must be there, and none twice."""
+    with Client(b"kept-%d" % place, gateway) as subscriber:
+        got = subscriber.wake(120)
+    missing = acknowledged - set(got)
+    expect(not missing, f"{len(missing)} acknowledged messages are missing, as {sorted(missing)[:5]}")
+    expect(len(got) == len(set(got)), f"{len(got) - len(set(got))} messages came twice")
+    expect(set(got) <= set(sent), "messages came that nobody sent")
+    return len(got)
+
+
+def kill_again_and_again(gateway: Gateway, kills: int, chance: random.Random) -> str:
+    gateway.start()
+    sent, acknowledged, counted, slowest = {}, {}, 0, 0.0
+    with Client(b"publisher", gateway) as publisher:
+        for turn in range(kills):
+            place = turn // ROUNDS
+            topic = number(0x4141 + place // 26 * 256 + place % 26)
+            if turn % ROUNDS == 0:
+                with Client(b"kept-%d" % place, gateway) as subscriber:
+                    subscriber.connect()
+                    subscriber.ask(subscribe(topic, 1, 0x22), b"\x08\x13")
+                    subscriber.sleep()
+                sent[place], acknowledged[place] = [], set()
+            publisher.connect(clean=True)
+            more, held = publish_and_kill(gateway, publisher, topic, counted, chance.randint(1, MOST - WINDOW))
+            sent[place] += more
+            acknowledged[place] |= held
+            counted += len(more)
+            began = time.monotonic()
+            records, _ = gateway.start()
+            slowest = max(slowest, time.monotonic() - began)
+            total = sum(map(len, acknowledged.values()))
+            expect(records >= total, f"behind kill {turn + 1} {records} records were read, and {total} publications were acknowledged")
+    got = sum(read_back(gateway, place, sent[place], acknowledged[place]) for place in sent)
+    total = sum(map(len, acknowledged.values()))
+    return f"{counted} sent, {total} acknowledged, {got} got, none of these missing; the slowest start took {slowest:.2f} seconds"
+
+
+def part_kills(account: Account, program: str, folder: str, options) -> None:
+    with Gateway(program, folder, 1) as gateway:
+        account.check(f"{options.kills} kills amid publications",
+                      lambda: kill_again_and_again(gateway, options.kills, random.Random(options.seed)))
+
+
+# ---- the turn of shifts
+
+
+class Asker:
+    """A client with one request under way."""
+
+    def __init__(self, place: int, gateway: Gateway):
+        self.client, self.place, self.done = Client(b"asker-%d" % place, gateway), place, 0
+        self.first, self.again, self.repeats, self.slowest = 0.0, 0.0, 0, 0.0
+        self.client.connect()
+        self.octets, self.wanted = b"", (0, b"")
+
+    def next(self) -> None:
+        """A publication, a topic or a PINGREQ, in turn."""
+        message = self.done % 65535 + 1
+        self.octets, self.wanted = [
+            (publish(b"sh", b"%d-%d" % (self.place, self.done), message), (0x0D, number(message))),
+            (register(b"topic/%d" % (self.done % 50), message), (0x0B, number(message))),
+            (ping(), (0x17, b"")),
+        ][self.done % 3]
+        self.first = self.again = time.monotonic()
+        self.client.send(self.octets)
+
+    def look(self) -> bool:
+        """Whether the answer is there: of a kind, with a message id behind the topic id."""
+        octets = self.client.receive(0.001)
+        if octets is None or (octets[1], octets[4:6]) != self.wanted:
+            return False
+        self.slowest = max(self.slowest, time.monotonic() - self.first)
+        self.done += 1
+        return True
+
+    def repeat(self) -> None:
+        if time.monotonic() - self.again >= AGAIN:
+            self.again = time.monotonic()
+            self.repeats += 1
+            self.client.send(self.octets)
+
+
+def ask_all(gateway: Gateway, requests: int) -> str:
+    askers = [Asker(place, gateway) for place in range(8)]
+    each = -(-requests // len(askers))
+    last, longest, end = time.monotonic(), 0.0, time.monotonic() + 30 + requests * 0.2
+    for asker in askers:
+        asker.next()
+    while any(asker.done < each for asker in askers):
+        expect(time.monotonic() < end, f"{sum(asker.done for asker in askers)} of {each * len(askers)} requests were answered in time")
+        busy = {asker.client.socket: asker for asker in askers if asker.done < each}
+        for found in select.select(list(busy), [], [], 0.05)[0]:
+            if busy[found].look():
+                longest, last = max(longest, time.monotonic() - last), time.monotonic()
+                if busy[found].done < each:
+                    busy[found].next()
+        for asker in busy.values():
+            asker.repeat()
+    for asker in askers:
+        asker.client.close()
+    return (f"{each * len(askers)} requests of 8 clients, {sum(asker.repeats for asker in askers)} repeated, longest gap between answers "
+            f"{longest:.3f} seconds, slowest answer {max(asker.slowest for asker in askers):.3f}")
+
+
+def shifts_turn(gateway: Gateway, requests: int) -> str:
+    gateway.start()
+    with Client(b"over-shifts", gateway) as sleeper:
+        sleeper.connect()
+        sleeper.ask(subscribe(b"so", 1, 0x22), b"\x08\x13")
+        sleeper.sleep()
+        said = ask_all(gateway, requests)
+        with Client(b"publisher", gateway) as publisher:
+            publisher.connect(clean=True)
+            puback(publisher, b"so", b"over shifts", 1)
+        got = sleeper.wake()
+        expect(b"over shifts" in got, f"the sleeper got {got}")
+    closed = gateway.shifts()
+    expect(len(closed) >= requests // 16 // 2, f"{len(closed)} lines 'shift I steps N' behind {requests} requests")
+    numbers = [shift for shift, _ in closed]
+    expect(numbers == list(range(numbers[0], numbers[0] + len(numbers))) and numbers[0] <= 1, f"shifts were counted {numbers[:5]}..")
+    expect(all(steps <= 16 for _, steps in closed), f"a shift had {max(steps for _, steps in closed)} calls")
+    full = sum(steps == 16 for _, steps in closed)
+    expect(2 * full > len(closed), f"{full} of {len(closed)} shifts had 16 calls")
+    return f"{said}; {len(closed)} shifts, {full} of 16 calls"
+
+
+def ends_by_itself(program: str, folder: str) -> None:
+    """Three shifts, and the program ends with status 0."""
+    with Gateway(program, folder, 3, steps="16") as gateway:
+        gateway.start(3)
+
+        def ended() -> bool:
+            probe.send(search())
+            return gateway.process.poll() is not None
+
+        with Client(b"probe", gateway) as probe:
+            until(ended, 60, "the program did not end behind its shifts", 0.005)
+        expect(gateway.process.returncode == 0, f"status {gateway.process.returncode}: {gateway.told().strip()}")
+        expect([steps for _, steps in gateway.shifts()] == [16, 16, 16], f"it printed {gateway.printed()!r}")
+        expect(gateway.told() == "", f"it told {gateway.told()!r}")
+
+
+def part_shifts(account: Account, program: str, folder: str, options) -> None:
+    with Gateway(program, folder, 1, steps="16") as gateway:
+        account.check("shifts of 16 calls turn", lambda: shifts_turn(gateway, options.requests))
+    with Gateway(program, folder, 2, steps="1", workers="8") as gateway:
+        account.check("shifts of 1 call, 8 workers", lambda: gateway.start() and ask_all(gateway, max(8, options.requests // 10)))
+    account.check("the program ends behind three shifts", lambda: ends_by_itself(program, folder))
+
+
+# ---- hostile octets
+
+
+def good_datagrams(chance: random.Random) -> list:
+    name = b"hostile-%d" % chance.randrange(200)
+    message = chance.randrange(65536)
+    return [connect(name, chance.randrange(65536), chance.random() < 0.5), frame(0x04, b"\x0c\x01\x00\x3c" + name),
+            frame(0x07, b"\x20will"), frame(0x09, b"message"),
+            register(b"topic/%d" % chance.randrange(400), message), subscribe(b"topic/+", message),
+            subscribe(b"ab", message, 0x22), frame(0x14, b"\x22" + number(message) + b"ab"), publish(b"ab", b"body", message),
+            publish(b"ab", bytes(chance.randrange(300)), message, 0x42), publish(number(7), b"body", 0, 0x61), frame(0x10, number(message)),
+            published(b"ab", message), frame(0x0F, number(message)), frame(0x0B, number(1) + number(message) + b"\x00"), ping(name), ping(),
+            leave(chance.randrange(65536)), frame(0x1A, b"\x20will"), frame(0x1C, b"message"), search(), frame(0xFE, b"\x01" + name)]
+
+
+def hostile_datagram(chance: random.Random) -> bytes:
+    """Random octets, or a good message that was changed, cut, or made longer."""
+    if chance.random() < 0.3:
+        length = chance.choice([chance.randrange(8), chance.randrange(64), chance.randrange(1500), chance.randrange(65000)])
+        octets = bytearray(chance.randbytes(length))
+        if octets and chance.random() < 0.5:
+            octets[0] = min(length, 255)
+        return bytes(octets)
+    octets = bytearray(chance.choice(good_datagrams(chance)))
+    for _ in range(chance.randrange(3)):
+        octets[chance.randrange(len(octets))] = chance.randrange(256)
+    if chance.random() < 0.2:
+        del octets[chance.randrange(len(octets)):]
+    if chance.random() < 0.2:
+        octets += chance.randbytes(chance.randrange(20))
+    if octets and chance.random() < 0.5:
+        octets[0] = min(len(octets), 255)
+    return bytes(octets)
+
+
+def throw_datagrams(gateway: Gateway, count: int, chance: random.Random) -> str:
+    before, held = gateway.memory(), len(gateway.held())
+    senders = [Client(b"sender-%d" % place, gateway) for place in range(32)]
+    with Client(b"probe", gateway) as probe:
+        for place in range(count):
+            sender = chance.choice(senders)
+            sender.send(hostile_datagram(chance))
+            if place % 40 == 39:
+                probe.ask(search(), frame(0x02, bytes([gateway.number])))
+                sender.flush()
+    for sender in senders:
+        sender.close()
+    gateway.alive()
+    return f"VmRSS {before} KiB before, {gateway.memory()} behind; journal {held} octets before, {len(gateway.held())} behind"
+
+
+def message_of(kind: int, body: bytes) -> bytes:
+    return bytes([kind]) + len(body).to_bytes(4, "big") + body
+
+
+def records_of(octets: bytes) -> list:
+    """The deltas of a journal."""
+    found, place = [], 14
+    while place + 5 <= len(octets) and octets[place] == 0x44:
+        length = int.from_bytes(octets[place + 1:place + 5], "big")
+        found.append(octets[place + 5:place + 5 + length])
+        place += 5 + length
+    return found
+
+
+def hostile_stream(chance: random.Random, deltas: list) -> bytes:
+    hello = message_of(1, bytes([chance.randrange(1, 256)]))
+    delta = bytearray(chance.choice(deltas))
+    delta[chance.randrange(len(delta))] = chance.randrange(256)
+    return chance.choice([
+        lambda: chance.randbytes(chance.randrange(2000)),
+        lambda: hello + chance.randbytes(chance.randrange(2000)),
+        lambda: message_of(1, b"\x00"),
+        lambda: message_of(1, b""),
+        lambda: hello * chance.randrange(1, 20),
+        lambda: hello[:chance.randrange(6)],
+        lambda: hello + bytes([chance.randrange(1, 4)]) + chance.randbytes(4),
+        lambda: hello + b"\x03\x00\x80\x00\x00" + chance.randbytes(10000),
+        lambda: hello + message_of(2, chance.randbytes(chance.randrange(100))),
+        lambda: hello + message_of(2, b"\x01\x00\x00\x00\x00") * chance.randrange(1, 4),
+        lambda: message_of(2, b"\x01\x00\x00\x00\x00"),
+        lambda: hello + message_of(3, chance.randbytes(chance.randrange(100))),
+        lambda: hello + message_of(3, b"\x01\xff\xff\xff\xff" + chance.randbytes(50)),
+        lambda: hello + message_of(2, b"\x01\x00\x00\x00\x00") + message_of(3, bytes(delta)),
+        lambda: hello + message_of(3, bytes(delta[:chance.randrange(len(delta))])),
+    ])()
+
+
+def throw_stream(gateway: Gateway, octets: bytes, chance: random.Random):
+    """Dials, sends in pieces, and closes, breaks off, or gives the socket back open."""
+    link = socket.socket(socket.AF_INET, socket.SOCK_STREAM)
+    link.settimeout(5)
+    try:
+        link.connect((HOST, gateway.link))
+        place = 0
+        while place < len(octets):
+            size = chance.choice([1, 5, 64, 4096])
+            link.sendall(octets[place:place + size])
+            place += size
+            if size == 1 and chance.random() < 0.1:
+                time.sleep(0.001)
+    except (ConnectionError, TimeoutError):
+        link.close()
+        return None
+    end = chance.random()
+    if end < 0.2:
+        return link
+    if end < 0.5:
+        link.setsockopt(socket.SOL_SOCKET, socket.SO_LINGER, struct.pack("ii", 1, 0))
+    link.close()
+    return None
+
+
+def link_answers(gateway: Gateway) -> str:
+    """A link that says who it is hears who is there."""
+    wanted_octets, began, end = message_of(1, bytes([gateway.number])), time.monotonic(), time.monotonic() + 20
+    while time.monotonic() < end:
+        with socket.socket(socket.AF_INET, socket.SOCK_STREAM) as link:
+            link.settimeout(5)
+            try:
+                link.connect((HOST, gateway.link))
+                link.sendall(message_of(1, b"\xc8") + message_of(2, b"\x01\x00\x00\x00\x00"))
+                got = b""
+                while len(got) < len(wanted_octets) and (more := link.recv(4096)):
+                    got += more
+                if got.startswith(wanted_octets):
+                    return f"{time.monotonic() - began:.2f} seconds"
+            except (ConnectionError, TimeoutError):
+                pass
+        time.sleep(0.1)
+    raise Failed(f"no link was told {wanted_octets.hex()} within 20 seconds")
+
+
+def throw_streams(gateway: Gateway, count: int, chance: random.Random) -> str:
+    before, kept = gateway.memory(), []
+    deltas = [delta for delta in records_of(gateway.held()) if delta] or [DELTA]
+    with Client(b"probe", gateway) as probe:
+        for place in range(count):
+            link = throw_stream(gateway, hostile_stream(chance, deltas), chance)
+            kept += [link] if link else []
+            while len(kept) > 16:
+                kept.pop(0).close()
+            if place % 10 == 9:
+                probe.ask(search(), frame(0x02, bytes([gateway.number])))
+    for link in kept:
+        link.close()
+    gateway.alive()
+    return f"VmRSS {before} KiB before, {gateway.memory()} behind"
+
+
+def grown(gateway: Gateway, before: int, most: int) -> str:
+    growth = (gateway.memory() - before) / 1024
+    expect(growth <= most, f"VmRSS grew by {growth:.1f} MiB, and {most} are allowed")
+    return f"{growth:.1f} MiB, {most} are allowed"
+
+
+def part_hostile(account: Account, program: str, folder: str, options) -> None:
+    """All clients of the checks are there before, since the daemon may be full of others behind what is thrown. Shifts are short: the calls
+    of a shift are kept until it is closed, and those of a stranger's link may be large."""
+    chance = random.Random(options.seed)
+    with Gateway(program, folder, 1, steps="256", predefined='[{ id = 7, topic = "p/seven" }]') as gateway:
+        account.check("a gateway starts", lambda: gateway.start() and None)
+        account.check("first answers", lambda: try_first_answers(gateway))
+        account.check("the daemon is killed between sleep and wake", lambda: try_sleep(gateway, True))
+        account.check("a link is answered", lambda: link_answers(gateway))
+        before = gateway.memory() if gateway.process and gateway.process.poll() is None else 0
+        account.check(f"{options.datagrams} datagrams", lambda: throw_datagrams(gateway, options.datagrams, chance))
+        account.check("first answers, behind the datagrams", lambda: try_first_answers(gateway))
+        account.check(f"{options.streams} streams", lambda: throw_streams(gateway, options.streams, chance))
+        account.check("a link is answered, behind the streams", lambda: link_answers(gateway))
+        account.check("first answers, behind the streams", lambda: try_first_answers(gateway))
+        account.check("what VmRSS has grown by", lambda: grown(gateway, before, options.growth))
+        account.check("the daemon is killed between sleep and wake, behind all that", lambda: try_sleep(gateway, True))
+
+
+# ---- all
+
+PARTS = {"messages": part_messages, "loopback": part_loopback, "links": part_links, "kills": part_kills, "shifts": part_shifts,
+         "hostile": part_hostile}
+
+
+def options_of() -> argparse.Namespace:
+    reader = argparse.ArgumentParser(description=__doc__, formatter_class=argparse.RawDescriptionHelpFormatter, add_help=True)
+    reader.add_argument("program")
+    reader.add_argument("parts", nargs="*", metavar="PART")
+    for name, usual in (("kills", 100), ("datagrams", 20000), ("streams", 500), ("requests", 600), ("growth", 512), ("seed", 1)):
+        reader.add_argument(f"--{name}", type=int, default=usual)
+    options = reader.parse_args()
+    for part in options.parts:
+        if part not in PARTS:
+            reader.error(f"no part {part}; there are {', '.join(PARTS)}")
+    return options
+
+
+def stop(*_) -> None:
+    sys.exit("stopped")
+
+
+def main() -> int:
+    options = options_of()
+    program = os.path.abspath(options.program)
+    if not os.access(program, os.X_OK):
+        sys.exit(f"{options.program}: no program")
+    signal.signal(signal.SIGTERM, stop)
+    account = Account()
+    for part in options.parts or PARTS:
+        began = time.monotonic()
+        print(part, flush=True)
+        with tempfile.TemporaryDirectory(prefix="daemon-") as folder:
+            PARTS[part](account, program, folder, options)
+        print(f"  {time.monotonic() - began:.1f} seconds", flush=True)
+    print(f"{account.tried} tried, {account.failed} failed")
+    return 1 if account.failed else 0
+
+
+if __name__ == "__main__":
+    sys.exit(main())
