@@ -8,7 +8,7 @@ use rep_model::{Limit, TakeFault};
 use std::alloc::{AllocError, Global};
 
 /// How a fault is called where a gateway tells it.
-pub fn number(fault: &Fault) -> &'static str {
+pub(crate) fn number(fault: &Fault) -> &'static str {
     match fault {
         Fault::Journal(JournalFault::Disk) => "J1",
         Fault::Journal(JournalFault::Foreign) => "J2",
@@ -23,7 +23,7 @@ pub fn number(fault: &Fault) -> &'static str {
 }
 
 /// What to do.
-pub fn advice(fault: &Fault) -> &'static str {
+pub(crate) fn advice(fault: &Fault) -> &'static str {
     match fault {
         Fault::Journal(JournalFault::Foreign) =>
             "look at the number that the gateway was given, and do not delete the files before you know whose they are",
@@ -41,7 +41,7 @@ pub fn advice(fault: &Fault) -> &'static str {
 }
 
 /// The number of a slot.
-pub fn slot_number(slot: Slot) -> u8 {
+pub(crate) fn slot_number(slot: Slot) -> u8 {
     match slot {
         Slot::First => 0,
         Slot::Second => 1,
@@ -49,7 +49,7 @@ pub fn slot_number(slot: Slot) -> u8 {
 }
 
 /// What is wrong, in words.
-pub fn words(alloc: Global, fault: &Fault) -> Result<String, AllocError> {
+pub(crate) fn words(alloc: Global, fault: &Fault) -> Result<String, AllocError> {
     match fault {
         Fault::Journal(JournalFault::Foreign) => String::from_str(
             alloc,

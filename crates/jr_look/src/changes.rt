@@ -8,7 +8,7 @@ use sn_session::{Outbound, Presence, SessionOp, WillTopic};
 use std::alloc::{AllocError, Global};
 
 /// The lines of an operation.
-pub fn operation(alloc: Global, text: &mut String, op: &Op) -> Result<(), AllocError> {
+pub(crate) fn operation(alloc: Global, text: &mut String, op: &Op) -> Result<(), AllocError> {
     let client = name(alloc, op.client().bytes())?;
     match op {
         Op::Session {
@@ -46,7 +46,7 @@ pub fn operation(alloc: Global, text: &mut String, op: &Op) -> Result<(), AllocE
 }
 
 /// The rest of the line of a message that waits.
-pub fn waiting(alloc: Global, text: &mut String, put: &Put) -> Result<(), AllocError> {
+pub(crate) fn waiting(alloc: Global, text: &mut String, put: &Put) -> Result<(), AllocError> {
     let seq = put.seq;
     let origin = put.origin;
     let qos = put.qos;
@@ -86,7 +86,7 @@ fn session_change(alloc: Global, text: &mut String, change: &SessionOp) -> Resul
 }
 
 /// Where the client is.
-pub fn presence_word(presence: Presence) -> &'static str {
+pub(crate) fn presence_word(presence: Presence) -> &'static str {
     match presence {
         Presence::Active => "active",
         Presence::Asleep => "asleep",
@@ -103,7 +103,7 @@ fn presence_line(text: &mut String, presence: Presence, duration: u16) -> Result
 }
 
 /// An id stands for a topic.
-pub fn registered(
+pub(crate) fn registered(
     alloc: Global,
     text: &mut String,
     id: u16,
@@ -116,7 +116,7 @@ pub fn registered(
 }
 
 /// The client asks for topics.
-pub fn subscribed(
+pub(crate) fn subscribed(
     alloc: Global,
     text: &mut String,
     filter: &[u8],

@@ -9,7 +9,11 @@ use sn_session::{Outbound, Phase, Session, Will};
 use std::alloc::{AllocError, Global};
 
 /// The lines of all clients.
-pub fn clients(alloc: Global, text: &mut String, replica: &Folded) -> Result<(), AllocError> {
+pub(crate) fn clients(
+    alloc: Global,
+    text: &mut String,
+    replica: &Folded,
+) -> Result<(), AllocError> {
     let Ok(all) = replica.clients(alloc) else {
         return Err(AllocError);
     };
@@ -57,7 +61,7 @@ fn owned(alloc: Global, text: &mut String, view: &ClientView) -> Result<(), Allo
 }
 
 /// The rest of the line of a session, and the lines of its tables.
-pub fn session(alloc: Global, text: &mut String, seen: &Session) -> Result<(), AllocError> {
+pub(crate) fn session(alloc: Global, text: &mut String, seen: &Session) -> Result<(), AllocError> {
     let presence = presence_word(seen.presence);
     let kind = if seen.clean { "clean" } else { "kept" };
     let duration = seen.duration;
@@ -107,7 +111,7 @@ fn last_will(alloc: Global, text: &mut String, told: &Will) -> Result<(), AllocE
 }
 
 /// The rest of the line of a will.
-pub fn will(
+pub(crate) fn will(
     alloc: Global,
     text: &mut String,
     topic: &[u8],
@@ -129,7 +133,7 @@ fn received(text: &mut String, seen: &Session) -> Result<(), AllocError> {
 }
 
 /// An exchange, without the end of its line.
-pub fn exchange(text: &mut String, outbound: Outbound) -> Result<(), AllocError> {
+pub(crate) fn exchange(text: &mut String, outbound: Outbound) -> Result<(), AllocError> {
     let Outbound {
         origin,
         seq,
@@ -144,7 +148,7 @@ pub fn exchange(text: &mut String, outbound: Outbound) -> Result<(), AllocError>
 }
 
 /// How far an exchange is.
-pub fn phase_word(phase: Phase) -> &'static str {
+pub(crate) fn phase_word(phase: Phase) -> &'static str {
     match phase {
         Phase::Registering => "registering",
         Phase::Published => "published",

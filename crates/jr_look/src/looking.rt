@@ -52,7 +52,7 @@ pub struct Findings {
 }
 
 /// What there is to show of two slots. `asked` is the number of the gateway, where one was given.
-pub fn look_at(
+pub(crate) fn look_at(
     alloc: Global,
     asked: Option<u8>,
     first: &[u8],

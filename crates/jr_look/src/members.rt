@@ -10,7 +10,7 @@ use sn_topic::{Filter, TopicName};
 use std::alloc::{AllocError, Global};
 
 /// What stands between members: nothing in front of the first.
-pub fn comma(text: &mut String, index: usize) -> Result<(), AllocError> {
+pub(crate) fn comma(text: &mut String, index: usize) -> Result<(), AllocError> {
     if index > 0 {
         text.push_str(",")
     } else {
@@ -19,7 +19,7 @@ pub fn comma(text: &mut String, index: usize) -> Result<(), AllocError> {
 }
 
 /// An operation.
-pub fn operation(alloc: Global, text: &mut String, op: &Op) -> Result<(), AllocError> {
+pub(crate) fn operation(alloc: Global, text: &mut String, op: &Op) -> Result<(), AllocError> {
     let client = quoted(alloc, op.client().bytes())?;
     write!(text, "{{\"client\":{client},")?;
     match op {
@@ -59,7 +59,7 @@ pub fn operation(alloc: Global, text: &mut String, op: &Op) -> Result<(), AllocE
 }
 
 /// The members of a message that waits.
-pub fn waiting(alloc: Global, text: &mut String, put: &Put) -> Result<(), AllocError> {
+pub(crate) fn waiting(alloc: Global, text: &mut String, put: &Put) -> Result<(), AllocError> {
     let seq = put.seq;
     let origin = put.origin;
     let qos = put.qos;
@@ -189,7 +189,11 @@ fn exchange(text: &mut String, begun: &Option<Outbound>) -> Result<(), AllocErro
 }
 
 /// A session.
-pub fn session_of(alloc: Global, text: &mut String, seen: &Session) -> Result<(), AllocError> {
+pub(crate) fn session_of(
+    alloc: Global,
+    text: &mut String,
+    seen: &Session,
+) -> Result<(), AllocError> {
     let presence = presence_word(seen.presence);
     let clean = seen.clean;
     let duration = seen.duration;

@@ -12,7 +12,7 @@ use rep_state::Folded;
 use std::alloc::{AllocError, Global};
 
 /// The report as a JSON object.
-pub fn report(alloc: Global, seen: &Findings) -> Result<String, AllocError> {
+pub(crate) fn report(alloc: Global, seen: &Findings) -> Result<String, AllocError> {
     let mut text = String::new(alloc);
     head(&mut text, seen)?;
     if let Some(reading) = &seen.reading {

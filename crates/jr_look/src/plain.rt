@@ -9,7 +9,7 @@ use rep_ops::Delta;
 use std::alloc::{AllocError, Global};
 
 /// The report in words.
-pub fn report(alloc: Global, seen: &Findings) -> Result<String, AllocError> {
+pub(crate) fn report(alloc: Global, seen: &Findings) -> Result<String, AllocError> {
     let mut text = String::new(alloc);
     head(&mut text, seen)?;
     if let Some(reading) = &seen.reading {

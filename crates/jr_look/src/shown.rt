@@ -7,7 +7,7 @@ use std::str;
 const SHOWN: usize = 64;
 
 /// A name: in quotes where it is text, else in hexadecimal digits.
-pub fn name(alloc: Global, octets: &[u8]) -> Result<String, AllocError> {
+pub(crate) fn name(alloc: Global, octets: &[u8]) -> Result<String, AllocError> {
     match str::from_utf8(octets) {
         Ok(text) => format!(in alloc; "{text:?}"),
         Err(_) => {
@@ -18,7 +18,7 @@ pub fn name(alloc: Global, octets: &[u8]) -> Result<String, AllocError> {
 }
 
 /// How many octets a message has, and its first octets in hexadecimal digits.
-pub fn message(alloc: Global, octets: &[u8]) -> Result<String, AllocError> {
+pub(crate) fn message(alloc: Global, octets: &[u8]) -> Result<String, AllocError> {
     let count = octets.len();
     if count == 0 {
         return String::from_str(alloc, "no octets");
@@ -33,7 +33,7 @@ pub fn message(alloc: Global, octets: &[u8]) -> Result<String, AllocError> {
 }
 
 /// Octets in hexadecimal digits, in quotes.
-pub fn quoted(alloc: Global, octets: &[u8]) -> Result<String, AllocError> {
+pub(crate) fn quoted(alloc: Global, octets: &[u8]) -> Result<String, AllocError> {
     let digits = hex::encode(alloc, octets)?;
     format!(in alloc; "\"{digits}\"")
 }

@@ -9,7 +9,7 @@ use std::io::Read;
 const MAX_SLOT: u64 = 1_073_741_824;
 
 /// All octets of a slot's file, which is opened for reading alone.
-pub fn slot_at<T: Files<File = File>>(
+pub(crate) fn slot_at<T: Files<File = File>>(
     rt: &T,
     alloc: Global,
     path: &str,

@@ -15,7 +15,7 @@ pub struct Options {
 }
 
 /// Reads the words, the program's name first. Nothing where they do not parse, `--help` among them, or where memory ran out.
-pub fn read_words(alloc: Global, words: &[String]) -> Option<Options> {
+pub(crate) fn read_words(alloc: Global, words: &[String]) -> Option<Options> {
     let path = Arg::new(alloc, "path")
         .required(true)
         .action(ArgAction::Set);

@@ -34,7 +34,7 @@ pub struct Door {
 }
 
 /// A door for each peer, and one for those who dial. `None` where memory ran out.
-pub fn doors_of(alloc: Global, settings: &Settings) -> Option<Vec<Door>> {
+pub(crate) fn doors_of(alloc: Global, settings: &Settings) -> Option<Vec<Door>> {
     let mut doors = Vec::new(alloc);
     let accepting = Door {
         origin: Origin::Accepted,
@@ -56,7 +56,7 @@ pub fn doors_of(alloc: Global, settings: &Settings) -> Option<Vec<Door>> {
 }
 
 /// Keeps the doors open until the program's work is over, each in a thread of its own.
-pub fn keep_all<T>(
+pub(crate) fn keep_all<T>(
     rt: &T,
     alloc: Global,
     doors: &mut [Door],

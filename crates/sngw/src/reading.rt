@@ -11,7 +11,7 @@ use std::io::Read;
 const LARGEST: u64 = 1_048_576;
 
 /// The settings of a file.
-pub fn settings_at<R: Files<File = File>>(
+pub(crate) fn settings_at<R: Files<File = File>>(
     rt: &R,
     alloc: Global,
     path: &str,

@@ -18,7 +18,7 @@ use std::thread::Threads;
 use std::time::Clock;
 
 /// Works so many shifts. The sockets are open from before the first to behind the last.
-pub fn run<T, R, D>(
+pub(crate) fn run<T, R, D>(
     rt: &T,
     alloc: Global,
     settings: &Settings,

@@ -43,7 +43,7 @@ pub enum Stop {
 
 impl Stop {
     /// The program's status.
-    pub fn status(self) -> u8
+    pub(crate) fn status(self) -> u8
         ensures { result ≡ status_of self }
     {
         match self {

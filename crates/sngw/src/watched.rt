@@ -22,7 +22,12 @@ pub struct Watched<'a, T: Wait, W: Wire> {
 
 impl<'a, T: Wait, W: Wire> Watched<'a, T, W> {
     /// A wire that has not failed.
-    pub fn new(rt: &'a T, wire: &'a mut W, stage: &'a Stage, steps: u64) -> Watched<'a, T, W> {
+    pub(crate) fn new(
+        rt: &'a T,
+        wire: &'a mut W,
+        stage: &'a Stage,
+        steps: u64,
+    ) -> Watched<'a, T, W> {
         Watched {
             rt,
             wire,

@@ -13,7 +13,7 @@ pub struct Asked {
 }
 
 /// Reads the words, the program's name first. Nothing where they do not parse, `--help` among them, or where memory ran out.
-pub fn asked_by(alloc: Global, words: &[String]) -> Option<Asked> {
+pub(crate) fn asked_by(alloc: Global, words: &[String]) -> Option<Asked> {
     let config = Arg::new(alloc, "config")
         .long("config")
         .required(true)

@@ -31,7 +31,7 @@ struct Crew {
 }
 
 /// Works one shift: the gateway comes back, with how many calls were made.
-pub fn work<T, R, D>(
+pub(crate) fn work<T, R, D>(
     rt: &T,
     alloc: Global,
     settings: &Settings,
