@@ -1,1 +1,2 @@
 mod FlagLemmas
+mod TurnLaws

@@ -17,10 +17,10 @@ abbrev pub IsClientId : List ℕ → Type 0
 IsClientId octets = (1 ≤ length octets) × (length octets ≤ 23)
 
 -- the octets that stand for the topic in a SUBSCRIBE, section 5.4.15
-abbrev pub Fills : Topic → List ℕ → Type 0
-Fills (Full text) octets = octets ≡ text.now
-Fills (Short number) octets = octets ≡ big_bytes 2 number
-Fills (Predefined id) octets = octets ≡ big_bytes 2 id
+abbrev pub field_of : Topic → List ℕ
+field_of (Full text) = text.now
+field_of (Short number) = big_bytes 2 number
+field_of (Predefined id) = big_bytes 2 id
 
 -- the type of a topic, section 5.3.4
 abbrev pub type_of : Topic → TopicIdType

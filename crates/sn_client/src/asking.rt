@@ -3,7 +3,8 @@
 ghost use Rattle.std.specs.Prelude.{◌≡◌, ◌≤◌, ◌≢◌, ◌↔◌, IfOk, IsTrue, IsBitSet};
 ghost use Rattle.sn_frame.specs.FlagBits.{qos_of, kind_of};
 ghost use Rattle.sn_client.specs.Asking.{qos_bits, kind_bits, retain_bit};
-ghost use Rattle.sn_client.specs.Naming.{type_of, Fills};
+ghost use Rattle.sn_client.specs.Naming.{type_of, field_of};
+ghost use Rattle.sn_client.specs.Requests.{connect_flags, connecting, flags_of, id_behind, publication_of, publish_by, publish_id, registering, request_of, subscribing};
 
 use crate::talk::{Awaited, Publication, Talk};
 use crate::words::{Command, Topic};
@@ -51,6 +52,7 @@ fn retain_bit(retain: bool) -> u8
 /// The flags of a PUBLISH or SUBSCRIBE that is sent for the first time.
 #[tactic(auto, using(crate::proofs::FlagLemmas::flags_qos, crate::proofs::FlagLemmas::flags_kind, crate::proofs::FlagLemmas::flags_retain))]
 fn flags_of(qos: Qos, retain: bool, kind: TopicIdType) -> Flags
+    ensures value { result ≡ flags_of qos retain kind }
     ensures qos { qos_of result.bits ≡ qos }
     ensures kind { kind_of result.bits ≡ kind }
     ensures retain { IsTrue retain ↔ IsBitSet result.bits 4 }
@@ -62,6 +64,7 @@ fn flags_of(qos: Qos, retain: bool, kind: TopicIdType) -> Flags
 
 /// The flags of a CONNECT without a will.
 fn connect_flags(clean: bool) -> Flags
+    ensures value { result ≡ connect_flags clean }
     ensures clean { IsTrue clean ↔ IsBitSet result.bits 2 }
     ensures will { IsBitSet result.bits 3 → ⊥ }
 {
@@ -72,6 +75,7 @@ fn connect_flags(clean: bool) -> Flags
 
 /// The message id behind another; 0 is none (MQTT-SN 1.2 section 5.3.7).
 fn id_behind(msg_id: u16) -> u16
+    ensures value { result ≡ id_behind msg_id }
     ensures some { 1 ≤ result }
     ensures other { result ≢ msg_id }
 {
@@ -85,7 +89,7 @@ pub(crate) fn begin(
     command: Command<'_>,
     msg_id: u16,
 ) -> Result<Talk, AllocError>
-    requires { 1 ≤ msg_id }
+    ensures { IfOk result (λ talk. talk ≡ request_of client.now command.entry msg_id) }
 {
     match command {
         Command::Connect { clean, keep_alive } => connect(alloc, client, clean, keep_alive),
@@ -95,7 +99,10 @@ pub(crate) fn begin(
             text,
             qos,
             retain,
-        } => publish(alloc, topic, text, qos, retain, msg_id),
+        } => {
+            let publication = publication_with(alloc, topic, text, qos, retain, msg_id)?;
+            publish(alloc, topic, publication, msg_id)
+        }
         Command::Sleep { seconds } => {
             let duration = Some(seconds);
             Ok(Talk::of(Some(Frame::Disconnect { duration }), Awaited::Farewell))
@@ -113,29 +120,36 @@ pub(crate) fn begin(
 }
 
 /// A connection (section 6.2).
-fn connect(alloc: Global, client: &str, clean: bool, keep_alive: u16) -> Result<Talk, AllocError> {
+fn connect(alloc: Global, client: &str, clean: bool, keep_alive: u16) -> Result<Talk, AllocError>
+    ensures { IfOk result (λ talk. talk ≡ connecting client.now clean keep_alive) }
+{
+    let client = Octets::from_slice(alloc, client.as_bytes())?;
     let frame = Frame::Connect {
         flags: connect_flags(clean),
         protocol: PROTOCOL,
         duration: keep_alive,
-        client: Octets::from_slice(alloc, client.as_bytes())?,
+        client,
     };
     Ok(Talk::of(Some(frame), Awaited::Connection))
 }
 
 /// A subscription (section 6.9).
-fn subscribe(alloc: Global, topic: Topic<'_>, qos: Qos, msg_id: u16) -> Result<Talk, AllocError> {
+fn subscribe(alloc: Global, topic: Topic<'_>, qos: Qos, msg_id: u16) -> Result<Talk, AllocError>
+    ensures { IfOk result (λ talk. talk ≡ subscribing topic.entry qos msg_id) }
+{
+    let flags = flags_of(qos, false, type_of(topic));
+    let topic = field(alloc, topic)?;
     let frame = Frame::Subscribe {
-        flags: flags_of(qos, false, type_of(topic)),
+        flags,
         msg_id,
-        topic: field(alloc, topic)?,
+        topic,
     };
     Ok(Talk::of(Some(frame), Awaited::Subscription { msg_id }))
 }
 
 /// The topic field of a SUBSCRIBE.
 fn field(alloc: Global, topic: Topic<'_>) -> Result<Octets, AllocError>
-    ensures { IfOk result (λ octets. Fills topic octets) }
+    ensures { IfOk result (λ octets. octets ≡ field_of topic.entry) }
 {
     match topic {
         Topic::Full(name) => Octets::from_slice(alloc, name.as_bytes()),
@@ -151,20 +165,11 @@ fn field(alloc: Global, topic: Topic<'_>) -> Result<Octets, AllocError>
 fn publish(
     alloc: Global,
     topic: Topic<'_>,
-    text: &str,
-    qos: Qos,
-    retain: bool,
+    publication: Publication,
     msg_id: u16,
 ) -> Result<Talk, AllocError>
-    requires { 1 ≤ msg_id }
+    ensures { IfOk result (λ talk. talk ≡ publish_by topic.entry publication msg_id) }
 {
-    let kind = type_of(topic);
-    let publication = Publication {
-        qos,
-        flags: flags_of(qos, retain, kind),
-        msg_id: publish_id(qos, msg_id),
-        body: Octets::from_slice(alloc, text.as_bytes())?,
-    };
     match topic {
         Topic::Full(name) => register(alloc, name, publication, msg_id),
         Topic::Short(number) => Ok(Talk::publishing(publication, number)),
@@ -172,9 +177,29 @@ fn publish(
     }
 }
 
+/// What is published.
+fn publication_with(
+    alloc: Global,
+    topic: Topic<'_>,
+    text: &str,
+    qos: Qos,
+    retain: bool,
+    msg_id: u16,
+) -> Result<Publication, AllocError>
+    ensures { IfOk result (λ made. made ≡ publication_of topic.entry text.now qos retain msg_id) }
+{
+    let body = Octets::from_slice(alloc, text.as_bytes())?;
+    Ok(Publication {
+        qos,
+        flags: flags_of(qos, retain, type_of(topic)),
+        msg_id: publish_id(qos, msg_id),
+        body,
+    })
+}
+
 /// The type of a topic.
 fn type_of(topic: Topic<'_>) -> TopicIdType
-    ensures { result ≡ type_of topic }
+    ensures { result ≡ type_of topic.entry }
 {
     match topic {
         Topic::Full(_) => TopicIdType::Normal,
@@ -185,7 +210,8 @@ fn type_of(topic: Topic<'_>) -> TopicIdType
 
 /// The message id of a publication: 0 where none is wanted, and else another than that of a registration before it.
 fn publish_id(qos: Qos, msg_id: u16) -> u16
-    requires { 1 ≤ msg_id }
+    ensures value { result ≡ publish_id qos msg_id }
+    ensures other { 1 ≤ msg_id → result ≢ msg_id }
 {
     match qos {
         Qos::Zero | Qos::MinusOne => 0,
@@ -199,13 +225,19 @@ fn register(
     name: &str,
     publication: Publication,
     msg_id: u16,
-) -> Result<Talk, AllocError> {
+) -> Result<Talk, AllocError>
+    ensures { IfOk result (λ talk. talk ≡ registering name.now publication msg_id) }
+{
+    let name = Octets::from_slice(alloc, name.as_bytes())?;
     let frame = Frame::Register {
         topic_id: 0,
         msg_id,
-        name: Octets::from_slice(alloc, name.as_bytes())?,
+        name,
     };
-    let mut talk = Talk::of(Some(frame), Awaited::Registration { msg_id });
-    talk.planned = Some(publication);
-    Ok(talk)
+    Ok(Talk {
+        awaited: Awaited::Registration { msg_id },
+        pending: Some(frame),
+        planned: Some(publication),
+        outcome: None,
+    })
 }

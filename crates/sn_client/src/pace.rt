@@ -1,7 +1,8 @@
-//! When a frame is sent again, and when a run is over.
+//! When a frame is sent again, and when a run is over. A moment is a number of milliseconds since the run began.
+
+ghost use Rattle.std.specs.Prelude.{◌≡◌, ◌≤◌, ◌<◌, ◌*◌, IsTrue, IsFalse, IsSome, if◌then◌else◌, false, true};
 
 use crate::talk::Talk;
-use std::time::Duration;
 
 /// After how many milliseconds a frame that is not answered is sent again (T_retry of MQTT-SN 1.2 section 6.13, shortened for a person).
 const RETRY: u64 = 1000;
@@ -9,56 +10,68 @@ const RETRY: u64 = 1000;
 /// How many milliseconds of silence end a run that has its answer: what the gateway sends behind it still comes.
 const SILENCE: u64 = 300;
 
-/// The moments of a run, as durations since its begin.
-#[derive(Clone, Copy, Debug)]
+/// The moments of a run.
+#[derive(Clone, Copy)]
 pub(crate) struct Pace {
     /// When the run is over whatever comes.
-    pub limit: Duration,
+    pub limit: u64,
     /// When the pending frame was sent last, if it was.
-    pub sent: Option<Duration>,
+    pub sent: Option<u64>,
     /// When a frame went or came last.
-    pub last: Duration,
+    pub last: u64,
     /// Whether a frame came.
     pub came: bool,
 }
 
 impl Pace {
     /// The begin of a run of so many seconds.
-    pub(crate) fn of(seconds: u16) -> Pace {
+    pub(crate) fn of(seconds: u16) -> Pace
+        ensures limit { result.limit ≡ seconds * 1000 }
+        ensures begun { (result.sent ≡ None) × (result.last ≡ 0) × (result.came ≡ false) }
+    {
         Pace {
-            limit: Duration::from_secs(u64::from(seconds)),
+            limit: u64::from(seconds) * 1000,
             sent: None,
-            last: Duration::ZERO,
+            last: 0,
             came: false,
         }
     }
 
-    /// Whether the run is over.
-    pub(crate) fn is_over(&self, talk: &Talk, moment: Duration) -> bool {
-        let silence = moment.saturating_sub(self.last);
-        let is_still = silence >= Duration::from_millis(SILENCE);
-        moment >= self.limit || (talk.outcome.is_some() && self.sent.is_some() && is_still)
+    /// Whether the run is over: its time is up, or it has its answer and nothing followed for a while.
+    pub(crate) fn is_over(&self, talk: &Talk, moment: u64) -> bool
+        ensures late { self.now.limit ≤ moment → IsTrue result }
+        ensures waiting { moment < self.now.limit → talk.now.outcome ≡ None → IsFalse result }
+    {
+        if moment >= self.limit {
+            return true;
+        }
+        talk.outcome.is_some() && self.sent.is_some() && moment.saturating_sub(self.last) >= SILENCE
     }
 
     /// Whether the pending frame is to be sent now: for the first time, or again where nothing has answered it.
-    pub(crate) fn is_due(&self, talk: &Talk, moment: Duration) -> bool {
+    pub(crate) fn is_due(&self, talk: &Talk, moment: u64) -> bool
+        ensures first { self.now.sent ≡ None → IsTrue result }
+        ensures ended { IsSome talk.now.outcome → IsSome self.now.sent → IsFalse result }
+    {
         match self.sent {
             None => true,
-            Some(sent) => {
-                let since = moment.saturating_sub(sent);
-                talk.outcome.is_none() && since >= Duration::from_millis(RETRY)
-            }
+            Some(sent) => talk.outcome.is_none() && moment.saturating_sub(sent) >= RETRY,
         }
     }
 
     /// The pending frame was sent.
-    pub(crate) fn note_sent(&mut self, moment: Duration) {
+    pub(crate) fn note_sent(&mut self, moment: u64)
+        ensures { self.new ≡ record self.old { sent = Some moment; last = moment } }
+    {
         self.sent = Some(moment);
         self.last = moment;
     }
 
-    /// A frame came, and another is to be sent for it or not.
-    pub(crate) fn note_came(&mut self, moment: Duration, goes_on: bool) {
+    /// A frame came, for which another is to be sent or not.
+    pub(crate) fn note_came(&mut self, moment: u64, goes_on: bool)
+        ensures came { (self.new.came ≡ true) × (self.new.last ≡ moment) × (self.new.limit ≡ self.old.limit) }
+        ensures sent { self.new.sent ≡ (if goes_on then None else self.old.sent) }
+    {
         self.came = true;
         self.last = moment;
         if goes_on {

@@ -70,6 +70,11 @@ fn message_id(clock: &impl Clock) -> io::Result<u16>
     Ok((since.as_millis() % 65_535) as u16 + 1)
 }
 
+/// A duration as a number of milliseconds.
+fn millis(duration: Duration) -> u64 {
+    u64::try_from(duration.as_millis()).unwrap_or(u64::MAX)
+}
+
 /// The exchange that the settings ask for.
 pub(crate) fn converse<R: Net + Clock + Print + AllocGlobal>(
     rt: &R,
@@ -78,6 +83,7 @@ pub(crate) fn converse<R: Net + Clock + Print + AllocGlobal>(
     let alloc = rt.alloc();
     let wire = Wire::open(rt, settings.port, settings.gateway)?;
     let talk = begin(alloc, settings.client, settings.command, message_id(rt)?)?;
+    tell_ends(rt, settings, wire.port()?)?;
     let mut run = Run {
         wire,
         talk,
@@ -87,7 +93,7 @@ pub(crate) fn converse<R: Net + Clock + Print + AllocGlobal>(
     let mut buffer = vec![in alloc; 0_u8; DATAGRAM]?;
     let start = Instant::now(rt)?;
     for _ in 0..u64::MAX {
-        let moment = start.elapsed(rt)?;
+        let moment = millis(start.elapsed(rt)?);
         if run.pace.is_over(&run.talk, moment) {
             break;
         }
@@ -99,7 +105,7 @@ pub(crate) fn converse<R: Net + Clock + Print + AllocGlobal>(
 
 impl Run {
     /// Sends the pending frame, where it is due.
-    fn speak<R: Print + AllocGlobal>(&mut self, rt: &R, moment: Duration) -> Result<(), Fault> {
+    fn speak<R: Print + AllocGlobal>(&mut self, rt: &R, moment: u64) -> Result<(), Fault> {
         if !self.pace.is_due(&self.talk, moment) {
             return Ok(());
         }
@@ -118,7 +124,7 @@ impl Run {
         &mut self,
         rt: &R,
         buffer: &mut [u8],
-        moment: Duration,
+        moment: u64,
     ) -> Result<(), Fault> {
         let Some(size) = self.wire.receive(buffer)? else {
             return Ok(());
@@ -140,6 +146,13 @@ impl Run {
         }
         Ok(())
     }
+}
+
+/// Prints who speaks with whom.
+fn tell_ends<R: Print>(rt: &R, settings: &Settings<'_>, port: u16) -> io::Result<()> {
+    let client = settings.client;
+    let gateway = settings.gateway;
+    println!(rt; "-- client {client:?} at port {port}, gateway {gateway}")
 }
 
 /// Sends a frame, and tells it.

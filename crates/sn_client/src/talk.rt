@@ -1,7 +1,9 @@
 //! One exchange, without a socket: what a frame means for what is awaited, and what is sent for it (MQTT-SN 1.2 sections 6.2 to 6.14).
 
-ghost use Rattle.std.specs.Prelude.{◌≡◌, None};
-ghost use Rattle.sn_client.specs.Talking.{status_of, awaited_at, outcome_at};
+ghost use Rattle.std.specs.Prelude.{◌≡◌, option_map};
+ghost use Rattle.sn_client.specs.Talking.{status_of, awaited_at, outcome_at, repeated, turn_of};
+ghost use Rattle.sn_client.specs.Exchanges.{frame_by_id, outcome_of, planned_of, publishing_of, turned};
+ghost use Rattle.sn_client.specs.Requests.{beginning};
 
 use octets::Octets;
 use sn_frame::{Flags, Frame, Qos};
@@ -13,7 +15,7 @@ pub(crate) use replies::{acknowledgement, again};
 pub(crate) use turns::turn_of;
 
 /// What a run waits for, and under which message id.
-#[derive(Clone, Copy, Debug, PartialEq, Eq)]
+#[derive(Clone, Copy)]
 pub(crate) enum Awaited {
     /// CONNACK.
     Connection,
@@ -38,7 +40,7 @@ pub(crate) enum Awaited {
 }
 
 /// How a run ends.
-#[derive(Clone, Copy, Debug, PartialEq, Eq)]
+#[derive(Clone, Copy)]
 pub(crate) enum Outcome {
     /// What was asked for was accepted.
     Accepted,
@@ -49,7 +51,7 @@ pub(crate) enum Outcome {
 }
 
 /// What a frame leads to.
-#[derive(Clone, Copy, Debug, PartialEq, Eq)]
+#[derive(Clone, Copy)]
 pub(crate) enum Turn {
     /// Nothing: it is no answer to what is awaited.
     Stay,
@@ -62,7 +64,7 @@ pub(crate) enum Turn {
 }
 
 /// A publication, as it is sent once its topic has an id.
-#[derive(Debug, Drop)]
+#[derive(Drop)]
 pub(crate) struct Publication {
     /// How often it is to arrive.
     pub qos: Qos,
@@ -75,7 +77,7 @@ pub(crate) struct Publication {
 }
 
 /// An exchange that goes on.
-#[derive(Debug, Drop)]
+#[derive(Drop)]
 pub(crate) struct Talk {
     /// What is awaited.
     pub awaited: Awaited,
@@ -102,7 +104,9 @@ impl Outcome {
 
 impl Publication {
     /// The frame, where the topic has this id.
-    fn by_id(self, topic: u16) -> Frame {
+    fn by_id(self, topic: u16) -> Frame
+        ensures { result ≡ frame_by_id self topic }
+    {
         let Publication {
             qos: _,
             flags,
@@ -142,7 +146,7 @@ pub(crate) fn outcome_at(qos: Qos) -> Option<Outcome>
 impl Talk {
     /// An exchange that begins with a frame.
     pub(crate) fn of(pending: Option<Frame>, awaited: Awaited) -> Talk
-        ensures { (result.awaited ≡ awaited) × (result.pending ≡ pending) × (result.outcome ≡ None) }
+        ensures { result ≡ beginning pending awaited }
     {
         Talk {
             awaited,
@@ -153,7 +157,9 @@ impl Talk {
     }
 
     /// An exchange that is a publication whose topic has an id or a short name.
-    pub(crate) fn publishing(publication: Publication, topic: u16) -> Talk {
+    pub(crate) fn publishing(publication: Publication, topic: u16) -> Talk
+        ensures { result ≡ publishing_of publication topic }
+    {
         let awaited = awaited_at(publication.qos, publication.msg_id);
         let outcome = outcome_at(publication.qos);
         Talk {
@@ -165,7 +171,9 @@ impl Talk {
     }
 
     /// A frame came. Whether there is another to be sent.
-    pub(crate) fn take(&mut self, frame: &Frame) -> bool {
+    pub(crate) fn take(&mut self, frame: &Frame) -> bool
+        ensures { self.new ≡ turned (turn_of self.old.awaited frame.now) self.old }
+    {
         match turn_of(self.awaited, frame) {
             Turn::Stay => false,
             Turn::Publish { topic_id } => self.publish(topic_id),
@@ -182,7 +190,9 @@ impl Talk {
     }
 
     /// The topic has an id: the publication is sent.
-    fn publish(&mut self, topic_id: u16) -> bool {
+    fn publish(&mut self, topic_id: u16) -> bool
+        ensures { self.new ≡ planned_of self.old.planned topic_id self.old }
+    {
         match self.planned.take() {
             None => false,
             Some(publication) => {
@@ -193,14 +203,18 @@ impl Talk {
     }
 
     /// The frame that was sent last is to be sent again.
-    pub(crate) fn repeat(&mut self) {
+    pub(crate) fn repeat(&mut self)
+        ensures { self.new ≡ record self.old { pending = option_map repeated self.old.pending } }
+    {
         if let Some(frame) = self.pending.take() {
             self.pending = Some(again(frame));
         }
     }
 
     /// How the run has ended, where something came or nothing did.
-    pub(crate) fn conclude(&self, came: bool) -> Outcome {
+    pub(crate) fn conclude(&self, came: bool) -> Outcome
+        ensures { result ≡ outcome_of self.now.outcome self.now.awaited came }
+    {
         match self.outcome {
             Some(outcome) => outcome,
             None => match self.awaited {

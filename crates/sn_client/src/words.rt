@@ -17,7 +17,7 @@ use std::net::SocketAddr;
 const MAX_ID: usize = 23;
 
 /// How a topic is named in a frame (MQTT-SN 1.2 sections 5.3.11 and 5.3.12).
-#[derive(Clone, Copy, Debug)]
+#[derive(Clone, Copy)]
 pub(crate) enum Topic<'a> {
     /// A name in full, or a filter.
     Full(&'a str),
@@ -28,7 +28,7 @@ pub(crate) enum Topic<'a> {
 }
 
 /// What a run is for.
-#[derive(Clone, Copy, Debug)]
+#[derive(Clone, Copy)]
 pub(crate) enum Command<'a> {
     /// Set up a connection.
     Connect {
@@ -60,7 +60,7 @@ pub(crate) enum Command<'a> {
 }
 
 /// What a command line says.
-#[derive(Clone, Copy, Debug)]
+#[derive(Clone, Copy)]
 pub(crate) struct Settings<'a> {
     /// Where the gateway is.
     pub gateway: SocketAddr,
@@ -77,7 +77,7 @@ pub(crate) struct Settings<'a> {
 }
 
 /// Why a command line says nothing.
-#[derive(Debug, Drop)]
+#[derive(Drop)]
 pub(crate) enum Unread {
     /// The words are not arranged as they should be, or help is asked for.
     Words(Error),

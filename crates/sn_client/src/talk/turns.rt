@@ -1,7 +1,7 @@
 //! What a frame means for what is awaited. An answer counts under the message id that was sent, and under no other.
 
 ghost use Rattle.std.specs.Prelude.{◌≡◌};
-ghost use Rattle.sn_client.specs.Talking.{turn_of, turn_under, turn_by_code, turn_by_refusal, turn_by_reg_ack, turn_by_pub_ack, turn_by_disconnect, turn_by_conn_ack, turn_by_ping_resp, turn_by_registration, turn_by_sub_ack, turn_by_pub_rec, turn_by_pub_comp};
+ghost use Rattle.sn_client.specs.Talking.{turn_of, turn_under, turn_by_code, turn_by_refusal, turn_by_reg_ack, turn_by_pub_ack, turn_by_disconnect, turn_by_conn_ack, turn_by_ping_resp, turn_by_registration, turn_by_sub_ack, turn_by_pub_rec, turn_by_pub_comp, msg_id_of, id_awaited, OnProgress};
 
 use super::{Awaited, Outcome, Turn};
 use sn_frame::Frame;
@@ -150,9 +150,9 @@ fn turn_by_disconnect(awaited: Awaited) -> Turn
     }
 }
 
-/// What a frame leads to.
-pub(crate) fn turn_of(awaited: Awaited, frame: &Frame) -> Turn
-    ensures value { result ≡ turn_of awaited frame.now }
+/// What a frame leads to, told apart by its type.
+fn turn_by_type(awaited: Awaited, frame: &Frame) -> Turn
+    ensures { result ≡ turn_of awaited frame.now }
 {
     match frame {
         Frame::ConnAck { code } => turn_by_conn_ack(awaited, *code),
@@ -169,4 +169,14 @@ pub(crate) fn turn_of(awaited: Awaited, frame: &Frame) -> Turn
         Frame::Disconnect { .. } => turn_by_disconnect(awaited),
         _ => Turn::Stay,
     }
+}
+
+/// What a frame leads to.
+pub(crate) fn turn_of(awaited: Awaited, frame: &Frame) -> Turn
+    ensures value { result ≡ turn_of awaited frame.now }
+
+    // What moves the exchange on, or ends it well, has the message id of what is awaited.
+    ensures own { OnProgress result (msg_id_of frame.now ≡ id_awaited awaited) }
+{
+    turn_by_type(awaited, frame)
 }

@@ -7,12 +7,17 @@ use std::alloc::{AllocError, Global};
 /// How a quality of service of a publication is written.
 static LEVELS: [&str; 4] = ["0", "1", "2", "-1"];
 
+/// What help says of the status.
+const STATUS: &str =
+    "Status: 0 accepted, 1 refused, 2 no answer, 3 the socket or the output failed, 4 no such arguments";
+
 /// The whole command line.
 pub(super) fn command_line<'a>(alloc: Global) -> Result<Command<'a>, AllocError> {
     let command = Command::new(alloc, "sn_client")
         .about(
             "A client of MQTT-SN 1.2: each run sends one thing to a gateway and tells what answers it",
         )
+        .after_help(STATUS)
         .subcommand_required(true)
         .disable_help_subcommand(true);
     let command = with_options(alloc, command)?;
