@@ -1,5 +1,5 @@
 -- A frame that moves an exchange on, or ends it well, has the message id of what is awaited.
-use Rattle.std.proofs.Common.{◌≡◌, ℕ, ◌==◌, Bool, true, false, if◌then◌else◌, eqb-true, refl}
+use Rattle.std.proofs.Common.{◌≡◌, ℕ, ◌==◌, true, false, if◌then◌else◌, eqb-true, refl}
 use Rattle.sn_frame.specs.declared.frame.Frame.{Frame}
 use Rattle.sn_frame.specs.declared.frame.Frame.TheVariants as frames
 use Rattle.sn_client.specs.declared.talk.Awaited.{Awaited}
