@@ -69,7 +69,8 @@ impl Pace {
 
     /// A frame came, for which another is to be sent or not.
     pub(crate) fn note_came(&mut self, moment: u64, goes_on: bool)
-        ensures came { (self.new.came ≡ true) × (self.new.last ≡ moment) × (self.new.limit ≡ self.old.limit) }
+        ensures came { (self.new.came ≡ true) × (self.new.last ≡ moment) }
+        ensures limit { self.new.limit ≡ self.old.limit }
         ensures sent { self.new.sent ≡ (if goes_on then None else self.old.sent) }
     {
         self.came = true;

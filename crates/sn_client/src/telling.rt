@@ -194,6 +194,13 @@ fn topics<W: fmt::Write>(f: &mut fmt::Formatter<W>, frame: &Frame) -> fmt::Resul
                 "REGACK: {code}, topic id {topic_id}, message id {msg_id}"
             )
         }
+        _ => subscriptions(f, frame),
+    }
+}
+
+/// Frames about subscriptions.
+fn subscriptions<W: fmt::Write>(f: &mut fmt::Formatter<W>, frame: &Frame) -> fmt::Result {
+    match frame {
         Frame::Subscribe {
             flags,
             msg_id,
