@@ -1,0 +1,173 @@
+"""Checks one crate over libraries that are built already, in seconds to minutes, where `rt check` would prove all below it first.
+
+Usage: over.py libs ROOT [CRATE ..]      builds the libraries of a clone that are not there, lowest first, four at a time
+       over.py check ROOT CRATE [FLAG ..] checks a crate; what it proved is kept, and a second check is quick
+       over.py edit ROOT CRATE [EDIT ..]  tries edits that must fail, those named or all of must-fail/, over a copy of what was kept
+
+A library is looked for in ROOT/crates/NAME/out/rlib, and then in the clones that the variable OVER names (paths, `:` between
+them). Flags are those of `rattle check`: `--only crate::module`, `--allow-holes`, `--jobs 4`. This is for work in between: what
+counts is `make test`, which takes nothing from here.
+"""
+import os
+import shutil
+import subprocess
+import sys
+import tempfile
+import threading
+
+KIT = "/opt/rattle"
+LANES = 4
+
+
+def read_crates(root):
+    """What each crate stands on, lowest first."""
+    crates = {}
+    with open(f"{root}/crates.txt") as it:
+        for line in it:
+            name, found, rest = line.partition(":")
+            if found and not name.startswith("#"):
+                crates[name.split()[0]] = rest.split()
+    return crates
+
+
+def below(crates, name):
+    """The crates below one, lowest first."""
+    found = []
+    for it in crates.get(name, []):
+        if it in crates:
+            found += [deeper for deeper in below(crates, it) if deeper not in found]
+            if it not in found:
+                found.append(it)
+    return found
+
+
+def library(root, name):
+    """Where a crate's library is, or nothing."""
+    for top in [root, *os.environ.get("OVER", "").split(":")]:
+        path = f"{top}/crates/{name}/out/rlib/{name}.rlib"
+        if top and os.path.exists(f"{path}/format"):
+            return path
+    return None
+
+
+def file_of(root, name):
+    is_program = os.path.exists(f"{root}/crates/{name}/src/main.rt")
+    return "src/main.rt" if is_program else "src/lib.rt"
+
+
+def words(root, crates, command, name, jobs):
+    """The words of rattle's command for a crate."""
+    found = [f"{KIT}/bin/rattle", command, "--crate-name", name, file_of(root, name), "--extern", f"std={KIT}/rlibs/std.rlib"]
+    for it in crates[name]:
+        path = library(root, it) if it in crates else f"{KIT}/rlibs/{it}.rlib"
+        if not path:
+            sys.exit(f"no library of {it}: run over.py libs ROOT {it} first")
+        found += ["--extern", f"{it}={path}"]
+    for path in [f"{KIT}/rlibs", *(os.path.dirname(library(root, it) or "") for it in below(crates, name))]:
+        found += ["-L", f"dependency={path}"]
+    project = f"{KIT}/rattle/logic/antt-project.json"
+    return [*found, "--antt-project", project, "--logic-built", f"{KIT}/logic_built", "--links", f"{name}=", "--jobs", jobs]
+
+
+def build(root, crates, name):
+    """Builds a library, and tells how that went."""
+    folder = f"{root}/crates/{name}"
+    os.makedirs(f"{folder}/out/rlib", exist_ok=True)
+    command = words(root, crates, "build", name, "1")
+    with open(f"{folder}/out/over.log", "w") as log:
+        out = [*command, "--statements", "-o", f"{folder}/out/rlib/{name}.rlib"]
+        status = subprocess.run(out, cwd=folder, stdout=log, stderr=subprocess.STDOUT).returncode
+    print(f"{name}: {'built' if status == 0 else f'failed, see {folder}/out/over.log'}", flush=True)
+
+
+def libs(root, names):
+    """Builds the libraries that are not there, as many side by side as there are lanes."""
+    crates = read_crates(root)
+    named = names or [it for it in crates if file_of(root, it) == "src/lib.rt"]
+    wanted = {deeper for it in named for deeper in [*below(crates, it), it]}
+    left = [it for it in crates if it in wanted and file_of(root, it) == "src/lib.rt" and not library(root, it)]
+    running, turn = set(), threading.Condition()
+
+    def work(name):
+        build(root, crates, name)
+        with turn:
+            running.discard(name)
+            turn.notify()
+
+    with turn:
+        while left or running:
+            ready = [it for it in left if all(library(root, deeper) for deeper in below(crates, it))]
+            for name in ready[:LANES - len(running)]:
+                left.remove(name)
+                running.add(name)
+                threading.Thread(target=work, args=(name,)).start()
+            if not running:
+                return f"these have no library below them: {' '.join(left)}" if left else 0
+            turn.wait()
+    return 0
+
+
+def check(root, name, flags):
+    folder = f"{root}/crates/{name}"
+    os.makedirs(f"{folder}/out/over", exist_ok=True)
+    jobs = flags[flags.index("--jobs") + 1] if "--jobs" in flags else "1"
+    rest = [it for at, it in enumerate(flags) if it != "--jobs" and (at == 0 or flags[at - 1] != "--jobs")]
+    command = words(root, read_crates(root), "check", name, jobs)
+    return subprocess.run([*command, "--incremental", f"{folder}/out/over", *rest], cwd=folder).returncode
+
+
+def edited(folder, path):
+    """Makes an edit in a copy of a crate, and says why where that cannot be done."""
+    with open(path) as it:
+        lines = [line.partition(": ")[::2] for line in it.read().splitlines() if line.strip()]
+    at = os.path.join(folder, dict(lines)["file"])
+    with open(at) as it:
+        text = it.read()
+    pairs = [value for key, value in lines if key in ("old", "new")]
+    for old, new in zip(pairs[::2], pairs[1::2]):
+        if text.count(old) != 1:
+            return f"stands {text.count(old)} times: {old}"
+        text = text.replace(old, new)
+    with open(at, "w") as it:
+        it.write(text)
+    return None
+
+
+def edit(root, name, names):
+    """Tries edits; each is to be refused by the prover."""
+    folder = f"{root}/crates/{name}"
+    found = sorted(os.listdir(f"{folder}/must-fail"))
+    let_through = 0
+    for it in [one for one in found if not names or os.path.splitext(one)[0] in names]:
+        with tempfile.TemporaryDirectory() as top:
+            copy = f"{top}/{name}"
+            shutil.copytree(folder, copy, ignore=shutil.ignore_patterns("rlib", "must-fail"))
+            why = edited(copy, f"{folder}/must-fail/{it}")
+            if why:
+                print(f"{it}: BAD EDIT: {why}", flush=True)
+                let_through += 1
+                continue
+            command = words(root, read_crates(root), "check", name, "1")
+            ran = subprocess.run([*command, "--incremental", f"{copy}/out/over"], cwd=copy, capture_output=True, text=True)
+            lines = (ran.stdout + ran.stderr).splitlines()
+            first = next((line for line in lines if ": error" in line), "")
+            refused = ran.returncode == 1 and any(line.startswith("logic=not-proved") for line in lines)
+            print(f"{it}: {'refused' if refused else 'NOT REFUSED'}: {first[:160]}", flush=True)
+            let_through += not refused
+    return let_through
+
+
+def main(given):
+    if len(given) < 2 or given[0] not in ("libs", "check", "edit"):
+        return __doc__
+    what, root, *rest = given
+    root = os.path.abspath(root)
+    if what == "libs":
+        return libs(root, rest)
+    if not rest:
+        return __doc__
+    return check(root, rest[0], rest[1:]) if what == "check" else edit(root, rest[0], rest[1:])
+
+
+if __name__ == "__main__":
+    sys.exit(main(sys.argv[1:]))
