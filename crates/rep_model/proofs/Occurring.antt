@@ -63,7 +63,7 @@ put_occurs c (OfPut d p ∷ S) name put e =
                 let content : p ≡ put = cc in
                 let whose : c ≡ d = same_client-true c d same in
                 let whole : OfPut d p ≡ OfPut c put = cc in
-                (subst (λ op. Contains (OfPut d p ∷ S) op) whole (head_of _ S), ap (λ (q : Put). (q.seq, q.origin)) (sym content) ∙ sym names)
+                (subst (λ op. Contains (OfPut d p ∷ S) op) whole (head_of _ S), ◌∙◌ {b = (p.seq, p.origin)} (ap (λ (q : Put). (q.seq, q.origin)) (sym content)) (sym names))
             | false ↦ λ tie is. let h = put_occurs c S name put is in (behind _ _ S h.0, h.1)
           ] refl there
       | false ↦ λ same found.
