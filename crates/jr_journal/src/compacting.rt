@@ -52,7 +52,7 @@ pub(crate) fn base_of(
         let record = record_of(alloc, delta)?;
         bytes.extend_from_slice(&record)?;
     }
-    bytes.push(SEAL)?;
+    bytes.extend_from_slice(&[SEAL])?;
     Ok(bytes)
 }
 
