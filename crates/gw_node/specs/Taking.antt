@@ -2,8 +2,9 @@
 use Rattle.std.specs.Prelude.{◌≡◌, ◌⊎◌, ℕ, false, List, [], ◌++◌, None}
 use Rattle.std.specs.List.{flat_map}
 use Rattle.rep_ops.specs.declared.op.Op.{Op}
-use Rattle.rep_ops.specs.Sets.{Within}
+use Rattle.rep_ops.specs.Sets.{Within, IsConsistent}
 use Rattle.rep_model.specs.Keep.{keep, CountsAs}
+use Rattle.rep_model.specs.Roomy.{IsRoomy}
 use Rattle.jr_journal.specs.declared.disk.Disk.{Ghosts}
 use Rattle.jr_journal.specs.Disk.{Image, EachCrash}
 use Rattle.jr_journal.specs.Records.{records}
@@ -24,11 +25,14 @@ pub record IsBetween (S refused J : List Op) : Type 0 where
 abbrev pub IsWhole : List Op → List Op → List Op → Type 0
 IsWhole S refused J = CountsAs S J ⊎ CountsAs (S ++ refused) J
 
--- an opening finds no fault in the image, and its records stand for S, but for the refused delta, of which all is there or nothing
+-- An opening finds no fault in the image, and its records stand for S, but for the refused delta, of which all is there or nothing.
+-- They contradict nothing, and no front part of them passes a limit: they can be taken again, one after the other.
 pub record StandsFor (gateway : ℕ) (S refused : List Op) (i : Image) : Type 0 where
   pub sound : fault_of gateway i ≡ None
   pub between : IsBetween S refused (ops_of (records gateway i))
   pub whole : IsWhole S refused (ops_of (records gateway i))
+  pub roomy : IsRoomy (records gateway i)
+  pub proper : IsConsistent (ops_of (records gateway i))
 
 -- The node has taken the set S: its replica counts as S; and whatever a crash leaves of an honest disk stands for S, but for one
 -- refused delta, of which there is none as long as the node goes on.
