@@ -5,6 +5,8 @@ pub mod Contents
 pub mod Append
 pub mod Sound
 pub mod Settled
+pub mod Bases
+pub mod Compacted
 pub mod Readable
 pub mod Appending
 pub mod Begun

@@ -98,7 +98,7 @@ nothing = []
 take_nothing : (k : ℕ) → take k nothing ≡ nothing
 take_nothing k = take_all k nothing (omega arith)
 
-left_clean : (k : ℕ) (s : SlotBytes) → s.unsynced ≡ [] → left_of k s ≡ s.synced
+pub left_clean : (k : ℕ) (s : SlotBytes) → s.unsynced ≡ [] → left_of k s ≡ s.synced
 left_clean k s e = ap (λ xs. s.synced ++ take k xs) e ∙ (ap (λ xs. s.synced ++ xs) (take_nothing k) ∙ append-nil s.synced)
 
 left_more : (k : ℕ) (s : SlotBytes) (bytes : List ℕ) → s.unsynced ≡ [] → left_of k (appended s bytes) ≡ s.synced ++ take k bytes
@@ -108,7 +108,7 @@ bytes_clean : (s : SlotBytes) → s.unsynced ≡ [] → bytes_of s ≡ s.synced
 bytes_clean s e = ap (λ xs. s.synced ++ xs) e ∙ append-nil s.synced
 
 -- where nothing is unsynced, a crash leaves all
-clean_crash : (slot : Slot) (d : Slots) (k l : ℕ) → d.first.unsynced ≡ [] → d.second.unsynced ≡ [] → image_at (after_crash k l d) slot ≡ (at d slot).synced
+pub clean_crash : (slot : Slot) (d : Slots) (k l : ℕ) → d.first.unsynced ≡ [] → d.second.unsynced ≡ [] → image_at (after_crash k l d) slot ≡ (at d slot).synced
 clean_crash First d k l a b = left_clean k d.first a
 clean_crash Second d k l a b = left_clean l d.second b
 
@@ -116,13 +116,13 @@ clean_image : (slot : Slot) (d : Slots) → d.first.unsynced ≡ [] → d.second
 clean_image First d a b = bytes_clean d.first a
 clean_image Second d a b = bytes_clean d.second b
 
-sealed_at : (gateway : ℕ) (xs ys : List ℕ) (m : ℕ) (f : Found) → ys ≡ xs → IsSealed gateway xs m f → IsSealed gateway ys m f
+pub sealed_at : (gateway : ℕ) (xs ys : List ℕ) (m : ℕ) (f : Found) → ys ≡ xs → IsSealed gateway xs m f → IsSealed gateway ys m f
 sealed_at gateway xs ys m f e h = subst (λ (zs : List ℕ). IsSealed gateway zs m f) (sym e) h
 
-below_at : (gateway : ℕ) (xs ys : List ℕ) (m : ℕ) → ys ≡ xs → is_below (slot_content gateway xs) m ≡ true → is_below (slot_content gateway ys) m ≡ true
+pub below_at : (gateway : ℕ) (xs ys : List ℕ) (m : ℕ) → ys ≡ xs → is_below (slot_content gateway xs) m ≡ true → is_below (slot_content gateway ys) m ≡ true
 below_at gateway xs ys m e h = subst (λ (zs : List ℕ). is_below (slot_content gateway zs) m ≡ true) (sym e) h
 
-clean_all : (d : Slots) (k l : ℕ) → d.first.unsynced ≡ [] → d.second.unsynced ≡ [] → after_crash k l d ≡ synced_part d
+pub clean_all : (d : Slots) (k l : ℕ) → d.first.unsynced ≡ [] → d.second.unsynced ≡ [] → after_crash k l d ≡ synced_part d
 clean_all d k l a b =
     let p : left_of k d.first ≡ d.first.synced = left_clean k d.first a in
     let q : left_of l d.second ≡ d.second.synced = left_clean l d.second b in
@@ -145,10 +145,10 @@ used_records gateway slot d m f h =
 
 -- ---- bytes behind the slot in use
 
-abbrev with_more : Slots → Slot → List ℕ → Slots
+abbrev pub with_more : Slots → Slot → List ℕ → Slots
 with_more d slot bytes = replaced d slot (appended (at d slot) bytes)
 
-crash_more : (slot : Slot) (d : Slots) (bytes : List ℕ) (k l : ℕ) → d.first.unsynced ≡ [] → d.second.unsynced ≡ []
+pub crash_more : (slot : Slot) (d : Slots) (bytes : List ℕ) (k l : ℕ) → d.first.unsynced ≡ [] → d.second.unsynced ≡ []
     → (j : ℕ) × (image_at (after_crash k l (with_more d slot bytes)) slot ≡ (at d slot).synced ++ take j bytes) × (image_at (after_crash k l (with_more d slot bytes)) (other slot) ≡ (at d (other slot)).synced)
 crash_more First d bytes k l a b = (k, left_more k d.first bytes a, left_clean l d.second b)
 crash_more Second d bytes k l a b = (l, left_more l d.second bytes b, left_clean k d.first a)
@@ -161,7 +161,7 @@ take_both j w xs =
     ]
 
 -- behind whole pieces the front of a record is nothing, and the whole of it is the record
-front_sealed : (gateway : ℕ) (xs : List ℕ) (m : ℕ) (f : Found) (delta : List Op) (n : ℕ) → IsSealed gateway xs m f → IsFull xs f → IsReadable delta
+pub front_sealed : (gateway : ℕ) (xs : List ℕ) (m : ℕ) (f : Found) (delta : List Op) (n : ℕ) → IsSealed gateway xs m f → IsFull xs f → IsReadable delta
     → (q : Found) × IsSealed gateway (xs ++ take n (written delta)) m q × ((q.deltas ≡ f.deltas) ⊎ (q.deltas ≡ f.deltas ++ delta ∷ []))
 front_sealed gateway xs m f delta n h full readable =
     elim (cases_lt n (length (written delta))) [
@@ -198,12 +198,12 @@ more_leaves gateway slot d m f delta w h readable = λ k l.
 
 -- ---- and synced
 
-replaced_used : (gateway : ℕ) (slot : Slot) (d : Slots) (s : SlotBytes) (m : ℕ) (f : Found) → d.first.unsynced ≡ [] → d.second.unsynced ≡ [] → s.unsynced ≡ [] → IsSealed gateway s.synced m f → IsFull s.synced f
+pub replaced_used : (gateway : ℕ) (slot : Slot) (d : Slots) (s : SlotBytes) (m : ℕ) (f : Found) → d.first.unsynced ≡ [] → d.second.unsynced ≡ [] → s.unsynced ≡ [] → IsSealed gateway s.synced m f → IsFull s.synced f
     → is_below (slot_content gateway (at d (other slot)).synced) m ≡ true → fault_of gateway (synced_part (replaced d slot s)) ≡ None → IsUsed gateway slot (replaced d slot s) m f
 replaced_used gateway First d s m f a b clean h full below sound = record { first_clean = clean; second_clean = b; sealed = h; full = full; below = below; sound = sound }
 replaced_used gateway Second d s m f a b clean h full below sound = record { first_clean = a; second_clean = clean; sealed = h; full = full; below = below; sound = sound }
 
-clean_at : (slot : Slot) (d : Slots) → d.first.unsynced ≡ [] → d.second.unsynced ≡ [] → (at d slot).unsynced ≡ []
+pub clean_at : (slot : Slot) (d : Slots) → d.first.unsynced ≡ [] → d.second.unsynced ≡ [] → (at d slot).unsynced ≡ []
 clean_at First d a b = a
 clean_at Second d a b = b
 
