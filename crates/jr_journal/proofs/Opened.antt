@@ -131,7 +131,7 @@ not_fresh gateway Second i m f h =
 held_stale : (gateway : ℕ) (i : Image) (slot : Slot) (m : ℕ) (f : Found) → slot_content gateway (image_at i slot) ≡ Sealed m f → is_fresh i ≡ false
 held_stale gateway i slot m f e = not_fresh gateway slot i m f (sealed_shape gateway (image_at i slot) m f e)
 
-fresh_empty : (i : Image) → is_fresh i ≡ true → i.second ≡ []
+pub fresh_empty : (i : Image) → is_fresh i ≡ true → i.second ≡ []
 fresh_empty i e = nil_is i.second (and_parts _ _ e).0
 
 -- a new journal is begun exactly where the image is fresh
