@@ -49,7 +49,7 @@ pub(crate) fn none(alloc: Global, text: &mut String) -> Result<(), Stop> {
     Ok(print_delta(alloc, text, &Delta::empty(alloc))?)
 }
 
-/// `spell`: the octets of the delta of the operations, behind those that are there.
+/// `spell`: the octets of the delta of the operations stand behind those that are there.
 pub(crate) fn spelled(
     alloc: Global,
     text: &mut String,
@@ -59,6 +59,24 @@ pub(crate) fn spelled(
     if let Some(delta) = made(alloc, text, ops)? {
         if let Err(fault) = delta.encode(alloc, out) {
             refused(text, fault)?;
+        }
+    }
+    Ok(())
+}
+
+/// `written`: the delta of the operations, and its octets, which stand in place of those that were there.
+pub(crate) fn written(
+    alloc: Global,
+    text: &mut String,
+    ops: Vec<Op>,
+    out: &mut Vec<u8>,
+) -> Result<(), Stop> {
+    if let Some(delta) = made(alloc, text, ops)? {
+        print_delta(alloc, text, &delta)?;
+        out.clear();
+        match delta.encode(alloc, out) {
+            Ok(()) => print(alloc, text, out)?,
+            Err(fault) => refused(text, fault)?,
         }
     }
     Ok(())
@@ -113,6 +131,18 @@ fn answer(alloc: Global, bytes: &[u8]) -> Result<String, Stop> {
             Ok(format!(in alloc; "refused {why}")?)
         }
     }
+}
+
+/// `altered AT HEX`: what the octets are read as where one of them is another; they stay.
+pub(crate) fn altered(
+    alloc: Global,
+    text: &mut String,
+    bytes: &[u8],
+    fields: &[&str],
+) -> Result<(), Stop> {
+    let mut copy = Vec::from_slice(alloc, bytes)?;
+    set(alloc, &mut copy, fields)?;
+    counted(alloc, text, &copy)
 }
 
 /// `beginnings`: what each beginning of the octets is read as, but all of them.

@@ -1,4 +1,69 @@
-//! Worked rows of operations, deltas, sessions, replicas and journals.
+//! Worked rows of operations, deltas, sessions, replicas and journals: what no clause says, as that calls succeed, and octets written
+//! out by hand.
+//!
+//! A contract lets a call answer want of memory in place of almost anything; a row does not. Standard input holds rows, each
+//! behind a line `== NAME`; empty lines and those that begin with `#` are skipped. Each row begins with nothing: no operation, no
+//! octets, the empty session, an empty replica, an empty disk. The program prints each name, and below it what the lines of the row
+//! give; of a line that is none of these, `no such line` and the line.
+//!
+//! A line is words with one space between them. Numbers are decimal, octets hexadecimal, in as many words as is pleasant. The name
+//! of a client or a topic, a filter and a message are a word each, and stand for the octets of the word; `-` is no octet.
+//!
+//! | The session, and operations, which wait to be used | |
+//! |---|---|
+//! | `session WHERE clean SECONDS`, or `kept` | a session without anything else; WHERE is `active`, `asleep`, `awake`, `disconnected` or `lost` |
+//! | `apply CHANGE` | it changes |
+//! | `op CLIENT EPOCH.GATEWAY COUNTER CHANGE` | a change of a client's session |
+//! | `ops CLIENT EPOCH.GATEWAY FIRST LAST CHANGE` | the same change under each counter from the first to the last |
+//! | `put CLIENT ORIGIN.NUMBER TOPIC QOS BODY` | a message for a client |
+//! | `puts CLIENT ORIGIN FIRST LAST TOPIC QOS SIZE` | messages of so many octets, all the letter `a` |
+//! | `ack CLIENT ORIGIN FIRST LAST` | a client has these messages |
+//! | `acks COUNT` | message 1 of gateway 1 for so many clients, whose names are 0, 1 and so on in two octets |
+//!
+//! A CHANGE is `take` (the row's session), `presence WHERE SECONDS`, `register ID NAME known` or `new`, `subscribe FILTER QOS`,
+//! `unsubscribe FILTER`, `will none`, `will TOPIC QOS retained` or `fleeting`, `message BODY` (the will's), `received ID`, `released ID`,
+//! `exchange none NEXT` or `exchange ORIGIN.NUMBER ID PHASE NEXT` with `registering`, `published` or `released`; NEXT is the next message id.
+//!
+//! | Deltas; a delta is printed as a line with the number of its operations, and their lines | |
+//! |---|---|
+//! | `delta`, `copy`, `none` | the delta of the operations, a copy of it, the delta of no operations |
+//! | `written` | the delta of the operations, and its octets, which stand in place of those that were there |
+//! | `spell` | the octets of the delta of the operations stand behind those that are there; nothing is printed |
+//! | `client NAME` | whether a client may have this name |
+//! | `octets HEX ..`, `behind HEX ..` | these octets; these stand behind those that are there |
+//! | `set AT HEX`, `fill COUNT`, `cut COUNT` | an octet is another; octets of 0 behind, up to so many; the first so many are left |
+//! | `print`, `size` | the octets; how many there are |
+//! | `read`, `count` | the delta that they spell; how many operations it has |
+//! | `altered AT HEX` | how many operations it has where an octet is another; the octets stay |
+//! | `beginnings` | the same of each beginning of them but the whole; neighbours that give the same share a line |
+//!
+//! | The replica | |
+//! |---|---|
+//! | `join` | it takes the operations in one delta |
+//! | `view CLIENT`, `copied CLIENT` | what it knows of a client; the same of a copy, and of a copy of the messages that wait |
+//! | `waiting CLIENT` | how many messages wait |
+//! | `next CLIENT GATEWAY` | the epoch of the client's next Take, and the number of the gateway's next message for it |
+//! | `clients` | how many clients it knows |
+//! | `held`, `parts` | the deltas of what must be kept; how many operations each has |
+//!
+//! | The disk, and the journal on it; SLOT is `first` or `second` | |
+//! |---|---|
+//! | `store SLOT` | the octets stand behind those of a slot, synced |
+//! | `fail COUNT`, `fail sync` | the next append stops behind so many octets; or it goes out and its sync fails |
+//! | `crash COUNT`, `crash all` | of what is not synced so many octets of each slot are left, or all |
+//! | `slots` | the octets of both slots |
+//! | `open GATEWAY` | the journal of a gateway is opened: its records |
+//! | `append` | the delta of the operations is a new record |
+//! | `halted` | whether the journal has stopped, and whether memory was refused |
+//! | `close` | the journal is closed; `store`, `fail`, `crash`, `slots`, `open` and the two below want it so |
+//! | `openings GATEWAY SLOT` | for each beginning of the octets, and all: the disk with these behind what the slot has is opened |
+//! | `appends GATEWAY COUNT` | for each number up to this one: on the disk as it is the append of the operations stops behind so many octets, all that went out is left, and the journal is opened again |
+//!
+//! - `row`: what the lines of a row have brought about (`Row`), and the play of one more.
+//! - `fields`, `operations`, `changes`: lines that are read.
+//! - `deltas`, `replicas`, `journals`, `attempts`: lines that are played.
+//! - `words`, `printing`, `runs`: what is printed.
+//! - `stop`: why a line is not played.
 #![tactic(auto)]
 
 mod attempts;

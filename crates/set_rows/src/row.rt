@@ -53,14 +53,14 @@ pub(crate) fn play(
         "op" | "ops" | "put" | "puts" | "ack" | "acks" => {
             play_operation(alloc, &row.session, &mut row.ops, first, rest)
         }
-        "delta" | "copy" | "spell" | "join" | "append" | "appends" => {
+        "delta" | "copy" | "spell" | "written" | "join" | "append" | "appends" => {
             let ops = mem::replace(&mut row.ops, Vec::new(alloc));
             play_use(alloc, text, row, ops, first, rest)
         }
         "octets" | "behind" | "set" | "fill" | "cut" => {
             play_octets(alloc, &mut row.octets, first, rest)
         }
-        "none" | "client" | "print" | "size" | "read" | "count" | "beginnings" => {
+        "none" | "client" | "print" | "size" | "read" | "count" | "altered" | "beginnings" => {
             play_reading(alloc, text, &row.octets, first, rest)
         }
         "view" | "copied" | "waiting" | "next" | "clients" | "held" | "parts" => {
@@ -117,6 +117,7 @@ fn play_use(
         "delta" => deltas::shown(alloc, text, ops),
         "copy" => deltas::copied(alloc, text, ops),
         "spell" => deltas::spelled(alloc, text, ops, &mut row.octets),
+        "written" => deltas::written(alloc, text, ops, &mut row.octets),
         "join" => replicas::join(alloc, text, &mut row.replica, ops),
         "append" => journals::append(alloc, text, &mut row.store, ops),
         _ => appends(alloc, text, &mut row.store, ops, rest),
@@ -157,6 +158,7 @@ fn play_reading(
         "size" => deltas::size(text, octets),
         "read" => deltas::read(alloc, text, octets),
         "count" => deltas::counted(alloc, text, octets),
+        "altered" => deltas::altered(alloc, text, octets, rest),
         _ => deltas::beginnings(alloc, text, octets),
     }
 }
