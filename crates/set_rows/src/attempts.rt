@@ -2,10 +2,10 @@
 
 use crate::deltas::made;
 use crate::fields::{count, octet};
-use crate::journals::{Store, both, octets_of, put, slot};
+use crate::journals::{Store, base_of, both, octets_of, put, slot};
 use crate::runs::{add, finish};
 use crate::stop::Stop;
-use crate::words::{digits, journal_fault};
+use crate::words::{digits, journal_fault, slot_word};
 use jr_journal::{Journal, JournalFault, MemoryDisk, Slot};
 use rep_ops::{Delta, Op};
 use std::alloc::Global;
@@ -18,12 +18,13 @@ fn disk_with(alloc: Global, first: &[u8], second: &[u8]) -> Result<MemoryDisk, S
     Ok(disk)
 }
 
-/// How many records an opening reads, or why none.
+/// How many records an opening reads, and in which slot, or why none.
 fn opening(alloc: Global, disk: MemoryDisk, gateway: u8) -> Result<String, Stop> {
     match Journal::open(alloc, disk, gateway) {
-        Ok((_journal, deltas)) => {
+        Ok((journal, deltas)) => {
+            let slot = slot_word(journal.slot());
             let count = deltas.len();
-            Ok(format!(in alloc; "records {count}")?)
+            Ok(format!(in alloc; "records {count} in {slot}")?)
         }
         Err((_disk, fault)) => fault_text(alloc, fault),
     }
@@ -35,26 +36,24 @@ fn fault_text(alloc: Global, fault: JournalFault) -> Result<String, Stop> {
     Ok(format!(in alloc; "refused {why}")?)
 }
 
-/// How many records an opening reads, and what the slots hold behind it.
+/// How many records an opening reads, and what their slot holds behind it.
 fn opening_whole(alloc: Global, disk: MemoryDisk, gateway: u8) -> Result<String, Stop> {
     match Journal::open(alloc, disk, gateway) {
         Ok((journal, deltas)) => {
+            let slot = journal.slot();
             let mut disk = journal.into_disk();
-            let slots = slots_text(alloc, &mut disk)?;
-            let count = deltas.len();
-            Ok(format!(in alloc; "records {count}, {slots}")?)
+            let octets = octets_of(alloc, &mut disk, slot)?;
+            read_text(alloc, deltas.len(), slot, &octets)
         }
         Err((_disk, fault)) => fault_text(alloc, fault),
     }
 }
 
-/// What both slots hold.
-fn slots_text(alloc: Global, disk: &mut MemoryDisk) -> Result<String, Stop> {
-    let first = octets_of(alloc, disk, Slot::First)?;
-    let second = octets_of(alloc, disk, Slot::Second)?;
-    let first = digits(alloc, &first)?;
-    let second = digits(alloc, &second)?;
-    Ok(format!(in alloc; "first {first} second {second}")?)
+/// A number of records, their slot and its octets.
+fn read_text(alloc: Global, count: usize, slot: Slot, octets: &[u8]) -> Result<String, Stop> {
+    let slot = slot_word(slot);
+    let octets = digits(alloc, octets)?;
+    Ok(format!(in alloc; "records {count} in {slot}, {octets}")?)
 }
 
 /// `openings GATEWAY SLOT`: an opening where each beginning of the octets stands behind what the slot has.
@@ -131,4 +130,47 @@ fn behind_crash(
     let why = journal_fault(alloc, fault)?;
     let found = opening(alloc, disk, gateway)?;
     Ok(format!(in alloc; "refused {why}, {found}")?)
+}
+
+/// `compactions GATEWAY COUNT`: the same of compactions to the operations.
+pub(crate) fn compactions(
+    alloc: Global,
+    text: &mut String,
+    store: &mut Store,
+    ops: Vec<Op>,
+    fields: &[&str],
+) -> Result<(), Stop> {
+    let [gateway, most] = fields else {
+        return Err(Stop::Line);
+    };
+    let (gateway, most) = (octet(gateway)?, count(most)?);
+    let Some(base) = base_of(alloc, text, ops)? else {
+        return Ok(());
+    };
+    let (first, second) = both(alloc, store)?;
+    let mut run = None;
+    for far in 0..=most {
+        let mut disk = disk_with(alloc, &first, &second)?;
+        disk.fail_next(far, false);
+        let said = compact_on(alloc, disk, gateway, base.as_slice())?;
+        run = add(text, run, far, said)?;
+    }
+    Ok(finish(text, run)?)
+}
+
+/// One such compaction.
+fn compact_on(
+    alloc: Global,
+    disk: MemoryDisk,
+    gateway: u8,
+    base: &[Delta],
+) -> Result<String, Stop> {
+    let (mut journal, _deltas) = match Journal::open(alloc, disk, gateway) {
+        Ok(opened) => opened,
+        Err((_disk, fault)) => return fault_text(alloc, fault),
+    };
+    let Err(fault) = journal.compact(alloc, base) else {
+        return Err(Stop::Line);
+    };
+    behind_crash(alloc, journal, gateway, fault)
 }

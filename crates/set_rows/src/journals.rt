@@ -162,6 +162,58 @@ pub(crate) fn append(
     }
 }
 
+/// The delta of the operations by itself; no delta of none.
+pub(crate) fn base_of(
+    alloc: Global,
+    text: &mut String,
+    ops: Vec<Op>,
+) -> Result<Option<Vec<Delta>>, Stop> {
+    let mut base = Vec::new(alloc);
+    if !ops.is_empty() {
+        match made(alloc, text, ops)? {
+            None => return Ok(None),
+            Some(delta) => base.push(delta)?,
+        }
+    }
+    Ok(Some(base))
+}
+
+/// `compact`: the delta of the operations takes the place of all records.
+pub(crate) fn compact(
+    alloc: Global,
+    text: &mut String,
+    store: &mut Store,
+    ops: Vec<Op>,
+) -> Result<(), Stop> {
+    let Some(base) = base_of(alloc, text, ops)? else {
+        return Ok(());
+    };
+    match opened(store)?.compact(alloc, base.as_slice()) {
+        Ok(()) => Ok(text.push_str("compacted\n")?),
+        Err(fault) => refused(alloc, text, fault),
+    }
+}
+
+/// `reopen`: the journal is opened once more as it stands.
+pub(crate) fn reopen(alloc: Global, text: &mut String, store: &mut Store) -> Result<(), Stop> {
+    match opened(store)?.reopen(alloc) {
+        Ok(deltas) => print_records(alloc, text, deltas.as_slice()),
+        Err(fault) => refused(alloc, text, fault),
+    }
+}
+
+/// `halt`: the journal is stopped.
+pub(crate) fn halt(store: &mut Store) -> Result<(), Stop> {
+    opened(store)?.halt();
+    Ok(())
+}
+
+/// `place`: the slot that the journal writes.
+pub(crate) fn place(text: &mut String, store: &mut Store) -> Result<(), Stop> {
+    let name = slot_word(opened(store)?.slot());
+    Ok(writeln!(text, "goes on in {name}")?)
+}
+
 /// `halted`: whether the journal has stopped, and whether memory was refused in its disk.
 pub(crate) fn halted(text: &mut String, store: &mut Store) -> Result<(), Stop> {
     let journal = opened(store)?;

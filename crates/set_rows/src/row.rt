@@ -1,6 +1,6 @@
 //! A row: what its lines have brought about so far, and the play of one more.
 
-use crate::attempts::{appends, openings};
+use crate::attempts::{appends, compactions, openings};
 use crate::fields::fields;
 use crate::journals::Store;
 use crate::operations::{
@@ -53,9 +53,13 @@ pub(crate) fn play(
         "op" | "ops" | "put" | "puts" | "ack" | "acks" => {
             play_operation(alloc, &row.session, &mut row.ops, first, rest)
         }
-        "delta" | "copy" | "spell" | "written" | "join" | "append" | "appends" => {
+        "delta" | "copy" | "spell" | "written" | "join" => {
             let ops = mem::replace(&mut row.ops, Vec::new(alloc));
-            play_use(alloc, text, row, ops, first, rest)
+            play_use(alloc, text, row, ops, first)
+        }
+        "append" | "appends" | "compact" | "compactions" => {
+            let ops = mem::replace(&mut row.ops, Vec::new(alloc));
+            play_writing(alloc, text, &mut row.store, ops, first, rest)
         }
         "octets" | "behind" | "set" | "fill" | "cut" => {
             play_octets(alloc, &mut row.octets, first, rest)
@@ -111,16 +115,30 @@ fn play_use(
     row: &mut Row,
     ops: Vec<Op>,
     first: &str,
-    rest: &[&str],
 ) -> Result<(), Stop> {
     match first {
         "delta" => deltas::shown(alloc, text, ops),
         "copy" => deltas::copied(alloc, text, ops),
         "spell" => deltas::spelled(alloc, text, ops, &mut row.octets),
         "written" => deltas::written(alloc, text, ops, &mut row.octets),
-        "join" => replicas::join(alloc, text, &mut row.replica, ops),
-        "append" => journals::append(alloc, text, &mut row.store, ops),
-        _ => appends(alloc, text, &mut row.store, ops, rest),
+        _ => replicas::join(alloc, text, &mut row.replica, ops),
+    }
+}
+
+/// Lines that write the operations.
+fn play_writing(
+    alloc: Global,
+    text: &mut String,
+    store: &mut Store,
+    ops: Vec<Op>,
+    first: &str,
+    rest: &[&str],
+) -> Result<(), Stop> {
+    match first {
+        "append" => journals::append(alloc, text, store, ops),
+        "appends" => appends(alloc, text, store, ops, rest),
+        "compact" => journals::compact(alloc, text, store, ops),
+        _ => compactions(alloc, text, store, ops, rest),
     }
 }
 
@@ -196,7 +214,10 @@ fn play_store(
         "fail" => journals::fail(store, rest),
         "crash" => journals::crash(store, rest),
         "open" => journals::open(alloc, text, store, rest),
+        "reopen" => journals::reopen(alloc, text, store),
+        "halt" => journals::halt(store),
         "halted" => journals::halted(text, store),
+        "place" => journals::place(text, store),
         "close" => journals::close(store),
         "slots" => journals::slots(alloc, text, store),
         "openings" => openings(alloc, text, store, octets, rest),
