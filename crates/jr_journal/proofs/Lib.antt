@@ -6,9 +6,9 @@ pub mod Append
 pub mod Sound
 pub mod Settled
 pub mod Bases
-pub mod Compacted
 pub mod Readable
 pub mod Appending
+pub mod Compacted
 pub mod Begun
 pub mod Opened
 pub mod Calm
