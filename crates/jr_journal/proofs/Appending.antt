@@ -7,10 +7,11 @@ use Rattle.rep_ops.specs.declared.op.Op.{Op}
 use Rattle.jr_journal.specs.declared.disk.Slot.{Slot}
 use Rattle.jr_journal.specs.declared.disk.Slot.TheVariants.{First, Second}
 use Rattle.jr_journal.specs.declared.disk.Short.{Short}
+use Rattle.jr_journal.specs.declared.piece.Found.{Found}
 use Rattle.jr_journal.specs.Disk.{SlotBytes, Slots, at, replaced, image, appended, all_synced}
 use Rattle.jr_journal.specs.Records.{IsReadable, written, records}
-use Rattle.jr_journal.specs.Journals.{is_settled, Leaves, LeavesOneMore}
-use Rattle.jr_journal.proofs.Settled.{settled_shape, settled_again, used_leaves, used_records, more_leaves, synced_used}
+use Rattle.jr_journal.specs.Journals.{is_in_use, Leaves, LeavesOneMore}
+use Rattle.jr_journal.proofs.Settled.{IsUsed, in_use_shape, in_use_again, used_leaves, used_records, more_leaves, synced_used}
 
 -- ---- a result that was tested
 
@@ -28,19 +29,19 @@ err_written (Err short) P e h = (short.written, h)
 
 -- ---- where the journal was not halted
 
-abbrev pub IsKept : ℕ → Slot → Bool → Slots → Type 0
-IsKept gateway slot halted d = IsTrue (halted || is_settled gateway slot d)
+abbrev pub IsKept : ℕ → Slot → ℕ → Bool → Slots → Type 0
+IsKept gateway slot generation halted d = IsTrue (halted || is_in_use gateway slot generation d)
 
-pub going_on : (gateway : ℕ) (slot : Slot) (halted : Bool) (d : Slots) → IsKept gateway slot halted d → halted ≡ false → is_settled gateway slot d ≡ true
-going_on gateway slot true d h e = absurd cc
-going_on gateway slot false d h e = h
+pub going_on : (gateway : ℕ) (slot : Slot) (generation : ℕ) (halted : Bool) (d : Slots) → IsKept gateway slot generation halted d → halted ≡ false → (f : Found) × IsUsed gateway slot d generation f
+going_on gateway slot generation true d h e = absurd cc
+going_on gateway slot generation false d h e = in_use_shape gateway slot generation d h
 
-pub torn_after : (gateway : ℕ) (slot : Slot) (halted : Bool) (old new : Slots) (delta : List Op) (bytes : List ℕ) (w : ℕ) → IsKept gateway slot halted old → halted ≡ false → IsReadable delta → bytes ≡ written delta
+pub torn_after : (gateway : ℕ) (slot : Slot) (generation : ℕ) (halted : Bool) (old new : Slots) (delta : List Op) (bytes : List ℕ) (w : ℕ) → IsKept gateway slot generation halted old → halted ≡ false → IsReadable delta → bytes ≡ written delta
     → new ≡ replaced old slot (appended (at old slot) (take w bytes)) → LeavesOneMore gateway new (records gateway (image old)) delta
-torn_after gateway slot halted old new delta bytes w kept runs readable spelled is =
-    let u = settled_shape gateway slot old (going_on gateway slot halted old kept runs) in
+torn_after gateway slot generation halted old new delta bytes w kept runs readable spelled is =
+    let u = going_on gateway slot generation halted old kept runs in
     let more : new ≡ replaced old slot (appended (at old slot) (take w (written delta))) = is ∙ ap (λ xs. replaced old slot (appended (at old slot) (take w xs))) spelled in
-    subst (λ (d : Slots). LeavesOneMore gateway d (records gateway (image old)) delta) (sym more) (more_leaves gateway slot old u.0 u.1.0 delta w u.1.1 readable)
+    subst (λ (d : Slots). LeavesOneMore gateway d (records gateway (image old)) delta) (sym more) (more_leaves gateway slot old generation u.0 delta w u.1 readable)
 
 pub all_out : (slot : Slot) (old middle new : Slots) (bytes : List ℕ) → middle ≡ replaced old slot (appended (at old slot) bytes) → new ≡ middle → new ≡ replaced old slot (appended (at old slot) (take (length bytes) bytes))
 all_out slot old middle new bytes e f = f ∙ (e ∙ ap (λ xs. replaced old slot (appended (at old slot) xs)) (sym (take_all (length bytes) bytes (omega arith))))
@@ -54,19 +55,19 @@ pub synced_is : (slot : Slot) (old middle new : Slots) (delta : List Op) (bytes 
 synced_is slot old middle new delta bytes spelled e f =
     f ∙ (ap (λ d. replaced d slot (all_synced (at d slot))) e ∙ (replaced_twice slot old (appended (at old slot) bytes) ∙ ap (λ xs. replaced old slot (all_synced (appended (at old slot) xs))) spelled))
 
-pub settles_after : (gateway : ℕ) (slot : Slot) (halted : Bool) (old new : Slots) (delta : List Op) → IsKept gateway slot halted old → halted ≡ false → IsReadable delta
-    → new ≡ replaced old slot (all_synced (appended (at old slot) (written delta))) → is_settled gateway slot new ≡ true
-settles_after gateway slot halted old new delta kept runs readable is =
-    let u = settled_shape gateway slot old (going_on gateway slot halted old kept runs) in
-    let s = synced_used gateway slot old u.0 u.1.0 delta u.1.1 readable in
-    ap (λ d. is_settled gateway slot d) is ∙ settled_again gateway slot (replaced old slot (all_synced (appended (at old slot) (written delta)))) u.0 _ s
+pub settles_after : (gateway : ℕ) (slot : Slot) (generation : ℕ) (halted : Bool) (old new : Slots) (delta : List Op) → IsKept gateway slot generation halted old → halted ≡ false → IsReadable delta
+    → new ≡ replaced old slot (all_synced (appended (at old slot) (written delta))) → is_in_use gateway slot generation new ≡ true
+settles_after gateway slot generation halted old new delta kept runs readable is =
+    let u = going_on gateway slot generation halted old kept runs in
+    let s = synced_used gateway slot old generation u.0 delta u.1 readable in
+    ap (λ d. is_in_use gateway slot generation d) is ∙ in_use_again gateway slot (replaced old slot (all_synced (appended (at old slot) (written delta)))) generation _ s
 
-pub durable_after : (gateway : ℕ) (slot : Slot) (halted : Bool) (old new : Slots) (delta : List Op) → IsKept gateway slot halted old → halted ≡ false → IsReadable delta
+pub durable_after : (gateway : ℕ) (slot : Slot) (generation : ℕ) (halted : Bool) (old new : Slots) (delta : List Op) → IsKept gateway slot generation halted old → halted ≡ false → IsReadable delta
     → new ≡ replaced old slot (all_synced (appended (at old slot) (written delta))) → Leaves gateway new (records gateway (image old) ++ delta ∷ [])
-durable_after gateway slot halted old new delta kept runs readable is =
-    let u = settled_shape gateway slot old (going_on gateway slot halted old kept runs) in
-    let s = synced_used gateway slot old u.0 u.1.0 delta u.1.1 readable in
-    let l = used_leaves gateway slot (replaced old slot (all_synced (appended (at old slot) (written delta)))) u.0 _ s in
-    let before : u.1.0.deltas ≡ records gateway (image old) = sym (used_records gateway slot old u.0 u.1.0 u.1.1) in
+durable_after gateway slot generation halted old new delta kept runs readable is =
+    let u = going_on gateway slot generation halted old kept runs in
+    let s = synced_used gateway slot old generation u.0 delta u.1 readable in
+    let l = used_leaves gateway slot (replaced old slot (all_synced (appended (at old slot) (written delta)))) generation _ s in
+    let before : u.0.deltas ≡ records gateway (image old) = sym (used_records gateway slot old generation u.0 u.1) in
     subst (λ (d : Slots). Leaves gateway d (records gateway (image old) ++ delta ∷ [])) (sym is)
     (subst (λ (xs : List (List Op)). Leaves gateway (replaced old slot (all_synced (appended (at old slot) (written delta)))) (xs ++ delta ∷ [])) before l)

@@ -5,8 +5,10 @@ pub mod Contents
 pub mod Append
 pub mod Sound
 pub mod Settled
+pub mod Bases
 pub mod Readable
 pub mod Appending
+pub mod Compacted
 pub mod Begun
 pub mod Opened
 pub mod Calm
