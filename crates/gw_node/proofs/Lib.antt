@@ -2,6 +2,8 @@ pub mod Occurring
 pub mod Keeping
 pub mod Calling
 pub mod Between
+pub mod Proper
+pub mod Roomy
 pub mod Taken
 pub mod Started
 pub mod Failing

@@ -6,7 +6,7 @@ use Rattle.rep_ops.specs.Sets.{Within, IsConsistent}
 use Rattle.rep_model.specs.Keep.{keep, CountsAs}
 use Rattle.rep_model.specs.Roomy.{IsRoomy}
 use Rattle.jr_journal.specs.declared.disk.Disk.{Ghosts}
-use Rattle.jr_journal.specs.Disk.{Image, EachCrash}
+use Rattle.jr_journal.specs.Disk.{Image, image, EachCrash}
 use Rattle.jr_journal.specs.Records.{records}
 use Rattle.jr_journal.specs.Faults.{fault_of}
 use Rattle.jr_journal.specs.Parts.{disk_of, gateway_of}
@@ -15,6 +15,10 @@ use Rattle.gw_node.specs.Parts.{State, is_halted}
 -- the operations of a list of deltas
 abbrev pub ops_of : List (List Op) → List Op
 ops_of deltas = flat_map (λ delta. delta) deltas
+
+-- the records that an opening of the node's disk would read
+abbrev pub on_disk : {D : Type 0} {G : Ghosts D} → State G → List (List Op)
+on_disk {G = G} state = records (gateway_of state.journal) (image (G.slots (disk_of state.journal)))
 
 -- J contains what must be kept of S, and lies within S and the refused delta
 pub record IsBetween (S refused J : List Op) : Type 0 where

@@ -6,7 +6,7 @@ pub mod Append
 pub mod Sound
 pub mod Settled
 pub mod Bases
-pub mod Compacting
+pub mod Compacted
 pub mod Readable
 pub mod Appending
 pub mod Begun

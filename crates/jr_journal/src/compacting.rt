@@ -1,6 +1,6 @@
 //! Compacting: what a journal must keep is written into its other slot, and the journal goes on there.
 
-ghost use Rattle.std.specs.Prelude.{◌≡◌, ◌≤◌, ◌<◌, ◌⊎◌, ◌×◌, ◌++◌, true, false, None, flat_map, take, IfOk, IfErr, OnOk, OnErr, IsErrOf};
+ghost use Rattle.std.specs.Prelude.{ℕ, ◌≡◌, ◌≤◌, ◌<◌, ◌⊎◌, ◌++◌, true, false, None, flat_map, take, IfOk, IfErr, OnOk, OnErr, IsErrOf};
 ghost use Rattle.std.specs.List.{AllByRecursion};
 ghost use Rattle.jr_journal.specs.Disk.{at, replaced, appended};
 ghost use Rattle.jr_journal.specs.Records.{IsReadable, header, written, base_bytes};
