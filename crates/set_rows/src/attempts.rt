@@ -5,7 +5,7 @@ use crate::fields::{count, octet};
 use crate::journals::{Store, base_of, both, octets_of, put, slot};
 use crate::runs::{add, finish};
 use crate::stop::Stop;
-use crate::words::{digits, journal_fault, slot_word};
+use crate::words::{journal_fault, shown_octets, slot_word};
 use jr_journal::{Journal, JournalFault, MemoryDisk, Slot};
 use rep_ops::{Delta, Op};
 use std::alloc::Global;
@@ -52,7 +52,7 @@ fn opening_whole(alloc: Global, disk: MemoryDisk, gateway: u8) -> Result<String,
 /// A number of records, their slot and its octets.
 fn read_text(alloc: Global, count: usize, slot: Slot, octets: &[u8]) -> Result<String, Stop> {
     let slot = slot_word(slot);
-    let octets = digits(alloc, octets)?;
+    let octets = shown_octets(alloc, octets)?;
     Ok(format!(in alloc; "records {count} in {slot}, {octets}")?)
 }
 

@@ -1,10 +1,11 @@
 //! Lines about deltas and their octets.
 
-use crate::fields::{count, octets, word};
+use crate::fields::{count, digits, word};
+use crate::names::{Names, octets};
 use crate::printing::print_delta;
 use crate::runs::{add, finish};
 use crate::stop::Stop;
-use crate::words::{digits, ops_fault};
+use crate::words::{ops_fault, shown_octets};
 use rep_ops::{ClientId, Delta, Op, OpsFault};
 use std::alloc::Global;
 
@@ -95,8 +96,8 @@ pub(crate) fn named(alloc: Global, text: &mut String, fields: &[&str]) -> Result
 
 /// `print`: the octets.
 pub(crate) fn print(alloc: Global, text: &mut String, bytes: &[u8]) -> Result<(), Stop> {
-    let digits = digits(alloc, bytes)?;
-    Ok(writeln!(text, "{digits}")?)
+    let octets = shown_octets(alloc, bytes)?;
+    Ok(writeln!(text, "{octets}")?)
 }
 
 /// `size`: how many octets there are.
@@ -155,24 +156,24 @@ pub(crate) fn beginnings(alloc: Global, text: &mut String, bytes: &[u8]) -> Resu
     Ok(finish(text, run)?)
 }
 
-/// `octets HEX ..`: these octets.
-pub(crate) fn given(alloc: Global, fields: &[&str]) -> Result<Vec<u8>, Stop> {
-    octets(alloc, fields)
-}
-
-/// `behind HEX ..`: these octets stand behind those that are there.
-pub(crate) fn behind(alloc: Global, bytes: &mut Vec<u8>, fields: &[&str]) -> Result<(), Stop> {
-    let more = octets(alloc, fields)?;
+/// `behind OCTETS ..`: these octets stand behind those that are there.
+pub(crate) fn behind(
+    alloc: Global,
+    names: &Names,
+    bytes: &mut Vec<u8>,
+    fields: &[&str],
+) -> Result<(), Stop> {
+    let more = octets(alloc, names, fields)?;
     Ok(bytes.extend_from_slice(&more)?)
 }
 
 /// `set AT HEX`: one octet is another.
 pub(crate) fn set(alloc: Global, bytes: &mut Vec<u8>, fields: &[&str]) -> Result<(), Stop> {
-    let Some((at, rest)) = fields.split_first() else {
+    let [at, octet] = fields else {
         return Err(Stop::Line);
     };
     let at = count(at)?;
-    let given = octets(alloc, rest)?;
+    let given = digits(alloc, octet)?;
     let [octet] = given.as_slice() else {
         return Err(Stop::Line);
     };

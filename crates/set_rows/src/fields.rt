@@ -119,18 +119,8 @@ pub(crate) fn is_first(text: &str, first: &str, second: &str) -> Result<bool, St
     Err(Stop::Line)
 }
 
-/// The octets that hexadecimal digits write; each field has two for an octet.
-pub(crate) fn octets(alloc: Global, fields: &[&str]) -> Result<Vec<u8>, Stop> {
-    let mut octets = Vec::new(alloc);
-    for field in fields {
-        let some = digits(alloc, field)?;
-        octets.extend_from_slice(&some)?;
-    }
-    Ok(octets)
-}
-
-/// The octets of one field.
-fn digits(alloc: Global, field: &str) -> Result<Vec<u8>, Stop> {
+/// The octets that hexadecimal digits write, two for each.
+pub(crate) fn digits(alloc: Global, field: &str) -> Result<Vec<u8>, Stop> {
     match hex::decode(alloc, field.as_bytes()) {
         Ok(octets) => Ok(octets),
         Err(hex::FromHexError::OutOfMemory) => Err(Stop::Memory),

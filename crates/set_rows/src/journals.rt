@@ -4,7 +4,7 @@ use crate::deltas::made;
 use crate::fields::{count, octet};
 use crate::printing::print_delta;
 use crate::stop::Stop;
-use crate::words::{digits, journal_fault, slot_word};
+use crate::words::{journal_fault, shown_octets, slot_word};
 use jr_journal::{Disk, Journal, JournalFault, MemoryDisk, Slot};
 use rep_ops::{Delta, Op};
 use std::alloc::Global;
@@ -162,15 +162,15 @@ pub(crate) fn append(
     }
 }
 
-/// The delta of the operations by itself; no delta of none.
+/// A delta for each operation.
 pub(crate) fn base_of(
     alloc: Global,
     text: &mut String,
     ops: Vec<Op>,
 ) -> Result<Option<Vec<Delta>>, Stop> {
     let mut base = Vec::new(alloc);
-    if !ops.is_empty() {
-        match made(alloc, text, ops)? {
+    for op in ops {
+        match made(alloc, text, vec![in alloc; op]?)? {
             None => return Ok(None),
             Some(delta) => base.push(delta)?,
         }
@@ -178,7 +178,7 @@ pub(crate) fn base_of(
     Ok(Some(base))
 }
 
-/// `compact`: the delta of the operations takes the place of all records.
+/// `compact`: the operations, each a record, take the place of all records.
 pub(crate) fn compact(
     alloc: Global,
     text: &mut String,
@@ -250,7 +250,7 @@ fn print_slot(
 ) -> Result<(), Stop> {
     let octets = octets_of(alloc, disk, slot)?;
     let name = slot_word(slot);
-    let digits = digits(alloc, &octets)?;
+    let digits = shown_octets(alloc, &octets)?;
     Ok(writeln!(text, "{name} {digits}")?)
 }
 

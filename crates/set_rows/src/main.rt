@@ -6,8 +6,8 @@
 //! octets, the empty session, an empty replica, an empty disk. The program prints each name, and below it what the lines of the row
 //! give; of a line that is none of these, `no such line` and the line.
 //!
-//! A line is words with one space between them. Numbers are decimal, octets hexadecimal, in as many words as is pleasant. The name
-//! of a client or a topic, a filter and a message are a word each, and stand for the octets of the word; `-` is no octet.
+//! A line is words with one space between them. Numbers are decimal. Octets are words of hexadecimal digits, in as many as is pleasant;
+//! after a line `name NAME OCTETS ..`, which may stand anywhere, also the name of some. The name of a client or a topic, a filter and a message are a word each, and stand for the octets of the word; `-` is no octet.
 //!
 //! | The session, and operations, which wait to be used | |
 //! |---|---|
@@ -30,7 +30,7 @@
 //! | `written` | the delta of the operations, and its octets, which stand in place of those that were there |
 //! | `spell` | the octets of the delta of the operations stand behind those that are there; nothing is printed |
 //! | `client NAME` | whether a client may have this name |
-//! | `octets HEX ..`, `behind HEX ..` | these octets; these stand behind those that are there |
+//! | `octets OCTETS ..`, `behind OCTETS ..` | these octets; these stand behind those that are there |
 //! | `set AT HEX`, `fill COUNT`, `cut COUNT` | an octet is another; octets of 0 behind, up to so many; the first so many are left |
 //! | `print`, `size` | the octets; how many there are |
 //! | `read`, `count` | the delta that they spell; how many operations it has |
@@ -54,13 +54,18 @@
 //! | `slots` | the octets of both slots |
 //! | `open GATEWAY` | the journal of a gateway is opened: its records |
 //! | `append` | the delta of the operations is a new record |
-//! | `halted` | whether the journal has stopped, and whether memory was refused |
-//! | `close` | the journal is closed; `store`, `fail`, `crash`, `slots`, `open` and the two below want it so |
-//! | `openings GATEWAY SLOT` | for each beginning of the octets, and all: the disk with these behind what the slot has is opened |
-//! | `appends GATEWAY COUNT` | for each number up to this one: on the disk as it is the append of the operations stops behind so many octets, all that went out is left, and the journal is opened again |
+//! | `compact` | the operations, each a record by itself, take the place of all records |
+//! | `reopen` | the journal is opened once more as it stands: its records |
+//! | `halt` | the journal is stopped |
+//! | `halted` | whether it has stopped, and whether memory was refused |
+//! | `place` | the slot that it writes |
+//! | `close` | the journal is closed; `store`, `fail`, `crash`, `slots`, `open` and the three below want it so |
+//! | `openings GATEWAY SLOT` | for each beginning of the octets, and all: the disk with these behind what the slot has is opened; the slot that is read, and its octets |
+//! | `appends GATEWAY COUNT` | for each number up to this one: on the disk as it is an `append` stops behind so many octets, a crash leaves what went out, and the journal is opened; neighbours share a line |
+//! | `compactions GATEWAY COUNT` | the same of a `compact` |
 //!
 //! - `row`: what the lines of a row have brought about (`Row`), and the play of one more.
-//! - `fields`, `operations`, `changes`: lines that are read.
+//! - `fields`, `names`, `operations`, `changes`: lines that are read.
 //! - `deltas`, `replicas`, `journals`, `attempts`: lines that are played.
 //! - `words`, `printing`, `runs`: what is printed.
 //! - `stop`: why a line is not played.
@@ -71,6 +76,7 @@ mod changes;
 mod deltas;
 mod fields;
 mod journals;
+mod names;
 mod operations;
 mod printing;
 mod replicas;
@@ -79,6 +85,8 @@ mod runs;
 mod stop;
 mod words;
 
+use crate::fields::fields;
+use crate::names::Names;
 use crate::row::{Row, begin, play};
 use crate::stop::Stop;
 use anyhow::Result;
@@ -91,16 +99,23 @@ const MARK: &str = "== ";
 fn main(rt: HostRuntime) -> Result<()> {
     let alloc = rt.alloc();
     let mut row = begin(alloc)?;
+    let mut names = names::none(alloc);
     let mut printed = String::new(alloc);
     for line in rt.lines(alloc) {
-        answer(alloc, &mut printed, &mut row, line?.as_str())?;
+        answer(alloc, &mut printed, &mut row, &mut names, line?.as_str())?;
     }
     io::writer(&rt).write_all(printed.as_bytes())?;
     Ok(())
 }
 
 /// Plays a line; one that is none of the language is told.
-fn answer(alloc: Global, text: &mut String, row: &mut Row, line: &str) -> Result<(), Stop> {
+fn answer(
+    alloc: Global,
+    text: &mut String,
+    row: &mut Row,
+    names: &mut Names,
+    line: &str,
+) -> Result<(), Stop> {
     if line.is_empty() || line.starts_with('#') {
         return Ok(());
     }
@@ -108,9 +123,24 @@ fn answer(alloc: Global, text: &mut String, row: &mut Row, line: &str) -> Result
         *row = begin(alloc)?;
         return Ok(writeln!(text, "== {name}")?);
     }
-    match play(alloc, text, row, line) {
+    match play_line(alloc, text, row, names, line) {
         Ok(()) => Ok(()),
         Err(Stop::Line) => Ok(writeln!(text, "no such line: {line}")?),
         Err(Stop::Memory) => Err(Stop::Memory),
+    }
+}
+
+/// Plays a line that is a name for octets, or a row's.
+fn play_line(
+    alloc: Global,
+    text: &mut String,
+    row: &mut Row,
+    names: &mut Names,
+    line: &str,
+) -> Result<(), Stop> {
+    let words = fields(alloc, line)?;
+    match words.as_slice() {
+        ["name", rest @ ..] => names::add(alloc, names, rest),
+        words => play(alloc, text, row, names, words),
     }
 }

@@ -1,13 +1,13 @@
 //! A row: what its lines have brought about so far, and the play of one more.
 
 use crate::attempts::{appends, compactions, openings};
-use crate::fields::fields;
 use crate::journals::Store;
+use crate::names::Names;
 use crate::operations::{
     ack_op, ack_ops, apply, described, put_op, put_ops, session_op, session_ops,
 };
 use crate::stop::Stop;
-use crate::{deltas, journals, replicas};
+use crate::{deltas, journals, names, replicas};
 use rep_ops::Op;
 use rep_plain::Plain;
 use sn_session::Session;
@@ -42,10 +42,10 @@ pub(crate) fn play(
     alloc: Global,
     text: &mut String,
     row: &mut Row,
-    line: &str,
+    names: &Names,
+    words: &[&str],
 ) -> Result<(), Stop> {
-    let words = fields(alloc, line)?;
-    let Some((first, rest)) = words.as_slice().split_first() else {
+    let Some((first, rest)) = words.split_first() else {
         return Err(Stop::Line);
     };
     match *first {
@@ -62,7 +62,7 @@ pub(crate) fn play(
             play_writing(alloc, text, &mut row.store, ops, first, rest)
         }
         "octets" | "behind" | "set" | "fill" | "cut" => {
-            play_octets(alloc, &mut row.octets, first, rest)
+            play_octets(alloc, names, &mut row.octets, first, rest)
         }
         "none" | "client" | "print" | "size" | "read" | "count" | "altered" | "beginnings" => {
             play_reading(alloc, text, &row.octets, first, rest)
@@ -145,16 +145,17 @@ fn play_writing(
 /// Lines that make octets.
 fn play_octets(
     alloc: Global,
+    names: &Names,
     octets: &mut Vec<u8>,
     first: &str,
     rest: &[&str],
 ) -> Result<(), Stop> {
     match first {
         "octets" => {
-            *octets = deltas::given(alloc, rest)?;
+            *octets = names::octets(alloc, names, rest)?;
             Ok(())
         }
-        "behind" => deltas::behind(alloc, octets, rest),
+        "behind" => deltas::behind(alloc, names, octets, rest),
         "set" => deltas::set(alloc, octets, rest),
         "fill" => deltas::fill(octets, rest),
         _ => deltas::cut(octets, rest),

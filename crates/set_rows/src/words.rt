@@ -22,7 +22,7 @@ pub(crate) fn word(alloc: Global, octets: &[u8]) -> Result<String, AllocError> {
 }
 
 /// Octets in hexadecimal digits, `-` for none.
-pub(crate) fn digits(alloc: Global, octets: &[u8]) -> Result<String, AllocError> {
+pub(crate) fn shown_octets(alloc: Global, octets: &[u8]) -> Result<String, AllocError> {
     match octets {
         [] => String::from_str(alloc, "-"),
         _ => hex::encode(alloc, octets),
