@@ -2,6 +2,7 @@
 use Rattle.std.proofs.Common.{◌≡◌, ℕ, Bool, true, false, ◌||◌, List, [], ◌∷◌, ◌++◌, length, take, min, Option, Some, None, Result, Ok, Err, refl, sym, ap, subst, ◌∙◌, arith}
 use Rattle.std.specs.Prelude.{IsTrue, IfErr, OnOk, OnErr, IsErr, IsErrAnd}
 use Rattle.std.specs.Result.{is_err}
+use Rattle.std.proofs.lemmas.Bool.{and_parts, eqb-true}
 use Rattle.std.proofs.lemmas.List.{take_all}
 use Rattle.rep_ops.specs.declared.op.Op.{Op}
 use Rattle.jr_journal.specs.declared.disk.Slot.{Slot}
@@ -11,7 +12,7 @@ use Rattle.jr_journal.specs.declared.disk.DiskFault.{DiskFault}
 use Rattle.jr_journal.specs.declared.disk.Plan.TheVariants.{Stop, KeepBack, FailSync}
 use Rattle.jr_journal.specs.declared.piece.Found.{Found}
 use Rattle.jr_journal.specs.Disk.{SlotBytes, Slots, at, replaced, image, appended, all_synced, AppendsAs, SyncsAs}
-use Rattle.jr_journal.specs.Records.{IsReadable, written, records}
+use Rattle.jr_journal.specs.Records.{IsReadable, written, slot_content, generation_in, records}
 use Rattle.jr_journal.specs.Journals.{is_in_use, Leaves, LeavesOneMore, after_append, AppendedAs}
 use Rattle.jr_journal.proofs.Calm.{Outlook}
 use Rattle.jr_journal.proofs.Settled.{IsUsed, in_use_shape, in_use_again, used_leaves, used_records, more_leaves, synced_used}
@@ -38,6 +39,10 @@ IsKept gateway slot generation halted d = IsTrue (halted || is_in_use gateway sl
 pub going_on : (gateway : ℕ) (slot : Slot) (generation : ℕ) (halted : Bool) (d : Slots) → IsKept gateway slot generation halted d → halted ≡ false → (f : Found) × IsUsed gateway slot d generation f
 going_on gateway slot generation true d h e = absurd cc
 going_on gateway slot generation false d h e = in_use_shape gateway slot generation d h
+
+pub number_kept : (gateway : ℕ) (slot : Slot) (generation : ℕ) (halted : Bool) (d : Slots) → IsKept gateway slot generation halted d → halted ≡ false → generation ≡ generation_in (slot_content gateway (at d slot).synced)
+number_kept gateway slot generation true d h e = absurd cc
+number_kept gateway slot generation false d h e = sym (eqb-true (generation_in (slot_content gateway (at d slot).synced)) generation (and_parts _ _ h).1)
 
 pub torn_after : (gateway : ℕ) (slot : Slot) (generation : ℕ) (halted : Bool) (old new : Slots) (delta : List Op) (bytes : List ℕ) (w : ℕ) → IsKept gateway slot generation halted old → halted ≡ false → IsReadable delta → bytes ≡ written delta
     → new ≡ replaced old slot (appended (at old slot) (take w bytes)) → LeavesOneMore gateway new (records gateway (image old)) delta
