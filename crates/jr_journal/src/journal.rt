@@ -158,7 +158,7 @@ impl<D: Disk + Drop> Journal<D> {
         ensures known { D.honest → D.starved (disk_of self.new) ≡ false → IsTried result →
             AppendedAs (D.outlook (disk_of self.old)) (emptied (D.slots (disk_of self.old)) (beside (slot_of self.old))) (beside (slot_of self.old)) (base_bytes (gateway_of self.old) (generation_of self.old + 1) base.now) result (D.slots (disk_of self.new)) (D.outlook (disk_of self.new)) }
     {
-        if self.halted {
+        if self.is_halted() {
             return Err(JournalFault::Halted);
         }
         let Some(generation) = self.generation.checked_add(1) else {
