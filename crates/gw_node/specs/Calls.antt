@@ -91,7 +91,7 @@ IsNoted old (op ∷ ops) new = IsWritten old (op ∷ ops) new
 pub record IsTaken {D : Type 0} {G : Ghosts D} (old : State G) (delta : List Op) (new : State G) : Type 0 where
   pub config : new.config ≡ old.config
   pub records : new.records ≡ old.records
-  pub delta : IsDelta delta
+  pub is_delta : IsDelta delta
   pub fits : Fits old.kept delta
   pub kept : IsKeptOf (old.kept ++ delta) new.kept
   pub local : new.local ≡ owned old.config.gateway (seen_of new.kept) old.local
@@ -104,7 +104,7 @@ pub record IsLeft {D : Type 0} {G : Ghosts D} (old : State G) (delta : List Op) 
   pub records : new.records ≡ old.records
   pub kept : new.kept ≡ old.kept
   pub local : new.local ≡ old.local
-  pub delta : IsDelta delta
+  pub is_delta : IsDelta delta
   pub fits : Fits old.kept delta
   pub failed : IsFailed old.journal delta new.journal
 
