@@ -190,8 +190,8 @@ fn want_of_memory(fault: &NodeFault) -> WorldFault
 {
     match fault {
         NodeFault::Memory => WorldFault::Memory,
-        NodeFault::Frame(_) | NodeFault::Halted | NodeFault::Disk { .. } => unreachable!(),
-        NodeFault::Conflict(_) | NodeFault::Full | NodeFault::Exhausted => unreachable!(),
+        NodeFault::Frame { .. } | NodeFault::Halted | NodeFault::Disk { .. } => unreachable!(),
+        NodeFault::Conflict { .. } | NodeFault::Full | NodeFault::Exhausted => unreachable!(),
         NodeFault::Journal { .. } => unreachable!(),
     }
 }
