@@ -61,10 +61,10 @@ pub record IsSame (old new : Gateway) : Type 0 where
   pub drive : new.drive ≡ old.drive
 
 -- a delta was taken, and the disk is as it leaves it
-pub record IsMore (old : Gateway) (delta : List Op) (drive : Drive) (new : Gateway) : Type 0 where
+pub record IsMore (old : Gateway) (delta : List Op) (written : Drive) (new : Gateway) : Type 0 where
   pub fits : Fits old.taken delta
   pub kept : IsKeptOf (old.taken ++ delta) new.taken
-  pub drive : new.drive ≡ drive
+  pub drive : new.drive ≡ written
   pub lasts : LastsMore old delta new
 
 -- operations, if there are any, became one delta, and it was taken
