@@ -98,7 +98,7 @@ answers old asked (Err (refusals.Journal fault)) new h = absurd h
 compacts : {D : Type 0} {G : Ghosts D} (old : State G) (answer : Result Out Refusal) (new : State G) → CompactCall old answer new → Fails old.journal (failed answer) new.journal
 compacts old (Ok out) new h = omega (arith, h.2.rewritten.failures)
 compacts old (Err refusals.Halted) new h = untouched old.journal new.journal h.1.journal
-compacts old (Err (refusals.Journal journal_faults.Foreign)) new h = untouched old.journal new.journal h.2.journal
+compacts old (Err (refusals.Journal journal_faults.Foreign)) new h = untouched old.journal new.journal h.3.journal
 compacts old (Err (refusals.Journal journal_faults.Disk)) new h = absurd h
 compacts old (Err (refusals.Journal journal_faults.Halted)) new h = absurd h
 compacts old (Err (refusals.Journal journal_faults.Memory)) new h = absurd h
