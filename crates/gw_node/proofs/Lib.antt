@@ -6,4 +6,5 @@ pub mod Proper
 pub mod Roomy
 pub mod Taken
 pub mod Started
+pub mod Reopened
 pub mod Failing

@@ -1,6 +1,7 @@
 -- A delta contradicts nothing, and neither do records with one more that agrees with them.
-use Rattle.std.proofs.Common.{◌≡◌, ℕ, List, [], ◌∷◌, ◌++◌, Option, Some, None, IfSome, refl, sym, subst, inl, inr}
+use Rattle.std.proofs.Common.{◌≡◌, ℕ, ◌≤◌, true, List, [], ◌∷◌, ◌++◌, Option, Some, None, IfSome, refl, sym, subst, inl, inr}
 use Rattle.std.specs.List.{AllByRecursion}
+use Rattle.std.proofs.lemmas.Bool.{and_from, le-leb, eq-eqb}
 use Rattle.rep_ops.specs.declared.op.Op.{Op}
 use Rattle.rep_ops.specs.declared.op.Op.TheVariants.{Session as OfSession, Put as OfPut, Ack}
 use Rattle.rep_ops.specs.Deltas.{IsDelta, HasTwice}
@@ -9,7 +10,7 @@ use Rattle.rep_ops.specs.Sets.{operation_of, operation_at, put_of, put_at, ackno
 use Rattle.rep_ops.proofs.Joined.{rising_ascending}
 use Rattle.rep_ops.proofs.Rising.{rising_apart}
 use Rattle.rep_ops.proofs.Sets.{IsIn, find_of, operation_exact, put_exact, operations_single, puts_single, any_in}
-use Rattle.rep_ops.proofs.Canonical.{same_itself, covered}
+use Rattle.sn_flow.proofs.Entries.{same_client-itself}
 use Rattle.rep_model.specs.Taking.{AllAgree}
 use Rattle.rep_model.proofs.Joins.{all-weaker}
 use Rattle.rep_model.proofs.Agreeing.{consistent-together}
@@ -18,13 +19,16 @@ use Rattle.gw_node.proofs.Between.{ops_of_more}
 
 -- ---- a delta
 
+covered : (c : List ℕ) (r f l seq : ℕ) → f ≤ seq → seq ≤ l → acknowledges c (seq, r) (Ack c r f l) ≡ true
+covered c r f l seq from upto = and_from _ _ (and_from _ _ (and_from _ _ (same_client-itself c) (eq-eqb r r refl)) (le-leb f seq from)) (le-leb seq l upto)
+
 module _ (d : List Op) (once : ¬ (HasTwice d)) where
   stands_in : (op : Op) → IsIn op d → Stands d op
   stands_in (OfSession c s i o) place =
-      let here : operation_of c (OfSession c s i o) ≡ Some ((s, i), o) = rw (same_itself c) refl in
+      let here : operation_of c (OfSession c s i o) ≡ Some ((s, i), o) = rw (same_client-itself c) refl in
       find_of operation_cmp operation_exact (operation_of c) (s, i) o d (λ y w p is. operations_single c d once y (OfSession c s i o) (s, i) w o p place is here) (OfSession c s i o) here place
   stands_in (OfPut c p) place =
-      let here : put_of c (OfPut c p) ≡ Some ((p.seq, p.origin), p) = rw (same_itself c) refl in
+      let here : put_of c (OfPut c p) ≡ Some ((p.seq, p.origin), p) = rw (same_client-itself c) refl in
       find_of put_cmp put_exact (put_of c) (p.seq, p.origin) p d (λ y w q is. puts_single c d once y (OfPut c p) (p.seq, p.origin) w p q place is here) (OfPut c p) here place
   stands_in (Ack c origin first last) place = λ seq from upto. any_in (acknowledges c (seq, origin)) (Ack c origin first last) d (covered c origin first last seq from upto) place
 

@@ -1,6 +1,7 @@
 -- A node that is opened.
 use Rattle.std.proofs.Common.{◌≡◌, ℕ, ◌+◌, false, slice_get, List, [], ◌∷◌, ◌++◌, length, take, drop, get_or, ◌<◌, ◌≤◌, Some, None, Result, Ok, Err, IfOk, IfErr, OnOk, inl, inr, refl, sym, ap, ◌∙◌, subst}
 use Rattle.std.proofs.lemmas.List.{drop_all, drop_more, take_more}
+use Rattle.std.proofs.lemmas.Option.{none-some}
 use Rattle.rep_ops.specs.declared.op.Op.{Op}
 use Rattle.rep_model.specs.Keep.{CountsAs, IsKeptOf}
 use Rattle.rep_model.specs.Taking.{Fits}
@@ -29,6 +30,7 @@ use Rattle.gw_node.specs.Opening.{IsStarted, GoesOnIn, FitInTurn, HasMisfit, DoN
 use Rattle.gw_node.specs.Keeping.{Keeps}
 use Rattle.gw_node.proofs.Keeping.{keeps_more}
 use Rattle.gw_node.proofs.Between.{ops_of_more}
+use Rattle.gw_node.proofs.Roomy.{no_full, no_conflict}
 use Rattle.gw_node.proofs.Taken.{StandFor, records_stand, read_again, read_back, all_left}
 
 -- ---- deltas, one after the other
@@ -223,3 +225,15 @@ pub started_fits : {T E : Type 0} (r : Result T E) (gateway : ℕ) (old : Slots)
     → OnOk r (FitInTurn [] deltas) → OnOk r (FitInTurn [] (records gateway (image old)))
 started_fits (Ok x) gateway old deltas is h = subst (λ (ds : List (List Op)). FitInTurn [] ds) is h
 started_fits (Err e) gateway old deltas is h = tt
+
+-- ---- the law of openings
+
+pub wants_memory : (gateway : ℕ) (S refused : List Op) (i : Image) (refusal : Refusal) → StandsFor gateway S refused i → IsOpenFault gateway i refusal → (IsDiskFault refusal → ⊥) → refusal ≡ refusals.Memory
+wants_memory gateway S refused i refusals.Memory h why disk = refl
+wants_memory gateway S refused i (refusals.Journal fault) h why disk = absurd (none-some fault (sym h.sound ∙ why))
+wants_memory gateway S refused i (refusals.Conflict client) h why disk = absurd (no_conflict (records gateway i) h.proper client why)
+wants_memory gateway S refused i refusals.Full h why disk = absurd (no_full (records gateway i) h.roomy why)
+wants_memory gateway S refused i (refusals.Disk excuse) h why disk = absurd (disk tt)
+wants_memory gateway S refused i (refusals.Frame fault) h why disk = absurd why
+wants_memory gateway S refused i refusals.Halted h why disk = absurd why
+wants_memory gateway S refused i refusals.Exhausted h why disk = absurd why

@@ -296,11 +296,11 @@ module _ {D : Type 0} {G : Ghosts D} where
   -- ---- calls
 
   pub take_carries_on : (old new : State G) (delta : List Op) (answer : Result Out Refusal) → TakeCall old delta answer new → CarriesOn old delta answer new
-  take_carries_on old new delta (Ok out) (runs, empty, h) = noted old new delta h.delta h.fits h.kept h.noted
+  take_carries_on old new delta (Ok out) (runs, empty, h) = noted old new delta h.is_delta h.fits h.kept h.noted
   take_carries_on old new delta (Err refusals.Halted) h = unchanged old new h.1
   take_carries_on old new delta (Err (refusals.Conflict client)) (runs, misfit, h) = unchanged old new h
   take_carries_on old new delta (Err refusals.Full) (runs, misfit, h) = unchanged old new h
-  take_carries_on old new delta (Err (refusals.Disk excuse)) (runs, empty, h) = no_more old new delta h.delta h.fits h.kept h.failed
+  take_carries_on old new delta (Err (refusals.Disk excuse)) (runs, empty, h) = no_more old new delta h.is_delta h.fits h.kept h.failed
   take_carries_on old new delta (Err refusals.Memory) h = unchanged old new h
   take_carries_on old new delta (Err (refusals.Frame fault)) h = absurd h
   take_carries_on old new delta (Err refusals.Exhausted) h = absurd h
@@ -363,7 +363,7 @@ module _ {D : Type 0} {G : Ghosts D} where
   pub compact_carries_on : (old new : State G) (answer : Result Out Refusal) → CompactCall old answer new → TakesNothing old new
   compact_carries_on old new (Ok out) (runs, empty, h) = rewritten old new h.base h.held h.kept h.rewritten
   compact_carries_on old new (Err refusals.Halted) h = unchanged old new h.1
-  compact_carries_on old new (Err (refusals.Journal journal_faults.Foreign)) h = unchanged old new h.2
+  compact_carries_on old new (Err (refusals.Journal journal_faults.Foreign)) h = unchanged old new h.3
   compact_carries_on old new (Err (refusals.Journal journal_faults.Disk)) h = absurd h
   compact_carries_on old new (Err (refusals.Journal journal_faults.Halted)) h = absurd h
   compact_carries_on old new (Err (refusals.Journal journal_faults.Memory)) h = absurd h

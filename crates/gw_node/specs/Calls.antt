@@ -27,7 +27,7 @@ use Rattle.gw_node.specs.declared.step.Step.{Step}
 use Rattle.gw_node.specs.declared.step.Step.TheVariants as steps
 use Rattle.gw_node.specs.Occasions.{Occasion, Datagram, Clock, IsNoFrame}
 use Rattle.gw_node.specs.Parts.{State, is_halted, IsUnchanged, IsUntouched, only_sends}
-use Rattle.gw_node.specs.Writing.{IsWritten, IsFailed, IsRewritten, IsNotRewritten}
+use Rattle.gw_node.specs.Writing.{IsWritten, IsFailed, IsRewritten, IsNotRewritten, IsNumbered}
 use Rattle.gw_node.specs.Excuses.{IsExcuse}
 use Rattle.gw_node.specs.Plans.{IsPlanFor, IsMisfit, MakeNoDelta, Makes}
 use Rattle.gw_node.specs.Opening.{ReopenCall}
@@ -91,7 +91,7 @@ IsNoted old (op ∷ ops) new = IsWritten old (op ∷ ops) new
 pub record IsTaken {D : Type 0} {G : Ghosts D} (old : State G) (delta : List Op) (new : State G) : Type 0 where
   pub config : new.config ≡ old.config
   pub records : new.records ≡ old.records
-  pub delta : IsDelta delta
+  pub is_delta : IsDelta delta
   pub fits : Fits old.kept delta
   pub kept : IsKeptOf (old.kept ++ delta) new.kept
   pub local : new.local ≡ owned old.config.gateway (seen_of new.kept) old.local
@@ -104,7 +104,7 @@ pub record IsLeft {D : Type 0} {G : Ghosts D} (old : State G) (delta : List Op) 
   pub records : new.records ≡ old.records
   pub kept : new.kept ≡ old.kept
   pub local : new.local ≡ old.local
-  pub delta : IsDelta delta
+  pub is_delta : IsDelta delta
   pub fits : Fits old.kept delta
   pub failed : IsFailed old.journal delta new.journal
 
@@ -192,7 +192,8 @@ pub record IsNotCompacted {D : Type 0} {G : Ghosts D} (old new : State G) : Type
 -- journal cannot be written; or it is written anew. Nothing is sent.
 abbrev pub CompactCall : {D : Type 0} {G : Ghosts D} → State G → Result Out Refusal → State G → Type 0
 CompactCall old (Err refusals.Halted) new = (is_halted old ≡ true) × IsUnchanged old new
-CompactCall old (Err (refusals.Journal journal_faults.Foreign)) new = (is_halted old ≡ false) × (generation_of old.journal ≡ last_generation) × IsUnchanged old new
+CompactCall old (Err (refusals.Journal journal_faults.Foreign)) new =
+    (is_halted old ≡ false) × (generation_of old.journal ≡ last_generation) × IsNumbered old.journal × IsUnchanged old new
 CompactCall old (Err (refusals.Journal journal_faults.Disk)) new = ⊥
 CompactCall old (Err (refusals.Journal journal_faults.Halted)) new = ⊥
 CompactCall old (Err (refusals.Journal journal_faults.Memory)) new = ⊥
