@@ -1,11 +1,19 @@
 -- A node whose disk does not fail goes on.
-use Rattle.std.proofs.Common.{◌≡◌, ℕ, ◌+◌, zero, suc, true, false, List, [], ◌∷◌, ◌++◌, set, slice_get, Option, Some, None, Result, Ok, Err, IfOk, OnOk, refl, sym, ap, ◌∙◌, subst, true≢false}
+use Rattle.std.proofs.Common.{◌≡◌, ℕ, ◌+◌, zero, suc, Bool, true, false, append-nil, inl, List, [], ◌∷◌, ◌++◌, set, slice_get, Option, Some, None, Result, Ok, Err, IfOk, OnOk, refl, sym, ap, ◌∙◌, subst, true≢false}
+use Rattle.std.specs.Prelude.{IsTrue}
 use Rattle.std.specs.List.{AllByRecursion}
 use Rattle.rep_ops.specs.declared.op.Op.{Op}
+use Rattle.rep_ops.specs.Sets.{Within, IsConsistent}
+use Rattle.rep_model.specs.Roomy.{IsRoomy}
+use Rattle.rep_model.proofs.Joins.{counts-refl}
 use Rattle.jr_journal.specs.declared.disk.Disk.{Ghosts}
 use Rattle.jr_journal.specs.declared.fault.JournalFault.TheVariants as journal_faults
-use Rattle.jr_journal.specs.Records.{written, base_bytes}
-use Rattle.jr_journal.specs.Disk.{EachCrash}
+use Rattle.jr_journal.specs.declared.disk.Plan.{Plan}
+use Rattle.jr_journal.specs.Records.{written, base_bytes, records, slot_content}
+use Rattle.jr_journal.specs.Faults.{fault_of}
+use Rattle.jr_journal.specs.Disk.{Image, image, left_of, after_crash, EachCrash}
+use Rattle.jr_journal.specs.Memory.{MemoryState, crashed_disk}
+use Rattle.jr_journal.specs.Opening.{recovered, is_quiet}
 use Rattle.jr_journal.specs.Journals.{other, emptied, AppendedAs}
 use Rattle.jr_journal.specs.Parts.{disk_of, slot_of, generation_of, gateway_of}
 use Rattle.sn_flow.specs.declared.config.Config.{Config}
@@ -18,10 +26,15 @@ use Rattle.gw_node.specs.Writing.{IsWritten, IsFailed, IsRewritten, IsNotRewritt
 use Rattle.gw_node.specs.Plans.{Makes as MakesAll}
 use Rattle.gw_node.specs.Calls.{OwnCall, TakeCall, CompactCall, IsNoted}
 use Rattle.gw_node.specs.Carrying.{made_by, TakesMore, TakesNothing, CarriesOn, OwnCarriesOn}
-use Rattle.gw_node.specs.Taking.{StandsFor, HasTaken}
-use Rattle.gw_world.specs.Drives.{Drive, with_record, noted, compacted}
+use Rattle.gw_node.specs.Keeping.{Keeps}
+use Rattle.gw_node.specs.Opening.{IsStarted, GoesOnIn, IsOpenFault, IsDiskFault}
+use Rattle.gw_node.specs.Taking.{ops_of, IsBetween, IsWhole, StandsFor, HasTaken}
+use Rattle.gw_node.proofs.Started.{wants_memory}
+use Rattle.gw_world.specs.Gateways.{new_gateway}
+use Rattle.gw_world.specs.Drives.{Drive, new_drive, with_record, noted, compacted, left_by, opened_again}
 use Rattle.gw_world.specs.Keeping.{Lasts}
-use Rattle.gw_world.specs.Plans.{LastsMore, IsSame, OwnKept, TakeKept, CompactKept, Makes}
+use Rattle.gw_world.specs.Plans.{LastsMore, IsSame, OwnKept, TakeKept, CompactKept, IsRestarted, Makes}
+use Rattle.gw_world.specs.Events.{IsSafe}
 use Rattle.gw_world.specs.Calm.{IsCalm, IsFed, drive_of, held_of, StaysCalm}
 
 -- ---- lists
@@ -39,6 +52,34 @@ all_set P (y ∷ xs) (suc i) x h p = (h.0, all_set P xs i x h.1 p)
 -- drives of the same parts
 pub same_parts : (one other : Drive) → one.slots ≡ other.slots → one.slot ≡ other.slot → one.generation ≡ other.generation → one ≡ other
 same_parts one other slots slot generation = λ i. record { slots = slots i; slot = slot i; generation = generation i }
+
+-- ---- an empty disk
+
+no_records : (gateway : ℕ) → records gateway (record { first = []; second = [] }) ≡ []
+unfolding slot_content
+no_records gateway = refl
+
+pub empty_records : (gateway : ℕ) (i : Image) → i ≡ record { first = []; second = [] } → records gateway i ≡ []
+empty_records gateway i e = ap (λ (j : Image). records gateway j) e ∙ no_records gateway
+
+nothing_within : Within [] []
+nothing_within = record { operations_in = λ c name x e. e; puts_in = λ c name x e. e; acknowledgements_in = λ c name e. e }
+
+none_roomy : IsRoomy []
+none_roomy zero = refl
+none_roomy (suc k) = refl
+
+-- it stands for nothing
+stands_empty : (gateway : ℕ) (i : Image) → i ≡ record { first = []; second = [] } → fault_of gateway i ≡ None → StandsFor gateway [] [] i
+stands_empty gateway i empty sound =
+    let none = sym (empty_records gateway i empty) in
+    record {
+      sound = sound;
+      between = subst (λ (ds : List (List Op)). IsBetween [] [] (ops_of ds)) none (record { lower = nothing_within; upper = nothing_within });
+      whole = subst (λ (ds : List (List Op)). IsWhole [] [] (ops_of ds)) none (inl (counts-refl []));
+      roomy = subst IsRoomy none none_roomy;
+      proper = subst (λ (ds : List (List Op)). IsConsistent (ops_of ds)) none tt;
+    }
 
 module _ {D : Type 0} {G : Ghosts D} where
   -- what lasts at the gateway that a node is, the node has taken
@@ -67,7 +108,7 @@ module _ {D : Type 0} {G : Ghosts D} where
   }
 
   same-drive : (old new : State G) → IsUntouched old.journal new.journal → drive_of new ≡ drive_of old
-  same-drive old new u = same_parts (drive_of old) (drive_of new) (sym (ap G.slots u.disk)) (sym u.slot) (sym u.generation)
+  same-drive old new u = same_parts (drive_of new) (drive_of old) (ap G.slots u.disk) u.slot u.generation
 
   same : (old new : State G) → new.kept ≡ old.kept → IsUntouched old.journal new.journal → IsSame (held_of old) (held_of new)
   same old new kept u = record { kept = kept; drive = same-drive old new u }
@@ -193,6 +234,59 @@ module _ {D : Type 0} {G : Ghosts D} where
   compact_calm old new (Err (refusals.Conflict client)) honest calm fed memory h takes = absurd h
   compact_calm old new (Err refusals.Full) honest calm fed memory h takes = absurd h
   compact_calm old new (Err refusals.Exhausted) honest calm fed memory h takes = absurd h
+
+  -- ---- a restart
+
+  -- a node was opened where this was found
+  pub record WasOpened (config : Config) (i : Image) (new : State G) : Type 0 where
+    pub starts : IsStarted config new
+    pub keeps : Keeps (ops_of (records config.gateway i)) new.kept
+    pub durable : (S : List Op) → StandsFor config.gateway S [] i → HasTaken S [] new
+    pub place : GoesOnIn new config.gateway i
+    pub known : G.slots (disk_of new.journal) ≡ recovered config.gateway i
+
+  again : (old new : State G) (left : ℕ) → G.honest → WasOpened old.config (left_by left (drive_of old)) new → IsRestarted left (held_of old) (held_of new)
+  again old new left honest h = record {
+    local = h.starts.local;
+    drive = same_parts (drive_of new) (opened_again old.config.gateway left (drive_of old)) h.known h.place.slot h.place.generation;
+    keeps = h.keeps;
+    lasts = λ S l.
+        from_taken new honest (h.starts.gateway ∙ ap (λ (c : Config). c.gateway) (sym h.starts.configured)) S
+        (h.durable S (l.images left left));
+  }
+
+  pub restarts_so : (old new : State G) (left : ℕ) (config : Config) (i : Image) → G.honest → config ≡ old.config → i ≡ left_by left (drive_of old) → WasOpened config i new → IsRestarted left (held_of old) (held_of new)
+  restarts_so old new left config i honest same found h =
+      again old new left honest
+      (subst (λ (c : Config). WasOpened c (left_by left (drive_of old)) new) same (subst (λ (j : Image). WasOpened config j new) found h))
+
+  -- where there was nothing
+  pub opened_new : (state : State G) (config : Config) (i : Image) → i ≡ record { first = []; second = [] } → WasOpened config i state → state.kept ≡ [] → held_of state ≡ new_gateway config
+  opened_new state config i empty opened kept =
+      let h = subst (λ (j : Image). WasOpened config j state) empty opened in
+      let drive : drive_of state ≡ new_drive config.gateway = same_parts (drive_of state) (new_drive config.gateway) h.known h.place.slot h.place.generation in
+      λ j. record { config = h.starts.configured j; taken = kept j; local = h.starts.local j; drive = drive j }
+
+  pub lasts_new : (state : State G) (config : Config) (i : Image) → G.honest → i ≡ record { first = []; second = [] } → fault_of config.gateway i ≡ None → WasOpened config i state → Lasts [] (held_of state)
+  lasts_new state config i honest empty sound h =
+      from_taken state honest (h.starts.gateway ∙ ap (λ (c : Config). c.gateway) (sym h.starts.configured)) [] (h.durable [] (stands_empty config.gateway i empty sound))
+
+  -- nothing but want of memory refuses the opening
+  pub only_memory : (old : State G) (left : ℕ) (config : Config) (i : Image) (refusal : Refusal) → IsSafe (held_of old) → config ≡ old.config → i ≡ left_by left (drive_of old)
+      → IsOpenFault config.gateway i refusal → (IsDiskFault refusal → ⊥) → refusal ≡ refusals.Memory
+  only_memory old left config i refusal (S, l) same found why disk =
+      wants_memory config.gateway S [] i refusal
+      (subst (λ (c : Config). StandsFor c.gateway S [] i) (sym same) (subst (λ (j : Image). StandsFor old.config.gateway S [] j) (sym found) (l.images left left)))
+      why disk
+
+-- ---- a crash of a disk in memory
+
+pub crash_left : (left : ℕ) (d : MemoryState) → image (crashed_disk left d).slots ≡ after_crash left left d.slots
+crash_left left d = λ j. record { first = append-nil (left_of left d.slots.first) j; second = append-nil (left_of left d.slots.second) j }
+
+-- no append meets what is not arranged
+pub all_quiet : (outlook : Option (Option Plan)) (fresh : Bool) → outlook ≡ Some None → IsTrue (is_quiet outlook fresh)
+all_quiet outlook fresh e = subst (λ (o : Option (Option Plan)). IsTrue (is_quiet o fresh)) (sym e) refl
 
 -- ---- results
 

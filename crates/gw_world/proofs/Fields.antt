@@ -1,6 +1,7 @@
 -- From what all gateways keep to the field, and over a whole list of events.
-use Rattle.std.proofs.Common.{◌≡◌, ℕ, ◌+◌, ◌-◌, ◌==◌, if◌then◌else◌, zero, suc, List, [], ◌∷◌, ◌++◌, map, Some, Contains, Result, slice_get, set, refl, sym, ap, ◌∙◌, subst, append-nil, take, inl, inr}
+use Rattle.std.proofs.Common.{◌≡◌, ◌<◌, length, slice_index_or, ℕ, ◌+◌, ◌-◌, ◌==◌, if◌then◌else◌, zero, suc, List, [], ◌∷◌, ◌++◌, map, Some, Contains, Result, slice_get, set, refl, sym, ap, ◌∙◌, subst, append-nil, take, inl, inr}
 use Rattle.std.specs.List.{AllByRecursion}
+use Rattle.std.proofs.lemmas.List.{take_more}
 use Rattle.std.proofs.lemmas.Option.{slice_get_within, get_or_from_slice_get}
 use Rattle.rep_ops.specs.declared.op.Op.{Op}
 use Rattle.rep_model.specs.Views.{view}
@@ -30,6 +31,7 @@ use Rattle.gw_world.specs.Keeping.{Lasts, IsShown, AreShown}
 use Rattle.gw_world.specs.Worlds.{IsWorld, IsStop}
 use Rattle.gw_node.proofs.Keeping.{keeps_nothing}
 use Rattle.gw_world.proofs.Consistency.{field-steady, field-agrees}
+use Rattle.gw_world.proofs.Calmness.{all_push}
 use Rattle.gw_world.proofs.Shown.{own_taken, take_taken, compact_taken, restart_taken, ask_taken}
 use Rattle.gw_world.proofs.Steadiness.{plan-agrees}
 
@@ -113,7 +115,7 @@ module _ (field : Field) (r : IsReached field) (ks : List Gateway) (s : AreShown
       → ((i : ℕ) × (place_of (gateway_of event) ks ≡ Some i) × OwnAnswered ks deltas i occasion now news next (Node answer)) → Reaches field event (Node answer) news next
   own_reaches deltas listed event occasion now news next answer is (i, place, ((old, new, moves, kept), (writable, is_next))) =
       let at = shown_at field.gateways ks i old s moves.place in
-      let here = (place_there (gateway_of event) i place, at.place) in
+      let here : IsAt field (gateway_of event) i at.gateway = (place_there (gateway_of event) i place, at.place) in
       let leads = own_taken at.gateway old at.shown new moves.configured occasion now (said answer) (own_agrees field r (gateway_of event) i at.gateway here occasion now) kept writable in
       let field_after : Field = record { gateways = set field.gateways i leads.next; deltas = field.deltas ++ made_of (said answer) } in
       record {
@@ -281,6 +283,23 @@ views_shown held (g ∷ gs) (n ∷ nodes) s zero gateway node e f c =
     let is_node : n ≡ node = cc in
     ap (λ x. view c (held x).taken) (sym is_node) ∙ (view-counts c g.taken (held n).taken s.0.keeps.counts ∙ ap (λ (x : Gateway). view c x.taken) is_gateway)
 views_shown held (g ∷ gs) (n ∷ nodes) s (suc i) gateway node e f c = views_shown held gs nodes s.1 i gateway node e f c
+
+map_push : {A B : Type 0} (f : A → B) (xs : List A) (x : A) → map f (xs ++ x ∷ []) ≡ map f xs ++ f x ∷ []
+map_push f [] x = refl
+map_push f (y ∷ xs) x = ap (λ zs. f y ∷ zs) (map_push f xs x)
+
+-- one more gateway begins
+pub nodes_more : {N : Type 0} (f : N → Gateway) (P : N → Type 0) (configs : List Config) (k : ℕ) (config : Config) (xs ys : List N) (n : N)
+    → k < length configs → config ≡ slice_index_or configs k config → ys ≡ xs ++ n ∷ [] → f n ≡ new_gateway config → Lasts [] (f n) → P n
+    → (map f xs ≡ map new_gateway (take k configs)) × AllByRecursion (Lasts []) (map f xs) × AllByRecursion P xs
+    → (map f ys ≡ map new_gateway (take (k + 1) configs)) × AllByRecursion (Lasts []) (map f ys) × AllByRecursion P ys
+nodes_more f P configs k config xs ys n less is e same l p h =
+    let more : take (k + 1) configs ≡ take k configs ++ config ∷ [] = take_more configs k config less ∙ ap (λ x. take k configs ++ x ∷ []) (sym is) in
+    let held : map f ys ≡ map f xs ++ f n ∷ [] = ap (λ zs. map f zs) e ∙ map_push f xs n in (
+      held ∙ (λ i. h.0 i ++ same i ∷ []) ∙ sym (map_push new_gateway (take k configs) config) ∙ ap (λ zs. map new_gateway zs) (sym more),
+      subst (λ (zs : List Gateway). AllByRecursion (Lasts []) zs) (sym held) (all_push (Lasts []) (map f xs) (f n) h.1 l),
+      subst (λ zs. AllByRecursion P zs) (sym e) (all_push P xs n h.2 p),
+    )
 
 start_shown : (configs : List Config) (ks : List Gateway) → ks ≡ map new_gateway configs → AllByRecursion (Lasts []) ks → AreShown (map new_gateway configs) ks
 start_shown configs ks e l =
