@@ -1,10 +1,11 @@
 -- A node whose disk does not fail goes on.
-use Rattle.std.proofs.Common.{◌≡◌, ℕ, ◌+◌, zero, suc, Bool, true, false, append-nil, inl, List, [], ◌∷◌, ◌++◌, set, slice_get, Option, Some, None, Result, Ok, Err, IfOk, OnOk, refl, sym, ap, ◌∙◌, subst, true≢false}
+use Rattle.std.proofs.Common.{◌≡◌, ℕ, ◌+◌, zero, suc, Bool, true, false, append-nil, take, inl, List, [], ◌∷◌, ◌++◌, set, slice_get, Option, Some, None, Result, Ok, Err, IfOk, OnOk, refl, sym, ap, ◌∙◌, subst, true≢false}
 use Rattle.std.specs.Prelude.{IsTrue}
 use Rattle.std.specs.List.{AllByRecursion}
 use Rattle.rep_ops.specs.declared.op.Op.{Op}
 use Rattle.rep_ops.specs.Sets.{Within, IsConsistent}
-use Rattle.rep_model.specs.Roomy.{IsRoomy}
+use Rattle.rep_ops.specs.Splitting.{all_of}
+use Rattle.rep_model.specs.Limits.{first_passed}
 use Rattle.rep_model.proofs.Joins.{counts-refl}
 use Rattle.jr_journal.specs.declared.disk.Disk.{Ghosts}
 use Rattle.jr_journal.specs.declared.fault.JournalFault.TheVariants as journal_faults
@@ -65,7 +66,7 @@ empty_records gateway i e = ap (λ (j : Image). records gateway j) e ∙ no_reco
 nothing_within : Within [] []
 nothing_within = record { operations_in = λ c name x e. e; puts_in = λ c name x e. e; acknowledgements_in = λ c name e. e }
 
-none_roomy : IsRoomy []
+none_roomy : (k : ℕ) → first_passed (all_of (take k [])) ≡ None
 none_roomy zero = refl
 none_roomy (suc k) = refl
 
@@ -77,7 +78,7 @@ stands_empty gateway i empty sound =
       sound = sound;
       between = subst (λ (ds : List (List Op)). IsBetween [] [] (ops_of ds)) none (record { lower = nothing_within; upper = nothing_within });
       whole = subst (λ (ds : List (List Op)). IsWhole [] [] (ops_of ds)) none (inl (counts-refl []));
-      roomy = subst IsRoomy none none_roomy;
+      roomy = subst (λ (ds : List (List Op)). (k : ℕ) → first_passed (all_of (take k ds)) ≡ None) none none_roomy;
       proper = subst (λ (ds : List (List Op)). IsConsistent (ops_of ds)) none tt;
     }
 
