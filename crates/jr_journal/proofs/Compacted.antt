@@ -97,7 +97,7 @@ pub record IsCompacting (gateway : ℕ) (slot : Slot) (generation next : ℕ) (h
   pub runs : halted ≡ false
   pub readable : AllByRecursion IsReadable base
   pub number : next ≡ generation + 1
-  pub fits : next < 2 ^ 64
+  pub fits : generation + 1 < 2 ^ 64
   pub spelled : bytes ≡ base_bytes gateway next base
 
 module _ (gateway : ℕ) (slot : Slot) (generation next : ℕ) (halted : Bool) (old new : Slots) (base : List (List Op)) (bytes : List ℕ) (h : IsCompacting gateway slot generation next halted old base bytes) where
@@ -105,7 +105,7 @@ module _ (gateway : ℕ) (slot : Slot) (generation next : ℕ) (halted : Bool) (
   in_use = going_on gateway slot generation halted old h.kept h.runs
 
   fits : generation + 1 < 2 ^ 64
-  fits = let number = h.number in let small = h.fits in omega (arith, number)
+  fits = h.fits
 
   is : bytes ≡ base_bytes gateway (generation + 1) base
   is = h.spelled ∙ ap (λ n. base_bytes gateway n base) h.number

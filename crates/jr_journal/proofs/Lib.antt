@@ -7,10 +7,10 @@ pub mod Sound
 pub mod Settled
 pub mod Bases
 pub mod Readable
+pub mod Calm
 pub mod Appending
 pub mod Compacted
 pub mod Begun
 pub mod Opened
-pub mod Calm
 pub mod Quiet
 pub mod Leaving
