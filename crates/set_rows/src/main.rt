@@ -6,8 +6,9 @@
 //! octets, the empty session, an empty replica, an empty disk. The program prints each name, and below it what the lines of the row
 //! give; of a line that is none of these, `no such line` and the line.
 //!
-//! A line is words with one space between them. Numbers are decimal. Octets are words of hexadecimal digits, in as many as is pleasant;
-//! after a line `name NAME OCTETS ..`, which may stand anywhere, also the name of some. The name of a client or a topic, a filter and a message are a word each, and stand for the octets of the word; `-` is no octet.
+//! A line is words with one space between them. Numbers are decimal. Octets are words of hexadecimal digits, in as many as is
+//! pleasant; after a line `name NAME OCTETS ..`, which may stand anywhere, also the name of some. The name of a client or a topic, a
+//! filter and a message are a word each, and stand for the octets of the word; `-` is no octet.
 //!
 //! | The session, and operations, which wait to be used | |
 //! |---|---|
@@ -59,10 +60,13 @@
 //! | `halt` | the journal is stopped |
 //! | `halted` | whether it has stopped, and whether memory was refused |
 //! | `place` | the slot that it writes |
-//! | `close` | the journal is closed; `store`, `fail`, `crash`, `slots`, `open` and the three below want it so |
-//! | `openings GATEWAY SLOT` | for each beginning of the octets, and all: the disk with these behind what the slot has is opened; the slot that is read, and its octets |
-//! | `appends GATEWAY COUNT` | for each number up to this one: on the disk as it is an `append` stops behind so many octets, a crash leaves what went out, and the journal is opened; neighbours share a line |
+//! | `close` | the journal is closed |
+//! | `openings GATEWAY SLOT` | what is opened where each beginning of the octets stands behind what the slot has: the slot that is read, and its octets |
+//! | `appends GATEWAY COUNT` | what is opened behind an `append` that stops behind each number of octets up to this one, and a crash that leaves these |
 //! | `compactions GATEWAY COUNT` | the same of a `compact` |
+//!
+//! From `append` to `close` these want the journal open, all others closed. The last three try each place on a disk of its own, with what
+//! the row's disk has; neighbours that give the same share a line.
 //!
 //! - `row`: what the lines of a row have brought about (`Row`), and the play of one more.
 //! - `fields`, `names`, `operations`, `changes`: lines that are read.
