@@ -9,7 +9,7 @@ use std::test::Fail;
 
 /// The first slot behind the first record: header, seal, and the record of a client `s1` that connected for 60
 /// seconds with a clean session, under stamp 1.1 of gateway 1.
-const JOURNAL: [u8; 53] = [
+pub(crate) const JOURNAL: [u8; 53] = [
     0x53, 0x4E, 0x4A, 0x31, 0x01, 0x00, 0x00, 0x00, 0x00, 0x00, 0x00, 0x00, 0x01, 0x53, 0x44, 0x00,
     0x00, 0x00, 0x22, 0x01, 0x00, 0x00, 0x00, 0x01, 0x01, 0x02, 0x73, 0x31, 0x00, 0x00, 0x00, 0x00,
     0x00, 0x00, 0x00, 0x01, 0x01, 0x00, 0x00, 0x00, 0x01, 0x00, 0x3c, 0x00, 0x01, 0x00, 0x00, 0x00,
@@ -60,7 +60,7 @@ fn delta_of(alloc: Global, op: Result<Op, OpsFault>) -> Result<Delta, JournalFau
 }
 
 /// The delta of the record.
-fn connected(alloc: Global) -> Result<Delta, JournalFault> {
+pub(crate) fn connected(alloc: Global) -> Result<Delta, JournalFault> {
     delta_of(alloc, take(alloc))
 }
 
@@ -73,7 +73,11 @@ fn put(disk: &mut MemoryDisk, slot: Slot, bytes: &[u8]) -> Result<(), JournalFau
 }
 
 /// A disk with these bytes in its slots.
-fn disk_with(alloc: Global, first: &[u8], second: &[u8]) -> Result<MemoryDisk, JournalFault> {
+pub(crate) fn disk_with(
+    alloc: Global,
+    first: &[u8],
+    second: &[u8],
+) -> Result<MemoryDisk, JournalFault> {
     let mut disk = MemoryDisk::new(alloc);
     put(&mut disk, Slot::First, first)?;
     put(&mut disk, Slot::Second, second)?;
@@ -93,7 +97,7 @@ fn bytes_of(alloc: Global, disk: &mut MemoryDisk) -> Result<Vec<u8>, JournalFaul
 }
 
 /// Opens the journal of gateway 1: how many records it has, and the bytes of its first slot behind that.
-fn open_on(alloc: Global, disk: MemoryDisk) -> Result<(usize, Vec<u8>), JournalFault> {
+pub(crate) fn open_on(alloc: Global, disk: MemoryDisk) -> Result<(usize, Vec<u8>), JournalFault> {
     match Journal::open(alloc, disk, 1) {
         Ok((journal, deltas)) => {
             let mut disk = journal.into_disk();
@@ -207,7 +211,8 @@ fn what_is_no_journal(rt: HostRuntime) -> Result<(), Fail> {
     let foreign = Some(JournalFault::Foreign);
     assert_eq!(rt; fault_on(alloc, &altered(alloc, 4, 0x02)?, &[])?, foreign);
     assert_eq!(rt; fault_on(alloc, &JOURNAL, &JOURNAL)?, foreign);
-    assert_eq!(rt; fault_on(alloc, &JOURNAL, &[0x53])?, foreign);
+    assert_eq!(rt; fault_on(alloc, &JOURNAL, &[0x54])?, foreign);
+    assert_eq!(rt; fault_on(alloc, &JOURNAL, &[0x53])?, None);
     Ok(())
 }
 

@@ -7,6 +7,8 @@
 #[cfg(test)]
 mod changes;
 #[cfg(test)]
+mod compactions;
+#[cfg(test)]
 mod deltas;
 #[cfg(test)]
 mod journals;
