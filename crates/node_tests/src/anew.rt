@@ -38,12 +38,7 @@ fn refuse_connect(rt: &impl Abort, alloc: Global, node: &mut Node<Held, MemoryDi
 }
 
 /// The gateway is opened again, and goes on with so many records.
-fn check_reopened(
-    rt: &impl Abort,
-    alloc: Global,
-    node: &mut Node<Held, MemoryDisk>,
-    records: u64,
-) {
+fn check_reopened(rt: &impl Abort, alloc: Global, node: &mut Node<Held, MemoryDisk>, records: u64) {
     check_fault(rt, &node.reopen(alloc), 0);
     assert!(rt; !node.is_halted());
     assert_eq!(rt; node.records(), records);
