@@ -1,5 +1,5 @@
 -- The disk failed as often at least as a call was told so, whichever call it was.
-use Rattle.std.proofs.Common.{◌≡◌, ◌+◌, ◌<◌, ◌≤◌, ℕ, List, [], ◌∷◌, Option, Some, None, Result, Ok, Err, ap, arith}
+use Rattle.std.proofs.Common.{◌≡◌, ◌+◌, ◌≤◌, ℕ, List, [], ◌∷◌, Option, Some, None, Result, Ok, Err, ap, arith}
 use Rattle.rep_ops.specs.declared.op.Op.{Op}
 use Rattle.rep_digest.specs.declared.entry.ClientEntry.{ClientEntry}
 use Rattle.jr_journal.specs.declared.disk.Disk.{Ghosts}
@@ -12,7 +12,7 @@ use Rattle.gw_node.specs.declared.refusal.Refusal.TheVariants as refusals
 use Rattle.gw_node.specs.declared.step.Step.{Step}
 use Rattle.gw_node.specs.declared.step.Step.TheVariants as steps
 use Rattle.gw_node.specs.Occasions.{Occasion, Datagram, Clock}
-use Rattle.gw_node.specs.Parts.{State, IsUntouched, IsUnchanged}
+use Rattle.gw_node.specs.Parts.{State, IsUntouched}
 use Rattle.gw_node.specs.Plans.{Makes}
 use Rattle.gw_node.specs.Calls.{OwnCall, TakeCall, ViewCall, DigestCall, AnswerCall, CompactCall, StepCall, IsNoted}
 use Rattle.gw_node.specs.Opening.{ReopenCall}
@@ -98,7 +98,7 @@ answers old asked (Err (refusals.Journal fault)) new h = absurd h
 compacts : {D : Type 0} {G : Ghosts D} (old : State G) (answer : Result Out Refusal) (new : State G) → CompactCall old answer new → Fails old.journal (failed answer) new.journal
 compacts old (Ok out) new h = omega (arith, h.2.rewritten.failures)
 compacts old (Err refusals.Halted) new h = untouched old.journal new.journal h.1.journal
-compacts old (Err (refusals.Journal journal_faults.Foreign)) new h = untouched old.journal new.journal h.2.journal
+compacts old (Err (refusals.Journal journal_faults.Foreign)) new h = untouched old.journal new.journal h.3.journal
 compacts old (Err (refusals.Journal journal_faults.Disk)) new h = absurd h
 compacts old (Err (refusals.Journal journal_faults.Halted)) new h = absurd h
 compacts old (Err (refusals.Journal journal_faults.Memory)) new h = absurd h

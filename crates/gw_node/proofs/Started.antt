@@ -12,7 +12,7 @@ use Rattle.jr_journal.specs.declared.disk.Disk.{Ghosts}
 use Rattle.jr_journal.specs.declared.fault.JournalFault.{JournalFault}
 use Rattle.jr_journal.specs.declared.fault.JournalFault.TheVariants as faults
 use Rattle.jr_journal.specs.declared.journal.Journal.{Journal}
-use Rattle.jr_journal.specs.Disk.{Slots, Image, image, after_crash}
+use Rattle.jr_journal.specs.Disk.{Slots, Image, image}
 use Rattle.jr_journal.specs.Records.{records}
 use Rattle.jr_journal.specs.Faults.{fault_of, IsFault}
 use Rattle.jr_journal.specs.Journals.{Leaves}

@@ -363,7 +363,7 @@ module _ {D : Type 0} {G : Ghosts D} where
   pub compact_carries_on : (old new : State G) (answer : Result Out Refusal) → CompactCall old answer new → TakesNothing old new
   compact_carries_on old new (Ok out) (runs, empty, h) = rewritten old new h.base h.held h.kept h.rewritten
   compact_carries_on old new (Err refusals.Halted) h = unchanged old new h.1
-  compact_carries_on old new (Err (refusals.Journal journal_faults.Foreign)) h = unchanged old new h.2
+  compact_carries_on old new (Err (refusals.Journal journal_faults.Foreign)) h = unchanged old new h.3
   compact_carries_on old new (Err (refusals.Journal journal_faults.Disk)) h = absurd h
   compact_carries_on old new (Err (refusals.Journal journal_faults.Halted)) h = absurd h
   compact_carries_on old new (Err (refusals.Journal journal_faults.Memory)) h = absurd h

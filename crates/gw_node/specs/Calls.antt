@@ -27,7 +27,7 @@ use Rattle.gw_node.specs.declared.step.Step.{Step}
 use Rattle.gw_node.specs.declared.step.Step.TheVariants as steps
 use Rattle.gw_node.specs.Occasions.{Occasion, Datagram, Clock, IsNoFrame}
 use Rattle.gw_node.specs.Parts.{State, is_halted, IsUnchanged, IsUntouched, only_sends}
-use Rattle.gw_node.specs.Writing.{IsWritten, IsFailed, IsRewritten, IsNotRewritten}
+use Rattle.gw_node.specs.Writing.{IsWritten, IsFailed, IsRewritten, IsNotRewritten, IsNumbered}
 use Rattle.gw_node.specs.Excuses.{IsExcuse}
 use Rattle.gw_node.specs.Plans.{IsPlanFor, IsMisfit, MakeNoDelta, Makes}
 use Rattle.gw_node.specs.Opening.{ReopenCall}
@@ -192,7 +192,8 @@ pub record IsNotCompacted {D : Type 0} {G : Ghosts D} (old new : State G) : Type
 -- journal cannot be written; or it is written anew. Nothing is sent.
 abbrev pub CompactCall : {D : Type 0} {G : Ghosts D} → State G → Result Out Refusal → State G → Type 0
 CompactCall old (Err refusals.Halted) new = (is_halted old ≡ true) × IsUnchanged old new
-CompactCall old (Err (refusals.Journal journal_faults.Foreign)) new = (is_halted old ≡ false) × (generation_of old.journal ≡ last_generation) × IsUnchanged old new
+CompactCall old (Err (refusals.Journal journal_faults.Foreign)) new =
+    (is_halted old ≡ false) × (generation_of old.journal ≡ last_generation) × IsNumbered old.journal × IsUnchanged old new
 CompactCall old (Err (refusals.Journal journal_faults.Disk)) new = ⊥
 CompactCall old (Err (refusals.Journal journal_faults.Halted)) new = ⊥
 CompactCall old (Err (refusals.Journal journal_faults.Memory)) new = ⊥

@@ -1,5 +1,5 @@
 -- What the parts of a call come to. Only private functions cite these.
-use Rattle.std.specs.Prelude.{◌≡◌, ◌≢◌, ℕ, Bool, true, false, if◌then◌else◌, List, [], length, Option, Some, None, Result, Ok, Err}
+use Rattle.std.specs.Prelude.{◌≡◌, ◌≢◌, ℕ, Bool, true, if◌then◌else◌, List, [], length, Option, Some, None, Result, Ok, Err}
 use Rattle.rep_ops.specs.declared.op.Op.{Op}
 use Rattle.sn_frame.specs.declared.frame.Frame.{Frame}
 use Rattle.sn_frame.specs.declared.fault.FrameFault.TheVariants as frame_faults
@@ -12,7 +12,7 @@ use Rattle.sn_flow.specs.Locals.{no_local}
 use Rattle.sn_deliver.specs.Steps.{step}
 use Rattle.sn_deliver.specs.Ticking.{tick}
 use Rattle.jr_journal.specs.declared.disk.Disk.{Ghosts}
-use Rattle.jr_journal.specs.Parts.{disk_of, gateway_of, slot_of, generation_of}
+use Rattle.jr_journal.specs.Parts.{disk_of, gateway_of}
 use Rattle.gw_node.specs.declared.out.Out.{Out}
 use Rattle.gw_node.specs.declared.refusal.Refusal.{Refusal}
 use Rattle.gw_node.specs.declared.refusal.Refusal.TheVariants as refusals

@@ -5,8 +5,8 @@ use Rattle.jr_journal.specs.declared.disk.Disk.{Ghosts}
 use Rattle.jr_journal.specs.declared.fault.JournalFault.{JournalFault}
 use Rattle.jr_journal.specs.declared.fault.JournalFault.TheVariants as faults
 use Rattle.jr_journal.specs.declared.journal.Journal.{Journal}
-use Rattle.jr_journal.specs.Disk.{image}
-use Rattle.jr_journal.specs.Records.{written, base_bytes, records}
+use Rattle.jr_journal.specs.Disk.{at, image}
+use Rattle.jr_journal.specs.Records.{written, base_bytes, slot_content, generation_in, records}
 use Rattle.jr_journal.specs.Journals.{other, Leaves, LeavesOneMore, LeavesEither, after_append, AppendedAs, emptied, last_generation}
 use Rattle.jr_journal.specs.Parts.{disk_of, gateway_of, slot_of, generation_of, is_halted}
 use Rattle.gw_node.specs.declared.out.Out.{Out}
@@ -63,6 +63,11 @@ WrittenIfAny old (op ∷ ops) result new = WrittenAs old (op ∷ ops) result new
 
 -- ---- a compaction
 
+-- on an honest disk the generation is the one that the header of the slot in use tells
+abbrev pub IsNumbered : {D : Type 0} {G : Ghosts D} → Journal D G → Type 0
+IsNumbered {G = G} journal =
+    G.honest → generation_of journal ≡ generation_in (slot_content (gateway_of journal) (at (G.slots (disk_of journal)) (slot_of journal)).synced)
+
 -- The base is all that the journal holds: it is synced in the other slot, where the journal goes on, and every crash leaves it.
 pub record IsRewritten {D : Type 0} {G : Ghosts D} (old : Journal D G) (base : List (List Op)) (new : Journal D G) : Type 0 where
   pub gateway : gateway_of new ≡ gateway_of old
@@ -70,6 +75,7 @@ pub record IsRewritten {D : Type 0} {G : Ghosts D} (old : Journal D G) (base : L
   pub generation : generation_of new ≡ generation_of old + 1
   pub runs : is_halted old ≡ false
   pub goes_on : is_halted new ≡ false
+  pub number : IsNumbered old
   pub room : generation_of old ≢ last_generation
   pub failures : G.failures (disk_of old) ≤ G.failures (disk_of new)
   pub starved : G.starved (disk_of old) ≡ true → G.starved (disk_of new) ≡ true
@@ -85,6 +91,7 @@ pub record IsNotRewritten {D : Type 0} {G : Ghosts D} (old : Journal D G) (base 
   pub generation : generation_of new ≡ generation_of old
   pub runs : is_halted old ≡ false
   pub halts : is_halted new ≡ true
+  pub number : IsNumbered old
   pub room : generation_of old ≢ last_generation
   pub cause : G.failures (disk_of old) < G.failures (disk_of new)
   pub starved : G.starved (disk_of old) ≡ true → G.starved (disk_of new) ≡ true
@@ -97,7 +104,7 @@ abbrev pub RewrittenAs : {D : Type 0} {G : Ghosts D} → Journal D G → List (L
 RewrittenAs old base (Ok done) new = IsRewritten old base new
 RewrittenAs old base (Err faults.Disk) new = IsNotRewritten old base new
 RewrittenAs old base (Err faults.Halted) new = (is_halted old ≡ true) × IsUntouched old new
-RewrittenAs old base (Err faults.Foreign) new = (is_halted old ≡ false) × (generation_of old ≡ last_generation) × IsUntouched old new
+RewrittenAs old base (Err faults.Foreign) new = (is_halted old ≡ false) × (generation_of old ≡ last_generation) × IsNumbered old × IsUntouched old new
 RewrittenAs old base (Err faults.Memory) new = IsUntouched old new
 RewrittenAs old base (Err (faults.BadRecord slot at)) new = ⊥
 

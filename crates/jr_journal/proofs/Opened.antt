@@ -1,16 +1,15 @@
 -- What an opened journal is, by the image that was there.
-use Rattle.std.proofs.Common.{◌≡◌, ℕ, ◌+◌, ◌-◌, ◌<◌, ◌≤◌, Bool, true, false, cond, ◌&&◌, List, [], ◌∷◌, ◌++◌, length, take, drop, Option, Some, None, refl, sym, ap, subst, ◌∙◌, inl, inr, arith, true≢false}
-use Rattle.std.specs.Prelude.{nat_lt, ◌==◌}
+use Rattle.std.proofs.Common.{◌≡◌, ℕ, ◌+◌, ◌-◌, ◌<◌, ◌≤◌, Bool, true, false, cond, ◌&&◌, List, [], ◌∷◌, ◌++◌, length, take, drop, Some, None, refl, sym, ap, subst, ◌∙◌, inl, inr, arith}
+use Rattle.std.specs.Prelude.{nat_lt}
 use Rattle.std.specs.Str.{bytes_eq}
 use Rattle.std.proofs.Math.ListN.{drop_of_length-le}
-use Rattle.std.proofs.lemmas.Bool.{cases_lt, cases_Bool, and_from, and_parts, le-ltb, eq-eqb, ne_eqb}
+use Rattle.std.proofs.lemmas.Bool.{cases_lt, cases_Bool, and_parts, le-ltb}
 use Rattle.std.proofs.lemmas.List.{append-nil, take_all, length-take, length-append, length-drop}
 use Rattle.std.proofs.lemmas.Slice.Eq.{bytes_eq-Decides}
 use Rattle.rep_ops.specs.declared.op.Op.{Op}
 use Rattle.jr_journal.specs.declared.disk.Slot.{Slot}
 use Rattle.jr_journal.specs.declared.disk.Slot.TheVariants.{First, Second}
-use Rattle.jr_journal.specs.declared.fault.JournalFault.{JournalFault}
-use Rattle.jr_journal.specs.declared.fault.JournalFault.TheVariants.{Disk, Foreign, BadRecord, Memory, Halted}
+use Rattle.jr_journal.specs.declared.fault.JournalFault.TheVariants.{Foreign}
 use Rattle.jr_journal.specs.declared.piece.Piece.TheVariants.{Seal}
 use Rattle.jr_journal.specs.declared.piece.Found.{Found}
 use Rattle.jr_journal.specs.declared.content.SlotContent.{SlotContent}
@@ -19,14 +18,14 @@ use Rattle.jr_journal.specs.declared.opening.Opening.{Opening}
 use Rattle.jr_journal.specs.declared.opening.Opening.TheVariants.{New, Held}
 use Rattle.jr_journal.specs.Disk.{SlotBytes, Slots, Image, at, replaced, bytes_of, image, cut_to}
 use Rattle.jr_journal.specs.Records.{new_journal, magic, piece_at, made, joined, one_seal, found, slot_content, generation_in, chosen, records}
-use Rattle.jr_journal.specs.Faults.{is_nil, is_fresh, slots_fault, fault_of, IsFault}
+use Rattle.jr_journal.specs.Faults.{is_nil, is_fresh, slots_fault, fault_of}
 use Rattle.jr_journal.specs.Journals.{other, is_below, is_in_use, Leaves}
 use Rattle.jr_journal.specs.Opening.{synced_bytes, synced_image, synced_slots, reads_first, cut_end, recovered, slot_read, generation_read, opening_of, deltas_of, place_of, number_of, IsOpening, IsSized, settled, is_new}
 use Rattle.jr_journal.proofs.Pieces.{found_seal, found_nothing}
 use Rattle.jr_journal.proofs.Append.{found_inside}
-use Rattle.jr_journal.proofs.Contents.{IsSealed, sealed_shape, sealed_again, sealed_cut}
+use Rattle.jr_journal.proofs.Contents.{IsSealed, sealed_shape, sealed_cut}
 use Rattle.jr_journal.proofs.Sound.{image_at, image_of, empty_unsealed, alone_sound, used_sound}
-use Rattle.jr_journal.proofs.Settled.{IsUsed, settled_again, used_leaves, records_at}
+use Rattle.jr_journal.proofs.Settled.{IsUsed, in_use_again, used_leaves, records_at}
 
 -- ---- what is to be done, by what the slots are
 
@@ -101,10 +100,6 @@ sealed_long gateway xs m f h =
           absurd (let clash : false ≡ true = flag ∙ h.seal in cc)
       | inr le ↦ le
     ]
-
-nil_by_length : (xs : List ℕ) → is_nil xs ≡ (length xs == 0)
-nil_by_length [] = refl
-nil_by_length (x ∷ xs) = sym (ne_eqb (length (x ∷ xs)) 0 (λ e. omega (arith, e)))
 
 nil_is : (xs : List ℕ) → is_nil xs ≡ true → xs ≡ []
 nil_is [] e = refl
@@ -314,10 +309,6 @@ opening_records gateway i o h = go o (ruled gateway i o h) where
   go New r = sym (ap (λ a. chosen a (slot_content gateway i.second)) r.1 ∙ ap (λ b. chosen Unsealed b) r.2)
   go (Held slot m f n) r = sym (records_at gateway slot i m f (sealed_shape gateway (image_at i slot) m f r.0) r.1)
 
-pub in_use_again : (gateway : ℕ) (slot : Slot) (d : Slots) (m : ℕ) (f : Found) → IsUsed gateway slot d m f → is_in_use gateway slot m d ≡ true
-in_use_again gateway slot d m f h =
-    and_from _ _ (settled_again gateway slot d m f h) (eq-eqb (generation_in (slot_content gateway (at d slot).synced)) m (ap generation_in (sealed_again gateway (at d slot).synced m f h.sealed)))
-
 pub recovered_in_use : (gateway : ℕ) (i : Image) (o : Opening) → IsOpening gateway i o → is_in_use gateway (place_of o) (number_of o) (recovered gateway i) ≡ true
 recovered_in_use gateway i o h = let p = opened gateway i o h in in_use_again gateway (place_of o) (recovered gateway i) (number_of o) p.pieces p.used
 
@@ -333,55 +324,6 @@ cut_nothing s len le =
     let a : take len s.synced ≡ s.synced = take_all len s.synced (omega arith) in
     let b : take (len - length s.synced) s.unsynced ≡ s.unsynced = take_all (len - length s.synced) s.unsynced (omega arith) in
     λ j. record { synced = sym a j; unsynced = sym b j }
-
--- ---- what a reader of both slots tells
-
-told_fault : (o : Option JournalFault) (e : JournalFault) → o ≡ Some e → IsFault o e
-told_fault o Disk is = tt
-told_fault o Foreign is = is
-told_fault o (BadRecord slot from) is = is
-told_fault o Memory is = tt
-told_fault o Halted is = is
-
--- what was seen of both slots
-pub record AreSeen (gateway : ℕ) (i : Image) (first : SlotContent) (size : ℕ) (second : SlotContent) (beside : ℕ) : Type 0 where
-  pub first_is : first ≡ slot_content gateway i.first
-  pub size_is : size ≡ length i.first
-  pub second_is : second ≡ slot_content gateway i.second
-  pub beside_is : beside ≡ length i.second
-
-pub seen_fault : (gateway : ℕ) (i : Image) (first : SlotContent) (size : ℕ) (second : SlotContent) (beside : ℕ) → AreSeen gateway i first size second beside
-    → fault_of gateway i ≡ slots_fault first second ((beside == 0) && nat_lt size 14)
-seen_fault gateway i first size second beside h =
-    let fresh : is_fresh i ≡ ((beside == 0) && nat_lt size 14) =
-    ap (λ b. b && nat_lt (length i.first) 14) (nil_by_length i.second) ∙ (ap (λ n. (n == 0) && nat_lt (length i.first) 14) (sym h.beside_is) ∙ ap (λ n. (beside == 0) && nat_lt n 14) (sym h.size_is))
-    in
-    ap (λ a. slots_fault a (slot_content gateway i.second) (is_fresh i)) (sym h.first_is)
-    ∙ (ap (λ b. slots_fault first b (is_fresh i)) (sym h.second_is) ∙ ap (λ b. slots_fault first second b) fresh)
-
-pub seen_told : (gateway : ℕ) (i : Image) (first : SlotContent) (size : ℕ) (second : SlotContent) (beside : ℕ) (e : JournalFault) → AreSeen gateway i first size second beside
-    → Some e ≡ slots_fault first second ((beside == 0) && nat_lt size 14) → IsFault (fault_of gateway i) e
-seen_told gateway i first size second beside e h told = told_fault (fault_of gateway i) e (seen_fault gateway i first size second beside h ∙ sym told)
-
-sized_at : (slot : Slot) (d : Slots) (n : ℕ) → n ≡ length (image_at (image d) slot) → n ≡ length (bytes_of (at d slot))
-sized_at First d n e = e
-sized_at Second d n e = e
-
-pub seen_opening : (gateway : ℕ) (d : Slots) (first : SlotContent) (size : ℕ) (second : SlotContent) (beside : ℕ) (o : Opening) → AreSeen gateway (image d) first size second beside
-    → None ≡ slots_fault first second ((beside == 0) && nat_lt size 14) → o ≡ opening_of first size second beside → IsOpening gateway (image d) o × IsSized o d
-seen_opening gateway d first size second beside o h none is =
-    let i = image d in
-    let here : opening_of first size second beside ≡ opening_of (slot_content gateway i.first) (length i.first) (slot_content gateway i.second) (length i.second) =
-    ap (λ a. opening_of a size second beside) h.first_is
-    ∙ (ap (λ n. opening_of (slot_content gateway i.first) n second beside) h.size_is
-    ∙ (ap (λ b. opening_of (slot_content gateway i.first) (length i.first) b beside) h.second_is ∙ ap (λ n. opening_of (slot_content gateway i.first) (length i.first) (slot_content gateway i.second) n) h.beside_is))
-    in
-    let opening : IsOpening gateway i o = (seen_fault gateway i first size second beside h ∙ sym none, is ∙ here) in
-    (opening, go o (ruled gateway i o opening))
-  where
-    go : (o : Opening) → Ruled gateway (image d) o → IsSized o d
-    go New r = tt
-    go (Held slot m f n) r = sized_at slot d n r.3
 
 -- ---- the three steps of an opening
 

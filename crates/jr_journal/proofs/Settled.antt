@@ -10,8 +10,8 @@ use Rattle.jr_journal.specs.declared.piece.Found.{Found}
 use Rattle.jr_journal.specs.declared.content.SlotContent.{SlotContent}
 use Rattle.jr_journal.specs.declared.content.SlotContent.TheVariants.{Alien, Unsealed, Sealed, Broken}
 use Rattle.jr_journal.specs.Disk.{SlotBytes, Slots, Image, at, replaced, bytes_of, image, synced_part, appended, all_synced, left_of, after_crash}
-use Rattle.jr_journal.specs.Records.{delta_bytes, IsReadable, written, joined, ended, one_record, slot_content, chosen, records}
-use Rattle.jr_journal.specs.Journals.{other, is_below, leads, is_settled, Leaves, LeavesOneMore}
+use Rattle.jr_journal.specs.Records.{delta_bytes, IsReadable, written, joined, ended, one_record, slot_content, generation_in, chosen, records}
+use Rattle.jr_journal.specs.Journals.{other, is_below, leads, is_settled, is_in_use, Leaves, LeavesOneMore}
 use Rattle.jr_journal.specs.Faults.{is_nil, fault_of}
 use Rattle.jr_journal.proofs.Append.{found_written, found_front, length_written}
 use Rattle.jr_journal.proofs.Contents.{IsSealed, IsFull, sealed_shape, sealed_again, sealed_more}
@@ -89,6 +89,20 @@ settled_again gateway slot d m f h =
     let leading : leads (slot_content gateway (at d slot).synced) (length size) beside ≡ true =
     ap (λ x. leads x (length size) beside) content ∙ and_from _ _ (eq-eqb (13 + f.whole) (length size) h.full) h.below in
     and_from _ _ (and_from _ _ (and_from _ _ (is_nil_at d.first.unsynced h.first_clean) (is_nil_at d.second.unsynced h.second_clean)) leading) (is_none_at (fault_of gateway (synced_part d)) h.sound)
+
+-- it is settled, and the generation is that of the slot in use
+pub in_use_again : (gateway : ℕ) (slot : Slot) (d : Slots) (m : ℕ) (f : Found) → IsUsed gateway slot d m f → is_in_use gateway slot m d ≡ true
+in_use_again gateway slot d m f h =
+    and_from _ _ (settled_again gateway slot d m f h) (eq-eqb (generation_in (slot_content gateway (at d slot).synced)) m (ap generation_in (sealed_again gateway (at d slot).synced m f h.sealed)))
+
+pub in_use_shape : (gateway : ℕ) (slot : Slot) (generation : ℕ) (d : Slots) → is_in_use gateway slot generation d ≡ true → (f : Found) × IsUsed gateway slot d generation f
+in_use_shape gateway slot generation d e =
+    let p = and_parts _ _ e in
+    let u = settled_shape gateway slot d p.0 in
+    let number : u.0 ≡ generation =
+    sym (ap generation_in (sealed_again gateway (at d slot).synced u.0 u.1.0 u.1.1.sealed)) ∙ eqb-true (generation_in (slot_content gateway (at d slot).synced)) generation p.1
+    in
+    (u.1.0, subst (λ (n : ℕ). IsUsed gateway slot d n u.1.0) number u.1.1)
 
 -- ---- crashes
 

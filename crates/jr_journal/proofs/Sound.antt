@@ -1,5 +1,5 @@
 -- When there is no fault in two slots, either of which may be in use.
-use Rattle.std.proofs.Common.{◌≡◌, ℕ, ◌<◌, Bool, true, false, cond, List, [], ◌∷◌, length, Option, Some, None, refl, sym, ap, ◌∙◌, arith}
+use Rattle.std.proofs.Common.{◌≡◌, ℕ, Bool, true, false, cond, List, [], length, Option, Some, None, refl, sym, ap, ◌∙◌}
 use Rattle.std.specs.Prelude.{nat_lt}
 use Rattle.jr_journal.specs.declared.disk.Slot.{Slot}
 use Rattle.jr_journal.specs.declared.disk.Slot.TheVariants.{First, Second}
@@ -10,7 +10,7 @@ use Rattle.jr_journal.specs.declared.content.SlotContent.{SlotContent}
 use Rattle.jr_journal.specs.declared.content.SlotContent.TheVariants.{Alien, Unsealed, Sealed, Broken}
 use Rattle.jr_journal.specs.Disk.{SlotBytes, Slots, Image, at, replaced, synced_part}
 use Rattle.jr_journal.specs.Records.{slot_content}
-use Rattle.jr_journal.specs.Faults.{is_nil, is_none, is_fresh, slots_fault, fault_of}
+use Rattle.jr_journal.specs.Faults.{is_none, is_fresh, slots_fault, fault_of}
 use Rattle.jr_journal.specs.Journals.{other, is_below}
 use Rattle.jr_journal.proofs.Contents.{IsSealed, sealed_again}
 

@@ -1,12 +1,12 @@
 -- What opening a journal makes of the two slots.
-use Rattle.std.specs.Prelude.{Option, Some, None, ◌≡◌, ◌⊎◌, ℕ, ◌+◌, Bool, true, false, not, if◌then◌else◌, nat_lt, List, [], length, take, Result, Ok, Err, IsErrOf}
+use Rattle.std.specs.Prelude.{Option, Some, None, ◌≡◌, ◌⊎◌, ℕ, ◌+◌, Bool, true, false, not, if◌then◌else◌, nat_lt, List, [], length, take, Result, IsErrOf}
 use Rattle.rep_ops.specs.declared.op.Op.{Op}
 use Rattle.jr_journal.specs.declared.disk.Slot.{Slot}
 use Rattle.jr_journal.specs.declared.disk.Slot.TheVariants.{First, Second}
 use Rattle.jr_journal.specs.declared.disk.Plan.{Plan}
 use Rattle.jr_journal.specs.declared.disk.Plan.TheVariants.{Stop, KeepBack, FailSync}
 use Rattle.jr_journal.specs.declared.fault.JournalFault.{JournalFault}
-use Rattle.jr_journal.specs.declared.fault.JournalFault.TheVariants.{Disk, Foreign, BadRecord}
+use Rattle.jr_journal.specs.declared.fault.JournalFault.TheVariants.{Disk}
 use Rattle.jr_journal.specs.declared.content.SlotContent.{SlotContent}
 use Rattle.jr_journal.specs.declared.content.SlotContent.TheVariants.{Alien, Unsealed, Sealed, Broken}
 use Rattle.jr_journal.specs.declared.opening.Opening.{Opening}

@@ -25,8 +25,8 @@ pub struct Journal<D: Disk> {
 
 impl<D: Disk + Drop> Journal<D> {
     ghost use Rattle.std.specs.Prelude.{◌≡◌, ◌≢◌, ◌≤◌, ◌<◌, ◌+◌, ◌↔◌, true, false, None, [], ◌∷◌, ◌++◌, IfOk, IfErr, OnOk, OnErr, IsErrOf, IsTrue, MatchResult};
-    ghost use Rattle.jr_journal.specs.Disk.{image};
-    ghost use Rattle.jr_journal.specs.Records.{written, base_bytes, records};
+    ghost use Rattle.jr_journal.specs.Disk.{at, image};
+    ghost use Rattle.jr_journal.specs.Records.{written, base_bytes, slot_content, generation_in, records};
     ghost use Rattle.jr_journal.specs.Faults.{is_fresh, IsFault, fault_of};
     ghost use Rattle.jr_journal.specs.Journals.{other as beside, Leaves, LeavesOneMore, LeavesEither, after_append, AppendedAs, IsAppendFault, emptied, last_generation, IsCompactFault, IsBeforeWriting, IsTried};
     ghost use Rattle.jr_journal.specs.Parts.{disk_of, gateway_of, slot_of, generation_of, is_halted as is_stopped};
@@ -133,8 +133,11 @@ impl<D: Disk + Drop> Journal<D> {
     ///
     /// `Halted` where a write has failed before; else `Foreign` where the generation is the last that a header can hold; else `Memory`:
     /// nothing was written then. Else `Disk`: the journal is halted, and a crash leaves the records from before, or the base.
+    #[tactic(auto, using(crate::proofs::Appending::number_kept))]
     pub fn compact(&mut self, alloc: Global, base: &[Delta]) -> Result<(), JournalFault>
         ensures halted { IsErrOf result JournalFault.Halted ↔ (is_stopped self.old ≡ true) }
+        // The generation is the one that the header of the slot in use tells.
+        ensures number { D.honest → is_stopped self.old ≡ false → generation_of self.old ≡ generation_in (slot_content (gateway_of self.old) (at (D.slots (disk_of self.old)) (slot_of self.old)).synced) }
         ensures last { IsErrOf result JournalFault.Foreign ↔ ((is_stopped self.old ≡ false) × (generation_of self.old ≡ last_generation)) }
         ensures same { gateway_of self.new ≡ gateway_of self.old }
         ensures faults { IfErr result IsCompactFault }
@@ -155,7 +158,7 @@ impl<D: Disk + Drop> Journal<D> {
         ensures known { D.honest → D.starved (disk_of self.new) ≡ false → IsTried result →
             AppendedAs (D.outlook (disk_of self.old)) (emptied (D.slots (disk_of self.old)) (beside (slot_of self.old))) (beside (slot_of self.old)) (base_bytes (gateway_of self.old) (generation_of self.old + 1) base.now) result (D.slots (disk_of self.new)) (D.outlook (disk_of self.new)) }
     {
-        if self.halted {
+        if self.is_halted() {
             return Err(JournalFault::Halted);
         }
         let Some(generation) = self.generation.checked_add(1) else {

@@ -4,6 +4,8 @@
 #![tactic(auto)]
 
 #[cfg(test)]
+mod anew;
+#[cfg(test)]
 mod deliveries;
 #[cfg(test)]
 mod journals;

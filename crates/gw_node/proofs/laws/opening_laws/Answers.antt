@@ -1,4 +1,3 @@
-use Rattle.std.proofs.Common.{sym, ◌∙◌, refl}
 use Rattle.gw_node.proofs.Roomy.{no_full, no_conflict}
 use Rattle.gw_node.proofs.Started.{wants_memory}
 use Rattle.jr_journal.specs.Records.{records}
