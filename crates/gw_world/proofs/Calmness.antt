@@ -223,7 +223,7 @@ module _ {D : Type 0} {G : Ghosts D} where
         }));
       }
   compact_calm old new (Err refusals.Halted) honest calm fed memory h takes = absurd (running old calm h.0)
-  compact_calm old new (Err (refusals.Journal journal_faults.Foreign)) honest calm fed memory (runs, last, u) takes =
+  compact_calm old new (Err (refusals.Journal journal_faults.Foreign)) honest calm fed memory (runs, last, number, u) takes =
       record { calm = untouched old new calm u.config u.journal; configured = u.config; kept = (last, refl, u.local, same old new u.kept u.journal) }
   compact_calm old new (Err (refusals.Journal journal_faults.Disk)) honest calm fed memory h takes = absurd h
   compact_calm old new (Err (refusals.Journal journal_faults.Halted)) honest calm fed memory h takes = absurd h
