@@ -1,6 +1,6 @@
 -- A node whose disk does not fail goes on.
 use Rattle.std.proofs.Common.{◌≡◌, ℕ, ◌+◌, zero, suc, Bool, true, false, append-nil, take, inl, List, [], ◌∷◌, ◌++◌, set, slice_get, Option, Some, None, Result, Ok, Err, IfOk, OnOk, refl, sym, ap, ◌∙◌, subst, true≢false}
-use Rattle.std.specs.Prelude.{IsTrue}
+use Rattle.std.specs.Prelude.{◌≢◌, IsTrue}
 use Rattle.std.specs.List.{AllByRecursion}
 use Rattle.rep_ops.specs.declared.op.Op.{Op}
 use Rattle.rep_ops.specs.Sets.{Within, IsConsistent}
@@ -15,7 +15,7 @@ use Rattle.jr_journal.specs.Faults.{fault_of}
 use Rattle.jr_journal.specs.Disk.{Image, image, left_of, after_crash, EachCrash}
 use Rattle.jr_journal.specs.Memory.{MemoryState, crashed_disk}
 use Rattle.jr_journal.specs.Opening.{recovered, is_quiet}
-use Rattle.jr_journal.specs.Journals.{other, emptied, AppendedAs}
+use Rattle.jr_journal.specs.Journals.{other, emptied, after_append, last_generation, AppendedAs}
 use Rattle.jr_journal.specs.Parts.{disk_of, slot_of, generation_of, gateway_of}
 use Rattle.sn_flow.specs.declared.config.Config.{Config}
 use Rattle.gw_node.specs.declared.out.Out.{Out}
@@ -23,7 +23,7 @@ use Rattle.gw_node.specs.declared.refusal.Refusal.{Refusal}
 use Rattle.gw_node.specs.declared.refusal.Refusal.TheVariants as refusals
 use Rattle.gw_node.specs.Occasions.{Occasion}
 use Rattle.gw_node.specs.Parts.{State, is_halted, IsUntouched}
-use Rattle.gw_node.specs.Writing.{IsWritten, IsFailed, IsRewritten, IsNotRewritten}
+use Rattle.gw_node.specs.Writing.{IsWritten, IsFailed, IsRewritten, IsNotRewritten, IsNumbered}
 use Rattle.gw_node.specs.Plans.{Makes as MakesAll}
 use Rattle.gw_node.specs.Calls.{OwnCall, TakeCall, CompactCall, IsNoted}
 use Rattle.gw_node.specs.Carrying.{made_by, TakesMore, TakesNothing, CarriesOn, OwnCarriesOn}
@@ -32,7 +32,7 @@ use Rattle.gw_node.specs.Opening.{IsStarted, GoesOnIn, IsOpenFault, IsDiskFault}
 use Rattle.gw_node.specs.Taking.{ops_of, IsBetween, IsWhole, StandsFor, HasTaken}
 use Rattle.gw_node.proofs.Started.{wants_memory}
 use Rattle.gw_world.specs.Gateways.{new_gateway}
-use Rattle.gw_world.specs.Drives.{Drive, new_drive, with_record, noted, compacted, left_by, opened_again}
+use Rattle.gw_world.specs.Drives.{Drive, new_drive, with_record, noted, generation, compacted, left_by, opened_again}
 use Rattle.gw_world.specs.Keeping.{Lasts}
 use Rattle.gw_world.specs.Plans.{LastsMore, IsSame, OwnKept, TakeKept, CompactKept, IsRestarted, Makes}
 use Rattle.gw_world.specs.Events.{IsSafe}
@@ -51,8 +51,8 @@ all_set P (y ∷ xs) zero x h p = (p, h.1)
 all_set P (y ∷ xs) (suc i) x h p = (h.0, all_set P xs i x h.1 p)
 
 -- drives of the same parts
-pub same_parts : (one other : Drive) → one.slots ≡ other.slots → one.slot ≡ other.slot → one.generation ≡ other.generation → one ≡ other
-same_parts one other slots slot generation = λ i. record { slots = slots i; slot = slot i; generation = generation i }
+pub same_parts : (one other : Drive) → one.slots ≡ other.slots → one.slot ≡ other.slot → one ≡ other
+same_parts one other slots slot = λ i. record { slots = slots i; slot = slot i }
 
 -- ---- an empty disk
 
@@ -109,7 +109,7 @@ module _ {D : Type 0} {G : Ghosts D} where
   }
 
   same-drive : (old new : State G) → IsUntouched old.journal new.journal → drive_of new ≡ drive_of old
-  same-drive old new u = same_parts (drive_of new) (drive_of old) (ap G.slots u.disk) u.slot u.generation
+  same-drive old new u = same_parts (drive_of new) (drive_of old) (ap G.slots u.disk) u.slot
 
   same : (old new : State G) → new.kept ≡ old.kept → IsUntouched old.journal new.journal → IsSame (held_of old) (held_of new)
   same old new kept u = record { kept = kept; drive = same-drive old new u }
@@ -121,7 +121,7 @@ module _ {D : Type 0} {G : Ghosts D} where
       record { runs = w.goes_on; unplanned = known.2; fed = fed; number = number-stays old new calm config w.gateway }
 
   wrote-drive : (old new : State G) (delta : List Op) → G.honest → IsWritten old.journal delta new.journal → drive_of new ≡ with_record delta (drive_of old)
-  wrote-drive old new delta honest w = same_parts (drive_of new) (with_record delta (drive_of old)) (w.exact honest) w.slot w.generation
+  wrote-drive old new delta honest w = same_parts (drive_of new) (with_record delta (drive_of old)) (w.exact honest) w.slot
 
   never_fails : (old new : State G) (delta : List Op) → G.honest → IsCalm old → G.starved (disk_of new.journal) ≡ false → IsFailed old.journal delta new.journal → ⊥
   never_fails old new delta honest calm fed w =
@@ -199,8 +199,15 @@ module _ {D : Type 0} {G : Ghosts D} where
 
   rewrote-drive : (old new : State G) (base : List (List Op)) → G.honest → IsCalm old → IsRewritten old.journal base new.journal → drive_of new ≡ compacted old.config.gateway base (drive_of old)
   rewrote-drive old new base honest calm w =
+      let number = gateway_of old.journal in
+      let next = other (slot_of old.journal) in
+      let exact = w.exact honest ∙ ap (λ (n : ℕ). after_append None (emptied (G.slots (disk_of old.journal)) next) next (base_bytes number (n + 1) base)) (w.number honest) in
       subst (λ (n : ℕ). drive_of new ≡ compacted n base (drive_of old)) calm.number
-      (same_parts (drive_of new) (compacted (gateway_of old.journal) base (drive_of old)) (w.exact honest) w.slot w.generation)
+      (same_parts (drive_of new) (compacted number base (drive_of old)) exact w.slot)
+
+  -- the generation that the journal goes by is the one that its slot tells
+  numbered : (old : State G) → IsCalm old → G.honest → IsNumbered old.journal → generation_of old.journal ≡ generation old.config.gateway (drive_of old)
+  numbered old calm honest number = number honest ∙ ap (λ (n : ℕ). generation n (drive_of old)) calm.number
 
   never_fails_anew : (old new : State G) (base : List (List Op)) → G.honest → IsCalm old → G.starved (disk_of new.journal) ≡ false → IsNotRewritten old.journal base new.journal → ⊥
   never_fails_anew old new base honest calm fed w =
@@ -214,7 +221,7 @@ module _ {D : Type 0} {G : Ghosts D} where
       record {
         calm = after;
         configured = h.config;
-        kept = (h.rewritten.room, empty, (h.base, record {
+        kept = (subst (λ (n : ℕ). n ≢ last_generation) (numbered old calm honest h.rewritten.number) h.rewritten.room, empty, (h.base, record {
           held = h.held;
           kept = h.kept;
           local = h.local;
@@ -224,7 +231,7 @@ module _ {D : Type 0} {G : Ghosts D} where
       }
   compact_calm old new (Err refusals.Halted) honest calm fed memory h takes = absurd (running old calm h.0)
   compact_calm old new (Err (refusals.Journal journal_faults.Foreign)) honest calm fed memory (runs, last, number, u) takes =
-      record { calm = untouched old new calm u.config u.journal; configured = u.config; kept = (last, refl, u.local, same old new u.kept u.journal) }
+      record { calm = untouched old new calm u.config u.journal; configured = u.config; kept = (sym (numbered old calm honest number) ∙ last, refl, u.local, same old new u.kept u.journal) }
   compact_calm old new (Err (refusals.Journal journal_faults.Disk)) honest calm fed memory h takes = absurd h
   compact_calm old new (Err (refusals.Journal journal_faults.Halted)) honest calm fed memory h takes = absurd h
   compact_calm old new (Err (refusals.Journal journal_faults.Memory)) honest calm fed memory h takes = absurd h
@@ -249,7 +256,7 @@ module _ {D : Type 0} {G : Ghosts D} where
   again : (old new : State G) (left : ℕ) → G.honest → WasOpened old.config (left_by left (drive_of old)) new → IsRestarted left (held_of old) (held_of new)
   again old new left honest h = record {
     local = h.starts.local;
-    drive = same_parts (drive_of new) (opened_again old.config.gateway left (drive_of old)) h.known h.place.slot h.place.generation;
+    drive = same_parts (drive_of new) (opened_again old.config.gateway left (drive_of old)) h.known h.place.slot;
     keeps = h.keeps;
     lasts = λ S l.
         from_taken new honest (h.starts.gateway ∙ ap (λ (c : Config). c.gateway) (sym h.starts.configured)) S
@@ -265,7 +272,7 @@ module _ {D : Type 0} {G : Ghosts D} where
   pub opened_new : (state : State G) (config : Config) (i : Image) → i ≡ record { first = []; second = [] } → WasOpened config i state → state.kept ≡ [] → held_of state ≡ new_gateway config
   opened_new state config i empty opened kept =
       let h = subst (λ (j : Image). WasOpened config j state) empty opened in
-      let drive : drive_of state ≡ new_drive config.gateway = same_parts (drive_of state) (new_drive config.gateway) h.known h.place.slot h.place.generation in
+      let drive : drive_of state ≡ new_drive config.gateway = same_parts (drive_of state) (new_drive config.gateway) h.known h.place.slot in
       λ j. record { config = h.starts.configured j; taken = kept j; local = h.starts.local j; drive = drive j }
 
   pub lasts_new : (state : State G) (config : Config) (i : Image) → G.honest → i ≡ record { first = []; second = [] } → fault_of config.gateway i ≡ None → WasOpened config i state → Lasts [] (held_of state)

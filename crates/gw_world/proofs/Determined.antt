@@ -24,7 +24,7 @@ use Rattle.gw_node.specs.Parts.{only_sends}
 use Rattle.jr_journal.specs.declared.fault.JournalFault.{JournalFault}
 use Rattle.jr_journal.specs.declared.fault.JournalFault.TheVariants.{Foreign}
 use Rattle.jr_journal.specs.Journals.{last_generation}
-use Rattle.gw_world.specs.Drives.{with_record, compacted}
+use Rattle.gw_world.specs.Drives.{with_record, generation, compacted}
 use Rattle.gw_world.specs.Gateways.{Gateway}
 use Rattle.gw_world.specs.Steps.{IsUnchanged, IsRefused, IsMade, IsCarriedOut, IsPlan, IsTooMuch, HasNoDelta, OwnStep, TakeStep, AnswerStep, CompactStep}
 use Rattle.gw_world.proofs.Splits.{delta-one, answer-one, held-one}
@@ -233,7 +233,7 @@ take-room old delta a new made room f h = takes-room old delta a new made room (
 -- ---- a compaction
 
 abbrev IsLast : Gateway → Result Out Refusal → Gateway → Type 0
-IsLast old answer new = (old.drive.generation ≡ last_generation) × (answer ≡ Err (refusals.Journal Foreign)) × (new ≡ old)
+IsLast old answer new = (generation old.config.gateway old.drive ≡ last_generation) × (answer ≡ Err (refusals.Journal Foreign)) × (new ≡ old)
 
 abbrev IsAnew : Gateway → Result Out Refusal → Gateway → Type 0
 IsAnew old answer new = (out : Out) × (answer ≡ Ok out) × CompactStep old (Ok out) new

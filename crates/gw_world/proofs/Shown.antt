@@ -27,7 +27,7 @@ use Rattle.gw_node.specs.declared.out.Out.{Out}
 use Rattle.gw_node.specs.declared.refusal.Refusal.{Refusal}
 use Rattle.gw_node.specs.declared.refusal.Refusal.TheVariants as refusals
 use Rattle.gw_node.specs.Occasions.{Occasion, IsPlanOf}
-use Rattle.gw_world.specs.Drives.{Drive, with_record, noted, compacted, left_by, opened_again}
+use Rattle.gw_world.specs.Drives.{Drive, with_record, noted, generation, compacted, left_by, opened_again}
 use Rattle.gw_world.specs.Gateways.{Gateway}
 use Rattle.gw_world.specs.Steps.{OwnStep, TakeStep, AnswerStep, CompactStep, IsMade, IsPlan, IsUnchanged, IsTooMuch, HasNoDelta, IsWritable, records_left, restarted}
 use Rattle.gw_node.specs.Calls.{AreTooMuch}
@@ -179,10 +179,13 @@ module _ (g k : Gateway) (s : IsShown g k) where
     take_taken delta (Err refusals.Memory) agrees (same, local, h) = absurd h
 
     -- a compaction
+    generation_taken : generation k.config.gateway k.drive ≡ generation g.config.gateway g.drive
+    generation_taken = λ i. generation (s.configured i).gateway (s.drive i)
+
     pub compact_taken : (answer : Result Out Refusal) → CompactKept k answer new → Leads (λ next mades. CompactStep g answer next) new []
     compact_taken (Ok out) (room, empty, (base, h)) = record {
       next = record g { drive = compacted g.config.gateway base g.drive };
-      step = (subst (λ (d : Drive). d.generation ≢ last_generation) s.drive room, empty, (base, held-taken g.taken k.taken base s.keeps.counts h.held, refl));
+      step = (subst (λ (n : ℕ). n ≢ last_generation) generation_taken room, empty, (base, held-taken g.taken k.taken base s.keeps.counts h.held, refl));
       shown = record {
         configured = config ∙ s.configured;
         bound = h.local ∙ s.bound;
@@ -193,7 +196,7 @@ module _ (g k : Gateway) (s : IsShown g k) where
     }
     compact_taken (Err (refusals.Journal fault)) (last, foreign, local, same) = record {
       next = g;
-      step = (subst (λ (d : Drive). d.generation ≡ last_generation) s.drive last, foreign, refl);
+      step = (sym generation_taken ∙ last, foreign, refl);
       shown = stays same local;
     }
     compact_taken (Err (refusals.Frame fault)) h = absurd h

@@ -2,7 +2,7 @@
 use Rattle.std.specs.Prelude.{◌≡◌, false, List, Some, None, Result, Ok, Err}
 use Rattle.rep_ops.specs.declared.op.Op.{Op}
 use Rattle.jr_journal.specs.declared.disk.Disk.{Ghosts}
-use Rattle.jr_journal.specs.Parts.{disk_of, gateway_of, slot_of, generation_of}
+use Rattle.jr_journal.specs.Parts.{disk_of, gateway_of, slot_of}
 use Rattle.gw_node.specs.declared.out.Out.{Out}
 use Rattle.gw_node.specs.declared.refusal.Refusal.{Refusal}
 use Rattle.gw_node.specs.declared.refusal.Refusal.TheVariants as refusals
@@ -20,11 +20,7 @@ pub record IsCalm {D : Type 0} {G : Ghosts D} (state : State G) : Type 0 where
 
 -- the disk under a node
 abbrev pub drive_of : {D : Type 0} {G : Ghosts D} → State G → Drive
-drive_of {D} {G} state = record {
-  slots = G.slots (disk_of state.journal);
-  slot = slot_of state.journal;
-  generation = generation_of state.journal;
-}
+drive_of {D} {G} state = record { slots = G.slots (disk_of state.journal); slot = slot_of state.journal }
 
 -- the gateway that a node is, with what its replica keeps in the place of what it has taken
 abbrev pub held_of : {D : Type 0} {G : Ghosts D} → State G → Gateway

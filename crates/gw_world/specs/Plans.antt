@@ -26,7 +26,7 @@ use Rattle.gw_node.specs.Plans.{IsMisfit}
 use Rattle.gw_node.specs.Calls.{AreTooMuch}
 use Rattle.gw_node.specs.Keeping.{Keeps}
 use Rattle.gw_node.specs.Taking.{ops_of}
-use Rattle.gw_world.specs.Drives.{Drive, with_record, noted, compacted, left_by, opened_again}
+use Rattle.gw_world.specs.Drives.{Drive, with_record, noted, generation, compacted, left_by, opened_again}
 use Rattle.gw_world.specs.Gateways.{Gateway}
 use Rattle.gw_world.specs.Keeping.{Lasts}
 
@@ -111,9 +111,9 @@ pub record IsCompacted (old : Gateway) (base : List (List Op)) (new : Gateway) :
 -- what a compaction does to them
 abbrev pub CompactKept : Gateway → Result Out Refusal → Gateway → Type 0
 CompactKept old (Ok out) new =
-    (old.drive.generation ≢ last_generation) × (out ≡ only_sends []) × ((base : List (List Op)) × IsCompacted old base new)
+    (generation old.config.gateway old.drive ≢ last_generation) × (out ≡ only_sends []) × ((base : List (List Op)) × IsCompacted old base new)
 CompactKept old (Err (refusals.Journal fault)) new =
-    (old.drive.generation ≡ last_generation) × (fault ≡ Foreign) × (new.local ≡ old.local) × IsSame old new
+    (generation old.config.gateway old.drive ≡ last_generation) × (fault ≡ Foreign) × (new.local ≡ old.local) × IsSame old new
 CompactKept old (Err (refusals.Frame fault)) new = ⊥
 CompactKept old (Err refusals.Halted) new = ⊥
 CompactKept old (Err (refusals.Disk excuse)) new = ⊥

@@ -27,7 +27,7 @@ use Rattle.sn_flow.specs.Locals.{after_all, owned, no_local}
 use Rattle.gw_node.specs.declared.out.Out.{Out}
 use Rattle.gw_node.specs.declared.refusal.Refusal.{Refusal}
 use Rattle.gw_node.specs.declared.refusal.Refusal.TheVariants as refusals
-use Rattle.gw_world.specs.Drives.{with_record, noted, compacted, left_by, opened_again}
+use Rattle.gw_world.specs.Drives.{with_record, noted, generation, compacted, left_by, opened_again}
 use Rattle.gw_world.specs.Gateways.{Gateway}
 use Rattle.gw_node.specs.Occasions.{Occasion, IsPlanOf, IsNoFrame}
 use Rattle.gw_node.specs.Parts.{only_sends}
@@ -126,9 +126,9 @@ TakeStep old delta (Err fault) new made = IsRefused old.taken delta fault × IsU
 -- exactly where the generation is the last that there is.
 abbrev pub CompactStep : Gateway → Result Out Refusal → Gateway → Type 0
 CompactStep old (Ok out) new =
-    (old.drive.generation ≢ last_generation) × (out ≡ only_sends [])
+    (generation old.config.gateway old.drive ≢ last_generation) × (out ≡ only_sends [])
     × ((base : List (List Op)) × IsHeld old.taken base × (new ≡ record old { drive = compacted old.config.gateway base old.drive }))
-CompactStep old (Err (refusals.Journal fault)) new = (old.drive.generation ≡ last_generation) × (fault ≡ Foreign) × (new ≡ old)
+CompactStep old (Err (refusals.Journal fault)) new = (generation old.config.gateway old.drive ≡ last_generation) × (fault ≡ Foreign) × (new ≡ old)
 CompactStep old (Err (refusals.Frame fault)) new = ⊥
 CompactStep old (Err refusals.Halted) new = ⊥
 CompactStep old (Err (refusals.Disk excuse)) new = ⊥
