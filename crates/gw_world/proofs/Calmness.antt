@@ -221,13 +221,20 @@ module _ {D : Type 0} {G : Ghosts D} where
       record {
         calm = after;
         configured = h.config;
-        kept = (subst (λ (n : ℕ). n ≢ last_generation) (numbered old calm honest h.rewritten.number) h.rewritten.room, empty, (h.base, record {
-          held = h.held;
-          kept = h.kept;
-          local = h.local;
-          drive = rewrote-drive old new h.base honest calm h.rewritten;
-          lasts = λ S l. from_taken new honest after.number S (takes S [] (to_taken old calm S l));
-        }));
+        kept = (
+          subst (λ (n : ℕ). n ≢ last_generation) (numbered old calm honest h.rewritten.number) h.rewritten.room,
+          empty,
+          (
+            h.base,
+            record {
+              held = h.held;
+              kept = h.kept;
+              local = h.local;
+              drive = rewrote-drive old new h.base honest calm h.rewritten;
+              lasts = λ S l. from_taken new honest after.number S (takes S [] (to_taken old calm S l));
+            },
+          ),
+        );
       }
   compact_calm old new (Err refusals.Halted) honest calm fed memory h takes = absurd (running old calm h.0)
   compact_calm old new (Err (refusals.Journal journal_faults.Foreign)) honest calm fed memory (runs, last, number, u) takes =

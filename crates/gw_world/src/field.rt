@@ -215,11 +215,11 @@ fn open_again<R: Replica>(
     let (config, mut disk) = node.into_parts();
     disk.crash(left as usize);
     match Node::open(alloc, config, disk) {
-        Ok(node) => {
-            if node.starved() {
+        Ok(opened) => {
+            if opened.starved() {
                 return Err(WorldFault::Memory);
             }
-            Ok(node)
+            Ok(opened)
         }
         Err((disk, fault)) => {
             if disk.starved() {

@@ -351,7 +351,8 @@ fn play_all<R: Replica>(
 /// Runs a field of gateways: the gateways of these configs begin with nothing, and the events come one
 /// after the other.
 ///
-/// Each gateway has its journal on a disk in memory. The result has an answer for each event, the list of the deltas that were
+/// Each gateway has its journal on a disk in memory. Where an event stops a gateway and opens it again, it reads that journal, and
+/// has the set that it had: nothing but want of memory can refuse that. The result has an answer for each event, the list of the deltas that were
 /// made or answered, and the gateways. There is no result where an event names a gateway, as the one that it is at or as the
 /// peer, or else a delta that is not there, or memory runs out.
 pub fn run<R: Replica>(
@@ -360,7 +361,8 @@ pub fn run<R: Replica>(
     events: &[Event],
 ) -> Result<World<Node<R, MemoryDisk>>, WorldFault>
     ensures ok { IfOk result (λ world. IsWorld (λ node. keeping R.kept node) configs.now events.now world.answers world.deltas world.gateways) }
-    // At the end no node is halted, none was refused memory, and no failure is arranged on a disk.
+    // At the end no node is halted, none was refused memory, and no failure is arranged on a disk. What a crash would leave of each disk
+    // stands for the set of its gateway, as the world's `shown` says.
     ensures calm { IfOk result (λ world. AllByRecursion (λ node. IsCalm (state_of R.kept node)) world.gateways) }
     ensures err { IfErr result (IsStop configs.now events.now) }
 {

@@ -19,7 +19,7 @@ pub returns-else-starved-clause-ok : goal.returns-else-starved-clause-ok
 returns-else-starved-clause-ok g c =
     let found = ap (λ (d : MemoryState). image d.slots) c.crash.ensures ∙ crash_left c.args.left c.into_parts-config.result.1
     ∙ ap (λ (d : MemoryState). after_crash c.args.left c.args.left d.slots) c.into_parts-config.ensures.disk in
-    restarts_so (state_of g.R.Replica.kept c.args.node) (state_of g.R.Replica.kept c.in-Ok.node) c.args.left c.into_parts-config.result.0 _ tt c.into_parts-config.ensures.config found
+    restarts_so (state_of g.R.Replica.kept c.args.node) (state_of g.R.Replica.kept c.in-Ok.opened) c.args.left c.into_parts-config.result.0 _ tt c.into_parts-config.ensures.config found
     (record {
       starts = c.in-Ok.ensures.starts;
       keeps = c.in-Ok.ensures.keeps tt;

@@ -1,5 +1,5 @@
 -- The gateway in this place moves, and no other.
-use Rattle.std.proofs.Common.{◌≡◌, ◌<◌, length, map, set, Some, slice_get, sym, ap, ◌∙◌, subst}
+use Rattle.std.proofs.Common.{◌<◌, map, sym, ap, ◌∙◌, subst}
 use Rattle.std.specs.List.{AllByRecursion, insert}
 use Rattle.std.proofs.lemmas.Option.{slice_get_read}
 use Rattle.gw_node.specs.Parts.{state_of}

@@ -1,5 +1,5 @@
 -- What it holds where it was opened on an empty disk.
-use Rattle.std.proofs.Common.{◌≡◌, [], ap, ◌∙◌, subst}
+use Rattle.std.proofs.Common.{ap, ◌∙◌}
 use Rattle.sn_flow.specs.declared.config.Config.{Config}
 use Rattle.jr_journal.specs.Disk.{image}
 use Rattle.jr_journal.specs.Memory.{MemoryState}
