@@ -1,4 +1,4 @@
--- What a journal keeps true of its disk, and what an append does to it.
+-- What a journal keeps true of its disk, and what an append and a compaction do to it.
 use Rattle.std.specs.Prelude.{Option, Some, None, ◌≡◌, ℕ, ◌+◌, ◌-◌, ◌^◌, ◌==◌, Bool, true, false, ◌&&◌, nat_lt, ◌⊎◌, min, List, [], ◌∷◌, ◌++◌, length, take, Result, Ok, Err, IsSome}
 use Rattle.rep_ops.specs.declared.op.Op.{Op}
 use Rattle.jr_journal.specs.declared.disk.Slot.{Slot}

@@ -244,6 +244,13 @@ impl<D: Disk + Drop> Journal<D> {
         self.slot
     }
 
+    /// The generation of that slot: 1 for a new journal, and one more with each compaction.
+    pub fn generation(&self) -> u64
+        ensures { result ≡ generation_of self.now }
+    {
+        self.generation
+    }
+
     /// The disk as it stands.
     pub fn into_disk(self) -> D
         ensures { result ≡ disk_of self }

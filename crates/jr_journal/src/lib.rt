@@ -3,6 +3,10 @@
 //! Each delta is one record, and a record counts once it is synced. After any crash the journal gives every record
 //! that was acknowledged, in order, and at most one more: the one whose write was cut off.
 //!
+//! A journal does not grow for ever. A compaction writes what must be kept, its base, into the other slot, and the journal goes on
+//! there; a crash in it leaves the records from before, or the base. The slot in use is not touched before the other one is sealed
+//! and synced.
+//!
 //! - `disk`: what a journal asks of a disk (`Disk`), over two slots of bytes.
 //! - `memory`: a disk in memory (`MemoryDisk`), proved to do what `Disk` says; failures can be arranged.
 //! - `failures`: a count without an upper end, which contracts alone see.
