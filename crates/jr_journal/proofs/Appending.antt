@@ -1,16 +1,21 @@
 -- The exits of an append.
-use Rattle.std.proofs.Common.{◌≡◌, ℕ, Bool, true, false, ◌||◌, List, [], ◌∷◌, ◌++◌, length, take, Result, Ok, Err, refl, sym, ap, subst, ◌∙◌, arith}
-use Rattle.std.specs.Prelude.{IsTrue, IfErr, OnOk, OnErr}
+use Rattle.std.proofs.Common.{◌≡◌, ℕ, Bool, true, false, ◌||◌, List, [], ◌∷◌, ◌++◌, length, take, min, Some, None, Result, Ok, Err, refl, sym, ap, subst, ◌∙◌, arith}
+use Rattle.std.specs.Prelude.{IsTrue, IfErr, OnOk, OnErr, IsErr, IsErrAnd}
 use Rattle.std.specs.Result.{is_err}
+use Rattle.std.proofs.lemmas.Bool.{and_parts, eqb-true}
 use Rattle.std.proofs.lemmas.List.{take_all}
 use Rattle.rep_ops.specs.declared.op.Op.{Op}
 use Rattle.jr_journal.specs.declared.disk.Slot.{Slot}
 use Rattle.jr_journal.specs.declared.disk.Slot.TheVariants.{First, Second}
 use Rattle.jr_journal.specs.declared.disk.Short.{Short}
-use Rattle.jr_journal.specs.Disk.{SlotBytes, Slots, at, replaced, image, appended, all_synced}
-use Rattle.jr_journal.specs.Records.{IsReadable, written, records}
-use Rattle.jr_journal.specs.Journals.{is_settled, Leaves, LeavesOneMore}
-use Rattle.jr_journal.proofs.Settled.{settled_shape, settled_again, used_leaves, used_records, more_leaves, synced_used}
+use Rattle.jr_journal.specs.declared.disk.DiskFault.{DiskFault}
+use Rattle.jr_journal.specs.declared.disk.Plan.TheVariants.{Stop, KeepBack, FailSync}
+use Rattle.jr_journal.specs.declared.piece.Found.{Found}
+use Rattle.jr_journal.specs.Disk.{SlotBytes, Slots, at, replaced, image, appended, all_synced, AppendsAs, SyncsAs}
+use Rattle.jr_journal.specs.Records.{IsReadable, written, slot_content, generation_in, records}
+use Rattle.jr_journal.specs.Journals.{is_in_use, Leaves, LeavesOneMore, after_append, AppendedAs}
+use Rattle.jr_journal.proofs.Calm.{Outlook}
+use Rattle.jr_journal.proofs.Settled.{IsUsed, in_use_shape, in_use_again, used_leaves, used_records, more_leaves, synced_used}
 
 -- ---- a result that was tested
 
@@ -28,19 +33,23 @@ err_written (Err short) P e h = (short.written, h)
 
 -- ---- where the journal was not halted
 
-abbrev pub IsKept : ℕ → Slot → Bool → Slots → Type 0
-IsKept gateway slot halted d = IsTrue (halted || is_settled gateway slot d)
+abbrev pub IsKept : ℕ → Slot → ℕ → Bool → Slots → Type 0
+IsKept gateway slot generation halted d = IsTrue (halted || is_in_use gateway slot generation d)
 
-pub going_on : (gateway : ℕ) (slot : Slot) (halted : Bool) (d : Slots) → IsKept gateway slot halted d → halted ≡ false → is_settled gateway slot d ≡ true
-going_on gateway slot true d h e = absurd cc
-going_on gateway slot false d h e = h
+pub going_on : (gateway : ℕ) (slot : Slot) (generation : ℕ) (halted : Bool) (d : Slots) → IsKept gateway slot generation halted d → halted ≡ false → (f : Found) × IsUsed gateway slot d generation f
+going_on gateway slot generation true d h e = absurd cc
+going_on gateway slot generation false d h e = in_use_shape gateway slot generation d h
 
-pub torn_after : (gateway : ℕ) (slot : Slot) (halted : Bool) (old new : Slots) (delta : List Op) (bytes : List ℕ) (w : ℕ) → IsKept gateway slot halted old → halted ≡ false → IsReadable delta → bytes ≡ written delta
+pub number_kept : (gateway : ℕ) (slot : Slot) (generation : ℕ) (halted : Bool) (d : Slots) → IsKept gateway slot generation halted d → halted ≡ false → generation ≡ generation_in (slot_content gateway (at d slot).synced)
+number_kept gateway slot generation true d h e = absurd cc
+number_kept gateway slot generation false d h e = sym (eqb-true (generation_in (slot_content gateway (at d slot).synced)) generation (and_parts _ _ h).1)
+
+pub torn_after : (gateway : ℕ) (slot : Slot) (generation : ℕ) (halted : Bool) (old new : Slots) (delta : List Op) (bytes : List ℕ) (w : ℕ) → IsKept gateway slot generation halted old → halted ≡ false → IsReadable delta → bytes ≡ written delta
     → new ≡ replaced old slot (appended (at old slot) (take w bytes)) → LeavesOneMore gateway new (records gateway (image old)) delta
-torn_after gateway slot halted old new delta bytes w kept runs readable spelled is =
-    let u = settled_shape gateway slot old (going_on gateway slot halted old kept runs) in
+torn_after gateway slot generation halted old new delta bytes w kept runs readable spelled is =
+    let u = going_on gateway slot generation halted old kept runs in
     let more : new ≡ replaced old slot (appended (at old slot) (take w (written delta))) = is ∙ ap (λ xs. replaced old slot (appended (at old slot) (take w xs))) spelled in
-    subst (λ (d : Slots). LeavesOneMore gateway d (records gateway (image old)) delta) (sym more) (more_leaves gateway slot old u.0 u.1.0 delta w u.1.1 readable)
+    subst (λ (d : Slots). LeavesOneMore gateway d (records gateway (image old)) delta) (sym more) (more_leaves gateway slot old generation u.0 delta w u.1 readable)
 
 pub all_out : (slot : Slot) (old middle new : Slots) (bytes : List ℕ) → middle ≡ replaced old slot (appended (at old slot) bytes) → new ≡ middle → new ≡ replaced old slot (appended (at old slot) (take (length bytes) bytes))
 all_out slot old middle new bytes e f = f ∙ (e ∙ ap (λ xs. replaced old slot (appended (at old slot) xs)) (sym (take_all (length bytes) bytes (omega arith))))
@@ -54,19 +63,38 @@ pub synced_is : (slot : Slot) (old middle new : Slots) (delta : List Op) (bytes 
 synced_is slot old middle new delta bytes spelled e f =
     f ∙ (ap (λ d. replaced d slot (all_synced (at d slot))) e ∙ (replaced_twice slot old (appended (at old slot) bytes) ∙ ap (λ xs. replaced old slot (all_synced (appended (at old slot) xs))) spelled))
 
-pub settles_after : (gateway : ℕ) (slot : Slot) (halted : Bool) (old new : Slots) (delta : List Op) → IsKept gateway slot halted old → halted ≡ false → IsReadable delta
-    → new ≡ replaced old slot (all_synced (appended (at old slot) (written delta))) → is_settled gateway slot new ≡ true
-settles_after gateway slot halted old new delta kept runs readable is =
-    let u = settled_shape gateway slot old (going_on gateway slot halted old kept runs) in
-    let s = synced_used gateway slot old u.0 u.1.0 delta u.1.1 readable in
-    ap (λ d. is_settled gateway slot d) is ∙ settled_again gateway slot (replaced old slot (all_synced (appended (at old slot) (written delta)))) u.0 _ s
+pub settles_after : (gateway : ℕ) (slot : Slot) (generation : ℕ) (halted : Bool) (old new : Slots) (delta : List Op) → IsKept gateway slot generation halted old → halted ≡ false → IsReadable delta
+    → new ≡ replaced old slot (all_synced (appended (at old slot) (written delta))) → is_in_use gateway slot generation new ≡ true
+settles_after gateway slot generation halted old new delta kept runs readable is =
+    let u = going_on gateway slot generation halted old kept runs in
+    let s = synced_used gateway slot old generation u.0 delta u.1 readable in
+    ap (λ d. is_in_use gateway slot generation d) is ∙ in_use_again gateway slot (replaced old slot (all_synced (appended (at old slot) (written delta)))) generation _ s
 
-pub durable_after : (gateway : ℕ) (slot : Slot) (halted : Bool) (old new : Slots) (delta : List Op) → IsKept gateway slot halted old → halted ≡ false → IsReadable delta
+pub durable_after : (gateway : ℕ) (slot : Slot) (generation : ℕ) (halted : Bool) (old new : Slots) (delta : List Op) → IsKept gateway slot generation halted old → halted ≡ false → IsReadable delta
     → new ≡ replaced old slot (all_synced (appended (at old slot) (written delta))) → Leaves gateway new (records gateway (image old) ++ delta ∷ [])
-durable_after gateway slot halted old new delta kept runs readable is =
-    let u = settled_shape gateway slot old (going_on gateway slot halted old kept runs) in
-    let s = synced_used gateway slot old u.0 u.1.0 delta u.1.1 readable in
-    let l = used_leaves gateway slot (replaced old slot (all_synced (appended (at old slot) (written delta)))) u.0 _ s in
-    let before : u.1.0.deltas ≡ records gateway (image old) = sym (used_records gateway slot old u.0 u.1.0 u.1.1) in
+durable_after gateway slot generation halted old new delta kept runs readable is =
+    let u = going_on gateway slot generation halted old kept runs in
+    let s = synced_used gateway slot old generation u.0 delta u.1 readable in
+    let l = used_leaves gateway slot (replaced old slot (all_synced (appended (at old slot) (written delta)))) generation _ s in
+    let before : u.0.deltas ≡ records gateway (image old) = sym (used_records gateway slot old generation u.0 u.1) in
     subst (λ (d : Slots). Leaves gateway d (records gateway (image old) ++ delta ∷ [])) (sym is)
     (subst (λ (xs : List (List Op)). Leaves gateway (replaced old slot (all_synced (appended (at old slot) (written delta)))) (xs ++ delta ∷ [])) before l)
+
+-- ---- where it is known what is arranged
+
+no_err : {T E A : Type 0} (P : E → Type 0) (r : Result T E) → false ≡ is_err r → IsErrAnd r P → A
+no_err P (Ok x) e h = absurd h
+no_err P (Err x) e h = absurd cc
+
+was_err : {T E A : Type 0} (r : Result T E) → false ≡ is_err r → IsErr r → A
+was_err (Ok x) e h = absurd cc
+was_err (Err x) e h = absurd cc
+
+-- the append and its sync were done: nothing was arranged
+pub done_as : (start middle after : Outlook) (old new : Slots) (slot : Slot) (bytes : List ℕ) (n : ℕ) (r : Result (Unit {0}) Short) (q : Result (Unit {0}) DiskFault) → false ≡ is_err r → false ≡ is_err q → AppendsAs start n r middle → SyncsAs middle q after
+    → new ≡ after_append None old slot bytes → AppendedAs start old slot bytes (Ok tt) new after
+done_as None middle after old new slot bytes n r q fine good h k e = tt
+done_as (Some None) middle after old new slot bytes n r q fine good h k e = (refl, e, (subst (λ (o : Outlook). SyncsAs o q after) h.1 k).1)
+done_as (Some (Some (Stop w))) middle after old new slot bytes n r q fine good h k e = no_err (λ (short : Short). short.written ≡ min w n) r fine h.0
+done_as (Some (Some KeepBack)) middle after old new slot bytes n r q fine good h k e = was_err q good (subst (λ (o : Outlook). SyncsAs o q after) h.1 k).0
+done_as (Some (Some FailSync)) middle after old new slot bytes n r q fine good h k e = was_err q good (subst (λ (o : Outlook). SyncsAs o q after) h.1 k).0

@@ -18,7 +18,7 @@ use Rattle.jr_journal.specs.Opening.{synced_slots, IsOpening, IsPartly, OpensAli
 use Rattle.jr_journal.proofs.Pieces.{found_nothing}
 use Rattle.jr_journal.proofs.Contents.{IsSealed, content_cut, content_whole, sealed_again}
 use Rattle.jr_journal.proofs.Sound.{image_of, empty_unsealed, fault_is, alone_sound}
-use Rattle.jr_journal.proofs.Opened.{begins_itself, new_sealed, synced_same, settled_is, recovered_leaves, opening_records, opening_found}
+use Rattle.jr_journal.proofs.Opened.{begins_itself, new_sealed, synced_same, settled_is, recovered_leaves, opening_records, opening_found, ruled, fresh_empty}
 use Rattle.jr_journal.proofs.Settled.{take_both}
 
 abbrev nothing : List ℕ
@@ -151,24 +151,25 @@ partly_leaves gateway old synced read new o e same h part =
   where
     go : (o : Opening) → IsOpening gateway (image old) o → IsPartly gateway o (synced_slots old) new → LeavesNoMore gateway old new
     go New here part =
+        let none : (image old).second ≡ [] = fresh_empty (image old) (ruled gateway (image old) New here).0 in
         elim part [
           | inl unchanged ↦ synced_leaves gateway old new unchanged
           | inr out ↦
               from_image gateway old new (λ k l.
               let is : after_crash k l new ≡ after_crash k l (begun (synced_slots old) (take out.0 (new_journal gateway))) = ap (λ d. after_crash k l d) out.1 in (
-                ap (λ i. records gateway i) is ∙ (begun_leaves gateway old out.0 k l here.0 ∙ opening_records gateway (image old) New here),
-                ap (λ i. fault_of gateway i) is ∙ (begun_sound gateway old out.0 k l here.0 ∙ sym (opening_found gateway (image old) New here)),
+                ap (λ i. records gateway i) is ∙ (begun_leaves gateway old out.0 k l none ∙ opening_records gateway (image old) New here),
+                ap (λ i. fault_of gateway i) is ∙ (begun_sound gateway old out.0 k l none ∙ sym (opening_found gateway (image old) New here)),
               ))
         ]
-    go (Held f n) here part =
+    go (Held slot m f n) here part =
         elim part [
           | inl unchanged ↦ synced_leaves gateway old new unchanged
           | inr cut ↦
-              let is = settled_is gateway old (synced_slots old) new (Held f n) refl (subst (λ (i : Image). IsOpening gateway i (Held f n)) (sym (synced_same old)) here) cut in
+              let is = settled_is gateway old (synced_slots old) new (Held slot m f n) refl (subst (λ (i : Image). IsOpening gateway i (Held slot m f n)) (sym (synced_same old)) here) cut in
               from_image gateway old new (λ k l.
               let same = ap (λ d. after_crash k l d) is in
-              let there = recovered_leaves gateway (image old) (Held f n) here k l in (
-                ap (λ i. records gateway i) same ∙ (there.0 ∙ opening_records gateway (image old) (Held f n) here),
-                ap (λ i. fault_of gateway i) same ∙ (there.1 ∙ sym (opening_found gateway (image old) (Held f n) here)),
+              let there = recovered_leaves gateway (image old) (Held slot m f n) here k l in (
+                ap (λ i. records gateway i) same ∙ (there.0 ∙ opening_records gateway (image old) (Held slot m f n) here),
+                ap (λ i. fault_of gateway i) same ∙ (there.1 ∙ sym (opening_found gateway (image old) (Held slot m f n) here)),
               ))
         ]

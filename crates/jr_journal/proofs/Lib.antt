@@ -5,10 +5,12 @@ pub mod Contents
 pub mod Append
 pub mod Sound
 pub mod Settled
+pub mod Bases
 pub mod Readable
+pub mod Calm
 pub mod Appending
+pub mod Compacted
 pub mod Begun
 pub mod Opened
-pub mod Calm
 pub mod Quiet
 pub mod Leaving

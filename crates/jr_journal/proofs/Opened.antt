@@ -1,14 +1,14 @@
 -- What an opened journal is, by the image that was there.
-use Rattle.std.proofs.Common.{◌≡◌, ℕ, ◌+◌, ◌-◌, ◌<◌, ◌≤◌, Bool, true, false, ◌&&◌, List, [], ◌++◌, length, take, drop, Option, None, Result, Ok, Err, refl, sym, ap, subst, ◌∙◌, inl, inr, arith}
-use Rattle.std.specs.Prelude.{nat_lt, IfOk, IfErr}
+use Rattle.std.proofs.Common.{◌≡◌, ℕ, ◌+◌, ◌-◌, ◌<◌, ◌≤◌, Bool, true, false, cond, ◌&&◌, List, [], ◌∷◌, ◌++◌, length, take, drop, Some, None, refl, sym, ap, subst, ◌∙◌, inl, inr, arith}
+use Rattle.std.specs.Prelude.{nat_lt}
 use Rattle.std.specs.Str.{bytes_eq}
 use Rattle.std.proofs.Math.ListN.{drop_of_length-le}
-use Rattle.std.proofs.lemmas.Bool.{cases_lt, and_from, lt-ltb, le-ltb}
-use Rattle.std.proofs.lemmas.List.{append-nil, nil_from_length, take_all, length-take, length-append, length-drop}
+use Rattle.std.proofs.lemmas.Bool.{cases_lt, cases_Bool, and_parts, le-ltb}
+use Rattle.std.proofs.lemmas.List.{append-nil, take_all, length-take, length-append, length-drop}
 use Rattle.std.proofs.lemmas.Slice.Eq.{bytes_eq-Decides}
 use Rattle.rep_ops.specs.declared.op.Op.{Op}
-use Rattle.jr_journal.specs.declared.disk.Slot.TheVariants.{First}
-use Rattle.jr_journal.specs.declared.fault.JournalFault.{JournalFault}
+use Rattle.jr_journal.specs.declared.disk.Slot.{Slot}
+use Rattle.jr_journal.specs.declared.disk.Slot.TheVariants.{First, Second}
 use Rattle.jr_journal.specs.declared.fault.JournalFault.TheVariants.{Foreign}
 use Rattle.jr_journal.specs.declared.piece.Piece.TheVariants.{Seal}
 use Rattle.jr_journal.specs.declared.piece.Found.{Found}
@@ -16,87 +16,79 @@ use Rattle.jr_journal.specs.declared.content.SlotContent.{SlotContent}
 use Rattle.jr_journal.specs.declared.content.SlotContent.TheVariants.{Alien, Unsealed, Sealed, Broken}
 use Rattle.jr_journal.specs.declared.opening.Opening.{Opening}
 use Rattle.jr_journal.specs.declared.opening.Opening.TheVariants.{New, Held}
-use Rattle.jr_journal.specs.Disk.{SlotBytes, Slots, Image, bytes_of, image, cut_to}
-use Rattle.jr_journal.specs.Records.{new_journal, magic, piece_at, made, joined, one_seal, found, slot_content, chosen, records}
-use Rattle.jr_journal.specs.Faults.{is_nil, is_fresh, slots_fault, fault_of, IsFault}
-use Rattle.jr_journal.specs.Journals.{is_below, is_settled, Leaves}
-use Rattle.jr_journal.specs.Opening.{synced_bytes, synced_slots, reads_first, cut_end, recovered, opening_of, deltas_of, IsOpening, IsSized, settled, is_new}
+use Rattle.jr_journal.specs.Disk.{SlotBytes, Slots, Image, at, replaced, bytes_of, image, cut_to}
+use Rattle.jr_journal.specs.Records.{new_journal, magic, piece_at, made, joined, one_seal, found, slot_content, generation_in, chosen, records}
+use Rattle.jr_journal.specs.Faults.{is_nil, is_fresh, slots_fault, fault_of}
+use Rattle.jr_journal.specs.Journals.{other, is_below, is_in_use, Leaves}
+use Rattle.jr_journal.specs.Opening.{synced_bytes, synced_image, synced_slots, reads_first, cut_end, recovered, slot_read, generation_read, opening_of, deltas_of, place_of, number_of, IsOpening, IsSized, settled, is_new}
 use Rattle.jr_journal.proofs.Pieces.{found_seal, found_nothing}
 use Rattle.jr_journal.proofs.Append.{found_inside}
 use Rattle.jr_journal.proofs.Contents.{IsSealed, sealed_shape, sealed_cut}
-use Rattle.jr_journal.proofs.Sound.{image_of, empty_unsealed, fault_is, alone_sound}
-use Rattle.jr_journal.proofs.Settled.{IsUsed, settled_again, used_leaves}
+use Rattle.jr_journal.proofs.Sound.{image_at, image_of, empty_unsealed, alone_sound, used_sound}
+use Rattle.jr_journal.proofs.Settled.{IsUsed, in_use_again, used_leaves, records_at}
 
--- ---- faults
+-- ---- what is to be done, by what the slots are
 
--- what `opening_of` tells of a slot beside an empty one
-judged : (a : SlotContent) (size : ℕ) → IfErr (opening_of a size) (λ e. IsFault (slots_fault a Unsealed (nat_lt size 14)) e)
-judged Alien size = refl
-judged (Broken at) size = refl
-judged (Sealed m f) size = tt
-judged Unsealed size = go (nat_lt size 14) refl where
-  go : (b : Bool) → nat_lt size 14 ≡ b → IfErr (opening_of Unsealed size) (λ e. IsFault (slots_fault Unsealed Unsealed (nat_lt size 14)) e)
-  go true is = rw is tt
-  go false is = rw is refl
+abbrev pub is_first : Slot → Bool
+is_first First = true
+is_first Second = false
 
-passed : (a : SlotContent) (size : ℕ) → IfErr (opening_of a size) (λ e. Unit {0}) → IfOk (opening_of a size) (λ o. slots_fault a Unsealed (nat_lt size 14) ≡ None)
-passed Alien size h = tt
-passed (Broken at) size h = tt
-passed (Sealed m f) size h = refl
-passed Unsealed size h = go (nat_lt size 14) refl where
-  go : (b : Bool) → nat_lt size 14 ≡ b → IfOk (opening_of Unsealed size) (λ o. slots_fault Unsealed Unsealed (nat_lt size 14) ≡ None)
-  go true is = rw is refl
-  go false is = rw is tt
+-- the first slot is the one that is read
+abbrev reads : ℕ → Image → Bool
+reads gateway i = reads_first (slot_content gateway i.first) (slot_content gateway i.second)
 
-judged_at : (r : Result Opening JournalFault) (fault : Option JournalFault) (e : JournalFault) → r ≡ Err e → IfErr r (λ x. IsFault fault x) → IsFault fault e
-judged_at (Ok o) fault e is h = absurd cc
-judged_at (Err d) fault e is h = let same : d ≡ e = cc in subst (λ (x : JournalFault). IsFault fault x) same h
+abbrev pub Ruled : ℕ → Image → Opening → Type 0
+Ruled gateway i New = (is_fresh i ≡ true) × (slot_content gateway i.first ≡ Unsealed) × (slot_content gateway i.second ≡ Unsealed)
+Ruled gateway i (Held slot m f size) =
+    (slot_content gateway (image_at i slot) ≡ Sealed m f) × (is_below (slot_content gateway (image_at i (other slot))) m ≡ true) × (reads gateway i ≡ is_first slot)
+    × (size ≡ length (image_at i slot))
 
-passed_at : {A : Type 0} (r : Result Opening JournalFault) (o : Opening) → r ≡ Ok o → IfOk r (λ x. A) → A
-passed_at (Ok p) o is h = h
-passed_at (Err d) o is h = absurd cc
+fresh_so : (b : Bool) → cond b None (Some Foreign) ≡ None → b ≡ true
+fresh_so true e = refl
+fresh_so false e = absurd cc
 
-ignored : (r : Result Opening JournalFault) → IfErr r (λ e. Unit {0})
-ignored (Ok o) = tt
-ignored (Err e) = tt
+newer : (p q : Bool) → cond p None (cond q None (Some Foreign)) ≡ None → q ≡ false → p ≡ true
+newer true q e f = refl
+newer false true e f = absurd cc
+newer false false e f = absurd cc
 
--- a fault of `opening_of` is that of the image
-pub judged_fault : (gateway : ℕ) (i : Image) (content : SlotContent) (size : ℕ) (e : JournalFault) → i.second ≡ [] → content ≡ slot_content gateway i.first → size ≡ length i.first → Err e ≡ opening_of content size → IsFault (fault_of gateway i) e
-judged_fault gateway i content size e none is count r =
-    let at : opening_of (slot_content gateway i.first) (length i.first) ≡ Err e = sym (r ∙ (ap (λ a. opening_of a size) is ∙ ap (λ n. opening_of (slot_content gateway i.first) n) count)) in
-    subst (λ (x : Option JournalFault). IsFault x e) (sym (fault_is gateway i none))
-    (judged_at (opening_of (slot_content gateway i.first) (length i.first)) (slots_fault (slot_content gateway i.first) Unsealed (nat_lt (length i.first) 14)) e at (judged (slot_content gateway i.first) (length i.first)))
+module _ (gateway : ℕ) (i : Image) where
+  by_both : (x y : SlotContent) → slot_content gateway i.first ≡ x → slot_content gateway i.second ≡ y → slots_fault x y (is_fresh i) ≡ None → Ruled gateway i (opening_of x (length i.first) y (length i.second))
+  by_both Alien Alien e g sound = absurd cc
+  by_both Alien Unsealed e g sound = absurd cc
+  by_both Alien (Sealed n q) e g sound = absurd cc
+  by_both Alien (Broken from) e g sound = absurd cc
+  by_both (Broken start) Alien e g sound = absurd cc
+  by_both (Broken start) Unsealed e g sound = absurd cc
+  by_both (Broken start) (Sealed n q) e g sound = absurd cc
+  by_both (Broken start) (Broken from) e g sound = absurd cc
+  by_both Unsealed Alien e g sound = absurd cc
+  by_both Unsealed (Broken from) e g sound = absurd cc
+  by_both Unsealed Unsealed e g sound = (fresh_so (is_fresh i) sound, e, g)
+  by_both Unsealed (Sealed n q) e g sound = (g, ap (λ c. is_below c n) e, ap (λ c. reads_first c (slot_content gateway i.second)) e, refl)
+  by_both (Sealed m f) Alien e g sound = absurd cc
+  by_both (Sealed m f) (Broken from) e g sound = absurd cc
+  by_both (Sealed m f) Unsealed e g sound =
+      (e, ap (λ c. is_below c m) g, ap (λ c. reads_first c (slot_content gateway i.second)) e ∙ ap (λ c. reads_first (Sealed m f) c) g, refl)
+  by_both (Sealed m f) (Sealed n q) e g sound =
+      let here : reads gateway i ≡ nat_lt n m = ap (λ c. reads_first c (slot_content gateway i.second)) e ∙ ap (λ c. reads_first (Sealed m f) c) g in
+      let first = Held First m f (length i.first) in
+      let second = Held Second n q (length i.second) in
+      elim (cases_Bool (nat_lt n m)) [
+        | inl later ↦ subst (λ (b : Bool). Ruled gateway i (cond b first second)) (sym later) (e, ap (λ c. is_below c m) g ∙ later, here ∙ later, refl)
+        | inr sooner ↦
+            subst (λ (b : Bool). Ruled gateway i (cond b first second)) (sym sooner)
+            (g, ap (λ c. is_below c n) e ∙ newer (nat_lt m n) (nat_lt n m) sound sooner, here ∙ sooner, refl)
+      ]
+
+pub ruled : (gateway : ℕ) (i : Image) (o : Opening) → IsOpening gateway i o → Ruled gateway i o
+ruled gateway i o h =
+    subst (λ (p : Opening). Ruled gateway i p) (sym h.1) (by_both gateway i (slot_content gateway i.first) (slot_content gateway i.second) refl refl h.0)
 
 pub opening_found : (gateway : ℕ) (i : Image) (o : Opening) → IsOpening gateway i o → fault_of gateway i ≡ None
-opening_found gateway i o h =
-    let a = slot_content gateway i.first in
-    let n = length i.first in
-    fault_is gateway i h.0 ∙ passed_at (opening_of a n) o (sym h.1) (passed a n (ignored (opening_of a n)))
+opening_found gateway i o h = h.0
 
-pub judged_opening : (gateway : ℕ) (i : Image) (content : SlotContent) (size : ℕ) (o : Opening) → i.second ≡ [] → content ≡ slot_content gateway i.first → size ≡ length i.first → Ok o ≡ opening_of content size → IsOpening gateway i o
-judged_opening gateway i content size o none is count r = (none, r ∙ (ap (λ a. opening_of a size) is ∙ ap (λ n. opening_of (slot_content gateway i.first) n) count))
-
--- ---- what is to be done, by the first slot
-
-abbrev Ruled : Opening → SlotContent → ℕ → Type 0
-Ruled New a size = (a ≡ Unsealed) × (size < 14)
-Ruled (Held f n) a size = (m : ℕ) × ((a ≡ Sealed m f) × (n ≡ size))
-
-abbrev okay : Opening → Result Opening JournalFault
-okay o = Ok o
-
-ok_ruled : (p o : Opening) (a : SlotContent) (size : ℕ) → okay o ≡ okay p → Ruled p a size → Ruled o a size
-ok_ruled p o a size e h = let same : p ≡ o = cc in subst (λ (x : Opening). Ruled x a size) same h
-
-ruled : (o : Opening) (a : SlotContent) (size : ℕ) → Ok o ≡ opening_of a size → Ruled o a size
-ruled o Alien size e = absurd cc
-ruled o (Broken at) size e = absurd cc
-ruled o (Sealed m f) size e = ok_ruled (Held f size) o (Sealed m f) size e (m, (refl, refl))
-ruled o Unsealed size e =
-    elim (cases_lt size 14) [
-      | inl lt ↦ let t : nat_lt size 14 ≡ true = lt-ltb size 14 lt in let is : Ok o ≡ Ok New = rw t at e in ok_ruled New o Unsealed size is (refl, lt)
-      | inr le ↦ let t : nat_lt size 14 ≡ false = le-ltb size 14 le in absurd (let wrong : Ok o ≡ Err Foreign = rw t at e in cc)
-    ]
+-- ---- fresh, or not
 
 -- a sealed slot has its header and its seal
 sealed_long : (gateway : ℕ) (xs : List ℕ) (m : ℕ) (f : Found) → IsSealed gateway xs m f → 14 ≤ length xs
@@ -109,31 +101,92 @@ sealed_long gateway xs m f h =
       | inr le ↦ le
     ]
 
+nil_is : (xs : List ℕ) → is_nil xs ≡ true → xs ≡ []
+nil_is [] e = refl
+nil_is (x ∷ xs) e = absurd cc
+
+not_nil : (xs : List ℕ) → 0 < length xs → is_nil xs ≡ false
+not_nil [] lt = absurd (omega arith)
+not_nil (x ∷ xs) lt = refl
+
+and_not : (a b : Bool) → b ≡ false → (a && b) ≡ false
+and_not true b e = e
+and_not false b e = refl
+
+not_and : (a b : Bool) → a ≡ false → (a && b) ≡ false
+not_and true b e = absurd cc
+not_and false b e = refl
+
+pub not_fresh : (gateway : ℕ) (slot : Slot) (i : Image) (m : ℕ) (f : Found) → IsSealed gateway (image_at i slot) m f → is_fresh i ≡ false
+not_fresh gateway First i m f h = and_not (is_nil i.second) (nat_lt (length i.first) 14) (le-ltb (length i.first) 14 (sealed_long gateway i.first m f h))
+not_fresh gateway Second i m f h =
+    let long = sealed_long gateway i.second m f h in
+    not_and (is_nil i.second) (nat_lt (length i.first) 14) (not_nil i.second (omega arith))
+
+held_stale : (gateway : ℕ) (i : Image) (slot : Slot) (m : ℕ) (f : Found) → slot_content gateway (image_at i slot) ≡ Sealed m f → is_fresh i ≡ false
+held_stale gateway i slot m f e = not_fresh gateway slot i m f (sealed_shape gateway (image_at i slot) m f e)
+
+pub fresh_empty : (i : Image) → is_fresh i ≡ true → i.second ≡ []
+fresh_empty i e = nil_is i.second (and_parts _ _ e).0
+
+-- a new journal is begun exactly where the image is fresh
+pub opening_fresh : (gateway : ℕ) (i : Image) (o : Opening) → IsOpening gateway i o → is_fresh i ≡ is_new o
+opening_fresh gateway i o h = go o (ruled gateway i o h) where
+  go : (o : Opening) → Ruled gateway i o → is_fresh i ≡ is_new o
+  go New r = r.0
+  go (Held slot m f n) r = held_stale gateway i slot m f r.0
+
+-- ---- which slot is read
+
+pub opening_place : (gateway : ℕ) (i : Image) (o : Opening) → IsOpening gateway i o → (place_of o ≡ slot_read gateway i) × (number_of o ≡ generation_read gateway i)
+opening_place gateway i o h = go o (ruled gateway i o h) where
+  m_first : ℕ
+  m_first = generation_in (slot_content gateway i.first)
+
+  m_second : ℕ
+  m_second = generation_in (slot_content gateway i.second)
+
+  go : (o : Opening) → Ruled gateway i o → (place_of o ≡ slot_read gateway i) × (number_of o ≡ generation_read gateway i)
+  go New r = (sym (ap (λ b. cond b First (cond (reads gateway i) First Second)) r.0), sym (ap (λ b. cond b 1 (cond (reads gateway i) m_first m_second)) r.0))
+  go (Held First m f n) r =
+      let stale = held_stale gateway i First m f r.0 in (
+        sym (ap (λ b. cond b First (cond (reads gateway i) First Second)) stale ∙ ap (λ b. cond b First Second) r.2),
+        sym (ap (λ b. cond b 1 (cond (reads gateway i) m_first m_second)) stale ∙ (ap (λ b. cond b m_first m_second) r.2 ∙ ap generation_in r.0)),
+      )
+  go (Held Second m f n) r =
+      let stale = held_stale gateway i Second m f r.0 in (
+        sym (ap (λ b. cond b First (cond (reads gateway i) First Second)) stale ∙ ap (λ b. cond b First Second) r.2),
+        sym (ap (λ b. cond b 1 (cond (reads gateway i) m_first m_second)) stale ∙ (ap (λ b. cond b m_first m_second) r.2 ∙ ap generation_in r.0)),
+      )
+
 -- ---- the slots
 
 abbrev pair : SlotBytes → SlotBytes → Slots
 pair a b = record { first = a; second = b }
 
-recovered_new : (gateway : ℕ) (i : Image) → i.second ≡ [] → length i.first < 14 → recovered gateway i ≡ pair (synced_bytes (new_journal gateway)) (synced_bytes i.second)
-recovered_new gateway i none short =
-    let fresh : is_fresh i ≡ true = and_from _ _ (ap is_nil none) (lt-ltb (length i.first) 14 short) in
-    rw fresh refl
+recovered_new : (gateway : ℕ) (i : Image) → is_fresh i ≡ true → recovered gateway i ≡ pair (synced_bytes (new_journal gateway)) (synced_bytes i.second)
+recovered_new gateway i fresh = rw fresh refl
 
-not_fresh : (i : Image) → 14 ≤ length i.first → is_fresh i ≡ false
-not_fresh i long = let t : nat_lt (length i.first) 14 ≡ false = le-ltb (length i.first) 14 long in go (is_nil i.second) t where
-  go : (b : Bool) → nat_lt (length i.first) 14 ≡ false → (b && nat_lt (length i.first) 14) ≡ false
-  go true t = t
-  go false t = refl
+-- the end of the slot that is read is cut away
+abbrev cut_at : Image → Slot → Found → Slots
+cut_at i slot f = replaced (synced_image i) slot (synced_bytes (take (13 + f.whole) (image_at i slot)))
 
-recovered_held : (gateway : ℕ) (i : Image) (m : ℕ) (f : Found) → i.second ≡ [] → slot_content gateway i.first ≡ Sealed m f → recovered gateway i ≡ pair (synced_bytes (take (13 + f.whole) i.first)) (synced_bytes i.second)
-recovered_held gateway i m f none is =
-    let h = sealed_shape gateway i.first m f is in
-    let stale : is_fresh i ≡ false = not_fresh i (sealed_long gateway i.first m f h) in
-    let beside : slot_content gateway i.second ≡ Unsealed = ap (λ xs. slot_content gateway xs) none ∙ empty_unsealed gateway in
-    let first : reads_first (slot_content gateway i.first) (slot_content gateway i.second) ≡ true = ap (λ a. reads_first a (slot_content gateway i.second)) is ∙ ap (λ b. reads_first (Sealed m f) b) beside in
-    let ends : cut_end (slot_content gateway i.first) i.first ≡ take (13 + f.whole) i.first = ap (λ a. cut_end a i.first) is in
-    let one : recovered gateway i ≡ pair (synced_bytes (cut_end (slot_content gateway i.first) i.first)) (synced_bytes i.second) = rw (stale, first) refl in
-    one ∙ ap (λ xs. pair (synced_bytes xs) (synced_bytes i.second)) ends
+recovered_held : (gateway : ℕ) (i : Image) (slot : Slot) (m : ℕ) (f : Found) → slot_content gateway (image_at i slot) ≡ Sealed m f → reads gateway i ≡ is_first slot → recovered gateway i ≡ cut_at i slot f
+recovered_held gateway i slot m f is which = by_slot slot is which (held_stale gateway i slot m f is) where
+  A : Slots
+  A = pair (synced_bytes (cut_end (slot_content gateway i.first) i.first)) (synced_bytes i.second)
+
+  B : Slots
+  B = pair (synced_bytes i.first) (synced_bytes (cut_end (slot_content gateway i.second) i.second))
+
+  new : Slots
+  new = pair (synced_bytes (new_journal gateway)) (synced_bytes i.second)
+
+  by_slot : (slot : Slot) → slot_content gateway (image_at i slot) ≡ Sealed m f → reads gateway i ≡ is_first slot → is_fresh i ≡ false → recovered gateway i ≡ cut_at i slot f
+  by_slot First is which stale =
+      ap (λ b. cond b new (cond (reads gateway i) A B)) stale ∙ (ap (λ b. cond b A B) which ∙ ap (λ c. pair (synced_bytes (cut_end c i.first)) (synced_bytes i.second)) is)
+  by_slot Second is which stale =
+      ap (λ b. cond b new (cond (reads gateway i) A B)) stale ∙ (ap (λ b. cond b A B) which ∙ ap (λ c. pair (synced_bytes i.first) (synced_bytes (cut_end c i.second))) is)
 
 -- the image is that of the slots when both are synced
 synced_first : (d : Slots) → (image (synced_slots d)).first ≡ (image d).first
@@ -151,18 +204,21 @@ nothing = []
 cut_synced : (xs : List ℕ) (n : ℕ) → cut_to (synced_bytes xs) n ≡ synced_bytes (take n xs)
 cut_synced xs n = let none : take (n - length xs) nothing ≡ nothing = take_all (n - length xs) nothing (omega arith) in λ j. record { synced = take n xs; unsynced = none j }
 
+settled_held : (slot : Slot) (d : Slots) (f : Found) → replaced (synced_slots d) slot (cut_to (at (synced_slots d) slot) (13 + f.whole)) ≡ cut_at (image d) slot f
+settled_held First d f = ap (λ s. pair s (synced_bytes (image d).second)) (cut_synced (bytes_of d.first) (13 + f.whole))
+settled_held Second d f = ap (λ s. pair (synced_bytes (image d).first) s) (cut_synced (bytes_of d.second) (13 + f.whole))
+
 pub settled_is : (gateway : ℕ) (old synced new : Slots) (o : Opening) → synced ≡ synced_slots old → IsOpening gateway (image synced) o → new ≡ settled gateway o synced → new ≡ recovered gateway (image old)
 settled_is gateway old synced new o e h is =
     let i = image old in
     let same : image synced ≡ i = ap image e ∙ synced_same old in
     let here : IsOpening gateway i o = subst (λ (x : Image). IsOpening gateway x o) same h in
     let now : new ≡ settled gateway o (synced_slots old) = is ∙ ap (λ d. settled gateway o d) e in
-    now ∙ go o (ruled o (slot_content gateway i.first) (length i.first) here.1) here.0
+    now ∙ go o (ruled gateway i o here)
   where
-    go : (o : Opening) → Ruled o (slot_content gateway (image old).first) (length (image old).first) → (image old).second ≡ [] → settled gateway o (synced_slots old) ≡ recovered gateway (image old)
-    go New r none = sym (recovered_new gateway (image old) none r.1)
-    go (Held f n) r none =
-        ap (λ s. pair s (synced_bytes (image old).second)) (cut_synced (bytes_of old.first) (13 + f.whole)) ∙ sym (recovered_held gateway (image old) r.0 f none r.1.0)
+    go : (o : Opening) → Ruled gateway (image old) o → settled gateway o (synced_slots old) ≡ recovered gateway (image old)
+    go New r = sym (recovered_new gateway (image old) r.0)
+    go (Held slot m f n) r = settled_held slot old f ∙ sym (recovered_held gateway (image old) slot m f r.0 r.2)
 
 -- ---- its records
 
@@ -183,15 +239,13 @@ new_sealed gateway = record {
   seal = refl;
 }
 
-record IsOpened (gateway : ℕ) (d : Slots) (deltas : List (List Op)) : Type 0 where
-  generation : ℕ
+record IsOpened (gateway : ℕ) (d : Slots) (slot : Slot) (generation : ℕ) (deltas : List (List Op)) : Type 0 where
   pieces : Found
-  used : IsUsed gateway First d generation pieces
+  used : IsUsed gateway slot d generation pieces
   same : pieces.deltas ≡ deltas
 
-opened_new : (gateway : ℕ) (i : Image) → i.second ≡ [] → IsOpened gateway (pair (synced_bytes (new_journal gateway)) (synced_bytes i.second)) []
+opened_new : (gateway : ℕ) (i : Image) → i.second ≡ [] → IsOpened gateway (pair (synced_bytes (new_journal gateway)) (synced_bytes i.second)) First 1 []
 opened_new gateway i none = record {
-  generation = 1;
   pieces = made [] true 1 false;
   used = record {
     first_clean = refl;
@@ -204,46 +258,64 @@ opened_new gateway i none = record {
   same = refl;
 }
 
-opened_held : (gateway : ℕ) (i : Image) (m : ℕ) (f : Found) → i.second ≡ [] → IsSealed gateway i.first m f → IsOpened gateway (pair (synced_bytes (take (13 + f.whole) i.first)) (synced_bytes i.second)) f.deltas
-opened_held gateway i m f none h =
+cut_full : (gateway : ℕ) (xs : List ℕ) (m : ℕ) (f : Found) → IsSealed gateway xs m f → 13 + f.whole ≡ length (take (13 + f.whole) xs)
+cut_full gateway xs m f h =
     let long = h.long in
-    let within : 0 + f.whole ≤ length (drop 13 i.first) = found_inside 0 false (drop 13 i.first) f h.pieces (omega arith) in
+    let within : 0 + f.whole ≤ length (drop 13 xs) = found_inside 0 false (drop 13 xs) f h.pieces (omega arith) in
+    omega (arith, length-take (13 + f.whole) xs, length-drop 13 xs)
+
+opened_held : (gateway : ℕ) (i : Image) (slot : Slot) (m : ℕ) (f : Found) → IsSealed gateway (image_at i slot) m f → is_below (slot_content gateway (image_at i (other slot))) m ≡ true
+    → IsOpened gateway (cut_at i slot f) slot m f.deltas
+opened_held gateway i First m f h below =
+    let cut = sealed_cut gateway i.first m f h in
     record {
-      generation = m;
       pieces = f;
       used = record {
         first_clean = refl;
         second_clean = refl;
-        sealed = sealed_cut gateway i.first m f h;
-        full = omega (arith, length-take (13 + f.whole) i.first, length-drop 13 i.first);
-        below = ap (λ a. is_below a m) (ap (λ xs. slot_content gateway xs) none ∙ empty_unsealed gateway);
-        sound = alone_sound gateway (image_of (take (13 + f.whole) i.first) i.second) m f none (sealed_cut gateway i.first m f h);
+        sealed = cut;
+        full = cut_full gateway i.first m f h;
+        below = below;
+        sound = used_sound gateway First (image_of (take (13 + f.whole) i.first) i.second) m f cut below;
+      };
+      same = refl;
+    }
+opened_held gateway i Second m f h below =
+    let cut = sealed_cut gateway i.second m f h in
+    record {
+      pieces = f;
+      used = record {
+        first_clean = refl;
+        second_clean = refl;
+        sealed = cut;
+        full = cut_full gateway i.second m f h;
+        below = below;
+        sound = used_sound gateway Second (image_of i.first (take (13 + f.whole) i.second)) m f cut below;
       };
       same = refl;
     }
 
-opened : (gateway : ℕ) (i : Image) (o : Opening) → IsOpening gateway i o → IsOpened gateway (recovered gateway i) (deltas_of o)
-opened gateway i o h = go o (ruled o (slot_content gateway i.first) (length i.first) h.1) where
-  go : (o : Opening) → Ruled o (slot_content gateway i.first) (length i.first) → IsOpened gateway (recovered gateway i) (deltas_of o)
-  go New r = subst (λ (d : Slots). IsOpened gateway d []) (sym (recovered_new gateway i h.0 r.1)) (opened_new gateway i h.0)
-  go (Held f n) r = subst (λ (d : Slots). IsOpened gateway d f.deltas) (sym (recovered_held gateway i r.0 f h.0 r.1.0)) (opened_held gateway i r.0 f h.0 (sealed_shape gateway i.first r.0 f r.1.0))
+opened : (gateway : ℕ) (i : Image) (o : Opening) → IsOpening gateway i o → IsOpened gateway (recovered gateway i) (place_of o) (number_of o) (deltas_of o)
+opened gateway i o h = go o (ruled gateway i o h) where
+  go : (o : Opening) → Ruled gateway i o → IsOpened gateway (recovered gateway i) (place_of o) (number_of o) (deltas_of o)
+  go New r = subst (λ (d : Slots). IsOpened gateway d First 1 []) (sym (recovered_new gateway i r.0)) (opened_new gateway i (fresh_empty i r.0))
+  go (Held slot m f n) r =
+      subst (λ (d : Slots). IsOpened gateway d slot m f.deltas) (sym (recovered_held gateway i slot m f r.0 r.2))
+      (opened_held gateway i slot m f (sealed_shape gateway (image_at i slot) m f r.0) r.1)
 
 pub opening_records : (gateway : ℕ) (i : Image) (o : Opening) → IsOpening gateway i o → deltas_of o ≡ records gateway i
-opening_records gateway i o h = go o (ruled o (slot_content gateway i.first) (length i.first) h.1) where
-  beside : slot_content gateway i.second ≡ Unsealed
-  beside = ap (λ xs. slot_content gateway xs) h.0 ∙ empty_unsealed gateway
+opening_records gateway i o h = go o (ruled gateway i o h) where
+  go : (o : Opening) → Ruled gateway i o → deltas_of o ≡ records gateway i
+  go New r = sym (ap (λ a. chosen a (slot_content gateway i.second)) r.1 ∙ ap (λ b. chosen Unsealed b) r.2)
+  go (Held slot m f n) r = sym (records_at gateway slot i m f (sealed_shape gateway (image_at i slot) m f r.0) r.1)
 
-  go : (o : Opening) → Ruled o (slot_content gateway i.first) (length i.first) → deltas_of o ≡ records gateway i
-  go New r = sym (ap (λ a. chosen a (slot_content gateway i.second)) r.0 ∙ ap (λ b. chosen Unsealed b) beside)
-  go (Held f n) r = sym (ap (λ a. chosen a (slot_content gateway i.second)) r.1.0 ∙ ap (λ b. chosen (Sealed r.0 f) b) beside)
-
-pub recovered_settled : (gateway : ℕ) (i : Image) (o : Opening) → IsOpening gateway i o → is_settled gateway First (recovered gateway i) ≡ true
-recovered_settled gateway i o h = let p = opened gateway i o h in settled_again gateway First (recovered gateway i) p.generation p.pieces p.used
+pub recovered_in_use : (gateway : ℕ) (i : Image) (o : Opening) → IsOpening gateway i o → is_in_use gateway (place_of o) (number_of o) (recovered gateway i) ≡ true
+recovered_in_use gateway i o h = let p = opened gateway i o h in in_use_again gateway (place_of o) (recovered gateway i) (number_of o) p.pieces p.used
 
 pub recovered_leaves : (gateway : ℕ) (i : Image) (o : Opening) → IsOpening gateway i o → Leaves gateway (recovered gateway i) (deltas_of o)
 recovered_leaves gateway i o h =
     let p = opened gateway i o h in
-    subst (λ (xs : List (List Op)). Leaves gateway (recovered gateway i) xs) p.same (used_leaves gateway First (recovered gateway i) p.generation p.pieces p.used)
+    subst (λ (xs : List (List Op)). Leaves gateway (recovered gateway i) xs) p.same (used_leaves gateway (place_of o) (recovered gateway i) (number_of o) p.pieces p.used)
 
 -- a cut behind the end does nothing
 pub cut_nothing : (s : SlotBytes) (len : ℕ) → length (bytes_of s) ≤ len → s ≡ cut_to s len
@@ -253,14 +325,8 @@ cut_nothing s len le =
     let b : take (len - length s.synced) s.unsynced ≡ s.unsynced = take_all (len - length s.synced) s.unsynced (omega arith) in
     λ j. record { synced = sym a j; unsynced = sym b j }
 
-pub judged_all : (gateway : ℕ) (d later : Slots) (content : SlotContent) (beside size : ℕ) (bytes : List ℕ) (r : Result Opening JournalFault) → beside ≡ length (bytes_of d.second) → beside ≤ 0 → later ≡ d → bytes ≡ bytes_of later.first
-    → content ≡ slot_content gateway bytes → size ≡ length bytes → r ≡ opening_of content size → IfErr r (λ e. IsFault (fault_of gateway (image d)) e)
-judged_all gateway d later content beside size bytes (Ok o) count none same read is number told = tt
-judged_all gateway d later content beside size bytes (Err e) count none same read is number told =
-    let at : bytes ≡ bytes_of d.first = read ∙ ap (λ (x : Slots). bytes_of x.first) same in
-    judged_fault gateway (image d) content size e (nil_from_length (bytes_of d.second) (omega arith)) (is ∙ ap (λ xs. slot_content gateway xs) at) (number ∙ ap length at) told
+-- ---- the three steps of an opening
 
--- the three steps of an opening
 pub record IsRecovered (gateway : ℕ) (old new : Slots) (o : Opening) : Type 0 where
   pub known : new ≡ recovered gateway (image old)
   pub opening : IsOpening gateway (image old) o
@@ -275,16 +341,12 @@ all_steps gateway old synced read new o e same h step =
       opening = subst (λ (i : Image). IsOpening gateway i o) (ap image e ∙ synced_same old) h.0;
     }
 
-pub steps_settled : (gateway : ℕ) (old new : Slots) (o : Opening) → IsRecovered gateway old new o → is_settled gateway First new ≡ true
-steps_settled gateway old new o h = ap (λ d. is_settled gateway First d) h.known ∙ recovered_settled gateway (image old) o h.opening
+pub steps_in_use : (gateway : ℕ) (old new : Slots) (o : Opening) (slot : Slot) (generation : ℕ) → IsRecovered gateway old new o → slot ≡ place_of o → generation ≡ number_of o → is_in_use gateway slot generation new ≡ true
+steps_in_use gateway old new o slot generation h place number =
+    ap (λ d. is_in_use gateway slot generation d) h.known
+    ∙ (ap (λ s. is_in_use gateway s generation (recovered gateway (image old))) place
+    ∙ (ap (λ n. is_in_use gateway (place_of o) n (recovered gateway (image old))) number ∙ recovered_in_use gateway (image old) o h.opening))
 
 pub steps_leave : (gateway : ℕ) (old new : Slots) (o : Opening) (deltas : List (List Op)) → IsRecovered gateway old new o → deltas ≡ deltas_of o → Leaves gateway new deltas
 steps_leave gateway old new o deltas h same =
     subst (λ (d : Slots). Leaves gateway d deltas) (sym h.known) (subst (λ (xs : List (List Op)). Leaves gateway (recovered gateway (image old)) xs) (sym same) (recovered_leaves gateway (image old) o h.opening))
-
--- a new journal is begun exactly where the image is fresh
-pub opening_fresh : (gateway : ℕ) (i : Image) (o : Opening) → IsOpening gateway i o → is_fresh i ≡ is_new o
-opening_fresh gateway i o h = go o (ruled o (slot_content gateway i.first) (length i.first) h.1) where
-  go : (o : Opening) → Ruled o (slot_content gateway i.first) (length i.first) → is_fresh i ≡ is_new o
-  go New r = and_from _ _ (ap is_nil h.0) (lt-ltb (length i.first) 14 r.1)
-  go (Held f n) r = not_fresh i (sealed_long gateway i.first r.0 f (sealed_shape gateway i.first r.0 f r.1.0))

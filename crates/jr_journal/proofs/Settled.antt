@@ -10,8 +10,8 @@ use Rattle.jr_journal.specs.declared.piece.Found.{Found}
 use Rattle.jr_journal.specs.declared.content.SlotContent.{SlotContent}
 use Rattle.jr_journal.specs.declared.content.SlotContent.TheVariants.{Alien, Unsealed, Sealed, Broken}
 use Rattle.jr_journal.specs.Disk.{SlotBytes, Slots, Image, at, replaced, bytes_of, image, synced_part, appended, all_synced, left_of, after_crash}
-use Rattle.jr_journal.specs.Records.{delta_bytes, IsReadable, written, joined, ended, one_record, slot_content, chosen, records}
-use Rattle.jr_journal.specs.Journals.{other, is_below, leads, is_settled, Leaves, LeavesOneMore}
+use Rattle.jr_journal.specs.Records.{delta_bytes, IsReadable, written, joined, ended, one_record, slot_content, generation_in, chosen, records}
+use Rattle.jr_journal.specs.Journals.{other, is_below, leads, is_settled, is_in_use, Leaves, LeavesOneMore}
 use Rattle.jr_journal.specs.Faults.{is_nil, fault_of}
 use Rattle.jr_journal.proofs.Append.{found_written, found_front, length_written}
 use Rattle.jr_journal.proofs.Contents.{IsSealed, IsFull, sealed_shape, sealed_again, sealed_more}
@@ -90,6 +90,20 @@ settled_again gateway slot d m f h =
     ap (λ x. leads x (length size) beside) content ∙ and_from _ _ (eq-eqb (13 + f.whole) (length size) h.full) h.below in
     and_from _ _ (and_from _ _ (and_from _ _ (is_nil_at d.first.unsynced h.first_clean) (is_nil_at d.second.unsynced h.second_clean)) leading) (is_none_at (fault_of gateway (synced_part d)) h.sound)
 
+-- it is settled, and the generation is that of the slot in use
+pub in_use_again : (gateway : ℕ) (slot : Slot) (d : Slots) (m : ℕ) (f : Found) → IsUsed gateway slot d m f → is_in_use gateway slot m d ≡ true
+in_use_again gateway slot d m f h =
+    and_from _ _ (settled_again gateway slot d m f h) (eq-eqb (generation_in (slot_content gateway (at d slot).synced)) m (ap generation_in (sealed_again gateway (at d slot).synced m f h.sealed)))
+
+pub in_use_shape : (gateway : ℕ) (slot : Slot) (generation : ℕ) (d : Slots) → is_in_use gateway slot generation d ≡ true → (f : Found) × IsUsed gateway slot d generation f
+in_use_shape gateway slot generation d e =
+    let p = and_parts _ _ e in
+    let u = settled_shape gateway slot d p.0 in
+    let number : u.0 ≡ generation =
+    sym (ap generation_in (sealed_again gateway (at d slot).synced u.0 u.1.0 u.1.1.sealed)) ∙ eqb-true (generation_in (slot_content gateway (at d slot).synced)) generation p.1
+    in
+    (u.1.0, subst (λ (n : ℕ). IsUsed gateway slot d n u.1.0) number u.1.1)
+
 -- ---- crashes
 
 abbrev nothing : List ℕ
@@ -98,7 +112,7 @@ nothing = []
 take_nothing : (k : ℕ) → take k nothing ≡ nothing
 take_nothing k = take_all k nothing (omega arith)
 
-left_clean : (k : ℕ) (s : SlotBytes) → s.unsynced ≡ [] → left_of k s ≡ s.synced
+pub left_clean : (k : ℕ) (s : SlotBytes) → s.unsynced ≡ [] → left_of k s ≡ s.synced
 left_clean k s e = ap (λ xs. s.synced ++ take k xs) e ∙ (ap (λ xs. s.synced ++ xs) (take_nothing k) ∙ append-nil s.synced)
 
 left_more : (k : ℕ) (s : SlotBytes) (bytes : List ℕ) → s.unsynced ≡ [] → left_of k (appended s bytes) ≡ s.synced ++ take k bytes
@@ -108,7 +122,7 @@ bytes_clean : (s : SlotBytes) → s.unsynced ≡ [] → bytes_of s ≡ s.synced
 bytes_clean s e = ap (λ xs. s.synced ++ xs) e ∙ append-nil s.synced
 
 -- where nothing is unsynced, a crash leaves all
-clean_crash : (slot : Slot) (d : Slots) (k l : ℕ) → d.first.unsynced ≡ [] → d.second.unsynced ≡ [] → image_at (after_crash k l d) slot ≡ (at d slot).synced
+pub clean_crash : (slot : Slot) (d : Slots) (k l : ℕ) → d.first.unsynced ≡ [] → d.second.unsynced ≡ [] → image_at (after_crash k l d) slot ≡ (at d slot).synced
 clean_crash First d k l a b = left_clean k d.first a
 clean_crash Second d k l a b = left_clean l d.second b
 
@@ -116,13 +130,13 @@ clean_image : (slot : Slot) (d : Slots) → d.first.unsynced ≡ [] → d.second
 clean_image First d a b = bytes_clean d.first a
 clean_image Second d a b = bytes_clean d.second b
 
-sealed_at : (gateway : ℕ) (xs ys : List ℕ) (m : ℕ) (f : Found) → ys ≡ xs → IsSealed gateway xs m f → IsSealed gateway ys m f
+pub sealed_at : (gateway : ℕ) (xs ys : List ℕ) (m : ℕ) (f : Found) → ys ≡ xs → IsSealed gateway xs m f → IsSealed gateway ys m f
 sealed_at gateway xs ys m f e h = subst (λ (zs : List ℕ). IsSealed gateway zs m f) (sym e) h
 
-below_at : (gateway : ℕ) (xs ys : List ℕ) (m : ℕ) → ys ≡ xs → is_below (slot_content gateway xs) m ≡ true → is_below (slot_content gateway ys) m ≡ true
+pub below_at : (gateway : ℕ) (xs ys : List ℕ) (m : ℕ) → ys ≡ xs → is_below (slot_content gateway xs) m ≡ true → is_below (slot_content gateway ys) m ≡ true
 below_at gateway xs ys m e h = subst (λ (zs : List ℕ). is_below (slot_content gateway zs) m ≡ true) (sym e) h
 
-clean_all : (d : Slots) (k l : ℕ) → d.first.unsynced ≡ [] → d.second.unsynced ≡ [] → after_crash k l d ≡ synced_part d
+pub clean_all : (d : Slots) (k l : ℕ) → d.first.unsynced ≡ [] → d.second.unsynced ≡ [] → after_crash k l d ≡ synced_part d
 clean_all d k l a b =
     let p : left_of k d.first ≡ d.first.synced = left_clean k d.first a in
     let q : left_of l d.second ≡ d.second.synced = left_clean l d.second b in
@@ -145,10 +159,10 @@ used_records gateway slot d m f h =
 
 -- ---- bytes behind the slot in use
 
-abbrev with_more : Slots → Slot → List ℕ → Slots
+abbrev pub with_more : Slots → Slot → List ℕ → Slots
 with_more d slot bytes = replaced d slot (appended (at d slot) bytes)
 
-crash_more : (slot : Slot) (d : Slots) (bytes : List ℕ) (k l : ℕ) → d.first.unsynced ≡ [] → d.second.unsynced ≡ []
+pub crash_more : (slot : Slot) (d : Slots) (bytes : List ℕ) (k l : ℕ) → d.first.unsynced ≡ [] → d.second.unsynced ≡ []
     → (j : ℕ) × (image_at (after_crash k l (with_more d slot bytes)) slot ≡ (at d slot).synced ++ take j bytes) × (image_at (after_crash k l (with_more d slot bytes)) (other slot) ≡ (at d (other slot)).synced)
 crash_more First d bytes k l a b = (k, left_more k d.first bytes a, left_clean l d.second b)
 crash_more Second d bytes k l a b = (l, left_more l d.second bytes b, left_clean k d.first a)
@@ -161,7 +175,7 @@ take_both j w xs =
     ]
 
 -- behind whole pieces the front of a record is nothing, and the whole of it is the record
-front_sealed : (gateway : ℕ) (xs : List ℕ) (m : ℕ) (f : Found) (delta : List Op) (n : ℕ) → IsSealed gateway xs m f → IsFull xs f → IsReadable delta
+pub front_sealed : (gateway : ℕ) (xs : List ℕ) (m : ℕ) (f : Found) (delta : List Op) (n : ℕ) → IsSealed gateway xs m f → IsFull xs f → IsReadable delta
     → (q : Found) × IsSealed gateway (xs ++ take n (written delta)) m q × ((q.deltas ≡ f.deltas) ⊎ (q.deltas ≡ f.deltas ++ delta ∷ []))
 front_sealed gateway xs m f delta n h full readable =
     elim (cases_lt n (length (written delta))) [
@@ -198,12 +212,12 @@ more_leaves gateway slot d m f delta w h readable = λ k l.
 
 -- ---- and synced
 
-replaced_used : (gateway : ℕ) (slot : Slot) (d : Slots) (s : SlotBytes) (m : ℕ) (f : Found) → d.first.unsynced ≡ [] → d.second.unsynced ≡ [] → s.unsynced ≡ [] → IsSealed gateway s.synced m f → IsFull s.synced f
+pub replaced_used : (gateway : ℕ) (slot : Slot) (d : Slots) (s : SlotBytes) (m : ℕ) (f : Found) → d.first.unsynced ≡ [] → d.second.unsynced ≡ [] → s.unsynced ≡ [] → IsSealed gateway s.synced m f → IsFull s.synced f
     → is_below (slot_content gateway (at d (other slot)).synced) m ≡ true → fault_of gateway (synced_part (replaced d slot s)) ≡ None → IsUsed gateway slot (replaced d slot s) m f
 replaced_used gateway First d s m f a b clean h full below sound = record { first_clean = clean; second_clean = b; sealed = h; full = full; below = below; sound = sound }
 replaced_used gateway Second d s m f a b clean h full below sound = record { first_clean = a; second_clean = clean; sealed = h; full = full; below = below; sound = sound }
 
-clean_at : (slot : Slot) (d : Slots) → d.first.unsynced ≡ [] → d.second.unsynced ≡ [] → (at d slot).unsynced ≡ []
+pub clean_at : (slot : Slot) (d : Slots) → d.first.unsynced ≡ [] → d.second.unsynced ≡ [] → (at d slot).unsynced ≡ []
 clean_at First d a b = a
 clean_at Second d a b = b
 

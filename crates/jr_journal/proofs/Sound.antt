@@ -1,5 +1,5 @@
--- When there is no fault in two slots.
-use Rattle.std.proofs.Common.{◌≡◌, ℕ, ◌<◌, Bool, true, false, cond, List, [], ◌∷◌, length, Option, Some, None, refl, sym, ap, ◌∙◌, arith}
+-- When there is no fault in two slots, either of which may be in use.
+use Rattle.std.proofs.Common.{◌≡◌, ℕ, Bool, true, false, cond, List, [], length, Option, Some, None, refl, sym, ap, ◌∙◌}
 use Rattle.std.specs.Prelude.{nat_lt}
 use Rattle.jr_journal.specs.declared.disk.Slot.{Slot}
 use Rattle.jr_journal.specs.declared.disk.Slot.TheVariants.{First, Second}
@@ -10,8 +10,8 @@ use Rattle.jr_journal.specs.declared.content.SlotContent.{SlotContent}
 use Rattle.jr_journal.specs.declared.content.SlotContent.TheVariants.{Alien, Unsealed, Sealed, Broken}
 use Rattle.jr_journal.specs.Disk.{SlotBytes, Slots, Image, at, replaced, synced_part}
 use Rattle.jr_journal.specs.Records.{slot_content}
-use Rattle.jr_journal.specs.Faults.{is_nil, is_none, is_fresh, slots_fault, fault_of}
-use Rattle.jr_journal.specs.Journals.{other}
+use Rattle.jr_journal.specs.Faults.{is_none, is_fresh, slots_fault, fault_of}
+use Rattle.jr_journal.specs.Journals.{other, is_below}
 use Rattle.jr_journal.proofs.Contents.{IsSealed, sealed_again}
 
 abbrev pub image_at : Image → Slot → List ℕ
@@ -27,12 +27,6 @@ none_is (Some fault) e = absurd cc
 
 pub is_none_at : (o : Option JournalFault) → o ≡ None → is_none o ≡ true
 is_none_at o e = ap is_none e
-
-pub beside_is_foreign : (gateway : ℕ) (i : Image) → 0 < length i.second → fault_of gateway i ≡ Some Foreign
-beside_is_foreign gateway i lt = go i.second lt refl where
-  go : (xs : List ℕ) → 0 < length xs → i.second ≡ xs → fault_of gateway i ≡ Some Foreign
-  go [] few is = absurd (omega arith)
-  go (x ∷ xs) some is = ap (λ ys. cond (is_nil ys) (slots_fault (slot_content gateway i.first) (slot_content gateway i.second) (is_fresh i)) (Some Foreign)) is
 
 pub empty_unsealed : (gateway : ℕ) → slot_content gateway [] ≡ Unsealed
 unfolding slot_content
@@ -50,38 +44,69 @@ alone_sound gateway i m f none h = fault_is gateway i none ∙ ap (λ a. slots_f
 
 -- ---- one sealed slot in the place of another of its generation
 
-abbrev fault_by : Bool → SlotContent → SlotContent → Bool → Option JournalFault
-fault_by none a b fresh = cond none (slots_fault a b fresh) (Some Foreign)
+sealed_too : (b : SlotContent) (m : ℕ) (f q : Found) (x y : Bool) → slots_fault (Sealed m f) b x ≡ None → slots_fault (Sealed m q) b y ≡ None
+sealed_too Alien m f q x y e = absurd cc
+sealed_too Unsealed m f q x y e = refl
+sealed_too (Sealed n g) m f q x y e = e
+sealed_too (Broken from) m f q x y e = absurd cc
 
-sealed_too : (none : Bool) (b : SlotContent) (m : ℕ) (f q : Found) (x y : Bool) → fault_by none (Sealed m f) b x ≡ None → fault_by none (Sealed m q) b y ≡ None
-sealed_too true Alien m f q x y e = absurd cc
-sealed_too true Unsealed m f q x y e = refl
-sealed_too true (Sealed n g) m f q x y e = e
-sealed_too true (Broken at) m f q x y e = absurd cc
-sealed_too false b m f q x y e = absurd cc
+sealed_behind : (a : SlotContent) (m : ℕ) (f q : Found) (x y : Bool) → slots_fault a (Sealed m f) x ≡ None → slots_fault a (Sealed m q) y ≡ None
+sealed_behind Alien m f q x y e = absurd cc
+sealed_behind Unsealed m f q x y e = refl
+sealed_behind (Sealed n g) m f q x y e = e
+sealed_behind (Broken from) m f q x y e = absurd cc
 
 stays_first : (gateway : ℕ) (i j : Image) (m : ℕ) (f q : Found) → IsSealed gateway i.first m f → IsSealed gateway j.first m q → j.second ≡ i.second → fault_of gateway i ≡ None → fault_of gateway j ≡ None
 stays_first gateway i j m f q h r same e =
     let beside = slot_content gateway i.second in
-    let before : fault_by (is_nil i.second) (Sealed m f) beside (is_fresh i) ≡ None = sym (ap (λ a. fault_by (is_nil i.second) a beside (is_fresh i)) (sealed_again gateway i.first m f h)) ∙ e in
-    let first : fault_of gateway j ≡ fault_by (is_nil j.second) (Sealed m q) (slot_content gateway j.second) (is_fresh j) =
-    ap (λ a. fault_by (is_nil j.second) a (slot_content gateway j.second) (is_fresh j)) (sealed_again gateway j.first m q r) in
-    let second : fault_by (is_nil j.second) (Sealed m q) (slot_content gateway j.second) (is_fresh j) ≡ fault_by (is_nil i.second) (Sealed m q) beside (is_fresh j) =
-    ap (λ ys. fault_by (is_nil ys) (Sealed m q) (slot_content gateway ys) (is_fresh j)) same in
-    first ∙ (second ∙ sealed_too (is_nil i.second) beside m f q (is_fresh i) (is_fresh j) before)
+    let before : slots_fault (Sealed m f) beside (is_fresh i) ≡ None = sym (ap (λ a. slots_fault a beside (is_fresh i)) (sealed_again gateway i.first m f h)) ∙ e in
+    ap (λ a. slots_fault a (slot_content gateway j.second) (is_fresh j)) (sealed_again gateway j.first m q r)
+    ∙ (ap (λ ys. slots_fault (Sealed m q) (slot_content gateway ys) (is_fresh j)) same ∙ sealed_too beside m f q (is_fresh i) (is_fresh j) before)
 
--- today no journal without a fault is in the second slot
-never_second : {A : Type 0} (gateway : ℕ) (i : Image) (m : ℕ) (f : Found) → IsSealed gateway i.second m f → fault_of gateway i ≡ None → A
-never_second gateway i m f h e =
-    let long = h.long in
-    absurd (let clash : Some Foreign ≡ None = sym (beside_is_foreign gateway i (omega arith)) ∙ e in cc)
+stays_second : (gateway : ℕ) (i j : Image) (m : ℕ) (f q : Found) → IsSealed gateway i.second m f → IsSealed gateway j.second m q → j.first ≡ i.first → fault_of gateway i ≡ None → fault_of gateway j ≡ None
+stays_second gateway i j m f q h r same e =
+    let beside = slot_content gateway i.first in
+    let before : slots_fault beside (Sealed m f) (is_fresh i) ≡ None = sym (ap (λ b. slots_fault beside b (is_fresh i)) (sealed_again gateway i.second m f h)) ∙ e in
+    ap (λ b. slots_fault (slot_content gateway j.first) b (is_fresh j)) (sealed_again gateway j.second m q r)
+    ∙ (ap (λ ys. slots_fault (slot_content gateway ys) (Sealed m q) (is_fresh j)) same ∙ sealed_behind beside m f q (is_fresh i) (is_fresh j) before)
 
 pub more_sound : (gateway : ℕ) (slot : Slot) (d : Slots) (j : Image) (m : ℕ) (f q : Found) → IsSealed gateway (at d slot).synced m f → IsSealed gateway (image_at j slot) m q → image_at j (other slot) ≡ (at d (other slot)).synced
     → fault_of gateway (synced_part d) ≡ None → fault_of gateway j ≡ None
 more_sound gateway First d j m f q h r same e = stays_first gateway (synced_part d) j m f q h r same e
-more_sound gateway Second d j m f q h r same e = never_second gateway (synced_part d) m f h e
+more_sound gateway Second d j m f q h r same e = stays_second gateway (synced_part d) j m f q h r same e
 
 pub replaced_sound : (gateway : ℕ) (slot : Slot) (d : Slots) (s : SlotBytes) (m : ℕ) (f q : Found) → IsSealed gateway (at d slot).synced m f → IsSealed gateway s.synced m q → fault_of gateway (synced_part d) ≡ None
     → fault_of gateway (synced_part (replaced d slot s)) ≡ None
 replaced_sound gateway First d s m f q h r e = stays_first gateway (synced_part d) (synced_part (replaced d First s)) m f q h r refl e
-replaced_sound gateway Second d s m f q h r e = never_second gateway (synced_part d) m f h e
+replaced_sound gateway Second d s m f q h r e = stays_second gateway (synced_part d) (synced_part (replaced d Second s)) m f q h r refl e
+
+-- ---- a sealed slot beside one of which nothing is read
+
+abbrev verdict : Bool → Bool → Option JournalFault
+verdict p q = cond p None (cond q None (Some Foreign))
+
+newer_second : (p q : Bool) → q ≡ true → verdict p q ≡ None
+newer_second true q e = refl
+newer_second false true e = refl
+newer_second false false e = absurd cc
+
+newer_first : (p q : Bool) → p ≡ true → verdict p q ≡ None
+newer_first true q e = refl
+newer_first false q e = absurd cc
+
+beside_below : (b : SlotContent) (m : ℕ) (f : Found) (x : Bool) → is_below b m ≡ true → slots_fault (Sealed m f) b x ≡ None
+beside_below Alien m f x e = absurd cc
+beside_below Unsealed m f x e = refl
+beside_below (Sealed n g) m f x e = newer_second (nat_lt m n) (nat_lt n m) e
+beside_below (Broken from) m f x e = absurd cc
+
+below_beside : (a : SlotContent) (m : ℕ) (f : Found) (x : Bool) → is_below a m ≡ true → slots_fault a (Sealed m f) x ≡ None
+below_beside Alien m f x e = absurd cc
+below_beside Unsealed m f x e = refl
+below_beside (Sealed n g) m f x e = newer_first (nat_lt n m) (nat_lt m n) e
+below_beside (Broken from) m f x e = absurd cc
+
+-- the slot is sealed, and beside it nothing is read: there is no fault
+pub used_sound : (gateway : ℕ) (slot : Slot) (i : Image) (m : ℕ) (f : Found) → IsSealed gateway (image_at i slot) m f → is_below (slot_content gateway (image_at i (other slot))) m ≡ true → fault_of gateway i ≡ None
+used_sound gateway First i m f h e = ap (λ a. slots_fault a (slot_content gateway i.second) (is_fresh i)) (sealed_again gateway i.first m f h) ∙ beside_below (slot_content gateway i.second) m f (is_fresh i) e
+used_sound gateway Second i m f h e = ap (λ b. slots_fault (slot_content gateway i.first) b (is_fresh i)) (sealed_again gateway i.second m f h) ∙ below_beside (slot_content gateway i.first) m f (is_fresh i) e

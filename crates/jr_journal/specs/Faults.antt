@@ -36,10 +36,9 @@ slots_fault Unsealed (Sealed n g) fresh = None
 slots_fault (Sealed m f) Unsealed fresh = None
 slots_fault (Sealed m f) (Sealed n g) fresh = if nat_lt m n then None else (if nat_lt n m then None else Some Foreign)
 
--- the fault of an image, if any; a second slot that is not empty is not read yet
+-- the fault of an image, if any
 abbrev pub fault_of : ℕ → Image → Option JournalFault
-fault_of gateway i =
-    if is_nil i.second then slots_fault (slot_content gateway i.first) (slot_content gateway i.second) (is_fresh i) else Some Foreign
+fault_of gateway i = slots_fault (slot_content gateway i.first) (slot_content gateway i.second) (is_fresh i)
 
 -- it is the fault of the image; want of memory and a disk that failed say nothing of it
 abbrev pub IsFault : Option JournalFault → JournalFault → Type 0

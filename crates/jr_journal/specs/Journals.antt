@@ -1,5 +1,5 @@
--- What a journal keeps true of its disk, and what an append does to it.
-use Rattle.std.specs.Prelude.{Option, Some, None, ◌≡◌, ℕ, ◌+◌, ◌==◌, Bool, true, false, ◌&&◌, nat_lt, ◌⊎◌, min, List, [], ◌∷◌, ◌++◌, length, take, Result, Ok, Err, IsSome}
+-- What a journal keeps true of its disk, and what an append and a compaction do to it.
+use Rattle.std.specs.Prelude.{Option, Some, None, ◌≡◌, ℕ, ◌+◌, ◌-◌, ◌^◌, ◌==◌, Bool, true, false, ◌&&◌, nat_lt, ◌⊎◌, min, List, [], ◌∷◌, ◌++◌, length, take, Result, Ok, Err, IsSome}
 use Rattle.rep_ops.specs.declared.op.Op.{Op}
 use Rattle.jr_journal.specs.declared.disk.Slot.{Slot}
 use Rattle.jr_journal.specs.declared.disk.Slot.TheVariants.{First, Second}
@@ -9,8 +9,8 @@ use Rattle.jr_journal.specs.declared.fault.JournalFault.{JournalFault}
 use Rattle.jr_journal.specs.declared.fault.JournalFault.TheVariants.{Disk, Foreign, BadRecord, Memory, Halted}
 use Rattle.jr_journal.specs.declared.content.SlotContent.{SlotContent}
 use Rattle.jr_journal.specs.declared.content.SlotContent.TheVariants.{Alien, Unsealed, Sealed, Broken}
-use Rattle.jr_journal.specs.Disk.{Slots, Image, at, replaced, synced_part, appended, all_synced, EachCrash}
-use Rattle.jr_journal.specs.Records.{records, slot_content}
+use Rattle.jr_journal.specs.Disk.{Slots, Image, at, replaced, cut_to, synced_part, appended, all_synced, EachCrash}
+use Rattle.jr_journal.specs.Records.{records, slot_content, generation_in}
 use Rattle.jr_journal.specs.Faults.{is_nil, is_none, fault_of}
 
 -- ---- the slot in use
@@ -39,6 +39,11 @@ is_settled gateway slot d =
     is_nil d.first.unsynced && is_nil d.second.unsynced
     && leads (slot_content gateway (at d slot).synced) (length (at d slot).synced) (slot_content gateway (at d (other slot)).synced)
     && is_none (fault_of gateway (synced_part d))
+
+-- it is settled, and this is the generation of the slot in use
+abbrev pub is_in_use : ℕ → Slot → ℕ → Slots → Bool
+is_in_use gateway slot generation d =
+    is_settled gateway slot d && (generation_in (slot_content gateway (at d slot).synced) == generation)
 
 -- ---- crashes
 
@@ -72,6 +77,45 @@ AppendedAs (Some plan) old slot bytes (Err Foreign) new after = Unit {0}
 AppendedAs (Some plan) old slot bytes (Err (BadRecord place from)) new after = Unit {0}
 AppendedAs (Some plan) old slot bytes (Err Memory) new after = Unit {0}
 AppendedAs (Some plan) old slot bytes (Err Halted) new after = Unit {0}
+
+-- ---- a compaction
+
+-- a slot is cut away
+abbrev pub emptied : Slots → Slot → Slots
+emptied d slot = replaced d slot (cut_to (at d slot) 0)
+
+-- a crash now leaves a journal of these records, or of the base in their place
+abbrev pub LeavesEither : ℕ → Slots → List (List Op) → List (List Op) → Type 0
+LeavesEither gateway d deltas base = EachCrash (λ i. Opens gateway deltas i ⊎ Opens gateway base i) d
+
+-- the last generation that a header can hold
+abbrev pub last_generation : ℕ
+last_generation = 2 ^ 64 - 1
+
+-- a fault that a compaction may tell
+abbrev pub IsCompactFault : JournalFault → Type 0
+IsCompactFault Disk = Unit {0}
+IsCompactFault Memory = Unit {0}
+IsCompactFault Halted = Unit {0}
+IsCompactFault Foreign = Unit {0}
+IsCompactFault (BadRecord place from) = ⊥
+
+-- it was done, or the disk failed in it
+abbrev pub IsTried : Result (Unit {0}) JournalFault → Type 0
+IsTried (Ok done) = Unit {0}
+IsTried (Err Disk) = Unit {0}
+IsTried (Err Memory) = ⊥
+IsTried (Err Halted) = ⊥
+IsTried (Err Foreign) = ⊥
+IsTried (Err (BadRecord place from)) = ⊥
+
+-- it says nothing of the disk, and nothing was written
+abbrev pub IsBeforeWriting : JournalFault → Type 0
+IsBeforeWriting Disk = ⊥
+IsBeforeWriting Memory = Unit {0}
+IsBeforeWriting Halted = Unit {0}
+IsBeforeWriting Foreign = Unit {0}
+IsBeforeWriting (BadRecord place from) = ⊥
 
 -- a fault that an append may tell
 abbrev pub IsAppendFault : JournalFault → Type 0

@@ -16,6 +16,10 @@ gateway_of journal = journal.gateway
 abbrev pub slot_of : {D : Type 0} {G : Ghosts D} → Journal D G → Slot
 slot_of journal = journal.slot
 
+-- the generation of that slot
+abbrev pub generation_of : {D : Type 0} {G : Ghosts D} → Journal D G → ℕ
+generation_of journal = journal.generation
+
 -- whether a write has failed since it was opened
 abbrev pub is_halted : {D : Type 0} {G : Ghosts D} → Journal D G → Bool
 is_halted journal = journal.halted

@@ -1,5 +1,5 @@
 -- The bytes of a slot: a header, then records with one seal among them.
-use Rattle.std.specs.Prelude.{◌≡◌, ◌≤◌, ℕ, zero, suc, ◌+◌, ◌==◌, Bool, true, false, if◌then◌else◌, nat_lt, min, List, [], ◌∷◌, ◌++◌, length, take, drop, Result, Ok, Err}
+use Rattle.std.specs.Prelude.{◌≡◌, ◌≤◌, ℕ, zero, suc, ◌+◌, ◌==◌, Bool, true, false, if◌then◌else◌, nat_lt, min, List, [], ◌∷◌, ◌++◌, length, take, drop, flat_map, Result, Ok, Err}
 use Rattle.std.specs.Int.{w32, w64, from_be_bytes}
 use Rattle.std.specs.Str.{bytes_eq}
 use Rattle.byteorder.specs.Endian.{big_bytes}
@@ -42,6 +42,10 @@ header gateway generation = magic gateway ++ big_bytes 8 generation
 -- a journal without a record: its header, of generation 1, and the seal
 abbrev pub new_journal : ℕ → List ℕ
 new_journal gateway = header gateway 1 ++ 83 ∷ []
+
+-- what a compaction writes: a header, the base as records, and the seal
+abbrev pub base_bytes : ℕ → ℕ → List (List Op) → List ℕ
+base_bytes gateway generation base = header gateway generation ++ (flat_map written base ++ 83 ∷ [])
 
 -- ---- reading
 
@@ -118,6 +122,13 @@ slot_content gateway bytes =
     if begins gateway bytes
     then (if nat_lt (length bytes) 13 then Unsealed else after_header (from_be_bytes w64 (take 8 (drop 5 bytes))) (found 0 false (drop 13 bytes)))
     else Alien
+
+-- the generation of a sealed slot
+abbrev pub generation_in : SlotContent → ℕ
+generation_in (Sealed generation f) = generation
+generation_in Alien = 0
+generation_in Unsealed = 0
+generation_in (Broken at) = 0
 
 -- the deltas of the slot that is read: of the sealed ones that of the greater generation
 abbrev pub chosen : SlotContent → SlotContent → List (List Op)

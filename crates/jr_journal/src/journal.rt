@@ -1,12 +1,13 @@
 //! The journal.
 
 ghost use Rattle.std.specs.Prelude.{IsTrue, ◌||◌};
-ghost use Rattle.jr_journal.specs.Journals.{is_settled};
+ghost use Rattle.jr_journal.specs.Journals.{is_in_use};
 
+use crate::compacting::{base_of, other, write_anew};
 use crate::disk::{Disk, Slot};
 use crate::fault::JournalFault;
 use crate::memory::MemoryDisk;
-use crate::opening::recover;
+use crate::opening::{Recovered, recover};
 use crate::record::record_of;
 use rep_ops::Delta;
 use std::alloc::Global;
@@ -17,18 +18,19 @@ pub struct Journal<D: Disk> {
     disk: D,
     gateway: u8,
     slot: Slot,
+    generation: u64,
     halted: bool,
-    ghost settled: { D.honest → IsTrue (halted || is_settled gateway slot (D.slots disk)) },
+    ghost settled: { D.honest → IsTrue (halted || is_in_use gateway slot generation (D.slots disk)) },
 }
 
 impl<D: Disk + Drop> Journal<D> {
-    ghost use Rattle.std.specs.Prelude.{◌≡◌, ◌≢◌, ◌≤◌, ◌<◌, ◌↔◌, true, false, None, [], ◌∷◌, ◌++◌, IfOk, IfErr, OnOk, IsErrOf, IsTrue, MatchResult};
-    ghost use Rattle.jr_journal.specs.Disk.{image};
-    ghost use Rattle.jr_journal.specs.Records.{written, records};
+    ghost use Rattle.std.specs.Prelude.{◌≡◌, ◌≢◌, ◌≤◌, ◌<◌, ◌+◌, ◌↔◌, true, false, None, [], ◌∷◌, ◌++◌, IfOk, IfErr, OnOk, OnErr, IsErrOf, IsTrue, MatchResult};
+    ghost use Rattle.jr_journal.specs.Disk.{at, image};
+    ghost use Rattle.jr_journal.specs.Records.{written, base_bytes, slot_content, generation_in, records};
     ghost use Rattle.jr_journal.specs.Faults.{is_fresh, IsFault, fault_of};
-    ghost use Rattle.jr_journal.specs.Journals.{Leaves, LeavesOneMore, after_append, AppendedAs, IsAppendFault};
-    ghost use Rattle.jr_journal.specs.Parts.{disk_of, gateway_of, slot_of, is_halted as is_stopped};
-    ghost use Rattle.jr_journal.specs.Opening.{synced_slots, recovered, is_quiet, LeavesNoMore};
+    ghost use Rattle.jr_journal.specs.Journals.{other as beside, Leaves, LeavesOneMore, LeavesEither, after_append, AppendedAs, IsAppendFault, emptied, last_generation, IsCompactFault, IsBeforeWriting, IsTried};
+    ghost use Rattle.jr_journal.specs.Parts.{disk_of, gateway_of, slot_of, generation_of, is_halted as is_stopped};
+    ghost use Rattle.jr_journal.specs.Opening.{synced_slots, recovered, slot_read, generation_read, is_quiet, IsUnhurt, LeavesNoMore};
 
     /// Opens the journal of a gateway on a disk, and gives the deltas of its records. First all bytes of both slots are
     /// made durable, then they are read; a record that the end cuts is cut away, and on an empty disk a journal is begun.
@@ -40,11 +42,13 @@ impl<D: Disk + Drop> Journal<D> {
         disk: D,
         gateway: u8,
     ) -> Result<(Journal<D>, Vec<Delta>), (D, JournalFault)>
-        ensures starts { IfOk result (λ made. (is_stopped made.0 ≡ false) × (gateway_of made.0 ≡ gateway) × (slot_of made.0 ≡ Slot.First)) }
+        ensures starts { IfOk result (λ made. (is_stopped made.0 ≡ false) × (gateway_of made.0 ≡ gateway)) }
         ensures counts { MatchResult result (λ made. D.failures disk ≤ D.failures (disk_of made.0)) (λ refused. D.failures disk ≤ D.failures refused.0) }
         ensures cause { IfErr result (λ refused. refused.1 ≡ JournalFault.Disk → D.failures disk < D.failures refused.0) }
         ensures starved { D.starved disk ≡ true → MatchResult result (λ made. D.starved (disk_of made.0) ≡ true) (λ refused. D.starved refused.0 ≡ true) }
         ensures running { IfErr result (λ refused. refused.1 ≢ JournalFault.Halted) }
+        // It goes on in the slot that is read.
+        ensures place { D.honest → IfOk result (λ made. (slot_of made.0 ≡ slot_read gateway (image (D.slots disk))) × (generation_of made.0 ≡ generation_read gateway (image (D.slots disk)))) }
         // The records are those of the slots as they were found.
         ensures records { D.honest → IfOk result (λ made. made.1.items ≡ records gateway (image (D.slots disk))) }
         ensures known { D.honest → IfOk result (λ made. D.slots (disk_of made.0) ≡ recovered gateway (image (D.slots disk))) }
@@ -65,11 +69,18 @@ impl<D: Disk + Drop> Journal<D> {
     {
         let mut disk = disk;
         match recover(alloc, &mut disk, gateway) {
-            Ok(deltas) => {
+            Ok(
+                Recovered {
+                    deltas,
+                    slot,
+                    generation,
+                },
+            ) => {
                 let journal = Journal {
                     disk,
                     gateway,
-                    slot: Slot::First,
+                    slot,
+                    generation,
                     halted: false,
                 };
                 Ok((journal, deltas))
@@ -85,6 +96,7 @@ impl<D: Disk + Drop> Journal<D> {
     pub fn append(&mut self, alloc: Global, delta: &Delta) -> Result<(), JournalFault>
         ensures halted { IsErrOf result JournalFault.Halted ↔ (is_stopped self.old ≡ true) }
         ensures same { (gateway_of self.new ≡ gateway_of self.old) × (slot_of self.new ≡ slot_of self.old) }
+        ensures generation { generation_of self.new ≡ generation_of self.old }
         ensures faults { IfErr result IsAppendFault }
         ensures goes_on { OnOk result (is_stopped self.new ≡ false) }
         ensures halts { IsErrOf result JournalFault.Disk → is_stopped self.new ≡ true }
@@ -114,6 +126,129 @@ impl<D: Disk + Drop> Journal<D> {
         }
         self.halted = false;
         Ok(())
+    }
+
+    /// Writes the journal anew: the other slot gets a header of the next generation, the base and the seal, in one append that is
+    /// synced, and the journal goes on there. The base takes the place of all records that were there.
+    ///
+    /// `Halted` where a write has failed before; else `Foreign` where the generation is the last that a header can hold; else `Memory`:
+    /// nothing was written then. Else `Disk`: the journal is halted, and a crash leaves the records from before, or the base.
+    #[tactic(auto, using(crate::proofs::Appending::number_kept))]
+    pub fn compact(&mut self, alloc: Global, base: &[Delta]) -> Result<(), JournalFault>
+        ensures halted { IsErrOf result JournalFault.Halted ↔ (is_stopped self.old ≡ true) }
+        // The generation is the one that the header of the slot in use tells.
+        ensures number { D.honest → is_stopped self.old ≡ false → generation_of self.old ≡ generation_in (slot_content (gateway_of self.old) (at (D.slots (disk_of self.old)) (slot_of self.old)).synced) }
+        ensures last { IsErrOf result JournalFault.Foreign ↔ ((is_stopped self.old ≡ false) × (generation_of self.old ≡ last_generation)) }
+        ensures same { gateway_of self.new ≡ gateway_of self.old }
+        ensures faults { IfErr result IsCompactFault }
+        ensures goes_on { OnOk result ((is_stopped self.new ≡ false) × (slot_of self.new ≡ beside (slot_of self.old)) × (generation_of self.new ≡ generation_of self.old + 1)) }
+        ensures stays { OnErr result ((slot_of self.new ≡ slot_of self.old) × (generation_of self.new ≡ generation_of self.old)) }
+        ensures halts { IsErrOf result JournalFault.Disk → is_stopped self.new ≡ true }
+        ensures refused { IfErr result (λ fault. IsBeforeWriting fault → (disk_of self.new ≡ disk_of self.old) × (is_stopped self.new ≡ is_stopped self.old)) }
+        ensures counts { D.failures (disk_of self.old) ≤ D.failures (disk_of self.new) }
+        ensures cause { IsErrOf result JournalFault.Disk → D.failures (disk_of self.old) < D.failures (disk_of self.new) }
+        ensures starved { D.starved (disk_of self.old) ≡ true → D.starved (disk_of self.new) ≡ true }
+        ensures exact { D.honest → OnOk result (D.slots (disk_of self.new) ≡
+            after_append None (emptied (D.slots (disk_of self.old)) (beside (slot_of self.old))) (beside (slot_of self.old)) (base_bytes (gateway_of self.old) (generation_of self.old + 1) base.now)) }
+        // After it every crash leaves the base and nothing else.
+        ensures durable { D.honest → OnOk result (Leaves (gateway_of self.old) (D.slots (disk_of self.new)) base.now) }
+        // Where it failed, the records from before may still be there.
+        ensures torn { D.honest → IsErrOf result JournalFault.Disk → LeavesEither (gateway_of self.old) (D.slots (disk_of self.new)) (records (gateway_of self.old) (image (D.slots (disk_of self.old)))) base.now }
+        // Where it is known which failure is arranged, so are the outcome and the slots.
+        ensures known { D.honest → D.starved (disk_of self.new) ≡ false → IsTried result →
+            AppendedAs (D.outlook (disk_of self.old)) (emptied (D.slots (disk_of self.old)) (beside (slot_of self.old))) (beside (slot_of self.old)) (base_bytes (gateway_of self.old) (generation_of self.old + 1) base.now) result (D.slots (disk_of self.new)) (D.outlook (disk_of self.new)) }
+    {
+        if self.is_halted() {
+            return Err(JournalFault::Halted);
+        }
+        let Some(generation) = self.generation.checked_add(1) else {
+            return Err(JournalFault::Foreign);
+        };
+        let bytes = base_of(alloc, self.gateway, generation, base)?;
+        let slot = other(self.slot);
+        self.halted = true;
+        write_anew(&mut self.disk, slot, &bytes)?;
+        self.slot = slot;
+        self.generation = generation;
+        self.halted = false;
+        Ok(())
+    }
+
+    /// Opens the journal once more, as it stands on its disk, halted or not, and gives the deltas of its records.
+    ///
+    /// The faults are those of an opening. After `Memory` the journal is halted or not as before; after each other fault it is halted.
+    pub fn reopen(&mut self, alloc: Global) -> Result<Vec<Delta>, JournalFault>
+        ensures same { gateway_of self.new ≡ gateway_of self.old }
+        ensures starts { OnOk result (is_stopped self.new ≡ false) }
+        ensures halts { IfErr result (λ fault. fault ≢ JournalFault.Memory → is_stopped self.new ≡ true) }
+        ensures wanting { IsErrOf result JournalFault.Memory → is_stopped self.new ≡ is_stopped self.old }
+        ensures stays { OnErr result ((slot_of self.new ≡ slot_of self.old) × (generation_of self.new ≡ generation_of self.old)) }
+        ensures counts { D.failures (disk_of self.old) ≤ D.failures (disk_of self.new) }
+        ensures cause { IsErrOf result JournalFault.Disk → D.failures (disk_of self.old) < D.failures (disk_of self.new) }
+        ensures starved { D.starved (disk_of self.old) ≡ true → D.starved (disk_of self.new) ≡ true }
+        ensures running { IsErrOf result JournalFault.Halted → ⊥ }
+        // It goes on in the slot that is read.
+        ensures place { D.honest → OnOk result ((slot_of self.new ≡ slot_read (gateway_of self.old) (image (D.slots (disk_of self.old)))) × (generation_of self.new ≡ generation_read (gateway_of self.old) (image (D.slots (disk_of self.old))))) }
+        // The records are those of the slots as they were found.
+        ensures records { D.honest → IfOk result (λ deltas. deltas.items ≡ records (gateway_of self.old) (image (D.slots (disk_of self.old)))) }
+        ensures known { D.honest → OnOk result (D.slots (disk_of self.new) ≡ recovered (gateway_of self.old) (image (D.slots (disk_of self.old)))) }
+        // What was given stands after every crash.
+        ensures durable { D.honest → IfOk result (λ deltas. Leaves (gateway_of self.old) (D.slots (disk_of self.new)) deltas.items) }
+        // It is refused exactly where the format says so, or the disk failed, or memory ran out.
+        ensures found { D.honest → OnOk result (fault_of (gateway_of self.old) (image (D.slots (disk_of self.old))) ≡ None) }
+        ensures fault { D.honest → IfErr result (λ fault. IsFault (fault_of (gateway_of self.old) (image (D.slots (disk_of self.old)))) fault) }
+        // Refused for another cause than the disk, it has synced the slots and changed nothing.
+        ensures kept { D.honest → IfErr result (λ fault. fault ≢ JournalFault.Disk → D.slots (disk_of self.new) ≡ synced_slots (D.slots (disk_of self.old))) }
+        // Whatever refused it, no crash leaves what it could not have left before.
+        ensures leaves { D.honest → OnErr result (LeavesNoMore (gateway_of self.old) (D.slots (disk_of self.old)) (D.slots (disk_of self.new))) }
+        // A failure that is arranged for an append stays arranged, unless a journal is begun.
+        ensures quiet { D.honest → D.starved (disk_of self.new) ≡ false → IsTrue (is_quiet (D.outlook (disk_of self.old)) (is_fresh (image (D.slots (disk_of self.old))))) →
+            IsUnhurt result (D.outlook (disk_of self.old)) (D.outlook (disk_of self.new)) }
+    {
+        let halted = self.halted;
+        self.halted = true;
+        match recover(alloc, &mut self.disk, self.gateway) {
+            Ok(
+                Recovered {
+                    deltas,
+                    slot,
+                    generation,
+                },
+            ) => {
+                self.slot = slot;
+                self.generation = generation;
+                self.halted = false;
+                Ok(deltas)
+            }
+            Err(JournalFault::Memory) => {
+                self.halted = halted;
+                Err(JournalFault::Memory)
+            }
+            Err(fault) => Err(fault),
+        }
+    }
+
+    /// Halts the journal: nothing more is written until it is opened once more. The disk stays as it is.
+    pub fn halt(&mut self)
+        ensures halted { is_stopped self.new ≡ true }
+        ensures disk { disk_of self.new ≡ disk_of self.old }
+        ensures same { (gateway_of self.new ≡ gateway_of self.old) × (slot_of self.new ≡ slot_of self.old) × (generation_of self.new ≡ generation_of self.old) }
+    {
+        self.halted = true;
+    }
+
+    /// The slot that it writes.
+    pub fn slot(&self) -> Slot
+        ensures { result ≡ slot_of self.now }
+    {
+        self.slot
+    }
+
+    /// The generation of that slot: 1 for a new journal, and one more with each compaction.
+    pub fn generation(&self) -> u64
+        ensures { result ≡ generation_of self.now }
+    {
+        self.generation
     }
 
     /// The disk as it stands.

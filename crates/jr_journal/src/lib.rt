@@ -3,20 +3,27 @@
 //! Each delta is one record, and a record counts once it is synced. After any crash the journal gives every record
 //! that was acknowledged, in order, and at most one more: the one whose write was cut off.
 //!
+//! A journal does not grow for ever. A compaction writes what must be kept, its base, into the other slot, and the journal goes on
+//! there; a crash in it leaves the records from before, or the base. The slot in use is not touched before the other one is sealed
+//! and synced.
+//!
 //! - `disk`: what a journal asks of a disk (`Disk`), over two slots of bytes.
 //! - `memory`: a disk in memory (`MemoryDisk`), proved to do what `Disk` says; failures can be arranged.
 //! - `failures`: a count without an upper end, which contracts alone see.
 //! - `piece`, `content`: reading a slot, one function for each definition.
 //! - `record`: a record as it is written.
-//! - `opening`: the steps of an opening: sync both slots, read them, cut a torn end away or begin a new journal.
-//! - `journal`: `Journal`, with `open` and `append`.
+//! - `opening`: the steps of an opening: sync both slots, read them, go on in the sealed one of the greater generation and cut its
+//!   torn end away, or begin a new journal.
+//! - `compacting`: what must be kept, written into the other slot.
+//! - `journal`: `Journal`, with `open`, `append`, `compact` and `reopen`.
 //! - `fault`: why a journal refuses.
 //!
 //! The definitions are in `specs/`: `Disk` (slots and what a crash leaves), `Memory` (a disk in memory), `Records` (from the
 //! bytes of a slot to its records), `Faults` (which fault there is in two slots), `Parts` (what contracts see of a journal),
-//! `Journals` (what a journal keeps true, and an append), `Opening` (the slots behind an opening).
+//! `Journals` (what a journal keeps true, an append, a compaction), `Opening` (the slots behind an opening).
 #![tactic(auto)]
 
+mod compacting;
 mod content;
 mod disk;
 mod failures;

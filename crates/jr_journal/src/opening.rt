@@ -1,11 +1,12 @@
-//! Opening a journal: sync both slots, read them, cut a torn end away or begin a new journal.
+//! Opening a journal: sync both slots, read both, and go on in the sealed one of the greater generation, of which a torn end is
+//! cut away; or begin a new journal.
 
-ghost use Rattle.std.specs.Prelude.{◌≡◌, ◌≢◌, ◌≤◌, ◌<◌, ◌⊎◌, ◌+◌, [], true, false, length, IfOk, IfErr, OnOk, OnErr, IsErrOf, IsTrue, None};
+ghost use Rattle.std.specs.Prelude.{◌≡◌, ◌≢◌, ◌≤◌, ◌<◌, ◌⊎◌, ◌+◌, [], true, false, length, IfOk, IfErr, OnOk, OnErr, IsErrOf, IsTrue, None, Some, if◌then◌else◌};
 ghost use Rattle.jr_journal.specs.Disk.{at, replaced, bytes_of, image, all_synced, cut_to, is_calm};
 ghost use Rattle.jr_journal.specs.Records.{new_journal, slot_content, records};
-ghost use Rattle.jr_journal.specs.Opening.{synced_bytes, synced_slots, opening_of, deltas_of, IsOpening, IsSized, settled, recovered, is_new, is_quiet, IsUnhurt, IsBegun, IsPartly, LeavesNoMore};
-ghost use Rattle.jr_journal.specs.Faults.{is_fresh, IsFault, fault_of};
-ghost use Rattle.jr_journal.specs.Journals.{is_settled, Leaves};
+ghost use Rattle.jr_journal.specs.Opening.{synced_bytes, synced_slots, reads_first, slot_read, generation_read, held_of, opening_of, deltas_of, place_of, number_of, IsOpening, IsSized, settled, recovered, is_new, is_quiet, IsUnhurt, IsBegun, IsPartly, LeavesNoMore};
+ghost use Rattle.jr_journal.specs.Faults.{is_fresh, IsFault, slots_fault, fault_of};
+ghost use Rattle.jr_journal.specs.Journals.{is_in_use, Leaves};
 
 use crate::content::{HEADER, MAGIC, SlotContent, read_content};
 use crate::disk::{Disk, Slot};
@@ -17,13 +18,26 @@ use std::alloc::Global;
 /// How many bytes a header has with the seal behind it.
 const SEALED_HEADER: usize = 14;
 
-/// What is to be done with a slot.
+/// What is to be done with the slots.
 #[derive(Drop)]
 pub enum Opening {
     /// There is no journal yet.
     New,
-    /// A journal with these pieces, in a slot of so many bytes.
-    Held { found: Found, size: usize },
+    /// A journal of this generation and with these pieces, in a slot of so many bytes.
+    Held {
+        slot: Slot,
+        generation: u64,
+        found: Found,
+        size: usize,
+    },
+}
+
+/// What an opening has read, and where the journal goes on.
+#[derive(Drop)]
+pub(crate) struct Recovered {
+    pub(crate) deltas: Vec<Delta>,
+    pub(crate) slot: Slot,
+    pub(crate) generation: u64,
 }
 
 /// Makes all bytes of both slots durable.
@@ -64,24 +78,92 @@ fn read_slot<D: Disk>(alloc: Global, disk: &mut D, slot: Slot) -> Result<Vec<u8>
     Ok(bytes)
 }
 
-/// What is to be done with a slot of so many bytes, or why there is no journal in it.
-fn judge(content: SlotContent, size: usize) -> Result<Opening, JournalFault>
-    ensures { result ≡ opening_of content size }
+/// What a slot is, and how many bytes it has.
+fn see_slot<D: Disk>(
+    alloc: Global,
+    disk: &mut D,
+    gateway: u8,
+    slot: Slot,
+) -> Result<(SlotContent, usize), JournalFault>
+    ensures cause { D.failures disk.old ≤ D.failures disk.new }
+    ensures starved { D.starved disk.old ≡ true → D.starved disk.new ≡ true }
+    ensures calm { D.honest → D.starved disk.new ≡ false → IsTrue (is_calm (D.outlook disk.old)) → IsUnhurt result (D.outlook disk.old) (D.outlook disk.new) }
+    ensures err { IfErr result (λ fault. (fault ≡ JournalFault.Memory) ⊎ ((fault ≡ JournalFault.Disk) × (D.failures disk.old < D.failures disk.new))) }
+    ensures same { D.honest → D.slots disk.new ≡ D.slots disk.old }
+    ensures ok { D.honest → IfOk result (λ seen. (seen.0 ≡ slot_content gateway (bytes_of (at (D.slots disk.old) slot))) × (seen.1 ≡ length (bytes_of (at (D.slots disk.old) slot)))) }
+{
+    let bytes = read_slot(alloc, disk, slot)?;
+    let content = read_content(alloc, gateway, &bytes)?;
+    Ok((content, bytes.len()))
+}
+
+/// Why two slots are no journal, if they are none.
+fn fault_in(first: &SlotContent, second: &SlotContent, fresh: bool) -> Option<JournalFault>
+    ensures { result ≡ slots_fault first.now second.now fresh }
+{
+    match (first, second) {
+        (SlotContent::Alien, _) | (_, SlotContent::Alien) => Some(JournalFault::Foreign),
+        (SlotContent::Broken { at }, _) => Some(bad_record(Slot::First, *at)),
+        (_, SlotContent::Broken { at }) => Some(bad_record(Slot::Second, *at)),
+        (SlotContent::Unsealed, SlotContent::Unsealed) => foreign_unless(fresh),
+        (
+            SlotContent::Sealed { generation, .. },
+            SlotContent::Sealed {
+                generation: beside,
+                ..
+            },
+        ) => foreign_unless(*generation < *beside || *beside < *generation),
+        _ => None,
+    }
+}
+
+/// There is no record at a place of a slot.
+fn bad_record(slot: Slot, at: usize) -> JournalFault
+    ensures { result ≡ JournalFault.BadRecord slot at }
+{
+    JournalFault::BadRecord { slot, at }
+}
+
+/// The slots are no journal, unless something holds.
+fn foreign_unless(fine: bool) -> Option<JournalFault>
+    ensures { result ≡ (if fine then None else Some JournalFault.Foreign) }
+{
+    if fine {
+        None
+    } else {
+        Some(JournalFault::Foreign)
+    }
+}
+
+/// Whether the first of two slots is the one that is read.
+fn is_first_read(first: &SlotContent, second: &SlotContent) -> bool
+    ensures { result ≡ reads_first first.now second.now }
+{
+    match (first, second) {
+        (
+            SlotContent::Sealed { generation, .. },
+            SlotContent::Sealed {
+                generation: beside,
+                ..
+            },
+        ) => *beside < *generation,
+        (SlotContent::Sealed { .. }, _) => true,
+        _ => false,
+    }
+}
+
+/// A journal in a slot of so many bytes, where the slot is sealed.
+fn hold(slot: Slot, content: SlotContent, size: usize) -> Opening
+    ensures { result ≡ held_of slot content size }
 {
     match content {
-        SlotContent::Alien => Err(JournalFault::Foreign),
-        SlotContent::Broken { at } => Err(JournalFault::BadRecord {
-            slot: Slot::First,
-            at,
-        }),
-        SlotContent::Unsealed => {
-            if size < SEALED_HEADER {
-                Ok(Opening::New)
-            } else {
-                Err(JournalFault::Foreign)
-            }
-        }
-        SlotContent::Sealed { found, .. } => Ok(Opening::Held { found, size }),
+        SlotContent::Sealed { generation, found } => Opening::Held {
+            slot,
+            generation,
+            found,
+            size,
+        },
+        _ => Opening::New,
     }
 }
 
@@ -108,26 +190,31 @@ fn begin<D: Disk>(disk: &mut D, gateway: u8) -> Result<(), JournalFault>
     Ok(())
 }
 
-/// Cuts away what stands behind the whole pieces of the first slot.
+/// Cuts away what stands behind the whole pieces of a slot.
 #[tactic(auto, using(crate::proofs::Opened::cut_nothing))]
-fn cut_torn<D: Disk>(disk: &mut D, whole: usize, size: usize) -> Result<(), JournalFault>
+fn cut_torn<D: Disk>(
+    disk: &mut D,
+    slot: Slot,
+    whole: usize,
+    size: usize,
+) -> Result<(), JournalFault>
     ensures cause { D.failures disk.old ≤ D.failures disk.new }
     ensures starved { D.starved disk.old ≡ true → D.starved disk.new ≡ true }
     ensures calm { D.honest → D.starved disk.new ≡ false → IsTrue (is_calm (D.outlook disk.old)) → IsUnhurt result (D.outlook disk.old) (D.outlook disk.new) }
     ensures err { IfErr result (λ fault. (fault ≡ JournalFault.Disk) × (D.failures disk.old < D.failures disk.new)) }
-    ensures ok { D.honest → size ≡ length (bytes_of (D.slots disk.old).first) → OnOk result (D.slots disk.new ≡ replaced (D.slots disk.old) Slot.First (cut_to (D.slots disk.old).first (13 + whole))) }
-    ensures part { D.honest → OnErr result ((D.slots disk.new ≡ D.slots disk.old) ⊎ (D.slots disk.new ≡ replaced (D.slots disk.old) Slot.First (cut_to (D.slots disk.old).first (13 + whole)))) }
+    ensures ok { D.honest → size ≡ length (bytes_of (at (D.slots disk.old) slot)) → OnOk result (D.slots disk.new ≡ replaced (D.slots disk.old) slot (cut_to (at (D.slots disk.old) slot) (13 + whole))) }
+    ensures part { D.honest → OnErr result ((D.slots disk.new ≡ D.slots disk.old) ⊎ (D.slots disk.new ≡ replaced (D.slots disk.old) slot (cut_to (at (D.slots disk.old) slot) (13 + whole)))) }
 {
     if size < HEADER || size - HEADER <= whole {
         return Ok(());
     }
-    if disk.cut(Slot::First, HEADER + whole).is_err() {
+    if disk.cut(slot, HEADER + whole).is_err() {
         return Err(JournalFault::Disk);
     }
     Ok(())
 }
 
-/// Does what is to be done with the first slot.
+/// Does what is to be done with the slots.
 pub(crate) fn settle<D: Disk>(
     disk: &mut D,
     gateway: u8,
@@ -142,11 +229,16 @@ pub(crate) fn settle<D: Disk>(
 {
     match opening {
         Opening::New => begin(disk, gateway),
-        Opening::Held { found, size } => cut_torn(disk, found.whole, *size),
+        Opening::Held {
+            slot,
+            found,
+            size,
+            ..
+        } => cut_torn(disk, *slot, found.whole, *size),
     }
 }
 
-/// Reads both slots: what is to be done with the first, the second being empty.
+/// Reads both slots: what is to be done with them.
 pub(crate) fn read_slots<D: Disk>(
     alloc: Global,
     disk: &mut D,
@@ -161,24 +253,39 @@ pub(crate) fn read_slots<D: Disk>(
     ensures opening { D.honest → IfOk result (λ opening. IsOpening gateway (image (D.slots disk.old)) opening × IsSized opening (D.slots disk.old)) }
     ensures fault { D.honest → IfErr result (λ fault. IsFault (fault_of gateway (image (D.slots disk.old))) fault) }
 {
-    let Ok(beside) = disk.len(Slot::Second) else {
-        return Err(JournalFault::Disk);
-    };
-    if beside > 0 {
-        return Err(JournalFault::Foreign);
+    let (first, size) = see_slot(alloc, disk, gateway, Slot::First)?;
+    let (second, beside) = see_slot(alloc, disk, gateway, Slot::Second)?;
+    if let Some(fault) = fault_in(&first, &second, beside == 0 && size < SEALED_HEADER) {
+        return Err(fault);
     }
-    let bytes = read_slot(alloc, disk, Slot::First)?;
-    let content = read_content(alloc, gateway, &bytes)?;
-    judge(content, bytes.len())
+    if is_first_read(&first, &second) {
+        return Ok(hold(Slot::First, first, size));
+    }
+    Ok(hold(Slot::Second, second, beside))
 }
 
-/// The deltas of a journal.
-fn deltas_in(alloc: Global, opening: Opening) -> Vec<Delta>
-    ensures { result.items ≡ deltas_of opening }
+/// The deltas of a journal, with the slot in which it goes on.
+fn recovered_by(alloc: Global, opening: Opening) -> Recovered
+    ensures deltas { result.deltas.items ≡ deltas_of opening }
+    ensures slot { result.slot ≡ place_of opening }
+    ensures generation { result.generation ≡ number_of opening }
 {
     match opening {
-        Opening::New => Vec::new(alloc),
-        Opening::Held { found, .. } => found.deltas.into_vec(),
+        Opening::New => Recovered {
+            deltas: Vec::new(alloc),
+            slot: Slot::First,
+            generation: 1,
+        },
+        Opening::Held {
+            slot,
+            generation,
+            found,
+            ..
+        } => Recovered {
+            deltas: found.deltas.into_vec(),
+            slot,
+            generation,
+        },
     }
 }
 
@@ -188,16 +295,17 @@ pub(crate) fn recover<D: Disk>(
     alloc: Global,
     disk: &mut D,
     gateway: u8,
-) -> Result<Vec<Delta>, JournalFault>
+) -> Result<Recovered, JournalFault>
     ensures cause { D.failures disk.old ≤ D.failures disk.new }
     ensures starved { D.starved disk.old ≡ true → D.starved disk.new ≡ true }
     ensures calm { D.honest → D.starved disk.new ≡ false → IsTrue (is_quiet (D.outlook disk.old) (is_fresh (image (D.slots disk.old)))) → IsUnhurt result (D.outlook disk.old) (D.outlook disk.new) }
     ensures err { IsErrOf result JournalFault.Disk → D.failures disk.old < D.failures disk.new }
     ensures running { IsErrOf result JournalFault.Halted → ⊥ }
-    ensures records { D.honest → IfOk result (λ deltas. deltas.items ≡ records gateway (image (D.slots disk.old))) }
+    ensures records { D.honest → IfOk result (λ made. made.deltas.items ≡ records gateway (image (D.slots disk.old))) }
+    ensures place { D.honest → IfOk result (λ made. (made.slot ≡ slot_read gateway (image (D.slots disk.old))) × (made.generation ≡ generation_read gateway (image (D.slots disk.old)))) }
     ensures known { D.honest → OnOk result (D.slots disk.new ≡ recovered gateway (image (D.slots disk.old))) }
-    ensures settled { D.honest → OnOk result (IsTrue (is_settled gateway Slot.First (D.slots disk.new))) }
-    ensures durable { D.honest → IfOk result (λ deltas. Leaves gateway (D.slots disk.new) deltas.items) }
+    ensures settled { D.honest → IfOk result (λ made. IsTrue (is_in_use gateway made.slot made.generation (D.slots disk.new))) }
+    ensures durable { D.honest → IfOk result (λ made. Leaves gateway (D.slots disk.new) made.deltas.items) }
     ensures found { D.honest → OnOk result (fault_of gateway (image (D.slots disk.old)) ≡ None) }
     ensures fault { D.honest → IfErr result (λ fault. IsFault (fault_of gateway (image (D.slots disk.old))) fault) }
     ensures kept { D.honest → IfErr result (λ fault. fault ≢ JournalFault.Disk → D.slots disk.new ≡ synced_slots (D.slots disk.old)) }
@@ -206,5 +314,5 @@ pub(crate) fn recover<D: Disk>(
     sync_both(disk)?;
     let opening = read_slots(alloc, disk, gateway)?;
     settle(disk, gateway, &opening)?;
-    Ok(deltas_in(alloc, opening))
+    Ok(recovered_by(alloc, opening))
 }

@@ -5,14 +5,21 @@ use Rattle.jr_journal.specs.Faults.{is_fresh}
 use Rattle.jr_journal.proofs.Calm.{not_starved, quiet_calm}
 use Rattle.jr_journal.proofs.Quiet.{still_calm, still_quiet, unhurt_ok, unhurt_then, unhurt_err}
 use Rattle.jr_journal.proofs.Leaving.{always_err, sync_leaves, synced_leaves, partly_leaves}
-use Rattle.jr_journal.proofs.Opened.{all_steps, steps_settled, steps_leave, opening_records, opening_found}
+use Rattle.jr_journal.proofs.Opened.{all_steps, steps_in_use, steps_leave, opening_records, opening_place, opening_found}
 use Rattle.jr_journal.proofs.opening.recover.Goals as goal
 
 pub returns-clause-records : goal.returns-clause-records
 returns-clause-records g c = λ honest.
     let h = all_steps c.args.gateway (g.D.Disk.slots c.args.disk.now) (g.D.Disk.slots c.sync_both.new.disk) (g.D.Disk.slots c.read_slots.new.disk) (g.D.Disk.slots c.settle.new.disk) c.in_ok-opening.opening
     (c.in_ok-sync_both.ensures.ok honest) (c.in_ok-opening.ensures.same honest) (c.in_ok-opening.ensures.opening honest) (c.in_ok-settle.ensures.ok honest) in
-    c.deltas_in.ensures ∙ opening_records c.args.gateway (image (g.D.Disk.slots c.args.disk.now)) c.in_ok-opening.opening h.opening
+    c.recovered_by.ensures.deltas ∙ opening_records c.args.gateway (image (g.D.Disk.slots c.args.disk.now)) c.in_ok-opening.opening h.opening
+
+pub returns-clause-place : goal.returns-clause-place
+returns-clause-place g c = λ honest.
+    let h = all_steps c.args.gateway (g.D.Disk.slots c.args.disk.now) (g.D.Disk.slots c.sync_both.new.disk) (g.D.Disk.slots c.read_slots.new.disk) (g.D.Disk.slots c.settle.new.disk) c.in_ok-opening.opening
+    (c.in_ok-sync_both.ensures.ok honest) (c.in_ok-opening.ensures.same honest) (c.in_ok-opening.ensures.opening honest) (c.in_ok-settle.ensures.ok honest) in
+    let place = opening_place c.args.gateway (image (g.D.Disk.slots c.args.disk.now)) c.in_ok-opening.opening h.opening in
+    (c.recovered_by.ensures.slot ∙ place.0, c.recovered_by.ensures.generation ∙ place.1)
 
 pub returns-clause-known : goal.returns-clause-known
 returns-clause-known g c = λ honest.
@@ -24,13 +31,14 @@ pub returns-clause-settled : goal.returns-clause-settled
 returns-clause-settled g c = λ honest.
     let h = all_steps c.args.gateway (g.D.Disk.slots c.args.disk.now) (g.D.Disk.slots c.sync_both.new.disk) (g.D.Disk.slots c.read_slots.new.disk) (g.D.Disk.slots c.settle.new.disk) c.in_ok-opening.opening
     (c.in_ok-sync_both.ensures.ok honest) (c.in_ok-opening.ensures.same honest) (c.in_ok-opening.ensures.opening honest) (c.in_ok-settle.ensures.ok honest) in
-    steps_settled c.args.gateway (g.D.Disk.slots c.args.disk.now) (g.D.Disk.slots c.settle.new.disk) c.in_ok-opening.opening h
+    steps_in_use c.args.gateway (g.D.Disk.slots c.args.disk.now) (g.D.Disk.slots c.settle.new.disk) c.in_ok-opening.opening c.recovered_by.result.slot c.recovered_by.result.generation h
+    c.recovered_by.ensures.slot c.recovered_by.ensures.generation
 
 pub returns-clause-durable : goal.returns-clause-durable
 returns-clause-durable g c = λ honest.
     let h = all_steps c.args.gateway (g.D.Disk.slots c.args.disk.now) (g.D.Disk.slots c.sync_both.new.disk) (g.D.Disk.slots c.read_slots.new.disk) (g.D.Disk.slots c.settle.new.disk) c.in_ok-opening.opening
     (c.in_ok-sync_both.ensures.ok honest) (c.in_ok-opening.ensures.same honest) (c.in_ok-opening.ensures.opening honest) (c.in_ok-settle.ensures.ok honest) in
-    steps_leave c.args.gateway (g.D.Disk.slots c.args.disk.now) (g.D.Disk.slots c.settle.new.disk) c.in_ok-opening.opening c.deltas_in.result.items h c.deltas_in.ensures
+    steps_leave c.args.gateway (g.D.Disk.slots c.args.disk.now) (g.D.Disk.slots c.settle.new.disk) c.in_ok-opening.opening c.recovered_by.result.deltas.items h c.recovered_by.ensures.deltas
 
 pub returns-clause-found : goal.returns-clause-found
 returns-clause-found g c = λ honest.
@@ -104,4 +112,4 @@ returns-clause-calm g c = λ honest fed quiet.
     let third = c.in_ok-settle.ensures.calm honest fed
     (still_quiet c.args.gateway old (g.D.Disk.slots c.sync_both.new.disk) c.in_ok-opening.opening before (g.D.Disk.outlook c.read_slots.new.disk)
     (c.in_ok-sync_both.ensures.ok honest) (c.in_ok-opening.ensures.opening honest).0 quiet (second.1 ∙ first.1)) in
-    unhurt_ok c.deltas_in.result before (g.D.Disk.outlook c.settle.new.disk) (third.1 ∙ (second.1 ∙ first.1))
+    unhurt_ok c.recovered_by.result before (g.D.Disk.outlook c.settle.new.disk) (third.1 ∙ (second.1 ∙ first.1))

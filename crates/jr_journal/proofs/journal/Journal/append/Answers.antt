@@ -1,7 +1,9 @@
 use Rattle.std.proofs.Common.{◌≡◌, ◌∙◌, length}
 use Rattle.jr_journal.specs.Disk.{at, replaced, appended}
 use Rattle.std.proofs.Common.{take}
-use Rattle.jr_journal.proofs.Appending.{on_ok, on_err, err_written, torn_after, all_out, synced_is, settles_after, durable_after}
+use Rattle.jr_journal.proofs.Appending.{on_ok, on_err, err_written, torn_after, all_out, synced_is, settles_after, durable_after, done_as}
+use Rattle.jr_journal.proofs.Calm.{not_starved}
+use Rattle.jr_journal.specs.Records.{written}
 use Rattle.jr_journal.proofs.journal.Journal.append.Goals as goal
 
 pub returns-then-is_err-clause-torn : goal.returns-then-is_err-clause-torn
@@ -10,7 +12,7 @@ returns-then-is_err-clause-torn g c = λ honest told.
     let old = g.D.Disk.slots s.disk in
     let new = g.D.Disk.slots c.append.new.self in
     let e = err_written c.append.result (λ w. new ≡ replaced old s.slot (appended (at old s.slot) (take w c.deref.result.now))) c.if-is_err.ensures.value (c.append.ensures.err honest) in
-    torn_after s.gateway s.slot s.halted old new c.args.delta.now c.deref.result.now e.0 (s.settled honest) c.if-self.false c.in_ok-bytes.ensures.readable
+    torn_after s.gateway s.slot s.generation s.halted old new c.args.delta.now c.deref.result.now e.0 (s.settled honest) c.if-self.false c.in_ok-bytes.ensures.readable
     (c.deref.ensures.value ∙ c.in_ok-bytes.ensures.ok) e.1
 
 pub returns-then-is_err-2-clause-torn : goal.returns-then-is_err-2-clause-torn
@@ -20,7 +22,7 @@ returns-then-is_err-2-clause-torn g c = λ honest told.
     let middle = g.D.Disk.slots c.append.new.self in
     let new = g.D.Disk.slots c.sync.new.self in
     let bytes = c.deref.result.now in
-    torn_after s.gateway s.slot s.halted old new c.args.delta.now bytes (length bytes) (s.settled honest) c.if-self.false c.in_ok-bytes.ensures.readable
+    torn_after s.gateway s.slot s.generation s.halted old new c.args.delta.now bytes (length bytes) (s.settled honest) c.if-self.false c.in_ok-bytes.ensures.readable
     (c.deref.ensures.value ∙ c.in_ok-bytes.ensures.ok)
     (all_out s.slot old middle new bytes (on_ok c.append.result c.if-is_err.ensures.value (c.append.ensures.ok honest)) (on_err c.sync.result c.if-is_err-2.ensures.value (c.sync.ensures.err honest)))
 
@@ -31,7 +33,7 @@ invariant_of-self-2 g c = record {
       let old = g.D.Disk.slots s.disk in
       let middle = g.D.Disk.slots c.append.new.self in
       let new = g.D.Disk.slots c.sync.new.self in
-      settles_after s.gateway s.slot s.halted old new c.args.delta.now (s.settled honest) c.if-self.false c.in_ok-bytes.ensures.readable
+      settles_after s.gateway s.slot s.generation s.halted old new c.args.delta.now (s.settled honest) c.if-self.false c.in_ok-bytes.ensures.readable
       (synced_is s.slot old middle new c.args.delta.now c.deref.result.now (c.deref.ensures.value ∙ c.in_ok-bytes.ensures.ok)
       (on_ok c.append.result c.if-is_err.ensures.value (c.append.ensures.ok honest)) (on_ok c.sync.result c.if-is_err-2.ensures.value (c.sync.ensures.ok honest)));
 }
@@ -42,6 +44,18 @@ returns-clause-durable g c = λ honest.
     let old = g.D.Disk.slots s.disk in
     let middle = g.D.Disk.slots c.append.new.self in
     let new = g.D.Disk.slots c.sync.new.self in
-    durable_after s.gateway s.slot s.halted old new c.args.delta.now (s.settled honest) c.if-self.false c.in_ok-bytes.ensures.readable
+    durable_after s.gateway s.slot s.generation s.halted old new c.args.delta.now (s.settled honest) c.if-self.false c.in_ok-bytes.ensures.readable
+    (synced_is s.slot old middle new c.args.delta.now c.deref.result.now (c.deref.ensures.value ∙ c.in_ok-bytes.ensures.ok)
+    (on_ok c.append.result c.if-is_err.ensures.value (c.append.ensures.ok honest)) (on_ok c.sync.result c.if-is_err-2.ensures.value (c.sync.ensures.ok honest)))
+
+pub returns-clause-known : goal.returns-clause-known
+returns-clause-known g c = λ honest fed.
+    let s = c.args.self.now in
+    let old = g.D.Disk.slots s.disk in
+    let middle = g.D.Disk.slots c.append.new.self in
+    let new = g.D.Disk.slots c.sync.new.self in
+    let early = not_starved (g.D.Disk.starved c.append.new.self) (g.D.Disk.starved c.sync.new.self) c.sync.ensures.starved fed in
+    done_as (g.D.Disk.outlook s.disk) (g.D.Disk.outlook c.append.new.self) (g.D.Disk.outlook c.sync.new.self) old new s.slot (written c.args.delta.now) (length c.deref.result.now) c.append.result c.sync.result
+    c.if-is_err.ensures.value c.if-is_err-2.ensures.value (c.append.ensures.outlook early) (c.sync.ensures.outlook fed)
     (synced_is s.slot old middle new c.args.delta.now c.deref.result.now (c.deref.ensures.value ∙ c.in_ok-bytes.ensures.ok)
     (on_ok c.append.result c.if-is_err.ensures.value (c.append.ensures.ok honest)) (on_ok c.sync.result c.if-is_err-2.ensures.value (c.sync.ensures.ok honest)))
