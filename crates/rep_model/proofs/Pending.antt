@@ -1,19 +1,18 @@
 -- The messages that wait, as a list: exactly those that are found under their names, each once, in the order of delivery.
-use Rattle.std.proofs.Common.{◌≡◌, ℕ, Bool, true, false, cond, not, ◌&&◌, ◌==◌, ◌↔◌, ◌⊎◌, inl, inr, T, if◌then◌else◌, List, [], ◌∷◌, filter, map, Option, Some, None, is_some, Contains, refl, sym, ap, ◌∙◌, subst, true≢false, Ordering, Less, Equal, Greater, is_eq, is_lt, arith}
-use Rattle.std.specs.List.{cons_option, AllByRecursion}
+use Rattle.std.proofs.Common.{◌≡◌, ℕ, Bool, true, false, cond, ◌&&◌, ◌↔◌, ◌⊎◌, inl, inr, T, List, [], ◌∷◌, map, Option, Some, None, is_some, Contains, refl, sym, ap, ◌∙◌, subst, true≢false, Ordering, Less, Equal, Greater, is_eq, is_lt, arith}
+use Rattle.std.specs.List.{AllByRecursion}
 use Rattle.std.specs.List.Sorted.{IsStrictlySortedBy}
 use Rattle.std.specs.Ordering.{eq_by_cmp}
 use Rattle.std.specs.FinMap.{find}
-use Rattle.std.specs.FinMap.Entries.{by_order, put, below_all, is_sorted}
+use Rattle.std.specs.FinMap.Entries.{below_all, is_sorted}
 use Rattle.std.proofs.lemmas.Cmp.{tied_itself}
 use Rattle.std.proofs.lemmas.Map.Views.{tells_apart}
 use Rattle.std.proofs.lemmas.List.Elements.{Contains-push, Contains-push_cases, Contains-append_left, Contains-append_right, Contains-append_cases}
 use Rattle.rep_ops.specs.declared.op.Put.{Put}
 use Rattle.rep_ops.specs.declared.op.Op.{Op}
-use Rattle.rep_ops.specs.declared.op.Op.TheVariants.{Session as OfSession, Put as OfPut, Ack}
 use Rattle.rep_ops.specs.Orders.{put_cmp}
-use Rattle.rep_ops.specs.Sets.{same_client, puts, is_acknowledged, Within}
-use Rattle.rep_model.specs.Views.{unacknowledged, pending_at, in_order, pending}
+use Rattle.rep_ops.specs.Sets.{is_acknowledged, Within}
+use Rattle.rep_model.specs.Views.{pending_at, pending}
 use Rattle.rep_model.proofs.Readers.{put_total, put_exact}
 use Rattle.rep_model.proofs.Waiting.{AreUnderNames, waiting_entries, waiting_under, waiting_sorted, waiting_found}
 use Rattle.rep_model.proofs.Joins.{pending-leaves}

@@ -1,6 +1,6 @@
 -- Small sets, and what they say.
-use Rattle.std.proofs.Common.{◌≡◌, ℕ, ◌-◌, ◌^◌, false, List, [], ◌∷◌, Some, None, refl}
-use Rattle.sn_session.specs.declared.presence.Presence.TheVariants.{Active, Asleep, Lost}
+use Rattle.std.proofs.Common.{◌≡◌, ℕ, ◌-◌, ◌^◌, List, [], ◌∷◌, Some, None, refl}
+use Rattle.sn_session.specs.declared.presence.Presence.TheVariants.{Asleep, Lost}
 use Rattle.sn_session.specs.declared.session.Session.{Session}
 use Rattle.sn_session.specs.Session.{empty_session}
 use Rattle.sn_session.specs.declared.change.SessionOp.TheVariants.{Take, Presence as SetPresence}

@@ -4,4 +4,5 @@ pub mod Keep
 pub mod Held
 pub mod Ranges
 pub mod Limits
+pub mod Roomy
 pub mod Taking

@@ -1,6 +1,6 @@
 //! The laws of sets and views. Each function does nothing; its contract is a law, proved for all sets.
 
-ghost use Rattle.std.specs.Prelude.{◌≡◌, ℕ, ◌≤◌, ◌++◌, ◌||◌, ◌⊎◌, ◌↔◌, List, Some, true, false, IsTrue, Contains};
+ghost use Rattle.std.specs.Prelude.{◌≡◌, ℕ, ◌≤◌, ◌++◌, ◌||◌, ◌⊎◌, ◌↔◌, List, Some, None, true, false, IsTrue, Contains};
 ghost use Rattle.std.specs.List.{AllByRecursion};
 ghost use Rattle.std.specs.List.Sorted.{IsStrictlySortedBy};
 ghost use Rattle.rep_ops.specs.Orders.{client_cmp, put_cmp};
@@ -11,7 +11,10 @@ ghost use Rattle.rep_model.specs.Views.{pending_at, pending, view, unseen, clien
 ghost use Rattle.rep_model.specs.Fresh.{next_epoch, next_seq};
 ghost use Rattle.rep_model.specs.Keep.{keep, IsKeptOf, CountsAs, Below};
 ghost use Rattle.rep_model.specs.Ranges.{is_within, in_ranges, AreApart};
+ghost use Rattle.rep_ops.specs.Splitting.{all_of};
+ghost use Rattle.rep_model.specs.Held.{IsHeld};
 ghost use Rattle.rep_model.specs.Limits.{with_range, acknowledged, first_passed};
+ghost use Rattle.rep_model.specs.Roomy.{IsRoomy};
 
 /// What a gateway may forget makes no difference: it forgets, and a client sees what it would have
 /// seen, now and after whatever the gateway takes later.
@@ -104,4 +107,14 @@ pub fn pending_laws()
     ensures listed { (c : List ℕ) (S : List Op) (put : Put) → Contains (pending c S) put ↔ (pending_at c S (put.seq, put.origin) ≡ Some put) }
     ensures ascending { (c : List ℕ) (S : List Op) → IsStrictlySortedBy (λ (a b : Put). put_cmp (a.seq, a.origin) (b.seq, b.origin)) (pending c S) }
     ensures leaves { (c : List ℕ) (S W : List Op) (put : Put) → Within S W → Contains (view c S).pending put → Contains (view c W).pending put ⊎ (is_acknowledged c W (put.seq, put.origin) ≡ true) }
+{}
+
+/// A set that is written down as the deltas of what must be kept of it can be read back: together these deltas are what a replica
+/// may hold of the set, and where the set passes no limit they can be taken one after the other, since no front part of them
+/// passes a limit either.
+pub fn base_laws()
+    ensures between { (S : List Op) (base : List (List Op)) → IsHeld S base → IsKeptOf S (all_of base) }
+    ensures counts { (S : List Op) (base : List (List Op)) → IsHeld S base → CountsAs S (all_of base) }
+    ensures roomy { (S : List Op) (base : List (List Op)) → IsHeld S base → first_passed S ≡ None → IsRoomy base }
+    ensures kept_roomy { (S K : List Op) (base : List (List Op)) → CountsAs S K → IsHeld K base → first_passed S ≡ None → IsRoomy base }
 {}

@@ -10,9 +10,10 @@
 //! - `replica`: what every replica of a set promises (`Replica`), however it keeps it.
 //!
 //! The definitions are in `specs/`: `Views` (visible stamp, prefix, session, pending), `Fresh` (the next
-//! epoch and sequence number), `Keep` (what may not be forgotten), `Ranges` (of acknowledgements), `Limits`
-//! (how much a replica holds). The lemmas that crates above cite are in `proofs/`: `Joins`, `Thin`,
-//! `Ranges`, `Named`, `Fresh`, `Limits`, `Agreeing`.
+//! epoch and sequence number), `Keep` (what may not be forgotten), `Held` (that as deltas), `Ranges` (of
+//! acknowledgements), `Limits` (how much a replica holds), `Roomy` (deltas that fit one after the other).
+//! The lemmas that crates above cite are in `proofs/`: `Joins`, `Thin`, `Ranges`, `Named`, `Fresh`,
+//! `Limits`, `Agreeing`, `Occurring`, `Roomy`.
 #![tactic(auto)]
 
 mod fault;
@@ -22,7 +23,7 @@ mod view;
 
 pub use fault::{Limit, TakeFault};
 pub use laws::{
-    client_laws, consistency, count_laws, join_laws, keep_laws, leaves_only, order_laws,
+    base_laws, client_laws, consistency, count_laws, join_laws, keep_laws, leaves_only, order_laws,
     pending_laws, range_laws,
 };
 pub use replica::Replica;

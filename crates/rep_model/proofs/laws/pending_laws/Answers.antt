@@ -1,4 +1,3 @@
-use Rattle.std.proofs.Common.{List, ℕ, Contains, ◌≡◌, ◌⊎◌, inl, inr, true}
 use Rattle.rep_model.proofs.laws.pending_laws.Goals as goal
 use Rattle.rep_model.proofs.Pending.{pending-listed, pending-ascend, pending-stay}
 
