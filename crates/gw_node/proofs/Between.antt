@@ -8,7 +8,7 @@ use Rattle.rep_ops.specs.declared.op.Put.{Put}
 use Rattle.rep_ops.specs.declared.op.Op.{Op}
 use Rattle.rep_ops.specs.declared.op.Op.TheVariants.{Session as OfSession, Put as OfPut, Ack}
 use Rattle.rep_ops.specs.Orders.{operation_cmp, put_cmp}
-use Rattle.rep_ops.specs.Sets.{same_client, operation_of, operation_at, put_of, put_at, is_acknowledged, Agrees, Within}
+use Rattle.rep_ops.specs.Sets.{same_client, operation_of, operation_at, put_of, put_at, is_acknowledged, Agrees, Within, Same}
 use Rattle.rep_model.specs.Views.{visible}
 use Rattle.rep_model.specs.Keep.{is_below, keep, CountsAs}
 use Rattle.rep_model.specs.Taking.{AllAgree}
@@ -166,6 +166,20 @@ within-trans A B C f g = record {
   operations_in = λ c name x e. g.operations_in c name x (f.operations_in c name x e);
   puts_in = λ c name x e. g.puts_in c name x (f.puts_in c name x e);
   acknowledgements_in = λ c name e. g.acknowledgements_in c name (f.acknowledgements_in c name e);
+}
+
+pub within-same : (A B : List Op) → Same A B → Within A B
+within-same A B s = record {
+  operations_in = λ c name x e. sym (s.operations_same c name) ∙ e;
+  puts_in = λ c name x e. sym (s.puts_same c name) ∙ e;
+  acknowledgements_in = λ c name e. sym (s.acknowledgements_same c name) ∙ e;
+}
+
+pub within-keep : (S : List Op) → Within (keep S) S
+within-keep S = record {
+  operations_in = λ c name x e. (there (is_below name.0 (visible c S)) (operation_at c S name) x (sym (operation_at_keep c S name) ∙ e)).1;
+  puts_in = λ c name x e. (there (is_acknowledged c S name) (put_at c S name) x (sym (put_at_keep c S name) ∙ e)).1;
+  acknowledgements_in = λ c name e. sym (is_acknowledged_keep c S name) ∙ e;
 }
 
 pub within-nothing : (A S : List Op) → Within A (S ++ []) → Within A S

@@ -1,6 +1,7 @@
 -- From what the parts of a call come to, to the call.
 use Rattle.std.proofs.Common.{◌≡◌, ◌≢◌, ℕ, ◌==◌, false, List, [], ◌∷◌, ◌++◌, length, Some, Result, Ok, Err, refl, ap, inl, inr}
 use Rattle.rep_ops.specs.declared.op.Op.{Op}
+use Rattle.rep_ops.specs.Deltas.{IsDelta}
 use Rattle.rep_ops.specs.Making.{IsDeltaOf}
 use Rattle.rep_model.specs.Keep.{IsKeptOf}
 use Rattle.rep_model.specs.Taking.{Fits}
@@ -35,15 +36,15 @@ module _ {D : Type 0} {G : Ghosts D} where
   noted old new (op ∷ ops) done h = h
 
   -- the journal refused a delta that fits
-  pub left : (old new : State G) (delta : List Op) (fault : JournalFault) → is_halted old ≡ false → new.config ≡ old.config → new.kept ≡ old.kept → new.local ≡ old.local → new.records ≡ old.records → Fits old.kept delta
+  pub left : (old new : State G) (delta : List Op) (fault : JournalFault) → is_halted old ≡ false → new.config ≡ old.config → new.kept ≡ old.kept → new.local ≡ old.local → new.records ≡ old.records → IsDelta delta → Fits old.kept delta
       → WrittenIfAny old.journal delta (Err fault) new.journal → TakeCall old delta (Err (refusal_of fault (only_sends []))) new
-  left old new [] fault runs config kept local records fits h = absurd h
-  left old new (op ∷ ops) faults.Disk runs config kept local records fits h =
-      (runs, refl, record { some = λ e. absurd cc; config = config; records = records; kept = kept; local = local; fits = fits; failed = h })
-  left old new (op ∷ ops) faults.Halted runs config kept local records fits h = (h.0, record { config = config; kept = kept; local = local; journal = h.1; records = records })
-  left old new (op ∷ ops) faults.Memory runs config kept local records fits h = record { config = config; kept = kept; local = local; journal = h; records = records }
-  left old new (op ∷ ops) faults.Foreign runs config kept local records fits h = absurd h
-  left old new (op ∷ ops) (faults.BadRecord slot at) runs config kept local records fits h = absurd h
+  left old new [] fault runs config kept local records is fits h = absurd h
+  left old new (op ∷ ops) faults.Disk runs config kept local records is fits h =
+      (runs, refl, record { some = λ e. absurd cc; config = config; records = records; kept = kept; local = local; is_delta = is; fits = fits; failed = h })
+  left old new (op ∷ ops) faults.Halted runs config kept local records is fits h = (h.0, record { config = config; kept = kept; local = local; journal = h.1; records = records })
+  left old new (op ∷ ops) faults.Memory runs config kept local records is fits h = record { config = config; kept = kept; local = local; journal = h; records = records }
+  left old new (op ∷ ops) faults.Foreign runs config kept local records is fits h = absurd h
+  left old new (op ∷ ops) (faults.BadRecord slot at) runs config kept local records is fits h = absurd h
 
   -- operations that became a delta
   pub makes : (ops : List Op) (delta : List Op) (old new : State G) → ops ≢ [] → IsDeltaOf ops delta → Fits old.kept delta → IsKeptOf (old.kept ++ delta) new.kept → IsWritten old.journal delta new.journal → Makes ops (Some delta) old new

@@ -1,8 +1,9 @@
 -- The disk failed as often at least as a call was told so, whichever call it was.
-use Rattle.std.proofs.Common.{◌≡◌, ◌+◌, ◌<◌, ◌≤◌, ℕ, List, [], ◌∷◌, Option, Some, None, Result, Ok, Err, ap, arith}
+use Rattle.std.proofs.Common.{◌≡◌, ◌+◌, ◌≤◌, ℕ, List, [], ◌∷◌, Option, Some, None, Result, Ok, Err, ap, arith}
 use Rattle.rep_ops.specs.declared.op.Op.{Op}
 use Rattle.rep_digest.specs.declared.entry.ClientEntry.{ClientEntry}
 use Rattle.jr_journal.specs.declared.disk.Disk.{Ghosts}
+use Rattle.jr_journal.specs.declared.fault.JournalFault.TheVariants as journal_faults
 use Rattle.jr_journal.specs.declared.journal.Journal.{Journal}
 use Rattle.jr_journal.specs.Parts.{disk_of}
 use Rattle.gw_node.specs.declared.out.Out.{Out}
@@ -11,9 +12,10 @@ use Rattle.gw_node.specs.declared.refusal.Refusal.TheVariants as refusals
 use Rattle.gw_node.specs.declared.step.Step.{Step}
 use Rattle.gw_node.specs.declared.step.Step.TheVariants as steps
 use Rattle.gw_node.specs.Occasions.{Occasion, Datagram, Clock}
-use Rattle.gw_node.specs.Parts.{State, IsUntouched, IsUnchanged}
+use Rattle.gw_node.specs.Parts.{State, IsUntouched}
 use Rattle.gw_node.specs.Plans.{Makes}
-use Rattle.gw_node.specs.Calls.{OwnCall, TakeCall, ViewCall, DigestCall, AnswerCall, StepCall, IsNoted}
+use Rattle.gw_node.specs.Calls.{OwnCall, TakeCall, ViewCall, DigestCall, AnswerCall, CompactCall, StepCall, IsNoted}
+use Rattle.gw_node.specs.Opening.{ReopenCall}
 use Rattle.gw_node.specs.Failures.{failed}
 
 -- a disk on which this many more calls failed, at least
@@ -93,6 +95,32 @@ answers old asked (Err (refusals.Conflict of)) new h = absurd h
 answers old asked (Err refusals.Exhausted) new h = absurd h
 answers old asked (Err (refusals.Journal fault)) new h = absurd h
 
+compacts : {D : Type 0} {G : Ghosts D} (old : State G) (answer : Result Out Refusal) (new : State G) → CompactCall old answer new → Fails old.journal (failed answer) new.journal
+compacts old (Ok out) new h = omega (arith, h.2.rewritten.failures)
+compacts old (Err refusals.Halted) new h = untouched old.journal new.journal h.1.journal
+compacts old (Err (refusals.Journal journal_faults.Foreign)) new h = untouched old.journal new.journal h.3.journal
+compacts old (Err (refusals.Journal journal_faults.Disk)) new h = absurd h
+compacts old (Err (refusals.Journal journal_faults.Halted)) new h = absurd h
+compacts old (Err (refusals.Journal journal_faults.Memory)) new h = absurd h
+compacts old (Err (refusals.Journal (journal_faults.BadRecord slot at))) new h = absurd h
+compacts old (Err (refusals.Disk excuse)) new h = omega (arith, h.2.failed.cause)
+compacts old (Err refusals.Memory) new h = untouched old.journal new.journal h.journal
+compacts old (Err (refusals.Frame fault)) new h = absurd h
+compacts old (Err (refusals.Conflict client)) new h = absurd h
+compacts old (Err refusals.Full) new h = absurd h
+compacts old (Err refusals.Exhausted) new h = absurd h
+
+reopens : {D : Type 0} {G : Ghosts D} (old : State G) (answer : Result Out Refusal) (new : State G) → ReopenCall old answer new → Fails old.journal (failed answer) new.journal
+reopens old (Ok out) new h = omega (arith, h.1.failures)
+reopens old (Err (refusals.Disk excuse)) new h = omega (arith, h.1.cause tt)
+reopens old (Err refusals.Halted) new h = omega (arith, h.1.failures)
+reopens old (Err (refusals.Frame fault)) new h = omega (arith, h.1.failures)
+reopens old (Err refusals.Exhausted) new h = omega (arith, h.1.failures)
+reopens old (Err (refusals.Conflict client)) new h = omega (arith, h.1.failures)
+reopens old (Err refusals.Full) new h = omega (arith, h.1.failures)
+reopens old (Err (refusals.Journal fault)) new h = omega (arith, h.1.failures)
+reopens old (Err refusals.Memory) new h = omega (arith, h.1.failures)
+
 pub failures_grow : {D : Type 0} {G : Ghosts D} (old : State G) (step : Step) (answer : Result Out Refusal) (new : State G)
     → StepCall old step answer new → G.failures (disk_of old.journal) + failed answer ≤ G.failures (disk_of new.journal)
 failures_grow old (steps.Frame from bytes now) answer new h = own old (Datagram from bytes) now answer new h
@@ -101,3 +129,5 @@ failures_grow old (steps.Take delta) answer new h = takes old delta answer new h
 failures_grow old (steps.View client) answer new h = views old client answer new h
 failures_grow old steps.Digest answer new h = digests old answer new h
 failures_grow old (steps.Answer asked) answer new h = answers old asked answer new h
+failures_grow old steps.Compact answer new h = compacts old answer new h
+failures_grow old steps.Reopen answer new h = reopens old answer new h

@@ -1,6 +1,7 @@
 -- A node that is opened.
 use Rattle.std.proofs.Common.{◌≡◌, ℕ, ◌+◌, false, slice_get, List, [], ◌∷◌, ◌++◌, length, take, drop, get_or, ◌<◌, ◌≤◌, Some, None, Result, Ok, Err, IfOk, IfErr, OnOk, inl, inr, refl, sym, ap, ◌∙◌, subst}
 use Rattle.std.proofs.lemmas.List.{drop_all, drop_more, take_more}
+use Rattle.std.proofs.lemmas.Option.{none-some}
 use Rattle.rep_ops.specs.declared.op.Op.{Op}
 use Rattle.rep_model.specs.Keep.{CountsAs, IsKeptOf}
 use Rattle.rep_model.specs.Taking.{Fits}
@@ -11,12 +12,12 @@ use Rattle.jr_journal.specs.declared.disk.Disk.{Ghosts}
 use Rattle.jr_journal.specs.declared.fault.JournalFault.{JournalFault}
 use Rattle.jr_journal.specs.declared.fault.JournalFault.TheVariants as faults
 use Rattle.jr_journal.specs.declared.journal.Journal.{Journal}
-use Rattle.jr_journal.specs.Disk.{Slots, Image, image, after_crash}
+use Rattle.jr_journal.specs.Disk.{Slots, Image, image}
 use Rattle.jr_journal.specs.Records.{records}
 use Rattle.jr_journal.specs.Faults.{fault_of, IsFault}
 use Rattle.jr_journal.specs.Journals.{Leaves}
-use Rattle.jr_journal.specs.Opening.{LeavesNoMore, synced_slots, recovered}
-use Rattle.jr_journal.specs.Parts.{disk_of, gateway_of, is_halted as is_stopped}
+use Rattle.jr_journal.specs.Opening.{LeavesNoMore, synced_slots, recovered, slot_read, generation_read}
+use Rattle.jr_journal.specs.Parts.{disk_of, gateway_of, slot_of, generation_of, is_halted as is_stopped}
 use Rattle.gw_node.specs.declared.out.Out.{Out}
 use Rattle.gw_node.specs.declared.refusal.Refusal.{Refusal}
 use Rattle.gw_node.specs.declared.refusal.Refusal.TheVariants as refusals
@@ -24,12 +25,13 @@ use Rattle.gw_node.specs.declared.node.Node.{Node}
 use Rattle.gw_node.specs.Parts.{State, state_of, only_sends}
 use Rattle.gw_node.specs.Writing.{refusal_of}
 use Rattle.gw_node.specs.Plans.{IsMisfit}
-use Rattle.gw_node.specs.Taking.{ops_of, IsBetween, HasTaken}
-use Rattle.gw_node.specs.Opening.{IsStarted, FitInTurn, HasMisfit, DoNotFit, IsOpenFault, IsDiskFault, MayRefuse, LeavesSlots}
+use Rattle.gw_node.specs.Taking.{ops_of, StandsFor, HasTaken}
+use Rattle.gw_node.specs.Opening.{IsStarted, GoesOnIn, FitInTurn, HasMisfit, DoNotFit, IsOpenFault, IsDiskFault, MayRefuse, LeavesSlots}
 use Rattle.gw_node.specs.Keeping.{Keeps}
 use Rattle.gw_node.proofs.Keeping.{keeps_more}
-use Rattle.gw_node.proofs.Between.{ops_of_more, between_again, counts_back, counts_again}
-use Rattle.gw_node.proofs.Taken.{opened, all_left}
+use Rattle.gw_node.proofs.Between.{ops_of_more}
+use Rattle.gw_node.proofs.Roomy.{no_full, no_conflict}
+use Rattle.gw_node.proofs.Taken.{StandFor, records_stand, read_again, read_back, all_left}
 
 -- ---- deltas, one after the other
 
@@ -140,19 +142,6 @@ module _ {D : Type 0} {G : Ghosts D} where
   started config state journal configured local is runs gateway =
       record { configured = configured; local = local; runs = ap is_stopped is ∙ runs; gateway = ap gateway_of is ∙ gateway }
 
-  -- beside what had been taken before
-  pub taken_again : (state : State G) (gateway : ℕ) (old : Slots) (S refused J : List Op) (deltas : List (List Op)) → gateway_of state.journal ≡ gateway → deltas ≡ records gateway (image old) → J ≡ ops_of (records gateway (image old)) → CountsAs J state.kept
-      → (G.honest → Leaves gateway (G.slots (disk_of state.journal)) deltas) → IsBetween S refused J → HasTaken (S ++ J) [] state
-  taken_again state gateway old S refused J deltas same is J_is counts leaves h = record {
-    counts = counts_again S refused J state.kept h counts;
-    quiet = λ _. refl;
-    images = λ honest k l.
-        opened (gateway_of state.journal) (S ++ J) [] deltas (after_crash k l (G.slots (disk_of state.journal)))
-        (subst (λ (g : ℕ). (records g (after_crash k l (G.slots (disk_of state.journal))) ≡ deltas) × (fault_of g (after_crash k l (G.slots (disk_of state.journal))) ≡ None)) (sym same) (leaves honest k l))
-        (subst (λ (ops : List Op). IsBetween (S ++ J) [] ops) (J_is ∙ ap ops_of (sym is)) (between_again S refused J h))
-        (inl (subst (λ (ops : List Op). CountsAs (S ++ J) ops) (J_is ∙ ap ops_of (sym is)) (counts_back S refused J h)));
-  }
-
   -- ---- the answer of an opening
 
   pub takes_kept : {R Z E : Type 0} (kept : R → List Op) (r : Result (Node R D Z G) E) (deltas : List (List Op))
@@ -177,13 +166,31 @@ module _ {D : Type 0} {G : Ghosts D} where
 
   pub opened_again : {R Z E : Type 0} (kept : R → List Op) (r : Result (Node R D Z G) E) (journal : Journal D G) (gateway : ℕ) (old : Slots) (deltas : List (List Op))
       → gateway_of journal ≡ gateway → deltas ≡ records gateway (image old) → Leaves gateway (G.slots (disk_of journal)) deltas
-      → IfOk r (λ node. (state_of kept node).journal ≡ journal) → IfOk r (λ node. CountsAs (ops_of deltas) (state_of kept node).kept)
-      → IfOk r (λ node. (S refused : List Op) → IsBetween S refused (ops_of (records gateway (image old))) → HasTaken (S ++ ops_of (records gateway (image old))) [] (state_of kept node))
-  opened_again kept (Ok node) journal gateway old deltas same is leaves journal_is counts = λ S refused h.
-      taken_again (state_of kept node) gateway old S refused (ops_of (records gateway (image old))) deltas (ap gateway_of journal_is ∙ same) is refl
-      (subst (λ (ds : List (List Op)). CountsAs (ops_of ds) (state_of kept node).kept) is counts)
-      (λ honest. subst (λ (j : Journal D G). Leaves gateway (G.slots (disk_of j)) deltas) (sym journal_is) leaves) h
-  opened_again kept (Err e) journal gateway old deltas same is leaves journal_is counts = tt
+      → IfOk r (λ node. (state_of kept node).journal ≡ journal) → IfOk r (λ node. Keeps (ops_of deltas) (state_of kept node).kept)
+      → IfOk r (λ node. (S refused : List Op) → StandsFor gateway S refused (image old) → HasTaken (S ++ ops_of (records gateway (image old))) [] (state_of kept node))
+  opened_again kept (Ok node) journal gateway old deltas same is leaves journal_is keeps = λ S refused h.
+      subst (λ (ds : List (List Op)). HasTaken (S ++ ops_of ds) [] (state_of kept node)) is
+      (read_again (state_of kept node) gateway deltas S refused (ap gateway_of journal_is ∙ same) keeps.counts
+      (λ honest. subst (λ (j : Journal D G). Leaves gateway (G.slots (disk_of j)) deltas) (sym journal_is) leaves)
+      (subst (λ (ds : List (List Op)). StandFor S refused ds) (sym is) (records_stand gateway S refused (image old) h)))
+  opened_again kept (Err e) journal gateway old deltas same is leaves journal_is keeps = tt
+
+  pub opened_back : {R Z E : Type 0} (kept : R → List Op) (r : Result (Node R D Z G) E) (journal : Journal D G) (gateway : ℕ) (old : Slots) (deltas : List (List Op))
+      → gateway_of journal ≡ gateway → deltas ≡ records gateway (image old) → Leaves gateway (G.slots (disk_of journal)) deltas
+      → IfOk r (λ node. (state_of kept node).journal ≡ journal) → IfOk r (λ node. Keeps (ops_of deltas) (state_of kept node).kept)
+      → IfOk r (λ node. (S : List Op) → StandsFor gateway S [] (image old) → HasTaken S [] (state_of kept node))
+  opened_back kept (Ok node) journal gateway old deltas same is leaves journal_is keeps = λ S h.
+      read_back (state_of kept node) gateway deltas S (ap gateway_of journal_is ∙ same) keeps.counts
+      (λ honest. subst (λ (j : Journal D G). Leaves gateway (G.slots (disk_of j)) deltas) (sym journal_is) leaves)
+      (subst (λ (ds : List (List Op)). StandFor S [] ds) (sym is) (records_stand gateway S [] (image old) h))
+  opened_back kept (Err e) journal gateway old deltas same is leaves journal_is keeps = tt
+
+  pub opened_place : {R Z E : Type 0} (kept : R → List Op) (r : Result (Node R D Z G) E) (journal : Journal D G) (gateway : ℕ) (i : Image)
+      → slot_of journal ≡ slot_read gateway i → generation_of journal ≡ generation_read gateway i
+      → IfOk r (λ node. (state_of kept node).journal ≡ journal) → IfOk r (λ node. GoesOnIn (state_of kept node) gateway i)
+  opened_place kept (Ok node) journal gateway i slot generation journal_is =
+      record { slot = ap slot_of journal_is ∙ slot; generation = ap generation_of journal_is ∙ generation }
+  opened_place kept (Err e) journal gateway i slot generation journal_is = tt
 
 pub opened_leaves : {D T F : Type 0} (slots : D → Slots) (r : Result T (D × F)) (d : D) (gateway : ℕ) (old : Slots) → LeavesNoMore gateway old (slots d) → IfErr r (λ refused. refused.0 ≡ d) → IfErr r (λ refused. LeavesNoMore gateway old (slots refused.0))
 opened_leaves slots (Ok x) d gateway old h is = tt
@@ -218,3 +225,15 @@ pub started_fits : {T E : Type 0} (r : Result T E) (gateway : ℕ) (old : Slots)
     → OnOk r (FitInTurn [] deltas) → OnOk r (FitInTurn [] (records gateway (image old)))
 started_fits (Ok x) gateway old deltas is h = subst (λ (ds : List (List Op)). FitInTurn [] ds) is h
 started_fits (Err e) gateway old deltas is h = tt
+
+-- ---- the law of openings
+
+pub wants_memory : (gateway : ℕ) (S refused : List Op) (i : Image) (refusal : Refusal) → StandsFor gateway S refused i → IsOpenFault gateway i refusal → (IsDiskFault refusal → ⊥) → refusal ≡ refusals.Memory
+wants_memory gateway S refused i refusals.Memory h why disk = refl
+wants_memory gateway S refused i (refusals.Journal fault) h why disk = absurd (none-some fault (sym h.sound ∙ why))
+wants_memory gateway S refused i (refusals.Conflict client) h why disk = absurd (no_conflict (records gateway i) h.proper client why)
+wants_memory gateway S refused i refusals.Full h why disk = absurd (no_full (records gateway i) h.roomy why)
+wants_memory gateway S refused i (refusals.Disk excuse) h why disk = absurd (disk tt)
+wants_memory gateway S refused i (refusals.Frame fault) h why disk = absurd why
+wants_memory gateway S refused i refusals.Halted h why disk = absurd why
+wants_memory gateway S refused i refusals.Exhausted h why disk = absurd why

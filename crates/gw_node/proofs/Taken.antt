@@ -1,15 +1,22 @@
 -- What a node has taken, from call to call.
-use Rattle.std.proofs.Common.{◌≡◌, ℕ, List, [], ◌∷◌, ◌++◌, length, Option, Some, None, Result, Ok, Err, refl, sym, ap, ◌∙◌, subst, inl, inr, ◌⊎◌, arith}
+use Rattle.std.proofs.Common.{◌≡◌, ◌≢◌, ℕ, Bool, true, false, true≢false, List, [], ◌∷◌, ◌++◌, length, Option, Some, None, Result, Ok, Err, refl, sym, ap, ◌∙◌, subst, inl, inr, ◌⊎◌, arith}
 use Rattle.std.proofs.lemmas.List.{append-nil, take_all}
 use Rattle.rep_ops.specs.declared.op.Op.{Op}
-use Rattle.rep_model.specs.Keep.{CountsAs, IsKeptOf}
-use Rattle.rep_model.specs.Taking.{AllAgree}
-use Rattle.rep_model.proofs.Joins.{counts-join, counts-more}
+use Rattle.rep_ops.specs.Deltas.{IsDelta}
+use Rattle.rep_ops.specs.Sets.{IsConsistent, Same}
+use Rattle.rep_model.specs.Held.{IsHeld}
+use Rattle.rep_model.specs.Keep.{keep, CountsAs, IsKeptOf}
+use Rattle.rep_model.specs.Roomy.{IsRoomy}
+use Rattle.rep_model.specs.Taking.{AllAgree, Fits}
+use Rattle.rep_model.proofs.Joins.{counts-join, counts-more, same_sym, same_trans}
+use Rattle.rep_model.proofs.Roomy.{base_counts, base_is_roomy}
 use Rattle.jr_journal.specs.declared.disk.Disk.{Ghosts}
 use Rattle.jr_journal.specs.declared.journal.Journal.{Journal}
 use Rattle.jr_journal.specs.Disk.{Slots, SlotBytes, Image, image, bytes_of, left_of, after_crash, EachCrash}
 use Rattle.jr_journal.specs.Records.{records}
-use Rattle.jr_journal.specs.Journals.{Opens}
+use Rattle.jr_journal.specs.declared.fault.JournalFault.TheVariants as journal_faults
+use Rattle.jr_journal.specs.Journals.{Opens, Leaves}
+use Rattle.jr_journal.specs.Opening.{LeavesNoMore}
 use Rattle.jr_journal.specs.Parts.{disk_of, gateway_of}
 use Rattle.rep_digest.specs.declared.entry.ClientEntry.{ClientEntry}
 use Rattle.gw_node.specs.declared.out.Out.{Out}
@@ -18,13 +25,16 @@ use Rattle.gw_node.specs.declared.refusal.Refusal.TheVariants as refusals
 use Rattle.gw_node.specs.declared.step.Step.{Step}
 use Rattle.gw_node.specs.declared.step.Step.TheVariants as steps
 use Rattle.gw_node.specs.Occasions.{Occasion, Datagram, Clock}
-use Rattle.gw_node.specs.Parts.{State, IsUnchanged, IsUntouched}
-use Rattle.gw_node.specs.Writing.{IsWritten, IsFailed}
+use Rattle.gw_node.specs.Parts.{State, is_halted, IsUnchanged, IsUntouched}
+use Rattle.gw_node.specs.Writing.{IsWritten, IsFailed, IsRewritten, IsNotRewritten}
 use Rattle.gw_node.specs.Plans.{Makes}
-use Rattle.gw_node.specs.Taking.{ops_of, IsBetween, IsWhole, StandsFor, HasTaken}
-use Rattle.gw_node.specs.Carrying.{TakesMore, TakesNoMore, TakesNothing, made_by, CarriesOn, OwnCarriesOn, StepCarriesOn}
-use Rattle.gw_node.specs.Calls.{OwnCall, TakeCall, ViewCall, DigestCall, AnswerCall, StepCall, IsNoted}
-use Rattle.gw_node.proofs.Between.{ops_of_more, between_more, between_refused, between_left_over}
+use Rattle.gw_node.specs.Taking.{ops_of, on_disk, IsBetween, IsWhole, StandsFor, HasTaken}
+use Rattle.gw_node.specs.Opening.{IsReopened, IsNotReopened, ReopenCall}
+use Rattle.gw_node.specs.Carrying.{TakesMore, TakesNoMore, TakesNothing, TakesAgain, made_by, CarriesOn, OwnCarriesOn, ReopenCarriesOn, StepCarriesOn}
+use Rattle.gw_node.specs.Calls.{OwnCall, TakeCall, ViewCall, DigestCall, AnswerCall, CompactCall, StepCall, IsNoted}
+use Rattle.gw_node.proofs.Between.{ops_of_more, between_more, between_refused, between_left_over, between_again, counts_back, counts_again, within-trans, within-nothing, within-nothing_more, within-same, within-keep}
+use Rattle.gw_node.proofs.Proper.{delta_consistent, proper_more}
+use Rattle.gw_node.proofs.Roomy.{kept_room, roomy_more}
 
 -- ---- crashes that leave all
 
@@ -43,15 +53,23 @@ stands_at gateway S refused d h =
 
 -- ---- one image
 
-pub opened : (gateway : ℕ) (S refused : List Op) (deltas : List (List Op)) (i : Image) → Opens gateway deltas i → IsBetween S refused (ops_of deltas) → IsWhole S refused (ops_of deltas) → StandsFor gateway S refused i
-opened gateway S refused deltas i opens h whole = record {
-  sound = opens.1;
-  between = subst (λ (ds : List (List Op)). IsBetween S refused (ops_of ds)) (sym opens.0) h;
-  whole = subst (λ (ds : List (List Op)). IsWhole S refused (ops_of ds)) (sym opens.0) whole;
-}
+-- what the records of a journal stand for
+pub record StandFor (S refused : List Op) (deltas : List (List Op)) : Type 0 where
+  pub between : IsBetween S refused (ops_of deltas)
+  pub whole : IsWhole S refused (ops_of deltas)
+  pub roomy : IsRoomy deltas
+  pub proper : IsConsistent (ops_of deltas)
+
+pub records_stand : (gateway : ℕ) (S refused : List Op) (i : Image) → StandsFor gateway S refused i → StandFor S refused (records gateway i)
+records_stand gateway S refused i h = record { between = h.between; whole = h.whole; roomy = h.roomy; proper = h.proper }
+
+pub opened : (gateway : ℕ) (S refused : List Op) (deltas : List (List Op)) (i : Image) → Opens gateway deltas i → StandFor S refused deltas → StandsFor gateway S refused i
+opened gateway S refused deltas i opens h =
+    let there : StandFor S refused (records gateway i) = subst (λ (ds : List (List Op)). StandFor S refused ds) (sym opens.0) h in
+    record { sound = opens.1; between = there.between; whole = there.whole; roomy = there.roomy; proper = there.proper }
 
 -- where nothing was refused it counts as the set
-as_taken : (S J : List Op) → IsWhole S [] J → CountsAs S J
+pub as_taken : (S J : List Op) → IsWhole S [] J → CountsAs S J
 as_taken S J (inl h) = h
 as_taken S J (inr h) = subst (λ (T : List Op). CountsAs T J) (append-nil S) h
 
@@ -61,39 +79,145 @@ one_more S D deltas h =
     subst (λ (ops : List Op). CountsAs (S ++ D) ops) (sym (ops_of_more deltas D))
     (counts-more S (ops_of deltas) D h)
 
-torn : (gateway : ℕ) (S D : List Op) (deltas : List (List Op)) (i : Image) → AllAgree S D → IsBetween S [] (ops_of deltas) → IsWhole S [] (ops_of deltas) → Opens gateway deltas i ⊎ Opens gateway (deltas ++ D ∷ []) i → StandsFor gateway S D i
-torn gateway S D deltas i all h whole (inl opens) =
-    opened gateway S D deltas i opens (between_refused S D deltas h) (inl (as_taken S (ops_of deltas) whole))
-torn gateway S D deltas i all h whole (inr opens) =
-    opened gateway S D (deltas ++ D ∷ []) i opens (between_left_over S D deltas all h) (inr (one_more S D deltas (as_taken S (ops_of deltas) whole)))
+-- ---- a delta that may be written behind records
+
+record MayFollow (S kept D : List Op) (deltas : List (List Op)) : Type 0 where
+  pub agrees : AllAgree S D
+  pub delta : IsDelta D
+  pub counts : CountsAs S kept
+  pub fits : Fits kept D
+  pub now : StandFor S [] deltas
+
+module _ (S kept D : List Op) (deltas : List (List Op)) (h : MayFollow S kept D deltas) where
+  counted : CountsAs S (ops_of deltas)
+  counted = as_taken S (ops_of deltas) h.now.whole
+
+  room_then : IsRoomy (deltas ++ D ∷ [])
+  room_then = roomy_more S kept D deltas h.counts counted h.fits.within h.now.roomy
+
+  proper_then : IsConsistent (ops_of (deltas ++ D ∷ []))
+  proper_then = proper_more S D deltas h.agrees (delta_consistent D h.delta) (within-nothing (ops_of deltas) S h.now.between.upper) h.now.proper
+
+  taken_then : StandFor (S ++ D) [] (deltas ++ D ∷ [])
+  taken_then = record { between = between_more S D deltas h.agrees h.now.between; whole = inl (one_more S D deltas counted); roomy = room_then; proper = proper_then }
+
+  left_over : StandFor S D (deltas ++ D ∷ [])
+  left_over = record { between = between_left_over S D deltas h.agrees h.now.between; whole = inr (one_more S D deltas counted); roomy = room_then; proper = proper_then }
+
+  left_out : StandFor S D deltas
+  left_out = record { between = between_refused S D deltas h.now.between; whole = inl counted; roomy = h.now.roomy; proper = h.now.proper }
+
+  torn : (gateway : ℕ) (i : Image) → Opens gateway deltas i ⊎ Opens gateway (deltas ++ D ∷ []) i → StandsFor gateway S D i
+  torn gateway i (inl opens) = opened gateway S D deltas i opens left_out
+  torn gateway i (inr opens) = opened gateway S D (deltas ++ D ∷ []) i opens left_over
 
 at_gateway : (a b : ℕ) (S refused : List Op) (d : Slots) → b ≡ a → EachCrash (λ i. StandsFor a S refused i) d → EachCrash (λ i. StandsFor b S refused i) d
 at_gateway a b S refused d same h = subst (λ (g : ℕ). EachCrash (λ i. StandsFor g S refused i) d) (sym same) h
 
+-- ---- a base in the place of records
+
+base_now : (S kept : List Op) (base deltas : List (List Op)) → IsHeld kept base → CountsAs S kept → StandFor S [] deltas → StandFor S [] base
+base_now S kept base deltas (W, is, split) counts h =
+    let same : Same (ops_of base) (keep S) = same_trans (subst (λ (ops : List Op). Same ops (keep kept)) (sym split.whole) is.same) counts in
+    record {
+      between = record {
+        lower = within-same (keep S) (ops_of base) (same_sym same);
+        upper = within-nothing_more (ops_of base) S (within-trans (ops_of base) (keep S) S (within-same (ops_of base) (keep S) same) (within-keep S));
+      };
+      whole = inl (same_trans (base_counts kept base (W, is, split)) counts);
+      roomy = base_is_roomy kept base (W, is, split) (kept_room S kept deltas counts (as_taken S (ops_of deltas) h.whole) h.roomy);
+      proper = subst IsConsistent (sym split.whole) (delta_consistent W is.delta);
+    }
+
+base_stands : (S refused kept : List Op) (base deltas : List (List Op)) → refused ≡ [] → IsHeld kept base → CountsAs S kept → StandFor S refused deltas → StandFor S refused base
+base_stands S refused kept base deltas none held counts h =
+    subst (λ (R : List Op). StandFor S R base) (sym none) (base_now S kept base deltas held counts (subst (λ (R : List Op). StandFor S R deltas) none h))
+
+either_stands : (gateway : ℕ) (S refused : List Op) (deltas base : List (List Op)) (i : Image) → StandFor S refused deltas → StandFor S refused base → Opens gateway deltas i ⊎ Opens gateway base i → StandsFor gateway S refused i
+either_stands gateway S refused deltas base i h b (inl opens) = opened gateway S refused deltas i opens h
+either_stands gateway S refused deltas base i h b (inr opens) = opened gateway S refused base i opens b
+
+-- ---- records that are read once more
+
+stand_again : (S refused : List Op) (deltas : List (List Op)) → StandFor S refused deltas → StandFor (S ++ ops_of deltas) [] deltas
+stand_again S refused deltas h = record {
+  between = between_again S refused (ops_of deltas) h.between;
+  whole = inl (counts_back S refused (ops_of deltas) h.between);
+  roomy = h.roomy;
+  proper = h.proper;
+}
+
+-- where a crash leaves no more than before, it stands for as much
+stands_still : (gateway : ℕ) (S refused : List Op) (old new : Slots) → LeavesNoMore gateway old new → EachCrash (λ i. StandsFor gateway S refused i) old → EachCrash (λ i. StandsFor gateway S refused i) new
+stands_still gateway S refused old new leaves h = λ k l.
+    let a = leaves k l in
+    let i = after_crash a.0 a.1.0 old in
+    let there = h a.0 a.1.0 in
+    opened gateway S refused (records gateway i) (after_crash k l new) (a.1.1.0, a.1.1.1 ∙ there.sound) (records_stand gateway S refused i there)
+
+-- a node that was not opened again goes on only if it did before
+still_runs : (refusal : Refusal) (now before : Bool) → (refusal ≢ refusals.Memory → now ≡ true) → (refusal ≡ refusals.Memory → now ≡ before) → now ≡ false → before ≡ false
+still_runs refusals.Memory now before halts wanting runs = sym (wanting refl) ∙ runs
+still_runs refusals.Halted now before halts wanting runs = absurd (true≢false (sym (halts (λ e. absurd cc)) ∙ runs))
+still_runs (refusals.Frame fault) now before halts wanting runs = absurd (true≢false (sym (halts (λ e. absurd cc)) ∙ runs))
+still_runs (refusals.Disk excuse) now before halts wanting runs = absurd (true≢false (sym (halts (λ e. absurd cc)) ∙ runs))
+still_runs (refusals.Conflict client) now before halts wanting runs = absurd (true≢false (sym (halts (λ e. absurd cc)) ∙ runs))
+still_runs refusals.Full now before halts wanting runs = absurd (true≢false (sym (halts (λ e. absurd cc)) ∙ runs))
+still_runs refusals.Exhausted now before halts wanting runs = absurd (true≢false (sym (halts (λ e. absurd cc)) ∙ runs))
+still_runs (refusals.Journal fault) now before halts wanting runs = absurd (true≢false (sym (halts (λ e. absurd cc)) ∙ runs))
+
 module _ {D : Type 0} {G : Ghosts D} where
+  -- ---- what was read
+
+  -- beside what had been taken before
+  pub read_again : (state : State G) (gateway : ℕ) (deltas : List (List Op)) (S refused : List Op) → gateway_of state.journal ≡ gateway → CountsAs (ops_of deltas) state.kept
+      → (G.honest → Leaves gateway (G.slots (disk_of state.journal)) deltas) → StandFor S refused deltas → HasTaken (S ++ ops_of deltas) [] state
+  read_again state gateway deltas S refused same counts leaves h = record {
+    counts = counts_again S refused (ops_of deltas) state.kept h.between counts;
+    quiet = λ _. refl;
+    images = λ honest.
+        at_gateway gateway (gateway_of state.journal) (S ++ ops_of deltas) [] (G.slots (disk_of state.journal)) same
+        (λ k l. opened gateway (S ++ ops_of deltas) [] deltas (after_crash k l (G.slots (disk_of state.journal))) (leaves honest k l) (stand_again S refused deltas h));
+  }
+
+  -- where nothing was refused it is what had been taken
+  pub read_back : (state : State G) (gateway : ℕ) (deltas : List (List Op)) (S : List Op) → gateway_of state.journal ≡ gateway → CountsAs (ops_of deltas) state.kept
+      → (G.honest → Leaves gateway (G.slots (disk_of state.journal)) deltas) → StandFor S [] deltas → HasTaken S [] state
+  read_back state gateway deltas S same counts leaves h = record {
+    counts = same_trans counts (as_taken S (ops_of deltas) h.whole);
+    quiet = λ _. refl;
+    images = λ honest.
+        at_gateway gateway (gateway_of state.journal) S [] (G.slots (disk_of state.journal)) same
+        (λ k l. opened gateway S [] deltas (after_crash k l (G.slots (disk_of state.journal))) (leaves honest k l) h);
+  }
+
   -- ---- one call
 
-  pub more : (old new : State G) (delta : List Op) → IsKeptOf (old.kept ++ delta) new.kept → IsWritten old.journal delta new.journal → TakesMore old delta new
-  more old new delta kept w = λ S all h. record {
+  before : (old : State G) (S refused : List Op) → HasTaken S refused old → G.honest → StandFor S refused (on_disk old)
+  before old S refused h honest =
+      records_stand (gateway_of old.journal) S refused (image (G.slots (disk_of old.journal)))
+      (stands_at (gateway_of old.journal) S refused (G.slots (disk_of old.journal)) (h.images honest))
+
+  follow : (old : State G) (S delta : List Op) → AllAgree S delta → IsDelta delta → Fits old.kept delta → HasTaken S [] old → G.honest → MayFollow S old.kept delta (on_disk old)
+  follow old S delta all is fits h honest = record { agrees = all; delta = is; counts = h.counts; fits = fits; now = before old S [] h honest }
+
+  pub more : (old new : State G) (delta : List Op) → IsDelta delta → Fits old.kept delta → IsKeptOf (old.kept ++ delta) new.kept → IsWritten old.journal delta new.journal → TakesMore old delta new
+  more old new delta is fits kept w = λ S all h. record {
     counts = counts-join S old.kept delta new.kept h.counts kept;
     quiet = λ _. refl;
     images = λ honest.
-        let now = stands_at (gateway_of old.journal) S [] (G.slots (disk_of old.journal)) (h.images honest) in
-        let deltas = records (gateway_of old.journal) (image (G.slots (disk_of old.journal))) in
         at_gateway (gateway_of old.journal) (gateway_of new.journal) (S ++ delta) [] (G.slots (disk_of new.journal)) w.gateway
-        (λ k l. opened (gateway_of old.journal) (S ++ delta) [] (deltas ++ delta ∷ []) (after_crash k l (G.slots (disk_of new.journal))) (w.durable honest k l) (between_more S delta deltas all now.between)
-        (inl (one_more S delta deltas (as_taken S (ops_of deltas) now.whole))));
+        (λ k l. opened (gateway_of old.journal) (S ++ delta) [] (on_disk old ++ delta ∷ []) (after_crash k l (G.slots (disk_of new.journal))) (w.durable honest k l)
+        (taken_then S old.kept delta (on_disk old) (follow old S delta all is fits h honest)));
   }
 
-  pub no_more : (old new : State G) (delta : List Op) → new.kept ≡ old.kept → IsFailed old.journal delta new.journal → TakesNoMore old delta new
-  no_more old new delta kept w = λ S all h. record {
+  pub no_more : (old new : State G) (delta : List Op) → IsDelta delta → Fits old.kept delta → new.kept ≡ old.kept → IsFailed old.journal delta new.journal → TakesNoMore old delta new
+  no_more old new delta is fits kept w = λ S all h. record {
     counts = subst (λ (K : List Op). CountsAs S K) (sym kept) h.counts;
     quiet = λ runs. absurd (let halts = w.halts in cc);
     images = λ honest.
-        let now = stands_at (gateway_of old.journal) S [] (G.slots (disk_of old.journal)) (h.images honest) in
-        let deltas = records (gateway_of old.journal) (image (G.slots (disk_of old.journal))) in
         at_gateway (gateway_of old.journal) (gateway_of new.journal) S delta (G.slots (disk_of new.journal)) w.gateway
-        (λ k l. torn (gateway_of old.journal) S delta deltas (after_crash k l (G.slots (disk_of new.journal))) all now.between now.whole (w.torn honest k l));
+        (λ k l. torn S old.kept delta (on_disk old) (follow old S delta all is fits h honest) (gateway_of old.journal) (after_crash k l (G.slots (disk_of new.journal))) (w.torn honest k l));
   }
 
   untouched_images : (old new : Journal D G) (S refused : List Op) → IsUntouched old new → (G.honest → EachCrash (λ i. StandsFor (gateway_of old) S refused i) (G.slots (disk_of old)))
@@ -123,18 +247,60 @@ module _ {D : Type 0} {G : Ghosts D} where
         (untouched_images old.journal new.journal S [] u h.images honest);
   }
 
-  noted : (old new : State G) (delta : List Op) → IsKeptOf (old.kept ++ delta) new.kept → IsNoted old.journal delta new.journal → TakesMore old delta new
-  noted old new [] kept h = none old new kept h
-  noted old new (op ∷ ops) kept h = more old new (op ∷ ops) kept h
+  noted : (old new : State G) (delta : List Op) → IsDelta delta → Fits old.kept delta → IsKeptOf (old.kept ++ delta) new.kept → IsNoted old.journal delta new.journal → TakesMore old delta new
+  noted old new [] is fits kept h = none old new kept h
+  noted old new (op ∷ ops) is fits kept h = more old new (op ∷ ops) is fits kept h
+
+  -- ---- the journal is written anew, or read anew
+
+  pub rewritten : (old new : State G) (base : List (List Op)) → IsHeld old.kept base → new.kept ≡ old.kept → IsRewritten old.journal base new.journal → TakesNothing old new
+  rewritten old new base held kept w = λ S refused h.
+      let none : refused ≡ [] = h.quiet w.runs in
+      record {
+        counts = subst (λ (K : List Op). CountsAs S K) (sym kept) h.counts;
+        quiet = λ _. none;
+        images = λ honest.
+            at_gateway (gateway_of old.journal) (gateway_of new.journal) S refused (G.slots (disk_of new.journal)) w.gateway
+            (λ k l. opened (gateway_of old.journal) S refused base (after_crash k l (G.slots (disk_of new.journal))) (w.durable honest k l)
+            (base_stands S refused old.kept base (on_disk old) none held h.counts (before old S refused h honest)));
+      }
+
+  pub not_rewritten : (old new : State G) (base : List (List Op)) → IsHeld old.kept base → new.kept ≡ old.kept → IsNotRewritten old.journal base new.journal → TakesNothing old new
+  not_rewritten old new base held kept w = λ S refused h.
+      let none : refused ≡ [] = h.quiet w.runs in
+      record {
+        counts = subst (λ (K : List Op). CountsAs S K) (sym kept) h.counts;
+        quiet = λ _. none;
+        images = λ honest.
+            at_gateway (gateway_of old.journal) (gateway_of new.journal) S refused (G.slots (disk_of new.journal)) w.gateway
+            (λ k l. either_stands (gateway_of old.journal) S refused (on_disk old) base (after_crash k l (G.slots (disk_of new.journal))) (before old S refused h honest)
+            (base_stands S refused old.kept base (on_disk old) none held h.counts (before old S refused h honest)) (w.torn honest k l));
+      }
+
+  pub reopened : (old new : State G) → IsReopened old new → TakesAgain old new
+  reopened old new w = record {
+    with_read = λ honest S refused h.
+        read_again new (gateway_of old.journal) (on_disk old) S refused w.gateway (w.keeps honest).counts (λ _. w.durable honest) (before old S refused h honest);
+    itself = λ honest S h. read_back new (gateway_of old.journal) (on_disk old) S w.gateway (w.keeps honest).counts (λ _. w.durable honest) (before old S [] h honest);
+  }
+
+  pub not_reopened : (old new : State G) (refusal : Refusal) → IsNotReopened old refusal new → TakesNothing old new
+  not_reopened old new refusal w = λ S refused h. record {
+    counts = subst (λ (K : List Op). CountsAs S K) (sym w.kept) h.counts;
+    quiet = λ runs. h.quiet (still_runs refusal (is_halted new) (is_halted old) w.halts w.wanting runs);
+    images = λ honest.
+        at_gateway (gateway_of old.journal) (gateway_of new.journal) S refused (G.slots (disk_of new.journal)) w.gateway
+        (stands_still (gateway_of old.journal) S refused (G.slots (disk_of old.journal)) (G.slots (disk_of new.journal)) (w.leaves honest) (h.images honest));
+  }
 
   -- ---- calls
 
   pub take_carries_on : (old new : State G) (delta : List Op) (answer : Result Out Refusal) → TakeCall old delta answer new → CarriesOn old delta answer new
-  take_carries_on old new delta (Ok out) (runs, empty, h) = noted old new delta h.kept h.noted
+  take_carries_on old new delta (Ok out) (runs, empty, h) = noted old new delta h.is_delta h.fits h.kept h.noted
   take_carries_on old new delta (Err refusals.Halted) h = unchanged old new h.1
   take_carries_on old new delta (Err (refusals.Conflict client)) (runs, misfit, h) = unchanged old new h
   take_carries_on old new delta (Err refusals.Full) (runs, misfit, h) = unchanged old new h
-  take_carries_on old new delta (Err (refusals.Disk excuse)) (runs, empty, h) = no_more old new delta h.kept h.failed
+  take_carries_on old new delta (Err (refusals.Disk excuse)) (runs, empty, h) = no_more old new delta h.is_delta h.fits h.kept h.failed
   take_carries_on old new delta (Err refusals.Memory) h = unchanged old new h
   take_carries_on old new delta (Err (refusals.Frame fault)) h = absurd h
   take_carries_on old new delta (Err refusals.Exhausted) h = absurd h
@@ -147,7 +313,7 @@ module _ {D : Type 0} {G : Ghosts D} where
   made [] None old new h = taken_nothing old new (same old new h.0 h.1)
   made [] (Some delta) old new h = absurd h
   made (op ∷ ops) None old new h = absurd h
-  made (op ∷ ops) (Some delta) old new (is_delta, fits, kept, written) = more old new delta kept written
+  made (op ∷ ops) (Some delta) old new (is_delta, fits, kept, written) = more old new delta is_delta.delta fits kept written
 
   pub own_carries_on : (old new : State G) (occasion : Occasion) (now : ℕ) (answer : Result Out Refusal) → OwnCall old occasion now answer new → OwnCarriesOn old occasion now answer new
   own_carries_on old new occasion now (Ok out) (runs, (plan, is_plan, h)) = made plan.ops out.made old new h.made
@@ -157,7 +323,7 @@ module _ {D : Type 0} {G : Ghosts D} where
   own_carries_on old new occasion now (Err (refusals.Conflict client)) (runs, why, h) = unchanged old new h
   own_carries_on old new occasion now (Err refusals.Full) (runs, why, h) = unchanged old new h
   own_carries_on old new occasion now (Err (refusals.Disk excuse)) (runs, (plan, is_plan, is_excuse, h)) =
-      (plan, is_plan, (h.delta, h.is_delta, no_more old new h.delta h.kept h.failed))
+      (plan, is_plan, (h.delta, h.is_delta, no_more old new h.delta h.is_delta.delta h.fits h.kept h.failed))
   own_carries_on old new occasion now (Err refusals.Memory) h = unchanged old new h
   own_carries_on old new occasion now (Err (refusals.Journal fault)) h = absurd h
 
@@ -194,6 +360,25 @@ module _ {D : Type 0} {G : Ghosts D} where
   answer_carries_on old new asked (Err refusals.Exhausted) h = absurd h
   answer_carries_on old new asked (Err (refusals.Journal fault)) h = absurd h
 
+  pub compact_carries_on : (old new : State G) (answer : Result Out Refusal) → CompactCall old answer new → TakesNothing old new
+  compact_carries_on old new (Ok out) (runs, empty, h) = rewritten old new h.base h.held h.kept h.rewritten
+  compact_carries_on old new (Err refusals.Halted) h = unchanged old new h.1
+  compact_carries_on old new (Err (refusals.Journal journal_faults.Foreign)) h = unchanged old new h.3
+  compact_carries_on old new (Err (refusals.Journal journal_faults.Disk)) h = absurd h
+  compact_carries_on old new (Err (refusals.Journal journal_faults.Halted)) h = absurd h
+  compact_carries_on old new (Err (refusals.Journal journal_faults.Memory)) h = absurd h
+  compact_carries_on old new (Err (refusals.Journal (journal_faults.BadRecord slot at))) h = absurd h
+  compact_carries_on old new (Err (refusals.Disk excuse)) (runs, empty, h) = not_rewritten old new h.base h.held h.kept h.failed
+  compact_carries_on old new (Err refusals.Memory) h = unchanged old new h
+  compact_carries_on old new (Err (refusals.Frame fault)) h = absurd h
+  compact_carries_on old new (Err (refusals.Conflict client)) h = absurd h
+  compact_carries_on old new (Err refusals.Full) h = absurd h
+  compact_carries_on old new (Err refusals.Exhausted) h = absurd h
+
+  pub reopen_carries_on : (old new : State G) (answer : Result Out Refusal) → ReopenCall old answer new → ReopenCarriesOn old answer new
+  reopen_carries_on old new (Ok out) h = reopened old new h.1
+  reopen_carries_on old new (Err refusal) h = not_reopened old new refusal h.1
+
   pub step_carries_on : (old new : State G) (step : Step) (answer : Result Out Refusal) → StepCall old step answer new → StepCarriesOn old step answer new
   step_carries_on old new (steps.Frame from bytes now) answer h = own_carries_on old new (Datagram from bytes) now answer h
   step_carries_on old new (steps.Take delta) answer h = take_carries_on old new delta answer h
@@ -201,3 +386,5 @@ module _ {D : Type 0} {G : Ghosts D} where
   step_carries_on old new (steps.View client) answer h = view_carries_on old new client answer h
   step_carries_on old new steps.Digest answer h = digest_carries_on old new answer h
   step_carries_on old new (steps.Answer asked) answer h = answer_carries_on old new asked answer h
+  step_carries_on old new steps.Compact answer h = compact_carries_on old new answer h
+  step_carries_on old new steps.Reopen answer h = reopen_carries_on old new answer h

@@ -1,9 +1,11 @@
 -- What each call of a node may answer, and the node after it. A node that is halted refuses first of all.
 use Rattle.std.specs.Prelude.{◌≡◌, ◌≢◌, ◌⊎◌, ◌<◌, ℕ, true, false, length, if◌then◌else◌, List, [], ◌∷◌, ◌++◌, Some, None, Result, Ok, Err}
 use Rattle.rep_ops.specs.declared.op.Op.{Op}
+use Rattle.rep_ops.specs.Deltas.{IsDelta}
 use Rattle.rep_ops.specs.Making.{AreApart, IsDeltaOf}
 use Rattle.rep_model.specs.Views.{view, is_named}
 use Rattle.rep_model.specs.Keep.{IsKeptOf}
+use Rattle.rep_model.specs.Held.{IsHeld}
 use Rattle.rep_model.specs.Taking.{Fits}
 use Rattle.rep_ops.specs.Spelling.{max_octets}
 use Rattle.rep_digest.specs.declared.entry.ClientEntry.{ClientEntry}
@@ -14,7 +16,10 @@ use Rattle.sn_flow.specs.declared.plan.Plan.{Plan}
 use Rattle.sn_flow.specs.Plans.{seen_of}
 use Rattle.sn_flow.specs.Locals.{after_all, owned}
 use Rattle.jr_journal.specs.declared.disk.Disk.{Ghosts}
+use Rattle.jr_journal.specs.declared.fault.JournalFault.TheVariants as journal_faults
 use Rattle.jr_journal.specs.declared.journal.Journal.{Journal}
+use Rattle.jr_journal.specs.Journals.{last_generation}
+use Rattle.jr_journal.specs.Parts.{generation_of}
 use Rattle.gw_node.specs.declared.out.Out.{Out}
 use Rattle.gw_node.specs.declared.refusal.Refusal.{Refusal}
 use Rattle.gw_node.specs.declared.refusal.Refusal.TheVariants as refusals
@@ -22,9 +27,10 @@ use Rattle.gw_node.specs.declared.step.Step.{Step}
 use Rattle.gw_node.specs.declared.step.Step.TheVariants as steps
 use Rattle.gw_node.specs.Occasions.{Occasion, Datagram, Clock, IsNoFrame}
 use Rattle.gw_node.specs.Parts.{State, is_halted, IsUnchanged, IsUntouched, only_sends}
-use Rattle.gw_node.specs.Writing.{IsWritten, IsFailed}
+use Rattle.gw_node.specs.Writing.{IsWritten, IsFailed, IsRewritten, IsNotRewritten, IsNumbered}
 use Rattle.gw_node.specs.Excuses.{IsExcuse}
 use Rattle.gw_node.specs.Plans.{IsPlanFor, IsMisfit, MakeNoDelta, Makes}
+use Rattle.gw_node.specs.Opening.{ReopenCall}
 
 -- ---- datagrams and ticks
 
@@ -85,6 +91,7 @@ IsNoted old (op ∷ ops) new = IsWritten old (op ∷ ops) new
 pub record IsTaken {D : Type 0} {G : Ghosts D} (old : State G) (delta : List Op) (new : State G) : Type 0 where
   pub config : new.config ≡ old.config
   pub records : new.records ≡ old.records
+  pub is_delta : IsDelta delta
   pub fits : Fits old.kept delta
   pub kept : IsKeptOf (old.kept ++ delta) new.kept
   pub local : new.local ≡ owned old.config.gateway (seen_of new.kept) old.local
@@ -97,6 +104,7 @@ pub record IsLeft {D : Type 0} {G : Ghosts D} (old : State G) (delta : List Op) 
   pub records : new.records ≡ old.records
   pub kept : new.kept ≡ old.kept
   pub local : new.local ≡ old.local
+  pub is_delta : IsDelta delta
   pub fits : Fits old.kept delta
   pub failed : IsFailed old.journal delta new.journal
 
@@ -158,6 +166,46 @@ AnswerCall old asked (Err (refusals.Conflict of)) new = ⊥
 AnswerCall old asked (Err refusals.Exhausted) new = ⊥
 AnswerCall old asked (Err (refusals.Journal fault)) new = ⊥
 
+-- ---- compactions
+
+-- what is kept is all that the journal holds, and the node is as it was
+pub record IsCompacted {D : Type 0} {G : Ghosts D} (old new : State G) : Type 0 where
+  pub config : new.config ≡ old.config
+  pub records : new.records ≡ old.records
+  pub kept : new.kept ≡ old.kept
+  pub local : new.local ≡ old.local
+  pub base : List (List Op)
+  pub held : IsHeld old.kept base
+  pub rewritten : IsRewritten old.journal base new.journal
+
+-- the journal could not be written anew, and is halted; else the node is as it was
+pub record IsNotCompacted {D : Type 0} {G : Ghosts D} (old new : State G) : Type 0 where
+  pub config : new.config ≡ old.config
+  pub records : new.records ≡ old.records
+  pub kept : new.kept ≡ old.kept
+  pub local : new.local ≡ old.local
+  pub base : List (List Op)
+  pub held : IsHeld old.kept base
+  pub failed : IsNotRewritten old.journal base new.journal
+
+-- The journal is to hold what is kept, and nothing else. The node is halted; or the journal's generation is the last there is; or the
+-- journal cannot be written; or it is written anew. Nothing is sent.
+abbrev pub CompactCall : {D : Type 0} {G : Ghosts D} → State G → Result Out Refusal → State G → Type 0
+CompactCall old (Err refusals.Halted) new = (is_halted old ≡ true) × IsUnchanged old new
+CompactCall old (Err (refusals.Journal journal_faults.Foreign)) new =
+    (is_halted old ≡ false) × (generation_of old.journal ≡ last_generation) × IsNumbered old.journal × IsUnchanged old new
+CompactCall old (Err (refusals.Journal journal_faults.Disk)) new = ⊥
+CompactCall old (Err (refusals.Journal journal_faults.Halted)) new = ⊥
+CompactCall old (Err (refusals.Journal journal_faults.Memory)) new = ⊥
+CompactCall old (Err (refusals.Journal (journal_faults.BadRecord slot at))) new = ⊥
+CompactCall old (Err (refusals.Disk excuse)) new = (is_halted old ≡ false) × (excuse ≡ only_sends []) × IsNotCompacted old new
+CompactCall old (Err refusals.Memory) new = IsUnchanged old new
+CompactCall old (Err (refusals.Frame fault)) new = ⊥
+CompactCall old (Err (refusals.Conflict client)) new = ⊥
+CompactCall old (Err refusals.Full) new = ⊥
+CompactCall old (Err refusals.Exhausted) new = ⊥
+CompactCall old (Ok out) new = (is_halted old ≡ false) × (out ≡ only_sends []) × IsCompacted old new
+
 -- ---- steps
 
 abbrev pub StepCall : {D : Type 0} {G : Ghosts D} → State G → Step → Result Out Refusal → State G → Type 0
@@ -167,3 +215,5 @@ StepCall old (steps.Tick now) answer new = OwnCall old Clock now answer new
 StepCall old (steps.View client) answer new = ViewCall old client answer new
 StepCall old steps.Digest answer new = DigestCall old answer new
 StepCall old (steps.Answer asked) answer new = AnswerCall old asked answer new
+StepCall old steps.Compact answer new = CompactCall old answer new
+StepCall old steps.Reopen answer new = ReopenCall old answer new

@@ -13,7 +13,7 @@ use Rattle.gw_node.specs.declared.step.Step.TheVariants as steps
 use Rattle.gw_node.specs.Occasions.{Occasion, Datagram, Clock}
 use Rattle.gw_node.specs.Parts.{State}
 use Rattle.gw_node.specs.Plans.{IsPlanFor}
-use Rattle.gw_node.specs.Taking.{HasTaken}
+use Rattle.gw_node.specs.Taking.{ops_of, on_disk, HasTaken}
 
 -- the set that was taken before, with the delta, where the delta contradicts nothing of it
 abbrev pub TakesMore : {D : Type 0} {G : Ghosts D} → State G → List Op → State G → Type 0
@@ -26,6 +26,11 @@ TakesNoMore old delta new = (S : List Op) → AllAgree S delta → HasTaken S []
 -- the set that was taken before
 abbrev pub TakesNothing : {D : Type 0} {G : Ghosts D} → State G → State G → Type 0
 TakesNothing old new = (S refused : List Op) → HasTaken S refused old → HasTaken S refused new
+
+-- the set that was taken before, with what was read; where nothing was refused, that is the set itself
+pub record TakesAgain {D : Type 0} {G : Ghosts D} (old new : State G) : Type 0 where
+  pub with_read : G.honest → (S refused : List Op) → HasTaken S refused old → HasTaken (S ++ ops_of (on_disk old)) [] new
+  pub itself : G.honest → (S : List Op) → HasTaken S [] old → HasTaken S [] new
 
 abbrev pub made_by : Option (List Op) → List Op
 made_by None = []
@@ -56,6 +61,11 @@ OwnCarriesOn old occasion now (Err refusals.Exhausted) new = TakesNothing old ne
 OwnCarriesOn old occasion now (Err (refusals.Journal fault)) new = TakesNothing old new
 OwnCarriesOn old occasion now (Err refusals.Memory) new = TakesNothing old new
 
+-- by a reopening: what was read is taken; refused, it leaves what was taken
+abbrev pub ReopenCarriesOn : {D : Type 0} {G : Ghosts D} → State G → Result Out Refusal → State G → Type 0
+ReopenCarriesOn old (Ok out) new = TakesAgain old new
+ReopenCarriesOn old (Err refusal) new = TakesNothing old new
+
 abbrev pub StepCarriesOn : {D : Type 0} {G : Ghosts D} → State G → Step → Result Out Refusal → State G → Type 0
 StepCarriesOn old (steps.Frame from bytes now) answer new = OwnCarriesOn old (Datagram from bytes) now answer new
 StepCarriesOn old (steps.Take delta) answer new = CarriesOn old delta answer new
@@ -63,3 +73,5 @@ StepCarriesOn old (steps.Tick now) answer new = OwnCarriesOn old Clock now answe
 StepCarriesOn old (steps.View client) answer new = TakesNothing old new
 StepCarriesOn old steps.Digest answer new = TakesNothing old new
 StepCarriesOn old (steps.Answer asked) answer new = TakesNothing old new
+StepCarriesOn old steps.Compact answer new = TakesNothing old new
+StepCarriesOn old steps.Reopen answer new = ReopenCarriesOn old answer new

@@ -1,5 +1,5 @@
 -- What the parts of a call come to. Only private functions cite these.
-use Rattle.std.specs.Prelude.{◌≡◌, ◌≢◌, ℕ, true, List, Option, Some, None, Result, Ok, Err}
+use Rattle.std.specs.Prelude.{◌≡◌, ◌≢◌, ℕ, Bool, true, if◌then◌else◌, List, [], length, Option, Some, None, Result, Ok, Err}
 use Rattle.rep_ops.specs.declared.op.Op.{Op}
 use Rattle.sn_frame.specs.declared.frame.Frame.{Frame}
 use Rattle.sn_frame.specs.declared.fault.FrameFault.TheVariants as frame_faults
@@ -8,15 +8,20 @@ use Rattle.sn_flow.specs.declared.config.Addr.{Addr}
 use Rattle.sn_flow.specs.declared.config.Send.{Send}
 use Rattle.sn_flow.specs.declared.plan.Plan.{Plan}
 use Rattle.sn_flow.specs.Plans.{seen_of}
+use Rattle.sn_flow.specs.Locals.{no_local}
 use Rattle.sn_deliver.specs.Steps.{step}
 use Rattle.sn_deliver.specs.Ticking.{tick}
 use Rattle.jr_journal.specs.declared.disk.Disk.{Ghosts}
+use Rattle.jr_journal.specs.Parts.{disk_of, gateway_of}
 use Rattle.gw_node.specs.declared.out.Out.{Out}
 use Rattle.gw_node.specs.declared.refusal.Refusal.{Refusal}
 use Rattle.gw_node.specs.declared.refusal.Refusal.TheVariants as refusals
 use Rattle.gw_node.specs.Parts.{State, is_halted, IsUnchanged, only_sends}
 use Rattle.gw_node.specs.Plans.{MakeNoDelta}
 use Rattle.gw_node.specs.Calls.{IsDone, IsGivenUp, AreTooMuch}
+use Rattle.gw_node.specs.Keeping.{Keeps}
+use Rattle.gw_node.specs.Taking.{ops_of}
+use Rattle.gw_node.specs.Opening.{FitInTurn, DoNotFit}
 
 -- the bytes are no frame; want of memory says nothing of them
 abbrev pub IsNoFrameBy : List ℕ → Refusal → Type 0
@@ -76,3 +81,32 @@ Answers old planned excuse (Err refusals.Exhausted) new = (planned ≡ None) × 
 Answers old planned excuse (Err refusals.Memory) new = IsUnchanged old new
 Answers old planned excuse answer new =
     (plan : Plan) × (planned ≡ Some plan) × CarriedOut old plan (only_sends (excuse plan.sends)) answer new
+
+-- ---- what was read anew
+
+-- the node has taken these deltas, and knows nothing else; its journal is as it was
+pub record IsRefilled {D : Type 0} {G : Ghosts D} (old : State G) (deltas : List (List Op)) (new : State G) : Type 0 where
+  pub config : new.config ≡ old.config
+  pub local : new.local ≡ no_local
+  pub journal : new.journal ≡ old.journal
+  pub records : new.records ≡ length deltas
+  pub keeps : Keeps (ops_of deltas) new.kept
+  pub none : deltas ≡ [] → new.kept ≡ []
+  pub fits : FitInTurn [] deltas
+
+-- One of them does not fit, or memory ran out: the node is as it was, but halted; where memory ran out it is halted only if it had
+-- been halted before its journal was read.
+pub record IsGivenBack {D : Type 0} {G : Ghosts D} (old : State G) (deltas : List (List Op)) (halted : Bool) (refusal : Refusal) (new : State G) : Type 0 where
+  pub config : new.config ≡ old.config
+  pub records : new.records ≡ old.records
+  pub kept : new.kept ≡ old.kept
+  pub local : new.local ≡ old.local
+  pub gateway : gateway_of new.journal ≡ gateway_of old.journal
+  pub disk : disk_of new.journal ≡ disk_of old.journal
+  pub halts : refusal ≢ refusals.Memory → is_halted new ≡ true
+  pub wanting : refusal ≡ refusals.Memory → is_halted new ≡ (if halted then true else is_halted old)
+  pub why : DoNotFit deltas refusal
+
+abbrev pub RefilledAs : {D : Type 0} {G : Ghosts D} → State G → List (List Op) → Bool → Result (Unit {0}) Refusal → State G → Type 0
+RefilledAs old deltas halted (Ok done) new = IsRefilled old deltas new
+RefilledAs old deltas halted (Err refusal) new = IsGivenBack old deltas halted refusal new

@@ -1,5 +1,5 @@
 -- Opening a node: it takes what its journal holds.
-use Rattle.std.specs.Prelude.{◌≡◌, ◌⊎◌, ℕ, false, List, [], ◌∷◌, ◌++◌, Some, take, slice_get}
+use Rattle.std.specs.Prelude.{◌≡◌, ◌≢◌, ◌⊎◌, ◌≤◌, ◌<◌, ℕ, true, false, IsTrue, List, [], ◌∷◌, ◌++◌, length, Some, None, take, slice_get, Result, Ok, Err}
 use Rattle.rep_ops.specs.declared.op.Op.{Op}
 use Rattle.rep_model.specs.Taking.{Fits}
 use Rattle.sn_flow.specs.declared.config.Config.{Config}
@@ -7,15 +7,17 @@ use Rattle.sn_flow.specs.Locals.{no_local}
 use Rattle.jr_journal.specs.declared.disk.Disk.{Ghosts}
 use Rattle.jr_journal.specs.Disk.{Slots, Image, image}
 use Rattle.jr_journal.specs.Records.{records}
-use Rattle.jr_journal.specs.Faults.{fault_of}
-use Rattle.jr_journal.specs.Opening.{synced_slots, recovered}
-use Rattle.jr_journal.specs.Parts.{gateway_of}
+use Rattle.jr_journal.specs.Faults.{is_fresh, fault_of}
+use Rattle.jr_journal.specs.Journals.{Leaves}
+use Rattle.jr_journal.specs.Opening.{synced_slots, recovered, slot_read, generation_read, is_quiet, LeavesNoMore}
+use Rattle.jr_journal.specs.Parts.{disk_of, gateway_of, slot_of, generation_of}
+use Rattle.gw_node.specs.declared.out.Out.{Out}
 use Rattle.gw_node.specs.declared.refusal.Refusal.{Refusal}
 use Rattle.gw_node.specs.declared.refusal.Refusal.TheVariants as refusals
 use Rattle.gw_node.specs.Parts.{State, is_halted, only_sends}
 use Rattle.gw_node.specs.Plans.{IsMisfit}
 use Rattle.gw_node.specs.Keeping.{Keeps}
-use Rattle.gw_node.specs.Taking.{ops_of}
+use Rattle.gw_node.specs.Taking.{ops_of, on_disk}
 
 -- a node that was just opened: it is not halted, and knows nothing but what its replica keeps
 pub record IsStarted {D : Type 0} {G : Ghosts D} (config : Config) (state : State G) : Type 0 where
@@ -95,3 +97,57 @@ LeavesSlots gateway old (refusals.Disk excuse) new = Unit {0}
 LeavesSlots gateway old (refusals.Frame fault) new = ⊥
 LeavesSlots gateway old refusals.Halted new = ⊥
 LeavesSlots gateway old refusals.Exhausted new = ⊥
+
+-- ---- a node is opened again
+
+-- the image that an opening of the node's disk would read
+abbrev pub image_of : {D : Type 0} {G : Ghosts D} → State G → Image
+image_of {G = G} state = image (G.slots (disk_of state.journal))
+
+-- the journal goes on in this slot
+pub record GoesOnIn {D : Type 0} {G : Ghosts D} (state : State G) (gateway : ℕ) (i : Image) : Type 0 where
+  pub slot : slot_of state.journal ≡ slot_read gateway i
+  pub generation : generation_of state.journal ≡ generation_read gateway i
+
+-- The node is as it was opened: it is not halted, and knows nothing but what the records of its journal gave it.
+pub record IsReopened {D : Type 0} {G : Ghosts D} (old new : State G) : Type 0 where
+  pub config : new.config ≡ old.config
+  pub local : new.local ≡ no_local
+  pub runs : is_halted new ≡ false
+  pub gateway : gateway_of new.journal ≡ gateway_of old.journal
+  pub failures : G.failures (disk_of old.journal) ≤ G.failures (disk_of new.journal)
+  pub starved : G.starved (disk_of old.journal) ≡ true → G.starved (disk_of new.journal) ≡ true
+  pub records : G.honest → new.records ≡ length (on_disk old)
+  pub keeps : G.honest → Keeps (ops_of (on_disk old)) new.kept
+  pub none : G.honest → on_disk old ≡ [] → new.kept ≡ []
+  pub fits : G.honest → FitInTurn [] (on_disk old)
+  pub found : G.honest → fault_of (gateway_of old.journal) (image_of old) ≡ None
+  pub place : G.honest → GoesOnIn new (gateway_of old.journal) (image_of old)
+  pub known : G.honest → G.slots (disk_of new.journal) ≡ recovered (gateway_of old.journal) (image_of old)
+  pub durable : G.honest → Leaves (gateway_of old.journal) (G.slots (disk_of new.journal)) (on_disk old)
+  -- a failure that is arranged for an append stays arranged
+  pub quiet : G.honest → G.starved (disk_of new.journal) ≡ false → IsTrue (is_quiet (G.outlook (disk_of old.journal)) (is_fresh (image_of old))) → G.outlook (disk_of new.journal) ≡ G.outlook (disk_of old.journal)
+
+-- The node was not opened again: what it keeps and knows is as before, and no crash leaves what it could not have left before. It is
+-- halted; but where memory ran out, it is halted or not as before.
+pub record IsNotReopened {D : Type 0} {G : Ghosts D} (old : State G) (refusal : Refusal) (new : State G) : Type 0 where
+  pub config : new.config ≡ old.config
+  pub records : new.records ≡ old.records
+  pub kept : new.kept ≡ old.kept
+  pub local : new.local ≡ old.local
+  pub gateway : gateway_of new.journal ≡ gateway_of old.journal
+  pub halts : refusal ≢ refusals.Memory → is_halted new ≡ true
+  pub wanting : refusal ≡ refusals.Memory → is_halted new ≡ is_halted old
+  pub failures : G.failures (disk_of old.journal) ≤ G.failures (disk_of new.journal)
+  pub cause : IsDiskFault refusal → G.failures (disk_of old.journal) < G.failures (disk_of new.journal)
+  pub starved : G.starved (disk_of old.journal) ≡ true → G.starved (disk_of new.journal) ≡ true
+  pub fault : G.honest → IsOpenFault (gateway_of old.journal) (image_of old) refusal
+  pub slots : G.honest → LeavesSlots (gateway_of old.journal) (G.slots (disk_of old.journal)) refusal (G.slots (disk_of new.journal))
+  pub leaves : G.honest → LeavesNoMore (gateway_of old.journal) (G.slots (disk_of old.journal)) (G.slots (disk_of new.journal))
+  pub blameless : G.honest → G.starved (disk_of new.journal) ≡ false → IsTrue (is_quiet (G.outlook (disk_of old.journal)) (is_fresh (image_of old)))
+      → (IsDiskFault refusal → ⊥) × (G.outlook (disk_of new.journal) ≡ G.outlook (disk_of old.journal))
+
+-- The node is opened again, halted or not; nothing is sent.
+abbrev pub ReopenCall : {D : Type 0} {G : Ghosts D} → State G → Result Out Refusal → State G → Type 0
+ReopenCall old (Ok out) new = (out ≡ only_sends []) × IsReopened old new
+ReopenCall old (Err refusal) new = MayRefuse refusal × IsNotReopened old refusal new

@@ -9,7 +9,7 @@ use Rattle.sn_flow.specs.declared.config.Send.{Send}
 use Rattle.sn_flow.specs.Locals.{Local}
 use Rattle.jr_journal.specs.declared.disk.Disk.{Ghosts}
 use Rattle.jr_journal.specs.declared.journal.Journal.{Journal}
-use Rattle.jr_journal.specs.Parts.{disk_of as disk_under, gateway_of, slot_of, is_halted as is_stopped}
+use Rattle.jr_journal.specs.Parts.{disk_of as disk_under, gateway_of, slot_of, generation_of, is_halted as is_stopped}
 use Rattle.gw_node.specs.declared.node.Node.{Node}
 use Rattle.gw_node.specs.declared.out.Out.{Out}
 use Rattle.gw_node.specs.declared.fault.NodeFault.{NodeFault}
@@ -18,7 +18,7 @@ use Rattle.gw_node.specs.declared.refusal.Refusal.{Refusal}
 use Rattle.gw_node.specs.declared.refusal.Refusal.TheVariants as refusals
 
 -- what a node is: what it was told, what its replica keeps, what else it knows, its journal, and how many records it read when it was
--- opened
+-- last opened
 pub record State {D : Type 0} (G : Ghosts D) : Type 0 where
   pub config : Config
   pub kept : List Op
@@ -29,7 +29,7 @@ pub record State {D : Type 0} (G : Ghosts D) : Type 0 where
 abbrev pub state_of : {R Z D : Type 0} {G : Ghosts D} → (R → List Op) → Node R D Z G → State G
 state_of kept node = record { config = node.config; kept = kept node.replica; local = node.dialogs.local; journal = node.journal; records = node.records }
 
--- how many records it read when it was opened
+-- how many records it read when it was last opened
 abbrev pub records_of : {R Z D : Type 0} {G : Ghosts D} → Node R D Z G → ℕ
 records_of node = node.records
 
@@ -45,6 +45,7 @@ is_halted state = is_stopped state.journal
 pub record IsUntouched {D : Type 0} {G : Ghosts D} (old new : Journal D G) : Type 0 where
   pub gateway : gateway_of new ≡ gateway_of old
   pub slot : slot_of new ≡ slot_of old
+  pub generation : generation_of new ≡ generation_of old
   pub halted : is_stopped new ≡ is_stopped old
   pub disk : disk_under new ≡ disk_under old
 

@@ -2,10 +2,11 @@
 use Rattle.std.specs.Prelude.{◌≡◌, ◌⊎◌, ℕ, false, List, [], ◌++◌, None}
 use Rattle.std.specs.List.{flat_map}
 use Rattle.rep_ops.specs.declared.op.Op.{Op}
-use Rattle.rep_ops.specs.Sets.{Within}
+use Rattle.rep_ops.specs.Sets.{Within, IsConsistent}
 use Rattle.rep_model.specs.Keep.{keep, CountsAs}
+use Rattle.rep_model.specs.Roomy.{IsRoomy}
 use Rattle.jr_journal.specs.declared.disk.Disk.{Ghosts}
-use Rattle.jr_journal.specs.Disk.{Image, EachCrash}
+use Rattle.jr_journal.specs.Disk.{Image, image, EachCrash}
 use Rattle.jr_journal.specs.Records.{records}
 use Rattle.jr_journal.specs.Faults.{fault_of}
 use Rattle.jr_journal.specs.Parts.{disk_of, gateway_of}
@@ -14,6 +15,10 @@ use Rattle.gw_node.specs.Parts.{State, is_halted}
 -- the operations of a list of deltas
 abbrev pub ops_of : List (List Op) → List Op
 ops_of deltas = flat_map (λ delta. delta) deltas
+
+-- the records that an opening of the node's disk would read
+abbrev pub on_disk : {D : Type 0} {G : Ghosts D} → State G → List (List Op)
+on_disk {G = G} state = records (gateway_of state.journal) (image (G.slots (disk_of state.journal)))
 
 -- J contains what must be kept of S, and lies within S and the refused delta
 pub record IsBetween (S refused J : List Op) : Type 0 where
@@ -24,11 +29,14 @@ pub record IsBetween (S refused J : List Op) : Type 0 where
 abbrev pub IsWhole : List Op → List Op → List Op → Type 0
 IsWhole S refused J = CountsAs S J ⊎ CountsAs (S ++ refused) J
 
--- an opening finds no fault in the image, and its records stand for S, but for the refused delta, of which all is there or nothing
+-- An opening finds no fault in the image, and its records stand for S, but for the refused delta, of which all is there or nothing.
+-- They contradict nothing, and no front part of them passes a limit: they can be taken again, one after the other.
 pub record StandsFor (gateway : ℕ) (S refused : List Op) (i : Image) : Type 0 where
   pub sound : fault_of gateway i ≡ None
   pub between : IsBetween S refused (ops_of (records gateway i))
   pub whole : IsWhole S refused (ops_of (records gateway i))
+  pub roomy : IsRoomy (records gateway i)
+  pub proper : IsConsistent (ops_of (records gateway i))
 
 -- The node has taken the set S: its replica counts as S; and whatever a crash leaves of an honest disk stands for S, but for one
 -- refused delta, of which there is none as long as the node goes on.

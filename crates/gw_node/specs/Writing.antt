@@ -1,14 +1,14 @@
 -- What became of a journal that had a delta to write.
-use Rattle.std.specs.Prelude.{◌≡◌, ◌≤◌, ◌<◌, true, false, List, [], ◌∷◌, ◌++◌, Option, Some, None, Result, Ok, Err}
+use Rattle.std.specs.Prelude.{◌≡◌, ◌≢◌, ◌≤◌, ◌<◌, ◌+◌, true, false, List, [], ◌∷◌, ◌++◌, Option, Some, None, Result, Ok, Err}
 use Rattle.rep_ops.specs.declared.op.Op.{Op}
 use Rattle.jr_journal.specs.declared.disk.Disk.{Ghosts}
 use Rattle.jr_journal.specs.declared.fault.JournalFault.{JournalFault}
 use Rattle.jr_journal.specs.declared.fault.JournalFault.TheVariants as faults
 use Rattle.jr_journal.specs.declared.journal.Journal.{Journal}
-use Rattle.jr_journal.specs.Disk.{image}
-use Rattle.jr_journal.specs.Records.{written, records}
-use Rattle.jr_journal.specs.Journals.{Leaves, LeavesOneMore, after_append, AppendedAs}
-use Rattle.jr_journal.specs.Parts.{disk_of, gateway_of, slot_of, is_halted}
+use Rattle.jr_journal.specs.Disk.{at, image}
+use Rattle.jr_journal.specs.Records.{written, base_bytes, slot_content, generation_in, records}
+use Rattle.jr_journal.specs.Journals.{other, Leaves, LeavesOneMore, LeavesEither, after_append, AppendedAs, emptied, last_generation}
+use Rattle.jr_journal.specs.Parts.{disk_of, gateway_of, slot_of, generation_of, is_halted}
 use Rattle.gw_node.specs.declared.out.Out.{Out}
 use Rattle.gw_node.specs.declared.refusal.Refusal.{Refusal}
 use Rattle.gw_node.specs.declared.refusal.Refusal.TheVariants as refusals
@@ -18,6 +18,7 @@ use Rattle.gw_node.specs.Parts.{IsUntouched}
 pub record IsWritten {D : Type 0} {G : Ghosts D} (old : Journal D G) (delta : List Op) (new : Journal D G) : Type 0 where
   pub gateway : gateway_of new ≡ gateway_of old
   pub slot : slot_of new ≡ slot_of old
+  pub generation : generation_of new ≡ generation_of old
   pub runs : is_halted old ≡ false
   pub goes_on : is_halted new ≡ false
   pub failures : G.failures (disk_of old) ≤ G.failures (disk_of new)
@@ -31,6 +32,7 @@ pub record IsWritten {D : Type 0} {G : Ghosts D} (old : Journal D G) (delta : Li
 pub record IsFailed {D : Type 0} {G : Ghosts D} (old : Journal D G) (delta : List Op) (new : Journal D G) : Type 0 where
   pub gateway : gateway_of new ≡ gateway_of old
   pub slot : slot_of new ≡ slot_of old
+  pub generation : generation_of new ≡ generation_of old
   pub runs : is_halted old ≡ false
   pub halts : is_halted new ≡ true
   pub cause : G.failures (disk_of old) < G.failures (disk_of new)
@@ -58,6 +60,55 @@ abbrev pub WrittenIfAny : {D : Type 0} {G : Ghosts D} → Journal D G → List O
 WrittenIfAny old [] (Ok done) new = IsUntouched old new
 WrittenIfAny old [] (Err fault) new = ⊥
 WrittenIfAny old (op ∷ ops) result new = WrittenAs old (op ∷ ops) result new
+
+-- ---- a compaction
+
+-- on an honest disk the generation is the one that the header of the slot in use tells
+abbrev pub IsNumbered : {D : Type 0} {G : Ghosts D} → Journal D G → Type 0
+IsNumbered {G = G} journal =
+    G.honest → generation_of journal ≡ generation_in (slot_content (gateway_of journal) (at (G.slots (disk_of journal)) (slot_of journal)).synced)
+
+-- The base is all that the journal holds: it is synced in the other slot, where the journal goes on, and every crash leaves it.
+pub record IsRewritten {D : Type 0} {G : Ghosts D} (old : Journal D G) (base : List (List Op)) (new : Journal D G) : Type 0 where
+  pub gateway : gateway_of new ≡ gateway_of old
+  pub slot : slot_of new ≡ other (slot_of old)
+  pub generation : generation_of new ≡ generation_of old + 1
+  pub runs : is_halted old ≡ false
+  pub goes_on : is_halted new ≡ false
+  pub number : IsNumbered old
+  pub room : generation_of old ≢ last_generation
+  pub failures : G.failures (disk_of old) ≤ G.failures (disk_of new)
+  pub starved : G.starved (disk_of old) ≡ true → G.starved (disk_of new) ≡ true
+  pub exact : G.honest → G.slots (disk_of new) ≡ after_append None (emptied (G.slots (disk_of old)) (other (slot_of old))) (other (slot_of old)) (base_bytes (gateway_of old) (generation_of old + 1) base)
+  pub durable : G.honest → Leaves (gateway_of old) (G.slots (disk_of new)) base
+  -- where it is known which failure is arranged, there was none
+  pub known : G.honest → G.starved (disk_of new) ≡ false → AppendedAs (G.outlook (disk_of old)) (emptied (G.slots (disk_of old)) (other (slot_of old))) (other (slot_of old)) (base_bytes (gateway_of old) (generation_of old + 1) base) (Ok (record {})) (G.slots (disk_of new)) (G.outlook (disk_of new))
+
+-- The disk failed: the journal is halted, and a crash leaves the records from before, or the base in their place.
+pub record IsNotRewritten {D : Type 0} {G : Ghosts D} (old : Journal D G) (base : List (List Op)) (new : Journal D G) : Type 0 where
+  pub gateway : gateway_of new ≡ gateway_of old
+  pub slot : slot_of new ≡ slot_of old
+  pub generation : generation_of new ≡ generation_of old
+  pub runs : is_halted old ≡ false
+  pub halts : is_halted new ≡ true
+  pub number : IsNumbered old
+  pub room : generation_of old ≢ last_generation
+  pub cause : G.failures (disk_of old) < G.failures (disk_of new)
+  pub starved : G.starved (disk_of old) ≡ true → G.starved (disk_of new) ≡ true
+  pub torn : G.honest → LeavesEither (gateway_of old) (G.slots (disk_of new)) (records (gateway_of old) (image (G.slots (disk_of old)))) base
+  -- where it is known which failure is arranged, it is this one
+  pub known : G.honest → G.starved (disk_of new) ≡ false → AppendedAs (G.outlook (disk_of old)) (emptied (G.slots (disk_of old)) (other (slot_of old))) (other (slot_of old)) (base_bytes (gateway_of old) (generation_of old + 1) base) (Err faults.Disk) (G.slots (disk_of new)) (G.outlook (disk_of new))
+
+-- what became of a journal that was to be written anew
+abbrev pub RewrittenAs : {D : Type 0} {G : Ghosts D} → Journal D G → List (List Op) → Result (Unit {0}) JournalFault → Journal D G → Type 0
+RewrittenAs old base (Ok done) new = IsRewritten old base new
+RewrittenAs old base (Err faults.Disk) new = IsNotRewritten old base new
+RewrittenAs old base (Err faults.Halted) new = (is_halted old ≡ true) × IsUntouched old new
+RewrittenAs old base (Err faults.Foreign) new = (is_halted old ≡ false) × (generation_of old ≡ last_generation) × IsNumbered old × IsUntouched old new
+RewrittenAs old base (Err faults.Memory) new = IsUntouched old new
+RewrittenAs old base (Err (faults.BadRecord slot at)) new = ⊥
+
+-- ---- refusals
 
 -- a refusal of the journal, with what is answered
 abbrev pub refusal_of : JournalFault → Out → Refusal

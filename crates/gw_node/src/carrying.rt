@@ -2,6 +2,7 @@
 //! refused before the journal is written; behind it nothing can be.
 
 ghost use Rattle.std.specs.Prelude.{◌≡◌, ◌≢◌, ◌++◌, [], IfOk, IfErr, OnOk};
+ghost use Rattle.rep_ops.specs.Deltas.{IsDelta};
 ghost use Rattle.rep_ops.specs.Making.{AreApart, IsDeltaOf};
 ghost use Rattle.rep_model.specs.Taking.{Fits};
 ghost use Rattle.rep_model.specs.Keep.{IsKeptOf};
@@ -43,11 +44,13 @@ pub(crate) fn prepare<R: Replica>(
     delta: &Delta,
 ) -> Result<R::Staged, Refusal>
     ensures unchanged { R.kept replica.new ≡ R.kept replica.old }
+    ensures delta { IsDelta delta.now }
     ensures fits { OnOk result (Fits (R.kept replica.old) delta.now) }
     ensures ready { IfOk result (λ staged. R.ready replica.new staged) }
     ensures taken { IfOk result (λ staged. IsKeptOf (R.kept replica.old ++ delta.now) (R.after replica.new staged)) }
     ensures misfit { IfErr result (λ refusal. IsMisfit (R.kept replica.old) delta.now refusal) }
 {
+    let _ops = delta.ops();
     match replica.prepare(alloc, delta) {
         Ok(staged) => Ok(staged),
         Err(TakeFault::Conflict { client }) => match Names::new(alloc, client) {
@@ -99,7 +102,7 @@ fn write_if_any<D: Disk + Drop>(
 }
 
 /// A refusal of the journal, with what is answered.
-fn refused(fault: JournalFault, excuse: Shares) -> Refusal
+pub(crate) fn refused(fault: JournalFault, excuse: Shares) -> Refusal
     ensures { result ≡ refusal_of fault excuse }
 {
     match fault {

@@ -8,16 +8,17 @@ use std::sync::Arc;
 use thiserror::Error;
 
 /// Why a node refuses. A call of a node looks for them in this order: Halted, Frame, Exhausted, Conflict, Full, Disk.
-/// `Journal` is told by `Node::open` alone. Memory may stand in the place of each.
+/// `Journal` is told by `Node::open`, `Node::reopen` and `Node::compact` alone. Memory may stand in the place of each.
 ///
 /// After a call that is refused the node is as it was, but for Disk, after which it is halted. Where `Node::open` refuses
-/// there is no node, and the disk comes back.
+/// there is no node, and the disk comes back; where `Node::reopen` refuses for another cause than Memory, the node is halted.
 #[derive(Debug, Drop, Error)]
 pub enum NodeFault {
     /// Fault 1: the datagram is no frame (MQTT-SN 1.2 sections 5.2 and 5.4).
     #[error("the datagram is no frame: {fault}")]
     Frame { fault: FrameFault },
-    /// Fault 2: a write of the journal has failed since the node was opened. It must be opened again from its disk.
+    /// Fault 2: a write of the journal has failed since the node was opened, or an attempt to open it again has. It must be opened
+    /// again from its disk.
     #[error("the gateway is halted: a write of its journal has failed, and it must be opened again from its disk")]
     Halted,
     /// Fault 3: the disk of the journal failed; where a node is opened, this may be a read too. `out` is what is to be sent
@@ -38,7 +39,7 @@ pub enum NodeFault {
     /// Fault 7: memory ran out.
     #[error("out of memory")]
     Memory,
-    /// Fault 8: the slots are no journal of this gateway.
+    /// Fault 8: the slots are no journal of this gateway; where the journal is compacted, its generation is the last there is.
     #[error("the journal cannot be opened: {fault}")]
     Journal { fault: JournalFault },
 }

@@ -11,6 +11,7 @@ ghost use Rattle.gw_node.specs.Calls.{OwnCall, shows, DigestCall, AnswerCall, St
 ghost use Rattle.gw_node.specs.Handling.{IsNoFrameBy, IsNoPlan, planned_for, ticked, CarriedOut, Answers};
 ghost use Rattle.gw_node.specs.declared.refusal.Refusal.TheVariants as refusals;
 
+use super::anew::{handle_compact, handle_reopen};
 use super::carrying::{carry_out, note, take_in};
 use super::excuse::excuses;
 use super::node::Node;
@@ -241,5 +242,7 @@ pub(crate) fn handle_step<R: Replica, D: Disk + Drop>(
         Step::View { client } => handle_view(alloc, node, client),
         Step::Digest => handle_digest(alloc, node),
         Step::Answer { digest } => handle_answer(alloc, node, digest),
+        Step::Compact => handle_compact(alloc, node),
+        Step::Reopen => handle_reopen(alloc, node),
     }
 }

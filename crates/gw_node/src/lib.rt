@@ -3,14 +3,16 @@
 //! A datagram, a tick or a delta from another gateway is one call of a `Node`. What it makes or takes is written to the
 //! journal, and synced, before the replica has it and before anything is answered. Where the journal cannot be written the
 //! call is refused, the replica and the local state are as before, and the node is halted: it refuses every such call until
-//! it is opened again, from what its disk holds.
+//! it is opened again, from what its disk holds. A journal does not grow for ever: it is compacted to what the replica keeps.
 //!
 //! - `node`: a gateway (`Node`) and its calls.
 //! - `opening`: a gateway is opened, and takes what its journal holds.
 //! - `handling`: what the calls do, up to the answer.
 //! - `carrying`: a plan is carried out, a delta is taken: room, delta, journal, replica, local state, in this order.
+//! - `anew`: the journal is written anew from what is kept, or read anew.
 //! - `excuse`: what a client is told where its frame came to nothing for want of a disk.
 //! - `step`: a call as a value (`Step`).
+//! - `laws`: what an opening finds that goes on with what was taken (`opening_laws`).
 //! - `out`, `fault`: what is answered (`Out`, `NodeFault`).
 //! - `same`, `same_out`: whether two calls, two answers or what was answered are equal (`same_step`, `same_answer`).
 //! - `shares`, `refusal`: the same with three shares of each answer, which are taken before the journal is written.
@@ -21,10 +23,12 @@
 //! `Handling` is for private functions.
 #![tactic(auto)]
 
+mod anew;
 mod carrying;
 mod excuse;
 mod fault;
 mod handling;
+mod laws;
 mod node;
 mod opening;
 mod out;
@@ -35,6 +39,7 @@ mod shares;
 mod step;
 
 pub use fault::NodeFault;
+pub use laws::opening_laws;
 pub use node::Node;
 pub use out::Out;
 pub use refusal::Answer;

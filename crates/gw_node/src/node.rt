@@ -12,12 +12,13 @@ ghost use Rattle.jr_journal.specs.Opening.{recovered, is_quiet, LeavesNoMore};
 ghost use Rattle.gw_node.specs.declared.fault.NodeFault.TheVariants as faults;
 ghost use Rattle.gw_node.specs.Occasions.{Datagram, Clock};
 ghost use Rattle.gw_node.specs.Parts.{state_of, told, said, is_halted as is_stopped, disk_of, records_of};
-ghost use Rattle.gw_node.specs.Calls.{OwnCall, TakeCall, ViewCall, DigestCall, AnswerCall, StepCall};
+ghost use Rattle.gw_node.specs.Calls.{OwnCall, TakeCall, ViewCall, DigestCall, AnswerCall, CompactCall, StepCall};
 ghost use Rattle.gw_node.specs.Keeping.{Keeps};
-ghost use Rattle.gw_node.specs.Taking.{ops_of, IsBetween, HasTaken};
-ghost use Rattle.gw_node.specs.Opening.{IsStarted, FitInTurn, MayRefuse, IsDiskFault, IsOpenFault, LeavesSlots};
-ghost use Rattle.gw_node.specs.Carrying.{CarriesOn, OwnCarriesOn, StepCarriesOn};
+ghost use Rattle.gw_node.specs.Taking.{ops_of, StandsFor, HasTaken};
+ghost use Rattle.gw_node.specs.Opening.{IsStarted, FitInTurn, MayRefuse, IsDiskFault, IsOpenFault, LeavesSlots, GoesOnIn, ReopenCall};
+ghost use Rattle.gw_node.specs.Carrying.{CarriesOn, OwnCarriesOn, TakesNothing, ReopenCarriesOn, StepCarriesOn};
 
+use super::anew::{handle_compact, handle_reopen};
 use super::carrying::take_in;
 use super::fault::NodeFault;
 use super::handling::{
@@ -67,8 +68,12 @@ impl<R: Replica, D: Disk + Drop> Node<R, D> {
         // each of which fits to those before it,
         ensures fits { D.honest → OnOk result (FitInTurn [] (records config.gateway (image (D.slots disk)))) }
         // beside whatever set it had taken before it stopped.
-        ensures restarts { D.honest → IfOk result (λ node. (S refused : List Op) → IsBetween S refused (ops_of (records config.gateway (image (D.slots disk)))) →
+        ensures restarts { D.honest → IfOk result (λ node. (S refused : List Op) → StandsFor config.gateway S refused (image (D.slots disk)) →
             HasTaken (S ++ ops_of (records config.gateway (image (D.slots disk)))) [] (state_of R.kept node)) }
+        // Where nothing was refused, that is the set itself.
+        ensures durable { D.honest → IfOk result (λ node. (S : List Op) → StandsFor config.gateway S [] (image (D.slots disk)) → HasTaken S [] (state_of R.kept node)) }
+        // Its journal goes on in the slot that is read.
+        ensures place { D.honest → IfOk result (λ node. GoesOnIn (state_of R.kept node) config.gateway (image (D.slots disk))) }
         ensures known { D.honest → IfOk result (λ node. D.slots (disk_of node) ≡ recovered config.gateway (image (D.slots disk))) }
         // It is refused exactly where the format says so, or a record does not fit, or the disk failed, or memory ran out.
         ensures found { D.honest → OnOk result (fault_of config.gateway (image (D.slots disk)) ≡ None) }
@@ -166,6 +171,32 @@ impl<R: Replica, D: Disk + Drop> Node<R, D> {
         one(handle_answer(alloc, self, digest))
     }
 
+    /// The journal is to hold what is kept, and nothing else: what is kept is written into its other slot and synced, and the journal
+    /// goes on there. The node keeps and knows what it did, and nothing is sent.
+    ///
+    /// The faults, in the order in which they are looked for: `Halted`, a write of the journal has failed; `Journal` with `Foreign`, the
+    /// journal's generation is the last that a header can hold; `Disk`, the disk failed. `Memory` may stand in the place of each.
+    /// After `Disk` the node is halted, and a crash leaves the records from before, or what is kept. After each other fault nothing
+    /// has changed.
+    pub fn compact(&mut self, alloc: Global) -> Answer
+        ensures call { CompactCall (state_of R.kept self.old) (said result) (state_of R.kept self.new) }
+        ensures taken { TakesNothing (state_of R.kept self.old) (state_of R.kept self.new) }
+    {
+        one(handle_compact(alloc, self))
+    }
+
+    /// The gateway is opened again, halted or not, from what its disk holds; see `open`. It goes on without bindings, dialogs and timers,
+    /// and nothing is sent. A delta that was refused with `Disk` is taken if all of it had reached the disk, else it is cut away.
+    ///
+    /// The faults are those of `open`. After each of them the node keeps and knows what it did; it is halted, but after `Memory` it is
+    /// halted or not as before.
+    pub fn reopen(&mut self, alloc: Global) -> Answer
+        ensures call { ReopenCall (state_of R.kept self.old) (said result) (state_of R.kept self.new) }
+        ensures taken { ReopenCarriesOn (state_of R.kept self.old) (said result) (state_of R.kept self.new) }
+    {
+        one(handle_reopen(alloc, self))
+    }
+
     /// A call as a value. Its answer is given three times: the shares are taken before the journal is written, so that a call that was
     /// done can always be told.
     pub fn step(&mut self, alloc: Global, step: &Step) -> (Answer, Answer, Answer)
@@ -184,7 +215,7 @@ impl<R: Replica, D: Disk + Drop> Node<R, D> {
         self.config.gateway
     }
 
-    /// Whether a write has failed since the node was opened.
+    /// Whether a write has failed since the node was opened, or an attempt to open it again.
     pub fn is_halted(&self) -> bool
         ensures { result ≡ is_stopped (state_of R.kept self.now) }
     {
@@ -198,7 +229,15 @@ impl<R: Replica, D: Disk + Drop> Node<R, D> {
         self.journal.into_disk()
     }
 
-    /// How many records were read when the node was opened.
+    /// What the gateway was told, and its disk as it stands: with both it can be opened again.
+    pub fn into_parts(self) -> (Config, D)
+        ensures config { result.0 ≡ (state_of R.kept self).config }
+        ensures disk { result.1 ≡ disk_of self }
+    {
+        (self.config, self.journal.into_disk())
+    }
+
+    /// How many records were read when the node was last opened.
     pub fn records(&self) -> u64
         ensures { result ≡ records_of self.now }
     {

@@ -24,7 +24,11 @@ use std::alloc::Global;
 use std::sync::Arc;
 
 /// Takes deltas, one after the other.
-fn take_all<R: Replica>(alloc: Global, replica: &mut R, deltas: &[Delta]) -> Result<(), Refusal>
+pub(crate) fn take_all<R: Replica>(
+    alloc: Global,
+    replica: &mut R,
+    deltas: &[Delta],
+) -> Result<(), Refusal>
     requires { R.kept replica.old ≡ [] }
     ensures ok { OnOk result (Keeps (ops_of deltas.now) (R.kept replica.new)) }
     ensures fits { OnOk result (FitInTurn [] deltas.now) }

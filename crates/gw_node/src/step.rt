@@ -39,4 +39,8 @@ pub enum Step {
         /// The digest of that gateway.
         digest: Digest,
     },
+    /// The journal is to hold what is kept, and nothing else.
+    Compact,
+    /// The node is opened again, from what its disk holds.
+    Reopen,
 }

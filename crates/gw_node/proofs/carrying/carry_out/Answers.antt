@@ -18,7 +18,7 @@ returns-in-Err g c =
     (record { config = c.args.node.now.config; kept = g.R.Replica.kept c.args.node.now.replica; local = c.prepare.new.self.local; journal = c.args.node.now.journal; records = c.args.node.now.records })
     c.args.plan c.args.excuse c.in-Err.refusal
     (subst (λ (ops : List Op). HaveNoDelta ops c.in-Err.refusal) c.into_vec.ensures c.in-Err.ensures.err)
-    (record { config = refl; kept = refl; local = c.prepare.ensures.unchanged; journal = record { gateway = refl; slot = refl; halted = refl; disk = refl }; records = refl })
+    (record { config = refl; kept = refl; local = c.prepare.ensures.unchanged; journal = record { gateway = refl; slot = refl; generation = refl; halted = refl; disk = refl }; records = refl })
 
 pub returns-in-Ok-write_if_made : goal.returns-in-Ok-write_if_made
 returns-in-Ok-write_if_made g c =
@@ -52,7 +52,7 @@ returns-in_err-staged g c =
     c.args.plan c.args.excuse c.in-Ok.delta c.in_err-staged.field-0.0
     (subst (λ (ops : List Op). IsDeltaOf ops c.in-Ok.delta) c.into_vec.ensures c.in-Ok.ensures.ok)
     c.in_err-staged.ensures.misfit
-    (record { config = refl; kept = c.prepare-2.ensures.unchanged; local = c.prepare.ensures.unchanged; journal = record { gateway = refl; slot = refl; halted = refl; disk = refl }; records = refl }))
+    (record { config = refl; kept = c.prepare-2.ensures.unchanged; local = c.prepare.ensures.unchanged; journal = record { gateway = refl; slot = refl; generation = refl; halted = refl; disk = refl }; records = refl }))
 
 pub returns-in-Err-write_if_made : goal.returns-in-Err-write_if_made
 returns-in-Err-write_if_made g c =

@@ -12,6 +12,7 @@ returns-in-Ok g c = (
   record {
     config = refl;
     records = refl;
+    is_delta = c.in_ok-ready.ensures.delta;
     fits = c.in_ok-ready.ensures.fits;
     kept = subst (λ K. IsKeptOf (g.R.Replica.kept c.args.node.now.replica ++ c.args.delta.now) K) (sym c.commit.ensures) c.in_ok-ready.ensures.taken;
     local = c.keep_owned.ensures;
@@ -26,4 +27,4 @@ returns-in-Err g c =
     rw told
     (left (state_of g.R.Replica.kept c.args.node.now)
     (record { config = c.args.node.now.config; kept = g.R.Replica.kept c.prepare.new.replica; local = c.args.node.now.dialogs.local; journal = c.write_if_any.new.journal; records = c.args.node.now.records })
-    c.args.delta.now c.in-Err.fault (search rules) refl c.prepare.ensures.unchanged refl refl c.in_ok-ready.ensures.fits c.in-Err.ensures)
+    c.args.delta.now c.in-Err.fault (search rules) refl c.prepare.ensures.unchanged refl refl c.in_ok-ready.ensures.delta c.in_ok-ready.ensures.fits c.in-Err.ensures)

@@ -1,8 +1,9 @@
 -- What was opened is what was found.
 use Rattle.std.proofs.Common.{refl, inl}
+use Rattle.jr_journal.specs.Disk.{image}
 use Rattle.jr_journal.specs.Parts.{disk_of}
 use Rattle.gw_node.specs.Parts.{told}
-use Rattle.gw_node.proofs.Started.{leaves_itself, leaves_no_more, takes_kept, opened_takes, opened_keeps, opened_none, opened_again, opened_leaves, started_leaves, started_fits}
+use Rattle.gw_node.proofs.Started.{leaves_itself, leaves_no_more, takes_kept, opened_takes, opened_keeps, opened_none, opened_again, opened_back, opened_place, opened_leaves, started_leaves, started_fits}
 use Rattle.gw_node.proofs.node.Node.open.Goals as goal
 
 pub returns-in_default-clause-leaves : goal.returns-in_default-clause-leaves
@@ -28,7 +29,17 @@ pub returns-in-Ok-open-clause-restarts : goal.returns-in-Ok-open-clause-restarts
 returns-in-Ok-open-clause-restarts g c = λ honest.
     opened_again g.R.Replica.kept c.start.result c.in-Ok-open.journal c.args.config.gateway (g.D.Disk.slots c.args.disk) c.in-Ok-open.deltas.items c.in-Ok-open.ensures.starts.1
     (c.in-Ok-open.ensures.records honest) (c.in-Ok-open.ensures.durable honest) c.start.ensures.journal
-    (takes_kept g.R.Replica.kept c.start.result c.in-Ok-open.deltas.items c.start.ensures.keeps)
+    c.start.ensures.keeps
+
+pub returns-in-Ok-open-clause-durable : goal.returns-in-Ok-open-clause-durable
+returns-in-Ok-open-clause-durable g c = λ honest.
+    opened_back g.R.Replica.kept c.start.result c.in-Ok-open.journal c.args.config.gateway (g.D.Disk.slots c.args.disk) c.in-Ok-open.deltas.items c.in-Ok-open.ensures.starts.1
+    (c.in-Ok-open.ensures.records honest) (c.in-Ok-open.ensures.durable honest) c.start.ensures.journal c.start.ensures.keeps
+
+pub returns-in-Ok-open-clause-place : goal.returns-in-Ok-open-clause-place
+returns-in-Ok-open-clause-place g c = λ honest.
+    opened_place g.R.Replica.kept c.start.result c.in-Ok-open.journal c.args.config.gateway (image (g.D.Disk.slots c.args.disk)) (c.in-Ok-open.ensures.place honest).0 (c.in-Ok-open.ensures.place honest).1
+    c.start.ensures.journal
 
 pub returns-in-Ok-open-clause-leaves : goal.returns-in-Ok-open-clause-leaves
 returns-in-Ok-open-clause-leaves g c = λ honest.
