@@ -1,5 +1,5 @@
 -- Worked rows: an operation that takes a session has counter 0, any other has not.
-use Rattle.std.proofs.Common.{◌≡◌, ℕ, suc, true, false, List, [], ◌∷◌, refl, sym, true≢false, arith}
+use Rattle.std.proofs.Common.{ℕ, List, [], ◌∷◌, refl, sym, true≢false, arith}
 use Rattle.sn_session.specs.declared.presence.Presence.TheVariants.{Asleep}
 use Rattle.sn_session.specs.declared.change.SessionOp.TheVariants.{Take, Presence}
 use Rattle.sn_session.specs.Session.{empty_session}

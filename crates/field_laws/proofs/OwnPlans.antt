@@ -1,18 +1,15 @@
 -- In a run each gateway keeps well.
-use Rattle.std.proofs.Common.{◌≡◌, ◌≢◌, ◌⊎◌, ℕ, zero, suc, ◌≤◌, ◌-◌, List, [], ◌∷◌, ◌++◌, map, set, slice_get, Option, Some, None, Result, Ok, Err, refl, sym, ap, ◌∙◌, subst, inl, inr, IsTrue}
-use Rattle.std.specs.List.{AllByRecursion}
+use Rattle.std.proofs.Common.{◌≡◌, ◌≢◌, ◌⊎◌, ℕ, zero, suc, ◌≤◌, ◌-◌, List, [], ◌∷◌, map, set, slice_get, Option, Some, None, Result, Ok, Err, refl, sym, subst, inl, inr, IsTrue}
 use Rattle.std.proofs.lemmas.Option.{none-some, same_Some}
 use Rattle.rep_ops.specs.declared.op.Op.{Op}
 use Rattle.rep_ops.specs.declared.fault.OpsFault.{OpsFault}
 use Rattle.rep_ops.specs.declared.fault.OpsFault.TheVariants as ops_faults
 use Rattle.rep_ops.specs.Deltas.{IsDelta}
-use Rattle.rep_ops.specs.Making.{AreApart, AreWellMade, IsDeltaOf, IsRefusal}
+use Rattle.rep_ops.specs.Making.{AreApart, AreWellMade, IsRefusal}
 use Rattle.rep_ops.specs.WellMade.{is_well_made}
 use Rattle.sn_flow.specs.declared.config.Config.{Config}
 use Rattle.sn_flow.specs.declared.plan.Plan.{Plan}
 use Rattle.sn_flow.specs.Flush.{AreFlush}
-use Rattle.sn_flow.specs.Locals.{after_all}
-use Rattle.sn_flow.specs.Plans.{seen_of}
 use Rattle.sn_flow.proofs.Lists.{all-append}
 use Rattle.plan_laws.specs.KeepsWell.{AreAsked, KeepsWell}
 use Rattle.plan_laws.proofs.Steps.{Makes, step-makes, tick-makes, after-asked}
@@ -22,15 +19,15 @@ use Rattle.gw_node.specs.declared.refusal.Refusal.TheVariants as refusals
 use Rattle.gw_node.specs.Occasions.{Occasion, Datagram, Clock}
 use Rattle.gw_node.specs.Parts.{said}
 use Rattle.gw_world.specs.declared.event.Event.{Event}
-use Rattle.gw_world.specs.declared.event.Event.TheVariants.{Frame, Tick, Take, Answer as Asks, Show}
+use Rattle.gw_world.specs.declared.event.Event.TheVariants.{Frame, Tick, Take, Answer as Asks, Compact, Restart, Show}
 use Rattle.gw_world.specs.declared.event.Answer.{Answer}
-use Rattle.gw_world.specs.declared.event.Answer.TheVariants.{Node, Views}
+use Rattle.gw_world.specs.declared.event.Answer.TheVariants.{Node, Views, Records}
 use Rattle.gw_world.specs.Gateways.{Gateway, new_gateway}
-use Rattle.gw_world.specs.Field.{Field, new_field, IsAt, IsDeltaAt, changed, After, Run}
-use Rattle.gw_world.specs.Steps.{IsUnchanged, IsMade, IsPlan, IsTooMuch, HasNoDelta, OwnStep, TakeStep}
+use Rattle.gw_world.specs.Field.{Field, new_field, IsAt, After, Run}
+use Rattle.gw_world.specs.Steps.{IsUnchanged, IsMade, IsPlan, IsTooMuch, OwnStep, TakeStep, CompactStep, restarted}
 use Rattle.gw_world.proofs.Consistency.{FlushField, WholeField, after-sound, start-whole}
 use Rattle.gw_world.proofs.Each.{all-at}
-use Rattle.gw_world.proofs.Numbers.{First, place_of-first, first-number}
+use Rattle.gw_world.proofs.Numbers.{place_of-first, first-number}
 use Rattle.gw_world.proofs.Steadiness.{start-flush}
 use Rattle.field_laws.specs.OwnPlans.{AreNumbered, IsTooLong}
 
@@ -119,6 +116,21 @@ module _ (field : Field) (s : FlushField field) (all : AreWell field.gateways) (
         asked = w.asked;
       })
 
+-- a compaction and a restart
+compact-well : (old next : Gateway) (answer : Result Out Refusal) → Well old → CompactStep old answer next → Well next
+compact-well old next (Ok out) w h = subst Well (sym h.2.2) (record { numbered = w.numbered; made = w.made; asked = w.asked })
+compact-well old next (Err (refusals.Journal fault)) w h = subst Well (sym h.2) w
+compact-well old next (Err (refusals.Frame fault)) w h = absurd h
+compact-well old next (Err refusals.Halted) w h = absurd h
+compact-well old next (Err (refusals.Disk excuse)) w h = absurd h
+compact-well old next (Err (refusals.Conflict client)) w h = absurd h
+compact-well old next (Err refusals.Full) w h = absurd h
+compact-well old next (Err refusals.Exhausted) w h = absurd h
+compact-well old next (Err refusals.Memory) w h = absurd h
+
+restart-well : (kept : ℕ) (old : Gateway) → Well old → Well (restarted kept old)
+restart-well kept old w = record { numbered = w.numbered; made = w.made; asked = tt }
+
 abbrev WellField : Field → Type 0
 WellField field = AreWell field.gateways
 
@@ -131,12 +143,25 @@ after-well old (Take number delta) (Node answer) new h s w all =
     subst WellField (sym h.8) (set-well h.0 old.gateways h.2 all
     (take-well old s all number h.0 h.1 h.5 h.4 (said answer) h.2 h.3 (all-at IsDelta old.deltas (delta - 1) h.4 w.proper h.6.1) h.7))
 after-well old (Asks number peer) (Node answer) new h s w all = subst WellField (sym h.8) all
+after-well old (Compact number) (Node answer) new h s w all =
+    subst WellField (sym h.5) (set-well h.0 old.gateways h.2 all (compact-well h.1 h.2 (said answer) (all h.0 h.1 h.3.1) h.4))
+after-well old (Restart number kept) (Records count) new h s w all =
+    subst WellField (sym h.4) (set-well h.0 old.gateways (restarted kept h.1) all (restart-well kept h.1 (all h.0 h.1 h.2.1)))
 after-well old (Show number) (Views views) new h s w all = subst WellField (sym h.4) all
 after-well old (Frame number from bytes now) (Views views) new h s w all = absurd h
 after-well old (Tick number now) (Views views) new h s w all = absurd h
 after-well old (Take number delta) (Views views) new h s w all = absurd h
 after-well old (Asks number peer) (Views views) new h s w all = absurd h
 after-well old (Show number) (Node answer) new h s w all = absurd h
+after-well old (Compact number) (Views views) new h s w all = absurd h
+after-well old (Restart number kept) (Views views) new h s w all = absurd h
+after-well old (Restart number kept) (Node answer) new h s w all = absurd h
+after-well old (Frame number from bytes now) (Records count) new h s w all = absurd h
+after-well old (Tick number now) (Records count) new h s w all = absurd h
+after-well old (Take number delta) (Records count) new h s w all = absurd h
+after-well old (Asks number peer) (Records count) new h s w all = absurd h
+after-well old (Compact number) (Records count) new h s w all = absurd h
+after-well old (Show number) (Records count) new h s w all = absurd h
 
 -- ---- what a run does
 

@@ -1,5 +1,5 @@
 -- In a run counter 0 stands exactly at the operations that take a session.
-use Rattle.std.proofs.Common.{◌≡◌, ◌↔◌, ℕ, Bool, true, false, ◌&&◌, ◌==◌, nat_lt, if◌then◌else◌, List, [], ◌∷◌, ◌++◌, flat_map, Some, Contains, refl, sym, ap, ◌∙◌, true≢false, arith, eqb-true, eq-eqb, ltb-true, IsTrue}
+use Rattle.std.proofs.Common.{◌≡◌, ◌↔◌, ℕ, Bool, true, false, ◌&&◌, ◌==◌, nat_lt, if◌then◌else◌, List, [], ◌∷◌, flat_map, Some, Contains, refl, sym, true≢false, arith, eqb-true, ltb-true, IsTrue}
 use Rattle.std.specs.List.{AllByRecursion}
 use Rattle.std.proofs.lemmas.Bool.{and_parts}
 use Rattle.std.proofs.lemmas.List.Elements.{All-from_recursion, All-contains}

@@ -1,5 +1,5 @@
 -- With what answers its digest a gateway keeps what it would keep with the whole set of the peer, also a run later.
-use Rattle.std.proofs.Common.{◌≡◌, ℕ, zero, suc, ◌-◌, ◌⊎◌, ◌↔◌, List, [], ◌∷◌, ◌++◌, flat_map, set, slice_get, Some, Contains, Result, Ok, Err, refl, sym, ap, ◌∙◌, subst, append-nil, append_assoc, inl, inr}
+use Rattle.std.proofs.Common.{◌≡◌, ℕ, zero, suc, ◌⊎◌, ◌↔◌, List, [], ◌∷◌, ◌++◌, flat_map, set, slice_get, Some, Contains, Result, Ok, Err, refl, sym, ap, ◌∙◌, subst, append-nil, append_assoc, inl, inr}
 use Rattle.std.proofs.lemmas.List.Concat.{flat_map-append}
 use Rattle.std.proofs.lemmas.List.Elements.{All-from_recursion, All-contains, Contains-append_left, Contains-append_right}
 use Rattle.std.proofs.lemmas.Option.{none-some, same_Some}
@@ -12,20 +12,20 @@ use Rattle.rep_model.proofs.Thin.{thin-left, thin-right, thin-same, same_kept}
 use Rattle.rep_digest.proofs.Completing.{completed}
 use Rattle.sn_flow.specs.declared.config.Config.{Config}
 use Rattle.gw_world.specs.declared.event.Event.{Event}
-use Rattle.gw_world.specs.declared.event.Event.TheVariants.{Frame, Tick, Take, Answer as Asks, Show}
+use Rattle.gw_world.specs.declared.event.Event.TheVariants.{Frame, Tick, Take, Answer as Asks, Compact, Restart, Show}
 use Rattle.gw_world.specs.declared.event.Answer.{Answer}
-use Rattle.gw_world.specs.declared.event.Answer.TheVariants.{Node, Views}
+use Rattle.gw_world.specs.declared.event.Answer.TheVariants.{Node, Views, Records}
 use Rattle.gw_node.specs.declared.out.Out.{Out}
 use Rattle.gw_node.specs.declared.refusal.Refusal.{Refusal}
 use Rattle.gw_node.specs.Parts.{said}
 use Rattle.gw_node.specs.Occasions.{Datagram, Clock}
 use Rattle.gw_world.specs.Gateways.{Gateway}
 use Rattle.gw_world.specs.Field.{Field, new_field, IsAt, After, Run}
-use Rattle.gw_world.specs.Steps.{TakeStep, AnswerStep}
+use Rattle.gw_world.specs.Steps.{TakeStep, AnswerStep, restarted}
 use Rattle.gw_world.specs.Whole.{listed, everything, brought}
 use Rattle.gw_world.proofs.Answering.{answered, deltas-same}
 use Rattle.gw_world.proofs.Consistency.{WholeField, field-sound, run-sound, whole-asked, parts-consistent}
-use Rattle.gw_world.proofs.Steadiness.{Still, Stepped, still, own-moves}
+use Rattle.gw_world.proofs.Steadiness.{Still, Stepped, still, own-moves, compact-still, restart-still}
 use Rattle.gw_world.proofs.Telling.{run-brought}
 
 -- ---- one answer
@@ -87,12 +87,25 @@ after-later old (Tick number now) (Node answer) new j S h l =
 after-later old (Take number delta) (Node answer) new j S h l =
     subst (λ (x : Field). Later x.gateways j S) (sym h.8) (fed-later old.gateways h.0 j h.1 h.2 h.3 S h.4 (said answer) h.5.1 h.7 l)
 after-later old (Asks number peer) (Node answer) new j S h l = subst (λ (x : Field). Later x.gateways j S) (sym h.8) l
+after-later old (Compact number) (Node answer) new j S h l =
+    subst (λ (x : Field). Later x.gateways j S) (sym h.5) (moved-later old.gateways h.0 j h.1 h.2 [] S h.3.1 (inl (compact-still h.1 h.2 (said answer) h.4)) l)
+after-later old (Restart number kept) (Records count) new j S h l =
+    subst (λ (x : Field). Later x.gateways j S) (sym h.4) (moved-later old.gateways h.0 j h.1 (restarted kept h.1) [] S h.2.1 (inl (restart-still kept h.1)) l)
 after-later old (Show number) (Views views) new j S h l = subst (λ (x : Field). Later x.gateways j S) (sym h.4) l
 after-later old (Frame number from bytes now) (Views views) new j S h l = absurd h
 after-later old (Tick number now) (Views views) new j S h l = absurd h
 after-later old (Take number delta) (Views views) new j S h l = absurd h
 after-later old (Asks number peer) (Views views) new j S h l = absurd h
 after-later old (Show number) (Node answer) new j S h l = absurd h
+after-later old (Compact number) (Views views) new j S h l = absurd h
+after-later old (Restart number kept) (Views views) new j S h l = absurd h
+after-later old (Restart number kept) (Node answer) new j S h l = absurd h
+after-later old (Frame number from bytes now) (Records count) new j S h l = absurd h
+after-later old (Tick number now) (Records count) new j S h l = absurd h
+after-later old (Take number delta) (Records count) new j S h l = absurd h
+after-later old (Asks number peer) (Records count) new j S h l = absurd h
+after-later old (Compact number) (Records count) new j S h l = absurd h
+after-later old (Show number) (Records count) new j S h l = absurd h
 
 run-later : (old : Field) (events : List Event) (answers : List Answer) (new : Field) (j : ℕ) (S : List Op) → Run old events answers new → Later old.gateways j S → Later new.gateways j S
 run-later old [] [] new j S h l = subst (λ (x : Field). Later x.gateways j S) (sym h) l

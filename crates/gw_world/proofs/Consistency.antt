@@ -15,9 +15,9 @@ use Rattle.rep_model.proofs.Joins.{all-moved}
 use Rattle.sn_flow.specs.declared.config.Config.{Config}
 use Rattle.sn_flow.proofs.Lists.{all-weaken}
 use Rattle.gw_world.specs.declared.event.Event.{Event}
-use Rattle.gw_world.specs.declared.event.Event.TheVariants.{Frame, Tick, Take, Answer as Asks, Show}
+use Rattle.gw_world.specs.declared.event.Event.TheVariants.{Frame, Tick, Take, Answer as Asks, Compact, Restart, Show}
 use Rattle.gw_world.specs.declared.event.Answer.{Answer}
-use Rattle.gw_world.specs.declared.event.Answer.TheVariants.{Node, Views}
+use Rattle.gw_world.specs.declared.event.Answer.TheVariants.{Node, Views, Records}
 use Rattle.gw_node.specs.declared.out.Out.{Out}
 use Rattle.gw_node.specs.declared.refusal.Refusal.{Refusal}
 use Rattle.gw_node.specs.Parts.{said}
@@ -26,7 +26,7 @@ use Rattle.gw_node.specs.declared.fault.NodeFault.TheVariants as faults
 use Rattle.gw_node.specs.Occasions.{Occasion, Datagram, Clock}
 use Rattle.gw_world.specs.Gateways.{Gateway, new_gateway}
 use Rattle.gw_world.specs.Field.{Field, new_field, IsAt, IsDeltaAt, changed, After, Run}
-use Rattle.gw_world.specs.Steps.{HaveName, IsWritable, IsConflict, OwnStep, TakeStep, AnswerStep}
+use Rattle.gw_world.specs.Steps.{HaveName, IsWritable, IsConflict, OwnStep, TakeStep, AnswerStep, CompactStep, restarted}
 use Rattle.gw_world.specs.Steady.{IsKnown, IsSteady}
 use Rattle.gw_world.specs.Whole.{everything, IsHome}
 use Rattle.gw_world.proofs.Alone.{stands-alone, agrees-alone}
@@ -34,7 +34,7 @@ use Rattle.gw_world.proofs.Answering.{answered, all-answered}
 use Rattle.gw_world.proofs.Each.{all-at, all-places, each-all}
 use Rattle.gw_world.proofs.Held.{agrees_with_kept}
 use Rattle.gw_world.proofs.Numbers.{First, place_of-first, first-number, first-place_of}
-use Rattle.gw_world.proofs.Steadiness.{Still, Stepped, still, own-moves, AreAllFlush, flush-moved, flush-fed, start-flush, no-conflict}
+use Rattle.gw_world.proofs.Steadiness.{Still, Stepped, still, own-moves, compact-still, restart-still, AreAllFlush, flush-moved, flush-fed, start-flush, no-conflict}
 use Rattle.gw_world.proofs.Whole.{IsHeld, Whole, held-alike, held-known, whole-silent, whole-still, whole-stepped, whole-joined}
 
 abbrev pub FlushField : Field → Type 0
@@ -58,6 +58,7 @@ IsAtPeace answer = Unit {0}
 abbrev pub IsPeaceful : Answer → Type 0
 IsPeaceful (Node answer) = IsAtPeace (said answer)
 IsPeaceful (Views views) = Unit {0}
+IsPeaceful (Records count) = Unit {0}
 
 -- ---- what one event does
 
@@ -134,6 +135,17 @@ asked-peaceful asker peer (Err (refusals.Disk excuse)) made h = tt
 asked-peaceful asker peer (Err (refusals.Journal fault)) made h = tt
 asked-peaceful asker peer (Err refusals.Memory) made h = tt
 
+compact-peaceful : (old new : Gateway) (answer : Result Out Refusal) → CompactStep old answer new → IsAtPeace answer
+compact-peaceful old new (Ok out) h = tt
+compact-peaceful old new (Err (refusals.Frame fault)) h = tt
+compact-peaceful old new (Err (refusals.Conflict client)) h = h
+compact-peaceful old new (Err refusals.Full) h = tt
+compact-peaceful old new (Err refusals.Exhausted) h = tt
+compact-peaceful old new (Err refusals.Halted) h = tt
+compact-peaceful old new (Err (refusals.Disk excuse)) h = tt
+compact-peaceful old new (Err (refusals.Journal fault)) h = tt
+compact-peaceful old new (Err refusals.Memory) h = tt
+
 pub record Sound (new : Field) (answer : Answer) : Type 0 where
   pub flush : FlushField new
   pub whole : WholeField new
@@ -162,12 +174,34 @@ after-sound old (Asks number peer) (Node answer) new h s w = record {
   whole = subst WholeField (sym h.8) (whole-asked old w h.1 h.2 h.3 (said answer) h.4 h.6.1 h.7);
   peaceful = asked-peaceful h.2 h.3 (said answer) h.4 h.7;
 }
+after-sound old (Compact number) (Node answer) new h s w =
+    let u : Still h.1 h.2 [] ⊎ Stepped h.1 h.2 [] = inl (compact-still h.1 h.2 (said answer) h.4) in record {
+      flush = subst FlushField (sym h.5) (flush-own old s w number h.0 h.1 h.3 h.2 [] u);
+      whole = subst WholeField (sym h.5) (whole-moved old s w number h.0 h.1 h.3 h.2 [] u);
+      peaceful = compact-peaceful h.1 h.2 (said answer) h.4;
+    }
+after-sound old (Restart number kept) (Records count) new h s w =
+    let next = restarted kept h.1 in
+    let u : Still h.1 next [] ⊎ Stepped h.1 next [] = inl (restart-still kept h.1) in record {
+      flush = subst FlushField (sym h.4) (flush-own old s w number h.0 h.1 h.2 next [] u);
+      whole = subst WholeField (sym h.4) (whole-moved old s w number h.0 h.1 h.2 next [] u);
+      peaceful = tt;
+    }
 after-sound old (Show number) (Views views) new h s w = record { flush = subst FlushField (sym h.4) s; whole = subst WholeField (sym h.4) w; peaceful = tt }
 after-sound old (Frame number from bytes now) (Views views) new h s w = absurd h
 after-sound old (Tick number now) (Views views) new h s w = absurd h
 after-sound old (Take number delta) (Views views) new h s w = absurd h
 after-sound old (Asks number peer) (Views views) new h s w = absurd h
 after-sound old (Show number) (Node answer) new h s w = absurd h
+after-sound old (Compact number) (Views views) new h s w = absurd h
+after-sound old (Restart number kept) (Views views) new h s w = absurd h
+after-sound old (Restart number kept) (Node answer) new h s w = absurd h
+after-sound old (Frame number from bytes now) (Records count) new h s w = absurd h
+after-sound old (Tick number now) (Records count) new h s w = absurd h
+after-sound old (Take number delta) (Records count) new h s w = absurd h
+after-sound old (Asks number peer) (Records count) new h s w = absurd h
+after-sound old (Compact number) (Records count) new h s w = absurd h
+after-sound old (Show number) (Records count) new h s w = absurd h
 
 -- ---- what a run does
 

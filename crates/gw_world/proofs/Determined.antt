@@ -21,9 +21,13 @@ use Rattle.gw_node.specs.declared.refusal.Refusal.{Refusal}
 use Rattle.gw_node.specs.declared.refusal.Refusal.TheVariants as refusals
 use Rattle.gw_node.specs.Occasions.{Occasion, Datagram, Clock, IsNoFrame}
 use Rattle.gw_node.specs.Parts.{only_sends}
+use Rattle.jr_journal.specs.declared.fault.JournalFault.{JournalFault}
+use Rattle.jr_journal.specs.declared.fault.JournalFault.TheVariants.{Foreign}
+use Rattle.jr_journal.specs.Journals.{last_generation}
+use Rattle.gw_world.specs.Drives.{with_record, generation, compacted}
 use Rattle.gw_world.specs.Gateways.{Gateway}
-use Rattle.gw_world.specs.Steps.{IsUnchanged, IsRefused, IsMade, IsCarriedOut, IsPlan, IsTooMuch, HasNoDelta, OwnStep, TakeStep, AnswerStep}
-use Rattle.gw_world.proofs.Splits.{delta-one, answer-one}
+use Rattle.gw_world.specs.Steps.{IsUnchanged, IsRefused, IsMade, IsCarriedOut, IsPlan, IsTooMuch, HasNoDelta, OwnStep, TakeStep, AnswerStep, CompactStep}
+use Rattle.gw_world.proofs.Splits.{delta-one, answer-one, held-one}
 
 -- ---- operations that make a delta
 
@@ -62,7 +66,7 @@ made-one (op ∷ ops) old plan (Some d) None new next made mades h k = absurd k
 made-one (op ∷ ops) old plan (Some d) (Some e) new next made mades h k =
     let same : d ≡ e = delta-one (op ∷ ops) d e h.0 k.0 in (
       ap (λ (x : List Op). Some x) same,
-      h.4 ∙ ap (λ (x : List Op). record old { taken = old.taken ++ x; local = after_all old.local plan.local }) same ∙ sym k.4,
+      h.4 ∙ ap (λ (x : List Op). record old { taken = old.taken ++ x; local = after_all old.local plan.local; drive = with_record x old.drive }) same ∙ sym k.4,
       h.3 ∙ ap (λ (x : List Op). x ∷ []) same ∙ sym k.3,
     )
 
@@ -225,6 +229,37 @@ takes-room old delta a new made room (inr h) = ap (λ (g : Gateway). first_passe
 pub take-room : (old : Gateway) (delta : List Op) (a : Result Out Refusal) (new : Gateway) (made : List (List Op)) → first_passed old.taken ≡ None → IsAgreed a
     → TakeStep old delta a new made → first_passed new.taken ≡ None
 take-room old delta a new made room f h = takes-room old delta a new made room (take-way old delta a new made f h)
+
+-- ---- a compaction
+
+abbrev IsLast : Gateway → Result Out Refusal → Gateway → Type 0
+IsLast old answer new = (generation old.config.gateway old.drive ≡ last_generation) × (answer ≡ Err (refusals.Journal Foreign)) × (new ≡ old)
+
+abbrev IsAnew : Gateway → Result Out Refusal → Gateway → Type 0
+IsAnew old answer new = (out : Out) × (answer ≡ Ok out) × CompactStep old (Ok out) new
+
+compact-way : (old : Gateway) (answer : Result Out Refusal) (new : Gateway) → CompactStep old answer new → IsLast old answer new ⊎ IsAnew old answer new
+compact-way old (Ok out) new h = inr (out, refl, h)
+compact-way old (Err (refusals.Journal fault)) new h = inl (h.0, ap (λ (f : JournalFault). Err (refusals.Journal f)) h.1, h.2)
+compact-way old (Err (refusals.Frame fault)) new h = absurd h
+compact-way old (Err refusals.Halted) new h = absurd h
+compact-way old (Err (refusals.Disk excuse)) new h = absurd h
+compact-way old (Err (refusals.Conflict client)) new h = absurd h
+compact-way old (Err refusals.Full) new h = absurd h
+compact-way old (Err refusals.Exhausted) new h = absurd h
+compact-way old (Err refusals.Memory) new h = absurd h
+
+ways-compact : (old : Gateway) (a b : Result Out Refusal) (new next : Gateway) → IsLast old a new ⊎ IsAnew old a new → IsLast old b next ⊎ IsAnew old b next → (a ≡ b) × (new ≡ next)
+ways-compact old a b new next (inl h) (inl k) = (h.1 ∙ sym k.1, h.2 ∙ sym k.2)
+ways-compact old a b new next (inl h) (inr k) = absurd (k.2.0 h.0)
+ways-compact old a b new next (inr h) (inl k) = absurd (h.2.0 k.0)
+ways-compact old a b new next (inr h) (inr k) =
+    let base : h.2.2.0 ≡ k.2.2.0 = held-one old.taken h.2.2.0 k.2.2.0 h.2.2.1 k.2.2.1 in
+    let out : h.0 ≡ k.0 = h.2.1 ∙ sym k.2.1 in
+    (h.1 ∙ ap (λ (o : Out). Ok o) out ∙ sym k.1, h.2.2.2 ∙ ap (λ (ds : List (List Op)). record old { drive = compacted old.config.gateway ds old.drive }) base ∙ sym k.2.2.2)
+
+pub compact-one : (old : Gateway) (a b : Result Out Refusal) (new next : Gateway) → CompactStep old a new → CompactStep old b next → (a ≡ b) × (new ≡ next)
+compact-one old a b new next h k = ways-compact old a b new next (compact-way old a new h) (compact-way old b next k)
 
 -- ---- an answer to a digest
 

@@ -1,5 +1,5 @@
 -- How what is kept follows what was taken.
-use Rattle.std.proofs.Common.{◌≡◌, ◌≢◌, ℕ, Bool, true, false, not, ◌⊎◌, List, [], ◌++◌, if◌then◌else◌, Option, Some, None, IfSome, Contains, refl, sym, ap, ◌∙◌, subst, inl, inr}
+use Rattle.std.proofs.Common.{◌≡◌, ◌≢◌, ℕ, Bool, true, false, not, List, ◌++◌, if◌then◌else◌, Option, Some, None, IfSome, Contains, refl, sym, ap, ◌∙◌, subst}
 use Rattle.sn_session.specs.declared.change.SessionOp.{SessionOp}
 use Rattle.rep_ops.specs.declared.op.Put.{Put}
 use Rattle.rep_ops.specs.declared.op.Op.{Op}
@@ -8,15 +8,14 @@ use Rattle.rep_ops.specs.Sets.{operation_at, put_at, is_acknowledged, Agrees, Sa
 use Rattle.rep_model.specs.declared.fault.Limit.{Limit}
 use Rattle.rep_model.specs.declared.fault.TakeFault.TheVariants as take_faults
 use Rattle.rep_model.specs.Views.{visible}
-use Rattle.rep_model.specs.Keep.{keep, is_below, IsKeptOf, CountsAs}
+use Rattle.rep_model.specs.Keep.{keep, is_below, CountsAs}
 use Rattle.rep_model.specs.Limits.{first_passed}
 use Rattle.rep_model.specs.Taking.{AllAgree, Fits, IsFaultOf}
 use Rattle.rep_model.proofs.Joins.{view-counts, all-weaker}
 use Rattle.rep_model.proofs.Named.{is_named-counts, clients-counts}
 use Rattle.rep_model.proofs.Fresh.{next_epoch-counts, next_seq-counts}
 use Rattle.rep_model.proofs.Limits.{first_passed-more}
-use Rattle.rep_model.proofs.Lookup.{or_else}
-use Rattle.rep_model.proofs.Readers.{operation_at_both, put_at_both, operation_at_keep, put_at_keep}
+use Rattle.rep_model.proofs.Readers.{operation_at_keep, put_at_keep}
 use Rattle.sn_flow.specs.Plans.{seen_of}
 use Rattle.gw_world.specs.Steps.{HaveName, IsConflict, IsTakable}
 use Rattle.gw_node.specs.Keeping.{Keeps}

@@ -17,14 +17,15 @@ use Rattle.gw_node.specs.declared.fault.NodeFault.TheVariants as faults
 use Rattle.gw_node.specs.Occasions.{Occasion, Datagram, Clock}
 use Rattle.gw_node.specs.Parts.{said}
 use Rattle.gw_world.specs.declared.event.Event.{Event}
-use Rattle.gw_world.specs.declared.event.Event.TheVariants.{Frame, Tick, Take, Answer as Asks, Show}
+use Rattle.gw_world.specs.declared.event.Event.TheVariants.{Frame, Tick, Take, Answer as Asks, Compact, Restart, Show}
 use Rattle.gw_world.specs.declared.event.Answer.{Answer}
-use Rattle.gw_world.specs.declared.event.Answer.TheVariants.{Node, Views}
+use Rattle.gw_world.specs.declared.event.Answer.TheVariants.{Node, Views, Records}
 use Rattle.gw_world.specs.Gateways.{Gateway, new_gateway}
 use Rattle.gw_world.specs.Field.{Field, new_field, IsAt, changed, shown, Steps, Asked, After, Run}
-use Rattle.gw_world.specs.Steps.{OwnStep, TakeStep, AnswerStep}
-use Rattle.gw_world.specs.Telling.{Said, Shown, told}
-use Rattle.gw_world.proofs.Determined.{IsAgreed, own-one, own-room, take-one, take-room, asked-one}
+use Rattle.gw_world.specs.Steps.{OwnStep, TakeStep, AnswerStep, CompactStep, records_left, restarted}
+use Rattle.gw_world.specs.Telling.{Said, Shown, Read, told}
+use Rattle.gw_world.proofs.Determined.{IsAgreed, own-one, own-room, take-one, take-room, compact-one, asked-one}
+use Rattle.gw_world.proofs.Steadiness.{Still, compact-still, restart-still}
 
 -- ---- places
 
@@ -61,6 +62,7 @@ room-start (config ∷ configs) = (refl, room-start configs)
 abbrev IsCalm : Answer → Type 0
 IsCalm (Node answer) = IsAgreed (said answer)
 IsCalm (Views views) = Unit {0}
+IsCalm (Records count) = Unit {0}
 
 steps-one : (old : Field) (number : ℕ) (occasion : Occasion) (now : ℕ) (a b : Result Out Refusal) (new next : Field) → HaveRoom old → IsAgreed a → IsAgreed b
     → Steps old number occasion now a new → Steps old number occasion now b next → (a ≡ b) × (new ≡ next)
@@ -82,6 +84,19 @@ asks-one old number other a b new next h k =
     (subst (λ (x : Gateway). AnswerStep x h.3 b k.4) (sym at.1) (subst (λ (y : Gateway). AnswerStep k.2 y b k.4) (sym there.1) k.7)) in
     (one.0, h.8 ∙ ap (λ (made : List (List Op)). record old { deltas = old.deltas ++ made }) one.1 ∙ sym k.8)
 
+compacts-one : (old : Field) (number : ℕ) (a b : Result Out Refusal) (new next : Field) (i j : ℕ) (gateway other then_one then_other : Gateway)
+    → IsAt old number i gateway → IsAt old number j other → CompactStep gateway a then_one → CompactStep other b then_other
+    → new ≡ changed old i then_one [] → next ≡ changed old j then_other [] → (a ≡ b) × (new ≡ next)
+compacts-one old number a b new next i j gateway other then_one then_other h k s t e f =
+    let at = at-one old number i j gateway other h k in
+    let one = compact-one gateway a b then_one then_other s (subst (λ (x : Gateway). CompactStep x b then_other) (sym at.1) t) in
+    let same : changed old i then_one [] ≡ changed old j then_other [] = λ u. changed old (at.0 u) (one.1 u) [] in
+    (one.0, e ∙ same ∙ sym f)
+
+still-at : (old new : Field) (i : ℕ) (gateway next : Gateway) → HaveRoom old → slice_get old.gateways i ≡ Some gateway → Still gateway next [] → new ≡ changed old i next [] → HaveRoom new
+still-at old new i gateway next room there u e =
+    subst HaveRoom (sym e) (room-set old.gateways i next room (ap (λ (T : List Op). first_passed T) u.taken ∙ room-at old.gateways i gateway room there))
+
 pub after-one : (old : Field) (event : Event) (a b : Answer) (new next : Field) → HaveRoom old → IsCalm a → IsCalm b → After old event a new → After old event b next → (told a ≡ told b) × (new ≡ next)
 after-one old (Frame number from bytes now) (Node a) (Node b) new next room f g h k =
     let one = steps-one old number (Datagram from bytes) now (said a) (said b) new next room f g h k in
@@ -99,6 +114,13 @@ after-one old (Take number delta) (Node a) (Node b) new next room f g h k =
 after-one old (Asks number other) (Node a) (Node b) new next room f g h k =
     let one = asks-one old number other (said a) (said b) new next h k in
     (ap (λ (x : Result Out Refusal). Said x) one.0, one.1)
+after-one old (Compact number) (Node a) (Node b) new next room f g h k =
+    let one = compacts-one old number (said a) (said b) new next h.0 k.0 h.1 k.1 h.2 k.2 h.3 k.3 h.4 k.4 h.5 k.5 in
+    (ap (λ (x : Result Out Refusal). Said x) one.0, one.1)
+after-one old (Restart number kept) (Records a) (Records b) new next room f g h k =
+    let at = at-one old number h.0 k.0 h.1 k.1 h.2 k.2 in
+    let same : changed old h.0 (restarted kept h.1) [] ≡ changed old k.0 (restarted kept k.1) [] = λ t. changed old (at.0 t) (restarted kept (at.1 t)) [] in
+    (ap (λ (n : ℕ). Read n) (h.3 ∙ ap (λ (x : Gateway). records_left kept x) at.1 ∙ sym k.3), h.4 ∙ same ∙ sym k.4)
 after-one old (Show number) (Views a) (Views b) new next room f g h k =
     let at = at-one old number h.0 k.0 h.1 k.1 h.2 k.2 in
     let same : shown h.1.taken ≡ shown k.1.taken = ap (λ (x : Gateway). shown x.taken) at.1 in
@@ -108,11 +130,29 @@ after-one old (Tick number now) (Node a) (Views b) new next room f g h k = absur
 after-one old (Take number delta) (Node a) (Views b) new next room f g h k = absurd k
 after-one old (Asks number other) (Node a) (Views b) new next room f g h k = absurd k
 after-one old (Show number) (Views a) (Node b) new next room f g h k = absurd k
+after-one old (Frame number from bytes now) (Node a) (Records b) new next room f g h k = absurd k
+after-one old (Tick number now) (Node a) (Records b) new next room f g h k = absurd k
+after-one old (Take number delta) (Node a) (Records b) new next room f g h k = absurd k
+after-one old (Asks number peer) (Node a) (Records b) new next room f g h k = absurd k
+after-one old (Compact number) (Node a) (Views b) new next room f g h k = absurd k
+after-one old (Compact number) (Node a) (Records b) new next room f g h k = absurd k
+after-one old (Restart number kept) (Records a) (Node b) new next room f g h k = absurd k
+after-one old (Restart number kept) (Records a) (Views b) new next room f g h k = absurd k
+after-one old (Show number) (Views a) (Records b) new next room f g h k = absurd k
 after-one old (Frame number from bytes now) (Views a) b new next room f g h k = absurd h
 after-one old (Tick number now) (Views a) b new next room f g h k = absurd h
 after-one old (Take number delta) (Views a) b new next room f g h k = absurd h
 after-one old (Asks number other) (Views a) b new next room f g h k = absurd h
 after-one old (Show number) (Node a) b new next room f g h k = absurd h
+after-one old (Compact number) (Views views) b new next room f g h k = absurd h
+after-one old (Restart number kept) (Views views) b new next room f g h k = absurd h
+after-one old (Restart number kept) (Node answer) b new next room f g h k = absurd h
+after-one old (Frame number from bytes now) (Records count) b new next room f g h k = absurd h
+after-one old (Tick number now) (Records count) b new next room f g h k = absurd h
+after-one old (Take number delta) (Records count) b new next room f g h k = absurd h
+after-one old (Asks number peer) (Records count) b new next room f g h k = absurd h
+after-one old (Compact number) (Records count) b new next room f g h k = absurd h
+after-one old (Show number) (Records count) b new next room f g h k = absurd h
 
 pub after-room : (old : Field) (event : Event) (a : Answer) (new : Field) → HaveRoom old → IsCalm a → After old event a new → HaveRoom new
 after-room old (Frame number from bytes now) (Node a) new room f h = steps-room old number (Datagram from bytes) now (said a) new room f h
@@ -120,12 +160,23 @@ after-room old (Tick number now) (Node a) new room f h = steps-room old number C
 after-room old (Take number delta) (Node a) new room f h =
     subst HaveRoom (sym h.8) (room-set old.gateways h.0 h.2 room (take-room h.1 h.4 (said a) h.2 h.3 (room-at old.gateways h.0 h.1 room h.5.1) f h.7))
 after-room old (Asks number other) (Node a) new room f h = subst HaveRoom (sym h.8) room
+after-room old (Compact number) (Node a) new room f h = still-at old new h.0 h.1 h.2 room h.3.1 (compact-still h.1 h.2 (said a) h.4) h.5
+after-room old (Restart number kept) (Records a) new room f h = still-at old new h.0 h.1 (restarted kept h.1) room h.2.1 (restart-still kept h.1) h.4
 after-room old (Show number) (Views a) new room f h = subst HaveRoom (sym h.4) room
 after-room old (Frame number from bytes now) (Views a) new room f h = absurd h
 after-room old (Tick number now) (Views a) new room f h = absurd h
 after-room old (Take number delta) (Views a) new room f h = absurd h
 after-room old (Asks number other) (Views a) new room f h = absurd h
 after-room old (Show number) (Node a) new room f h = absurd h
+after-room old (Compact number) (Views views) new room f h = absurd h
+after-room old (Restart number kept) (Views views) new room f h = absurd h
+after-room old (Restart number kept) (Node answer) new room f h = absurd h
+after-room old (Frame number from bytes now) (Records count) new room f h = absurd h
+after-room old (Tick number now) (Records count) new room f h = absurd h
+after-room old (Take number delta) (Records count) new room f h = absurd h
+after-room old (Asks number peer) (Records count) new room f h = absurd h
+after-room old (Compact number) (Records count) new room f h = absurd h
+after-room old (Show number) (Records count) new room f h = absurd h
 
 -- ---- runs
 
@@ -159,6 +210,7 @@ HaveNoConflict answers = (client : List ℕ) → Contains answers (Node (Err (fa
 calm-answer : (answers : List Answer) → HaveNoConflict answers → (answer : Answer) → Contains answers answer → IsCalm answer
 calm-answer answers f (Node answer) there = λ client e. f client (subst (λ (x : Answer). Contains answers x) (ap (λ (r : Result (Arc Out Global) NodeFault). Node r) (said-conflict answer client e)) there)
 calm-answer answers f (Views views) there = tt
+calm-answer answers f (Records count) there = tt
 
 calm-answers : (answers : List Answer) → HaveNoConflict answers → AllByRecursion IsCalm answers
 calm-answers answers f =

@@ -11,20 +11,20 @@ use Rattle.rep_model.proofs.Thin.{thin-same, view-thin}
 use Rattle.sn_flow.specs.declared.config.Config.{Config}
 use Rattle.sn_flow.proofs.Lists.{all-append}
 use Rattle.gw_world.specs.declared.event.Event.{Event}
-use Rattle.gw_world.specs.declared.event.Event.TheVariants.{Frame, Tick, Take, Answer as Asks, Show}
+use Rattle.gw_world.specs.declared.event.Event.TheVariants.{Frame, Tick, Take, Answer as Asks, Compact, Restart, Show}
 use Rattle.gw_world.specs.declared.event.Answer.{Answer}
-use Rattle.gw_world.specs.declared.event.Answer.TheVariants.{Node, Views}
+use Rattle.gw_world.specs.declared.event.Answer.TheVariants.{Node, Views, Records}
 use Rattle.gw_node.specs.declared.out.Out.{Out}
 use Rattle.gw_node.specs.declared.refusal.Refusal.{Refusal}
 use Rattle.gw_node.specs.Parts.{said}
 use Rattle.gw_node.specs.Occasions.{Datagram, Clock}
 use Rattle.gw_world.specs.Gateways.{Gateway}
 use Rattle.gw_world.specs.Field.{Field, new_field, changed, After, Run, shown}
-use Rattle.gw_world.specs.Steps.{TakeStep}
+use Rattle.gw_world.specs.Steps.{TakeStep, restarted}
 use Rattle.gw_world.specs.Whole.{listed, everything, HasTakenAll}
 use Rattle.gw_world.proofs.Consistency.{WholeField, start-taken, field-whole, parts-consistent}
 use Rattle.gw_world.proofs.Each.{all-at, all-places, flat-all, AllOf, EachOf, each-weaken, each-grown}
-use Rattle.gw_world.proofs.Steadiness.{Still, Stepped, still, own-moves}
+use Rattle.gw_world.proofs.Steadiness.{Still, Stepped, still, own-moves, compact-still, restart-still}
 
 abbrev IsListed : List (List Op) → Op → Type 0
 IsListed deltas op = Contains (flat_map (λ (delta : List Op). delta) deltas) op
@@ -74,12 +74,25 @@ after-listed old (Tick number now) (Node answer) new h w =
 after-listed old (Take number delta) (Node answer) new h w =
     subst AreListed (sym h.8) (listed-taken old w h.0 h.1 h.2 h.3 h.5.1 (delta - 1) h.4 (said answer) h.6.1 h.7)
 after-listed old (Asks number peer) (Node answer) new h w = subst AreListed (sym h.8) (listed-joined old w h.4)
+after-listed old (Compact number) (Node answer) new h w =
+    subst AreListed (sym h.5) (listed-moved old w h.0 h.1 h.2 [] h.3.1 (inl (compact-still h.1 h.2 (said answer) h.4)))
+after-listed old (Restart number kept) (Records count) new h w =
+    subst AreListed (sym h.4) (listed-moved old w h.0 h.1 (restarted kept h.1) [] h.2.1 (inl (restart-still kept h.1)))
 after-listed old (Show number) (Views views) new h w = subst AreListed (sym h.4) w
 after-listed old (Frame number from bytes now) (Views views) new h w = absurd h
 after-listed old (Tick number now) (Views views) new h w = absurd h
 after-listed old (Take number delta) (Views views) new h w = absurd h
 after-listed old (Asks number peer) (Views views) new h w = absurd h
 after-listed old (Show number) (Node answer) new h w = absurd h
+after-listed old (Compact number) (Views views) new h w = absurd h
+after-listed old (Restart number kept) (Views views) new h w = absurd h
+after-listed old (Restart number kept) (Node answer) new h w = absurd h
+after-listed old (Frame number from bytes now) (Records count) new h w = absurd h
+after-listed old (Tick number now) (Records count) new h w = absurd h
+after-listed old (Take number delta) (Records count) new h w = absurd h
+after-listed old (Asks number peer) (Records count) new h w = absurd h
+after-listed old (Compact number) (Records count) new h w = absurd h
+after-listed old (Show number) (Records count) new h w = absurd h
 
 run-listed : (old : Field) (events : List Event) (answers : List Answer) (new : Field) → Run old events answers new → AreListed old → AreListed new
 run-listed old [] [] new h w = subst AreListed (sym h) w

@@ -10,6 +10,9 @@ use Rattle.rep_ops.specs.Spelling.{op_octets, spelling, IsWithinLimit}
 use Rattle.rep_ops.specs.Splitting.{all_of, IsPart, AreFull, IsSplit, AreDeltasOf}
 use Rattle.rep_ops.proofs.Canonical.{one_delta}
 use Rattle.rep_ops.proofs.Sets.{Same-sym, Same-trans}
+use Rattle.rep_model.specs.Keep.{keep, CountsAs}
+use Rattle.rep_model.specs.Held.{IsHeld}
+use Rattle.rep_model.proofs.Joins.{same_refl}
 use Rattle.rep_digest.specs.Answers.{IsRest, IsAnswer}
 use Rattle.rep_digest.specs.declared.entry.ClientEntry.{ClientEntry}
 
@@ -116,3 +119,11 @@ deltas-one X Y ds es same h k =
 
 pub answer-one : (asked : List ClientEntry) (S : List Op) (ds es : List (List Op)) → IsAnswer asked S ds → IsAnswer asked S es → ds ≡ es
 answer-one asked S ds es h k = deltas-one h.0 k.0 ds es (rest-one asked _ h.0 k.0 h.1 k.1) h.2 k.2
+
+-- ---- what must be kept of a set, as deltas
+
+pub held-one : (S : List Op) (ds es : List (List Op)) → IsHeld S ds → IsHeld S es → ds ≡ es
+held-one S ds es h k = deltas-one (keep S) (keep S) ds es (same_refl (keep S)) h k
+
+pub held-taken : (S K : List Op) (ds : List (List Op)) → CountsAs S K → IsHeld K ds → IsHeld S ds
+held-taken S K ds counts h = (h.0, record { delta = h.1.delta; same = Same-trans h.0 (keep K) (keep S) h.1.same counts }, h.2)

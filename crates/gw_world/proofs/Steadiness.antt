@@ -22,7 +22,7 @@ use Rattle.gw_node.specs.declared.refusal.Refusal.TheVariants as refusals
 use Rattle.gw_node.specs.Occasions.{Occasion, Datagram, Clock}
 use Rattle.gw_world.specs.Gateways.{Gateway, new_gateway}
 use Rattle.gw_world.specs.Field.{Field, IsAt}
-use Rattle.gw_world.specs.Steps.{HaveName, IsUnchanged, IsWritable, IsMade, IsPlan, OwnStep, TakeStep}
+use Rattle.gw_world.specs.Steps.{HaveName, IsUnchanged, IsWritable, IsMade, IsPlan, OwnStep, TakeStep, CompactStep, restarted}
 use Rattle.gw_world.specs.Events.{made_of}
 use Rattle.gw_world.specs.Steady.{IsKnown, IsSteady}
 use Rattle.gw_world.proofs.Numbers.{First, place_of-first, first-number, first-set}
@@ -48,6 +48,21 @@ pub record Stepped (old new : Gateway) (made : List (List Op)) : Type 0 where
 
 pub still : (old new : Gateway) (made : List (List Op)) → IsUnchanged old new made → Still old new made
 still old new made u = record { config = ap (λ (x : Gateway). x.config) u.same; taken = ap (λ (x : Gateway). x.taken) u.same; none = u.none }
+
+-- a compaction and a restart leave the set
+pub compact-still : (old new : Gateway) (answer : Result Out Refusal) → CompactStep old answer new → Still old new []
+compact-still old new (Ok out) h = record { config = ap (λ (x : Gateway). x.config) h.2.2; taken = ap (λ (x : Gateway). x.taken) h.2.2; none = refl }
+compact-still old new (Err (refusals.Journal fault)) h = still old new [] (record { same = h.2; none = refl })
+compact-still old new (Err (refusals.Frame fault)) h = absurd h
+compact-still old new (Err refusals.Halted) h = absurd h
+compact-still old new (Err (refusals.Disk excuse)) h = absurd h
+compact-still old new (Err (refusals.Conflict client)) h = absurd h
+compact-still old new (Err refusals.Full) h = absurd h
+compact-still old new (Err refusals.Exhausted) h = absurd h
+compact-still old new (Err refusals.Memory) h = absurd h
+
+pub restart-still : (kept : ℕ) (old : Gateway) → Still old (restarted kept old) []
+restart-still kept old = record { config = refl; taken = refl; none = refl }
 
 made-moves : (old : Gateway) (plan : Plan) (ops : List Op) (delta : Option (List Op)) (new : Gateway) (made : List (List Op)) → IsOfDraft old.config.gateway (seen_of old.taken) plan → plan.ops ≡ ops → IsMade ops old plan delta new made → Still old new made ⊎ Stepped old new made
 made-moves old plan [] None new made p e h = inl (record { config = ap (λ (x : Gateway). x.config) h.1; taken = ap (λ (x : Gateway). x.taken) h.1; none = h.0 })

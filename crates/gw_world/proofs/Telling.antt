@@ -13,16 +13,16 @@ use Rattle.rep_model.proofs.Joins.{all-moved}
 use Rattle.sn_flow.specs.declared.config.Config.{Config}
 use Rattle.sn_flow.proofs.Lists.{all-append}
 use Rattle.gw_world.specs.declared.event.Event.{Event}
-use Rattle.gw_world.specs.declared.event.Event.TheVariants.{Frame, Tick, Take, Answer as Asks, Show}
+use Rattle.gw_world.specs.declared.event.Event.TheVariants.{Frame, Tick, Take, Answer as Asks, Compact, Restart, Show}
 use Rattle.gw_world.specs.declared.event.Answer.{Answer}
-use Rattle.gw_world.specs.declared.event.Answer.TheVariants.{Node, Views}
+use Rattle.gw_world.specs.declared.event.Answer.TheVariants.{Node, Views, Records}
 use Rattle.gw_node.specs.declared.out.Out.{Out}
 use Rattle.gw_node.specs.declared.refusal.Refusal.{Refusal}
 use Rattle.gw_node.specs.Parts.{said}
 use Rattle.gw_node.specs.Occasions.{Occasion, Datagram, Clock}
 use Rattle.gw_world.specs.Gateways.{Gateway}
 use Rattle.gw_world.specs.Field.{Field, new_field, IsAt, changed, After, Run, peer_of}
-use Rattle.gw_world.specs.Steps.{OwnStep, TakeStep, AnswerStep}
+use Rattle.gw_world.specs.Steps.{OwnStep, TakeStep, AnswerStep, CompactStep, restarted}
 use Rattle.gw_world.specs.Events.{made_of, answered_of}
 use Rattle.gw_world.specs.Whole.{everything, number_of, AreMadeOnce, made_by, MayMake, told, brought_by, brought}
 use Rattle.gw_world.proofs.Alone.{delta-place, contains_at}
@@ -30,7 +30,7 @@ use Rattle.gw_world.proofs.Answering.{answered, answer-told, all-answered}
 use Rattle.gw_world.proofs.Consistency.{FlushField, WholeField, after-sound, start-taken, start-whole}
 use Rattle.gw_world.proofs.Each.{all-at, AllOf, EachOf, each-weaken, each-grown, each-all}
 use Rattle.gw_world.proofs.Numbers.{First, place_of-first, first-number}
-use Rattle.gw_world.proofs.Steadiness.{Still, Stepped, still, own-moves, own-told, start-flush}
+use Rattle.gw_world.proofs.Steadiness.{Still, Stepped, still, own-moves, compact-still, restart-still, own-told, start-flush}
 use Rattle.gw_world.proofs.Whole.{AreApart, Made, made-kept, made-stepped}
 
 -- a name was told of as made
@@ -104,6 +104,11 @@ take-told : (old next : Gateway) (delta : List Op) (answer : Result Out Refusal)
 take-told old next delta (Ok out) made h = (h.2, ap (λ (o : Out). made_of (Ok o)) h.0, ap (λ (o : Out). o.answer) h.0)
 take-told old next delta (Err fault) made h = (h.1.none, refl, refl)
 
+-- nor does a compaction
+compact-told : (old next : Gateway) (answer : Result Out Refusal) → CompactStep old answer next → (made_of answer ≡ []) × (answered_of answer ≡ [])
+compact-told old next (Ok out) h = (ap (λ (o : Out). made_of (Ok o)) h.1, ap (λ (o : Out). o.answer) h.1)
+compact-told old next (Err fault) h = (refl, refl)
+
 telling-fed : (field : Field) (ts : List (List Op)) (t : Telling field ts) (i : ℕ) (old next : Gateway) (made : List (List Op)) → slice_get field.gateways i ≡ Some old
     → (k : ℕ) (delta : List Op) (answer : Result Out Refusal) → slice_get field.deltas k ≡ Some delta → TakeStep old delta answer next made → Telling (changed field i next made) (ts ++ made)
 telling-fed field ts t i old next made is k delta (Err fault) there h = telling-still field ts t i old next made is (still old next made h.1)
@@ -136,12 +141,27 @@ after-telling old (Take number delta) (Node answer) new ts h s t =
 after-telling old (Asks number peer) (Node answer) new ts h s t =
     subst (λ (x : Field). Telling x (ts ++ made_of (said answer))) (sym h.8)
     (quiet (record old { deltas = old.deltas ++ h.4 }) ts (made_of (said answer)) (answer-told h.2 h.3 (said answer) h.4 h.7).0 (telling-asked old ts t h.1 h.2 h.3 (said answer) h.4 h.6.1 h.7))
+after-telling old (Compact number) (Node answer) new ts h s t =
+    subst (λ (x : Field). Telling x (ts ++ made_of (said answer))) (sym h.5)
+    (subst (λ m. Telling (changed old h.0 h.2 []) (ts ++ m)) (sym (compact-told h.1 h.2 (said answer) h.4).0)
+    (telling-still old ts t h.0 h.1 h.2 [] h.3.1 (compact-still h.1 h.2 (said answer) h.4)))
+after-telling old (Restart number kept) (Records count) new ts h s t =
+    subst (λ (x : Field). Telling x (ts ++ [])) (sym h.4) (telling-still old ts t h.0 h.1 (restarted kept h.1) [] h.2.1 (restart-still kept h.1))
 after-telling old (Show number) (Views views) new ts h s t = quiet new ts [] refl (subst (λ (x : Field). Telling x ts) (sym h.4) t)
 after-telling old (Frame number from bytes now) (Views views) new ts h s t = absurd h
 after-telling old (Tick number now) (Views views) new ts h s t = absurd h
 after-telling old (Take number delta) (Views views) new ts h s t = absurd h
 after-telling old (Asks number peer) (Views views) new ts h s t = absurd h
 after-telling old (Show number) (Node answer) new ts h s t = absurd h
+after-telling old (Compact number) (Views views) new ts h s t = absurd h
+after-telling old (Restart number kept) (Views views) new ts h s t = absurd h
+after-telling old (Restart number kept) (Node answer) new ts h s t = absurd h
+after-telling old (Frame number from bytes now) (Records count) new ts h s t = absurd h
+after-telling old (Tick number now) (Records count) new ts h s t = absurd h
+after-telling old (Take number delta) (Records count) new ts h s t = absurd h
+after-telling old (Asks number peer) (Records count) new ts h s t = absurd h
+after-telling old (Compact number) (Records count) new ts h s t = absurd h
+after-telling old (Show number) (Records count) new ts h s t = absurd h
 
 none-there : (none : List (List Op)) (delta : List Op) → none ≡ [] → Contains none delta → ⊥
 none-there none delta e h = All-contains (λ _. ⊥) [] delta (All-from_recursion (λ _. ⊥) [] tt) (subst (λ ds. Contains ds delta) e h)
@@ -152,12 +172,23 @@ after-makes old new (Frame number from bytes now) (Node answer) delta h there = 
 after-makes old new (Tick number now) (Node answer) delta h there = tt
 after-makes old new (Take number at) (Node answer) delta h there = none-there (made_of (said answer)) delta (take-told h.1 h.2 h.4 (said answer) h.3 h.7).1 there
 after-makes old new (Asks number peer) (Node answer) delta h there = none-there (made_of (said answer)) delta (answer-told h.2 h.3 (said answer) h.4 h.7).0 there
+after-makes old new (Compact number) (Node answer) delta h there = none-there (made_of (said answer)) delta (compact-told h.1 h.2 (said answer) h.4).0 there
+after-makes old new (Restart number kept) (Records count) delta h there = none-there [] delta refl there
 after-makes old new (Show number) (Views views) delta h there = none-there [] delta refl there
 after-makes old new (Frame number from bytes now) (Views views) delta h there = tt
 after-makes old new (Tick number now) (Views views) delta h there = tt
 after-makes old new (Take number at) (Views views) delta h there = absurd h
 after-makes old new (Asks number peer) (Views views) delta h there = absurd h
 after-makes old new (Show number) (Node answer) delta h there = absurd h
+after-makes old new (Compact number) (Views views) delta h there = absurd h
+after-makes old new (Restart number kept) (Views views) delta h there = absurd h
+after-makes old new (Restart number kept) (Node answer) delta h there = absurd h
+after-makes old new (Frame number from bytes now) (Records count) delta h there = tt
+after-makes old new (Tick number now) (Records count) delta h there = tt
+after-makes old new (Take number at) (Records count) delta h there = absurd h
+after-makes old new (Asks number peer) (Records count) delta h there = absurd h
+after-makes old new (Compact number) (Records count) delta h there = absurd h
+after-makes old new (Show number) (Records count) delta h there = absurd h
 
 -- an event brings these deltas into the list
 own-brought : (old next : Gateway) (occasion : Occasion) (now : ℕ) (answer : Result Out Refusal) (made : List (List Op)) → OwnStep old occasion now answer next made → answered_of answer ≡ []
@@ -178,12 +209,25 @@ after-brought old (Take number delta) (Node answer) new h =
 after-brought old (Asks number peer) (Node answer) new h =
     let r = answer-told h.2 h.3 (said answer) h.4 h.7 in
     ap (λ (x : Field). x.deltas) h.8 ∙ ap (λ m. old.deltas ++ m) (r.1 ∙ ap (λ xs. xs ++ answered_of (said answer)) (sym r.0))
+after-brought old (Compact number) (Node answer) new h =
+    let none = compact-told h.1 h.2 (said answer) h.4 in
+    ap (λ (x : Field). x.deltas) h.5 ∙ ap (λ m. old.deltas ++ m) (only (made_of (said answer)) [] (answered_of (said answer)) (sym none.0) none.1)
+after-brought old (Restart number kept) (Records count) new h = ap (λ (x : Field). x.deltas) h.4
 after-brought old (Show number) (Views views) new h = ap (λ (x : Field). x.deltas) h.4 ∙ sym (append-nil old.deltas)
 after-brought old (Frame number from bytes now) (Views views) new h = absurd h
 after-brought old (Tick number now) (Views views) new h = absurd h
 after-brought old (Take number delta) (Views views) new h = absurd h
 after-brought old (Asks number peer) (Views views) new h = absurd h
 after-brought old (Show number) (Node answer) new h = absurd h
+after-brought old (Compact number) (Views views) new h = absurd h
+after-brought old (Restart number kept) (Views views) new h = absurd h
+after-brought old (Restart number kept) (Node answer) new h = absurd h
+after-brought old (Frame number from bytes now) (Records count) new h = absurd h
+after-brought old (Tick number now) (Records count) new h = absurd h
+after-brought old (Take number delta) (Records count) new h = absurd h
+after-brought old (Asks number peer) (Records count) new h = absurd h
+after-brought old (Compact number) (Records count) new h = absurd h
+after-brought old (Show number) (Records count) new h = absurd h
 
 -- where no digest is sent, it is told of all that it brings
 after-unasked : (old : Field) (event : Event) (answer : Answer) (new : Field) → After old event answer new → peer_of event ≡ None → brought_by answer ≡ made_by answer
@@ -191,12 +235,23 @@ after-unasked old (Frame number from bytes now) (Node answer) new h e = ap (λ m
 after-unasked old (Tick number now) (Node answer) new h e = ap (λ m. made_of (said answer) ++ m) (own-brought h.1 h.2 Clock now (said answer) h.3 h.5) ∙ append-nil (made_of (said answer))
 after-unasked old (Take number delta) (Node answer) new h e = ap (λ m. made_of (said answer) ++ m) (take-told h.1 h.2 h.4 (said answer) h.3 h.7).2 ∙ append-nil (made_of (said answer))
 after-unasked old (Asks number peer) (Node answer) new h e = absurd (none-some peer (sym e))
+after-unasked old (Compact number) (Node answer) new h e = ap (λ m. made_of (said answer) ++ m) (compact-told h.1 h.2 (said answer) h.4).1 ∙ append-nil (made_of (said answer))
+after-unasked old (Restart number kept) (Records count) new h e = refl
 after-unasked old (Show number) (Views views) new h e = refl
 after-unasked old (Frame number from bytes now) (Views views) new h e = absurd h
 after-unasked old (Tick number now) (Views views) new h e = absurd h
 after-unasked old (Take number delta) (Views views) new h e = absurd h
 after-unasked old (Asks number peer) (Views views) new h e = absurd h
 after-unasked old (Show number) (Node answer) new h e = absurd h
+after-unasked old (Compact number) (Views views) new h e = absurd h
+after-unasked old (Restart number kept) (Views views) new h e = absurd h
+after-unasked old (Restart number kept) (Node answer) new h e = absurd h
+after-unasked old (Frame number from bytes now) (Records count) new h e = absurd h
+after-unasked old (Tick number now) (Records count) new h e = absurd h
+after-unasked old (Take number delta) (Records count) new h e = absurd h
+after-unasked old (Asks number peer) (Records count) new h e = absurd h
+after-unasked old (Compact number) (Records count) new h e = absurd h
+after-unasked old (Show number) (Records count) new h e = absurd h
 
 -- ---- a run
 

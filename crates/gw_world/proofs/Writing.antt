@@ -6,21 +6,21 @@ use Rattle.rep_ops.specs.declared.op.Op.{Op}
 use Rattle.rep_model.proofs.Joins.{all-moved}
 use Rattle.sn_flow.proofs.Lists.{all-append}
 use Rattle.gw_world.specs.declared.event.Event.{Event}
-use Rattle.gw_world.specs.declared.event.Event.TheVariants.{Frame, Tick, Take, Answer as Asks, Show}
+use Rattle.gw_world.specs.declared.event.Event.TheVariants.{Frame, Tick, Take, Answer as Asks, Compact, Restart, Show}
 use Rattle.gw_world.specs.declared.event.Answer.{Answer}
-use Rattle.gw_world.specs.declared.event.Answer.TheVariants.{Node, Views}
+use Rattle.gw_world.specs.declared.event.Answer.TheVariants.{Node, Views, Records}
 use Rattle.gw_node.specs.declared.out.Out.{Out}
 use Rattle.gw_node.specs.declared.refusal.Refusal.{Refusal}
 use Rattle.gw_node.specs.Parts.{said}
 use Rattle.gw_node.specs.Occasions.{Datagram, Clock}
 use Rattle.gw_world.specs.Gateways.{Gateway}
 use Rattle.gw_world.specs.Field.{Field, IsAt, changed, After, gateway_of}
-use Rattle.gw_world.specs.Steps.{TakeStep, AnswerStep}
+use Rattle.gw_world.specs.Steps.{TakeStep, AnswerStep, restarted}
 use Rattle.gw_world.specs.Whole.{everything, number_of}
 use Rattle.gw_world.proofs.Answering.{answered, all-answered}
 use Rattle.gw_world.proofs.Each.{all-at, EachOf, each-weaken, each-grown, each-all, all-each}
 use Rattle.gw_world.proofs.Numbers.{place_of-first, first-number}
-use Rattle.gw_world.proofs.Steadiness.{Still, Stepped, still, own-moves}
+use Rattle.gw_world.proofs.Steadiness.{Still, Stepped, still, own-moves, compact-still, restart-still}
 use Rattle.gw_world.proofs.Whole.{own-number}
 
 -- it stood in the field before, or it is under the number
@@ -77,12 +77,25 @@ after-written old new (Take number delta) (Node answer) h =
     subst (HasWritten old number) (sym h.8) (written-taken old number h.0 h.1 h.2 h.3 h.5 (delta - 1) h.4 (said answer) h.6.1 h.7)
 after-written old new (Asks number peer) (Node answer) h =
     subst (HasWritten old number) (sym h.8) (written-asked old number h.1 h.2 h.3 (said answer) h.4 h.6.1 h.7)
+after-written old new (Compact number) (Node answer) h =
+    subst (HasWritten old number) (sym h.5) (written-still old number h.0 h.1 h.2 [] h.3 (compact-still h.1 h.2 (said answer) h.4))
+after-written old new (Restart number kept) (Records count) h =
+    subst (HasWritten old number) (sym h.4) (written-still old number h.0 h.1 (restarted kept h.1) [] h.2 (restart-still kept h.1))
 after-written old new (Show number) (Views views) h = subst (HasWritten old number) (sym h.4) (before old number)
 after-written old new (Frame number from bytes now) (Views views) h = absurd h
 after-written old new (Tick number now) (Views views) h = absurd h
 after-written old new (Take number delta) (Views views) h = absurd h
 after-written old new (Asks number peer) (Views views) h = absurd h
 after-written old new (Show number) (Node answer) h = absurd h
+after-written old new (Compact number) (Views views) h = absurd h
+after-written old new (Restart number kept) (Views views) h = absurd h
+after-written old new (Restart number kept) (Node answer) h = absurd h
+after-written old new (Frame number from bytes now) (Records count) h = absurd h
+after-written old new (Tick number now) (Records count) h = absurd h
+after-written old new (Take number delta) (Records count) h = absurd h
+after-written old new (Asks number peer) (Records count) h = absurd h
+after-written old new (Compact number) (Records count) h = absurd h
+after-written old new (Show number) (Records count) h = absurd h
 
 pub after-writes : (old new : Field) (event : Event) (answer : Answer) (op : Op) → After old event answer new → Contains (everything new) op → Contains (everything old) op ⊎ IfSome (number_of op) (λ number. number ≡ gateway_of event)
 after-writes old new event answer op h there =

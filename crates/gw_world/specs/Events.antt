@@ -1,24 +1,25 @@
--- What an event does to what the gateways keep. `olds` and `news` have for each gateway what its replica keeps in the place of
--- what it has taken.
+-- What an event does to what the gateways keep, and to their disks. `olds` and `news` have for each gateway what its replica keeps in the
+-- place of what it has taken.
 use Rattle.std.specs.Prelude.{◌≡◌, ℕ, ◌+◌, ◌-◌, ◌≤◌, take, Vec, List, [], ◌++◌, Some, None, Result, Ok, Err, slice_get, slice_set}
 use Rattle.std.specs.Option.{option_to_list}
 use Rattle.std.specs.List.{AllByRecursion}
 use Rattle.rep_ops.specs.declared.op.Op.{Op}
 use Rattle.gw_world.specs.declared.event.Event.{Event}
-use Rattle.gw_world.specs.declared.event.Event.TheVariants.{Frame, Tick, Take, Answer as Asks, Show}
+use Rattle.gw_world.specs.declared.event.Event.TheVariants.{Frame, Tick, Take, Answer as Asks, Compact, Restart, Show}
 use Rattle.gw_node.specs.declared.out.Out.{Out}
 use Rattle.gw_node.specs.declared.refusal.Refusal.{Refusal}
 use Rattle.gw_node.specs.Parts.{said}
 use Rattle.gw_world.specs.declared.event.Answer.{Answer}
-use Rattle.gw_world.specs.declared.event.Answer.TheVariants.{Node, Views}
+use Rattle.gw_world.specs.declared.event.Answer.TheVariants.{Node, Views, Records}
 use Rattle.gw_world.specs.declared.world.WorldFault.{WorldFault}
+use Rattle.sn_flow.specs.declared.config.Config.{Config}
 use Rattle.gw_world.specs.declared.world.WorldFault.TheVariants as stops
 use Rattle.gw_node.specs.Occasions.{Occasion, Datagram, Clock}
 use Rattle.gw_world.specs.Gateways.{Gateway, place_of}
-use Rattle.gw_world.specs.Steps.{IsWritable}
-use Rattle.gw_world.specs.Plans.{OwnKept, TakeKept, AskKept}
-use Rattle.gw_world.specs.Field.{Field, Run, NamesNoGateway, NamesNoDelta, shown, gateway_of}
-use Rattle.gw_world.specs.Keeping.{AreShown}
+use Rattle.gw_world.specs.Steps.{IsWritable, records_left}
+use Rattle.gw_world.specs.Plans.{OwnKept, TakeKept, CompactKept, IsRestarted, AskKept}
+use Rattle.gw_world.specs.Field.{Field, new_field, Run, NamesNoGateway, NamesNoDelta, shown, gateway_of}
+use Rattle.gw_world.specs.Keeping.{Lasts, AreShown}
 use Rattle.std.specs.declared.alloc.Global.{Global}
 
 -- the delta that an answer tells of
@@ -40,12 +41,20 @@ pub record Moves (olds : List Gateway) (i : ℕ) (old new : Gateway) (news : Lis
 abbrev pub OwnAt : List Gateway → ℕ → Occasion → ℕ → Result Out Refusal → List Gateway → Type 0
 OwnAt olds i occasion now answer news =
     (old : Gateway) × (new : Gateway) × Moves olds i old new news
-    × OwnKept old.config old.taken old.local occasion now answer new.taken new.local
+    × OwnKept old occasion now answer new
 
 abbrev pub TakeAt : List Gateway → ℕ → List Op → Result Out Refusal → List Gateway → Type 0
 TakeAt olds i delta answer news =
     (old : Gateway) × (new : Gateway) × Moves olds i old new news
-    × TakeKept old.config old.taken old.local delta answer new.taken new.local
+    × TakeKept old delta answer new
+
+abbrev pub CompactAt : List Gateway → ℕ → Result Out Refusal → List Gateway → Type 0
+CompactAt olds i answer news = (old : Gateway) × (new : Gateway) × Moves olds i old new news × CompactKept old answer new
+
+-- it stopped, and so many records were read when it was opened again
+abbrev pub RestartAt : List Gateway → ℕ → ℕ → ℕ → List Gateway → Type 0
+RestartAt olds i kept count news =
+    (old : Gateway) × (new : Gateway) × Moves olds i old new news × (count ≡ records_left kept old) × IsRestarted kept old new
 
 -- the digest of the i-th gateway goes to the j-th
 abbrev pub AskAt : List Gateway → ℕ → ℕ → Result Out Refusal → Type 0
@@ -60,16 +69,31 @@ Join deltas more next = AllByRecursion IsWritable more × (next ≡ deltas ++ mo
 abbrev pub OwnAnswered : List Gateway → List (List Op) → ℕ → Occasion → ℕ → List Gateway → List (List Op) → Answer → Type 0
 OwnAnswered olds deltas i occasion now news next (Node answer) = OwnAt olds i occasion now (said answer) news × Join deltas (made_of (said answer)) next
 OwnAnswered olds deltas i occasion now news next (Views views) = ⊥
+OwnAnswered olds deltas i occasion now news next (Records count) = ⊥
 
 -- the answer to a delta
 abbrev pub TakeAnswered : List Gateway → ℕ → List Op → List Gateway → Answer → Type 0
 TakeAnswered olds i delta news (Node answer) = TakeAt olds i delta (said answer) news
 TakeAnswered olds i delta news (Views views) = ⊥
+TakeAnswered olds i delta news (Records count) = ⊥
+
+-- the answer to a compaction
+abbrev pub CompactAnswered : List Gateway → ℕ → List Gateway → Answer → Type 0
+CompactAnswered olds i news (Node answer) = CompactAt olds i (said answer) news
+CompactAnswered olds i news (Views views) = ⊥
+CompactAnswered olds i news (Records count) = ⊥
+
+-- the answer to a restart
+abbrev pub RestartAnswered : List Gateway → ℕ → ℕ → List Gateway → Answer → Type 0
+RestartAnswered olds i kept news (Records count) = RestartAt olds i kept count news
+RestartAnswered olds i kept news (Node answer) = ⊥
+RestartAnswered olds i kept news (Views views) = ⊥
 
 -- the answer of a peer in its place to the digest of the i-th gateway, and the list of deltas after it
 abbrev pub AskAnswered : List Gateway → List (List Op) → ℕ → ℕ → List (List Op) → Answer → Type 0
 AskAnswered olds deltas i j next (Node answer) = AskAt olds i j (said answer) × Join deltas (answered_of (said answer)) next
 AskAnswered olds deltas i j next (Views views) = ⊥
+AskAnswered olds deltas i j next (Records count) = ⊥
 
 -- the same, of the peer of a number
 abbrev pub PeerAnswered : List Gateway → List (List Op) → ℕ → ℕ → List (List Op) → Answer → Type 0
@@ -78,6 +102,7 @@ PeerAnswered olds deltas i peer next answer = (j : ℕ) × (place_of peer olds �
 -- what a gateway shows
 abbrev pub ShowAnswered : List Gateway → ℕ → Answer → Type 0
 ShowAnswered olds i (Node answer) = ⊥
+ShowAnswered olds i (Records count) = ⊥
 ShowAnswered olds i (Views views) = (gateway : Gateway) × (slice_get olds i ≡ Some gateway) × (views ≡ shown gateway.taken)
 
 -- the delta of this number; the first has number 1
@@ -91,6 +116,8 @@ EventAt olds deltas i (Tick number now) news next answer = OwnAnswered olds delt
 EventAt olds deltas i (Take number delta) news next answer =
     (ops : List Op) × IsListed deltas delta ops × TakeAnswered olds i ops news answer × (next ≡ deltas)
 EventAt olds deltas i (Asks number peer) news next answer = PeerAnswered olds deltas i peer next answer × (news ≡ olds)
+EventAt olds deltas i (Compact number) news next answer = CompactAnswered olds i news answer × (next ≡ deltas)
+EventAt olds deltas i (Restart number kept) news next answer = RestartAnswered olds i kept news answer × (next ≡ deltas)
 EventAt olds deltas i (Show number) news next answer = ShowAnswered olds i answer × (news ≡ olds) × (next ≡ deltas)
 
 abbrev pub EventKept : List Gateway → List (List Op) → Event → List Gateway → List (List Op) → Answer → Type 0
@@ -112,6 +139,8 @@ IsMissing olds deltas (Asks gateway peer) number fault = NoPeer olds peer number
 IsMissing olds deltas (Take gateway delta) number fault = NoDelta deltas delta number fault
 IsMissing olds deltas (Frame gateway from bytes now) number fault = fault ≡ stops.Memory
 IsMissing olds deltas (Tick gateway now) number fault = fault ≡ stops.Memory
+IsMissing olds deltas (Compact gateway) number fault = fault ≡ stops.Memory
+IsMissing olds deltas (Restart gateway kept) number fault = fault ≡ stops.Memory
 IsMissing olds deltas (Show gateway) number fault = fault ≡ stops.Memory
 
 -- why the event of this number stops a run
@@ -120,10 +149,22 @@ IsStopKept olds deltas event number (stops.NoGateway n) = (n ≡ number) × Name
 IsStopKept olds deltas event number (stops.NoDelta n) = (n ≡ number) × NamesNoDelta (record { gateways = olds; deltas = deltas }) event
 IsStopKept olds deltas event number stops.Memory = Unit {0}
 
+-- some run leads to the field
+abbrev pub IsReached : Field → Type 0
+IsReached field = (configs : List Config) × (events : List Event) × (answers : List Answer) × Run (new_field configs) events answers field
+
+-- some run leads to a field with these gateways and this list
+abbrev pub IsLed : List Gateway → List (List Op) → Type 0
+IsLed olds deltas = (field : Field) × IsReached field × AreShown field.gateways olds × (field.deltas ≡ deltas)
+
+-- a set lasts at the gateway
+abbrev pub IsSafe : Gateway → Type 0
+IsSafe kept = (S : List Op) × Lasts S kept
+
 -- what the gateways keep after a list of events
 abbrev pub RunKept : List Gateway → List (List Op) → List Event → List Answer → List Gateway → List (List Op) → Type 0
 RunKept olds deltas events answers news next =
-    (field : Field) → AreShown field.gateways olds → field.deltas ≡ deltas
+    (field : Field) → IsReached field → AreShown field.gateways olds → field.deltas ≡ deltas
     → (new : Field) × Run field events answers new × AreShown new.gateways news × (new.deltas ≡ next)
 
 abbrev pub PlayedKept : List Gateway → List (List Op) → List Event → List Gateway → List (List Op) → Vec Answer Global → Type 0
@@ -132,11 +173,11 @@ PlayedKept olds deltas events news next answers = RunKept olds deltas events ans
 -- why a list of events stops
 abbrev pub StopsKept : List Gateway → List (List Op) → List Event → WorldFault → Type 0
 StopsKept olds deltas events (stops.NoGateway n) =
-    (field : Field) → AreShown field.gateways olds → field.deltas ≡ deltas
+    (field : Field) → IsReached field → AreShown field.gateways olds → field.deltas ≡ deltas
     → (k : ℕ) × (new : Field) × (event : Event) × (answers : List Answer) × Run field (take k events) answers new × (slice_get events k ≡ Some event)
     × (n ≡ k + 1) × NamesNoGateway new event
 StopsKept olds deltas events (stops.NoDelta n) =
-    (field : Field) → AreShown field.gateways olds → field.deltas ≡ deltas
+    (field : Field) → IsReached field → AreShown field.gateways olds → field.deltas ≡ deltas
     → (k : ℕ) × (new : Field) × (event : Event) × (answers : List Answer) × Run field (take k events) answers new × (slice_get events k ≡ Some event)
     × (n ≡ k + 1) × NamesNoDelta new event
 StopsKept olds deltas events stops.Memory = Unit {0}

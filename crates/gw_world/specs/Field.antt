@@ -5,15 +5,15 @@ use Rattle.rep_model.specs.declared.view.ClientView.{ClientView}
 use Rattle.rep_model.specs.Views.{view, clients}
 use Rattle.sn_flow.specs.declared.config.Config.{Config}
 use Rattle.gw_world.specs.declared.event.Event.{Event}
-use Rattle.gw_world.specs.declared.event.Event.TheVariants.{Frame, Tick, Take, Answer as Asks, Show}
+use Rattle.gw_world.specs.declared.event.Event.TheVariants.{Frame, Tick, Take, Answer as Asks, Compact, Restart, Show}
 use Rattle.gw_world.specs.declared.event.Answer.{Answer}
 use Rattle.gw_node.specs.declared.out.Out.{Out}
 use Rattle.gw_node.specs.declared.refusal.Refusal.{Refusal}
 use Rattle.gw_node.specs.Parts.{said}
-use Rattle.gw_world.specs.declared.event.Answer.TheVariants.{Node, Views}
+use Rattle.gw_world.specs.declared.event.Answer.TheVariants.{Node, Views, Records}
 use Rattle.gw_node.specs.Occasions.{Occasion, Datagram, Clock}
 use Rattle.gw_world.specs.Gateways.{Gateway, new_gateway, place_of}
-use Rattle.gw_world.specs.Steps.{OwnStep, TakeStep, AnswerStep}
+use Rattle.gw_world.specs.Steps.{OwnStep, TakeStep, AnswerStep, CompactStep, records_left, restarted}
 
 -- the gateways, and the deltas made or answered, in the order of making
 pub record Field : Type 0 where
@@ -61,13 +61,26 @@ After old (Take number delta) (Node answer) new =
     (i : ℕ) × (gateway : Gateway) × (next : Gateway) × (made : List (List Op)) × (ops : List Op)
     × IsAt old number i gateway × IsDeltaAt old delta ops × TakeStep gateway ops (said answer) next made × (new ≡ changed old i next made)
 After old (Asks number peer) (Node answer) new = Asked old number peer (said answer) new
+After old (Compact number) (Node answer) new =
+    (i : ℕ) × (gateway : Gateway) × (next : Gateway) × IsAt old number i gateway × CompactStep gateway (said answer) next × (new ≡ changed old i next [])
+After old (Restart number kept) (Records count) new =
+    (i : ℕ) × (gateway : Gateway) × IsAt old number i gateway × (count ≡ records_left kept gateway) × (new ≡ changed old i (restarted kept gateway) [])
 After old (Show number) (Views views) new =
     (i : ℕ) × (gateway : Gateway) × IsAt old number i gateway × (views ≡ shown gateway.taken) × (new ≡ old)
 After old (Frame number from bytes now) (Views views) new = ⊥
 After old (Tick number now) (Views views) new = ⊥
 After old (Take number delta) (Views views) new = ⊥
 After old (Asks number peer) (Views views) new = ⊥
+After old (Compact number) (Views views) new = ⊥
+After old (Restart number kept) (Views views) new = ⊥
+After old (Restart number kept) (Node answer) new = ⊥
 After old (Show number) (Node answer) new = ⊥
+After old (Frame number from bytes now) (Records count) new = ⊥
+After old (Tick number now) (Records count) new = ⊥
+After old (Take number delta) (Records count) new = ⊥
+After old (Asks number peer) (Records count) new = ⊥
+After old (Compact number) (Records count) new = ⊥
+After old (Show number) (Records count) new = ⊥
 
 -- what a list of events may do, one after the other
 abbrev pub Run : Field → List Event → List Answer → Field → Type 0
@@ -86,6 +99,8 @@ gateway_of (Frame number from bytes now) = number
 gateway_of (Tick number now) = number
 gateway_of (Take number delta) = number
 gateway_of (Asks number peer) = number
+gateway_of (Compact number) = number
+gateway_of (Restart number kept) = number
 gateway_of (Show number) = number
 
 -- the other gateway that an event names, if it names one
@@ -94,6 +109,8 @@ peer_of (Asks number peer) = Some peer
 peer_of (Frame number from bytes now) = None
 peer_of (Tick number now) = None
 peer_of (Take number delta) = None
+peer_of (Compact number) = None
+peer_of (Restart number kept) = None
 peer_of (Show number) = None
 
 -- the event names a gateway that is not there, as the one that it is at or as the other
@@ -102,6 +119,8 @@ NamesNoGateway field (Asks number peer) = NoGateway field number ⊎ NoGateway f
 NamesNoGateway field (Frame number from bytes now) = NoGateway field number
 NamesNoGateway field (Tick number now) = NoGateway field number
 NamesNoGateway field (Take number delta) = NoGateway field number
+NamesNoGateway field (Compact number) = NoGateway field number
+NamesNoGateway field (Restart number kept) = NoGateway field number
 NamesNoGateway field (Show number) = NoGateway field number
 
 -- the event names a gateway that is there, and a delta that is not
@@ -110,4 +129,6 @@ NamesNoDelta field (Take number delta) = ((i : ℕ) × (place_of number field.ga
 NamesNoDelta field (Frame number from bytes now) = ⊥
 NamesNoDelta field (Tick number now) = ⊥
 NamesNoDelta field (Asks number peer) = ⊥
+NamesNoDelta field (Compact number) = ⊥
+NamesNoDelta field (Restart number kept) = ⊥
 NamesNoDelta field (Show number) = ⊥

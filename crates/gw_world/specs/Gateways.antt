@@ -1,17 +1,20 @@
--- A gateway as the field sees it: what it was told, the set of operations that it has made and taken, and what else it knows.
+-- A gateway as the field sees it: what it was told, the set of operations that it has made and taken, what else it knows, and the disk
+-- under it.
 use Rattle.std.specs.Prelude.{ℕ, ◌+◌, ◌==◌, if◌then◌else◌, List, [], ◌∷◌, Option, Some, None}
 use Rattle.rep_ops.specs.declared.op.Op.{Op}
 use Rattle.sn_flow.specs.declared.config.Config.{Config}
 use Rattle.sn_flow.specs.Locals.{Local, no_local}
+use Rattle.gw_world.specs.Drives.{Drive, new_drive}
 
 pub record Gateway : Type 0 where
   pub config : Config
   pub taken : List Op
   pub local : Local
+  pub drive : Drive
 
--- at the start it has taken nothing
+-- at the start it has taken nothing, and its disk is empty but for what an opening begins
 abbrev pub new_gateway : Config → Gateway
-new_gateway config = record { config = config; taken = []; local = no_local }
+new_gateway config = record { config = config; taken = []; local = no_local; drive = new_drive config.gateway }
 
 abbrev pub place_from : ℕ → ℕ → List Gateway → Option ℕ
 place_from number i [] = None

@@ -1,5 +1,5 @@
--- What a gateway's calls answer, by what its replica keeps, where no disk fails.
-use Rattle.std.specs.Prelude.{◌≡◌, ◌<◌, ℕ, List, [], ◌∷◌, ◌++◌, length, Option, Some, None, Result, Ok, Err}
+-- What a gateway's calls answer, and what they do, by what its replica keeps, where no disk fails.
+use Rattle.std.specs.Prelude.{◌≡◌, ◌≢◌, ◌<◌, ℕ, List, [], ◌∷◌, ◌++◌, length, Option, Some, None, Result, Ok, Err}
 use Rattle.rep_ops.specs.declared.op.Op.{Op}
 use Rattle.rep_ops.specs.Making.{AreApart, IsDeltaOf}
 use Rattle.rep_ops.specs.Spelling.{max_octets}
@@ -8,9 +8,13 @@ use Rattle.rep_digest.specs.Answers.{IsAnswer}
 use Rattle.rep_digest.specs.Digests.{digest}
 use Rattle.rep_digest.specs.Spelling.{spelling, IsWithinLimit as IsDigestWithinLimit}
 use Rattle.rep_model.specs.Keep.{IsKeptOf}
-use Rattle.rep_model.specs.Taking.{Fits}
+use Rattle.rep_model.specs.Taking.{AllAgree, Fits}
+use Rattle.rep_model.specs.Held.{IsHeld}
+use Rattle.jr_journal.specs.declared.fault.JournalFault.TheVariants.{Foreign}
+use Rattle.jr_journal.specs.Records.{records}
+use Rattle.jr_journal.specs.Journals.{last_generation}
 use Rattle.sn_flow.specs.declared.config.Config.{Config}
-use Rattle.sn_flow.specs.Locals.{Local, after_all, owned}
+use Rattle.sn_flow.specs.Locals.{Local, after_all, owned, no_local}
 use Rattle.sn_flow.specs.declared.plan.Plan.{Plan}
 use Rattle.sn_flow.specs.Plans.{seen_of}
 use Rattle.gw_node.specs.declared.out.Out.{Out}
@@ -20,6 +24,11 @@ use Rattle.gw_node.specs.Occasions.{Occasion, IsPlanOf, IsNoFrame}
 use Rattle.gw_node.specs.Parts.{only_sends}
 use Rattle.gw_node.specs.Plans.{IsMisfit}
 use Rattle.gw_node.specs.Calls.{AreTooMuch}
+use Rattle.gw_node.specs.Keeping.{Keeps}
+use Rattle.gw_node.specs.Taking.{ops_of}
+use Rattle.gw_world.specs.Drives.{Drive, with_record, noted, generation, compacted, left_by, opened_again}
+use Rattle.gw_world.specs.Gateways.{Gateway}
+use Rattle.gw_world.specs.Keeping.{Lasts}
 
 -- the plan for the occasion, by what is kept
 abbrev pub IsPlanFor : Config → List Op → Local → Occasion → ℕ → Option Plan → Type 0
@@ -38,21 +47,41 @@ IsOwnRefusal config kept local occasion now (refusals.Disk excuse) = ⊥
 IsOwnRefusal config kept local occasion now (refusals.Journal fault) = ⊥
 IsOwnRefusal config kept local occasion now refusals.Memory = ⊥
 
--- operations, if there are any, became one delta, and it was taken
-abbrev pub Makes : List Op → Option (List Op) → List Op → List Op → Type 0
-Makes [] None kept next = next ≡ kept
-Makes [] (Some delta) kept next = ⊥
-Makes (op ∷ ops) None kept next = ⊥
-Makes (op ∷ ops) (Some delta) kept next = IsDeltaOf (op ∷ ops) delta × Fits kept delta × IsKeptOf (kept ++ delta) next
+-- whatever set lasted before lasts now with the delta, where that contradicts nothing of it
+abbrev pub LastsMore : Gateway → List Op → Gateway → Type 0
+LastsMore old delta new = (S : List Op) → AllAgree S delta → Lasts S old → Lasts (S ++ delta) new
 
--- what a datagram or a tick does to what is kept and to the local state
-abbrev pub OwnKept : Config → List Op → Local → Occasion → ℕ → Result Out Refusal → List Op → Local → Type 0
-OwnKept config kept local occasion now (Ok out) next after =
-    (plan : Plan) × IsPlanFor config kept local occasion now (Some plan)
-    × (out ≡ record (only_sends plan.sends) { made = out.made }) × (after ≡ after_all local plan.local) × Makes plan.ops out.made kept next
+-- and as it was
+abbrev pub LastsOn : Gateway → Gateway → Type 0
+LastsOn old new = (S : List Op) → Lasts S old → Lasts S new
+
+-- what is kept stayed, and so did the disk
+pub record IsSame (old new : Gateway) : Type 0 where
+  pub kept : new.taken ≡ old.taken
+  pub drive : new.drive ≡ old.drive
+
+-- a delta was taken, and the disk is as it leaves it
+pub record IsMore (old : Gateway) (delta : List Op) (written : Drive) (new : Gateway) : Type 0 where
+  pub fits : Fits old.taken delta
+  pub kept : IsKeptOf (old.taken ++ delta) new.taken
+  pub drive : new.drive ≡ written
+  pub lasts : LastsMore old delta new
+
+-- operations, if there are any, became one delta, and it was taken
+abbrev pub Makes : List Op → Option (List Op) → Gateway → Gateway → Type 0
+Makes [] None old new = IsSame old new
+Makes [] (Some delta) old new = ⊥
+Makes (op ∷ ops) None old new = ⊥
+Makes (op ∷ ops) (Some delta) old new = IsDeltaOf (op ∷ ops) delta × IsMore old delta (with_record delta old.drive) new
+
+-- what a datagram or a tick does to what a gateway keeps and knows, and to its disk
+abbrev pub OwnKept : Gateway → Occasion → ℕ → Result Out Refusal → Gateway → Type 0
+OwnKept old occasion now (Ok out) new =
+    (plan : Plan) × IsPlanFor old.config old.taken old.local occasion now (Some plan)
+    × (out ≡ record (only_sends plan.sends) { made = out.made }) × (new.local ≡ after_all old.local plan.local) × Makes plan.ops out.made old new
     × AreApart plan.ops
-OwnKept config kept local occasion now (Err refusal) next after =
-    (next ≡ kept) × (after ≡ local) × IsOwnRefusal config kept local occasion now refusal
+OwnKept old occasion now (Err refusal) new =
+    IsSame old new × (new.local ≡ old.local) × IsOwnRefusal old.config old.taken old.local occasion now refusal
 
 -- why a delta is not taken
 abbrev pub IsTakeRefusal : List Op → List Op → Refusal → Type 0
@@ -66,11 +95,39 @@ IsTakeRefusal kept delta (refusals.Journal fault) = ⊥
 IsTakeRefusal kept delta refusals.Memory = ⊥
 
 -- what a delta does to them
-abbrev pub TakeKept : Config → List Op → Local → List Op → Result Out Refusal → List Op → Local → Type 0
-TakeKept config kept local delta (Ok out) next after =
-    (out ≡ only_sends []) × Fits kept delta × IsKeptOf (kept ++ delta) next
-    × (after ≡ owned config.gateway (seen_of next) local)
-TakeKept config kept local delta (Err refusal) next after = (next ≡ kept) × (after ≡ local) × IsTakeRefusal kept delta refusal
+abbrev pub TakeKept : Gateway → List Op → Result Out Refusal → Gateway → Type 0
+TakeKept old delta (Ok out) new =
+    (out ≡ only_sends []) × IsMore old delta (noted delta old.drive) new × (new.local ≡ owned old.config.gateway (seen_of new.taken) old.local)
+TakeKept old delta (Err refusal) new = IsSame old new × (new.local ≡ old.local) × IsTakeRefusal old.taken delta refusal
+
+-- the journal was written anew, and nothing else changed
+pub record IsCompacted (old : Gateway) (base : List (List Op)) (new : Gateway) : Type 0 where
+  pub held : IsHeld old.taken base
+  pub kept : new.taken ≡ old.taken
+  pub local : new.local ≡ old.local
+  pub drive : new.drive ≡ compacted old.config.gateway base old.drive
+  pub lasts : LastsOn old new
+
+-- what a compaction does to them
+abbrev pub CompactKept : Gateway → Result Out Refusal → Gateway → Type 0
+CompactKept old (Ok out) new =
+    (generation old.config.gateway old.drive ≢ last_generation) × (out ≡ only_sends []) × ((base : List (List Op)) × IsCompacted old base new)
+CompactKept old (Err (refusals.Journal fault)) new =
+    (generation old.config.gateway old.drive ≡ last_generation) × (fault ≡ Foreign) × (new.local ≡ old.local) × IsSame old new
+CompactKept old (Err (refusals.Frame fault)) new = ⊥
+CompactKept old (Err refusals.Halted) new = ⊥
+CompactKept old (Err (refusals.Disk excuse)) new = ⊥
+CompactKept old (Err (refusals.Conflict client)) new = ⊥
+CompactKept old (Err refusals.Full) new = ⊥
+CompactKept old (Err refusals.Exhausted) new = ⊥
+CompactKept old (Err refusals.Memory) new = ⊥
+
+-- what a gateway that stopped has when it is opened again
+pub record IsRestarted (left : ℕ) (old new : Gateway) : Type 0 where
+  pub local : new.local ≡ no_local
+  pub drive : new.drive ≡ opened_again old.config.gateway left old.drive
+  pub keeps : Keeps (ops_of (records old.config.gateway (left_by left old.drive))) new.taken
+  pub lasts : LastsOn old new
 
 -- what a peer answers to a digest, by what it keeps
 abbrev pub IsAnswered : List ClientEntry → List Op → Result Out Refusal → Type 0

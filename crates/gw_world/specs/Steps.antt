@@ -1,6 +1,6 @@
 -- What one event may do at one gateway: its answer, the gateway after it, and the delta that it makes, if it makes one. Want of
--- memory is no answer: it ends a run. No disk fails, so no gateway is halted.
-use Rattle.std.specs.Prelude.{◌≡◌, ◌≢◌, ◌⊎◌, ℕ, List, [], ◌∷◌, ◌++◌, Option, Some, None, Result, Ok, Err, Contains}
+-- memory is no answer: it ends a run. No disk fails, so no gateway is halted. What is made or taken is in the journal then.
+use Rattle.std.specs.Prelude.{◌≡◌, ◌≢◌, ◌⊎◌, ℕ, length, List, [], ◌∷◌, ◌++◌, Option, Some, None, Result, Ok, Err, Contains}
 use Rattle.std.specs.List.{AllByRecursion}
 use Rattle.rep_ops.specs.declared.op.Op.{Op}
 use Rattle.rep_ops.specs.declared.op.Op.TheVariants.{Session as OfSession, Put as OfPut}
@@ -17,12 +17,17 @@ use Rattle.rep_model.specs.declared.fault.Limit.{Limit}
 use Rattle.rep_model.specs.Keep.{keep}
 use Rattle.rep_model.specs.Taking.{AllAgree}
 use Rattle.rep_model.specs.Limits.{first_passed}
+use Rattle.rep_model.specs.Held.{IsHeld}
+use Rattle.jr_journal.specs.declared.fault.JournalFault.TheVariants.{Foreign}
+use Rattle.jr_journal.specs.Records.{records}
+use Rattle.jr_journal.specs.Journals.{last_generation}
 use Rattle.sn_flow.specs.declared.plan.Plan.{Plan}
 use Rattle.sn_flow.specs.Plans.{seen_of}
-use Rattle.sn_flow.specs.Locals.{after_all, owned}
+use Rattle.sn_flow.specs.Locals.{after_all, owned, no_local}
 use Rattle.gw_node.specs.declared.out.Out.{Out}
 use Rattle.gw_node.specs.declared.refusal.Refusal.{Refusal}
 use Rattle.gw_node.specs.declared.refusal.Refusal.TheVariants as refusals
+use Rattle.gw_world.specs.Drives.{with_record, noted, generation, compacted, left_by, opened_again}
 use Rattle.gw_world.specs.Gateways.{Gateway}
 use Rattle.gw_node.specs.Occasions.{Occasion, IsPlanOf, IsNoFrame}
 use Rattle.gw_node.specs.Parts.{only_sends}
@@ -72,7 +77,7 @@ IsMade [] old plan None new made = (made ≡ []) × (new ≡ record old { local 
 IsMade (op ∷ ops) old plan None new made = ⊥
 IsMade (op ∷ ops) old plan (Some delta) new made =
     IsDeltaOf (op ∷ ops) delta × IsWritable delta × IsTakable old.taken delta × (made ≡ delta ∷ [])
-    × (new ≡ record old { taken = old.taken ++ delta; local = after_all old.local plan.local })
+    × (new ≡ record old { taken = old.taken ++ delta; local = after_all old.local plan.local; drive = with_record delta old.drive })
 
 -- The answer is what the plan sends and the delta that was made, and says nothing else. No two operations of the plan have a name in common.
 abbrev pub IsCarriedOut : Gateway → Plan → Out → Gateway → List (List Op) → Type 0
@@ -110,8 +115,35 @@ OwnStep old occasion now (Err refusals.Memory) new made = ⊥
 abbrev pub TakeStep : Gateway → List Op → Result Out Refusal → Gateway → List (List Op) → Type 0
 TakeStep old delta (Ok out) new made =
     (out ≡ only_sends []) × IsTakable old.taken delta × (made ≡ [])
-    × (new ≡ record old { taken = old.taken ++ delta; local = owned old.config.gateway (seen_of (old.taken ++ delta)) old.local })
+    × (new ≡ record old {
+      taken = old.taken ++ delta;
+      local = owned old.config.gateway (seen_of (old.taken ++ delta)) old.local;
+      drive = noted delta old.drive;
+    })
 TakeStep old delta (Err fault) new made = IsRefused old.taken delta fault × IsUnchanged old new made
+
+-- The gateway writes its journal anew: what must be kept of its set, as deltas. Nothing is sent, and the set stays as it is. It is refused
+-- exactly where the generation is the last that there is.
+abbrev pub CompactStep : Gateway → Result Out Refusal → Gateway → Type 0
+CompactStep old (Ok out) new =
+    (generation old.config.gateway old.drive ≢ last_generation) × (out ≡ only_sends [])
+    × ((base : List (List Op)) × IsHeld old.taken base × (new ≡ record old { drive = compacted old.config.gateway base old.drive }))
+CompactStep old (Err (refusals.Journal fault)) new = (generation old.config.gateway old.drive ≡ last_generation) × (fault ≡ Foreign) × (new ≡ old)
+CompactStep old (Err (refusals.Frame fault)) new = ⊥
+CompactStep old (Err refusals.Halted) new = ⊥
+CompactStep old (Err (refusals.Disk excuse)) new = ⊥
+CompactStep old (Err (refusals.Conflict client)) new = ⊥
+CompactStep old (Err refusals.Full) new = ⊥
+CompactStep old (Err refusals.Exhausted) new = ⊥
+CompactStep old (Err refusals.Memory) new = ⊥
+
+-- how many records an opening reads where the gateway stopped
+abbrev pub records_left : ℕ → Gateway → ℕ
+records_left kept old = length (records old.config.gateway (left_by kept old.drive))
+
+-- The gateway stops and is opened again. It knows nobody then, and its set is what it was: the journal stands for that.
+abbrev pub restarted : ℕ → Gateway → Gateway
+restarted kept old = record old { local = no_local; drive = opened_again old.config.gateway kept old.drive }
 
 -- A gateway's digest goes to a peer, which answers with what it must keep and the digest does not cover. Neither changes. A digest that is
 -- too long is not made, and nobody answers.

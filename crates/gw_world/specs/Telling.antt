@@ -5,13 +5,15 @@ use Rattle.gw_node.specs.declared.out.Out.{Out}
 use Rattle.gw_node.specs.declared.refusal.Refusal.{Refusal}
 use Rattle.gw_node.specs.Parts.{said}
 use Rattle.gw_world.specs.declared.event.Answer.{Answer}
-use Rattle.gw_world.specs.declared.event.Answer.TheVariants.{Node, Views}
+use Rattle.gw_world.specs.declared.event.Answer.TheVariants.{Node, Views, Records}
 
--- what a gateway sends, makes and answers, or why it refuses; or the clients that it knows, with their views
+-- what a gateway sends, makes and answers, or why it refuses; or the clients that it knows, with their views; or how many records it read
 pub data Told : Type 0 where
   Said : Result Out Refusal → Told
   Shown : List (List ℕ × ClientView) → Told
+  Read : ℕ → Told
 
 abbrev pub told : Answer → Told
 told (Node answer) = Said (said answer)
 told (Views views) = Shown views
+told (Records count) = Read count

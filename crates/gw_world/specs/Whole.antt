@@ -5,9 +5,9 @@ use Rattle.rep_ops.specs.declared.op.Op.TheVariants.{Session as OfSession, Put a
 use Rattle.rep_ops.specs.Sets.{Stands, Within}
 use Rattle.gw_node.specs.Parts.{said}
 use Rattle.gw_world.specs.declared.event.Event.{Event}
-use Rattle.gw_world.specs.declared.event.Event.TheVariants.{Frame, Tick, Take, Answer as Asks, Show}
+use Rattle.gw_world.specs.declared.event.Event.TheVariants.{Frame, Tick, Take, Answer as Asks, Compact, Restart, Show}
 use Rattle.gw_world.specs.declared.event.Answer.{Answer}
-use Rattle.gw_world.specs.declared.event.Answer.TheVariants.{Node, Views}
+use Rattle.gw_world.specs.declared.event.Answer.TheVariants.{Node, Views, Records}
 use Rattle.gw_world.specs.Gateways.{Gateway}
 use Rattle.gw_world.specs.Field.{Field, IsAt}
 use Rattle.gw_world.specs.Steps.{HaveName}
@@ -46,6 +46,7 @@ AreMadeOnce deltas =
 abbrev pub made_by : Answer → List (List Op)
 made_by (Node answer) = made_of (said answer)
 made_by (Views views) = []
+made_by (Records count) = []
 
 -- an event that may make operations: a datagram comes, or time goes by
 abbrev pub MayMake : Event → Type 0
@@ -53,6 +54,8 @@ MayMake (Frame number from bytes now) = Unit {0}
 MayMake (Tick number now) = Unit {0}
 MayMake (Take number delta) = ⊥
 MayMake (Asks number peer) = ⊥
+MayMake (Compact number) = ⊥
+MayMake (Restart number kept) = ⊥
 MayMake (Show number) = ⊥
 
 -- all deltas that the answers tell of as made, in their order
@@ -63,6 +66,7 @@ told answers = flat_map made_by answers
 abbrev pub brought_by : Answer → List (List Op)
 brought_by (Node answer) = made_of (said answer) ++ answered_of (said answer)
 brought_by (Views views) = []
+brought_by (Records count) = []
 
 -- all deltas that the answers bring, in their order
 abbrev pub brought : List Answer → List (List Op)

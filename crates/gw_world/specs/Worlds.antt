@@ -13,8 +13,8 @@ use Rattle.gw_world.specs.Field.{Field, new_field, Run, NamesNoGateway, NamesNoD
 
 -- The events led the field, from its start, to these answers and deltas; and there is a node for each of its gateways, in the
 -- order of the configs. `held` is the gateway that a node is, with what its replica keeps in the place of what was taken: it has
--- the config and the local state of its gateway, and what is kept counts as what that has made and taken. So each node shows
--- of every client the view of its gateway's set.
+-- the config, the local state and the disk of its gateway; what is kept counts as what that has made and taken, and so do the records that a
+-- crash now leaves of the disk. So each node shows of every client the view of its gateway's set.
 pub record IsWorld {N : Type 0} (held : N → Gateway) (configs : List Config) (events : List Event) (answers : List Answer) (deltas : List (List Op)) (nodes : List N) : Type 0 where
   pub field : Field
   pub run : Run (new_field configs) events answers field

@@ -11,8 +11,8 @@ ghost use Rattle.gw_world.specs.Telling.{told};
 ghost use Rattle.gw_world.specs.Worlds.{IsStop};
 
 /// Nothing but the events fixes a run. Two runs of the same events from the same configs say the same to
-/// each event, and lead to the same field: the same gateways, with the same sets and local states, and the
-/// same list of deltas. Up to want of memory, one event alone stops a run, for one reason, and what can
+/// each event, and lead to the same field: the same gateways, with the same sets, local states and disks,
+/// and the same list of deltas. Up to want of memory, one event alone stops a run, for one reason, and what can
 /// run to its end is not stopped.
 pub fn one_run()
     ensures one { (configs : List Config) (events : List Event) (answers others : List Answer) (one other : Field)

@@ -32,6 +32,16 @@ pub enum Event {
         gateway: u8,
         peer: u8,
     },
+    /// A gateway writes its journal anew: what it must keep takes the place of all records.
+    Compact {
+        gateway: u8,
+    },
+    /// A gateway stops and is opened again. Of each slot of its disk the synced bytes are left, and of the others the first
+    /// `keep`, or all where there are fewer.
+    Restart {
+        gateway: u8,
+        keep: u64,
+    },
     /// What a gateway knows is shown.
     Show {
         gateway: u8,
@@ -51,6 +61,8 @@ impl Event {
             Event::Tick { gateway, .. } => *gateway,
             Event::Take { gateway, .. } => *gateway,
             Event::Answer { gateway, .. } => *gateway,
+            Event::Compact { gateway } => *gateway,
+            Event::Restart { gateway, .. } => *gateway,
             Event::Show { gateway } => *gateway,
         }
     }
@@ -61,8 +73,8 @@ impl Event {
     {
         match self {
             Event::Answer { peer, .. } => Some(*peer),
-            Event::Frame { .. } | Event::Tick { .. } | Event::Take { .. } | Event::Show { .. } =>
-                None,
+            Event::Frame { .. } | Event::Tick { .. } | Event::Take { .. } => None,
+            Event::Compact { .. } | Event::Restart { .. } | Event::Show { .. } => None,
         }
     }
 }
@@ -70,8 +82,10 @@ impl Event {
 /// The answer to an event.
 #[derive(Debug, Drop)]
 pub enum Answer {
-    /// A gateway's answer to a frame, a tick or a delta; a peer's answer to a digest, or why there is no digest.
+    /// A gateway's answer to a frame, a tick, a delta or a compaction; a peer's answer to a digest, or why there is no digest.
     Node(Result<Arc<Out>, NodeFault>),
     /// The clients that a gateway knows, in ascending order, with their views.
     Views(Sequence<(ClientId, ClientView)>),
+    /// How many records a gateway read when it was opened again.
+    Records(u64),
 }

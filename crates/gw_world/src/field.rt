@@ -3,13 +3,15 @@
 ghost use Rattle.std.specs.Prelude.{◌≡◌, ◌<◌, false, Ok, IfOk, IfErr, OnOk, IfSome, length, map, vec_len};
 ghost use Rattle.std.specs.List.{AllByRecursion};
 ghost use Rattle.rep_model.specs.Views.{view as view_by};
-ghost use Rattle.gw_node.specs.Parts.{state_of, said, disk_of};
+ghost use Rattle.gw_node.specs.declared.refusal.Refusal.TheVariants as refusals;
+ghost use Rattle.gw_node.specs.Parts.{state_of, told, said, disk_of, records_of};
 ghost use Rattle.gw_node.specs.Occasions.{Datagram, Clock};
 ghost use Rattle.gw_world.specs.Calm.{IsCalm, IsFed, StaysCalm, keeping};
-ghost use Rattle.gw_world.specs.Plans.{OwnKept, TakeKept, IsAnswered, AskKept};
-ghost use Rattle.gw_world.specs.Events.{OwnAt, TakeAt};
+ghost use Rattle.gw_world.specs.Plans.{OwnKept, TakeKept, CompactKept, IsRestarted, IsAnswered, AskKept};
+ghost use Rattle.gw_world.specs.Events.{OwnAt, TakeAt, CompactAt, RestartAt, IsSafe};
 ghost use Rattle.gw_world.specs.Field.{shown};
 ghost use Rattle.gw_world.specs.Gateways.{place_of as gateway_place};
+ghost use Rattle.gw_world.specs.Steps.{records_left};
 
 use super::world::WorldFault;
 use gw_node::{Node, NodeFault, Out};
@@ -64,7 +66,7 @@ fn frame_to<R: Replica>(
     now: u64,
 ) -> Result<Result<Arc<Out>, NodeFault>, WorldFault>
     requires { IsCalm (state_of R.kept node.old) }
-    ensures ok { IfOk result (λ answer. StaysCalm (λ config kept local next after. OwnKept config kept local (Datagram from bytes.now) now (said answer) next after) (state_of R.kept node.old) (state_of R.kept node.new)) }
+    ensures ok { IfOk result (λ answer. StaysCalm (λ old new. OwnKept old (Datagram from bytes.now) now (said answer) new) (state_of R.kept node.old) (state_of R.kept node.new)) }
     ensures err { IfErr result (λ fault. fault ≡ WorldFault.Memory) }
 {
     let answer = node.frame(alloc, from, bytes, now);
@@ -78,7 +80,7 @@ fn tick_to<R: Replica>(
     now: u64,
 ) -> Result<Result<Arc<Out>, NodeFault>, WorldFault>
     requires { IsCalm (state_of R.kept node.old) }
-    ensures ok { IfOk result (λ answer. StaysCalm (λ config kept local next after. OwnKept config kept local Clock now (said answer) next after) (state_of R.kept node.old) (state_of R.kept node.new)) }
+    ensures ok { IfOk result (λ answer. StaysCalm (λ old new. OwnKept old Clock now (said answer) new) (state_of R.kept node.old) (state_of R.kept node.new)) }
     ensures err { IfErr result (λ fault. fault ≡ WorldFault.Memory) }
 {
     let answer = node.tick(alloc, now);
@@ -92,10 +94,23 @@ fn take_to<R: Replica>(
     delta: &Delta,
 ) -> Result<Result<Arc<Out>, NodeFault>, WorldFault>
     requires { IsCalm (state_of R.kept node.old) }
-    ensures ok { IfOk result (λ answer. StaysCalm (λ config kept local next after. TakeKept config kept local delta.now (said answer) next after) (state_of R.kept node.old) (state_of R.kept node.new)) }
+    ensures ok { IfOk result (λ answer. StaysCalm (λ old new. TakeKept old delta.now (said answer) new) (state_of R.kept node.old) (state_of R.kept node.new)) }
     ensures err { IfErr result (λ fault. fault ≡ WorldFault.Memory) }
 {
     let answer = node.take(alloc, delta);
+    unless_starved(node, answer)
+}
+
+/// The journal of a gateway is written anew.
+fn compact_in<R: Replica>(
+    alloc: Global,
+    node: &mut Node<R, MemoryDisk>,
+) -> Result<Result<Arc<Out>, NodeFault>, WorldFault>
+    requires { IsCalm (state_of R.kept node.old) }
+    ensures ok { IfOk result (λ answer. StaysCalm (λ old new. CompactKept old (said answer) new) (state_of R.kept node.old) (state_of R.kept node.new)) }
+    ensures err { IfErr result (λ fault. fault ≡ WorldFault.Memory) }
+{
+    let answer = node.compact(alloc);
     unless_starved(node, answer)
 }
 
@@ -150,6 +165,91 @@ pub fn take_at<R: Replica>(
 {
     let node = &mut nodes[place];
     take_to(alloc, node, delta)
+}
+
+/// The journal of the gateway in this place is written anew.
+pub fn compact_at<R: Replica>(
+    alloc: Global,
+    nodes: &mut Vec<Node<R, MemoryDisk>>,
+    place: usize,
+) -> Result<Result<Arc<Out>, NodeFault>, WorldFault>
+    requires place { place < vec_len nodes.old }
+    requires calm { AllByRecursion (λ node. IsCalm (state_of R.kept node)) nodes.old.items }
+    ensures calm { OnOk result (AllByRecursion (λ node. IsCalm (state_of R.kept node)) nodes.new.items) }
+    ensures ok { IfOk result (λ answer. CompactAt (map (λ node. keeping R.kept node) nodes.old.items) place (said answer) (map (λ node. keeping R.kept node) nodes.new.items)) }
+    ensures err { IfErr result (λ fault. fault ≡ WorldFault.Memory) }
+{
+    let node = &mut nodes[place];
+    compact_in(alloc, node)
+}
+
+/// What is said where an opening was refused for want of memory.
+fn want_of_memory(fault: &NodeFault) -> WorldFault
+    requires { told fault.now ≡ refusals.Memory }
+    ensures { result ≡ WorldFault.Memory }
+{
+    match fault {
+        NodeFault::Memory => WorldFault::Memory,
+        NodeFault::Frame { .. } | NodeFault::Halted | NodeFault::Disk { .. } => unreachable!(),
+        NodeFault::Conflict { .. } | NodeFault::Full | NodeFault::Exhausted => unreachable!(),
+        NodeFault::Journal { .. } => unreachable!(),
+    }
+}
+
+/// A gateway stops, with so many bytes of each slot left that were not synced, and is opened again.
+///
+/// No disk fails here, and what a crash leaves of this one stands for a set. So nothing refuses the opening but want of memory.
+fn open_again<R: Replica>(
+    alloc: Global,
+    node: Node<R, MemoryDisk>,
+    left: u64,
+) -> Result<Node<R, MemoryDisk>, WorldFault>
+    requires calm { IsCalm (state_of R.kept node) }
+    requires safe { IsSafe (keeping R.kept node) }
+    ensures calm { IfOk result (λ new. IsCalm (state_of R.kept new)) }
+    ensures configured { IfOk result (λ new. (keeping R.kept new).config ≡ (keeping R.kept node).config) }
+    ensures ok { IfOk result (λ new. IsRestarted left (keeping R.kept node) (keeping R.kept new)) }
+    ensures records { IfOk result (λ new. records_of new ≡ records_left left (keeping R.kept node)) }
+    ensures err { IfErr result (λ fault. fault ≡ WorldFault.Memory) }
+{
+    let (config, mut disk) = node.into_parts();
+    disk.crash(left as usize);
+    match Node::open(alloc, config, disk) {
+        Ok(opened) => {
+            if opened.starved() {
+                return Err(WorldFault::Memory);
+            }
+            Ok(opened)
+        }
+        Err((disk, fault)) => {
+            if disk.starved() {
+                return Err(WorldFault::Memory);
+            }
+            Err(want_of_memory(&fault))
+        }
+    }
+}
+
+/// The gateway in this place stops, with so many bytes of each slot left that were not synced, and is opened again: how many records
+/// it reads then.
+pub fn restart_at<R: Replica>(
+    alloc: Global,
+    nodes: &mut Vec<Node<R, MemoryDisk>>,
+    place: usize,
+    left: u64,
+) -> Result<u64, WorldFault>
+    requires place { place < vec_len nodes.old }
+    requires calm { AllByRecursion (λ node. IsCalm (state_of R.kept node)) nodes.old.items }
+    requires safe { AllByRecursion IsSafe (map (λ node. keeping R.kept node) nodes.old.items) }
+    ensures calm { OnOk result (AllByRecursion (λ node. IsCalm (state_of R.kept node)) nodes.new.items) }
+    ensures ok { IfOk result (λ count. RestartAt (map (λ node. keeping R.kept node) nodes.old.items) place left count (map (λ node. keeping R.kept node) nodes.new.items)) }
+    ensures err { IfErr result (λ fault. fault ≡ WorldFault.Memory) }
+{
+    let old = nodes.remove(place);
+    let node = open_again(alloc, old, left)?;
+    let count = node.records();
+    nodes.insert(place, node)?;
+    Ok(count)
 }
 
 /// What a peer answers to a digest.

@@ -2,9 +2,10 @@
 //!
 //! `run` is the whole system without sockets and clocks: gateways start empty, with their journals on disks in memory,
 //! events come one after the other, and the result is what each gateway answered, what deltas were made or answered, and the
-//! gateways as they then are. What it must give is defined in `specs/` over sets of operations alone: `Gateways` and `Field` (a field,
-//! and what events may do to it), `Steps` (what one event may do at one gateway), `Worlds` (the result). No journal, map or
-//! cache stands there, and of a replica only what it keeps.
+//! gateways as they then are. A gateway may write its journal anew, and it may stop and be opened again from what its disk then
+//! has: its set stays. What `run` must give is defined in `specs/` over sets of operations: `Gateways` and `Field` (a field, and
+//! what events may do to it), `Drives` (the disk under a gateway: which bytes its two slots have), `Steps` (what one event may do
+//! at one gateway), `Worlds` (the result). No journal, map or cache stands there, and of a replica only what it keeps.
 //!
 //! - `event`: what can happen (`Event`), and what is answered (`Answer`).
 //! - `world`: the result of a run (`World`), or why there is none (`WorldFault`).

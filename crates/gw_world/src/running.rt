@@ -5,14 +5,15 @@ ghost use Rattle.std.specs.List.{AllByRecursion};
 ghost use Rattle.gw_node.specs.Occasions.{Datagram, Clock};
 ghost use Rattle.gw_node.specs.Parts.{state_of, said};
 ghost use Rattle.gw_world.specs.Calm.{IsCalm, keeping};
-ghost use Rattle.gw_world.specs.Events.{made_of, answered_of, Join, OwnAnswered, TakeAnswered, AskAnswered, PeerAnswered, ShowAnswered, IsListed, EventAt, EventKept, NoPeer, IsMissing, IsStopKept, PlayedKept, StopsKept};
+ghost use Rattle.gw_world.specs.Events.{made_of, answered_of, Join, OwnAnswered, TakeAnswered, CompactAnswered, RestartAnswered, AskAnswered, PeerAnswered, ShowAnswered, IsListed, EventAt, EventKept, NoPeer, IsMissing, IsStopKept, IsSafe, IsLed, PlayedKept, StopsKept};
 ghost use Rattle.gw_world.specs.Gateways.{new_gateway};
+ghost use Rattle.gw_world.specs.Keeping.{Lasts};
 ghost use Rattle.gw_world.specs.Steps.{IsWritable};
 ghost use Rattle.gw_world.specs.Worlds.{IsWorld, IsStop};
 ghost use Rattle.rep_ops.specs.declared.op.Op.{Op};
 
 use super::event::{Answer, Event};
-use super::field::{ask, frame_at, place_of, show_at, take_at, tick_at};
+use super::field::{ask, compact_at, frame_at, place_of, restart_at, show_at, take_at, tick_at};
 use super::world::{World, WorldFault};
 use gw_node::{Node, NodeFault, Out};
 use jr_journal::MemoryDisk;
@@ -134,6 +135,38 @@ fn play_take<R: Replica>(
     Ok(Answer::Node(take_at(alloc, nodes, place, delta)?))
 }
 
+/// The journal of the gateway in this place is written anew.
+fn play_compact<R: Replica>(
+    alloc: Global,
+    nodes: &mut Vec<Node<R, MemoryDisk>>,
+    place: usize,
+) -> Result<Answer, WorldFault>
+    requires place { place < vec_len nodes.old }
+    requires calm { AllByRecursion (λ node. IsCalm (state_of R.kept node)) nodes.old.items }
+    ensures calm { OnOk result (AllByRecursion (λ node. IsCalm (state_of R.kept node)) nodes.new.items) }
+    ensures ok { IfOk result (CompactAnswered (map (λ node. keeping R.kept node) nodes.old.items) place (map (λ node. keeping R.kept node) nodes.new.items)) }
+    ensures err { IfErr result (λ fault. fault ≡ WorldFault.Memory) }
+{
+    Ok(Answer::Node(compact_at(alloc, nodes, place)?))
+}
+
+/// The gateway in this place stops and is opened again.
+fn play_restart<R: Replica>(
+    alloc: Global,
+    nodes: &mut Vec<Node<R, MemoryDisk>>,
+    place: usize,
+    keep: u64,
+) -> Result<Answer, WorldFault>
+    requires place { place < vec_len nodes.old }
+    requires calm { AllByRecursion (λ node. IsCalm (state_of R.kept node)) nodes.old.items }
+    requires safe { AllByRecursion IsSafe (map (λ node. keeping R.kept node) nodes.old.items) }
+    ensures calm { OnOk result (AllByRecursion (λ node. IsCalm (state_of R.kept node)) nodes.new.items) }
+    ensures ok { IfOk result (RestartAnswered (map (λ node. keeping R.kept node) nodes.old.items) place keep (map (λ node. keeping R.kept node) nodes.new.items)) }
+    ensures err { IfErr result (λ fault. fault ≡ WorldFault.Memory) }
+{
+    Ok(Answer::Records(restart_at(alloc, nodes, place, keep)?))
+}
+
 /// The digest of the gateway in one place goes to the gateway in another, and what that one answers joins the list.
 fn play_ask<R: Replica>(
     alloc: Global,
@@ -210,6 +243,7 @@ fn play_at<R: Replica>(
 ) -> Result<Answer, WorldFault>
     requires place { place < vec_len nodes.old }
     requires calm { AllByRecursion (λ node. IsCalm (state_of R.kept node)) nodes.old.items }
+    requires safe { AllByRecursion IsSafe (map (λ node. keeping R.kept node) nodes.old.items) }
     ensures calm { OnOk result (AllByRecursion (λ node. IsCalm (state_of R.kept node)) nodes.new.items) }
     ensures ok { IfOk result (EventAt (map (λ node. keeping R.kept node) nodes.old.items) deltas.old.items place event.now (map (λ node. keeping R.kept node) nodes.new.items) deltas.new.items) }
     ensures err { IfErr result (IsMissing (map (λ node. keeping R.kept node) nodes.old.items) deltas.old.items
@@ -230,6 +264,8 @@ fn play_at<R: Replica>(
         Event::Answer { peer, .. } => {
             play_answer(alloc, nodes.as_slice(), deltas, place, *peer, number)
         }
+        Event::Compact { .. } => play_compact(alloc, nodes, place),
+        Event::Restart { keep, .. } => play_restart(alloc, nodes, place, *keep),
         Event::Show { .. } => play_show(alloc, nodes, place),
     }
 }
@@ -242,7 +278,8 @@ fn play_event<R: Replica>(
     event: &Event,
     number: u64,
 ) -> Result<Answer, WorldFault>
-    requires { AllByRecursion (λ node. IsCalm (state_of R.kept node)) nodes.old.items }
+    requires calm { AllByRecursion (λ node. IsCalm (state_of R.kept node)) nodes.old.items }
+    requires safe { AllByRecursion IsSafe (map (λ node. keeping R.kept node) nodes.old.items) }
     ensures calm { OnOk result (AllByRecursion (λ node. IsCalm (state_of R.kept node)) nodes.new.items) }
     ensures ok { IfOk result (EventKept (map (λ node. keeping R.kept node) nodes.old.items) deltas.old.items event.now (map (λ node. keeping R.kept node) nodes.new.items) deltas.new.items) }
     ensures err { IfErr result (IsStopKept (map (λ node. keeping R.kept node) nodes.old.items) deltas.old.items event.now number) }
@@ -256,6 +293,7 @@ fn play_event<R: Replica>(
 /// A gateway that has taken nothing, with its journal on an empty disk.
 fn new_node<R: Replica>(alloc: Global, config: &Config) -> Result<Node<R, MemoryDisk>, WorldFault>
     ensures ok { IfOk result (λ node. keeping R.kept node ≡ new_gateway config.now) }
+    ensures lasts { IfOk result (λ node. Lasts [] (keeping R.kept node)) }
     ensures calm { IfOk result (λ node. IsCalm (state_of R.kept node)) }
     ensures err { IfErr result (λ fault. fault ≡ WorldFault.Memory) }
 {
@@ -274,6 +312,7 @@ fn new_nodes<R: Replica>(
     configs: &[Config],
 ) -> Result<Vec<Node<R, MemoryDisk>>, WorldFault>
     ensures ok { IfOk result (λ nodes. (map (λ node. keeping R.kept node) nodes.items) ≡ map new_gateway configs.now) }
+    ensures lasts { IfOk result (λ nodes. AllByRecursion (Lasts []) (map (λ node. keeping R.kept node) nodes.items)) }
     ensures calm { IfOk result (λ nodes. AllByRecursion (λ node. IsCalm (state_of R.kept node)) nodes.items) }
     ensures err { IfErr result (λ fault. fault ≡ WorldFault.Memory) }
 {
@@ -291,7 +330,8 @@ fn play_all<R: Replica>(
     deltas: &mut Vec<Delta>,
     events: &[Event],
 ) -> Result<Vec<Answer>, WorldFault>
-    requires { AllByRecursion (λ node. IsCalm (state_of R.kept node)) nodes.old.items }
+    requires calm { AllByRecursion (λ node. IsCalm (state_of R.kept node)) nodes.old.items }
+    requires led { IsLed (map (λ node. keeping R.kept node) nodes.old.items) deltas.old.items }
     ensures calm { OnOk result (AllByRecursion (λ node. IsCalm (state_of R.kept node)) nodes.new.items) }
     ensures ok { IfOk result (PlayedKept (map (λ node. keeping R.kept node) nodes.old.items) deltas.old.items events.now (map (λ node. keeping R.kept node) nodes.new.items) deltas.new.items) }
     ensures err { IfErr result (StopsKept (map (λ node. keeping R.kept node) nodes.old.items) deltas.old.items events.now) }
@@ -311,7 +351,8 @@ fn play_all<R: Replica>(
 /// Runs a field of gateways: the gateways of these configs begin with nothing, and the events come one
 /// after the other.
 ///
-/// Each gateway has its journal on a disk in memory. The result has an answer for each event, the list of the deltas that were
+/// Each gateway has its journal on a disk in memory. Where an event stops a gateway and opens it again, it reads that journal, and
+/// has the set that it had: nothing but want of memory can refuse that. The result has an answer for each event, the list of the deltas that were
 /// made or answered, and the gateways. There is no result where an event names a gateway, as the one that it is at or as the
 /// peer, or else a delta that is not there, or memory runs out.
 pub fn run<R: Replica>(
@@ -320,8 +361,8 @@ pub fn run<R: Replica>(
     events: &[Event],
 ) -> Result<World<Node<R, MemoryDisk>>, WorldFault>
     ensures ok { IfOk result (λ world. IsWorld (λ node. keeping R.kept node) configs.now events.now world.answers world.deltas world.gateways) }
-    // At the end no node is halted, none was refused memory, no failure is arranged on a disk; and whatever a crash leaves of a disk
-    // now is a journal whose records the node's replica counts as.
+    // At the end no node is halted, none was refused memory, and no failure is arranged on a disk. What a crash would leave of each disk
+    // stands for the set of its gateway, as the world's `shown` says.
     ensures calm { IfOk result (λ world. AllByRecursion (λ node. IsCalm (state_of R.kept node)) world.gateways) }
     ensures err { IfErr result (IsStop configs.now events.now) }
 {

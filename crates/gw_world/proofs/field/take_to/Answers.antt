@@ -7,6 +7,6 @@ use Rattle.gw_world.proofs.field.take_to.Goals as goal
 
 pub returns-clause-ok : goal.returns-clause-ok
 returns-clause-ok g c =
-    if_fed c.unless_starved.result said (said c.take-answer.result) (λ answer. StaysCalm (λ config kept local next after. TakeKept config kept local c.args.delta.now answer next after) (state_of g.R.Replica.kept c.args.node.now) (state_of g.R.Replica.kept c.take-answer.new.self))
+    if_fed c.unless_starved.result said (said c.take-answer.result) (λ answer. StaysCalm (λ old new. TakeKept old c.args.delta.now answer new) (state_of g.R.Replica.kept c.args.node.now) (state_of g.R.Replica.kept c.take-answer.new.self))
     c.unless_starved.ensures.same c.unless_starved.ensures.memory c.unless_starved.ensures.fed
-    (λ memory fed. take_calm (state_of g.R.Replica.kept c.args.node.now) (state_of g.R.Replica.kept c.take-answer.new.self) c.args.delta.now (said c.take-answer.result) tt c.requires fed memory c.take-answer.ensures.call)
+    (λ memory fed. take_calm (state_of g.R.Replica.kept c.args.node.now) (state_of g.R.Replica.kept c.take-answer.new.self) c.args.delta.now (said c.take-answer.result) tt c.requires fed memory c.take-answer.ensures.call c.take-answer.ensures.taken)

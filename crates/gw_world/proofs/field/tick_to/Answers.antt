@@ -8,6 +8,6 @@ use Rattle.gw_world.proofs.field.tick_to.Goals as goal
 
 pub returns-clause-ok : goal.returns-clause-ok
 returns-clause-ok g c =
-    if_fed c.unless_starved.result said (said c.tick-answer.result) (λ answer. StaysCalm (λ config kept local next after. OwnKept config kept local Clock c.args.now answer next after) (state_of g.R.Replica.kept c.args.node.now) (state_of g.R.Replica.kept c.tick-answer.new.self))
+    if_fed c.unless_starved.result said (said c.tick-answer.result) (λ answer. StaysCalm (λ old new. OwnKept old Clock c.args.now answer new) (state_of g.R.Replica.kept c.args.node.now) (state_of g.R.Replica.kept c.tick-answer.new.self))
     c.unless_starved.ensures.same c.unless_starved.ensures.memory c.unless_starved.ensures.fed
-    (λ memory fed. own_calm (state_of g.R.Replica.kept c.args.node.now) (state_of g.R.Replica.kept c.tick-answer.new.self) Clock c.args.now (said c.tick-answer.result) tt c.requires fed memory c.tick-answer.ensures.call)
+    (λ memory fed. own_calm (state_of g.R.Replica.kept c.args.node.now) (state_of g.R.Replica.kept c.tick-answer.new.self) Clock c.args.now (said c.tick-answer.result) tt c.requires fed memory c.tick-answer.ensures.call c.tick-answer.ensures.taken)

@@ -1,17 +1,35 @@
 -- What it holds where it was opened on an empty disk.
-use Rattle.std.proofs.Common.{rules, ap}
+use Rattle.std.proofs.Common.{ap, ◌∙◌}
+use Rattle.sn_flow.specs.declared.config.Config.{Config}
 use Rattle.jr_journal.specs.Disk.{image}
-use Rattle.jr_journal.specs.declared.memory.MemoryDisk.{MemoryDisk}
+use Rattle.jr_journal.specs.Memory.{MemoryState}
 use Rattle.gw_node.specs.Parts.{state_of}
-use Rattle.gw_world.proofs.Calmness.{opened_holds, taken_nothing}
+use Rattle.gw_world.specs.Gateways.{new_gateway}
+use Rattle.gw_world.proofs.Calmness.{opened_new, lasts_new, empty_records}
 use Rattle.gw_world.proofs.running.new_node.Goals as goal
 
-pub returns-clause-calm : goal.returns-clause-calm
-returns-clause-calm g c = record {
-  runs = search rules;
-  unplanned = search rules;
-  fed = search rules;
-  holds = λ honest.
-      opened_holds (state_of g.R.Replica.kept c.in-Ok.node)
-      (taken_nothing c.in_ok-copy.field-0.gateway _ (state_of g.R.Replica.kept c.in-Ok.node) (ap (λ (d : MemoryDisk). image d.slots) c.new.ensures) (c.in-Ok.ensures.restarts honest)) honest;
-}
+pub returns-clause-ok : goal.returns-clause-ok
+returns-clause-ok g c =
+    let empty = ap (λ (d : MemoryState). image d.slots) c.new.ensures in
+    opened_new (state_of g.R.Replica.kept c.in-Ok.node) c.in_ok-copy.field-0 _ empty
+    (record {
+      starts = c.in-Ok.ensures.starts;
+      keeps = c.in-Ok.ensures.keeps tt;
+      durable = c.in-Ok.ensures.durable tt;
+      place = c.in-Ok.ensures.place tt;
+      known = c.in-Ok.ensures.known tt;
+    })
+    (c.in-Ok.ensures.none tt (empty_records c.in_ok-copy.field-0.gateway _ empty))
+    ∙ ap (λ (config : Config). new_gateway config) c.in_ok-copy.ensures.ok
+
+pub returns-clause-lasts : goal.returns-clause-lasts
+returns-clause-lasts g c =
+    let empty = ap (λ (d : MemoryState). image d.slots) c.new.ensures in
+    lasts_new (state_of g.R.Replica.kept c.in-Ok.node) c.in_ok-copy.field-0 _ tt empty (c.in-Ok.ensures.found tt)
+    (record {
+      starts = c.in-Ok.ensures.starts;
+      keeps = c.in-Ok.ensures.keeps tt;
+      durable = c.in-Ok.ensures.durable tt;
+      place = c.in-Ok.ensures.place tt;
+      known = c.in-Ok.ensures.known tt;
+    })

@@ -2,8 +2,11 @@
 use Rattle.std.proofs.Common.{◌≡◌, ◌+◌, ◌∷◌, ◌++◌, [], refl, sym, ap, ◌∙◌, take, take_all}
 use Rattle.std.proofs.lemmas.List.{take_more}
 use Rattle.std.proofs.lemmas.Option.{slice_get_read}
-use Rattle.gw_world.proofs.Fields.{kept_more, stops_here}
+use Rattle.gw_world.proofs.Fields.{kept_more, stops_here, safe_now}
 use Rattle.gw_world.proofs.running.play_all.Goals as goal
+
+pub play_event-requires-clause-safe : goal.play_event-requires-clause-safe
+play_event-requires-clause-safe g c = safe_now _ _ _ _ _ _ c.requires.led c.loop-index.invariant.0
 
 pub loop-index-preserved : goal.loop-index-preserved
 loop-index-preserved g c =

@@ -1,8 +1,6 @@
 -- One more delta joins the list.
-use Rattle.std.proofs.Common.{◌≡◌, ◌+◌, List, [], ◌∷◌, ◌++◌, sym, ap, ◌∙◌, subst, take, take_all}
+use Rattle.std.proofs.Common.{◌≡◌, ◌+◌, [], ◌∷◌, ◌++◌, sym, ap, ◌∙◌, take, take_all}
 use Rattle.std.proofs.lemmas.List.{take_more}
-use Rattle.rep_ops.specs.declared.op.Op.{Op}
-use Rattle.gw_world.specs.Events.{Join}
 use Rattle.gw_world.proofs.Joining.{join_more}
 use Rattle.gw_world.proofs.running.record_all.Goals as goal
 
