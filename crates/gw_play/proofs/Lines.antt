@@ -1,7 +1,7 @@
 -- A line is read in one way.
-use Rattle.std.proofs.Common.{◌≡◌, ℕ, cond, List, [], ◌∷◌, Option, Some, None, refl, ap, sym, subst, ◌∙◌, ◌⊎◌, inl, inr, Bor, map, get_or}
+use Rattle.std.proofs.Common.{◌≡◌, ℕ, true, false, cond, List, [], ◌∷◌, Option, Some, None, refl, ap, sym, subst, ◌∙◌, ◌⊎◌, inl, inr, Bor, map, get_or}
 use Rattle.std.specs.Prelude.{Result, Ok, Err, codes}
-use Rattle.std.specs.Str.{bytes_eq}
+use Rattle.std.specs.Str.{bytes_eq, all_ascii_digits}
 use Rattle.gw_play.specs.declared.command.Command.{Command}
 use Rattle.gw_play.specs.declared.command.Word.{Word}
 use Rattle.gw_play.specs.declared.command.Word.TheVariants as words
@@ -9,7 +9,7 @@ use Rattle.gw_play.specs.declared.fault.LineFault.{LineFault}
 use Rattle.gw_play.specs.declared.fault.LineFault.TheVariants as faults
 use Rattle.gw_world.specs.declared.event.Event.TheVariants as events
 use Rattle.gw_play.specs.declared.command.Command.TheVariants as commands
-use Rattle.gw_play.specs.Commands.{fields_of, text_of, IsAddress, Says, Spells, Reads}
+use Rattle.gw_play.specs.Commands.{fields_of, text_of, IsAddress, IsSpared, Says, Spells, Reads}
 use Rattle.gw_play.specs.Numbers.{IsNumber, value_of}
 use Rattle.gw_play.specs.Octets.{IsHex}
 use Rattle.sn_topic.specs.Topics.{IsName}
@@ -26,7 +26,9 @@ word_at text =
     cond (bytes_eq text (codes "take")) (Some words.Take) (
     cond (bytes_eq text (codes "predefine")) (Some words.Predefine) (
     cond (bytes_eq text (codes "answer")) (Some words.Answer) (
-    cond (bytes_eq text (codes "show")) (Some words.Show) None))))))
+    cond (bytes_eq text (codes "compact")) (Some words.Compact) (
+    cond (bytes_eq text (codes "restart")) (Some words.Restart) (
+    cond (bytes_eq text (codes "show")) (Some words.Show) None))))))))
 
 word_at-text : (word : Word) → word_at (text_of word) ≡ Some word
 word_at-text words.Gateway = refl
@@ -35,6 +37,8 @@ word_at-text words.Frame = refl
 word_at-text words.Tick = refl
 word_at-text words.Take = refl
 word_at-text words.Answer = refl
+word_at-text words.Compact = refl
+word_at-text words.Restart = refl
 word_at-text words.Show = refl
 
 -- no two words have one text
@@ -72,6 +76,13 @@ no_name (a ∷ b ∷ octets ∷ []) d none (commands.Predefine gateway id name) 
 no_name (a ∷ b ∷ octets ∷ []) d none command said = said
 no_name fields d none command said = said
 
+-- where the second field does not say how many bytes survive, the fields say no restart
+pub no_spared : (fields : List (Bor (List ℕ))) (d : Bor (List ℕ)) → ((n : ℕ) → IsSpared (get_or fields 1 d).now n → ⊥)
+    → (command : Command) → Says words.Restart (map (λ (field : Bor (List ℕ)). field.now) fields) command → ⊥
+no_spared (a ∷ b ∷ []) d none (commands.Happens (events.Restart gateway keep)) said = none keep said.1
+no_spared (a ∷ b ∷ []) d none command said = said
+no_spared fields d none command said = said
+
 -- a text writes one number
 one_number : (bits : ℕ) (a b : List ℕ) (m n : ℕ) → a ≡ b → IsNumber bits a m → IsNumber bits b n → m ≡ n
 one_number bits a b m n same p q = sym p.1 ∙ ap value_of same ∙ q.1
@@ -89,6 +100,23 @@ one_hex a b x y same (inl p) (inl q) = p.1 ∙ sym q.1
 one_hex a b x y same (inl p) (inr q) = let e : decode_of b ≡ Err OddLength = ap decode_of (sym same ∙ p.0) in let f = q.1 in cc
 one_hex a b x y same (inr p) (inl q) = let e : decode_of a ≡ Err OddLength = ap decode_of (same ∙ q.0) in let f = p.1 in cc
 one_hex a b x y same (inr p) (inr q) = let e = p.1 in let f = q.1 in let d = ap decode_of same in cc
+
+-- `all` writes no number
+all_digits : all_ascii_digits (codes "all") ≡ false
+all_digits = refl
+
+no_number : (a : List ℕ) (bits n : ℕ) → a ≡ codes "all" → IsNumber bits a n → ⊥
+no_number a bits n is p =
+    let digits : all_ascii_digits a ≡ true = p.0.1 in
+    let none : all_ascii_digits a ≡ false = ap all_ascii_digits is ∙ all_digits in
+    let clash : false ≡ true = sym none ∙ digits in cc
+
+-- and one number of bytes that survive
+one_spared : (a b : List ℕ) (m n : ℕ) → a ≡ b → IsSpared a m → IsSpared b n → m ≡ n
+one_spared a b m n same (inl p) (inl q) = p.1 ∙ sym q.1
+one_spared a b m n same (inl p) (inr q) = absurd (no_number b 64 n (sym same ∙ p.0) q)
+one_spared a b m n same (inr p) (inl q) = absurd (no_number a 64 m (same ∙ q.0) p)
+one_spared a b m n same (inr p) (inr q) = one_number 64 a b m n same p q
 
 -- what fields say behind each word
 gateway_says : (fields : List (List ℕ)) (c : Command) → Says words.Gateway fields c
@@ -122,6 +150,16 @@ show_says : (fields : List (List ℕ)) (c : Command) → Says words.Show fields 
     → (text : List ℕ) × (g : ℕ) × (fields ≡ text ∷ []) × (c ≡ commands.Happens (events.Show g)) × IsNumber 8 text g
 show_says (text ∷ []) (commands.Happens (events.Show g)) said = (text, g, refl, refl, said)
 show_says fields c said = absurd said
+
+compact_says : (fields : List (List ℕ)) (c : Command) → Says words.Compact fields c
+    → (text : List ℕ) × (g : ℕ) × (fields ≡ text ∷ []) × (c ≡ commands.Happens (events.Compact g)) × IsNumber 8 text g
+compact_says (text ∷ []) (commands.Happens (events.Compact g)) said = (text, g, refl, refl, said)
+compact_says fields c said = absurd said
+
+restart_says : (fields : List (List ℕ)) (c : Command) → Says words.Restart fields c
+    → (a b : List ℕ) × (g k : ℕ) × (fields ≡ a ∷ b ∷ []) × (c ≡ commands.Happens (events.Restart g k)) × IsNumber 8 a g × IsSpared b k
+restart_says (a ∷ b ∷ []) (commands.Happens (events.Restart g k)) said = (a, b, g, k, refl, refl, said.0, said.1)
+restart_says fields c said = absurd said
 
 predefine_says : (fields : List (List ℕ)) (c : Command) → Says words.Predefine fields c
     → (a b o : List ℕ) × (g i : ℕ) × (name : List ℕ) × (fields ≡ a ∷ b ∷ o ∷ []) × (c ≡ commands.Predefine g i name)
@@ -174,6 +212,17 @@ one_saying words.Show fields c d p q =
     let y = show_says fields d q in
     let e = x.2 in let f = y.2 in let h = x.3 in let k = y.3 in
     let g : x.1 ≡ y.1 = one_number 8 x.0 y.0 x.1 y.1 (cc) x.4 y.4 in cc
+one_saying words.Compact fields c d p q =
+    let x = compact_says fields c p in
+    let y = compact_says fields d q in
+    let e = x.2 in let f = y.2 in let h = x.3 in let k = y.3 in
+    let g : x.1 ≡ y.1 = one_number 8 x.0 y.0 x.1 y.1 (cc) x.4 y.4 in cc
+one_saying words.Restart fields c d p q =
+    let x = restart_says fields c p in
+    let y = restart_says fields d q in
+    let e = x.4 in let f = y.4 in let h = x.5 in let k = y.5 in
+    let g : x.2 ≡ y.2 = one_number 8 x.0 y.0 x.2 y.2 (cc) x.6 y.6 in
+    let keep : x.3 ≡ y.3 = one_spared x.1 y.1 x.3 y.3 (cc) x.7 y.7 in cc
 
 -- a line spells one command
 pub one_meaning : (line : List ℕ) (c d : Command) → Spells line c → Spells line d → c ≡ d

@@ -1,5 +1,5 @@
 -- The lines of a script.
-use Rattle.std.specs.Prelude.{◌≡◌, ℕ, ◌==◌, List, [], ◌∷◌, codes, Result, Ok, Err}
+use Rattle.std.specs.Prelude.{◌≡◌, ℕ, ◌-◌, ◌^◌, ◌==◌, ◌⊎◌, List, [], ◌∷◌, codes, Result, Ok, Err}
 use Rattle.std.specs.List.{slice_split}
 use Rattle.sn_flow.specs.declared.config.Addr.{Addr}
 use Rattle.gw_world.specs.declared.event.Event.TheVariants as events
@@ -29,11 +29,17 @@ text_of words.Frame = codes "frame"
 text_of words.Tick = codes "tick"
 text_of words.Take = codes "take"
 text_of words.Answer = codes "answer"
+text_of words.Compact = codes "compact"
+text_of words.Restart = codes "restart"
 text_of words.Show = codes "show"
 
 -- the text writes the port of an address of host 0
 abbrev pub IsAddress : List ℕ → Addr → Type 0
 IsAddress text address = (address.host ≡ 0) × IsNumber 16 text address.port
+
+-- the text says how many unsynced bytes of a slot survive: so many, or all, for which the greatest number stands
+abbrev pub IsSpared : List ℕ → ℕ → Type 0
+IsSpared text keep = ((text ≡ codes "all") × (keep ≡ 2 ^ 64 - 1)) ⊎ IsNumber 64 text keep
 
 -- behind this word, the fields say the command
 abbrev pub Says : Word → List (List ℕ) → Command → Type 0
@@ -45,6 +51,8 @@ Says words.Frame (gateway ∷ address ∷ moment ∷ octets ∷ []) (commands.Ha
 Says words.Tick (gateway ∷ moment ∷ []) (commands.Happens (events.Tick g now)) = IsNumber 8 gateway g × IsNumber 64 moment now
 Says words.Take (gateway ∷ delta ∷ []) (commands.Happens (events.Take g d)) = IsNumber 8 gateway g × IsNumber 64 delta d
 Says words.Answer (gateway ∷ peer ∷ []) (commands.Happens (events.Answer g p)) = IsNumber 8 gateway g × IsNumber 8 peer p
+Says words.Compact (gateway ∷ []) (commands.Happens (events.Compact g)) = IsNumber 8 gateway g
+Says words.Restart (gateway ∷ bytes ∷ []) (commands.Happens (events.Restart g keep)) = IsNumber 8 gateway g × IsSpared bytes keep
 Says words.Show (gateway ∷ []) (commands.Happens (events.Show g)) = IsNumber 8 gateway g
 Says word fields command = ⊥
 

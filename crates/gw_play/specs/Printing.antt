@@ -111,6 +111,10 @@ abbrev pub views_text : List (List ℕ × ClientView) → List ℕ
 views_text [] = codes "empty" ▹ line_end
 views_text (first ∷ rest) = flat_map client_text (first ∷ rest)
 
+-- how many records a gateway has read that was opened again
+abbrev pub records_line : ℕ → List ℕ
+records_line count = codes "records " ▹ decimal count ▹ line_end
+
 -- what a gateway answered, behind so many deltas
 abbrev pub said_text : ℕ → Result Out Refusal → List ℕ
 said_text before (Ok out) = out_text before out
@@ -119,6 +123,7 @@ said_text before (Err refusal) = refusal_text refusal
 abbrev pub answer_text : ℕ → Answer → List ℕ
 answer_text before (answers.Node answer) = said_text before (said answer)
 answer_text before (answers.Views views) = views_text views
+answer_text before (answers.Records count) = records_line count
 
 -- how many deltas there are behind it
 abbrev pub deltas_behind : ℕ → Result Out Refusal → ℕ
@@ -128,6 +133,7 @@ deltas_behind before (Err refusal) = before
 abbrev pub deltas_after : ℕ → Answer → ℕ
 deltas_after before (answers.Node answer) = deltas_behind before (said answer)
 deltas_after before (answers.Views views) = before
+deltas_after before (answers.Records count) = before
 
 -- answers in their order
 abbrev pub answers_text : ℕ → List Answer → List ℕ

@@ -1,9 +1,9 @@
 //! What a line says.
 
-ghost use Rattle.std.specs.Prelude.{◌≡◌, ◌≢◌, ◌==◌, ◌⊎◌, Err, IfOk, MatchOption, map};
+ghost use Rattle.std.specs.Prelude.{◌≡◌, ◌≢◌, ◌==◌, ◌⊎◌, ℕ, Err, IfOk, MatchOption, map};
 ghost use Rattle.std.specs.List.{slice_split};
 ghost use Rattle.gw_play.specs.declared.command.Word.TheVariants as words;
-ghost use Rattle.gw_play.specs.Commands.{Reads, Says, Spells};
+ghost use Rattle.gw_play.specs.Commands.{IsSpared, Reads, Says, Spells};
 ghost use Rattle.sn_topic.specs.Topics.{IsName};
 
 use super::bytes::bytes;
@@ -46,6 +46,10 @@ pub enum Word {
     Take,
     /// A digest goes to another gateway.
     Answer,
+    /// A journal is written anew.
+    Compact,
+    /// A gateway stops, and is opened again.
+    Restart,
     /// What a gateway knows is shown.
     Show,
 }
@@ -65,6 +69,8 @@ impl Word {
             b"tick" => Some(Word::Tick),
             b"take" => Some(Word::Take),
             b"answer" => Some(Word::Answer),
+            b"compact" => Some(Word::Compact),
+            b"restart" => Some(Word::Restart),
             b"show" => Some(Word::Show),
             _ => None,
         }
@@ -105,6 +111,8 @@ fn say(alloc: Global, word: Word, fields: &[&[u8]]) -> Result<Command, LineFault
         Word::Tick => tick(fields),
         Word::Take => take(fields),
         Word::Answer => answer(fields),
+        Word::Compact => compact(fields),
+        Word::Restart => restart(fields),
         Word::Show => show(fields),
     }
 }
@@ -217,6 +225,46 @@ fn answer(fields: &[&[u8]]) -> Result<Command, LineFault>
     match (number_u8(gateway), number_u8(peer)) {
         (Some(gateway), Some(peer)) => Ok(Command::Happens(Event::Answer { gateway, peer })),
         _ => Err(LineFault::NotACommand),
+    }
+}
+
+/// What the fields behind `compact` say.
+fn compact(fields: &[&[u8]]) -> Result<Command, LineFault>
+    ensures { Reads (Says words.Compact (map (λ field. field.now) fields.now)) result }
+{
+    let [gateway] = fields else {
+        return Err(LineFault::NotACommand);
+    };
+    match number_u8(gateway) {
+        Some(gateway) => Ok(Command::Happens(Event::Compact { gateway })),
+        None => Err(LineFault::NotACommand),
+    }
+}
+
+/// How many unsynced bytes of each slot survive: so many, or all of them.
+fn spared(text: &[u8]) -> Option<u64>
+    ensures { MatchOption result ((n : ℕ) → ¬ (IsSpared text.now n)) (IsSpared text.now) }
+{
+    if text == b"all".as_slice() {
+        Some(u64::MAX)
+    } else {
+        number(text)
+    }
+}
+
+/// What the fields behind `restart` say.
+fn restart(fields: &[&[u8]]) -> Result<Command, LineFault>
+    ensures { Reads (Says words.Restart (map (λ field. field.now) fields.now)) result }
+{
+    let [gateway, bytes] = fields else {
+        return Err(LineFault::NotACommand);
+    };
+    let Some(gateway) = number_u8(gateway) else {
+        return Err(LineFault::NotACommand);
+    };
+    match spared(bytes) {
+        Some(keep) => Ok(Command::Happens(Event::Restart { gateway, keep })),
+        None => Err(LineFault::NotACommand),
     }
 }
 

@@ -4,7 +4,7 @@
 
 ghost use Rattle.std.specs.Prelude.{◌≡◌, ◌+◌, ◌++◌, IfOk, OnOk, flat_map, length, string_bytes};
 ghost use Rattle.std.specs.Option.{option_to_list};
-ghost use Rattle.gw_play.specs.Printing.{answers_text, answer_text, deltas_after, out_text, joined, delta_line, delta_lines, send_line, refusal_text, views_text, client_text, client_line, kind_word, stamp_text, session_text, session_lines, put_line, presence_word, world_fault_line, bad_line_text};
+ghost use Rattle.gw_play.specs.Printing.{answers_text, answer_text, deltas_after, out_text, joined, delta_line, delta_lines, send_line, refusal_text, records_line, views_text, client_text, client_line, kind_word, stamp_text, session_text, session_lines, put_line, presence_word, world_fault_line, bad_line_text};
 ghost use Rattle.gw_node.specs.Parts.{told};
 
 use super::session_lines::print_tables;
@@ -48,7 +48,18 @@ fn print_answer(
             print_views(alloc, text, views.as_slice())?;
             Ok(before)
         }
+        Answer::Records(count) => {
+            print_records(text, *count)?;
+            Ok(before)
+        }
     }
+}
+
+/// The line of a gateway that was opened again.
+fn print_records(text: &mut String, count: u64) -> Result<(), AllocError>
+    ensures { OnOk result (string_bytes text.new ≡ string_bytes text.old ++ records_line count) }
+{
+    writeln!(text, "records {count}")
 }
 
 /// The lines of what a gateway did. The result is how many deltas there are then.
