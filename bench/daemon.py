@@ -10,6 +10,7 @@ The parts, all where none is named:
   links     two and three gateways, linked in a ring; one is killed, another hands the messages over
   kills     the daemon is killed N times (100) amid publications; what was acknowledged is there in the end
   shifts    N requests (600) over shifts of 16 calls are all answered
+  compact   the journal shrinks when a shift is over; kills amid that; a disk is full, and the daemon goes on once there is room
   hostile   N datagrams (20,000) and N streams of a link (500) that were made up: the daemon answers, and grows by MIB (64) at most
 
 All goes on at 127.0.0.1, at ports that the system gives, in a folder that is gone afterwards. Status 0 only where nothing failed.
@@ -35,6 +36,11 @@ HEADER = bytes.fromhex("534e4a31 01 0000000000000001")
 SEAL = b"\x53"
 DELTA = bytes.fromhex("0100000001 01 027331 0000000000000001 01 00 0000 01 003c 0001 0000000000000000")
 RECORD = b"\x44" + len(DELTA).to_bytes(4, "big") + DELTA
+
+
+def headed(generation: int) -> bytes:
+    """A header of another generation."""
+    return HEADER[:5] + generation.to_bytes(8, "big")
 
 
 class Account:
@@ -185,7 +191,9 @@ def try_journals(account: Account, texts: Texts) -> None:
                   lambda: wanted(texts.run_with(journal=f'"{texts.folder}/taken"'), 2, "sngw: journal J1\n"))
     other = HEADER[:4] + b"\x02" + HEADER[5:] + SEAL
     foreign = [("another gateway's number", other, b""), ("other octets", b"something else", b""),
-               ("a second file that is not empty", HEADER + SEAL, b"\x00"), ("no seal", HEADER + RECORD, b"")]
+               ("other octets in the second file", HEADER + SEAL, b"\x00"), ("no seal", HEADER + RECORD, b""),
+               ("two files of one generation", HEADER + SEAL, HEADER + RECORD + SEAL),
+               ("no seal in either file", HEADER, headed(2) + RECORD)]
     for place, (words, first, second) in enumerate(foreign):
         account.check(f"journal J2: {words}", lambda: refused("J2", f"foreign-{place}", first, second))
     whole = HEADER + SEAL + RECORD
@@ -195,6 +203,17 @@ def try_journals(account: Account, texts: Texts) -> None:
                ("a record of one octet", whole + b"\x44\x00\x00\x00\x01\x00"), ("a record of nothing", whole + b"\x44\x00\x00\x00\x00")]
     for place, (words, first) in enumerate(damaged):
         account.check(f"journal J3: {words}", lambda: refused("J3", f"damaged-{place}", first))
+    either = [("read", HEADER + SEAL, headed(2) + SEAL + b"\x45"), ("not read", whole + b"\x45", headed(2) + SEAL)]
+    for place, (words, first, second) in enumerate(either):
+        account.check(f"journal J3: another tag in the file that is {words}", lambda: refused("J3", f"damaged-two-{place}", first, second))
+    two = [("the second is newer", HEADER + SEAL, headed(2) + RECORD + SEAL),
+           ("the first is newer", headed(3) + SEAL + RECORD, headed(2) + SEAL),
+           ("the newer one has no seal", whole, headed(2) + RECORD + RECORD), ("the newer one is cut", whole, headed(2) + RECORD[:20]),
+           ("the end cuts the newer one's header", whole, headed(2)[:9]), ("of the newer one there are three octets", whole, HEADER[:3]),
+           ("the newer one has a torn end", HEADER + SEAL, headed(2) + RECORD + SEAL + RECORD[:-1])]
+    for place, (words, first, second) in enumerate(two):
+        account.check(f"a journal in two files opens: {words}",
+                      lambda: wanted(opened_with(f"two-{place}", first, second), 0, "", "gateway 1 records 1 clients 1\n"))
     for length in range(0, len(whole) + 1):
         if length in (0, 1, 13, 14, 15, 20, len(whole) - 1, len(whole)):
             records = 1 if length == len(whole) else 0
@@ -486,7 +505,8 @@ def read_back(gateway: Gateway, place: int, sent: list, acknowledged: set) -> in
     return len(got)
 
 
-def kill_again_and_again(gateway: Gateway, kills: int, chance: random.Random) -> str:
+def kill_again_and_again(gateway: Gateway, kills: int, chance: random.Random, compacts: bool = False) -> str:
+    """A compacted journal has fewer records than there were publications; the messages tell all the same what is missing."""
     gateway.start()
     sent, acknowledged, counted, slowest = {}, {}, 0, 0.0
     with Client(b"publisher", gateway) as publisher:
@@ -508,7 +528,8 @@ def kill_again_and_again(gateway: Gateway, kills: int, chance: random.Random) ->
             records, _ = gateway.start()
             slowest = max(slowest, time.monotonic() - began)
             total = sum(map(len, acknowledged.values()))
-            expect(records >= total, f"behind kill {turn + 1} {records} records were read, and {total} publications were acknowledged")
+            expect(compacts or records >= total,
+                   f"behind kill {turn + 1} {records} records were read, and {total} publications were acknowledged")
     got = sum(read_back(gateway, place, sent[place], acknowledged[place]) for place in sent)
     total = sum(map(len, acknowledged.values()))
     return f"{counted} sent, {total} acknowledged, {got} got, none of these missing; the slowest start took {slowest:.2f} seconds"
@@ -625,6 +646,120 @@ def part_shifts(account: Account, program: str, folder: str, options) -> None:
     with Gateway(program, folder, 2, steps="1", workers="8") as gateway:
         account.check("shifts of 1 call, 8 workers", lambda: gateway.start() and ask_all(gateway, max(8, options.requests // 10)))
     account.check("the program ends behind three shifts", lambda: ends_by_itself(program, folder))
+
+
+# ---- compaction
+
+
+def generations(gateway: Gateway) -> list:
+    return [int.from_bytes(octets[5:13], "big") for octets in gateway.slots() if len(octets) >= 13]
+
+
+def turn_shifts(gateway: Gateway, probe: Client, count: int) -> None:
+    """Asks until so many more shifts are closed, and their journals compacted."""
+    wanted_behind = len(gateway.shifts()) + count
+
+    def closed() -> bool:
+        probe.send(search())
+        return len(gateway.shifts()) > wanted_behind
+
+    until(closed, 60, f"{count} shifts were not closed", 0.002)
+
+
+def shrinks(gateway: Gateway, messages: int) -> str:
+    """What was delivered and acknowledged leaves the journal."""
+    gateway.start()
+    with Client(b"shrinks", gateway) as sleeper, Client(b"publisher", gateway) as publisher:
+        sleeper.connect()
+        sleeper.ask(subscribe(b"sk", 1, 0x22), b"\x08\x13")
+        sleeper.sleep()
+        publisher.connect(clean=True)
+        sent = [b"%06d" % message * 40 for message in range(messages)]
+        for message, body in enumerate(sent):
+            puback(publisher, b"sk", body, message + 1)
+        full = max(map(len, gateway.slots()))
+        expect(full > sum(map(len, sent)), f"the journal had {full} octets with {messages} messages that waited")
+        got = publisher.sends_once(sleeper.wake(60))
+        expect(got == sent, f"the sleeper got {len(got)} messages of {messages}")
+        turn_shifts(gateway, publisher, 2)
+        left = sum(map(len, gateway.slots()))
+        expect(left * 4 < full, f"the journal had {full} octets, and both files still have {left}")
+        newest = max(generations(gateway))
+        expect(newest > messages // 64, f"the journal's generation is {newest}")
+        gateway.kill()
+        records, clients = gateway.start()
+        expect(clients == 2 and records < 80, f"{records} records and {clients} clients were read")
+        again = sleeper.wake()
+        expect(again == [], f"the sleeper woke again and got {len(again)} messages")
+    return f"{full} octets, and then {left}; generation {newest}, {records} records"
+
+
+def offer(client: Client, field: bytes, body: bytes, message: int) -> str:
+    """A publication that is sent once: kept, refused, or silent. A client that the gateway does not know connects again."""
+    client.flush()
+    client.send(publish(field, body, message))
+    end = time.monotonic() + AGAIN
+    while (octets := client.receive(end - time.monotonic())) is not None:
+        kind, fields = opened(octets)
+        if kind == 0x0D and fields[2:4] == number(message):
+            return "refused" if fields[4] else "kept"
+        if octets == GONE:
+            client.send(connect(client.name, 0, True))
+        if kind == 0x05:
+            return "refused" if fields[0] else "silent"
+    return "silent"
+
+
+def offer_until(client: Client, field: bytes, sent: dict, wanted_said: str, count: int, seconds: float) -> None:
+    """Publishes until that was said so often. What was said of each message stands in `sent`."""
+    end, heard = time.monotonic() + seconds, 0
+    while heard < count:
+        expect(time.monotonic() < end, f"{heard} publications were {wanted_said} within {seconds:.0f} seconds, and not {count}")
+        message = len(sent) + 1
+        body = b"%06d" % message * 10
+        sent[body] = offer(client, field, body, message)
+        heard += sent[body] == wanted_said
+
+
+def fills_up(gateway: Gateway) -> str:
+    """There is room for so much. The daemon goes on without it, and keeps messages again once there is more."""
+    gateway.room = 6_000
+    gateway.start()
+    sent = {}
+    with Client(b"waits", gateway) as sleeper, Client(b"publisher", gateway) as publisher:
+        sleeper.connect()
+        sleeper.ask(subscribe(b"fu", 1, 0x22), b"\x08\x13")
+        sleeper.sleep()
+        publisher.connect(clean=True)
+        offer_until(publisher, b"fu", sent, "refused", 5, 60)
+        gateway.alive()
+        opened_before = len(gateway.openings())
+        expect(opened_before > 1, "the journal was not opened in place")
+        full = max(map(len, gateway.slots()))
+        expect(full <= 6_000, f"a file has {full} octets")
+        gateway.make_room()
+        offer_until(publisher, b"fu", sent, "kept", 20, 60)
+        gateway.alive()
+        gateway.kill()
+        gateway.start()
+        got = sleeper.wake(60)
+    kept = {body for body, said in sent.items() if said == "kept"}
+    missing = kept - set(got)
+    expect(not missing, f"{len(missing)} acknowledged messages are missing, as {sorted(missing)[:3]}")
+    expect(set(got) <= set(sent) and len(got) == len(set(got)), "messages came twice, or such as nobody sent")
+    expect(gateway.told() == "", f"it told {gateway.told()!r}")
+    return f"{len(sent)} sent, {len(kept)} acknowledged, {len(got)} got; opened {opened_before} times without room"
+
+
+def part_compact(account: Account, program: str, folder: str, options) -> None:
+    with Gateway(program, folder, 1, steps="64") as gateway:
+        account.check("the journal shrinks behind its shifts", lambda: shrinks(gateway, 400))
+    kills = max(1, options.kills // 4)
+    with Gateway(program, folder, 2, steps="16") as gateway:
+        account.check(f"{kills} kills amid publications, with a compaction behind every 16 calls",
+                      lambda: kill_again_and_again(gateway, kills, random.Random(options.seed), True))
+    with Gateway(program, folder, 3, steps="64") as gateway:
+        account.check("a disk is full, and has room again", lambda: fills_up(gateway))
 
 
 # ---- hostile octets
@@ -805,7 +940,7 @@ def part_hostile(account: Account, program: str, folder: str, options) -> None:
 # ---- all
 
 PARTS = {"messages": part_messages, "loopback": part_loopback, "links": part_links, "kills": part_kills, "shifts": part_shifts,
-         "hostile": part_hostile}
+         "compact": part_compact, "hostile": part_hostile}
 
 
 def options_of() -> argparse.Namespace:

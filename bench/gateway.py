@@ -128,14 +128,18 @@ def at_port(port: int) -> str:
     return f'"{HOST}:{port}"'
 
 
-def with_the_starter(limit: int = 0):
-    """What the process does before it is the daemon: it ends with its starter, and has so much memory at most."""
+def with_the_starter(limit: int = 0, room: int = 0):
+    """What the process does before it is the daemon: it ends with its starter, has so much memory at most, and so much room in a file:
+    a write beyond that fails, as on a disk that is full."""
     library = ctypes.CDLL(None)
 
     def begin() -> None:
         library.prctl(1, signal.SIGKILL)
         if limit:
             resource.setrlimit(resource.RLIMIT_AS, (limit, limit))
+        if room:
+            signal.signal(signal.SIGXFSZ, signal.SIG_IGN)
+            resource.setrlimit(resource.RLIMIT_FSIZE, (room, resource.RLIM_INFINITY))
 
     return begin
 
@@ -150,7 +154,7 @@ class Gateway:
         self.settings = os.path.join(folder, f"gateway-{gateway}.toml")
         self.values = {"gateway": str(gateway), "listen": at_port(self.port), "link": at_port(self.link), "journal": f'"{self.journal}"'}
         self.values.update(more)
-        self.process, self.starts, self.out, self.err = None, 0, "", ""
+        self.process, self.starts, self.out, self.err, self.room = None, 0, "", "", 0
 
     @property
     def address(self) -> tuple:
@@ -168,7 +172,7 @@ class Gateway:
         with open(self.out, "wb") as out, open(self.err, "wb") as err:
             self.process = subprocess.Popen(
                 [self.program, "--config", self.settings, "--shifts", str(shifts)],
-                stdin=subprocess.DEVNULL, stdout=out, stderr=err, cwd=self.folder, preexec_fn=with_the_starter())
+                stdin=subprocess.DEVNULL, stdout=out, stderr=err, cwd=self.folder, preexec_fn=with_the_starter(0, self.room))
 
     def start(self, shifts: int = 1_000_000, seconds: float = 30) -> tuple:
         """Starts the process, waits for its first line and for an answer, and gives the records and clients that it read."""
@@ -209,14 +213,28 @@ class Gateway:
         if self.process:
             self.process.wait(30)
 
-    def held(self) -> bytes:
-        """The octets of the journal."""
-        octets = b""
+    def make_room(self) -> None:
+        """The disk is not full any more."""
+        resource.prlimit(self.process.pid, resource.RLIMIT_FSIZE, (resource.RLIM_INFINITY, resource.RLIM_INFINITY))
+        self.room = 0
+
+    def openings(self) -> list:
+        """The records and clients that were read whenever the journal was opened, also in place."""
+        found = re.findall(r"^gateway \d+ records (\d+) clients (\d+)$", self.printed(), re.M)
+        return [(int(records), int(clients)) for records, clients in found]
+
+    def slots(self) -> list:
+        """The octets of the two files of the journal."""
+        octets = []
         for ending in (".0", ".1"):
             if os.path.exists(self.journal + ending):
                 with open(self.journal + ending, "rb") as file:
-                    octets += file.read()
+                    octets.append(file.read())
         return octets
+
+    def held(self) -> bytes:
+        """The octets of the journal."""
+        return b"".join(self.slots())
 
     def await_octets(self, octets: bytes, seconds: float = 20) -> float:
         """Waits until the octets stand in the journal, and gives the seconds that it took."""

@@ -3,3 +3,4 @@ mod Testing
 mod Items
 mod Firsts
 mod Naming
+mod Behind

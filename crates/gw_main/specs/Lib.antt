@@ -3,3 +3,4 @@ pub mod Addresses
 pub mod Keys
 pub mod Reading
 pub mod Beginning
+pub mod Tending

@@ -100,8 +100,9 @@ fn config_of(alloc: Global, settings: &Settings) -> Result<Config, NodeFault>
     })
 }
 
-/// The number of the journal's fault by which a refused opening is told.
-fn number_of(fault: &NodeFault) -> u8
+/// The number of the journal's fault by which a refused opening is told: 1 the disk failed; 2 the slots are no journal of this gateway;
+/// 3 a record is damaged, or does not fit to those before it; 4 memory ran out.
+pub fn number_of(fault: &NodeFault) -> u8
     ensures { result ≡ number_of (told fault.now) }
 {
     match fault {

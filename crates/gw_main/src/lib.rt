@@ -8,9 +8,11 @@
 //! - `addresses`: addresses as `a.b.c.d:port` (`address`).
 //! - `number`: numbers in decimal digits.
 //! - `beginning`: a gateway as its settings say, opened (`begin`).
+//! - `tending`: what is done with it between two shifts (`tend`).
 //!
 //! The definitions are in `specs/`: `Numbers`, `Addresses`, `Keys` (how keys are written), `Reading` (what a document says of each
-//! key, and which key is the first that it says nothing good of), `Beginning` (what the gateway is told, and how a refused opening is).
+//! key, and which key is the first that it says nothing good of), `Beginning` (what the gateway is told, and how a refused opening is),
+//! `Tending` (what becomes of a gateway that is tended).
 #![tactic(auto)]
 
 mod addresses;
@@ -21,8 +23,10 @@ mod lists;
 mod number;
 pub mod options;
 mod parsing;
+mod tending;
 
 pub use addresses::address;
-pub use beginning::{NO_JOURNAL, begin};
+pub use beginning::{NO_JOURNAL, begin, number_of};
 pub use fault::{Key, SettingsFault};
 pub use parsing::settings;
+pub use tending::{Tended, tend};

@@ -20,6 +20,8 @@ is_tick (steps.Tick now) = true
 is_tick (steps.View client) = false
 is_tick steps.Digest = false
 is_tick (steps.Answer digest) = false
+is_tick steps.Compact = false
+is_tick steps.Reopen = false
 
 -- another gateway's: a delta is taken, a digest is given or answered
 abbrev pub is_of_link : Step → Bool
@@ -29,3 +31,5 @@ is_of_link (steps.Tick now) = false
 is_of_link (steps.View client) = false
 is_of_link steps.Digest = true
 is_of_link (steps.Answer digest) = true
+is_of_link steps.Compact = false
+is_of_link steps.Reopen = false

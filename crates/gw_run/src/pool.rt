@@ -84,6 +84,16 @@ impl<S: Drop> Pool<S> {
         }
     }
 
+    /// Closes each link that waits for a seat. The other ends dial again, or are dialled, and say anew what they have.
+    pub fn close_all<T: Wait>(&self, rt: &T) {
+        let waiting = self.links.lock(rt).waiting.len();
+        for _ in 0..waiting {
+            if let Some(link) = self.take(rt) {
+                self.lose(rt, link);
+            }
+        }
+    }
+
     /// A link is closed.
     pub(crate) fn lose<T: Wait>(&self, rt: &T, link: Link<S>) {
         let origin = link.origin;

@@ -12,6 +12,8 @@ is_frame (steps.Tick now) = false
 is_frame (steps.View client) = false
 is_frame steps.Digest = false
 is_frame (steps.Answer digest) = false
+is_frame steps.Compact = false
+is_frame steps.Reopen = false
 
 abbrev pub AreFrames : List Held → Type 0
 AreFrames calls = All (λ (held : Held). is_frame held.step ≡ true) calls

@@ -53,7 +53,7 @@ pub(crate) fn words(alloc: Global, fault: &Fault) -> Result<String, AllocError> 
     match fault {
         Fault::Journal(JournalFault::Foreign) => String::from_str(
             alloc,
-            "no journal of this gateway: another header, a second slot that is not empty, or no seal",
+            "no journal of this gateway: another header, no seal, or two slots of one generation",
         ),
         Fault::Journal(JournalFault::BadRecord { slot, at }) => {
             let number = slot_number(*slot);

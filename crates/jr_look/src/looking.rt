@@ -2,7 +2,7 @@
 
 use crate::stop::Stop;
 use jr_journal::{JournalFault, Slot};
-use jr_read::{Misfit, Reading, owner, read, take_all};
+use jr_read::{Misfit, Reading, generation, owner, read, take_all};
 use rep_model::{Replica, TakeFault};
 use rep_state::Folded;
 use std::alloc::Global;
@@ -19,7 +19,7 @@ pub enum Fault {
     Record(Misfit),
 }
 
-/// A record that the end of the slot cuts.
+/// A record that the end of the slot that is read cuts.
 #[derive(Clone, Copy)]
 pub struct Torn {
     /// Its first octet.
@@ -33,12 +33,14 @@ pub struct Torn {
 pub struct Findings {
     /// The number of the gateway that would open it, if the journal tells one or one was given.
     pub gateway: Option<u8>,
-    /// The number that the header of the first slot tells, if it is long enough.
+    /// The number that a header tells: that of the first slot, or of the second where the first is too short.
     pub told: Option<u8>,
     /// How many octets the first slot has.
     pub first: usize,
     /// How many octets the second slot has.
     pub second: usize,
+    /// The generations that the headers of the first and the second slot tell, where they are whole.
+    pub generations: [Option<u64>; 2],
     /// There is no journal yet: an opening begins one.
     pub is_fresh: bool,
     /// The records that an opening reads, or where it refuses a record those in front.
@@ -58,13 +60,14 @@ pub(crate) fn look_at(
     first: &[u8],
     second: &[u8],
 ) -> Result<Findings, Stop> {
-    let told = owner(first);
+    let told = owner(first).or(owner(second));
     let gateway = asked.or(told);
     let mut seen = Findings {
         gateway,
         told,
         first: first.len(),
         second: second.len(),
+        generations: [generation(first), generation(second)],
         is_fresh: false,
         reading: None,
         torn: None,
@@ -75,7 +78,7 @@ pub(crate) fn look_at(
         Ok(reading) => settle(alloc, &mut seen, reading)?,
         Err(JournalFault::Memory) => return Err(Stop::Memory),
         Err(fault) => {
-            seen.reading = front(alloc, gateway.unwrap_or(0), first, fault);
+            seen.reading = front(alloc, gateway.unwrap_or(0), first, second, fault);
             seen.fault = Some(Fault::Journal(fault));
         }
     }
@@ -83,27 +86,47 @@ pub(crate) fn look_at(
 }
 
 /// What the records in front of a bad one are.
-fn front(alloc: Global, gateway: u8, first: &[u8], fault: JournalFault) -> Option<Reading> {
+fn front(
+    alloc: Global,
+    gateway: u8,
+    first: &[u8],
+    second: &[u8],
+    fault: JournalFault,
+) -> Option<Reading> {
     match fault {
         JournalFault::BadRecord {
             slot: Slot::First,
             at,
-        } if at <= first.len() => {
-            let (whole, _) = first.split_at(at);
-            read(alloc, gateway, whole, &[]).ok()
-        }
+        } => read(alloc, gateway, until(first, at), &[]).ok(),
+        JournalFault::BadRecord {
+            slot: Slot::Second,
+            at,
+        } => read(alloc, gateway, &[], until(second, at)).ok(),
         _ => None,
     }
 }
 
+/// The octets in front of a place, or all where there are fewer.
+fn until(octets: &[u8], at: usize) -> &[u8] {
+    if at > octets.len() {
+        return octets;
+    }
+    let (front, _) = octets.split_at(at);
+    front
+}
+
 /// The records are read, and are taken one after the other.
 fn settle(alloc: Global, seen: &mut Findings, reading: Reading) -> Result<(), Stop> {
-    if seen.first < BEGUN {
+    let size = match reading.slot {
+        Slot::First => seen.first,
+        Slot::Second => seen.second,
+    };
+    if seen.second == 0 && seen.first < BEGUN {
         seen.is_fresh = true;
-    } else if reading.whole < seen.first {
+    } else if reading.whole < size {
         seen.torn = Some(Torn {
             at: reading.whole,
-            octets: seen.first - reading.whole,
+            octets: size - reading.whole,
         });
     }
     let Ok(mut replica) = Folded::empty(alloc) else {

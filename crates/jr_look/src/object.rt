@@ -16,6 +16,9 @@ pub(crate) fn report(alloc: Global, seen: &Findings) -> Result<String, AllocErro
     let mut text = String::new(alloc);
     head(&mut text, seen)?;
     if let Some(reading) = &seen.reading {
+        if !seen.is_fresh {
+            read_slot(&mut text, reading)?;
+        }
         records(alloc, &mut text, reading)?;
     }
     if let Some(torn) = &seen.torn {
@@ -44,7 +47,30 @@ fn head(text: &mut String, seen: &Findings) -> Result<(), AllocError> {
     let first = seen.first;
     let second = seen.second;
     let fresh = seen.is_fresh;
-    write!(text, ",\"slots\":[{first},{second}],\"fresh\":{fresh}")
+    write!(text, ",\"slots\":[{first},{second}],\"generations\":[")?;
+    let [before, behind] = seen.generations;
+    number_or_null(text, before)?;
+    text.push_str(",")?;
+    number_or_null(text, behind)?;
+    write!(text, "],\"fresh\":{fresh}")
+}
+
+/// A number, where there is one.
+fn number_or_null(text: &mut String, found: Option<u64>) -> Result<(), AllocError> {
+    match found {
+        Some(number) => write!(text, "{number}"),
+        None => text.push_str("null"),
+    }
+}
+
+/// Which slot the records stand in, and its generation.
+fn read_slot(text: &mut String, reading: &Reading) -> Result<(), AllocError> {
+    let slot = slot_number(reading.slot);
+    let generation = reading.generation;
+    write!(
+        text,
+        ",\"read\":{{\"slot\":{slot},\"generation\":{generation}}}"
+    )
 }
 
 /// The records.

@@ -1,6 +1,6 @@
 //! The report in words.
 
-use crate::advice::{advice, number, words};
+use crate::advice::{advice, number, slot_number, words};
 use crate::changes::operation;
 use crate::clients::clients;
 use crate::looking::{Fault, Findings, Torn};
@@ -13,6 +13,9 @@ pub(crate) fn report(alloc: Global, seen: &Findings) -> Result<String, AllocErro
     let mut text = String::new(alloc);
     head(&mut text, seen)?;
     if let Some(reading) = &seen.reading {
+        if !seen.is_fresh {
+            read_slot(&mut text, reading)?;
+        }
         records(alloc, &mut text, reading)?;
     }
     if let Some(torn) = &seen.torn {
@@ -37,16 +40,39 @@ fn head(text: &mut String, seen: &Findings) -> Result<(), AllocError> {
         Some(told) => writeln!(text, "the header tells gateway {told}")?,
         None => text.push_str("no header tells a gateway\n")?,
     }
-    let first = seen.first;
-    let second = seen.second;
-    writeln!(text, "octets in slot 0: {first}, in slot 1: {second}")?;
+    let [before, behind] = seen.generations;
+    one_slot(text, 0, seen.first, before)?;
+    one_slot(text, 1, seen.second, behind)?;
     if seen.is_fresh {
         text.push_str("no journal yet: an opening begins one\n")?;
     }
     Ok(())
 }
 
-/// The records, each behind a line with its place.
+/// How long a slot is, and its generation.
+fn one_slot(
+    text: &mut String,
+    slot: u8,
+    octets: usize,
+    generation: Option<u64>,
+) -> Result<(), AllocError> {
+    match generation {
+        Some(generation) => writeln!(
+            text,
+            "slot {slot}: octets {octets}, generation {generation}"
+        ),
+        None => writeln!(text, "slot {slot}: octets {octets}, no header"),
+    }
+}
+
+/// Which slot the records stand in, and its generation.
+fn read_slot(text: &mut String, reading: &Reading) -> Result<(), AllocError> {
+    let slot = slot_number(reading.slot);
+    let generation = reading.generation;
+    writeln!(text, "records of slot {slot}, generation {generation}")
+}
+
+/// The records, each behind a line with its place in that slot.
 fn records(alloc: Global, text: &mut String, reading: &Reading) -> Result<(), AllocError> {
     let places = reading.places.as_slice();
     for (index, delta) in reading.records.as_slice().iter().enumerate() {

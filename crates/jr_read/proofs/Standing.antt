@@ -1,5 +1,5 @@
 -- Where records stand: the pieces of a slot, one record after the other.
-use Rattle.std.proofs.Common.{◌≡◌, ◌⊎◌, ℕ, suc, ◌+◌, ◌-◌, ◌≤◌, ◌<◌, Bool, true, false, List, [], ◌∷◌, ◌++◌, length, take, drop, get_or, refl, sym, ap, subst, ◌∙◌, inl, inr, arith, eqb-true, lit<}
+use Rattle.std.proofs.Common.{◌≡◌, ◌⊎◌, ℕ, suc, ◌+◌, ◌-◌, ◌≤◌, ◌<◌, Bool, true, false, List, [], ◌∷◌, ◌++◌, length, take, drop, get_or, refl, sym, ap, subst, ◌∙◌, inl, inr, arith, eqb-true}
 use Rattle.std.specs.Prelude.{◌==◌, None}
 use Rattle.std.specs.Int.{w32, from_be_bytes}
 use Rattle.std.proofs.lemmas.Bool.{cases_Bool}
@@ -7,13 +7,21 @@ use Rattle.std.proofs.lemmas.List.{drop_more, take_more, drop-drop, length-drop}
 use Rattle.rep_ops.specs.declared.op.Op.{Op}
 use Rattle.jr_journal.specs.declared.piece.Piece.TheVariants.{Whole, Seal, Torn, Bad}
 use Rattle.jr_journal.specs.declared.piece.Found.{Found}
-use Rattle.jr_journal.specs.declared.content.SlotContent.TheVariants.{Alien, Unsealed, Sealed, Broken}
-use Rattle.jr_journal.specs.Records.{piece_at, found, slot_content, chosen, records}
+use Rattle.jr_journal.specs.declared.content.SlotContent.TheVariants.{Sealed}
+use Rattle.jr_journal.specs.declared.disk.Slot.{Slot}
+use Rattle.jr_journal.specs.declared.disk.Slot.TheVariants.{First, Second}
+use Rattle.jr_journal.specs.declared.opening.Opening.{Opening}
+use Rattle.jr_journal.specs.declared.opening.Opening.TheVariants.{New, Held}
+use Rattle.jr_journal.specs.Disk.{Image}
+use Rattle.jr_journal.specs.Records.{piece_at, found, slot_content, records}
 use Rattle.jr_journal.specs.Faults.{fault_of}
+use Rattle.jr_journal.specs.Opening.{slot_read, opening_of, deltas_of, place_of, IsOpening}
 use Rattle.jr_journal.proofs.Pieces.{record_shape, seal_same, found_record, found_seal, found_second_seal, found_torn, found_bad, found_nothing, found_skip}
-use Rattle.jr_journal.proofs.Contents.{content_cut, sealed_shape}
+use Rattle.jr_journal.proofs.Contents.{sealed_shape}
+use Rattle.jr_journal.proofs.Sound.{image_at}
+use Rattle.jr_journal.proofs.Opened.{Ruled, ruled, opening_records, opening_place}
 use Rattle.jr_read.specs.declared.places.Place.{Place}
-use Rattle.jr_read.specs.Places.{slots_of, piece_in, IsPlaced, ArePlaced, Holds, after_seal}
+use Rattle.jr_read.specs.Places.{octets_in, piece_in, IsPlaced, ArePlaced, Holds, after_seal}
 
 -- ---- one record
 
@@ -104,31 +112,25 @@ next (b ∷ rest) d ds h =
 
 -- ---- the records of two slots
 
-alone : (gateway : ℕ) (first second : List ℕ) → fault_of gateway (slots_of first second) ≡ None → second ≡ []
-alone gateway first [] none = refl
-alone gateway first (b ∷ rest) none = absurd cc
-
-empty_slot : (gateway : ℕ) → slot_content gateway [] ≡ Unsealed
-empty_slot gateway = sym (content_cut gateway [] refl (lit< tt))
-
 -- the records of a slot are those behind its header, or there is none
 abbrev pub AreAll : List ℕ → List (List Op) → Type 0
 AreAll bytes deltas = (deltas ≡ []) ⊎ Holds bytes deltas
 
-beside_nothing : (gateway : ℕ) (first : List ℕ) → AreAll (drop 13 first) (chosen (slot_content gateway first) Unsealed)
-beside_nothing gateway first =
-    elim (slot_content gateway first) as (λ c. slot_content gateway first ≡ c → AreAll (drop 13 first) (chosen c Unsealed)) [
-      | Alien ↦ λ e. inl refl
-      | Unsealed ↦ λ e. inl refl
-      | Sealed m f ↦ λ e. inr (false, ap (λ (g : Found). g.deltas) (sealed_shape gateway first m f e).pieces)
-      | Broken at ↦ λ e. inl refl
-    ] refl
+sealed_holds : (gateway : ℕ) (slot : Slot) (i : Image) (m : ℕ) (f : Found) → slot_content gateway (image_at i slot) ≡ Sealed m f → Holds (drop 13 (octets_in i slot)) f.deltas
+sealed_holds gateway First i m f e = (false, ap (λ (g : Found). g.deltas) (sealed_shape gateway i.first m f e).pieces)
+sealed_holds gateway Second i m f e = (false, ap (λ (g : Found). g.deltas) (sealed_shape gateway i.second m f e).pieces)
 
-pub all_records : (gateway : ℕ) (first second : List ℕ) (deltas : List (List Op)) → deltas ≡ records gateway (slots_of first second) → fault_of gateway (slots_of first second) ≡ None → AreAll (drop 13 first) deltas
-all_records gateway first second deltas is none =
-    let content : slot_content gateway second ≡ Unsealed = ap (λ xs. slot_content gateway xs) (alone gateway first second none) ∙ empty_slot gateway in
-    let e : deltas ≡ chosen (slot_content gateway first) Unsealed = is ∙ ap (λ c. chosen (slot_content gateway first) c) content in
-    subst (λ (ds : List (List Op)). AreAll (drop 13 first) ds) (sym e) (beside_nothing gateway first)
+-- the records that are read are those of the slot that is read
+pub all_records : (gateway : ℕ) (i : Image) (slot : Slot) (deltas : List (List Op)) → deltas ≡ records gateway i → slot ≡ slot_read gateway i → fault_of gateway i ≡ None → AreAll (drop 13 (octets_in i slot)) deltas
+all_records gateway i slot deltas is place none =
+    let o = opening_of (slot_content gateway i.first) (length i.first) (slot_content gateway i.second) (length i.second) in
+    let h : IsOpening gateway i o = (none, refl) in
+    go o (ruled gateway i o h) (is ∙ sym (opening_records gateway i o h)) (place ∙ sym (opening_place gateway i o h).0)
+  where
+    go : (o : Opening) → Ruled gateway i o → deltas ≡ deltas_of o → slot ≡ place_of o → AreAll (drop 13 (octets_in i slot)) deltas
+    go New r same there = inl same
+    go (Held used m f n) r same there =
+        inr (subst (λ (s : Slot). Holds (drop 13 (octets_in i s)) deltas) (sym there) (subst (λ (ds : List (List Op)). Holds (drop 13 (octets_in i used)) ds) (sym same) (sealed_holds gateway used i m f r.0)))
 
 -- ---- one record after the other
 

@@ -1,6 +1,8 @@
 -- Where records stand in their slot, and what is told of two slots.
 use Rattle.std.specs.Prelude.{◌≡◌, ℕ, ◌+◌, ◌==◌, Bool, if◌then◌else◌, List, [], ◌∷◌, drop, Option, Some}
 use Rattle.rep_ops.specs.declared.op.Op.{Op}
+use Rattle.jr_journal.specs.declared.disk.Slot.{Slot}
+use Rattle.jr_journal.specs.declared.disk.Slot.TheVariants.{First, Second}
 use Rattle.jr_journal.specs.declared.fault.JournalFault.{JournalFault}
 use Rattle.jr_journal.specs.declared.fault.JournalFault.TheVariants.{Disk, Foreign, BadRecord, Memory, Halted}
 use Rattle.jr_journal.specs.declared.piece.Piece.{Piece}
@@ -12,6 +14,11 @@ use Rattle.jr_read.specs.declared.places.Place.{Place}
 -- two slots that hold these octets
 abbrev pub slots_of : List ℕ → List ℕ → Image
 slots_of first second = record { first = first; second = second }
+
+-- the octets of one of them
+abbrev pub octets_in : Image → Slot → List ℕ
+octets_in i First = i.first
+octets_in i Second = i.second
 
 -- what an opening tells of them: the fault that there is, or that memory ran out
 abbrev pub IsTold : Option JournalFault → JournalFault → Type 0

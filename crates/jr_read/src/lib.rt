@@ -1,6 +1,7 @@
 //! What an opening would read of the two slots of a journal, without a disk: nothing is written.
 //!
-//! - `reading`: the records of two slots, or the fault that an opening tells of them (`read`); whose journal it is (`owner`).
+//! - `reading`: the records of two slots, or the fault that an opening tells of them (`read`); whose journal it is (`owner`), and which
+//!   generation a slot has (`generation`).
 //! - `places`: where the records stand in their slot (`Place`).
 //! - `folding`: records are taken by a replica, one after the other (`take_all`).
 //!
@@ -14,4 +15,4 @@ mod reading;
 
 pub use folding::{Misfit, take_all};
 pub use places::Place;
-pub use reading::{Reading, owner, read};
+pub use reading::{Reading, generation, owner, read};

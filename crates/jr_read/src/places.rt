@@ -9,7 +9,7 @@ use rep_ops::Delta;
 use std::alloc::{AllocError, Global};
 
 /// How many octets a header has.
-const HEADER: usize = 13;
+pub(crate) const HEADER: usize = 13;
 
 /// The octet that is a seal.
 const SEAL: u8 = 0x53;

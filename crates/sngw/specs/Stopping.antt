@@ -12,6 +12,7 @@ status_of (stops.Key key) = 1
 status_of stops.Disk = 2
 status_of stops.NoMemory = 2
 status_of stops.Opening = 2
+status_of (stops.Reopening number) = 2
 status_of stops.Socket = 3
 status_of stops.Memory = 4
 status_of stops.History = 5

@@ -4,6 +4,7 @@ use crate::doors::{Door, doors_of, keep_all};
 use crate::stop::Stop;
 use crate::working::work;
 use gw_main::options::Settings;
+use gw_main::{Tended, number_of, tend};
 use gw_node::Node;
 use gw_run::{Phase, Pool, Stage};
 use gw_wire::{Socket, address};
@@ -113,7 +114,7 @@ where
     worked
 }
 
-/// The shifts, each with a line when it is over.
+/// The shifts, each with a line when it is over. Behind each the gateway is tended.
 fn work_all<T, R, D>(
     rt: &T,
     alloc: Global,
@@ -133,9 +134,47 @@ where
         let Some(node) = place.lock(rt).take() else {
             return Ok(());
         };
-        let (node, steps) = work(rt, alloc, settings, node, socket, pool)?;
-        *place.lock(rt) = Some(node);
+        let (mut node, steps) = work(rt, alloc, settings, node, socket, pool)?;
         let _ = println!(rt; "shift {} steps {}", number + 1, steps);
+        tend_behind(rt, alloc, &mut node, pool)?;
+        *place.lock(rt) = Some(node);
     }
     Ok(())
+}
+
+/// Tends the gateway behind a shift. Where it was opened anew, how it stands is printed as at the start, and the links are closed: it
+/// may have read what it never told, and over a new link the other end asks for that.
+fn tend_behind<T, R, D, S>(
+    rt: &T,
+    alloc: Global,
+    node: &mut Node<R, D>,
+    pool: &Pool<S>,
+) -> Result<(), Stop>
+where
+    T: Wait + Print,
+    R: Replica,
+    D: Disk + Drop,
+    S: Drop,
+{
+    match tend(alloc, node) {
+        Ok(Tended::Kept) => Ok(()),
+        Ok(Tended::Reopened) => {
+            pool.close_all(rt);
+            tell(rt, alloc, node);
+            Ok(())
+        }
+        Err(fault) => Err(Stop::Reopening(number_of(&fault))),
+    }
+}
+
+/// Prints how the gateway stands. Where memory runs out the line is let go.
+fn tell<T: Print, R: Replica, D: Disk + Drop>(rt: &T, alloc: Global, node: &Node<R, D>) {
+    if let Ok(clients) = node.clients(alloc) {
+        let _ = println!(rt;
+            "gateway {} records {} clients {}",
+            node.gateway(),
+            node.records(),
+            clients.len()
+        );
+    }
 }

@@ -21,7 +21,7 @@ pub enum Stop {
     /// A key is missing, or what stands there is not good.
     #[error("settings {0}")]
     Key(Key),
-    /// The two files of the journal cannot be opened, or a write to them failed.
+    /// The two files of the journal cannot be opened.
     #[error("journal J1")]
     Disk,
     /// Memory ran out before the journal was opened.
@@ -30,6 +30,9 @@ pub enum Stop {
     /// The journal cannot be opened. That was printed.
     #[error("journal")]
     Opening,
+    /// The journal cannot be opened anew behind a shift, for the fault of this number.
+    #[error("journal J{0}")]
+    Reopening(u8),
     /// A socket cannot be had, or a receive failed.
     #[error("socket")]
     Socket,
@@ -48,7 +51,7 @@ impl Stop {
     {
         match self {
             Stop::Arguments | Stop::File | Stop::Text | Stop::Key(_) => 1,
-            Stop::Disk | Stop::NoMemory | Stop::Opening => 2,
+            Stop::Disk | Stop::NoMemory | Stop::Opening | Stop::Reopening(_) => 2,
             Stop::Socket => 3,
             Stop::Memory => 4,
             Stop::History => 5,

@@ -302,15 +302,15 @@ where
     }
 }
 
-/// Takes the passes from their seats, unless one was left for a cause that ends the program.
+/// Takes the passes from their seats, unless one was left for a cause that ends the program. That the gateway is halted is none: it is
+/// opened anew behind the shift.
 fn gather(passes: &mut Vec<Pass>, seats: Vec<Option<Seat>>) -> Result<(), Stop> {
     for slot in seats {
         if let Some(seat) = slot {
             match seat.end {
-                None | Some(End::Full) | Some(End::Lost) => {}
+                None | Some(End::Full) | Some(End::Lost) | Some(End::Halted) => {}
                 Some(End::Memory) => return Err(Stop::Memory),
                 Some(End::Behind) => return Err(Stop::History),
-                Some(End::Halted) => return Err(Stop::Disk),
             }
             if passes.push(seat.pass).is_err() {
                 return Err(Stop::Memory);

@@ -1,0 +1,82 @@
+//! What is done with a gateway between two shifts.
+
+ghost use Rattle.std.specs.Prelude.{◌≡◌, true, false, OnOk, OnErr, IfErr, MatchResult};
+ghost use Rattle.gw_node.specs.Parts.{state_of, told, is_halted as is_stopped};
+ghost use Rattle.gw_node.specs.Opening.{ReopenCall};
+ghost use Rattle.gw_node.specs.Carrying.{TakesNothing, TakesAgain};
+ghost use Rattle.gw_main.specs.Tending.{OpensAnew, EndsAs, EndsRefused, IsTended, IsGivenUp, TakesOn};
+
+use gw_node::{Node, NodeFault};
+use jr_journal::Disk;
+use rep_model::Replica;
+use std::alloc::Global;
+
+/// What became of a gateway that was tended.
+#[derive(Clone, Copy, Debug, PartialEq, Eq)]
+pub enum Tended {
+    /// It goes on as it was. Its journal may be a shorter one.
+    Kept,
+    /// It was opened anew from its journal, and knows no bindings, dialogs and timers.
+    Reopened,
+}
+
+/// Tends a gateway between two shifts. One that is halted is opened anew from its journal. Then the journal is written anew without what no
+/// longer counts; where its generation is the last there is, or memory ran out, it stays as it is, and where the disk failed in
+/// that, the gateway is opened anew from what the disk holds.
+///
+/// A gateway that was tended is not halted. The fault is that of an opening, want of memory too, and the gateway is halted then. Whatever it
+/// had taken it has taken still.
+pub fn tend<R: Replica, D: Disk + Drop>(
+    alloc: Global,
+    node: &mut Node<R, D>,
+) -> Result<Tended, NodeFault>
+    ensures runs { OnOk result (is_stopped (state_of R.kept node.new) ≡ false) }
+    ensures halts { OnErr result (is_stopped (state_of R.kept node.new) ≡ true) }
+    ensures tended { MatchResult result (λ tended. IsTended (state_of R.kept node.old) tended (state_of R.kept node.new)) (λ fault. IsGivenUp (state_of R.kept node.old) (told fault) (state_of R.kept node.new)) }
+    ensures taken { D.honest → TakesOn (state_of R.kept node.old) (state_of R.kept node.new) }
+{
+    if !node.is_halted() {
+        return compact(alloc, node);
+    }
+    open_anew(alloc, node)?;
+    match compact(alloc, node) {
+        Ok(_) => Ok(Tended::Reopened),
+        Err(fault) => Err(fault),
+    }
+}
+
+/// Opens a gateway anew.
+fn open_anew<R: Replica, D: Disk + Drop>(
+    alloc: Global,
+    node: &mut Node<R, D>,
+) -> Result<(), NodeFault>
+    ensures ok { OnOk result (OpensAnew (state_of R.kept node.old) (state_of R.kept node.new)) }
+    ensures err { IfErr result (λ fault. ReopenCall (state_of R.kept node.old) (Err (told fault)) (state_of R.kept node.new)) }
+    ensures again { OnOk result (TakesAgain (state_of R.kept node.old) (state_of R.kept node.new)) }
+    ensures nothing { OnErr result (TakesNothing (state_of R.kept node.old) (state_of R.kept node.new)) }
+{
+    match node.reopen(alloc) {
+        Ok(_) => Ok(()),
+        Err(fault) => Err(fault),
+    }
+}
+
+/// Writes the journal of a gateway anew that is not halted. Where the disk failed in that the gateway is opened anew.
+fn compact<R: Replica, D: Disk + Drop>(
+    alloc: Global,
+    node: &mut Node<R, D>,
+) -> Result<Tended, NodeFault>
+    requires { is_stopped (state_of R.kept node.old) ≡ false }
+    ensures runs { OnOk result (is_stopped (state_of R.kept node.new) ≡ false) }
+    ensures halts { OnErr result (is_stopped (state_of R.kept node.new) ≡ true) }
+    ensures ends { MatchResult result (λ tended. EndsAs (state_of R.kept node.old) tended (state_of R.kept node.new)) (λ fault. EndsRefused (state_of R.kept node.old) (told fault) (state_of R.kept node.new)) }
+    ensures taken { D.honest → TakesOn (state_of R.kept node.old) (state_of R.kept node.new) }
+{
+    match node.compact(alloc) {
+        Err(NodeFault::Disk { .. }) => match open_anew(alloc, node) {
+            Ok(()) => Ok(Tended::Reopened),
+            Err(fault) => Err(fault),
+        },
+        Ok(_) | Err(_) => Ok(Tended::Kept),
+    }
+}
