@@ -6,6 +6,8 @@
 #[cfg(test)]
 mod deliveries;
 #[cfg(test)]
+mod going_on;
+#[cfg(test)]
 mod journals;
 #[cfg(test)]
 mod limits;

@@ -1,0 +1,181 @@
+//! Changes of a session as fields of a line.
+
+use crate::fields::{body, filter, is_first, message_number, octet, small_number, topic};
+use crate::stop::Stop;
+use sn_session::{Outbound, Phase, Presence, Session, SessionOp, WillTopic};
+use std::alloc::Global;
+
+/// The change that fields say; `take` holds the session that was described.
+pub(crate) fn change(alloc: Global, session: &Session, fields: &[&str]) -> Result<SessionOp, Stop> {
+    let Some((first, rest)) = fields.split_first() else {
+        return Err(Stop::Line);
+    };
+    match *first {
+        "take" => taken(alloc, session, rest),
+        "presence" => elsewhere(rest),
+        "register" => registered(alloc, rest),
+        "subscribe" => subscribed(alloc, rest),
+        "unsubscribe" => unsubscribed(alloc, rest),
+        other => later_change(alloc, other, rest),
+    }
+}
+
+/// Wills, ids that were received, exchanges.
+fn later_change(alloc: Global, first: &str, rest: &[&str]) -> Result<SessionOp, Stop> {
+    match first {
+        "will" => will_topic(alloc, rest),
+        "message" => will_message(alloc, rest),
+        "received" => received(rest),
+        "released" => released(rest),
+        "exchange" => exchange(rest),
+        _ => Err(Stop::Line),
+    }
+}
+
+/// A gateway takes the client over.
+fn taken(alloc: Global, session: &Session, rest: &[&str]) -> Result<SessionOp, Stop> {
+    if !rest.is_empty() {
+        return Err(Stop::Line);
+    }
+    match session.copy(alloc) {
+        Ok(copy) => Ok(SessionOp::Take(copy)),
+        Err(_) => Err(Stop::Memory),
+    }
+}
+
+/// Where a client is.
+pub(crate) fn presence(text: &str) -> Result<Presence, Stop> {
+    match text {
+        "active" => Ok(Presence::Active),
+        "asleep" => Ok(Presence::Asleep),
+        "awake" => Ok(Presence::Awake),
+        "disconnected" => Ok(Presence::Disconnected),
+        "lost" => Ok(Presence::Lost),
+        _ => Err(Stop::Line),
+    }
+}
+
+/// `presence WHERE SECONDS`
+fn elsewhere(rest: &[&str]) -> Result<SessionOp, Stop> {
+    let [place, seconds] = rest else {
+        return Err(Stop::Line);
+    };
+    Ok(SessionOp::Presence {
+        presence: presence(place)?,
+        duration: small_number(seconds)?,
+    })
+}
+
+/// `register ID NAME known` or `new`
+fn registered(alloc: Global, rest: &[&str]) -> Result<SessionOp, Stop> {
+    let [id, name, known] = rest else {
+        return Err(Stop::Line);
+    };
+    let id = small_number(id)?;
+    let known = is_first(known, "known", "new")?;
+    Ok(SessionOp::Register {
+        id,
+        name: topic(alloc, name)?,
+        known,
+    })
+}
+
+/// `subscribe FILTER QOS`
+fn subscribed(alloc: Global, rest: &[&str]) -> Result<SessionOp, Stop> {
+    let [asked, qos] = rest else {
+        return Err(Stop::Line);
+    };
+    let qos = octet(qos)?;
+    Ok(SessionOp::Subscribe {
+        filter: filter(alloc, asked)?,
+        qos,
+    })
+}
+
+/// `unsubscribe FILTER`
+fn unsubscribed(alloc: Global, rest: &[&str]) -> Result<SessionOp, Stop> {
+    let [asked] = rest else {
+        return Err(Stop::Line);
+    };
+    Ok(SessionOp::Unsubscribe {
+        filter: filter(alloc, asked)?,
+    })
+}
+
+/// `will none`, or `will TOPIC QOS retained` or `fleeting`
+fn will_topic(alloc: Global, rest: &[&str]) -> Result<SessionOp, Stop> {
+    match rest {
+        ["none"] => Ok(SessionOp::WillTopic(None)),
+        [name, qos, kept] => {
+            let qos = octet(qos)?;
+            let retain = is_first(kept, "retained", "fleeting")?;
+            Ok(SessionOp::WillTopic(Some(WillTopic {
+                topic: topic(alloc, name)?,
+                qos,
+                retain,
+            })))
+        }
+        _ => Err(Stop::Line),
+    }
+}
+
+/// `message BODY`
+fn will_message(alloc: Global, rest: &[&str]) -> Result<SessionOp, Stop> {
+    let [message] = rest else {
+        return Err(Stop::Line);
+    };
+    Ok(SessionOp::WillMsg(body(alloc, message)?))
+}
+
+/// `received ID`
+fn received(rest: &[&str]) -> Result<SessionOp, Stop> {
+    let [id] = rest else {
+        return Err(Stop::Line);
+    };
+    Ok(SessionOp::Received {
+        id: small_number(id)?,
+    })
+}
+
+/// `released ID`
+fn released(rest: &[&str]) -> Result<SessionOp, Stop> {
+    let [id] = rest else {
+        return Err(Stop::Line);
+    };
+    Ok(SessionOp::Released {
+        id: small_number(id)?,
+    })
+}
+
+/// How far an exchange is.
+fn phase(text: &str) -> Result<Phase, Stop> {
+    match text {
+        "registering" => Ok(Phase::Registering),
+        "published" => Ok(Phase::Published),
+        "released" => Ok(Phase::Released),
+        _ => Err(Stop::Line),
+    }
+}
+
+/// `exchange none NEXT`, or `exchange ORIGIN.NUMBER ID PHASE NEXT`
+fn exchange(rest: &[&str]) -> Result<SessionOp, Stop> {
+    match rest {
+        ["none", next] => Ok(SessionOp::Outbound {
+            exchange: None,
+            next_id: small_number(next)?,
+        }),
+        [message, id, far, next] => {
+            let (origin, seq) = message_number(message)?;
+            Ok(SessionOp::Outbound {
+                exchange: Some(Outbound {
+                    origin,
+                    seq,
+                    msg_id: small_number(id)?,
+                    phase: phase(far)?,
+                }),
+                next_id: small_number(next)?,
+            })
+        }
+        _ => Err(Stop::Line),
+    }
+}

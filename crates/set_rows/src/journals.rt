@@ -1,0 +1,263 @@
+//! Lines about a journal and its disk.
+
+use crate::deltas::made;
+use crate::fields::{count, octet};
+use crate::printing::print_delta;
+use crate::stop::Stop;
+use crate::words::{journal_fault, shown_octets, slot_word};
+use jr_journal::{Disk, Journal, JournalFault, MemoryDisk, Slot};
+use rep_ops::{Delta, Op};
+use std::alloc::Global;
+use std::mem;
+
+/// A disk, or the journal on it while that is open.
+#[derive(Drop)]
+pub(crate) struct Store {
+    /// The disk while no journal is open on it.
+    disk: MemoryDisk,
+    journal: Option<Journal<MemoryDisk>>,
+}
+
+/// An empty disk.
+pub(crate) fn empty(alloc: Global) -> Store {
+    Store {
+        disk: MemoryDisk::new(alloc),
+        journal: None,
+    }
+}
+
+/// The disk, which no journal may be open on.
+fn closed(store: &mut Store) -> Result<&mut MemoryDisk, Stop> {
+    if store.journal.is_some() {
+        return Err(Stop::Line);
+    }
+    Ok(&mut store.disk)
+}
+
+/// The journal, which is to be open.
+fn opened(store: &mut Store) -> Result<&mut Journal<MemoryDisk>, Stop> {
+    match &mut store.journal {
+        None => Err(Stop::Line),
+        Some(journal) => Ok(journal),
+    }
+}
+
+/// A slot.
+pub(crate) fn slot(text: &str) -> Result<Slot, Stop> {
+    match text {
+        "first" => Ok(Slot::First),
+        "second" => Ok(Slot::Second),
+        _ => Err(Stop::Line),
+    }
+}
+
+/// Puts octets behind those of a slot, and makes them durable.
+pub(crate) fn put(disk: &mut MemoryDisk, slot: Slot, bytes: &[u8]) -> Result<(), Stop> {
+    if disk.append(slot, bytes).is_err() || disk.sync(slot).is_err() {
+        return Err(Stop::Memory);
+    }
+    Ok(())
+}
+
+/// All octets of a slot.
+pub(crate) fn octets_of(alloc: Global, disk: &mut MemoryDisk, slot: Slot) -> Result<Vec<u8>, Stop> {
+    let Ok(size) = disk.len(slot) else {
+        return Err(Stop::Memory);
+    };
+    let mut octets = vec![in alloc; 0u8; size]?;
+    if disk.read_at(slot, 0, &mut octets).is_err() {
+        return Err(Stop::Memory);
+    }
+    Ok(octets)
+}
+
+/// `store SLOT`: the octets stand behind those of a slot, synced.
+pub(crate) fn stored(store: &mut Store, bytes: &[u8], fields: &[&str]) -> Result<(), Stop> {
+    let [name] = fields else {
+        return Err(Stop::Line);
+    };
+    let slot = slot(name)?;
+    put(closed(store)?, slot, bytes)
+}
+
+/// `fail COUNT` or `fail sync`: the next append goes out so far, or goes out and is not synced.
+pub(crate) fn fail(store: &mut Store, fields: &[&str]) -> Result<(), Stop> {
+    let disk = closed(store)?;
+    match fields {
+        ["sync"] => disk.fail_next(0, true),
+        [far] => disk.fail_next(count(far)?, false),
+        _ => return Err(Stop::Line),
+    }
+    Ok(())
+}
+
+/// `crash COUNT` or `crash all`: of what is not synced so many octets of each slot are left.
+pub(crate) fn crash(store: &mut Store, fields: &[&str]) -> Result<(), Stop> {
+    let disk = closed(store)?;
+    match fields {
+        ["all"] => disk.crash(usize::MAX),
+        [kept] => disk.crash(count(kept)?),
+        _ => return Err(Stop::Line),
+    }
+    Ok(())
+}
+
+/// Says why a journal refuses.
+pub(crate) fn refused(alloc: Global, text: &mut String, fault: JournalFault) -> Result<(), Stop> {
+    let why = journal_fault(alloc, fault)?;
+    Ok(writeln!(text, "refused {why}")?)
+}
+
+/// The records that an opening read.
+pub(crate) fn print_records(
+    alloc: Global,
+    text: &mut String,
+    deltas: &[Delta],
+) -> Result<(), Stop> {
+    let count = deltas.len();
+    writeln!(text, "records {count}")?;
+    for delta in deltas {
+        print_delta(alloc, text, delta)?;
+    }
+    Ok(())
+}
+
+/// `open GATEWAY`: the journal of a gateway is opened.
+pub(crate) fn open(
+    alloc: Global,
+    text: &mut String,
+    store: &mut Store,
+    fields: &[&str],
+) -> Result<(), Stop> {
+    let [gateway] = fields else {
+        return Err(Stop::Line);
+    };
+    let gateway = octet(gateway)?;
+    let disk = mem::replace(closed(store)?, MemoryDisk::new(alloc));
+    match Journal::open(alloc, disk, gateway) {
+        Ok((journal, deltas)) => {
+            store.journal = Some(journal);
+            print_records(alloc, text, deltas.as_slice())
+        }
+        Err((disk, fault)) => {
+            store.disk = disk;
+            refused(alloc, text, fault)
+        }
+    }
+}
+
+/// `append`: the delta of the operations is a new record.
+pub(crate) fn append(
+    alloc: Global,
+    text: &mut String,
+    store: &mut Store,
+    ops: Vec<Op>,
+) -> Result<(), Stop> {
+    let Some(delta) = made(alloc, text, ops)? else {
+        return Ok(());
+    };
+    match opened(store)?.append(alloc, &delta) {
+        Ok(()) => Ok(text.push_str("appended\n")?),
+        Err(fault) => refused(alloc, text, fault),
+    }
+}
+
+/// A delta for each operation.
+pub(crate) fn base_of(
+    alloc: Global,
+    text: &mut String,
+    ops: Vec<Op>,
+) -> Result<Option<Vec<Delta>>, Stop> {
+    let mut base = Vec::new(alloc);
+    for op in ops {
+        match made(alloc, text, vec![in alloc; op]?)? {
+            None => return Ok(None),
+            Some(delta) => base.push(delta)?,
+        }
+    }
+    Ok(Some(base))
+}
+
+/// `compact`: the operations, each a record, take the place of all records.
+pub(crate) fn compact(
+    alloc: Global,
+    text: &mut String,
+    store: &mut Store,
+    ops: Vec<Op>,
+) -> Result<(), Stop> {
+    let Some(base) = base_of(alloc, text, ops)? else {
+        return Ok(());
+    };
+    match opened(store)?.compact(alloc, base.as_slice()) {
+        Ok(()) => Ok(text.push_str("compacted\n")?),
+        Err(fault) => refused(alloc, text, fault),
+    }
+}
+
+/// `reopen`: the journal is opened once more as it stands.
+pub(crate) fn reopen(alloc: Global, text: &mut String, store: &mut Store) -> Result<(), Stop> {
+    match opened(store)?.reopen(alloc) {
+        Ok(deltas) => print_records(alloc, text, deltas.as_slice()),
+        Err(fault) => refused(alloc, text, fault),
+    }
+}
+
+/// `halt`: the journal is stopped.
+pub(crate) fn halt(store: &mut Store) -> Result<(), Stop> {
+    opened(store)?.halt();
+    Ok(())
+}
+
+/// `place`: the slot that the journal writes.
+pub(crate) fn place(text: &mut String, store: &mut Store) -> Result<(), Stop> {
+    let name = slot_word(opened(store)?.slot());
+    Ok(writeln!(text, "goes on in {name}")?)
+}
+
+/// `halted`: whether the journal has stopped, and whether memory was refused in its disk.
+pub(crate) fn halted(text: &mut String, store: &mut Store) -> Result<(), Stop> {
+    let journal = opened(store)?;
+    let (is_halted, starved) = (journal.is_halted(), journal.starved());
+    Ok(writeln!(text, "halted: {is_halted}, starved: {starved}")?)
+}
+
+/// `close`: the journal is closed, and the disk is as it stands.
+pub(crate) fn close(store: &mut Store) -> Result<(), Stop> {
+    match store.journal.take() {
+        None => Err(Stop::Line),
+        Some(journal) => {
+            store.disk = journal.into_disk();
+            Ok(())
+        }
+    }
+}
+
+/// `slots`: the octets of both slots, and whether memory was refused in the disk.
+pub(crate) fn slots(alloc: Global, text: &mut String, store: &mut Store) -> Result<(), Stop> {
+    let disk = closed(store)?;
+    print_slot(alloc, text, disk, Slot::First)?;
+    print_slot(alloc, text, disk, Slot::Second)?;
+    let starved = disk.starved();
+    Ok(writeln!(text, "starved: {starved}")?)
+}
+
+/// The octets of a slot.
+fn print_slot(
+    alloc: Global,
+    text: &mut String,
+    disk: &mut MemoryDisk,
+    slot: Slot,
+) -> Result<(), Stop> {
+    let octets = octets_of(alloc, disk, slot)?;
+    let name = slot_word(slot);
+    let digits = shown_octets(alloc, &octets)?;
+    Ok(writeln!(text, "{name} {digits}")?)
+}
+
+/// What both slots of a closed disk hold.
+pub(crate) fn both(alloc: Global, store: &mut Store) -> Result<(Vec<u8>, Vec<u8>), Stop> {
+    let disk = closed(store)?;
+    let first = octets_of(alloc, disk, Slot::First)?;
+    let second = octets_of(alloc, disk, Slot::Second)?;
+    Ok((first, second))
+}

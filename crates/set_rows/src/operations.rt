@@ -1,0 +1,175 @@
+//! Lines that describe a session or add operations.
+
+use crate::changes::{change, presence};
+use crate::fields::{
+    body, client, count, is_first, message_number, number, octet, small_number, stamp, topic,
+};
+use crate::stop::Stop;
+use octets::Octets;
+use rep_ops::{ClientId, Op, OpsFault, Put, Stamp};
+use sn_session::{Session, SessionFault};
+use std::alloc::Global;
+
+/// `session WHERE clean SECONDS` or `kept`: a session without anything else.
+pub(crate) fn described(alloc: Global, fields: &[&str]) -> Result<Session, Stop> {
+    let [place, kind, seconds] = fields else {
+        return Err(Stop::Line);
+    };
+    let mut session = Session::empty(alloc);
+    session.presence = presence(place)?;
+    session.clean = is_first(kind, "clean", "kept")?;
+    session.duration = small_number(seconds)?;
+    Ok(session)
+}
+
+/// `apply CHANGE`: the session changes.
+pub(crate) fn apply(alloc: Global, session: &mut Session, fields: &[&str]) -> Result<(), Stop> {
+    let made = change(alloc, session, fields)?;
+    match session.apply(alloc, &made) {
+        Ok(()) => Ok(()),
+        Err(SessionFault::Memory) => Err(Stop::Memory),
+        Err(SessionFault::Full) => Err(Stop::Line),
+    }
+}
+
+/// `op CLIENT EPOCH.GATEWAY COUNTER CHANGE`: a change of a session.
+pub(crate) fn session_op(alloc: Global, session: &Session, fields: &[&str]) -> Result<Op, Stop> {
+    let [name, under, counter, rest @ ..] = fields else {
+        return Err(Stop::Line);
+    };
+    let stamp = stamp(under)?;
+    let counter = octet(counter)?;
+    changed(alloc, session, name, stamp, counter, rest)
+}
+
+/// A change of a session under a counter.
+fn changed(
+    alloc: Global,
+    session: &Session,
+    name: &str,
+    stamp: Stamp,
+    counter: u8,
+    fields: &[&str],
+) -> Result<Op, Stop> {
+    Ok(Op::Session {
+        client: client(alloc, name)?,
+        stamp,
+        counter,
+        change: change(alloc, session, fields)?,
+    })
+}
+
+/// `ops CLIENT EPOCH.GATEWAY FIRST LAST CHANGE`: the same change under each counter from the first to the last.
+pub(crate) fn session_ops(
+    alloc: Global,
+    session: &Session,
+    ops: &mut Vec<Op>,
+    fields: &[&str],
+) -> Result<(), Stop> {
+    let [name, under, first, last, rest @ ..] = fields else {
+        return Err(Stop::Line);
+    };
+    let stamp = stamp(under)?;
+    let (first, last) = (octet(first)?, octet(last)?);
+    for counter in first..=last {
+        ops.push(changed(alloc, session, name, stamp, counter, rest)?)?;
+    }
+    Ok(())
+}
+
+/// `put CLIENT ORIGIN.NUMBER TOPIC QOS BODY`: a message for a client.
+pub(crate) fn put_op(alloc: Global, fields: &[&str]) -> Result<Op, Stop> {
+    let [name, message, about, qos, said] = fields else {
+        return Err(Stop::Line);
+    };
+    let (origin, seq) = message_number(message)?;
+    let qos = octet(qos)?;
+    Ok(Op::Put {
+        client: client(alloc, name)?,
+        put: Put {
+            origin,
+            seq,
+            topic: topic(alloc, about)?,
+            qos,
+            body: body(alloc, said)?,
+        },
+    })
+}
+
+/// `puts CLIENT ORIGIN FIRST LAST TOPIC QOS SIZE`: messages of so many octets, each the letter `a`.
+pub(crate) fn put_ops(alloc: Global, ops: &mut Vec<Op>, fields: &[&str]) -> Result<(), Stop> {
+    let [name, origin, first, last, about, qos, size] = fields else {
+        return Err(Stop::Line);
+    };
+    let (origin, qos, size) = (octet(origin)?, octet(qos)?, count(size)?);
+    let (first, last) = (number(first)?, number(last)?);
+    let said = vec![in alloc; b'a'; size]?;
+    for seq in first..=last {
+        ops.push(large(alloc, name, (origin, seq), about, qos, &said)?)?;
+    }
+    Ok(())
+}
+
+/// One of these messages.
+fn large(
+    alloc: Global,
+    name: &str,
+    message: (u8, u64),
+    about: &str,
+    qos: u8,
+    said: &[u8],
+) -> Result<Op, Stop> {
+    let (origin, seq) = message;
+    Ok(Op::Put {
+        client: client(alloc, name)?,
+        put: Put {
+            origin,
+            seq,
+            topic: topic(alloc, about)?,
+            qos,
+            body: Octets::from_slice(alloc, said)?,
+        },
+    })
+}
+
+/// `ack CLIENT ORIGIN FIRST LAST`: messages that a client has.
+pub(crate) fn ack_op(alloc: Global, fields: &[&str]) -> Result<Op, Stop> {
+    let [name, origin, first, last] = fields else {
+        return Err(Stop::Line);
+    };
+    let origin = octet(origin)?;
+    let (first, last) = (number(first)?, number(last)?);
+    Ok(Op::Ack {
+        client: client(alloc, name)?,
+        origin,
+        first,
+        last,
+    })
+}
+
+/// `acks COUNT`: so many clients have message 1 of gateway 1. A client's name is its number from 0 on in two octets.
+pub(crate) fn ack_ops(alloc: Global, ops: &mut Vec<Op>, fields: &[&str]) -> Result<(), Stop> {
+    let [clients] = fields else {
+        return Err(Stop::Line);
+    };
+    let clients = small_number(clients)?;
+    for client in 0..clients {
+        ops.push(Op::Ack {
+            client: numbered(alloc, client)?,
+            origin: 1,
+            first: 1,
+            last: 1,
+        })?;
+    }
+    Ok(())
+}
+
+/// The client of a number.
+fn numbered(alloc: Global, number: u16) -> Result<ClientId, Stop> {
+    let name = [(number / 256) as u8, (number % 256) as u8];
+    match ClientId::new(alloc, &name) {
+        Ok(client) => Ok(client),
+        Err(OpsFault::Memory) => Err(Stop::Memory),
+        Err(_) => Err(Stop::Line),
+    }
+}

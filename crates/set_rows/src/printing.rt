@@ -1,0 +1,249 @@
+//! Operations, sessions and views as lines.
+
+use crate::words::{kind_word, known_word, phase_word, presence_word, retain_word, word};
+use rep_model::ClientView;
+use rep_ops::{Delta, Op, Put};
+use sn_session::{Outbound, Session, SessionOp, Subscription, TopicEntry, Will, WillTopic};
+use std::alloc::{AllocError, Global};
+
+/// The operations of a delta, behind a line with their number.
+pub(crate) fn print_delta(
+    alloc: Global,
+    text: &mut String,
+    delta: &Delta,
+) -> Result<(), AllocError> {
+    if delta.is_empty() {
+        return text.push_str("empty delta\n");
+    }
+    let count = delta.ops().len();
+    writeln!(text, "delta of {count}")?;
+    for op in delta.ops() {
+        print_op(alloc, text, op)?;
+    }
+    Ok(())
+}
+
+/// The lines of an operation.
+fn print_op(alloc: Global, text: &mut String, op: &Op) -> Result<(), AllocError> {
+    let client = word(alloc, op.client().bytes())?;
+    match op {
+        Op::Session {
+            stamp,
+            counter,
+            change,
+            ..
+        } => {
+            let (epoch, gateway, counter) = (stamp.epoch, stamp.gateway, *counter);
+            write!(text, "op {client} {epoch}.{gateway} {counter} ")?;
+            print_change(alloc, text, change)
+        }
+        Op::Put { put, .. } => {
+            write!(text, "put {client} ")?;
+            print_put(alloc, text, put)
+        }
+        Op::Ack {
+            origin,
+            first,
+            last,
+            ..
+        } => {
+            let (origin, first, last) = (*origin, *first, *last);
+            writeln!(text, "ack {client} {origin} {first} {last}")
+        }
+    }
+}
+
+/// The rest of a message's line.
+fn print_put(alloc: Global, text: &mut String, put: &Put) -> Result<(), AllocError> {
+    let (origin, seq, qos) = (put.origin, put.seq, put.qos);
+    let topic = word(alloc, put.topic.bytes())?;
+    let body = word(alloc, put.body.as_slice())?;
+    writeln!(text, "{origin}.{seq} {topic} {qos} {body}")
+}
+
+/// The rest of the line of a change; the lines of a session behind `take`.
+fn print_change(alloc: Global, text: &mut String, change: &SessionOp) -> Result<(), AllocError> {
+    match change {
+        SessionOp::Take(session) => {
+            text.push_str("take\n")?;
+            print_session(alloc, text, session)
+        }
+        SessionOp::Presence { presence, duration } => {
+            let (place, seconds) = (presence_word(*presence), *duration);
+            writeln!(text, "presence {place} {seconds}")
+        }
+        SessionOp::Register { id, name, known } => {
+            text.push_str("register ")?;
+            print_topic(alloc, text, *id, name.bytes(), *known)
+        }
+        SessionOp::Subscribe { filter, qos } => {
+            text.push_str("subscribe ")?;
+            print_filter(alloc, text, filter.bytes(), *qos)
+        }
+        SessionOp::Unsubscribe { filter } => {
+            let filter = word(alloc, filter.bytes())?;
+            writeln!(text, "unsubscribe {filter}")
+        }
+        SessionOp::WillTopic(asked) => print_will_topic(alloc, text, asked),
+        SessionOp::WillMsg(message) => {
+            let message = word(alloc, message.as_slice())?;
+            writeln!(text, "message {message}")
+        }
+        SessionOp::Received { id } => print_id(text, "received", *id),
+        SessionOp::Released { id } => print_id(text, "released", *id),
+        SessionOp::Outbound { exchange, next_id } => print_exchange(text, exchange, *next_id),
+    }
+}
+
+/// A message id behind a word.
+fn print_id(text: &mut String, what: &str, id: u16) -> Result<(), AllocError> {
+    writeln!(text, "{what} {id}")
+}
+
+/// A topic id.
+fn print_topic(
+    alloc: Global,
+    text: &mut String,
+    id: u16,
+    name: &[u8],
+    known: bool,
+) -> Result<(), AllocError> {
+    let name = word(alloc, name)?;
+    let known = known_word(known);
+    writeln!(text, "{id} {name} {known}")
+}
+
+/// A filter.
+fn print_filter(
+    alloc: Global,
+    text: &mut String,
+    filter: &[u8],
+    qos: u8,
+) -> Result<(), AllocError> {
+    let filter = word(alloc, filter)?;
+    writeln!(text, "{filter} {qos}")
+}
+
+/// A will's topic.
+fn print_will_topic(
+    alloc: Global,
+    text: &mut String,
+    asked: &Option<WillTopic>,
+) -> Result<(), AllocError> {
+    match asked {
+        None => text.push_str("will none\n"),
+        Some(asked) => {
+            let topic = word(alloc, asked.topic.bytes())?;
+            let (qos, kept) = (asked.qos, retain_word(asked.retain));
+            writeln!(text, "will {topic} {qos} {kept}")
+        }
+    }
+}
+
+/// An exchange and the id of the next.
+fn print_exchange(
+    text: &mut String,
+    exchange: &Option<Outbound>,
+    next_id: u16,
+) -> Result<(), AllocError> {
+    match exchange {
+        None => writeln!(text, "exchange none {next_id}"),
+        Some(begun) => {
+            let (origin, seq, id) = (begun.origin, begun.seq, begun.msg_id);
+            let far = phase_word(begun.phase);
+            writeln!(text, "exchange {origin}.{seq} {id} {far} {next_id}")
+        }
+    }
+}
+
+/// The lines of a session.
+fn print_session(alloc: Global, text: &mut String, session: &Session) -> Result<(), AllocError> {
+    let place = presence_word(session.presence);
+    let kind = kind_word(session.clean);
+    let seconds = session.duration;
+    writeln!(text, "  session {place} {kind} {seconds}")?;
+    print_topics(alloc, text, session.topics.as_slice())?;
+    print_filters(alloc, text, session.subscriptions.as_slice())?;
+    if let Some(will) = &session.will {
+        print_will(alloc, text, will)?;
+    }
+    print_received(text, session.received.as_slice())?;
+    text.push_str("  ")?;
+    print_exchange(text, &session.outbound, session.next_id)
+}
+
+/// The topic ids of a session.
+fn print_topics(alloc: Global, text: &mut String, topics: &[TopicEntry]) -> Result<(), AllocError> {
+    for entry in topics {
+        text.push_str("  topic ")?;
+        print_topic(alloc, text, entry.id, entry.name.bytes(), entry.known)?;
+    }
+    Ok(())
+}
+
+/// The subscriptions of a session.
+fn print_filters(
+    alloc: Global,
+    text: &mut String,
+    subscriptions: &[Subscription],
+) -> Result<(), AllocError> {
+    for entry in subscriptions {
+        text.push_str("  filter ")?;
+        print_filter(alloc, text, entry.filter.bytes(), entry.qos)?;
+    }
+    Ok(())
+}
+
+/// The will of a session.
+fn print_will(alloc: Global, text: &mut String, will: &Will) -> Result<(), AllocError> {
+    let topic = word(alloc, will.topic.bytes())?;
+    let message = word(alloc, will.message.as_slice())?;
+    let (qos, kept) = (will.qos, retain_word(will.retain));
+    writeln!(text, "  will {topic} {qos} {kept} {message}")
+}
+
+/// The message ids that a session has received.
+fn print_received(text: &mut String, ids: &[u16]) -> Result<(), AllocError> {
+    for id in ids {
+        print_id(text, "  received", *id)?;
+    }
+    Ok(())
+}
+
+/// The lines of a view.
+pub(crate) fn print_view(
+    alloc: Global,
+    text: &mut String,
+    view: &ClientView,
+) -> Result<(), AllocError> {
+    print_stamp(text, view)?;
+    if let Some(session) = &view.session {
+        print_session(alloc, text, session)?;
+    }
+    print_waiting(alloc, text, view.pending.as_slice())
+}
+
+/// The first line of a view.
+fn print_stamp(text: &mut String, view: &ClientView) -> Result<(), AllocError> {
+    let prefix = view.prefix;
+    match view.stamp {
+        None => writeln!(text, "stamp none prefix {prefix}"),
+        Some(stamp) => {
+            let (epoch, gateway) = (stamp.epoch, stamp.gateway);
+            writeln!(text, "stamp {epoch}.{gateway} prefix {prefix}")
+        }
+    }
+}
+
+/// The messages that wait.
+pub(crate) fn print_waiting(
+    alloc: Global,
+    text: &mut String,
+    puts: &[Put],
+) -> Result<(), AllocError> {
+    for put in puts {
+        text.push_str("  put ")?;
+        print_put(alloc, text, put)?;
+    }
+    Ok(())
+}

@@ -1,0 +1,227 @@
+//! A row: what its lines have brought about so far, and the play of one more.
+
+use crate::attempts::{appends, compactions, openings};
+use crate::journals::Store;
+use crate::names::Names;
+use crate::operations::{
+    ack_op, ack_ops, apply, described, put_op, put_ops, session_op, session_ops,
+};
+use crate::stop::Stop;
+use crate::{deltas, journals, names, replicas};
+use rep_ops::Op;
+use rep_plain::Plain;
+use sn_session::Session;
+use std::alloc::Global;
+use std::mem;
+
+/// What the lines of a row have brought about.
+#[derive(Drop)]
+pub(crate) struct Row {
+    /// The session that `take` holds.
+    session: Session,
+    /// The operations that no line has used.
+    ops: Vec<Op>,
+    octets: Vec<u8>,
+    replica: Plain,
+    store: Store,
+}
+
+/// A row without a line.
+pub(crate) fn begin(alloc: Global) -> Result<Row, Stop> {
+    Ok(Row {
+        session: Session::empty(alloc),
+        ops: Vec::new(alloc),
+        octets: Vec::new(alloc),
+        replica: replicas::empty(alloc)?,
+        store: journals::empty(alloc),
+    })
+}
+
+/// Plays a line.
+pub(crate) fn play(
+    alloc: Global,
+    text: &mut String,
+    row: &mut Row,
+    names: &Names,
+    words: &[&str],
+) -> Result<(), Stop> {
+    let Some((first, rest)) = words.split_first() else {
+        return Err(Stop::Line);
+    };
+    match *first {
+        "session" | "apply" => play_session(alloc, &mut row.session, first, rest),
+        "op" | "ops" | "put" | "puts" | "ack" | "acks" => {
+            play_operation(alloc, &row.session, &mut row.ops, first, rest)
+        }
+        "delta" | "copy" | "spell" | "written" | "join" => {
+            let ops = mem::replace(&mut row.ops, Vec::new(alloc));
+            play_use(alloc, text, row, ops, first)
+        }
+        "append" | "appends" | "compact" | "compactions" => {
+            let ops = mem::replace(&mut row.ops, Vec::new(alloc));
+            play_writing(alloc, text, &mut row.store, ops, first, rest)
+        }
+        "octets" | "behind" | "set" | "fill" | "cut" => {
+            play_octets(alloc, names, &mut row.octets, first, rest)
+        }
+        "none" | "client" | "print" | "size" | "read" | "count" | "altered" | "beginnings" => {
+            play_reading(alloc, text, &row.octets, first, rest)
+        }
+        "view" | "copied" | "waiting" | "next" | "clients" | "held" | "parts" => {
+            play_replica(alloc, text, &row.replica, first, rest)
+        }
+        _ => play_store(alloc, text, &mut row.store, &row.octets, first, rest),
+    }
+}
+
+/// Lines that describe a session.
+fn play_session(
+    alloc: Global,
+    session: &mut Session,
+    first: &str,
+    rest: &[&str],
+) -> Result<(), Stop> {
+    match first {
+        "session" => {
+            *session = described(alloc, rest)?;
+            Ok(())
+        }
+        _ => apply(alloc, session, rest),
+    }
+}
+
+/// Lines that add operations.
+fn play_operation(
+    alloc: Global,
+    session: &Session,
+    ops: &mut Vec<Op>,
+    first: &str,
+    rest: &[&str],
+) -> Result<(), Stop> {
+    match first {
+        "op" => Ok(ops.push(session_op(alloc, session, rest)?)?),
+        "put" => Ok(ops.push(put_op(alloc, rest)?)?),
+        "ack" => Ok(ops.push(ack_op(alloc, rest)?)?),
+        "ops" => session_ops(alloc, session, ops, rest),
+        "puts" => put_ops(alloc, ops, rest),
+        _ => ack_ops(alloc, ops, rest),
+    }
+}
+
+/// Lines that use the operations.
+fn play_use(
+    alloc: Global,
+    text: &mut String,
+    row: &mut Row,
+    ops: Vec<Op>,
+    first: &str,
+) -> Result<(), Stop> {
+    match first {
+        "delta" => deltas::shown(alloc, text, ops),
+        "copy" => deltas::copied(alloc, text, ops),
+        "spell" => deltas::spelled(alloc, text, ops, &mut row.octets),
+        "written" => deltas::written(alloc, text, ops, &mut row.octets),
+        _ => replicas::join(alloc, text, &mut row.replica, ops),
+    }
+}
+
+/// Lines that write the operations.
+fn play_writing(
+    alloc: Global,
+    text: &mut String,
+    store: &mut Store,
+    ops: Vec<Op>,
+    first: &str,
+    rest: &[&str],
+) -> Result<(), Stop> {
+    match first {
+        "append" => journals::append(alloc, text, store, ops),
+        "appends" => appends(alloc, text, store, ops, rest),
+        "compact" => journals::compact(alloc, text, store, ops),
+        _ => compactions(alloc, text, store, ops, rest),
+    }
+}
+
+/// Lines that make octets.
+fn play_octets(
+    alloc: Global,
+    names: &Names,
+    octets: &mut Vec<u8>,
+    first: &str,
+    rest: &[&str],
+) -> Result<(), Stop> {
+    match first {
+        "octets" => {
+            *octets = names::octets(alloc, names, rest)?;
+            Ok(())
+        }
+        "behind" => deltas::behind(alloc, names, octets, rest),
+        "set" => deltas::set(alloc, octets, rest),
+        "fill" => deltas::fill(octets, rest),
+        _ => deltas::cut(octets, rest),
+    }
+}
+
+/// Lines that read octets.
+fn play_reading(
+    alloc: Global,
+    text: &mut String,
+    octets: &[u8],
+    first: &str,
+    rest: &[&str],
+) -> Result<(), Stop> {
+    match first {
+        "none" => deltas::none(alloc, text),
+        "client" => deltas::named(alloc, text, rest),
+        "print" => deltas::print(alloc, text, octets),
+        "size" => deltas::size(text, octets),
+        "read" => deltas::read(alloc, text, octets),
+        "count" => deltas::counted(alloc, text, octets),
+        "altered" => deltas::altered(alloc, text, octets, rest),
+        _ => deltas::beginnings(alloc, text, octets),
+    }
+}
+
+/// Lines that ask a replica.
+fn play_replica(
+    alloc: Global,
+    text: &mut String,
+    replica: &Plain,
+    first: &str,
+    rest: &[&str],
+) -> Result<(), Stop> {
+    match first {
+        "view" => replicas::view(alloc, text, replica, rest),
+        "copied" => replicas::copied(alloc, text, replica, rest),
+        "waiting" => replicas::waiting(alloc, text, replica, rest),
+        "next" => replicas::next(alloc, text, replica, rest),
+        "clients" => replicas::clients(alloc, text, replica),
+        "held" => replicas::held(alloc, text, replica),
+        _ => replicas::parts(alloc, text, replica),
+    }
+}
+
+/// Lines about a journal and its disk.
+fn play_store(
+    alloc: Global,
+    text: &mut String,
+    store: &mut Store,
+    octets: &[u8],
+    first: &str,
+    rest: &[&str],
+) -> Result<(), Stop> {
+    match first {
+        "store" => journals::stored(store, octets, rest),
+        "fail" => journals::fail(store, rest),
+        "crash" => journals::crash(store, rest),
+        "open" => journals::open(alloc, text, store, rest),
+        "reopen" => journals::reopen(alloc, text, store),
+        "halt" => journals::halt(store),
+        "halted" => journals::halted(text, store),
+        "place" => journals::place(text, store),
+        "close" => journals::close(store),
+        "slots" => journals::slots(alloc, text, store),
+        "openings" => openings(alloc, text, store, octets, rest),
+        _ => Err(Stop::Line),
+    }
+}
