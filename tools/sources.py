@@ -38,8 +38,9 @@ class Item:
 # ---- words of a text
 
 def tokens_of(text):
-    """Its words and brackets. `λ x. e` is read as `(x : ) e`."""
+    """Its words and brackets. `λ x. e` is read as `(x : ) e`, and `{x = y}` in a pattern as `{y}`."""
     text = re.sub(r"(^|\s)--\s.*", "", text, flags=re.M)
+    text = re.sub(r"\{\w+ = (\w+)\}", r"{\1}", text)
     text = re.sub(r"λ\s*([^().{}λ]*?)\s*(?:\.(?=\s)|(?=[({]))", lambda found: f"({found[1]} : )" if found[1] else " ", text)
     return re.findall(r"\[\]|[()\[\]{};,]|[^\s()\[\]{};,]+", text)
 

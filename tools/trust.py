@@ -41,8 +41,8 @@ PARTS = [
      "A field is a list of gateways, and of the deltas that they made. Events happen to it one after the other, and `run` gives "
      "what they give. Whatever the events are, no name of a session operation or a message ever stands for two things, none of "
      "them is made twice, and gateways that have taken the same show the same.",
-     "In these fields no disk fails and no gateway starts again, and `run` may always stop for want of memory. What one step does "
-     "is named here and defined in part 4, and what a datagram spells in part 6.",
+     "In these fields no disk fails, and `run` may always stop for want of memory; gateways may be stopped and opened again at any "
+     "moment. What one step does is named here and defined in part 4, and what a datagram spells in part 6.",
      ["gw_world::run", "gw_world::steady_field", "gw_world::consistent_field", "gw_world::made_once", "gw_world::settled_field",
       "gw_world::one_run", "gw_world::answered_field", "field_laws::own_full", "field_laws::takes_at_zero"],
      []),
@@ -57,13 +57,18 @@ PARTS = [
      ["sn_deliver/Steps/step", "sn_deliver/Ticking/tick", "sn_flow/Locals/after_all", "sn_flow/Locals/owned"]),
     ("The disk",
      "What a gateway makes or takes is written and synced before it is answered. After every crash its journal gives exactly what "
-     "was answered for, or that and the one record that was being written. A gateway whose write failed is halted.",
+     "was answered for, or that and the one record that was being written; amid a compaction, the old records or all that must be "
+     "kept. A gateway whose write failed is halted until it is opened again.",
      "All of this is said of an honest disk, one that does what the clauses of `Disk` say: that a real one is honest is a premise. "
      "The disk in memory calls itself honest, and so the prover holds it to them.",
      ["jr_journal::Disk", "jr_journal::MemoryDisk", "jr_journal::memory_disk_is_honest", "jr_journal::Journal::open",
-      "jr_journal::Journal::append", "gw_node::Node::open", "gw_node::Node::frame", "gw_node::Node::take", "gw_node::Node::tick"],
+      "jr_journal::Journal::append", "jr_journal::Journal::compact", "jr_journal::Journal::reopen", "rep_model::base_laws",
+      "gw_node::Node::open", "gw_node::opening_laws", "gw_node::Node::frame", "gw_node::Node::take", "gw_node::Node::tick",
+      "gw_node::Node::compact", "gw_node::Node::reopen"],
      ["jr_journal/journal/Journal", "jr_journal/memory/MemoryDisk", "jr_journal/memory/impl Model for MemoryDisk",
-      "jr_journal/fault/JournalFault", "gw_world/Calm/IsCalm"]),
+      "jr_journal/fault/JournalFault", "gw_world/Calm/IsCalm", "gw_world/Drives/opened", "gw_world/Drives/new_drive",
+      "gw_world/Drives/with_record", "gw_world/Drives/compacted", "gw_world/Drives/left_by", "gw_world/Steps/records_left",
+      "gw_node/Taking/StandsFor", "rep_model/Roomy/IsRoomy"]),
     ("The bytes",
      "Frames, deltas, digests and the messages of a link have one spelling each that is written, and no octets are read as two "
      "things. What is refused is refused for its first fault. How a stream is cut into pieces makes no difference.",
