@@ -5,8 +5,8 @@ Usage: bench/compaction.py PROGRAM [--clients N] [--waiting N] [--past N]
 
 A journal is made up as a gateway would have written it: N clients (1,000) connect; then messages are put for each of them, of which the first N
 (300) are acknowledged and the last N (100) wait. The daemon opens it, works a shift, and so compacts it, and opens what that leaves. Printed
-are octets, records and seconds before and after, how long no request was answered while the shift turned, and the ratios. Seconds are
-those of an idle machine, and say little elsewhere; the ratios do.
+are octets, records and seconds before and after, how long no request was answered while the shift turned, and the ratios. A name is one of a
+session's change, a message or a range of acknowledgements. Seconds say little on another machine; the ratios do.
 """
 import argparse
 import os
@@ -91,10 +91,11 @@ def measure(program: str, folder: str, clients: int, past: int, waiting: int) ->
     gateway.kill()
     written = os.path.getsize(gateway.journal + ".1")
     after, left = seconds_to_open(gateway)
+    names_before, names_after = clients * (1 + waiting + 2 * past), clients * (1 + waiting + (past > 0))
     print(f"{clients} clients, each with {waiting} messages that wait and {past} that were acknowledged")
-    print(f"before: {full} octets, {records} records; a start takes {before - empty:.2f} s, {records / (before - empty):.0f} records/s")
+    print(f"before: {full} octets, {records} records; a start takes {before - empty:.2f} s, {names_before / (before - empty):.0f} names/s")
     print(f"compacting: {written} octets written at once; while the shift turned no request was answered for {gap:.2f} s")
-    print(f"after: {left} records; a start takes {after - empty:.2f} s, {left / (after - empty):.1f} records/s")
+    print(f"after: {left} records; a start takes {after - empty:.2f} s, {names_after / (after - empty):.0f} names/s")
     print(f"octets {written / full:.3f} of what they were, a start {(after - empty) / (before - empty):.3f}")
 
 
