@@ -106,6 +106,16 @@ after-later old (Take number delta) (Records count) new j S h l = absurd h
 after-later old (Asks number peer) (Records count) new j S h l = absurd h
 after-later old (Compact number) (Records count) new j S h l = absurd h
 after-later old (Show number) (Records count) new j S h l = absurd h
+after-later old (WriteFails number bytes sync) (Node answer) new j S h l = absurd h
+after-later old (WriteFails number bytes sync) (Views views) new j S h l = absurd h
+after-later old (WriteFails number bytes sync) (Records count) new j S h l = absurd h
+after-later old (Frame number from bytes now) Nothing new j S h l = absurd h
+after-later old (Tick number now) Nothing new j S h l = absurd h
+after-later old (Take number delta) Nothing new j S h l = absurd h
+after-later old (Asks number peer) Nothing new j S h l = absurd h
+after-later old (Compact number) Nothing new j S h l = absurd h
+after-later old (Restart number kept) Nothing new j S h l = absurd h
+after-later old (Show number) Nothing new j S h l = absurd h
 
 run-later : (old : Field) (events : List Event) (answers : List Answer) (new : Field) (j : ℕ) (S : List Op) → Run old events answers new → Later old.gateways j S → Later new.gateways j S
 run-later old [] [] new j S h l = subst (λ (x : Field). Later x.gateways j S) (sym h) l

@@ -202,6 +202,16 @@ after-sound old (Take number delta) (Records count) new h s w = absurd h
 after-sound old (Asks number peer) (Records count) new h s w = absurd h
 after-sound old (Compact number) (Records count) new h s w = absurd h
 after-sound old (Show number) (Records count) new h s w = absurd h
+after-sound old (WriteFails number bytes sync) (Node answer) new h s w = absurd h
+after-sound old (WriteFails number bytes sync) (Views views) new h s w = absurd h
+after-sound old (WriteFails number bytes sync) (Records count) new h s w = absurd h
+after-sound old (Frame number from bytes now) Nothing new h s w = absurd h
+after-sound old (Tick number now) Nothing new h s w = absurd h
+after-sound old (Take number delta) Nothing new h s w = absurd h
+after-sound old (Asks number peer) Nothing new h s w = absurd h
+after-sound old (Compact number) Nothing new h s w = absurd h
+after-sound old (Restart number kept) Nothing new h s w = absurd h
+after-sound old (Show number) Nothing new h s w = absurd h
 
 -- ---- what a run does
 

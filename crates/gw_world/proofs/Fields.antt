@@ -200,6 +200,16 @@ module _ (field : Field) (r : IsReached field) (ks : List Gateway) (s : AreShown
   event_reaches deltas listed (Asks n m) news next (Records count) (i, place, ((j, other, h), same)) = absurd h
   event_reaches deltas listed (Compact n) news next (Records count) (i, place, (h, is_next)) = absurd h
   event_reaches deltas listed (Show n) news next (Records count) (i, place, (h, same, is_next)) = absurd h
+  event_reaches deltas listed (WriteFails number bytes sync) news next (Node answer) (i, place, (h, same, is_next)) = absurd h
+  event_reaches deltas listed (WriteFails number bytes sync) news next (Views views) (i, place, (h, same, is_next)) = absurd h
+  event_reaches deltas listed (WriteFails number bytes sync) news next (Records count) (i, place, (h, same, is_next)) = absurd h
+  event_reaches deltas listed (Frame number from bytes now) news next Nothing (i, place, (h, same, is_next)) = absurd h
+  event_reaches deltas listed (Tick number now) news next Nothing (i, place, (h, same, is_next)) = absurd h
+  event_reaches deltas listed (Take number delta) news next Nothing (i, place, (h, same, is_next)) = absurd h
+  event_reaches deltas listed (Asks number peer) news next Nothing (i, place, (h, same, is_next)) = absurd h
+  event_reaches deltas listed (Compact number) news next Nothing (i, place, (h, same, is_next)) = absurd h
+  event_reaches deltas listed (Restart number kept) news next Nothing (i, place, (h, same, is_next)) = absurd h
+  event_reaches deltas listed (Show number) news next Nothing (i, place, (h, same, is_next)) = absurd h
 
 -- a run goes on by one more event
 pub run_more : (old mid new : Field) (events : List Event) (answers : List Answer) (event : Event) (answer : Answer)

@@ -93,6 +93,16 @@ after-listed old (Take number delta) (Records count) new h w = absurd h
 after-listed old (Asks number peer) (Records count) new h w = absurd h
 after-listed old (Compact number) (Records count) new h w = absurd h
 after-listed old (Show number) (Records count) new h w = absurd h
+after-listed old (WriteFails number bytes sync) (Node answer) new h w = absurd h
+after-listed old (WriteFails number bytes sync) (Views views) new h w = absurd h
+after-listed old (WriteFails number bytes sync) (Records count) new h w = absurd h
+after-listed old (Frame number from bytes now) Nothing new h w = absurd h
+after-listed old (Tick number now) Nothing new h w = absurd h
+after-listed old (Take number delta) Nothing new h w = absurd h
+after-listed old (Asks number peer) Nothing new h w = absurd h
+after-listed old (Compact number) Nothing new h w = absurd h
+after-listed old (Restart number kept) Nothing new h w = absurd h
+after-listed old (Show number) Nothing new h w = absurd h
 
 run-listed : (old : Field) (events : List Event) (answers : List Answer) (new : Field) → Run old events answers new → AreListed old → AreListed new
 run-listed old [] [] new h w = subst AreListed (sym h) w

@@ -1,5 +1,6 @@
 -- The gateways of a field stay flush.
-use Rattle.std.proofs.Common.{◌≡◌, ℕ, ◌⊎◌, List, [], ◌∷◌, ◌++◌, map, set, slice_get, Option, Some, None, is_some, option_map, true, Contains, true≢false, Result, Ok, Err, refl, sym, ap, ◌∙◌, subst, inl, inr}
+use Rattle.std.proofs.Common.{◌≡◌, Bool, false, append-nil, ℕ, ◌⊎◌, List, [], ◌∷◌, ◌++◌, map, set, slice_get, Option, Some, None, is_some, option_map, true, Contains, true≢false, Result, Ok, Err, refl, sym, ap, ◌∙◌, subst, inl, inr}
+use Rattle.std.specs.List.{AllByRecursion}
 use Rattle.std.specs.Option.{option_to_list}
 use Rattle.std.proofs.lemmas.Option.{none-some, same_Some, slice_get-map}
 use Rattle.rep_ops.specs.declared.op.Op.{Op}
@@ -20,9 +21,9 @@ use Rattle.gw_node.specs.declared.out.Out.{Out}
 use Rattle.gw_node.specs.declared.refusal.Refusal.{Refusal}
 use Rattle.gw_node.specs.declared.refusal.Refusal.TheVariants as refusals
 use Rattle.gw_node.specs.Occasions.{Occasion, Datagram, Clock}
-use Rattle.gw_world.specs.Gateways.{Gateway, new_gateway}
+use Rattle.gw_world.specs.Gateways.{Gateway, new_gateway, with_refused}
 use Rattle.gw_world.specs.Field.{Field, IsAt}
-use Rattle.gw_world.specs.Steps.{HaveName, IsUnchanged, IsWritable, IsMade, IsPlan, OwnStep, TakeStep, CompactStep, restarted}
+use Rattle.gw_world.specs.Steps.{HaveName, IsUnchanged, IsTorn, IsWritable, IsMade, IsPlan, OwnStep, TakeStep, CompactStep, has_refused, restarted}
 use Rattle.gw_world.specs.Events.{made_of}
 use Rattle.gw_world.specs.Steady.{IsKnown, IsSteady}
 use Rattle.gw_world.proofs.Numbers.{First, place_of-first, first-number, first-set}
@@ -40,7 +41,6 @@ pub record Stepped (old new : Gateway) (made : List (List Op)) : Type 0 where
   pub drafted : IsOfDraft old.config.gateway (seen_of old.taken) plan
   pub delta : List Op
   pub proper : IsDelta delta
-  pub writable : IsWritable delta
   pub same : Same delta plan.ops
   pub config : new.config ≡ old.config
   pub taken : new.taken ≡ old.taken ++ delta
@@ -49,20 +49,43 @@ pub record Stepped (old new : Gateway) (made : List (List Op)) : Type 0 where
 pub still : (old new : Gateway) (made : List (List Op)) → IsUnchanged old new made → Still old new made
 still old new made u = record { config = ap (λ (x : Gateway). x.config) u.same; taken = ap (λ (x : Gateway). x.taken) u.same; none = u.none }
 
--- a compaction and a restart leave the set
+-- a gateway that took this, and made nothing
+pub record Fed (old : Gateway) (more : List Op) (new : Gateway) (made : List (List Op)) : Type 0 where
+  pub config : new.config ≡ old.config
+  pub taken : new.taken ≡ old.taken ++ more
+  pub none : made ≡ []
+
+pub torn-still : (old : Gateway) (delta : List Op) (new : Gateway) (made : List (List Op)) → IsTorn old delta new made → Still old new made
+torn-still old delta new made t = record { config = ap (λ (x : Gateway). x.config) t.halted; taken = ap (λ (x : Gateway). x.taken) t.halted; none = t.none }
+
+-- a compaction leaves the set
 pub compact-still : (old new : Gateway) (answer : Result Out Refusal) → CompactStep old answer new → Still old new []
 compact-still old new (Ok out) h = record { config = ap (λ (x : Gateway). x.config) h.2.2; taken = ap (λ (x : Gateway). x.taken) h.2.2; none = refl }
 compact-still old new (Err (refusals.Journal fault)) h = still old new [] (record { same = h.2; none = refl })
+compact-still old new (Err refusals.Halted) h = still old new [] (record { same = h.1; none = refl })
+compact-still old new (Err (refusals.Disk excuse)) h =
+    record { config = ap (λ (x : Gateway). x.config) h.2.4; taken = ap (λ (x : Gateway). x.taken) h.2.4; none = refl }
 compact-still old new (Err (refusals.Frame fault)) h = absurd h
-compact-still old new (Err refusals.Halted) h = absurd h
-compact-still old new (Err (refusals.Disk excuse)) h = absurd h
 compact-still old new (Err (refusals.Conflict client)) h = absurd h
 compact-still old new (Err refusals.Full) h = absurd h
 compact-still old new (Err refusals.Exhausted) h = absurd h
 compact-still old new (Err refusals.Memory) h = absurd h
 
-pub restart-still : (kept : ℕ) (old : Gateway) → Still old (restarted kept old) []
-restart-still kept old = record { config = refl; taken = refl; none = refl }
+-- a restart leaves it, or brings back what was refused
+pub restart-moves : (kept : ℕ) (old : Gateway) → Still old (restarted kept old) [] ⊎ Fed old old.refused (restarted kept old) []
+restart-moves kept old =
+    elim (has_refused kept old) as (λ b. has_refused kept old ≡ b → Still old (restarted kept old) [] ⊎ Fed old old.refused (restarted kept old) []) [
+      | true ↦ λ e. inr (record { config = refl; taken = ap (λ (b : Bool). with_refused b old.taken old.refused) e; none = refl })
+      | false ↦ λ e. inl (record { config = refl; taken = ap (λ (b : Bool). with_refused b old.taken old.refused) e; none = refl })
+    ] refl
+
+nothing-back : (b : Bool) (S refused : List Op) → refused ≡ [] → with_refused b S refused ≡ S
+nothing-back true S refused none = ap (λ (R : List Op). S ++ R) none ∙ append-nil S
+nothing-back false S refused none = refl
+
+-- where nothing was refused it leaves it
+pub restart-still : (kept : ℕ) (old : Gateway) → old.refused ≡ [] → Still old (restarted kept old) []
+restart-still kept old none = record { config = refl; taken = nothing-back (has_refused kept old) old.taken old.refused none; none = refl }
 
 made-moves : (old : Gateway) (plan : Plan) (ops : List Op) (delta : Option (List Op)) (new : Gateway) (made : List (List Op)) → IsOfDraft old.config.gateway (seen_of old.taken) plan → plan.ops ≡ ops → IsMade ops old plan delta new made → Still old new made ⊎ Stepped old new made
 made-moves old plan [] None new made p e h = inl (record { config = ap (λ (x : Gateway). x.config) h.1; taken = ap (λ (x : Gateway). x.taken) h.1; none = h.0 })
@@ -73,7 +96,6 @@ made-moves old plan (op ∷ ops) (Some delta) new made p e h = inr (record {
   drafted = p;
   delta = delta;
   proper = h.0.delta;
-  writable = h.1;
   same = subst (Same delta) (sym e) h.0.same;
   config = ap (λ (x : Gateway). x.config) h.4;
   taken = ap (λ (x : Gateway). x.taken) h.4;
@@ -90,10 +112,43 @@ own-moves old occasion now (Err (refusals.Frame fault)) new made h = inl (still 
 own-moves old occasion now (Err refusals.Exhausted) new made h = inl (still old new made h.1)
 own-moves old occasion now (Err (refusals.Conflict client)) new made h = inl (still old new made h.3)
 own-moves old occasion now (Err refusals.Full) new made h = inl (still old new made h.3)
-own-moves old occasion now (Err refusals.Halted) new made h = absurd h
-own-moves old occasion now (Err (refusals.Disk excuse)) new made h = absurd h
+own-moves old occasion now (Err refusals.Halted) new made h = inl (still old new made h.1)
+own-moves old occasion now (Err (refusals.Disk excuse)) new made h = inl (torn-still old h.2.delta new made h.2.torn)
 own-moves old occasion now (Err (refusals.Journal fault)) new made h = absurd h
 own-moves old occasion now (Err refusals.Memory) new made h = absurd h
+
+-- what was made can be written
+made-writable : (old : Gateway) (plan : Plan) (ops : List Op) (delta : Option (List Op)) (new : Gateway) (made : List (List Op)) → IsMade ops old plan delta new made → AllByRecursion IsWritable made
+made-writable old plan [] None new made h = subst (λ (m : List (List Op)). AllByRecursion IsWritable m) (sym h.0) tt
+made-writable old plan [] (Some delta) new made h = absurd h
+made-writable old plan (op ∷ ops) None new made h = absurd h
+made-writable old plan (op ∷ ops) (Some delta) new made h = subst (λ (m : List (List Op)). AllByRecursion IsWritable m) (sym h.3) (h.1, tt)
+
+none-writable : (made : List (List Op)) → made ≡ [] → AllByRecursion IsWritable made
+none-writable made e = subst (λ (m : List (List Op)). AllByRecursion IsWritable m) (sym e) tt
+
+pub own-writable : (old : Gateway) (occasion : Occasion) (now : ℕ) (answer : Result Out Refusal) (new : Gateway) (made : List (List Op)) → OwnStep old occasion now answer new made → AllByRecursion IsWritable made
+own-writable old occasion now (Ok out) new made h = made-writable old h.0 h.0.ops out.made new made h.2.1
+own-writable old occasion now (Err (refusals.Frame fault)) new made h = none-writable made h.1.none
+own-writable old occasion now (Err refusals.Exhausted) new made h = none-writable made h.1.none
+own-writable old occasion now (Err (refusals.Conflict client)) new made h = none-writable made h.3.none
+own-writable old occasion now (Err refusals.Full) new made h = none-writable made h.3.none
+own-writable old occasion now (Err refusals.Halted) new made h = none-writable made h.1.none
+own-writable old occasion now (Err (refusals.Disk excuse)) new made h = none-writable made h.2.torn.none
+own-writable old occasion now (Err (refusals.Journal fault)) new made h = absurd h
+own-writable old occasion now (Err refusals.Memory) new made h = absurd h
+
+-- a delta is taken, or nothing is
+pub take-moves : (old : Gateway) (delta : List Op) (answer : Result Out Refusal) (new : Gateway) (made : List (List Op)) → TakeStep old delta answer new made → Still old new made ⊎ Fed old delta new made
+take-moves old delta (Ok out) new made h = inr (record { config = ap (λ (x : Gateway). x.config) h.3; taken = ap (λ (x : Gateway). x.taken) h.3; none = h.2 })
+take-moves old delta (Err (refusals.Conflict client)) new made h = inl (still old new made h.1)
+take-moves old delta (Err refusals.Full) new made h = inl (still old new made h.1)
+take-moves old delta (Err refusals.Halted) new made h = inl (still old new made h.1)
+take-moves old delta (Err (refusals.Disk excuse)) new made h = inl (torn-still old delta new made h.2)
+take-moves old delta (Err (refusals.Frame fault)) new made h = absurd h
+take-moves old delta (Err refusals.Exhausted) new made h = absurd h
+take-moves old delta (Err (refusals.Journal fault)) new made h = absurd h
+take-moves old delta (Err refusals.Memory) new made h = absurd h
 
 -- the delta that was made is the one that the answer tells of
 told-made : (old : Gateway) (plan : Plan) (ops : List Op) (delta : Option (List Op)) (new : Gateway) (made : List (List Op)) → IsMade ops old plan delta new made → made ≡ option_to_list delta
@@ -108,8 +163,8 @@ own-told old occasion now (Err (refusals.Frame fault)) new made h = h.1.none
 own-told old occasion now (Err refusals.Exhausted) new made h = h.1.none
 own-told old occasion now (Err (refusals.Conflict client)) new made h = h.3.none
 own-told old occasion now (Err refusals.Full) new made h = h.3.none
-own-told old occasion now (Err refusals.Halted) new made h = absurd h
-own-told old occasion now (Err (refusals.Disk excuse)) new made h = absurd h
+own-told old occasion now (Err refusals.Halted) new made h = h.1.none
+own-told old occasion now (Err (refusals.Disk excuse)) new made h = h.2.torn.none
 own-told old occasion now (Err (refusals.Journal fault)) new made h = absurd h
 own-told old occasion now (Err refusals.Memory) new made h = absurd h
 
@@ -142,11 +197,16 @@ module _ (gs : List Gateway) (s : AreAllFlush gs) (n i : ℕ) (old : Gateway) (f
   flush-moved next made (inr u) = flush-stepped next made u
 
   -- it took a delta that has no news of what it wrote itself
-  pub flush-fed : (next : Gateway) (made : List (List Op)) (delta : List Op) (answer : Result Out Refusal) → IsKnown n old.taken delta → TakeStep old delta answer next made → AreAllFlush (set gs i next)
-  flush-fed next made delta (Err fault) news h = flush-still next made (still old next made h.1)
-  flush-fed next made delta (Ok out) news h =
-      let taken : next.taken ≡ old.taken ++ delta = ap (λ (x : Gateway). x.taken) h.3 in
-      updated next (ap (λ (x : Gateway). x.config) h.3) (λ c. subst (λ T. IsFlush n c T) (sym taken) (flush-taken n c old.taken delta (news c) (flush-before c)))
+  pub flush-fed : (next : Gateway) (made : List (List Op)) (delta : List Op) → IsKnown n old.taken delta → Still old next made ⊎ Fed old delta next made → AreAllFlush (set gs i next)
+  flush-fed next made delta news (inl u) = flush-still next made u
+  flush-fed next made delta news (inr u) = updated next u.config (λ c. subst (λ T. IsFlush n c T) (sym u.taken) (flush-taken n c old.taken delta (news c) (flush-before c)))
+
+  -- it took a delta of its own that it had refused
+  pub flush-back : (next : Gateway) (plan : Plan) (delta : List Op) → IsOfDraft old.config.gateway (seen_of old.taken) plan → Same delta plan.ops → Fed old delta next [] → AreAllFlush (set gs i next)
+  flush-back next plan delta drafted same u =
+      let number : old.config.gateway ≡ n = first-number n i gs old f is in
+      let p : IsOfDraft n (seen_of old.taken) plan = subst (λ k. IsOfDraft k (seen_of old.taken) plan) number drafted in
+      updated next u.config (λ c. subst (λ T. IsFlush n c T) (sym u.taken) (step-flush n old.taken plan p delta same flush-before c))
 
 pub start-flush : (configs : List Config) → AreAllFlush (map new_gateway configs)
 start-flush configs n j gateway f e c = empty (slice_get configs j) (sym (slice_get-map new_gateway configs j) ∙ e)

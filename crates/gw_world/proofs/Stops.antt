@@ -38,6 +38,16 @@ gateway-after field (Take number delta) (Records count) next h k = k
 gateway-after field (Asks number peer) (Records count) next h k = k
 gateway-after field (Compact number) (Records count) next h k = k
 gateway-after field (Show number) (Records count) next h k = k
+gateway-after field (WriteFails number bytes sync) (Node answer) next h k = k
+gateway-after field (WriteFails number bytes sync) (Views views) next h k = k
+gateway-after field (WriteFails number bytes sync) (Records count) next h k = k
+gateway-after field (Frame number from bytes now) Nothing next h k = k
+gateway-after field (Tick number now) Nothing next h k = k
+gateway-after field (Take number delta) Nothing next h k = k
+gateway-after field (Asks number peer) Nothing next h k = k
+gateway-after field (Compact number) Nothing next h k = k
+gateway-after field (Restart number kept) Nothing next h k = k
+gateway-after field (Show number) Nothing next h k = k
 
 delta-after : (field : Field) (event : Event) (answer : Answer) (next : Field) → NamesNoDelta field event → After field event answer next → ⊥
 delta-after field (Take number delta) (Node a) next h k = h.1 k.4 k.6

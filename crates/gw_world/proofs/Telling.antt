@@ -162,6 +162,16 @@ after-telling old (Take number delta) (Records count) new ts h s t = absurd h
 after-telling old (Asks number peer) (Records count) new ts h s t = absurd h
 after-telling old (Compact number) (Records count) new ts h s t = absurd h
 after-telling old (Show number) (Records count) new ts h s t = absurd h
+after-telling old (WriteFails number bytes sync) (Node answer) new ts h s t = absurd h
+after-telling old (WriteFails number bytes sync) (Views views) new ts h s t = absurd h
+after-telling old (WriteFails number bytes sync) (Records count) new ts h s t = absurd h
+after-telling old (Frame number from bytes now) Nothing new ts h s t = absurd h
+after-telling old (Tick number now) Nothing new ts h s t = absurd h
+after-telling old (Take number delta) Nothing new ts h s t = absurd h
+after-telling old (Asks number peer) Nothing new ts h s t = absurd h
+after-telling old (Compact number) Nothing new ts h s t = absurd h
+after-telling old (Restart number kept) Nothing new ts h s t = absurd h
+after-telling old (Show number) Nothing new ts h s t = absurd h
 
 none-there : (none : List (List Op)) (delta : List Op) → none ≡ [] → Contains none delta → ⊥
 none-there none delta e h = All-contains (λ _. ⊥) [] delta (All-from_recursion (λ _. ⊥) [] tt) (subst (λ ds. Contains ds delta) e h)
@@ -189,6 +199,16 @@ after-makes old new (Take number at) (Records count) delta h there = absurd h
 after-makes old new (Asks number peer) (Records count) delta h there = absurd h
 after-makes old new (Compact number) (Records count) delta h there = absurd h
 after-makes old new (Show number) (Records count) delta h there = absurd h
+after-makes old new (WriteFails number bytes sync) (Node answer) delta h there = absurd h
+after-makes old new (WriteFails number bytes sync) (Views views) delta h there = absurd h
+after-makes old new (WriteFails number bytes sync) (Records count) delta h there = absurd h
+after-makes old new (Frame number from bytes now) Nothing delta h there = absurd h
+after-makes old new (Tick number now) Nothing delta h there = absurd h
+after-makes old new (Take number delta) Nothing delta h there = absurd h
+after-makes old new (Asks number peer) Nothing delta h there = absurd h
+after-makes old new (Compact number) Nothing delta h there = absurd h
+after-makes old new (Restart number kept) Nothing delta h there = absurd h
+after-makes old new (Show number) Nothing delta h there = absurd h
 
 -- an event brings these deltas into the list
 own-brought : (old next : Gateway) (occasion : Occasion) (now : ℕ) (answer : Result Out Refusal) (made : List (List Op)) → OwnStep old occasion now answer next made → answered_of answer ≡ []
@@ -228,6 +248,16 @@ after-brought old (Take number delta) (Records count) new h = absurd h
 after-brought old (Asks number peer) (Records count) new h = absurd h
 after-brought old (Compact number) (Records count) new h = absurd h
 after-brought old (Show number) (Records count) new h = absurd h
+after-brought old (WriteFails number bytes sync) (Node answer) new h = absurd h
+after-brought old (WriteFails number bytes sync) (Views views) new h = absurd h
+after-brought old (WriteFails number bytes sync) (Records count) new h = absurd h
+after-brought old (Frame number from bytes now) Nothing new h = absurd h
+after-brought old (Tick number now) Nothing new h = absurd h
+after-brought old (Take number delta) Nothing new h = absurd h
+after-brought old (Asks number peer) Nothing new h = absurd h
+after-brought old (Compact number) Nothing new h = absurd h
+after-brought old (Restart number kept) Nothing new h = absurd h
+after-brought old (Show number) Nothing new h = absurd h
 
 -- where no digest is sent, it is told of all that it brings
 after-unasked : (old : Field) (event : Event) (answer : Answer) (new : Field) → After old event answer new → peer_of event ≡ None → brought_by answer ≡ made_by answer
@@ -252,6 +282,16 @@ after-unasked old (Take number delta) (Records count) new h e = absurd h
 after-unasked old (Asks number peer) (Records count) new h e = absurd h
 after-unasked old (Compact number) (Records count) new h e = absurd h
 after-unasked old (Show number) (Records count) new h e = absurd h
+after-unasked old (WriteFails number bytes sync) (Node answer) new h e = absurd h
+after-unasked old (WriteFails number bytes sync) (Views views) new h e = absurd h
+after-unasked old (WriteFails number bytes sync) (Records count) new h e = absurd h
+after-unasked old (Frame number from bytes now) Nothing new h e = absurd h
+after-unasked old (Tick number now) Nothing new h e = absurd h
+after-unasked old (Take number delta) Nothing new h e = absurd h
+after-unasked old (Asks number peer) Nothing new h e = absurd h
+after-unasked old (Compact number) Nothing new h e = absurd h
+after-unasked old (Restart number kept) Nothing new h e = absurd h
+after-unasked old (Show number) Nothing new h e = absurd h
 
 -- ---- a run
 

@@ -188,10 +188,14 @@ module _ (gs : List Gateway) (i : ℕ) (old next : Gateway) (made : List (List O
   news : AllByRecursion (IsHeld (set gs i next)) u.delta
   news = all-moved (IsHeld (set gs i next)) u.delta new-held
 
-  pub whole-stepped : (deltas : List (List Op)) → Whole gs deltas → Whole (set gs i next) (deltas ++ made)
-  whole-stepped deltas w =
+  pub whole-stepped : (deltas : List (List Op)) → AllByRecursion IsWritable made → Whole gs deltas → Whole (set gs i next) (deltas ++ made)
+  whole-stepped deltas writable w =
       subst (λ m. Whole (set gs i next) (deltas ++ m)) (sym u.one)
-      (whole-grown gs i old next u.delta is u.config u.taken deltas (u.delta ∷ []) news (news, tt) (u.proper, tt) (u.writable, tt) w)
+      (whole-grown gs i old next u.delta is u.config u.taken deltas (u.delta ∷ []) news (news, tt) (u.proper, tt) (subst (λ (m : List (List Op)). AllByRecursion IsWritable m) u.one writable) w)
+
+  -- where it had been refused and is on the disk, nobody is told
+  pub whole-back : (deltas : List (List Op)) → Whole gs deltas → Whole (set gs i next) (deltas ++ [])
+  whole-back deltas w = whole-grown gs i old next u.delta is u.config u.taken deltas [] news tt tt tt w
 
   module _ (ts : List (List Op)) (m : Made gs ts) where
     -- no name of a delta that was made is written again

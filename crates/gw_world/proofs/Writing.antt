@@ -96,6 +96,16 @@ after-written old new (Take number delta) (Records count) h = absurd h
 after-written old new (Asks number peer) (Records count) h = absurd h
 after-written old new (Compact number) (Records count) h = absurd h
 after-written old new (Show number) (Records count) h = absurd h
+after-written old new (WriteFails number bytes sync) (Node answer) h = absurd h
+after-written old new (WriteFails number bytes sync) (Views views) h = absurd h
+after-written old new (WriteFails number bytes sync) (Records count) h = absurd h
+after-written old new (Frame number from bytes now) Nothing h = absurd h
+after-written old new (Tick number now) Nothing h = absurd h
+after-written old new (Take number delta) Nothing h = absurd h
+after-written old new (Asks number peer) Nothing h = absurd h
+after-written old new (Compact number) Nothing h = absurd h
+after-written old new (Restart number kept) Nothing h = absurd h
+after-written old new (Show number) Nothing h = absurd h
 
 pub after-writes : (old new : Field) (event : Event) (answer : Answer) (op : Op) → After old event answer new → Contains (everything new) op → Contains (everything old) op ⊎ IfSome (number_of op) (λ number. number ≡ gateway_of event)
 after-writes old new event answer op h there =

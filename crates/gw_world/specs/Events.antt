@@ -1,23 +1,23 @@
 -- What an event does to what the gateways keep, and to their disks. `olds` and `news` have for each gateway what its replica keeps in the
 -- place of what it has taken.
-use Rattle.std.specs.Prelude.{◌≡◌, ℕ, ◌+◌, ◌-◌, ◌≤◌, take, Vec, List, [], ◌++◌, Some, None, Result, Ok, Err, slice_get, slice_set}
+use Rattle.std.specs.Prelude.{Bool, ◌≡◌, ℕ, ◌+◌, ◌-◌, ◌≤◌, take, Vec, List, [], ◌++◌, Some, None, Result, Ok, Err, slice_get, slice_set}
 use Rattle.std.specs.Option.{option_to_list}
 use Rattle.std.specs.List.{AllByRecursion}
 use Rattle.rep_ops.specs.declared.op.Op.{Op}
 use Rattle.gw_world.specs.declared.event.Event.{Event}
-use Rattle.gw_world.specs.declared.event.Event.TheVariants.{Frame, Tick, Take, Answer as Asks, Compact, Restart, Show}
+use Rattle.gw_world.specs.declared.event.Event.TheVariants.{Frame, Tick, Take, Answer as Asks, WriteFails, Compact, Restart, Show}
 use Rattle.gw_node.specs.declared.out.Out.{Out}
 use Rattle.gw_node.specs.declared.refusal.Refusal.{Refusal}
 use Rattle.gw_node.specs.Parts.{said}
 use Rattle.gw_world.specs.declared.event.Answer.{Answer}
-use Rattle.gw_world.specs.declared.event.Answer.TheVariants.{Node, Views, Records}
+use Rattle.gw_world.specs.declared.event.Answer.TheVariants.{Node, Views, Records, Nothing}
 use Rattle.gw_world.specs.declared.world.WorldFault.{WorldFault}
 use Rattle.sn_flow.specs.declared.config.Config.{Config}
 use Rattle.gw_world.specs.declared.world.WorldFault.TheVariants as stops
 use Rattle.gw_node.specs.Occasions.{Occasion, Datagram, Clock}
 use Rattle.gw_world.specs.Gateways.{Gateway, place_of}
 use Rattle.gw_world.specs.Steps.{IsWritable, records_left}
-use Rattle.gw_world.specs.Plans.{OwnKept, TakeKept, CompactKept, IsRestarted, AskKept}
+use Rattle.gw_world.specs.Plans.{OwnKept, TakeKept, CompactKept, IsRestarted, IsArranged, AskKept}
 use Rattle.gw_world.specs.Field.{Field, new_field, Run, NamesNoGateway, NamesNoDelta, shown, gateway_of}
 use Rattle.gw_world.specs.Keeping.{Lasts, AreShown}
 use Rattle.std.specs.declared.alloc.Global.{Global}
@@ -56,6 +56,9 @@ abbrev pub RestartAt : List Gateway → ℕ → ℕ → ℕ → List Gateway →
 RestartAt olds i kept count news =
     (old : Gateway) × (new : Gateway) × Moves olds i old new news × (count ≡ records_left kept old) × IsRestarted kept old new
 
+abbrev pub FailAt : List Gateway → ℕ → ℕ → Bool → List Gateway → Type 0
+FailAt olds i bytes sync news = (old : Gateway) × (new : Gateway) × Moves olds i old new news × IsArranged bytes sync old new
+
 -- the digest of the i-th gateway goes to the j-th
 abbrev pub AskAt : List Gateway → ℕ → ℕ → Result Out Refusal → Type 0
 AskAt olds i j answer =
@@ -70,30 +73,42 @@ abbrev pub OwnAnswered : List Gateway → List (List Op) → ℕ → Occasion �
 OwnAnswered olds deltas i occasion now news next (Node answer) = OwnAt olds i occasion now (said answer) news × Join deltas (made_of (said answer)) next
 OwnAnswered olds deltas i occasion now news next (Views views) = ⊥
 OwnAnswered olds deltas i occasion now news next (Records count) = ⊥
+OwnAnswered olds deltas i occasion now news next Nothing = ⊥
 
 -- the answer to a delta
 abbrev pub TakeAnswered : List Gateway → ℕ → List Op → List Gateway → Answer → Type 0
 TakeAnswered olds i delta news (Node answer) = TakeAt olds i delta (said answer) news
 TakeAnswered olds i delta news (Views views) = ⊥
 TakeAnswered olds i delta news (Records count) = ⊥
+TakeAnswered olds i delta news Nothing = ⊥
 
 -- the answer to a compaction
 abbrev pub CompactAnswered : List Gateway → ℕ → List Gateway → Answer → Type 0
 CompactAnswered olds i news (Node answer) = CompactAt olds i (said answer) news
 CompactAnswered olds i news (Views views) = ⊥
 CompactAnswered olds i news (Records count) = ⊥
+CompactAnswered olds i news Nothing = ⊥
 
 -- the answer to a restart
 abbrev pub RestartAnswered : List Gateway → ℕ → ℕ → List Gateway → Answer → Type 0
 RestartAnswered olds i kept news (Records count) = RestartAt olds i kept count news
 RestartAnswered olds i kept news (Node answer) = ⊥
 RestartAnswered olds i kept news (Views views) = ⊥
+RestartAnswered olds i kept news Nothing = ⊥
+
+-- the answer where a failure is arranged
+abbrev pub FailAnswered : List Gateway → ℕ → ℕ → Bool → List Gateway → Answer → Type 0
+FailAnswered olds i bytes sync news Nothing = FailAt olds i bytes sync news
+FailAnswered olds i bytes sync news (Node answer) = ⊥
+FailAnswered olds i bytes sync news (Views views) = ⊥
+FailAnswered olds i bytes sync news (Records count) = ⊥
 
 -- the answer of a peer in its place to the digest of the i-th gateway, and the list of deltas after it
 abbrev pub AskAnswered : List Gateway → List (List Op) → ℕ → ℕ → List (List Op) → Answer → Type 0
 AskAnswered olds deltas i j next (Node answer) = AskAt olds i j (said answer) × Join deltas (answered_of (said answer)) next
 AskAnswered olds deltas i j next (Views views) = ⊥
 AskAnswered olds deltas i j next (Records count) = ⊥
+AskAnswered olds deltas i j next Nothing = ⊥
 
 -- the same, of the peer of a number
 abbrev pub PeerAnswered : List Gateway → List (List Op) → ℕ → ℕ → List (List Op) → Answer → Type 0
@@ -103,6 +118,7 @@ PeerAnswered olds deltas i peer next answer = (j : ℕ) × (place_of peer olds �
 abbrev pub ShowAnswered : List Gateway → ℕ → Answer → Type 0
 ShowAnswered olds i (Node answer) = ⊥
 ShowAnswered olds i (Records count) = ⊥
+ShowAnswered olds i Nothing = ⊥
 ShowAnswered olds i (Views views) = (gateway : Gateway) × (slice_get olds i ≡ Some gateway) × (views ≡ shown gateway.taken)
 
 -- the delta of this number; the first has number 1
@@ -116,6 +132,7 @@ EventAt olds deltas i (Tick number now) news next answer = OwnAnswered olds delt
 EventAt olds deltas i (Take number delta) news next answer =
     (ops : List Op) × IsListed deltas delta ops × TakeAnswered olds i ops news answer × (next ≡ deltas)
 EventAt olds deltas i (Asks number peer) news next answer = PeerAnswered olds deltas i peer next answer × (news ≡ olds)
+EventAt olds deltas i (WriteFails number bytes sync) news next answer = FailAnswered olds i bytes sync news answer × (next ≡ deltas)
 EventAt olds deltas i (Compact number) news next answer = CompactAnswered olds i news answer × (next ≡ deltas)
 EventAt olds deltas i (Restart number kept) news next answer = RestartAnswered olds i kept news answer × (next ≡ deltas)
 EventAt olds deltas i (Show number) news next answer = ShowAnswered olds i answer × (news ≡ olds) × (next ≡ deltas)
@@ -139,6 +156,7 @@ IsMissing olds deltas (Asks gateway peer) number fault = NoPeer olds peer number
 IsMissing olds deltas (Take gateway delta) number fault = NoDelta deltas delta number fault
 IsMissing olds deltas (Frame gateway from bytes now) number fault = fault ≡ stops.Memory
 IsMissing olds deltas (Tick gateway now) number fault = fault ≡ stops.Memory
+IsMissing olds deltas (WriteFails gateway bytes sync) number fault = fault ≡ stops.Memory
 IsMissing olds deltas (Compact gateway) number fault = fault ≡ stops.Memory
 IsMissing olds deltas (Restart gateway kept) number fault = fault ≡ stops.Memory
 IsMissing olds deltas (Show gateway) number fault = fault ≡ stops.Memory
@@ -159,7 +177,7 @@ IsLed olds deltas = (field : Field) × IsReached field × AreShown field.gateway
 
 -- a set lasts at the gateway
 abbrev pub IsSafe : Gateway → Type 0
-IsSafe kept = (S : List Op) × Lasts S kept
+IsSafe kept = (S : List Op) × (refused : List Op) × Lasts S refused kept
 
 -- what the gateways keep after a list of events
 abbrev pub RunKept : List Gateway → List (List Op) → List Event → List Answer → List Gateway → List (List Op) → Type 0

@@ -1,17 +1,18 @@
 -- A field of gateways, and what a list of events may do to it.
-use Rattle.std.specs.Prelude.{◌≡◌, ◌⊎◌, ℕ, ◌-◌, ◌≤◌, List, [], ◌∷◌, ◌++◌, map, Option, Some, None, Result, slice_get, slice_set}
+use Rattle.std.specs.Prelude.{Bool, ◌≡◌, ◌⊎◌, ℕ, ◌-◌, ◌≤◌, List, [], ◌∷◌, ◌++◌, map, Option, Some, None, Result, slice_get, slice_set}
 use Rattle.rep_ops.specs.declared.op.Op.{Op}
 use Rattle.rep_model.specs.declared.view.ClientView.{ClientView}
 use Rattle.rep_model.specs.Views.{view, clients}
 use Rattle.sn_flow.specs.declared.config.Config.{Config}
 use Rattle.gw_world.specs.declared.event.Event.{Event}
-use Rattle.gw_world.specs.declared.event.Event.TheVariants.{Frame, Tick, Take, Answer as Asks, Compact, Restart, Show}
+use Rattle.gw_world.specs.declared.event.Event.TheVariants.{Frame, Tick, Take, Answer as Asks, WriteFails, Compact, Restart, Show}
 use Rattle.gw_world.specs.declared.event.Answer.{Answer}
 use Rattle.gw_node.specs.declared.out.Out.{Out}
 use Rattle.gw_node.specs.declared.refusal.Refusal.{Refusal}
 use Rattle.gw_node.specs.Parts.{said}
-use Rattle.gw_world.specs.declared.event.Answer.TheVariants.{Node, Views, Records}
+use Rattle.gw_world.specs.declared.event.Answer.TheVariants.{Node, Views, Records, Nothing}
 use Rattle.gw_node.specs.Occasions.{Occasion, Datagram, Clock}
+use Rattle.gw_world.specs.Drives.{arranged}
 use Rattle.gw_world.specs.Gateways.{Gateway, new_gateway, place_of}
 use Rattle.gw_world.specs.Steps.{OwnStep, TakeStep, AnswerStep, CompactStep, records_left, restarted}
 
@@ -53,6 +54,10 @@ Asked old number other answer new =
     × IsAt old number i gateway × IsAt old other j peer × AnswerStep gateway peer answer made
     × (new ≡ record old { deltas = old.deltas ++ made })
 
+-- the gateway whose next write is to fail
+abbrev pub failing : ℕ → Bool → Gateway → Gateway
+failing bytes sync old = record old { drive = arranged bytes sync old.drive }
+
 -- what one event may do: its answer, and the field after it
 abbrev pub After : Field → Event → Answer → Field → Type 0
 After old (Frame number from bytes now) (Node answer) new = Steps old number (Datagram from bytes) now (said answer) new
@@ -61,6 +66,8 @@ After old (Take number delta) (Node answer) new =
     (i : ℕ) × (gateway : Gateway) × (next : Gateway) × (made : List (List Op)) × (ops : List Op)
     × IsAt old number i gateway × IsDeltaAt old delta ops × TakeStep gateway ops (said answer) next made × (new ≡ changed old i next made)
 After old (Asks number peer) (Node answer) new = Asked old number peer (said answer) new
+After old (WriteFails number bytes sync) Nothing new =
+    (i : ℕ) × (gateway : Gateway) × IsAt old number i gateway × (new ≡ changed old i (failing bytes sync gateway) [])
 After old (Compact number) (Node answer) new =
     (i : ℕ) × (gateway : Gateway) × (next : Gateway) × IsAt old number i gateway × CompactStep gateway (said answer) next × (new ≡ changed old i next [])
 After old (Restart number kept) (Records count) new =
@@ -81,6 +88,16 @@ After old (Take number delta) (Records count) new = ⊥
 After old (Asks number peer) (Records count) new = ⊥
 After old (Compact number) (Records count) new = ⊥
 After old (Show number) (Records count) new = ⊥
+After old (WriteFails number bytes sync) (Node answer) new = ⊥
+After old (WriteFails number bytes sync) (Views views) new = ⊥
+After old (WriteFails number bytes sync) (Records count) new = ⊥
+After old (Frame number from bytes now) Nothing new = ⊥
+After old (Tick number now) Nothing new = ⊥
+After old (Take number delta) Nothing new = ⊥
+After old (Asks number peer) Nothing new = ⊥
+After old (Compact number) Nothing new = ⊥
+After old (Restart number kept) Nothing new = ⊥
+After old (Show number) Nothing new = ⊥
 
 -- what a list of events may do, one after the other
 abbrev pub Run : Field → List Event → List Answer → Field → Type 0
@@ -99,6 +116,7 @@ gateway_of (Frame number from bytes now) = number
 gateway_of (Tick number now) = number
 gateway_of (Take number delta) = number
 gateway_of (Asks number peer) = number
+gateway_of (WriteFails number bytes sync) = number
 gateway_of (Compact number) = number
 gateway_of (Restart number kept) = number
 gateway_of (Show number) = number
@@ -109,6 +127,7 @@ peer_of (Asks number peer) = Some peer
 peer_of (Frame number from bytes now) = None
 peer_of (Tick number now) = None
 peer_of (Take number delta) = None
+peer_of (WriteFails number bytes sync) = None
 peer_of (Compact number) = None
 peer_of (Restart number kept) = None
 peer_of (Show number) = None
@@ -119,6 +138,7 @@ NamesNoGateway field (Asks number peer) = NoGateway field number ⊎ NoGateway f
 NamesNoGateway field (Frame number from bytes now) = NoGateway field number
 NamesNoGateway field (Tick number now) = NoGateway field number
 NamesNoGateway field (Take number delta) = NoGateway field number
+NamesNoGateway field (WriteFails number bytes sync) = NoGateway field number
 NamesNoGateway field (Compact number) = NoGateway field number
 NamesNoGateway field (Restart number kept) = NoGateway field number
 NamesNoGateway field (Show number) = NoGateway field number
@@ -129,6 +149,7 @@ NamesNoDelta field (Take number delta) = ((i : ℕ) × (place_of number field.ga
 NamesNoDelta field (Frame number from bytes now) = ⊥
 NamesNoDelta field (Tick number now) = ⊥
 NamesNoDelta field (Asks number peer) = ⊥
+NamesNoDelta field (WriteFails number bytes sync) = ⊥
 NamesNoDelta field (Compact number) = ⊥
 NamesNoDelta field (Restart number kept) = ⊥
 NamesNoDelta field (Show number) = ⊥

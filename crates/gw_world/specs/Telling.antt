@@ -5,15 +5,17 @@ use Rattle.gw_node.specs.declared.out.Out.{Out}
 use Rattle.gw_node.specs.declared.refusal.Refusal.{Refusal}
 use Rattle.gw_node.specs.Parts.{said}
 use Rattle.gw_world.specs.declared.event.Answer.{Answer}
-use Rattle.gw_world.specs.declared.event.Answer.TheVariants.{Node, Views, Records}
+use Rattle.gw_world.specs.declared.event.Answer.TheVariants.{Node, Views, Records, Nothing}
 
--- what a gateway sends, makes and answers, or why it refuses; or the clients that it knows, with their views; or how many records it read
+-- what a gateway sends, makes and answers, or why it refuses; or the clients that it knows, with their views; or how many records it read; or nothing
 pub data Told : Type 0 where
   Said : Result Out Refusal → Told
   Shown : List (List ℕ × ClientView) → Told
   Read : ℕ → Told
+  Silent : Told
 
 abbrev pub told : Answer → Told
 told (Node answer) = Said (said answer)
 told (Views views) = Shown views
 told (Records count) = Read count
+told Nothing = Silent

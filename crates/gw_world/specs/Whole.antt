@@ -5,9 +5,9 @@ use Rattle.rep_ops.specs.declared.op.Op.TheVariants.{Session as OfSession, Put a
 use Rattle.rep_ops.specs.Sets.{Stands, Within}
 use Rattle.gw_node.specs.Parts.{said}
 use Rattle.gw_world.specs.declared.event.Event.{Event}
-use Rattle.gw_world.specs.declared.event.Event.TheVariants.{Frame, Tick, Take, Answer as Asks, Compact, Restart, Show}
+use Rattle.gw_world.specs.declared.event.Event.TheVariants.{Frame, Tick, Take, Answer as Asks, WriteFails, Compact, Restart, Show}
 use Rattle.gw_world.specs.declared.event.Answer.{Answer}
-use Rattle.gw_world.specs.declared.event.Answer.TheVariants.{Node, Views, Records}
+use Rattle.gw_world.specs.declared.event.Answer.TheVariants.{Node, Views, Records, Nothing}
 use Rattle.gw_world.specs.Gateways.{Gateway}
 use Rattle.gw_world.specs.Field.{Field, IsAt}
 use Rattle.gw_world.specs.Steps.{HaveName}
@@ -47,6 +47,7 @@ abbrev pub made_by : Answer → List (List Op)
 made_by (Node answer) = made_of (said answer)
 made_by (Views views) = []
 made_by (Records count) = []
+made_by Nothing = []
 
 -- an event that may make operations: a datagram comes, or time goes by
 abbrev pub MayMake : Event → Type 0
@@ -54,6 +55,7 @@ MayMake (Frame number from bytes now) = Unit {0}
 MayMake (Tick number now) = Unit {0}
 MayMake (Take number delta) = ⊥
 MayMake (Asks number peer) = ⊥
+MayMake (WriteFails number bytes sync) = ⊥
 MayMake (Compact number) = ⊥
 MayMake (Restart number kept) = ⊥
 MayMake (Show number) = ⊥
@@ -67,6 +69,7 @@ abbrev pub brought_by : Answer → List (List Op)
 brought_by (Node answer) = made_of (said answer) ++ answered_of (said answer)
 brought_by (Views views) = []
 brought_by (Records count) = []
+brought_by Nothing = []
 
 -- all deltas that the answers bring, in their order
 abbrev pub brought : List Answer → List (List Op)

@@ -32,6 +32,13 @@ pub enum Event {
         gateway: u8,
         peer: u8,
     },
+    /// The next append to a gateway's journal goes wrong: it stops after so many bytes, or after all where there are fewer; or,
+    /// where `sync` is true, all goes out and the sync behind it fails. A failure that was arranged before is forgotten.
+    WriteFails {
+        gateway: u8,
+        bytes: u64,
+        sync: bool,
+    },
     /// A gateway writes its journal anew: what it must keep takes the place of all records.
     Compact {
         gateway: u8,
@@ -61,6 +68,7 @@ impl Event {
             Event::Tick { gateway, .. } => *gateway,
             Event::Take { gateway, .. } => *gateway,
             Event::Answer { gateway, .. } => *gateway,
+            Event::WriteFails { gateway, .. } => *gateway,
             Event::Compact { gateway } => *gateway,
             Event::Restart { gateway, .. } => *gateway,
             Event::Show { gateway } => *gateway,
@@ -74,7 +82,8 @@ impl Event {
         match self {
             Event::Answer { peer, .. } => Some(*peer),
             Event::Frame { .. } | Event::Tick { .. } | Event::Take { .. } => None,
-            Event::Compact { .. } | Event::Restart { .. } | Event::Show { .. } => None,
+            Event::WriteFails { .. } | Event::Compact { .. } => None,
+            Event::Restart { .. } | Event::Show { .. } => None,
         }
     }
 }
@@ -88,4 +97,6 @@ pub enum Answer {
     Views(Sequence<(ClientId, ClientView)>),
     /// How many records a gateway read when it was opened again.
     Records(u64),
+    /// Nothing was to be said: a failure was arranged.
+    Nothing,
 }

@@ -7,8 +7,8 @@ ghost use Rattle.gw_node.specs.declared.refusal.Refusal.TheVariants as refusals;
 ghost use Rattle.gw_node.specs.Parts.{state_of, told, said, disk_of, records_of};
 ghost use Rattle.gw_node.specs.Occasions.{Datagram, Clock};
 ghost use Rattle.gw_world.specs.Calm.{IsCalm, IsFed, StaysCalm, keeping};
-ghost use Rattle.gw_world.specs.Plans.{OwnKept, TakeKept, CompactKept, IsRestarted, IsAnswered, AskKept};
-ghost use Rattle.gw_world.specs.Events.{OwnAt, TakeAt, CompactAt, RestartAt, IsSafe};
+ghost use Rattle.gw_world.specs.Plans.{OwnKept, TakeKept, CompactKept, IsRestarted, IsArranged, IsAnswered, AskKept};
+ghost use Rattle.gw_world.specs.Events.{OwnAt, TakeAt, CompactAt, RestartAt, FailAt, IsSafe};
 ghost use Rattle.gw_world.specs.Field.{shown};
 ghost use Rattle.gw_world.specs.Gateways.{place_of as gateway_place};
 ghost use Rattle.gw_world.specs.Steps.{records_left};
@@ -114,6 +114,14 @@ fn compact_in<R: Replica>(
     unless_starved(node, answer)
 }
 
+/// The next write of a gateway is to fail.
+fn fail_in<R: Replica>(node: &mut Node<R, MemoryDisk>, bytes: u64, sync: bool)
+    requires { IsCalm (state_of R.kept node.old) }
+    ensures { StaysCalm (λ old new. IsArranged bytes sync old new) (state_of R.kept node.old) (state_of R.kept node.new) }
+{
+    node.fail_next(bytes as usize, sync);
+}
+
 /// A datagram comes to the gateway in this place.
 pub fn frame_at<R: Replica>(
     alloc: Global,
@@ -183,6 +191,22 @@ pub fn compact_at<R: Replica>(
     compact_in(alloc, node)
 }
 
+/// The next write of the gateway in this place is to fail.
+pub fn fail_at<R: Replica>(
+    nodes: &mut Vec<Node<R, MemoryDisk>>,
+    place: usize,
+    bytes: u64,
+    sync: bool,
+)
+    requires place { place < vec_len nodes.old }
+    requires calm { AllByRecursion (λ node. IsCalm (state_of R.kept node)) nodes.old.items }
+    ensures calm { AllByRecursion (λ node. IsCalm (state_of R.kept node)) nodes.new.items }
+    ensures done { FailAt (map (λ node. keeping R.kept node) nodes.old.items) place bytes sync (map (λ node. keeping R.kept node) nodes.new.items) }
+{
+    let node = &mut nodes[place];
+    fail_in(node, bytes, sync)
+}
+
 /// What is said where an opening was refused for want of memory.
 fn want_of_memory(fault: &NodeFault) -> WorldFault
     requires { told fault.now ≡ refusals.Memory }
@@ -198,7 +222,8 @@ fn want_of_memory(fault: &NodeFault) -> WorldFault
 
 /// A gateway stops, with so many bytes of each slot left that were not synced, and is opened again.
 ///
-/// No disk fails here, and what a crash leaves of this one stands for a set. So nothing refuses the opening but want of memory.
+/// What a crash leaves of its disk stands for a set, and no journal is begun, so a failure that is arranged is not met. So nothing refuses
+/// the opening but want of memory.
 fn open_again<R: Replica>(
     alloc: Global,
     node: Node<R, MemoryDisk>,

@@ -2,8 +2,9 @@
 //!
 //! `run` is the whole system without sockets and clocks: gateways start empty, with their journals on disks in memory,
 //! events come one after the other, and the result is what each gateway answered, what deltas were made or answered, and the
-//! gateways as they then are. A gateway may write its journal anew, and it may stop and be opened again from what its disk then
-//! has: its set stays. What `run` must give is defined in `specs/` over sets of operations: `Gateways` and `Field` (a field, and
+//! gateways as they then are. A disk may fail in any write, after any number of bytes. A gateway may write its journal anew, and it
+//! may stop and be opened again from what its disk then has: its set stays, and what it refused when the disk failed is in it whole, or
+//! not at all. What `run` must give is defined in `specs/` over sets of operations: `Gateways` and `Field` (a field, and
 //! what events may do to it), `Drives` (the disk under a gateway: which bytes its two slots have), `Steps` (what one event may do
 //! at one gateway), `Worlds` (the result). No journal, map or cache stands there, and of a replica only what it keeps.
 //!

@@ -5,7 +5,7 @@ ghost use Rattle.std.specs.List.{AllByRecursion};
 ghost use Rattle.gw_node.specs.Occasions.{Datagram, Clock};
 ghost use Rattle.gw_node.specs.Parts.{state_of, said};
 ghost use Rattle.gw_world.specs.Calm.{IsCalm, keeping};
-ghost use Rattle.gw_world.specs.Events.{made_of, answered_of, Join, OwnAnswered, TakeAnswered, CompactAnswered, RestartAnswered, AskAnswered, PeerAnswered, ShowAnswered, IsListed, EventAt, EventKept, NoPeer, IsMissing, IsStopKept, IsSafe, IsLed, PlayedKept, StopsKept};
+ghost use Rattle.gw_world.specs.Events.{made_of, answered_of, Join, OwnAnswered, TakeAnswered, CompactAnswered, RestartAnswered, FailAnswered, AskAnswered, PeerAnswered, ShowAnswered, IsListed, EventAt, EventKept, NoPeer, IsMissing, IsStopKept, IsSafe, IsLed, PlayedKept, StopsKept};
 ghost use Rattle.gw_world.specs.Gateways.{new_gateway};
 ghost use Rattle.gw_world.specs.Keeping.{Lasts};
 ghost use Rattle.gw_world.specs.Steps.{IsWritable};
@@ -13,7 +13,7 @@ ghost use Rattle.gw_world.specs.Worlds.{IsWorld, IsStop};
 ghost use Rattle.rep_ops.specs.declared.op.Op.{Op};
 
 use super::event::{Answer, Event};
-use super::field::{ask, compact_at, frame_at, place_of, restart_at, show_at, take_at, tick_at};
+use super::field::{ask, compact_at, fail_at, frame_at, place_of, restart_at, show_at, take_at, tick_at};
 use super::world::{World, WorldFault};
 use gw_node::{Node, NodeFault, Out};
 use jr_journal::MemoryDisk;
@@ -167,6 +167,22 @@ fn play_restart<R: Replica>(
     Ok(Answer::Records(restart_at(alloc, nodes, place, keep)?))
 }
 
+/// The next write of the gateway in this place is to fail.
+fn play_fail<R: Replica>(
+    nodes: &mut Vec<Node<R, MemoryDisk>>,
+    place: usize,
+    bytes: u64,
+    sync: bool,
+) -> Answer
+    requires place { place < vec_len nodes.old }
+    requires calm { AllByRecursion (λ node. IsCalm (state_of R.kept node)) nodes.old.items }
+    ensures calm { AllByRecursion (λ node. IsCalm (state_of R.kept node)) nodes.new.items }
+    ensures done { FailAnswered (map (λ node. keeping R.kept node) nodes.old.items) place bytes sync (map (λ node. keeping R.kept node) nodes.new.items) result }
+{
+    fail_at(nodes, place, bytes, sync);
+    Answer::Nothing
+}
+
 /// The digest of the gateway in one place goes to the gateway in another, and what that one answers joins the list.
 fn play_ask<R: Replica>(
     alloc: Global,
@@ -264,6 +280,7 @@ fn play_at<R: Replica>(
         Event::Answer { peer, .. } => {
             play_answer(alloc, nodes.as_slice(), deltas, place, *peer, number)
         }
+        Event::WriteFails { bytes, sync, .. } => Ok(play_fail(nodes, place, *bytes, *sync)),
         Event::Compact { .. } => play_compact(alloc, nodes, place),
         Event::Restart { keep, .. } => play_restart(alloc, nodes, place, *keep),
         Event::Show { .. } => play_show(alloc, nodes, place),
@@ -293,7 +310,7 @@ fn play_event<R: Replica>(
 /// A gateway that has taken nothing, with its journal on an empty disk.
 fn new_node<R: Replica>(alloc: Global, config: &Config) -> Result<Node<R, MemoryDisk>, WorldFault>
     ensures ok { IfOk result (λ node. keeping R.kept node ≡ new_gateway config.now) }
-    ensures lasts { IfOk result (λ node. Lasts [] (keeping R.kept node)) }
+    ensures lasts { IfOk result (λ node. Lasts [] [] (keeping R.kept node)) }
     ensures calm { IfOk result (λ node. IsCalm (state_of R.kept node)) }
     ensures err { IfErr result (λ fault. fault ≡ WorldFault.Memory) }
 {
@@ -312,7 +329,7 @@ fn new_nodes<R: Replica>(
     configs: &[Config],
 ) -> Result<Vec<Node<R, MemoryDisk>>, WorldFault>
     ensures ok { IfOk result (λ nodes. (map (λ node. keeping R.kept node) nodes.items) ≡ map new_gateway configs.now) }
-    ensures lasts { IfOk result (λ nodes. AllByRecursion (Lasts []) (map (λ node. keeping R.kept node) nodes.items)) }
+    ensures lasts { IfOk result (λ nodes. AllByRecursion (Lasts [] []) (map (λ node. keeping R.kept node) nodes.items)) }
     ensures calm { IfOk result (λ nodes. AllByRecursion (λ node. IsCalm (state_of R.kept node)) nodes.items) }
     ensures err { IfErr result (λ fault. fault ≡ WorldFault.Memory) }
 {
@@ -351,8 +368,9 @@ fn play_all<R: Replica>(
 /// Runs a field of gateways: the gateways of these configs begin with nothing, and the events come one
 /// after the other.
 ///
-/// Each gateway has its journal on a disk in memory. Where an event stops a gateway and opens it again, it reads that journal, and
-/// has the set that it had: nothing but want of memory can refuse that. The result has an answer for each event, the list of the deltas that were
+/// Each gateway has its journal on a disk in memory, whose next write fails where an event arranges that. Where an event stops a
+/// gateway and opens it again, it reads that journal, and has the set that it had, with or without the whole of the delta that it
+/// refused: nothing but want of memory can refuse that. The result has an answer for each event, the list of the deltas that were
 /// made or answered, and the gateways. There is no result where an event names a gateway, as the one that it is at or as the
 /// peer, or else a delta that is not there, or memory runs out.
 pub fn run<R: Replica>(
@@ -361,8 +379,8 @@ pub fn run<R: Replica>(
     events: &[Event],
 ) -> Result<World<Node<R, MemoryDisk>>, WorldFault>
     ensures ok { IfOk result (λ world. IsWorld (λ node. keeping R.kept node) configs.now events.now world.answers world.deltas world.gateways) }
-    // At the end no node is halted, none was refused memory, and no failure is arranged on a disk. What a crash would leave of each disk
-    // stands for the set of its gateway, as the world's `shown` says.
+    // At the end no node was refused memory, and of each disk it is known which failure is arranged. What a crash would leave of it stands
+    // for the set of its gateway, or for that with the whole delta that it refused, as the world's `shown` says.
     ensures calm { IfOk result (λ world. AllByRecursion (λ node. IsCalm (state_of R.kept node)) world.gateways) }
     ensures err { IfErr result (IsStop configs.now events.now) }
 {
