@@ -24,7 +24,7 @@ use Rattle.jr_journal.specs.declared.content.SlotContent.{SlotContent}
 use Rattle.jr_journal.specs.Records.{written, base_bytes, records, slot_content}
 use Rattle.jr_journal.specs.Faults.{is_fresh, fault_of}
 use Rattle.jr_journal.specs.Disk.{Slots, SlotBytes, Image, image, bytes_of, appended, left_of, after_crash, EachCrash}
-use Rattle.jr_journal.specs.Memory.{MemoryState, crashed_disk}
+use Rattle.jr_journal.specs.Memory.{MemoryState, crashed_disk, failing as failing_disk}
 use Rattle.jr_journal.specs.Opening.{recovered, reads_first, is_quiet}
 use Rattle.jr_journal.specs.Journals.{other, emptied, after_append, last_generation, AppendedAs, Opens}
 use Rattle.jr_journal.specs.Parts.{disk_of, slot_of, generation_of, gateway_of}
@@ -39,6 +39,7 @@ use Rattle.gw_node.specs.Plans.{Makes as MakesAll}
 use Rattle.gw_node.specs.Calls.{OwnCall, TakeCall, CompactCall, IsNoted}
 use Rattle.gw_node.specs.Carrying.{made_by, TakesMore, TakesNothing, CarriesOn, OwnCarriesOn}
 use Rattle.gw_node.specs.Excuses.{IsExcuse}
+use Rattle.gw_node.specs.Arranging.{Arranges}
 use Rattle.gw_node.specs.Keeping.{Keeps}
 use Rattle.gw_node.specs.Opening.{IsStarted, GoesOnIn, IsOpenFault, IsDiskFault}
 use Rattle.gw_node.specs.Taking.{ops_of, on_disk, IsBetween, IsWhole, StandsFor, HasTaken}
@@ -49,7 +50,7 @@ use Rattle.gw_world.specs.Drives.{Drive, opened as opened_in, new_drive, GoesOut
 use Rattle.gw_world.specs.Keeping.{IsSynced, Lasts}
 use Rattle.gw_world.specs.Plans.{LastsMore, LastsTorn, IsSame, IsLost, IsCompacted, IsNotCompacted, IsArranged, OwnKept, TakeKept, CompactKept, IsRestarted, Makes}
 use Rattle.gw_world.specs.Events.{IsSafe}
-use Rattle.gw_world.specs.Calm.{IsCalm, IsFed, known_plan, drive_of, held_of, StaysCalm}
+use Rattle.gw_world.specs.Calm.{HasBegun, IsCalm, IsFed, known_plan, drive_of, held_of, StaysCalm}
 
 -- ---- lists
 
@@ -551,6 +552,26 @@ module _ {D : Type 0} {G : Ghosts D} where
       again old new left honest
       (subst (λ (c : Config). WasOpened c (left_by left (drive_of old)) (G.outlook (disk_of old.journal)) new) same (subst (λ (j : Image). WasOpened config j (G.outlook (disk_of old.journal)) new) found h))
 
+  -- and it is calm
+  calm_opened : (config : Config) (i : Image) (outlook : Option (Option Plan)) (S : List Op) (new : State G) → IsTrue (is_quiet outlook false) → G.starved (disk_of new.journal) ≡ false
+      → StandsFor config.gateway S [] i → WasOpened config i outlook new → IsCalm new
+  calm_opened config i outlook S new quiet fed stands h = record {
+    quiet = subst (λ (o : Option (Option Plan)). IsTrue (is_quiet o false)) (sym h.planned) quiet;
+    fed = fed;
+    number = started-number config new h.starts;
+    begun = (h.durable S stands).begun;
+  }
+
+  pub calm_again : (old new : State G) (left : ℕ) (config : Config) (i : Image) → IsCalm old → IsSafe (held_of old) → config ≡ old.config → i ≡ left_by left (drive_of old) → G.starved (disk_of new.journal) ≡ false
+      → WasOpened config i (G.outlook (disk_of old.journal)) new → IsCalm new
+  calm_again old new left config i calm (S, refused, l) same found fed h =
+      let T = with_refused (has_more old.config.gateway (drive_of old) (left_by left (drive_of old))) S refused in
+      calm_opened config i (G.outlook (disk_of old.journal)) T new calm.quiet fed
+      (subst (λ (c : Config). StandsFor c.gateway T [] i) (sym same) (subst (λ (j : Image). StandsFor old.config.gateway T [] j) (sym found) (l.images left left))) h
+
+  pub calm_new : (new : State G) (config : Config) (i : Image) → i ≡ record { first = []; second = [] } → fault_of config.gateway i ≡ None → G.starved (disk_of new.journal) ≡ false → WasOpened config i (Some None) new → IsCalm new
+  calm_new new config i empty sound fed h = calm_opened config i (Some None) [] new refl fed (stands_empty config.gateway i empty sound) h
+
   -- where there was nothing
   pub opened_new : (state : State G) (config : Config) (i : Image) → i ≡ record { first = []; second = [] } → WasOpened config i (Some None) state → state.kept ≡ [] → held_of state ≡ new_gateway config
   opened_new state config i empty was kept =
@@ -582,6 +603,35 @@ stays_quiet outlook quiet fresh e = subst (λ (b : Bool). IsTrue (is_quiet outlo
 
 pub still_quiet : (outlook old : Option (Option Plan)) (fresh : Bool) → outlook ≡ old → IsTrue (is_quiet old false) → fresh ≡ false → IsTrue (is_quiet outlook fresh)
 still_quiet outlook old fresh same quiet e = subst (λ (o : Option (Option Plan)). IsTrue (is_quiet o fresh)) (sym same) (stays_quiet old quiet fresh e)
+
+-- ---- a failure is arranged
+
+failing_quiet : (bytes : ℕ) (sync : Bool) → IsTrue (is_quiet (Some (Some (if sync then KeepBack else Stop bytes))) false)
+failing_quiet bytes true = refl
+failing_quiet bytes false = refl
+
+-- a disk of which what is arranged changes that and nothing else
+pub arranges_so : {G : Ghosts MemoryState} (old new : State G) (bytes : ℕ) (sync : Bool)
+    → ((d : MemoryState) → G.slots (failing_disk bytes sync d) ≡ G.slots d) → ((d : MemoryState) → G.starved (failing_disk bytes sync d) ≡ G.starved d)
+    → ((d : MemoryState) → G.outlook (failing_disk bytes sync d) ≡ Some (Some (if sync then KeepBack else Stop bytes)))
+    → IsCalm old → Arranges bytes sync old new → StaysCalm (λ a b. IsArranged bytes sync a b) old new
+arranges_so {G} old new bytes sync same_slots same_starved outlook calm a =
+    let slots : G.slots (disk_of new.journal) ≡ G.slots (disk_of old.journal) = ap G.slots a.disk ∙ same_slots (disk_of old.journal) in
+    let now : G.outlook (disk_of new.journal) ≡ Some (Some (if sync then KeepBack else Stop bytes)) = ap G.outlook a.disk ∙ outlook (disk_of old.journal) in
+    record {
+      calm = record {
+        quiet = subst (λ (o : Option (Option Plan)). IsTrue (is_quiet o false)) (sym now) (failing_quiet bytes sync);
+        fed = ap G.starved a.disk ∙ same_starved (disk_of old.journal) ∙ calm.fed;
+        number = a.gateway ∙ calm.number ∙ ap (λ (c : Config). c.gateway) (sym a.config);
+        begun = λ honest. subst (λ (d : Slots). EachCrash (λ i. is_fresh i ≡ false) d) (sym slots) (calm.begun honest);
+      };
+      configured = a.config;
+      kept = record {
+        kept = a.kept;
+        local = a.local;
+        drive = same_parts (drive_of new) (arranged bytes sync (drive_of old)) slots a.slot a.halted (ap known_plan now);
+      };
+    }
 
 -- ---- results
 

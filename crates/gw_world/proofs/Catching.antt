@@ -1,5 +1,5 @@
 -- With what answers its digest a gateway keeps what it would keep with the whole set of the peer, also a run later.
-use Rattle.std.proofs.Common.{◌≡◌, ℕ, zero, suc, ◌⊎◌, ◌↔◌, List, [], ◌∷◌, ◌++◌, flat_map, set, slice_get, Some, Contains, Result, Ok, Err, refl, sym, ap, ◌∙◌, subst, append-nil, append_assoc, inl, inr}
+use Rattle.std.proofs.Common.{◌≡◌, Bool, ℕ, zero, suc, ◌⊎◌, ◌↔◌, List, [], ◌∷◌, ◌++◌, flat_map, set, slice_get, Some, Contains, Result, Ok, Err, refl, sym, ap, ◌∙◌, subst, append-nil, append_assoc, inl, inr}
 use Rattle.std.proofs.lemmas.List.Concat.{flat_map-append}
 use Rattle.std.proofs.lemmas.List.Elements.{All-from_recursion, All-contains, Contains-append_left, Contains-append_right}
 use Rattle.std.proofs.lemmas.Option.{none-some, same_Some}
@@ -12,20 +12,21 @@ use Rattle.rep_model.proofs.Thin.{thin-left, thin-right, thin-same, same_kept}
 use Rattle.rep_digest.proofs.Completing.{completed}
 use Rattle.sn_flow.specs.declared.config.Config.{Config}
 use Rattle.gw_world.specs.declared.event.Event.{Event}
-use Rattle.gw_world.specs.declared.event.Event.TheVariants.{Frame, Tick, Take, Answer as Asks, Compact, Restart, Show}
+use Rattle.gw_world.specs.declared.event.Event.TheVariants.{Frame, Tick, Take, Answer as Asks, WriteFails, Compact, Restart, Show}
 use Rattle.gw_world.specs.declared.event.Answer.{Answer}
-use Rattle.gw_world.specs.declared.event.Answer.TheVariants.{Node, Views, Records}
+use Rattle.gw_world.specs.declared.event.Answer.TheVariants.{Node, Views, Records, Nothing}
 use Rattle.gw_node.specs.declared.out.Out.{Out}
 use Rattle.gw_node.specs.declared.refusal.Refusal.{Refusal}
 use Rattle.gw_node.specs.Parts.{said}
 use Rattle.gw_node.specs.Occasions.{Datagram, Clock}
 use Rattle.gw_world.specs.Gateways.{Gateway}
-use Rattle.gw_world.specs.Field.{Field, new_field, IsAt, After, Run}
+use Rattle.gw_world.specs.Field.{Field, new_field, IsAt, failing, After, Run}
 use Rattle.gw_world.specs.Steps.{TakeStep, AnswerStep, restarted}
 use Rattle.gw_world.specs.Whole.{listed, everything, brought}
 use Rattle.gw_world.proofs.Answering.{answered, deltas-same}
 use Rattle.gw_world.proofs.Consistency.{WholeField, field-sound, run-sound, whole-asked, parts-consistent}
-use Rattle.gw_world.proofs.Steadiness.{Still, Stepped, still, own-moves, compact-still, restart-still}
+use Rattle.gw_world.proofs.Failures.{due-joined}
+use Rattle.gw_world.proofs.Steadiness.{Still, Stepped, Fed, own-moves, take-moves, compact-still, restart-moves}
 use Rattle.gw_world.proofs.Telling.{run-brought}
 
 -- ---- one answer
@@ -75,9 +76,9 @@ moved-later : (gs : List Gateway) (i j : ℕ) (old next : Gateway) (made : List 
 moved-later gs i j old next made S is (inl u) l = set-later gs i j old next [] S is (u.taken ∙ sym (append-nil old.taken)) l
 moved-later gs i j old next made S is (inr u) l = set-later gs i j old next u.delta S is u.taken l
 
-fed-later : (gs : List Gateway) (i j : ℕ) (old next : Gateway) (made : List (List Op)) (S delta : List Op) (answer : Result Out Refusal) → slice_get gs i ≡ Some old → TakeStep old delta answer next made → Later gs j S → Later (set gs i next) j S
-fed-later gs i j old next made S delta (Err fault) is h l = moved-later gs i j old next made S is (inl (still old next made h.1)) l
-fed-later gs i j old next made S delta (Ok out) is h l = set-later gs i j old next delta S is (ap (λ (x : Gateway). x.taken) h.3) l
+fed-later : (gs : List Gateway) (i j : ℕ) (old next : Gateway) (made : List (List Op)) (S delta : List Op) → slice_get gs i ≡ Some old → Still old next made ⊎ Fed old delta next made → Later gs j S → Later (set gs i next) j S
+fed-later gs i j old next made S delta is (inl u) l = moved-later gs i j old next made S is (inl u) l
+fed-later gs i j old next made S delta is (inr u) l = set-later gs i j old next delta S is u.taken l
 
 after-later : (old : Field) (event : Event) (answer : Answer) (new : Field) (j : ℕ) (S : List Op) → After old event answer new → Later old.gateways j S → Later new.gateways j S
 after-later old (Frame number from bytes now) (Node answer) new j S h l =
@@ -85,12 +86,14 @@ after-later old (Frame number from bytes now) (Node answer) new j S h l =
 after-later old (Tick number now) (Node answer) new j S h l =
     subst (λ (x : Field). Later x.gateways j S) (sym h.6) (moved-later old.gateways h.0 j h.1 h.2 h.3 S h.4.1 (own-moves h.1 Clock now (said answer) h.2 h.3 h.5) l)
 after-later old (Take number delta) (Node answer) new j S h l =
-    subst (λ (x : Field). Later x.gateways j S) (sym h.8) (fed-later old.gateways h.0 j h.1 h.2 h.3 S h.4 (said answer) h.5.1 h.7 l)
+    subst (λ (x : Field). Later x.gateways j S) (sym h.8) (fed-later old.gateways h.0 j h.1 h.2 h.3 S h.4 h.5.1 (take-moves h.1 h.4 (said answer) h.2 h.3 h.7) l)
 after-later old (Asks number peer) (Node answer) new j S h l = subst (λ (x : Field). Later x.gateways j S) (sym h.8) l
+after-later old (WriteFails number bytes sync) Nothing new j S h l =
+    subst (λ (x : Field). Later x.gateways j S) (sym h.3) (set-later old.gateways h.0 j h.1 (failing bytes sync h.1) [] S h.2.1 (sym (append-nil h.1.taken)) l)
 after-later old (Compact number) (Node answer) new j S h l =
     subst (λ (x : Field). Later x.gateways j S) (sym h.5) (moved-later old.gateways h.0 j h.1 h.2 [] S h.3.1 (inl (compact-still h.1 h.2 (said answer) h.4)) l)
 after-later old (Restart number kept) (Records count) new j S h l =
-    subst (λ (x : Field). Later x.gateways j S) (sym h.4) (moved-later old.gateways h.0 j h.1 (restarted kept h.1) [] S h.2.1 (inl (restart-still kept h.1)) l)
+    subst (λ (x : Field). Later x.gateways j S) (sym h.4) (fed-later old.gateways h.0 j h.1 (restarted kept h.1) [] S h.1.refused h.2.1 (restart-moves kept h.1) l)
 after-later old (Show number) (Views views) new j S h l = subst (λ (x : Field). Later x.gateways j S) (sym h.4) l
 after-later old (Frame number from bytes now) (Views views) new j S h l = absurd h
 after-later old (Tick number now) (Views views) new j S h l = absurd h
@@ -184,7 +187,7 @@ pub caught-up : (configs : List Config) (events more : List Event) (answers repl
 caught-up configs events more answers replies old new number other i j asker peer later out made before at_asker at_peer step after place reached =
     let mid : Field = record old { deltas = old.deltas ++ made } in
     let first = field-sound configs events answers old before in
-    let last = run-sound mid more replies new after first.flush (whole-asked old first.whole j asker peer (Ok out) made at_peer.1 step) in
+    let last = run-sound mid more replies new after first.flush (whole-asked old first.whole j asker peer (Ok out) made at_peer.1 step) (due-joined old.gateways old.deltas made first.due) in
     let mine = run-later mid more replies new i asker.taken after (later-now old.gateways i asker at_asker.1) in
     let theirs = run-later mid more replies new j peer.taken after (later-now old.gateways j peer at_peer.1) in
     let is : later.taken ≡ asker.taken ++ mine.more = ap (λ (x : Gateway). x.taken) (same_Some later mine.gateway (sym place ∙ mine.place)) ∙ mine.taken in

@@ -1,7 +1,7 @@
 -- Every run leaves a field that is steady and in which no name has two contents, and answers no Conflict. That a gateway is flush
 -- after it took a delta rests on where the delta's names are at home; and where they are, on gateways that are flush. So both go
 -- by one induction.
-use Rattle.std.proofs.Common.{◌≡◌, ℕ, zero, suc, ◌-◌, ◌⊎◌, List, [], ◌∷◌, ◌++◌, map, slice_get, Some, Contains, Result, Ok, Err, sym, ap, subst, inl, inr}
+use Rattle.std.proofs.Common.{◌≡◌, Bool, refl, ℕ, zero, suc, ◌-◌, ◌⊎◌, List, [], ◌∷◌, ◌++◌, map, slice_get, Some, Contains, Result, Ok, Err, sym, ap, subst, inl, inr}
 use Rattle.std.specs.List.{AllByRecursion}
 use Rattle.std.proofs.lemmas.List.Elements.{All-from_recursion, All-contains}
 use Rattle.std.proofs.lemmas.Option.{none-some, same_Some}
@@ -15,9 +15,9 @@ use Rattle.rep_model.proofs.Joins.{all-moved}
 use Rattle.sn_flow.specs.declared.config.Config.{Config}
 use Rattle.sn_flow.proofs.Lists.{all-weaken}
 use Rattle.gw_world.specs.declared.event.Event.{Event}
-use Rattle.gw_world.specs.declared.event.Event.TheVariants.{Frame, Tick, Take, Answer as Asks, Compact, Restart, Show}
+use Rattle.gw_world.specs.declared.event.Event.TheVariants.{Frame, Tick, Take, Answer as Asks, WriteFails, Compact, Restart, Show}
 use Rattle.gw_world.specs.declared.event.Answer.{Answer}
-use Rattle.gw_world.specs.declared.event.Answer.TheVariants.{Node, Views, Records}
+use Rattle.gw_world.specs.declared.event.Answer.TheVariants.{Node, Views, Records, Nothing}
 use Rattle.gw_node.specs.declared.out.Out.{Out}
 use Rattle.gw_node.specs.declared.refusal.Refusal.{Refusal}
 use Rattle.gw_node.specs.Parts.{said}
@@ -25,7 +25,7 @@ use Rattle.gw_node.specs.declared.refusal.Refusal.TheVariants as refusals
 use Rattle.gw_node.specs.declared.fault.NodeFault.TheVariants as faults
 use Rattle.gw_node.specs.Occasions.{Occasion, Datagram, Clock}
 use Rattle.gw_world.specs.Gateways.{Gateway, new_gateway}
-use Rattle.gw_world.specs.Field.{Field, new_field, IsAt, IsDeltaAt, changed, After, Run}
+use Rattle.gw_world.specs.Field.{Field, new_field, IsAt, IsDeltaAt, changed, failing, After, Run}
 use Rattle.gw_world.specs.Steps.{HaveName, IsWritable, IsConflict, OwnStep, TakeStep, AnswerStep, CompactStep, restarted}
 use Rattle.gw_world.specs.Steady.{IsKnown, IsSteady}
 use Rattle.gw_world.specs.Whole.{everything, IsHome}
@@ -34,8 +34,9 @@ use Rattle.gw_world.proofs.Answering.{answered, all-answered}
 use Rattle.gw_world.proofs.Each.{all-at, all-places, each-all}
 use Rattle.gw_world.proofs.Held.{agrees_with_kept}
 use Rattle.gw_world.proofs.Numbers.{First, place_of-first, first-number, first-place_of}
-use Rattle.gw_world.proofs.Steadiness.{Still, Stepped, still, own-moves, compact-still, restart-still, AreAllFlush, flush-moved, flush-fed, start-flush, no-conflict}
-use Rattle.gw_world.proofs.Whole.{IsHeld, Whole, held-alike, held-known, whole-silent, whole-still, whole-stepped, whole-joined}
+use Rattle.gw_world.proofs.Steadiness.{Still, Stepped, Fed, still, own-moves, own-writable, take-moves, compact-still, restart-moves, restart-still, AreAllFlush, flush-moved, flush-fed, flush-back, start-flush, no-conflict}
+use Rattle.gw_world.proofs.Whole.{IsHeld, Whole, held-alike, held-known, whole-silent, whole-still, whole-stepped, whole-back, whole-joined}
+use Rattle.gw_world.proofs.Failures.{OwnDue, DueAs, DueField, after-due, start-due, due-joined}
 
 abbrev pub FlushField : Field → Type 0
 FlushField field = AreAllFlush field.gateways
@@ -59,6 +60,7 @@ abbrev pub IsPeaceful : Answer → Type 0
 IsPeaceful (Node answer) = IsAtPeace (said answer)
 IsPeaceful (Views views) = Unit {0}
 IsPeaceful (Records count) = Unit {0}
+IsPeaceful Nothing = Unit {0}
 
 -- ---- what one event does
 
@@ -75,18 +77,44 @@ module _ (field : Field) (s : FlushField field) (w : WholeField field) (n i : �
   listed : (k : ℕ) (delta : List Op) → slice_get field.deltas k ≡ Some delta → AllByRecursion (IsHeld field.gateways) delta
   listed k delta there = all-at (λ (D : List Op). AllByRecursion (IsHeld field.gateways) D) field.deltas k delta w.each.lists there
 
-  whole-moved : (next : Gateway) (made : List (List Op)) → Still old next made ⊎ Stepped old next made → WholeField (changed field i next made)
-  whole-moved next made (inl u) = whole-still field.gateways i old next field.deltas made at.1 u w
-  whole-moved next made (inr u) = whole-stepped field.gateways i old next made at.1 own-first (s old.config.gateway i old own-first at.1) u field.deltas w
+  whole-moved : (next : Gateway) (made : List (List Op)) → AllByRecursion IsWritable made → Still old next made ⊎ Stepped old next made → WholeField (changed field i next made)
+  whole-moved next made writable (inl u) = whole-still field.gateways i old next field.deltas made at.1 u w
+  whole-moved next made writable (inr u) = whole-stepped field.gateways i old next made at.1 own-first (s old.config.gateway i old own-first at.1) u field.deltas writable w
 
-  whole-taken : (next : Gateway) (made : List (List Op)) (k : ℕ) (delta : List Op) (answer : Result Out Refusal) → slice_get field.deltas k ≡ Some delta → TakeStep old delta answer next made → WholeField (changed field i next made)
-  whole-taken next made k delta (Err fault) there h = whole-still field.gateways i old next field.deltas made at.1 (still old next made h.1) w
-  whole-taken next made k delta (Ok out) there h =
-      whole-silent field.gateways i old next delta at.1 (ap (λ (x : Gateway). x.config) h.3) (ap (λ (x : Gateway). x.taken) h.3) field.deltas made (listed k delta there) h.2 w
+  -- it took a delta of the list, or nothing
+  whole-taken : (next : Gateway) (made : List (List Op)) (k : ℕ) (delta : List Op) → slice_get field.deltas k ≡ Some delta → Still old next made ⊎ Fed old delta next made → WholeField (changed field i next made)
+  whole-taken next made k delta there (inl u) = whole-still field.gateways i old next field.deltas made at.1 u w
+  whole-taken next made k delta there (inr u) = whole-silent field.gateways i old next delta at.1 u.config u.taken field.deltas made (listed k delta there) u.none w
 
-  flush-taken : (next : Gateway) (made : List (List Op)) (k : ℕ) (delta : List Op) (answer : Result Out Refusal) → slice_get field.deltas k ≡ Some delta → TakeStep old delta answer next made → FlushField (changed field i next made)
-  flush-taken next made k delta answer there h =
-      flush-fed field.gateways s n i old at-first at.1 next made delta answer (held-known field.gateways n i old at-first at.1 delta (listed k delta there)) h
+  flush-taken : (next : Gateway) (made : List (List Op)) (k : ℕ) (delta : List Op) → slice_get field.deltas k ≡ Some delta → Still old next made ⊎ Fed old delta next made → FlushField (changed field i next made)
+  flush-taken next made k delta there u =
+      flush-fed field.gateways s n i old at-first at.1 next made delta (held-known field.gateways n i old at-first at.1 delta (listed k delta there)) u
+
+  -- it took what it had refused of its own, or nothing
+  back : (next : Gateway) (d : OwnDue old) → Fed old old.refused next [] → Stepped old next (old.refused ∷ [])
+  back next d u = record { plan = d.plan; drafted = d.drafted; delta = old.refused; proper = d.proper; same = d.same; config = u.config; taken = u.taken; one = refl }
+
+  whole-own : (next : Gateway) (d : OwnDue old) → Still old next [] ⊎ Fed old old.refused next [] → WholeField (changed field i next [])
+  whole-own next d (inl u) = whole-still field.gateways i old next field.deltas [] at.1 u w
+  whole-own next d (inr u) = whole-back field.gateways i old next (old.refused ∷ []) at.1 own-first (s old.config.gateway i old own-first at.1) (back next d u) field.deltas w
+
+  flush-again-own : (next : Gateway) (d : OwnDue old) → Still old next [] ⊎ Fed old old.refused next [] → FlushField (changed field i next [])
+  flush-again-own next d (inl u) = flush-own next [] (inl u)
+  flush-again-own next d (inr u) = flush-back field.gateways s n i old at-first at.1 next d.plan old.refused d.drafted d.same u
+
+  whole-again : (kept : ℕ) → DueAs field.deltas old → WholeField (changed field i (restarted kept old) [])
+  whole-again kept (inl none) = whole-still field.gateways i old (restarted kept old) field.deltas [] at.1 (restart-still kept old none) w
+  whole-again kept (inr (inl d)) = whole-own (restarted kept old) d (restart-moves kept old)
+  whole-again kept (inr (inr (k, there))) = whole-taken (restarted kept old) [] k old.refused there (restart-moves kept old)
+
+  flush-again : (kept : ℕ) → DueAs field.deltas old → FlushField (changed field i (restarted kept old) [])
+  flush-again kept (inl none) = flush-own (restarted kept old) [] (inl (restart-still kept old none))
+  flush-again kept (inr (inl d)) = flush-again-own (restarted kept old) d (restart-moves kept old)
+  flush-again kept (inr (inr (k, there))) = flush-taken (restarted kept old) [] k old.refused there (restart-moves kept old)
+
+  -- its next write is to fail
+  same-set : (bytes : ℕ) (sync : Bool) → Still old (failing bytes sync old) []
+  same-set bytes sync = record { config = refl; taken = refl; none = refl }
 
   own-peaceful : (occasion : Occasion) (now : ℕ) (answer : Result Out Refusal) (next : Gateway) (made : List (List Op)) → OwnStep old occasion now answer next made → IsAtPeace answer
   own-peaceful occasion now (Ok out) next made h = tt
@@ -151,67 +179,73 @@ pub record Sound (new : Field) (answer : Answer) : Type 0 where
   pub whole : WholeField new
   pub peaceful : IsPeaceful answer
 
-pub after-sound : (old : Field) (event : Event) (answer : Answer) (new : Field) → After old event answer new → FlushField old → WholeField old → Sound new answer
-after-sound old (Frame number from bytes now) (Node answer) new h s w =
+pub after-sound : (old : Field) (event : Event) (answer : Answer) (new : Field) → After old event answer new → FlushField old → WholeField old → DueField old → Sound new answer
+after-sound old (Frame number from bytes now) (Node answer) new h s w d =
     let u = own-moves h.1 (Datagram from bytes) now (said answer) h.2 h.3 h.5 in record {
       flush = subst FlushField (sym h.6) (flush-own old s w number h.0 h.1 h.4 h.2 h.3 u);
-      whole = subst WholeField (sym h.6) (whole-moved old s w number h.0 h.1 h.4 h.2 h.3 u);
+      whole = subst WholeField (sym h.6) (whole-moved old s w number h.0 h.1 h.4 h.2 h.3 (own-writable h.1 (Datagram from bytes) now (said answer) h.2 h.3 h.5) u);
       peaceful = own-peaceful old s w number h.0 h.1 h.4 (Datagram from bytes) now (said answer) h.2 h.3 h.5;
     }
-after-sound old (Tick number now) (Node answer) new h s w =
+after-sound old (Tick number now) (Node answer) new h s w d =
     let u = own-moves h.1 Clock now (said answer) h.2 h.3 h.5 in record {
       flush = subst FlushField (sym h.6) (flush-own old s w number h.0 h.1 h.4 h.2 h.3 u);
-      whole = subst WholeField (sym h.6) (whole-moved old s w number h.0 h.1 h.4 h.2 h.3 u);
+      whole = subst WholeField (sym h.6) (whole-moved old s w number h.0 h.1 h.4 h.2 h.3 (own-writable h.1 Clock now (said answer) h.2 h.3 h.5) u);
       peaceful = own-peaceful old s w number h.0 h.1 h.4 Clock now (said answer) h.2 h.3 h.5;
     }
-after-sound old (Take number delta) (Node answer) new h s w = record {
-  flush = subst FlushField (sym h.8) (flush-taken old s w number h.0 h.1 h.5 h.2 h.3 (delta - 1) h.4 (said answer) h.6.1 h.7);
-  whole = subst WholeField (sym h.8) (whole-taken old s w number h.0 h.1 h.5 h.2 h.3 (delta - 1) h.4 (said answer) h.6.1 h.7);
+after-sound old (Take number delta) (Node answer) new h s w d = record {
+  flush = subst FlushField (sym h.8) (flush-taken old s w number h.0 h.1 h.5 h.2 h.3 (delta - 1) h.4 h.6.1 (take-moves h.1 h.4 (said answer) h.2 h.3 h.7));
+  whole = subst WholeField (sym h.8) (whole-taken old s w number h.0 h.1 h.5 h.2 h.3 (delta - 1) h.4 h.6.1 (take-moves h.1 h.4 (said answer) h.2 h.3 h.7));
   peaceful = take-peaceful old s w number h.0 h.1 h.5 (delta - 1) h.4 (said answer) h.2 h.3 h.6.1 h.7;
 }
-after-sound old (Asks number peer) (Node answer) new h s w = record {
+after-sound old (Asks number peer) (Node answer) new h s w d = record {
   flush = subst FlushField (sym h.8) s;
   whole = subst WholeField (sym h.8) (whole-asked old w h.1 h.2 h.3 (said answer) h.4 h.6.1 h.7);
   peaceful = asked-peaceful h.2 h.3 (said answer) h.4 h.7;
 }
-after-sound old (Compact number) (Node answer) new h s w =
-    let u : Still h.1 h.2 [] ⊎ Stepped h.1 h.2 [] = inl (compact-still h.1 h.2 (said answer) h.4) in record {
-      flush = subst FlushField (sym h.5) (flush-own old s w number h.0 h.1 h.3 h.2 [] u);
-      whole = subst WholeField (sym h.5) (whole-moved old s w number h.0 h.1 h.3 h.2 [] u);
-      peaceful = compact-peaceful h.1 h.2 (said answer) h.4;
-    }
-after-sound old (Restart number kept) (Records count) new h s w =
-    let next = restarted kept h.1 in
-    let u : Still h.1 next [] ⊎ Stepped h.1 next [] = inl (restart-still kept h.1) in record {
-      flush = subst FlushField (sym h.4) (flush-own old s w number h.0 h.1 h.2 next [] u);
-      whole = subst WholeField (sym h.4) (whole-moved old s w number h.0 h.1 h.2 next [] u);
+after-sound old (WriteFails number bytes sync) Nothing new h s w d =
+    let next = failing bytes sync h.1 in
+    let u : Still h.1 next [] ⊎ Stepped h.1 next [] = inl (same-set old s w number h.0 h.1 h.2 bytes sync) in record {
+      flush = subst FlushField (sym h.3) (flush-own old s w number h.0 h.1 h.2 next [] u);
+      whole = subst WholeField (sym h.3) (whole-moved old s w number h.0 h.1 h.2 next [] tt u);
       peaceful = tt;
     }
-after-sound old (Show number) (Views views) new h s w = record { flush = subst FlushField (sym h.4) s; whole = subst WholeField (sym h.4) w; peaceful = tt }
-after-sound old (Frame number from bytes now) (Views views) new h s w = absurd h
-after-sound old (Tick number now) (Views views) new h s w = absurd h
-after-sound old (Take number delta) (Views views) new h s w = absurd h
-after-sound old (Asks number peer) (Views views) new h s w = absurd h
-after-sound old (Show number) (Node answer) new h s w = absurd h
-after-sound old (Compact number) (Views views) new h s w = absurd h
-after-sound old (Restart number kept) (Views views) new h s w = absurd h
-after-sound old (Restart number kept) (Node answer) new h s w = absurd h
-after-sound old (Frame number from bytes now) (Records count) new h s w = absurd h
-after-sound old (Tick number now) (Records count) new h s w = absurd h
-after-sound old (Take number delta) (Records count) new h s w = absurd h
-after-sound old (Asks number peer) (Records count) new h s w = absurd h
-after-sound old (Compact number) (Records count) new h s w = absurd h
-after-sound old (Show number) (Records count) new h s w = absurd h
-after-sound old (WriteFails number bytes sync) (Node answer) new h s w = absurd h
-after-sound old (WriteFails number bytes sync) (Views views) new h s w = absurd h
-after-sound old (WriteFails number bytes sync) (Records count) new h s w = absurd h
-after-sound old (Frame number from bytes now) Nothing new h s w = absurd h
-after-sound old (Tick number now) Nothing new h s w = absurd h
-after-sound old (Take number delta) Nothing new h s w = absurd h
-after-sound old (Asks number peer) Nothing new h s w = absurd h
-after-sound old (Compact number) Nothing new h s w = absurd h
-after-sound old (Restart number kept) Nothing new h s w = absurd h
-after-sound old (Show number) Nothing new h s w = absurd h
+after-sound old (Compact number) (Node answer) new h s w d =
+    let u : Still h.1 h.2 [] ⊎ Stepped h.1 h.2 [] = inl (compact-still h.1 h.2 (said answer) h.4) in record {
+      flush = subst FlushField (sym h.5) (flush-own old s w number h.0 h.1 h.3 h.2 [] u);
+      whole = subst WholeField (sym h.5) (whole-moved old s w number h.0 h.1 h.3 h.2 [] tt u);
+      peaceful = compact-peaceful h.1 h.2 (said answer) h.4;
+    }
+after-sound old (Restart number kept) (Records count) new h s w d =
+    let due = (d h.0 h.1 h.2.1).due in record {
+      flush = subst FlushField (sym h.4) (flush-again old s w number h.0 h.1 h.2 kept due);
+      whole = subst WholeField (sym h.4) (whole-again old s w number h.0 h.1 h.2 kept due);
+      peaceful = tt;
+    }
+after-sound old (Show number) (Views views) new h s w d = record { flush = subst FlushField (sym h.4) s; whole = subst WholeField (sym h.4) w; peaceful = tt }
+after-sound old (Frame number from bytes now) (Views views) new h s w d = absurd h
+after-sound old (Tick number now) (Views views) new h s w d = absurd h
+after-sound old (Take number delta) (Views views) new h s w d = absurd h
+after-sound old (Asks number peer) (Views views) new h s w d = absurd h
+after-sound old (Show number) (Node answer) new h s w d = absurd h
+after-sound old (Compact number) (Views views) new h s w d = absurd h
+after-sound old (Restart number kept) (Views views) new h s w d = absurd h
+after-sound old (Restart number kept) (Node answer) new h s w d = absurd h
+after-sound old (Frame number from bytes now) (Records count) new h s w d = absurd h
+after-sound old (Tick number now) (Records count) new h s w d = absurd h
+after-sound old (Take number delta) (Records count) new h s w d = absurd h
+after-sound old (Asks number peer) (Records count) new h s w d = absurd h
+after-sound old (Compact number) (Records count) new h s w d = absurd h
+after-sound old (Show number) (Records count) new h s w d = absurd h
+after-sound old (WriteFails number bytes sync) (Node answer) new h s w d = absurd h
+after-sound old (WriteFails number bytes sync) (Views views) new h s w d = absurd h
+after-sound old (WriteFails number bytes sync) (Records count) new h s w d = absurd h
+after-sound old (Frame number from bytes now) Nothing new h s w d = absurd h
+after-sound old (Tick number now) Nothing new h s w d = absurd h
+after-sound old (Take number delta) Nothing new h s w d = absurd h
+after-sound old (Asks number peer) Nothing new h s w d = absurd h
+after-sound old (Compact number) Nothing new h s w d = absurd h
+after-sound old (Restart number kept) Nothing new h s w d = absurd h
+after-sound old (Show number) Nothing new h s w d = absurd h
 
 -- ---- what a run does
 
@@ -219,16 +253,17 @@ after-sound old (Show number) Nothing new h s w = absurd h
 pub record Ran (new : Field) (answers : List Answer) : Type 0 where
   pub flush : FlushField new
   pub whole : WholeField new
+  pub due : DueField new
   pub peaceful : AllByRecursion IsPeaceful answers
 
-pub run-sound : (old : Field) (events : List Event) (answers : List Answer) (new : Field) → Run old events answers new → FlushField old → WholeField old → Ran new answers
-run-sound old [] [] new h s w = record { flush = subst FlushField (sym h) s; whole = subst WholeField (sym h) w; peaceful = tt }
-run-sound old (event ∷ events) (answer ∷ answers) new h s w =
-    let one = after-sound old event answer h.0 h.1 s w in
-    let more = run-sound h.0 events answers new h.2 one.flush one.whole in
-    record { flush = more.flush; whole = more.whole; peaceful = (one.peaceful, more.peaceful) }
-run-sound old [] (answer ∷ answers) new h s w = absurd h
-run-sound old (event ∷ events) [] new h s w = absurd h
+pub run-sound : (old : Field) (events : List Event) (answers : List Answer) (new : Field) → Run old events answers new → FlushField old → WholeField old → DueField old → Ran new answers
+run-sound old [] [] new h s w d = record { flush = subst FlushField (sym h) s; whole = subst WholeField (sym h) w; due = subst DueField (sym h) d; peaceful = tt }
+run-sound old (event ∷ events) (answer ∷ answers) new h s w d =
+    let one = after-sound old event answer h.0 h.1 s w d in
+    let more = run-sound h.0 events answers new h.2 one.flush one.whole (after-due old event answer h.0 h.1 d) in
+    record { flush = more.flush; whole = more.whole; due = more.due; peaceful = (one.peaceful, more.peaceful) }
+run-sound old [] (answer ∷ answers) new h s w d = absurd h
+run-sound old (event ∷ events) [] new h s w d = absurd h
 
 pub start-taken : (configs : List Config) (j : ℕ) (gateway : Gateway) → slice_get (map new_gateway configs) j ≡ Some gateway → gateway.taken ≡ []
 start-taken [] j gateway e = absurd (none-some gateway e)
@@ -246,7 +281,7 @@ start-whole configs = record {
 }
 
 pub field-sound : (configs : List Config) (events : List Event) (answers : List Answer) (field : Field) → Run (new_field configs) events answers field → Ran field answers
-field-sound configs events answers field h = run-sound (new_field configs) events answers field h (start-flush configs) (start-whole configs)
+field-sound configs events answers field h = run-sound (new_field configs) events answers field h (start-flush configs) (start-whole configs) (start-due configs)
 
 pub field-whole : (configs : List Config) (events : List Event) (answers : List Answer) (field : Field) → Run (new_field configs) events answers field → WholeField field
 field-whole configs events answers field h = (field-sound configs events answers field h).whole

@@ -1,5 +1,5 @@
 -- From what all gateways keep to the field, and over a whole list of events.
-use Rattle.std.proofs.Common.{◌≡◌, ◌<◌, length, slice_index_or, ℕ, ◌+◌, ◌-◌, ◌==◌, if◌then◌else◌, zero, suc, List, [], ◌∷◌, ◌++◌, map, Some, Contains, Result, slice_get, set, refl, sym, ap, ◌∙◌, subst, append-nil, take, inl, inr}
+use Rattle.std.proofs.Common.{◌≡◌, Bool, ◌<◌, length, slice_index_or, ℕ, ◌+◌, ◌-◌, ◌==◌, if◌then◌else◌, zero, suc, List, [], ◌∷◌, ◌++◌, map, Some, Contains, Result, slice_get, set, refl, sym, ap, ◌∙◌, subst, append-nil, take, inl, inr}
 use Rattle.std.specs.List.{AllByRecursion}
 use Rattle.std.proofs.lemmas.List.{take_more}
 use Rattle.std.proofs.lemmas.Option.{slice_get_within, get_or_from_slice_get}
@@ -12,9 +12,9 @@ use Rattle.rep_model.specs.Taking.{AllAgree}
 use Rattle.sn_flow.specs.declared.config.Config.{Config}
 use Rattle.sn_flow.specs.declared.plan.Plan.{Plan}
 use Rattle.gw_world.specs.declared.event.Event.{Event}
-use Rattle.gw_world.specs.declared.event.Event.TheVariants.{Frame, Tick, Take, Answer as Asks, Compact, Restart, Show}
+use Rattle.gw_world.specs.declared.event.Event.TheVariants.{Frame, Tick, Take, Answer as Asks, WriteFails, Compact, Restart, Show}
 use Rattle.gw_world.specs.declared.event.Answer.{Answer}
-use Rattle.gw_world.specs.declared.event.Answer.TheVariants.{Node, Views, Records}
+use Rattle.gw_world.specs.declared.event.Answer.TheVariants.{Node, Views, Records, Nothing}
 use Rattle.gw_world.specs.declared.world.WorldFault.{WorldFault}
 use Rattle.gw_world.specs.declared.world.WorldFault.TheVariants as stops
 use Rattle.gw_node.specs.Occasions.{Occasion, Datagram, Clock}
@@ -32,7 +32,7 @@ use Rattle.gw_world.specs.Worlds.{IsWorld, IsStop}
 use Rattle.gw_node.proofs.Keeping.{keeps_nothing}
 use Rattle.gw_world.proofs.Consistency.{field-steady, field-agrees}
 use Rattle.gw_world.proofs.Calmness.{all_push}
-use Rattle.gw_world.proofs.Shown.{own_taken, take_taken, compact_taken, restart_taken, ask_taken}
+use Rattle.gw_world.proofs.Shown.{own_taken, take_taken, compact_taken, restart_taken, fail_taken, ask_taken}
 use Rattle.gw_world.proofs.Steadiness.{plan-agrees}
 
 -- a number has the same place in both lists
@@ -167,6 +167,15 @@ module _ (field : Field) (r : IsReached field) (ks : List Gateway) (s : AreShown
         shown = moved i old new leads.next news moves leads.shown;
         listed = append-nil field.deltas ∙ (listed ∙ sym is_next);
       }
+  event_reaches deltas listed (WriteFails n bytes sync) news next Nothing (i, place, ((old, new, moves, kept), is_next)) =
+      let at = shown_at field.gateways ks i old s moves.place in
+      let leads = fail_taken at.gateway old at.shown new moves.configured bytes sync kept in
+      record {
+        new = record { gateways = set field.gateways i leads.next; deltas = field.deltas ++ [] };
+        after = (i, at.gateway, (place_there n i place, at.place), (λ j. record { gateways = set field.gateways i (leads.step j); deltas = field.deltas ++ [] }));
+        shown = moved i old new leads.next news moves leads.shown;
+        listed = append-nil field.deltas ∙ (listed ∙ sym is_next);
+      }
   event_reaches deltas listed (Restart n left) news next (Records count) (i, place, ((old, new, moves, counted, kept), is_next)) =
       let at = shown_at field.gateways ks i old s moves.place in
       let leads = restart_taken at.gateway old at.shown new moves.configured left count counted kept in
@@ -200,16 +209,16 @@ module _ (field : Field) (r : IsReached field) (ks : List Gateway) (s : AreShown
   event_reaches deltas listed (Asks n m) news next (Records count) (i, place, ((j, other, h), same)) = absurd h
   event_reaches deltas listed (Compact n) news next (Records count) (i, place, (h, is_next)) = absurd h
   event_reaches deltas listed (Show n) news next (Records count) (i, place, (h, same, is_next)) = absurd h
-  event_reaches deltas listed (WriteFails number bytes sync) news next (Node answer) (i, place, (h, same, is_next)) = absurd h
-  event_reaches deltas listed (WriteFails number bytes sync) news next (Views views) (i, place, (h, same, is_next)) = absurd h
-  event_reaches deltas listed (WriteFails number bytes sync) news next (Records count) (i, place, (h, same, is_next)) = absurd h
-  event_reaches deltas listed (Frame number from bytes now) news next Nothing (i, place, (h, same, is_next)) = absurd h
-  event_reaches deltas listed (Tick number now) news next Nothing (i, place, (h, same, is_next)) = absurd h
-  event_reaches deltas listed (Take number delta) news next Nothing (i, place, (h, same, is_next)) = absurd h
-  event_reaches deltas listed (Asks number peer) news next Nothing (i, place, (h, same, is_next)) = absurd h
-  event_reaches deltas listed (Compact number) news next Nothing (i, place, (h, same, is_next)) = absurd h
-  event_reaches deltas listed (Restart number kept) news next Nothing (i, place, (h, same, is_next)) = absurd h
-  event_reaches deltas listed (Show number) news next Nothing (i, place, (h, same, is_next)) = absurd h
+  event_reaches deltas listed (WriteFails n bytes sync) news next (Node answer) (i, place, (h, is_next)) = absurd h
+  event_reaches deltas listed (WriteFails n bytes sync) news next (Views views) (i, place, (h, is_next)) = absurd h
+  event_reaches deltas listed (WriteFails n bytes sync) news next (Records count) (i, place, (h, is_next)) = absurd h
+  event_reaches deltas listed (Frame n from bytes now) news next Nothing (i, place, h) = absurd h
+  event_reaches deltas listed (Tick n now) news next Nothing (i, place, h) = absurd h
+  event_reaches deltas listed (Take n delta) news next Nothing (i, place, (ops, there, h, is_next)) = absurd h
+  event_reaches deltas listed (Asks n m) news next Nothing (i, place, ((j, other, h), same)) = absurd h
+  event_reaches deltas listed (Compact n) news next Nothing (i, place, (h, is_next)) = absurd h
+  event_reaches deltas listed (Restart n left) news next Nothing (i, place, (h, is_next)) = absurd h
+  event_reaches deltas listed (Show n) news next Nothing (i, place, (h, same, is_next)) = absurd h
 
 -- a run goes on by one more event
 pub run_more : (old mid new : Field) (events : List Event) (answers : List Answer) (event : Event) (answer : Answer)
@@ -220,7 +229,7 @@ run_more old mid new [] (a ∷ answers) event answer run after = absurd run
 run_more old mid new (e ∷ events) [] event answer run after = absurd run
 
 -- at the start every gateway keeps nothing
-shown_at_start : (configs : List Config) → AllByRecursion (Lasts []) (map new_gateway configs) → AreShown (map new_gateway configs) (map new_gateway configs)
+shown_at_start : (configs : List Config) → AllByRecursion (Lasts [] []) (map new_gateway configs) → AreShown (map new_gateway configs) (map new_gateway configs)
 shown_at_start [] l = tt
 shown_at_start (config ∷ configs) l = (record { configured = refl; bound = refl; keeps = keeps_nothing; drive = refl; lasts = l.0 }, shown_at_start configs l.1)
 
@@ -238,7 +247,7 @@ kept_more olds ds events answers ks deltas event news next answer run one field 
 -- a set lasts at each gateway
 all_safe : (gs ks : List Gateway) → AreShown gs ks → AllByRecursion IsSafe ks
 all_safe [] [] s = tt
-all_safe (g ∷ gs) (k ∷ ks) s = ((g.taken, s.0.lasts), all_safe gs ks s.1)
+all_safe (g ∷ gs) (k ∷ ks) s = ((g.taken, g.refused, s.0.lasts), all_safe gs ks s.1)
 all_safe [] (k ∷ ks) s = absurd s
 all_safe (g ∷ gs) [] s = absurd s
 
@@ -255,6 +264,7 @@ names_no_gateway field ks deltas (Tick g now) s h = place_shown g 0 field.gatewa
 names_no_gateway field ks deltas (Take g delta) s h = place_shown g 0 field.gateways ks s ∙ h
 names_no_gateway field ks deltas (Asks g peer) s (inl h) = inl (place_shown g 0 field.gateways ks s ∙ h)
 names_no_gateway field ks deltas (Asks g peer) s (inr h) = inr (place_shown peer 0 field.gateways ks s ∙ h)
+names_no_gateway field ks deltas (WriteFails g bytes sync) s h = place_shown g 0 field.gateways ks s ∙ h
 names_no_gateway field ks deltas (Compact g) s h = place_shown g 0 field.gateways ks s ∙ h
 names_no_gateway field ks deltas (Restart g kept) s h = place_shown g 0 field.gateways ks s ∙ h
 names_no_gateway field ks deltas (Show g) s h = place_shown g 0 field.gateways ks s ∙ h
@@ -264,6 +274,7 @@ names_no_delta : (field : Field) (ks : List Gateway) (deltas : List (List Op)) (
 names_no_delta field ks deltas (Frame g from bytes now) s listed h = absurd h
 names_no_delta field ks deltas (Tick g now) s listed h = absurd h
 names_no_delta field ks deltas (Asks g peer) s listed h = absurd h
+names_no_delta field ks deltas (WriteFails g bytes sync) s listed h = absurd h
 names_no_delta field ks deltas (Compact g) s listed h = absurd h
 names_no_delta field ks deltas (Restart g kept) s listed h = absurd h
 names_no_delta field ks deltas (Show g) s listed h = absurd h
@@ -300,27 +311,27 @@ map_push f (y ∷ xs) x = ap (λ zs. f y ∷ zs) (map_push f xs x)
 
 -- one more gateway begins
 pub nodes_more : {N : Type 0} (f : N → Gateway) (P : N → Type 0) (configs : List Config) (k : ℕ) (config : Config) (xs ys : List N) (n : N)
-    → k < length configs → config ≡ slice_index_or configs k config → ys ≡ xs ++ n ∷ [] → f n ≡ new_gateway config → Lasts [] (f n) → P n
-    → (map f xs ≡ map new_gateway (take k configs)) × AllByRecursion (Lasts []) (map f xs) × AllByRecursion P xs
-    → (map f ys ≡ map new_gateway (take (k + 1) configs)) × AllByRecursion (Lasts []) (map f ys) × AllByRecursion P ys
+    → k < length configs → config ≡ slice_index_or configs k config → ys ≡ xs ++ n ∷ [] → f n ≡ new_gateway config → Lasts [] [] (f n) → P n
+    → (map f xs ≡ map new_gateway (take k configs)) × AllByRecursion (Lasts [] []) (map f xs) × AllByRecursion P xs
+    → (map f ys ≡ map new_gateway (take (k + 1) configs)) × AllByRecursion (Lasts [] []) (map f ys) × AllByRecursion P ys
 nodes_more f P configs k config xs ys n less is e same l p h =
     let more : take (k + 1) configs ≡ take k configs ++ config ∷ [] = take_more configs k config less ∙ ap (λ x. take k configs ++ x ∷ []) (sym is) in
     let held : map f ys ≡ map f xs ++ f n ∷ [] = ap (λ zs. map f zs) e ∙ map_push f xs n in (
       held ∙ (λ i. h.0 i ++ same i ∷ []) ∙ sym (map_push new_gateway (take k configs) config) ∙ ap (λ zs. map new_gateway zs) (sym more),
-      subst (λ (zs : List Gateway). AllByRecursion (Lasts []) zs) (sym held) (all_push (Lasts []) (map f xs) (f n) h.1 l),
+      subst (λ (zs : List Gateway). AllByRecursion (Lasts [] []) zs) (sym held) (all_push (Lasts [] []) (map f xs) (f n) h.1 l),
       subst (λ zs. AllByRecursion P zs) (sym e) (all_push P xs n h.2 p),
     )
 
-start_shown : (configs : List Config) (ks : List Gateway) → ks ≡ map new_gateway configs → AllByRecursion (Lasts []) ks → AreShown (map new_gateway configs) ks
+start_shown : (configs : List Config) (ks : List Gateway) → ks ≡ map new_gateway configs → AllByRecursion (Lasts [] []) ks → AreShown (map new_gateway configs) ks
 start_shown configs ks e l =
-    subst (λ xs. AreShown (map new_gateway configs) xs) (sym e) (shown_at_start configs (subst (λ (xs : List Gateway). AllByRecursion (Lasts []) xs) e l))
+    subst (λ xs. AreShown (map new_gateway configs) xs) (sym e) (shown_at_start configs (subst (λ (xs : List Gateway). AllByRecursion (Lasts [] []) xs) e l))
 
-pub led_at_start : (configs : List Config) (ks : List Gateway) (ds : List (List Op)) → ks ≡ map new_gateway configs → AllByRecursion (Lasts []) ks → ds ≡ [] → IsLed ks ds
+pub led_at_start : (configs : List Config) (ks : List Gateway) (ds : List (List Op)) → ks ≡ map new_gateway configs → AllByRecursion (Lasts [] []) ks → ds ≡ [] → IsLed ks ds
 led_at_start configs ks ds same l none = (new_field configs, reached_start configs, start_shown configs ks same l, sym none)
 
 -- a run from the start that stops
 pub stops_from_start : (configs : List Config) (ks : List Gateway) (ds : List (List Op)) (events : List Event) (fault : WorldFault)
-    → ks ≡ map new_gateway configs → AllByRecursion (Lasts []) ks → ds ≡ [] → StopsKept ks ds events fault → IsStop configs events fault
+    → ks ≡ map new_gateway configs → AllByRecursion (Lasts [] []) ks → ds ≡ [] → StopsKept ks ds events fault → IsStop configs events fault
 stops_from_start configs ks ds events (stops.NoGateway n) same l none h =
     let (k, field, event, answers, run, there, number, missing) = h (new_field configs) (reached_start configs) (start_shown configs ks same l) (sym none) in
     (k, field, event, record { answers = answers; run = run; event_is = there }, number, missing)
@@ -331,7 +342,7 @@ stops_from_start configs ks ds events stops.Memory same l none h = tt
 
 -- a run from the start to its end
 pub world_from_start : {N : Type 0} (held : N → Gateway) (configs : List Config) (events : List Event) (answers : List Answer) (ks : List Gateway) (ds deltas : List (List Op)) (nodes : List N)
-    → ks ≡ map new_gateway configs → AllByRecursion (Lasts []) ks → ds ≡ [] → RunKept ks ds events answers (map held nodes) deltas
+    → ks ≡ map new_gateway configs → AllByRecursion (Lasts [] []) ks → ds ≡ [] → RunKept ks ds events answers (map held nodes) deltas
     → IsWorld held configs events answers deltas nodes
 world_from_start held configs events answers ks ds deltas nodes start l none run =
     let end = run (new_field configs) (reached_start configs) (start_shown configs ks start l) (sym none) in

@@ -10,10 +10,12 @@ pub mod Each
 pub mod Alone
 pub mod Whole
 pub mod Answering
+pub mod Failures
 pub mod Consistency
 pub mod Writing
 pub mod Settling
 pub mod Splits
+pub mod Rooms
 pub mod Determined
 pub mod Replaying
 pub mod Stops

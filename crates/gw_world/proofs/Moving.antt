@@ -1,5 +1,5 @@
 -- What one gateway does in its place in the list of gateways.
-use Rattle.std.proofs.Common.{◌≡◌, ℕ, zero, suc, ◌<◌, List, [], ◌∷◌, length, map, set, Option, Some, None, slice_get, Result, refl, ap, ◌∙◌, inl, inr, arith}
+use Rattle.std.proofs.Common.{◌≡◌, Bool, ℕ, zero, suc, ◌<◌, List, [], ◌∷◌, length, map, set, Option, Some, None, slice_get, Result, refl, ap, ◌∙◌, inl, inr, arith}
 use Rattle.std.specs.List.{insert, remove}
 use Rattle.std.specs.Option.{option_map}
 use Rattle.std.proofs.lemmas.Option.{slice_get-map}
@@ -8,15 +8,15 @@ use Rattle.rep_ops.specs.declared.op.Op.{Op}
 use Rattle.gw_node.specs.declared.out.Out.{Out}
 use Rattle.gw_node.specs.declared.refusal.Refusal.{Refusal}
 use Rattle.gw_world.specs.declared.event.Event.{Event}
-use Rattle.gw_world.specs.declared.event.Event.TheVariants.{Frame, Tick, Take, Answer as Asks, Compact, Restart, Show}
+use Rattle.gw_world.specs.declared.event.Event.TheVariants.{Frame, Tick, Take, Answer as Asks, WriteFails, Compact, Restart, Show}
 use Rattle.gw_world.specs.declared.world.WorldFault.{WorldFault}
 use Rattle.gw_world.specs.declared.world.WorldFault.TheVariants as stops
 use Rattle.gw_node.specs.Occasions.{Occasion}
 use Rattle.gw_world.specs.Gateways.{Gateway, place_of}
 use Rattle.gw_world.specs.Field.{gateway_of}
 use Rattle.gw_world.specs.Steps.{records_left}
-use Rattle.gw_world.specs.Plans.{OwnKept, TakeKept, CompactKept, IsRestarted, AskKept}
-use Rattle.gw_world.specs.Events.{Moves, OwnAt, TakeAt, CompactAt, RestartAt, AskAt, IsMissing, IsStopKept}
+use Rattle.gw_world.specs.Plans.{OwnKept, TakeKept, CompactKept, IsRestarted, IsArranged, AskKept}
+use Rattle.gw_world.specs.Events.{Moves, OwnAt, TakeAt, CompactAt, RestartAt, FailAt, AskAt, IsMissing, IsStopKept}
 
 module _ {N : Type 0} (f : N → Gateway) (nodes : List N) (i : ℕ) (old new : N) (place : slice_get nodes i ≡ Some old) (configured : (f new).config ≡ (f old).config) where
   pub moves_in_place : Moves (map f nodes) i (f old) (f new) (map f (set nodes i new))
@@ -42,6 +42,9 @@ module _ {N : Type 0} (f : N → Gateway) (nodes : List N) (i : ℕ) (old new : 
   pub restart_in_place : (left count : ℕ) → count ≡ records_left left (f old) → IsRestarted left (f old) (f new) → RestartAt (map f nodes) i left count (map f (set nodes i new))
   restart_in_place left count counted h = (f old, f new, moves_in_place, counted, h)
 
+  pub fail_in_place : (bytes : ℕ) (sync : Bool) → IsArranged bytes sync (f old) (f new) → FailAt (map f nodes) i bytes sync (map f (set nodes i new))
+  fail_in_place bytes sync h = (f old, f new, moves_in_place, h)
+
 -- an element that was removed from its place, and another put there
 pub put_back : {A : Type 0} (xs : List A) (i : ℕ) (x : A) → i < length xs → insert (remove xs i) i x ≡ set xs i x
 put_back [] i x h = absurd (omega (arith, h))
@@ -66,6 +69,8 @@ missing_stops olds deltas (Frame g from bytes now) n (stops.NoGateway m) i place
 missing_stops olds deltas (Frame g from bytes now) n (stops.NoDelta m) i place h = absurd (cc)
 missing_stops olds deltas (Tick g now) n (stops.NoGateway m) i place h = absurd (cc)
 missing_stops olds deltas (Tick g now) n (stops.NoDelta m) i place h = absurd (cc)
+missing_stops olds deltas (WriteFails g bytes sync) n (stops.NoGateway m) i place h = absurd (cc)
+missing_stops olds deltas (WriteFails g bytes sync) n (stops.NoDelta m) i place h = absurd (cc)
 missing_stops olds deltas (Compact g) n (stops.NoGateway m) i place h = absurd (cc)
 missing_stops olds deltas (Compact g) n (stops.NoDelta m) i place h = absurd (cc)
 missing_stops olds deltas (Restart g kept) n (stops.NoGateway m) i place h = absurd (cc)
@@ -81,6 +86,7 @@ absent_stops olds deltas (Asks g peer) n none = (refl, inl none)
 absent_stops olds deltas (Frame g from bytes now) n none = (refl, none)
 absent_stops olds deltas (Tick g now) n none = (refl, none)
 absent_stops olds deltas (Take g delta) n none = (refl, none)
+absent_stops olds deltas (WriteFails g bytes sync) n none = (refl, none)
 absent_stops olds deltas (Compact g) n none = (refl, none)
 absent_stops olds deltas (Restart g kept) n none = (refl, none)
 absent_stops olds deltas (Show g) n none = (refl, none)

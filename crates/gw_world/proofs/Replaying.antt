@@ -1,12 +1,11 @@
 -- Two runs of the same events say the same and lead to the same field.
-use Rattle.std.proofs.Common.{◌≡◌, ℕ, zero, suc, List, [], ◌∷◌, ◌++◌, map, set, slice_get, Some, None, Contains, Result, Ok, Err, refl, sym, ap, ◌∙◌, subst}
+use Rattle.std.proofs.Common.{◌≡◌, Bool, ℕ, zero, suc, List, [], ◌∷◌, ◌++◌, map, set, slice_get, Some, None, Contains, Result, Ok, Err, refl, sym, ap, ◌∙◌, subst}
 use Rattle.std.specs.List.{AllByRecursion}
 use Rattle.std.specs.declared.sync.Arc.{Arc}
 use Rattle.std.specs.declared.alloc.Global.{Global}
 use Rattle.std.proofs.lemmas.Option.{none-some, same_Some}
 use Rattle.std.proofs.lemmas.List.Elements.{All-contains_itself, recursion_from_All}
 use Rattle.rep_ops.specs.declared.op.Op.{Op}
-use Rattle.rep_model.specs.Limits.{first_passed}
 use Rattle.sn_flow.specs.declared.config.Config.{Config}
 use Rattle.sn_flow.proofs.Lists.{all-weaken}
 use Rattle.gw_node.specs.declared.out.Out.{Out}
@@ -17,15 +16,15 @@ use Rattle.gw_node.specs.declared.fault.NodeFault.TheVariants as faults
 use Rattle.gw_node.specs.Occasions.{Occasion, Datagram, Clock}
 use Rattle.gw_node.specs.Parts.{said}
 use Rattle.gw_world.specs.declared.event.Event.{Event}
-use Rattle.gw_world.specs.declared.event.Event.TheVariants.{Frame, Tick, Take, Answer as Asks, Compact, Restart, Show}
+use Rattle.gw_world.specs.declared.event.Event.TheVariants.{Frame, Tick, Take, Answer as Asks, WriteFails, Compact, Restart, Show}
 use Rattle.gw_world.specs.declared.event.Answer.{Answer}
-use Rattle.gw_world.specs.declared.event.Answer.TheVariants.{Node, Views, Records}
+use Rattle.gw_world.specs.declared.event.Answer.TheVariants.{Node, Views, Records, Nothing}
 use Rattle.gw_world.specs.Gateways.{Gateway, new_gateway}
-use Rattle.gw_world.specs.Field.{Field, new_field, IsAt, changed, shown, Steps, Asked, After, Run}
+use Rattle.gw_world.specs.Field.{Field, new_field, IsAt, changed, failing, shown, Steps, Asked, After, Run}
 use Rattle.gw_world.specs.Steps.{OwnStep, TakeStep, AnswerStep, CompactStep, records_left, restarted}
 use Rattle.gw_world.specs.Telling.{Said, Shown, Read, told}
-use Rattle.gw_world.proofs.Determined.{IsAgreed, own-one, own-room, take-one, take-room, compact-one, asked-one}
-use Rattle.gw_world.proofs.Steadiness.{Still, compact-still, restart-still}
+use Rattle.gw_world.proofs.Determined.{IsAgreed, own-one, take-one, compact-one, asked-one}
+use Rattle.gw_world.proofs.Rooms.{HasRoom, own-room, take-room, compact-room, failing-room, restart-room}
 
 -- ---- places
 
@@ -35,9 +34,6 @@ at-one field number i j gateway other h k =
     (same, same_Some gateway other (sym h.1 ∙ ap (λ (n : ℕ). slice_get field.gateways n) same ∙ k.1))
 
 -- ---- no gateway passes a limit
-
-abbrev HasRoom : Gateway → Type 0
-HasRoom gateway = first_passed gateway.taken ≡ None
 
 abbrev HaveRoom : Field → Type 0
 HaveRoom field = AllByRecursion HasRoom field.gateways
@@ -54,7 +50,7 @@ room-set (g ∷ gateways) (suc i) gateway h p = (h.0, room-set gateways i gatewa
 
 room-start : (configs : List Config) → AllByRecursion HasRoom (map new_gateway configs)
 room-start [] = tt
-room-start (config ∷ configs) = (refl, room-start configs)
+room-start (config ∷ configs) = (record { now = refl; back = refl; runs = λ _. refl }, room-start configs)
 
 -- ---- one event
 
@@ -63,18 +59,19 @@ abbrev IsCalm : Answer → Type 0
 IsCalm (Node answer) = IsAgreed (said answer)
 IsCalm (Views views) = Unit {0}
 IsCalm (Records count) = Unit {0}
+IsCalm Nothing = Unit {0}
 
 steps-one : (old : Field) (number : ℕ) (occasion : Occasion) (now : ℕ) (a b : Result Out Refusal) (new next : Field) → HaveRoom old → IsAgreed a → IsAgreed b
     → Steps old number occasion now a new → Steps old number occasion now b next → (a ≡ b) × (new ≡ next)
 steps-one old number occasion now a b new next room f g h k =
     let at = at-one old number h.0 k.0 h.1 k.1 h.4 k.4 in
-    let one = own-one h.1 occasion now a b h.2 k.2 h.3 k.3 (room-at old.gateways h.0 h.1 room h.4.1) f g h.5 (subst (λ (x : Gateway). OwnStep x occasion now b k.2 k.3) (sym at.1) k.5) in
+    let one = own-one h.1 occasion now a b h.2 k.2 h.3 k.3 (room-at old.gateways h.0 h.1 room h.4.1).now f g h.5 (subst (λ (x : Gateway). OwnStep x occasion now b k.2 k.3) (sym at.1) k.5) in
     let same : changed old h.0 h.2 h.3 ≡ changed old k.0 k.2 k.3 = λ t. changed old (at.0 t) (one.1 t) (one.2 t) in
     (one.0, h.6 ∙ same ∙ sym k.6)
 
-steps-room : (old : Field) (number : ℕ) (occasion : Occasion) (now : ℕ) (a : Result Out Refusal) (new : Field) → HaveRoom old → IsAgreed a → Steps old number occasion now a new → HaveRoom new
-steps-room old number occasion now a new room f h =
-    subst HaveRoom (sym h.6) (room-set old.gateways h.0 h.2 room (own-room h.1 occasion now a h.2 h.3 (room-at old.gateways h.0 h.1 room h.4.1) f h.5))
+steps-room : (old : Field) (number : ℕ) (occasion : Occasion) (now : ℕ) (a : Result Out Refusal) (new : Field) → HaveRoom old → Steps old number occasion now a new → HaveRoom new
+steps-room old number occasion now a new room h =
+    subst HaveRoom (sym h.6) (room-set old.gateways h.0 h.2 room (own-room h.1 occasion now a h.2 h.3 h.5 (room-at old.gateways h.0 h.1 room h.4.1)))
 
 asks-one : (old : Field) (number other : ℕ) (a b : Result Out Refusal) (new next : Field) → Asked old number other a new → Asked old number other b next → (a ≡ b) × (new ≡ next)
 asks-one old number other a b new next h k =
@@ -93,9 +90,8 @@ compacts-one old number a b new next i j gateway other then_one then_other h k s
     let same : changed old i then_one [] ≡ changed old j then_other [] = λ u. changed old (at.0 u) (one.1 u) [] in
     (one.0, e ∙ same ∙ sym f)
 
-still-at : (old new : Field) (i : ℕ) (gateway next : Gateway) → HaveRoom old → slice_get old.gateways i ≡ Some gateway → Still gateway next [] → new ≡ changed old i next [] → HaveRoom new
-still-at old new i gateway next room there u e =
-    subst HaveRoom (sym e) (room-set old.gateways i next room (ap (λ (T : List Op). first_passed T) u.taken ∙ room-at old.gateways i gateway room there))
+next-at : (old new : Field) (i : ℕ) (gateway next : Gateway) → HaveRoom old → slice_get old.gateways i ≡ Some gateway → (HasRoom gateway → HasRoom next) → new ≡ changed old i next [] → HaveRoom new
+next-at old new i gateway next room there f e = subst HaveRoom (sym e) (room-set old.gateways i next room (f (room-at old.gateways i gateway room there)))
 
 pub after-one : (old : Field) (event : Event) (a b : Answer) (new next : Field) → HaveRoom old → IsCalm a → IsCalm b → After old event a new → After old event b next → (told a ≡ told b) × (new ≡ next)
 after-one old (Frame number from bytes now) (Node a) (Node b) new next room f g h k =
@@ -114,6 +110,10 @@ after-one old (Take number delta) (Node a) (Node b) new next room f g h k =
 after-one old (Asks number other) (Node a) (Node b) new next room f g h k =
     let one = asks-one old number other (said a) (said b) new next h k in
     (ap (λ (x : Result Out Refusal). Said x) one.0, one.1)
+after-one old (WriteFails number bytes sync) Nothing Nothing new next room f g h k =
+    let at = at-one old number h.0 k.0 h.1 k.1 h.2 k.2 in
+    let same : changed old h.0 (failing bytes sync h.1) [] ≡ changed old k.0 (failing bytes sync k.1) [] = λ t. changed old (at.0 t) (failing bytes sync (at.1 t)) [] in
+    (refl, h.3 ∙ same ∙ sym k.3)
 after-one old (Compact number) (Node a) (Node b) new next room f g h k =
     let one = compacts-one old number (said a) (said b) new next h.0 k.0 h.1 k.1 h.2 k.2 h.3 k.3 h.4 k.4 h.5 k.5 in
     (ap (λ (x : Result Out Refusal). Said x) one.0, one.1)
@@ -153,30 +153,61 @@ after-one old (Take number delta) (Records count) b new next room f g h k = absu
 after-one old (Asks number peer) (Records count) b new next room f g h k = absurd h
 after-one old (Compact number) (Records count) b new next room f g h k = absurd h
 after-one old (Show number) (Records count) b new next room f g h k = absurd h
+after-one old (WriteFails number bytes sync) (Node a) b new next room f g h k = absurd h
+after-one old (WriteFails number bytes sync) (Views a) b new next room f g h k = absurd h
+after-one old (WriteFails number bytes sync) (Records a) b new next room f g h k = absurd h
+after-one old (WriteFails number bytes sync) Nothing (Node b) new next room f g h k = absurd k
+after-one old (WriteFails number bytes sync) Nothing (Views b) new next room f g h k = absurd k
+after-one old (WriteFails number bytes sync) Nothing (Records b) new next room f g h k = absurd k
+after-one old (Frame number from bytes now) Nothing b new next room f g h k = absurd h
+after-one old (Tick number now) Nothing b new next room f g h k = absurd h
+after-one old (Take number delta) Nothing b new next room f g h k = absurd h
+after-one old (Asks number other) Nothing b new next room f g h k = absurd h
+after-one old (Compact number) Nothing b new next room f g h k = absurd h
+after-one old (Restart number kept) Nothing b new next room f g h k = absurd h
+after-one old (Show number) Nothing b new next room f g h k = absurd h
+after-one old (Frame number from bytes now) (Node a) Nothing new next room f g h k = absurd k
+after-one old (Tick number now) (Node a) Nothing new next room f g h k = absurd k
+after-one old (Take number delta) (Node a) Nothing new next room f g h k = absurd k
+after-one old (Asks number other) (Node a) Nothing new next room f g h k = absurd k
+after-one old (Compact number) (Node a) Nothing new next room f g h k = absurd k
+after-one old (Restart number kept) (Records a) Nothing new next room f g h k = absurd k
+after-one old (Show number) (Views a) Nothing new next room f g h k = absurd k
 
-pub after-room : (old : Field) (event : Event) (a : Answer) (new : Field) → HaveRoom old → IsCalm a → After old event a new → HaveRoom new
-after-room old (Frame number from bytes now) (Node a) new room f h = steps-room old number (Datagram from bytes) now (said a) new room f h
-after-room old (Tick number now) (Node a) new room f h = steps-room old number Clock now (said a) new room f h
-after-room old (Take number delta) (Node a) new room f h =
-    subst HaveRoom (sym h.8) (room-set old.gateways h.0 h.2 room (take-room h.1 h.4 (said a) h.2 h.3 (room-at old.gateways h.0 h.1 room h.5.1) f h.7))
-after-room old (Asks number other) (Node a) new room f h = subst HaveRoom (sym h.8) room
-after-room old (Compact number) (Node a) new room f h = still-at old new h.0 h.1 h.2 room h.3.1 (compact-still h.1 h.2 (said a) h.4) h.5
-after-room old (Restart number kept) (Records a) new room f h = still-at old new h.0 h.1 (restarted kept h.1) room h.2.1 (restart-still kept h.1) h.4
-after-room old (Show number) (Views a) new room f h = subst HaveRoom (sym h.4) room
-after-room old (Frame number from bytes now) (Views a) new room f h = absurd h
-after-room old (Tick number now) (Views a) new room f h = absurd h
-after-room old (Take number delta) (Views a) new room f h = absurd h
-after-room old (Asks number other) (Views a) new room f h = absurd h
-after-room old (Show number) (Node a) new room f h = absurd h
-after-room old (Compact number) (Views views) new room f h = absurd h
-after-room old (Restart number kept) (Views views) new room f h = absurd h
-after-room old (Restart number kept) (Node answer) new room f h = absurd h
-after-room old (Frame number from bytes now) (Records count) new room f h = absurd h
-after-room old (Tick number now) (Records count) new room f h = absurd h
-after-room old (Take number delta) (Records count) new room f h = absurd h
-after-room old (Asks number peer) (Records count) new room f h = absurd h
-after-room old (Compact number) (Records count) new room f h = absurd h
-after-room old (Show number) (Records count) new room f h = absurd h
+pub after-room : (old : Field) (event : Event) (a : Answer) (new : Field) → HaveRoom old → After old event a new → HaveRoom new
+after-room old (Frame number from bytes now) (Node a) new room h = steps-room old number (Datagram from bytes) now (said a) new room h
+after-room old (Tick number now) (Node a) new room h = steps-room old number Clock now (said a) new room h
+after-room old (Take number delta) (Node a) new room h =
+    subst HaveRoom (sym h.8) (room-set old.gateways h.0 h.2 room (take-room h.1 h.4 (said a) h.2 h.3 h.7 (room-at old.gateways h.0 h.1 room h.5.1)))
+after-room old (Asks number other) (Node a) new room h = subst HaveRoom (sym h.8) room
+after-room old (WriteFails number bytes sync) Nothing new room h = next-at old new h.0 h.1 (failing bytes sync h.1) room h.2.1 (failing-room bytes sync h.1) h.3
+after-room old (Compact number) (Node a) new room h = next-at old new h.0 h.1 h.2 room h.3.1 (compact-room h.1 h.2 (said a) h.4) h.5
+after-room old (Restart number kept) (Records a) new room h = next-at old new h.0 h.1 (restarted kept h.1) room h.2.1 (restart-room kept h.1) h.4
+after-room old (Show number) (Views a) new room h = subst HaveRoom (sym h.4) room
+after-room old (Frame number from bytes now) (Views a) new room h = absurd h
+after-room old (Tick number now) (Views a) new room h = absurd h
+after-room old (Take number delta) (Views a) new room h = absurd h
+after-room old (Asks number other) (Views a) new room h = absurd h
+after-room old (Show number) (Node a) new room h = absurd h
+after-room old (Compact number) (Views views) new room h = absurd h
+after-room old (Restart number kept) (Views views) new room h = absurd h
+after-room old (Restart number kept) (Node answer) new room h = absurd h
+after-room old (Frame number from bytes now) (Records count) new room h = absurd h
+after-room old (Tick number now) (Records count) new room h = absurd h
+after-room old (Take number delta) (Records count) new room h = absurd h
+after-room old (Asks number peer) (Records count) new room h = absurd h
+after-room old (Compact number) (Records count) new room h = absurd h
+after-room old (Show number) (Records count) new room h = absurd h
+after-room old (WriteFails number bytes sync) (Node a) new room h = absurd h
+after-room old (WriteFails number bytes sync) (Views a) new room h = absurd h
+after-room old (WriteFails number bytes sync) (Records a) new room h = absurd h
+after-room old (Frame number from bytes now) Nothing new room h = absurd h
+after-room old (Tick number now) Nothing new room h = absurd h
+after-room old (Take number delta) Nothing new room h = absurd h
+after-room old (Asks number other) Nothing new room h = absurd h
+after-room old (Compact number) Nothing new room h = absurd h
+after-room old (Restart number kept) Nothing new room h = absurd h
+after-room old (Show number) Nothing new room h = absurd h
 
 -- ---- runs
 
@@ -185,7 +216,7 @@ pub run-one : (old : Field) (events : List Event) (answers others : List Answer)
 run-one old [] [] [] one other room f g h k = (refl, h ∙ sym k)
 run-one old (event ∷ events) (a ∷ answers) (b ∷ others) one other room f g h k =
     let first = after-one old event a b h.0 k.0 room f.0 g.0 h.1 k.1 in
-    let rest = run-one k.0 events answers others one other (after-room old event b k.0 room g.0 k.1) f.1 g.1 (subst (λ (x : Field). Run x events answers one) first.1 h.2) k.2 in
+    let rest = run-one k.0 events answers others one other (after-room old event b k.0 room k.1) f.1 g.1 (subst (λ (x : Field). Run x events answers one) first.1 h.2) k.2 in
     ((λ t. first.0 t ∷ rest.0 t), rest.1)
 run-one old [] [] (b ∷ others) one other room f g h k = absurd k
 run-one old [] (a ∷ answers) others one other room f g h k = absurd h
@@ -211,6 +242,7 @@ calm-answer : (answers : List Answer) → HaveNoConflict answers → (answer : A
 calm-answer answers f (Node answer) there = λ client e. f client (subst (λ (x : Answer). Contains answers x) (ap (λ (r : Result (Arc Out Global) NodeFault). Node r) (said-conflict answer client e)) there)
 calm-answer answers f (Views views) there = tt
 calm-answer answers f (Records count) there = tt
+calm-answer answers f Nothing there = tt
 
 calm-answers : (answers : List Answer) → HaveNoConflict answers → AllByRecursion IsCalm answers
 calm-answers answers f =

@@ -11,20 +11,21 @@ use Rattle.rep_model.proofs.Thin.{thin-same, view-thin}
 use Rattle.sn_flow.specs.declared.config.Config.{Config}
 use Rattle.sn_flow.proofs.Lists.{all-append}
 use Rattle.gw_world.specs.declared.event.Event.{Event}
-use Rattle.gw_world.specs.declared.event.Event.TheVariants.{Frame, Tick, Take, Answer as Asks, Compact, Restart, Show}
+use Rattle.gw_world.specs.declared.event.Event.TheVariants.{Frame, Tick, Take, Answer as Asks, WriteFails, Compact, Restart, Show}
 use Rattle.gw_world.specs.declared.event.Answer.{Answer}
-use Rattle.gw_world.specs.declared.event.Answer.TheVariants.{Node, Views, Records}
+use Rattle.gw_world.specs.declared.event.Answer.TheVariants.{Node, Views, Records, Nothing}
 use Rattle.gw_node.specs.declared.out.Out.{Out}
 use Rattle.gw_node.specs.declared.refusal.Refusal.{Refusal}
 use Rattle.gw_node.specs.Parts.{said}
 use Rattle.gw_node.specs.Occasions.{Datagram, Clock}
 use Rattle.gw_world.specs.Gateways.{Gateway}
-use Rattle.gw_world.specs.Field.{Field, new_field, changed, After, Run, shown}
+use Rattle.gw_world.specs.Field.{Field, new_field, changed, failing, After, Run, shown}
 use Rattle.gw_world.specs.Steps.{TakeStep, restarted}
-use Rattle.gw_world.specs.Whole.{listed, everything, HasTakenAll}
+use Rattle.gw_world.specs.Whole.{listed, everything, HasTakenAll, Arranges, NoneFails}
 use Rattle.gw_world.proofs.Consistency.{WholeField, start-taken, field-whole, parts-consistent}
-use Rattle.gw_world.proofs.Each.{all-at, all-places, flat-all, AllOf, EachOf, each-weaken, each-grown}
-use Rattle.gw_world.proofs.Steadiness.{Still, Stepped, still, own-moves, compact-still, restart-still}
+use Rattle.gw_world.proofs.Failures.{AreWell, after-well, start-well}
+use Rattle.gw_world.proofs.Each.{all-at, all-places, all-each, flat-all, AllOf, EachOf, each-weaken, each-grown}
+use Rattle.gw_world.proofs.Steadiness.{Still, Stepped, Fed, own-moves, take-moves, compact-still, restart-still}
 
 abbrev IsListed : List (List Op) → Op → Type 0
 IsListed deltas op = Contains (flat_map (λ (delta : List Op). delta) deltas) op
@@ -54,9 +55,9 @@ module _ (field : Field) (w : AreListed field) (i : ℕ) (old next : Gateway) (m
   listed-moved (inl u) = listed-more [] (u.taken ∙ sym (append-nil old.taken)) tt
   listed-moved (inr u) = listed-more u.delta u.taken (subst (λ m. AllOf (IsListed (field.deltas ++ made)) m) u.one (all-made field.deltas made)).0
 
-  listed-taken : (k : ℕ) (delta : List Op) (answer : Result Out Refusal) → slice_get field.deltas k ≡ Some delta → TakeStep old delta answer next made → AreListed (changed field i next made)
-  listed-taken k delta (Err fault) there h = listed-moved (inl (still old next made h.1))
-  listed-taken k delta (Ok out) there h = listed-more delta (ap (λ (x : Gateway). x.taken) h.3) (all-at (λ (D : List Op). AllByRecursion (IsListed (field.deltas ++ made)) D) field.deltas k delta still-listed.lists there)
+  listed-taken : (k : ℕ) (delta : List Op) → slice_get field.deltas k ≡ Some delta → Still old next made ⊎ Fed old delta next made → AreListed (changed field i next made)
+  listed-taken k delta there (inl u) = listed-moved (inl u)
+  listed-taken k delta there (inr u) = listed-more delta u.taken (all-at (λ (D : List Op). AllByRecursion (IsListed (field.deltas ++ made)) D) field.deltas k delta still-listed.lists there)
 
 -- more deltas join the list
 listed-joined : (field : Field) → AreListed field → (made : List (List Op)) → AreListed (record field { deltas = field.deltas ++ made })
@@ -66,49 +67,53 @@ listed-joined field w made =
       lists = all-append (λ (D : List Op). AllByRecursion (IsListed (field.deltas ++ made)) D) field.deltas made more.lists (all-made field.deltas made);
     }
 
-after-listed : (old : Field) (event : Event) (answer : Answer) (new : Field) → After old event answer new → AreListed old → AreListed new
-after-listed old (Frame number from bytes now) (Node answer) new h w =
+-- where no failure is arranged
+after-listed : (old : Field) (event : Event) (answer : Answer) (new : Field) → After old event answer new → AreWell old → AreListed old → AreListed new
+after-listed old (Frame number from bytes now) (Node answer) new h well w =
     subst AreListed (sym h.6) (listed-moved old w h.0 h.1 h.2 h.3 h.4.1 (own-moves h.1 (Datagram from bytes) now (said answer) h.2 h.3 h.5))
-after-listed old (Tick number now) (Node answer) new h w =
+after-listed old (Tick number now) (Node answer) new h well w =
     subst AreListed (sym h.6) (listed-moved old w h.0 h.1 h.2 h.3 h.4.1 (own-moves h.1 Clock now (said answer) h.2 h.3 h.5))
-after-listed old (Take number delta) (Node answer) new h w =
-    subst AreListed (sym h.8) (listed-taken old w h.0 h.1 h.2 h.3 h.5.1 (delta - 1) h.4 (said answer) h.6.1 h.7)
-after-listed old (Asks number peer) (Node answer) new h w = subst AreListed (sym h.8) (listed-joined old w h.4)
-after-listed old (Compact number) (Node answer) new h w =
+after-listed old (Take number delta) (Node answer) new h well w =
+    subst AreListed (sym h.8) (listed-taken old w h.0 h.1 h.2 h.3 h.5.1 (delta - 1) h.4 h.6.1 (take-moves h.1 h.4 (said answer) h.2 h.3 h.7))
+after-listed old (Asks number peer) (Node answer) new h well w = subst AreListed (sym h.8) (listed-joined old w h.4)
+after-listed old (WriteFails number bytes sync) Nothing new h well w =
+    subst AreListed (sym h.3) (listed-moved old w h.0 h.1 (failing bytes sync h.1) [] h.2.1 (inl (record { config = refl; taken = refl; none = refl })))
+after-listed old (Compact number) (Node answer) new h well w =
     subst AreListed (sym h.5) (listed-moved old w h.0 h.1 h.2 [] h.3.1 (inl (compact-still h.1 h.2 (said answer) h.4)))
-after-listed old (Restart number kept) (Records count) new h w =
-    subst AreListed (sym h.4) (listed-moved old w h.0 h.1 (restarted kept h.1) [] h.2.1 (inl (restart-still kept h.1)))
-after-listed old (Show number) (Views views) new h w = subst AreListed (sym h.4) w
-after-listed old (Frame number from bytes now) (Views views) new h w = absurd h
-after-listed old (Tick number now) (Views views) new h w = absurd h
-after-listed old (Take number delta) (Views views) new h w = absurd h
-after-listed old (Asks number peer) (Views views) new h w = absurd h
-after-listed old (Show number) (Node answer) new h w = absurd h
-after-listed old (Compact number) (Views views) new h w = absurd h
-after-listed old (Restart number kept) (Views views) new h w = absurd h
-after-listed old (Restart number kept) (Node answer) new h w = absurd h
-after-listed old (Frame number from bytes now) (Records count) new h w = absurd h
-after-listed old (Tick number now) (Records count) new h w = absurd h
-after-listed old (Take number delta) (Records count) new h w = absurd h
-after-listed old (Asks number peer) (Records count) new h w = absurd h
-after-listed old (Compact number) (Records count) new h w = absurd h
-after-listed old (Show number) (Records count) new h w = absurd h
-after-listed old (WriteFails number bytes sync) (Node answer) new h w = absurd h
-after-listed old (WriteFails number bytes sync) (Views views) new h w = absurd h
-after-listed old (WriteFails number bytes sync) (Records count) new h w = absurd h
-after-listed old (Frame number from bytes now) Nothing new h w = absurd h
-after-listed old (Tick number now) Nothing new h w = absurd h
-after-listed old (Take number delta) Nothing new h w = absurd h
-after-listed old (Asks number peer) Nothing new h w = absurd h
-after-listed old (Compact number) Nothing new h w = absurd h
-after-listed old (Restart number kept) Nothing new h w = absurd h
-after-listed old (Show number) Nothing new h w = absurd h
+after-listed old (Restart number kept) (Records count) new h well w =
+    subst AreListed (sym h.4) (listed-moved old w h.0 h.1 (restarted kept h.1) [] h.2.1 (inl (restart-still kept h.1 (well h.0 h.1 h.2.1).0)))
+after-listed old (Show number) (Views views) new h well w = subst AreListed (sym h.4) w
+after-listed old (Frame number from bytes now) (Views views) new h well w = absurd h
+after-listed old (Tick number now) (Views views) new h well w = absurd h
+after-listed old (Take number delta) (Views views) new h well w = absurd h
+after-listed old (Asks number peer) (Views views) new h well w = absurd h
+after-listed old (Show number) (Node answer) new h well w = absurd h
+after-listed old (Compact number) (Views views) new h well w = absurd h
+after-listed old (Restart number kept) (Views views) new h well w = absurd h
+after-listed old (Restart number kept) (Node answer) new h well w = absurd h
+after-listed old (Frame number from bytes now) (Records count) new h well w = absurd h
+after-listed old (Tick number now) (Records count) new h well w = absurd h
+after-listed old (Take number delta) (Records count) new h well w = absurd h
+after-listed old (Asks number peer) (Records count) new h well w = absurd h
+after-listed old (Compact number) (Records count) new h well w = absurd h
+after-listed old (Show number) (Records count) new h well w = absurd h
+after-listed old (WriteFails number bytes sync) (Node answer) new h well w = absurd h
+after-listed old (WriteFails number bytes sync) (Views views) new h well w = absurd h
+after-listed old (WriteFails number bytes sync) (Records count) new h well w = absurd h
+after-listed old (Frame number from bytes now) Nothing new h well w = absurd h
+after-listed old (Tick number now) Nothing new h well w = absurd h
+after-listed old (Take number delta) Nothing new h well w = absurd h
+after-listed old (Asks number peer) Nothing new h well w = absurd h
+after-listed old (Compact number) Nothing new h well w = absurd h
+after-listed old (Restart number kept) Nothing new h well w = absurd h
+after-listed old (Show number) Nothing new h well w = absurd h
 
-run-listed : (old : Field) (events : List Event) (answers : List Answer) (new : Field) → Run old events answers new → AreListed old → AreListed new
-run-listed old [] [] new h w = subst AreListed (sym h) w
-run-listed old (event ∷ events) (answer ∷ answers) new h w = run-listed h.0 events answers new h.2 (after-listed old event answer h.0 h.1 w)
-run-listed old [] (answer ∷ answers) new h w = absurd h
-run-listed old (event ∷ events) [] new h w = absurd h
+run-listed : (old : Field) (events : List Event) (answers : List Answer) (new : Field) → Run old events answers new → AllByRecursion (λ event. ¬ (Arranges event)) events → AreWell old → AreListed old → AreListed new
+run-listed old [] [] new h no well w = subst AreListed (sym h) w
+run-listed old (event ∷ events) (answer ∷ answers) new h no well w =
+    run-listed h.0 events answers new h.2 no.1 (after-well old event answer h.0 h.1 no.0 well) (after-listed old event answer h.0 h.1 well w)
+run-listed old [] (answer ∷ answers) new h no well w = absurd h
+run-listed old (event ∷ events) [] new h no well w = absurd h
 
 start-listed : (configs : List Config) → AreListed (new_field configs)
 start-listed configs = record {
@@ -116,18 +121,25 @@ start-listed configs = record {
   lists = tt;
 }
 
-pub field-listed : (configs : List Config) (events : List Event) (answers : List Answer) (field : Field) (gateway : Gateway) (op : Op) → Run (new_field configs) events answers field → Contains field.gateways gateway → Contains gateway.taken op → Contains (listed field) op
-field-listed configs events answers field gateway op h in_field there =
-    let w = run-listed (new_field configs) events answers field h (start-listed configs) in
+pub field-listed : (configs : List Config) (events : List Event) (answers : List Answer) (field : Field) (gateway : Gateway) (op : Op) → Run (new_field configs) events answers field → NoneFails events → Contains field.gateways gateway → Contains gateway.taken op → Contains (listed field) op
+field-listed configs events answers field gateway op h none in_field there =
+    let w = run-listed (new_field configs) events answers field h (all-moved (λ (event : Event). ¬ (Arranges event)) events none) (start-well configs) (start-listed configs) in
     let all = All-contains (λ (g : Gateway). AllByRecursion (IsListed field.deltas) g.taken) field.gateways gateway
     (All-from_recursion (λ (g : Gateway). AllByRecursion (IsListed field.deltas) g.taken) field.gateways (all-places (λ (g : Gateway). AllByRecursion (IsListed field.deltas) g.taken) field.gateways w.sets)) in_field in
     All-contains (IsListed field.deltas) gateway.taken op (All-from_recursion (IsListed field.deltas) gateway.taken all) there
 
+-- what a gateway has taken is in the field
+set-there : (field : Field) (gateway : Gateway) → Contains field.gateways gateway → (op : Op) → Contains gateway.taken op → Contains (everything field) op
+set-there field gateway in_field =
+    let each = all-each (Contains (everything field)) field (all-moved (Contains (everything field)) (everything field) (λ op h. h)) in
+    let all = All-contains (λ (g : Gateway). AllByRecursion (Contains (everything field)) g.taken) field.gateways gateway
+    (All-from_recursion (λ (g : Gateway). AllByRecursion (Contains (everything field)) g.taken) field.gateways (all-places (λ (g : Gateway). AllByRecursion (Contains (everything field)) g.taken) field.gateways each.sets)) in_field in
+    λ op there. All-contains (Contains (everything field)) gateway.taken op (All-from_recursion (Contains (everything field)) gateway.taken all) there
+
 pub field-alike : (configs : List Config) (events : List Event) (answers : List Answer) (field : Field) (one other : Gateway) → Run (new_field configs) events answers field → Contains field.gateways one → Contains field.gateways other → ((op : Op) → Contains one.taken op ↔ Contains other.taken op) → Same one.taken other.taken
 field-alike configs events answers field one other h in_field too alike =
     let whole = field-whole configs events answers field h in
-    let part : (op : Op) → Contains one.taken op → Contains (everything field) op = λ op there.
-    Contains-append_right (flat_map (λ (gateway : Gateway). gateway.taken) field.gateways) (listed field) op (field-listed configs events answers field one op h in_field there) in
+    let part : (op : Op) → Contains one.taken op → Contains (everything field) op = set-there field one in_field in
     same-elements one.taken other.taken (parts-consistent field whole one.taken part) (λ op. (alike op).0) (λ op. (alike op).1)
 
 -- ---- by what is read of the sets
@@ -160,29 +172,42 @@ module _ (configs : List Config) (events : List Event) (answers : List Answer) (
   list-inside op there = Contains-append_right (flat_map (λ (g : Gateway). g.taken) field.gateways) (listed field) op there
 
   set-inside : (op : Op) → Contains gateway.taken op → Contains (everything field) op
-  set-inside op there = list-inside op (field-listed configs events answers field gateway op h in_field there)
+  set-inside = set-there field gateway in_field
 
-  taken-within : Within gateway.taken (listed field)
-  taken-within = parts-within field (field-whole configs events answers field h) (listed field) gateway.taken list-inside (λ op. field-listed configs events answers field gateway op h in_field)
+  taken-within : NoneFails events → Within gateway.taken (listed field)
+  taken-within none = parts-within field (field-whole configs events answers field h) (listed field) gateway.taken list-inside (λ op. field-listed configs events answers field gateway op h none in_field)
+
+  -- whatever happened, nothing stands in its set that does not stand in the field
+  taken-inside : Within gateway.taken (everything field)
+  taken-inside = parts-within field (field-whole configs events answers field h) (everything field) gateway.taken (λ op there. there) set-inside
 
   taken-reached : (part : List Op) → ((op : Op) → Contains part op → Contains gateway.taken op) → Within part gateway.taken
   taken-reached part f = parts-within field (field-whole configs events answers field h) gateway.taken part set-inside f
 
-  taken-all : HasTakenAll field gateway → Same gateway.taken (listed field)
-  taken-all all = same-within gateway.taken (listed field) taken-within all
+  taken-all : NoneFails events → HasTakenAll field gateway → Same gateway.taken (listed field)
+  taken-all none all = same-within gateway.taken (listed field) (taken-within none) all
 
-pub field-within : (configs : List Config) (events : List Event) (answers : List Answer) (field : Field) (gateway : Gateway) → Run (new_field configs) events answers field → Contains field.gateways gateway → Within gateway.taken (listed field)
-field-within configs events answers field gateway h in_field = taken-within configs events answers field h gateway in_field
+  taken-everything : Within (everything field) gateway.taken → Same gateway.taken (everything field)
+  taken-everything all = same-within gateway.taken (everything field) taken-inside all
+
+pub field-within : (configs : List Config) (events : List Event) (answers : List Answer) (field : Field) (gateway : Gateway) → Run (new_field configs) events answers field → NoneFails events → Contains field.gateways gateway → Within gateway.taken (listed field)
+field-within configs events answers field gateway h none in_field = taken-within configs events answers field h gateway in_field none
 
 pub field-reached : (configs : List Config) (events : List Event) (answers : List Answer) (field : Field) (gateway : Gateway) (part : List Op) → Run (new_field configs) events answers field → Contains field.gateways gateway → ((op : Op) → Contains part op → Contains gateway.taken op) → Within part gateway.taken
 field-reached configs events answers field gateway part h in_field f = taken-reached configs events answers field h gateway in_field part f
 
-pub field-all : (configs : List Config) (events : List Event) (answers : List Answer) (field : Field) (gateway : Gateway) → Run (new_field configs) events answers field → Contains field.gateways gateway → HasTakenAll field gateway → Same gateway.taken (listed field)
-field-all configs events answers field gateway h in_field all = taken-all configs events answers field h gateway in_field all
+pub field-all : (configs : List Config) (events : List Event) (answers : List Answer) (field : Field) (gateway : Gateway) → Run (new_field configs) events answers field → NoneFails events → Contains field.gateways gateway → HasTakenAll field gateway → Same gateway.taken (listed field)
+field-all configs events answers field gateway h none in_field all = taken-all configs events answers field h gateway in_field none all
 
-pub field-settled : (configs : List Config) (events : List Event) (answers : List Answer) (field : Field) (one other : Gateway) → Run (new_field configs) events answers field → Contains field.gateways one → Contains field.gateways other → HasTakenAll field one → HasTakenAll field other → Same one.taken other.taken
-field-settled configs events answers field one other h in_field too all others =
-    same_trans (field-all configs events answers field one h in_field all) (same_sym (field-all configs events answers field other h too others))
+pub field-settled : (configs : List Config) (events : List Event) (answers : List Answer) (field : Field) (one other : Gateway) → Run (new_field configs) events answers field → NoneFails events → Contains field.gateways one → Contains field.gateways other → HasTakenAll field one → HasTakenAll field other → Same one.taken other.taken
+field-settled configs events answers field one other h none in_field too all others =
+    same_trans (field-all configs events answers field one h none in_field all) (same_sym (field-all configs events answers field other h none too others))
+
+-- and whatever failed: where all of the field has reached both
+pub field-complete : (configs : List Config) (events : List Event) (answers : List Answer) (field : Field) (one other : Gateway) → Run (new_field configs) events answers field → Contains field.gateways one → Contains field.gateways other
+    → Within (everything field) one.taken → Within (everything field) other.taken → Same one.taken other.taken
+field-complete configs events answers field one other h in_field too all others =
+    same_trans (taken-everything configs events answers field h one in_field all) (same_sym (taken-everything configs events answers field h other too others))
 
 pub shown-same : (A B : List Op) → Same A B → shown A ≡ shown B
 shown-same A B s = λ i. map (λ c. (c, view-thin A B (thin-same A B s) c i)) (clients-thin A B (thin-same A B s) i)

@@ -4,9 +4,9 @@ use Rattle.std.specs.Prelude.{◌≢◌}
 use Rattle.std.proofs.lemmas.Option.{none-some, same_Some}
 use Rattle.sn_flow.specs.declared.config.Config.{Config}
 use Rattle.gw_world.specs.declared.event.Event.{Event}
-use Rattle.gw_world.specs.declared.event.Event.TheVariants.{Frame, Tick, Take, Answer as Asks, Compact, Restart, Show}
+use Rattle.gw_world.specs.declared.event.Event.TheVariants.{Frame, Tick, Take, Answer as Asks, WriteFails, Compact, Restart, Show}
 use Rattle.gw_world.specs.declared.event.Answer.{Answer}
-use Rattle.gw_world.specs.declared.event.Answer.TheVariants.{Node, Views, Records}
+use Rattle.gw_world.specs.declared.event.Answer.TheVariants.{Node, Views, Records, Nothing}
 use Rattle.gw_world.specs.declared.world.WorldFault.{WorldFault}
 use Rattle.gw_world.specs.declared.world.WorldFault.TheVariants as stops
 use Rattle.gw_world.specs.Field.{Field, new_field, After, Run, NamesNoGateway, NamesNoDelta}
@@ -21,6 +21,7 @@ gateway-after field (Tick number now) (Node a) next h k = none-some k.0 (sym h �
 gateway-after field (Take number delta) (Node a) next h k = none-some k.0 (sym h ∙ k.5.0)
 gateway-after field (Asks number other) (Node a) next (inl h) k = none-some k.0 (sym h ∙ k.5.0)
 gateway-after field (Asks number other) (Node a) next (inr h) k = none-some k.1 (sym h ∙ k.6.0)
+gateway-after field (WriteFails number bytes sync) Nothing next h k = none-some k.0 (sym h ∙ k.2.0)
 gateway-after field (Compact number) (Node a) next h k = none-some k.0 (sym h ∙ k.3.0)
 gateway-after field (Restart number kept) (Records a) next h k = none-some k.0 (sym h ∙ k.2.0)
 gateway-after field (Show number) (Views a) next h k = none-some k.0 (sym h ∙ k.2.0)
@@ -53,9 +54,11 @@ delta-after : (field : Field) (event : Event) (answer : Answer) (next : Field) �
 delta-after field (Take number delta) (Node a) next h k = h.1 k.4 k.6
 delta-after field (Take number delta) (Views a) next h k = k
 delta-after field (Take number delta) (Records a) next h k = k
+delta-after field (Take number delta) Nothing next h k = k
 delta-after field (Frame number from bytes now) a next h k = h
 delta-after field (Tick number now) a next h k = h
 delta-after field (Asks number other) a next h k = h
+delta-after field (WriteFails number bytes sync) a next h k = h
 delta-after field (Compact number) a next h k = h
 delta-after field (Restart number kept) a next h k = h
 delta-after field (Show number) a next h k = h
@@ -66,6 +69,7 @@ gateway-delta field (Take number delta) h k = none-some k.0.0 (sym h ∙ k.0.1)
 gateway-delta field (Frame number from bytes now) h k = k
 gateway-delta field (Tick number now) h k = k
 gateway-delta field (Asks number other) h k = k
+gateway-delta field (WriteFails number bytes sync) h k = k
 gateway-delta field (Compact number) h k = k
 gateway-delta field (Restart number kept) h k = k
 gateway-delta field (Show number) h k = k

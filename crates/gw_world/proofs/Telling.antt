@@ -13,33 +13,35 @@ use Rattle.rep_model.proofs.Joins.{all-moved}
 use Rattle.sn_flow.specs.declared.config.Config.{Config}
 use Rattle.sn_flow.proofs.Lists.{all-append}
 use Rattle.gw_world.specs.declared.event.Event.{Event}
-use Rattle.gw_world.specs.declared.event.Event.TheVariants.{Frame, Tick, Take, Answer as Asks, Compact, Restart, Show}
+use Rattle.gw_world.specs.declared.event.Event.TheVariants.{Frame, Tick, Take, Answer as Asks, WriteFails, Compact, Restart, Show}
 use Rattle.gw_world.specs.declared.event.Answer.{Answer}
-use Rattle.gw_world.specs.declared.event.Answer.TheVariants.{Node, Views, Records}
+use Rattle.gw_world.specs.declared.event.Answer.TheVariants.{Node, Views, Records, Nothing}
 use Rattle.gw_node.specs.declared.out.Out.{Out}
 use Rattle.gw_node.specs.declared.refusal.Refusal.{Refusal}
 use Rattle.gw_node.specs.Parts.{said}
 use Rattle.gw_node.specs.Occasions.{Occasion, Datagram, Clock}
 use Rattle.gw_world.specs.Gateways.{Gateway}
-use Rattle.gw_world.specs.Field.{Field, new_field, IsAt, changed, After, Run, peer_of}
+use Rattle.gw_world.specs.Field.{Field, new_field, IsAt, changed, failing, After, Run, peer_of}
 use Rattle.gw_world.specs.Steps.{OwnStep, TakeStep, AnswerStep, CompactStep, restarted}
 use Rattle.gw_world.specs.Events.{made_of, answered_of}
-use Rattle.gw_world.specs.Whole.{everything, number_of, AreMadeOnce, made_by, MayMake, told, brought_by, brought}
+use Rattle.gw_world.specs.Whole.{everything, number_of, AreMadeOnce, made_by, MayMake, Arranges, NoneFails, told, brought_by, brought}
 use Rattle.gw_world.proofs.Alone.{delta-place, contains_at}
 use Rattle.gw_world.proofs.Answering.{answered, answer-told, all-answered}
 use Rattle.gw_world.proofs.Consistency.{FlushField, WholeField, after-sound, start-taken, start-whole}
 use Rattle.gw_world.proofs.Each.{all-at, AllOf, EachOf, each-weaken, each-grown, each-all}
 use Rattle.gw_world.proofs.Numbers.{First, place_of-first, first-number}
-use Rattle.gw_world.proofs.Steadiness.{Still, Stepped, still, own-moves, compact-still, restart-still, own-told, start-flush}
+use Rattle.gw_world.proofs.Failures.{DueField, after-due, start-due, AreWell, after-well, start-well}
+use Rattle.gw_world.proofs.Steadiness.{Still, Stepped, Fed, own-moves, take-moves, compact-still, restart-moves, own-told, start-flush}
 use Rattle.gw_world.proofs.Whole.{AreApart, Made, made-kept, made-stepped}
 
 -- a name was told of as made
 abbrev pub IsTold : List (List Op) → Op → Type 0
 IsTold ts op = IfSome (number_of op) (λ number. Contains (all_of ts) op)
 
-pub record Telling (field : Field) (ts : List (List Op)) : Type 0 where
+-- no delta that was made has a name of another; and where no failure is arranged (W) all names of the field were told of
+pub record Telling (W : Type 0) (field : Field) (ts : List (List Op)) : Type 0 where
   pub once : Made field.gateways ts
-  pub all : EachOf (IsTold ts) field.gateways field.deltas
+  pub all : W → EachOf (IsTold ts) field.gateways field.deltas
 
 if_some : (op : Op) (P Q : Op → Type 0) → (P op → Q op) → IfSome (number_of op) (λ number. P op) → IfSome (number_of op) (λ number. Q op)
 if_some (OfSession c s k o) P Q f h = f h
@@ -61,117 +63,131 @@ told-now ts made op h = always op (Contains (all_of (ts ++ made)))
 
 -- ---- one event
 
-module _ (field : Field) (ts : List (List Op)) (t : Telling field ts) (i : ℕ) (old next : Gateway) (made : List (List Op)) (is : slice_get field.gateways i ≡ Some old) where
-  before : EachOf (IsTold (ts ++ made)) field.gateways field.deltas
-  before = each-weaken (IsTold ts) (IsTold (ts ++ made)) (told-before ts made) field.gateways field.deltas t.all
+module _ (W : Type 0) (field : Field) (ts : List (List Op)) (t : Telling W field ts) (i : ℕ) (old next : Gateway) (made : List (List Op)) (is : slice_get field.gateways i ≡ Some old) where
+  before : W → EachOf (IsTold (ts ++ made)) field.gateways field.deltas
+  before q = each-weaken (IsTold ts) (IsTold (ts ++ made)) (told-before ts made) field.gateways field.deltas (t.all q)
 
-  telling-quiet : (more : List Op) → next.config ≡ old.config → next.taken ≡ old.taken ++ more → AllByRecursion (IsTold ts) more → made ≡ [] → Telling (changed field i next made) (ts ++ made)
+  telling-quiet : (more : List Op) → next.config ≡ old.config → next.taken ≡ old.taken ++ more → (W → AllByRecursion (IsTold ts) more) → made ≡ [] → Telling W (changed field i next made) (ts ++ made)
   telling-quiet more config taken news none =
-      subst (λ m. Telling (changed field i next m) (ts ++ m)) (sym none)
-      (subst (λ T. Telling (changed field i next []) T) (sym (append-nil ts)) (record {
+      subst (λ m. Telling W (changed field i next m) (ts ++ m)) (sym none)
+      (subst (λ T. Telling W (changed field i next []) T) (sym (append-nil ts)) (record {
         once = made-kept field.gateways i old next more is config taken ts t.once;
-        all = each-grown (IsTold ts) field.gateways field.deltas i old next more [] is taken news tt t.all;
+        all = λ q. each-grown (IsTold ts) field.gateways field.deltas i old next more [] is taken (news q) tt (t.all q);
       }))
 
-  telling-still : Still old next made → Telling (changed field i next made) (ts ++ made)
-  telling-still u = telling-quiet [] u.config (u.taken ∙ sym (append-nil old.taken)) tt u.none
+  telling-still : Still old next made → Telling W (changed field i next made) (ts ++ made)
+  telling-still u = telling-quiet [] u.config (u.taken ∙ sym (append-nil old.taken)) (λ _. tt) u.none
+
+  -- it took what nobody had been told of, but for a failure
+  telling-back : (W → old.refused ≡ []) → Still old next made ⊎ Fed old old.refused next made → Telling W (changed field i next made) (ts ++ made)
+  telling-back none (inl u) = telling-still u
+  telling-back none (inr u) = telling-quiet old.refused u.config u.taken (λ q. subst (λ (R : List Op). AllByRecursion (IsTold ts) R) (sym (none q)) tt) u.none
 
   module _ (n : ℕ) (s : FlushField field) (f : First n field.gateways i) where
     own : First old.config.gateway field.gateways i
     own = subst (λ k. First k field.gateways i) (sym (first-number n i field.gateways old f is)) f
 
-    telling-stepped : Stepped old next made → Telling (changed field i next made) (ts ++ made)
+    telling-stepped : Stepped old next made → Telling W (changed field i next made) (ts ++ made)
     telling-stepped u =
         let news : AllByRecursion (IsTold (ts ++ made)) u.delta = all-moved (IsTold (ts ++ made)) u.delta
         (λ op h. told-now ts made op (subst (λ m. Contains (all_of m) op) (sym u.one) (subst (λ T. Contains T op) (sym (append-nil u.delta)) h))) in record {
           once = subst (λ m. Made (set field.gateways i next) (ts ++ m)) (sym u.one) (made-stepped field.gateways i old next made is own (s old.config.gateway i old own is) u ts t.once);
-          all = each-grown (IsTold (ts ++ made)) field.gateways field.deltas i old next u.delta made is u.taken news (subst (λ m. AllOf (IsTold (ts ++ made)) m) (sym u.one) (news, tt)) before;
+          all = λ q. each-grown (IsTold (ts ++ made)) field.gateways field.deltas i old next u.delta made is u.taken news (subst (λ m. AllOf (IsTold (ts ++ made)) m) (sym u.one) (news, tt)) (before q);
         }
 
-    telling-moved : Still old next made ⊎ Stepped old next made → Telling (changed field i next made) (ts ++ made)
+    telling-moved : Still old next made ⊎ Stepped old next made → Telling W (changed field i next made) (ts ++ made)
     telling-moved (inl u) = telling-still u
     telling-moved (inr u) = telling-stepped u
 
 -- a step of a gateway's own tells of what it made
-telling-own : (field : Field) (ts : List (List Op)) (t : Telling field ts) (n i : ℕ) (old next : Gateway) (made : List (List Op)) → FlushField field → IsAt field n i old
-    → (occasion : Occasion) (now : ℕ) (answer : Result Out Refusal) → OwnStep old occasion now answer next made → Telling (changed field i next made) (ts ++ made_of answer)
-telling-own field ts t n i old next made s at occasion now answer h =
-    subst (λ m. Telling (changed field i next made) (ts ++ m)) (own-told old occasion now answer next made h)
-    (telling-moved field ts t i old next made at.1 n s (place_of-first n i field.gateways at.0) (own-moves old occasion now answer next made h))
+telling-own : (W : Type 0) (field : Field) (ts : List (List Op)) (t : Telling W field ts) (n i : ℕ) (old next : Gateway) (made : List (List Op)) → FlushField field → IsAt field n i old
+    → (occasion : Occasion) (now : ℕ) (answer : Result Out Refusal) → OwnStep old occasion now answer next made → Telling W (changed field i next made) (ts ++ made_of answer)
+telling-own W field ts t n i old next made s at occasion now answer h =
+    subst (λ m. Telling W (changed field i next made) (ts ++ m)) (own-told old occasion now answer next made h)
+    (telling-moved W field ts t i old next made at.1 n s (place_of-first n i field.gateways at.0) (own-moves old occasion now answer next made h))
 
 -- a delivery tells of nothing that was made
 take-told : (old next : Gateway) (delta : List Op) (answer : Result Out Refusal) (made : List (List Op)) → TakeStep old delta answer next made → (made ≡ []) × (made_of answer ≡ []) × (answered_of answer ≡ [])
 take-told old next delta (Ok out) made h = (h.2, ap (λ (o : Out). made_of (Ok o)) h.0, ap (λ (o : Out). o.answer) h.0)
-take-told old next delta (Err fault) made h = (h.1.none, refl, refl)
+take-told old next delta (Err (refusals.Conflict client)) made h = (h.1.none, refl, refl)
+take-told old next delta (Err refusals.Full) made h = (h.1.none, refl, refl)
+take-told old next delta (Err refusals.Halted) made h = (h.1.none, refl, refl)
+take-told old next delta (Err (refusals.Disk excuse)) made h = (h.2.none, refl, refl)
+take-told old next delta (Err (refusals.Frame fault)) made h = absurd h
+take-told old next delta (Err refusals.Exhausted) made h = absurd h
+take-told old next delta (Err (refusals.Journal fault)) made h = absurd h
+take-told old next delta (Err refusals.Memory) made h = absurd h
 
 -- nor does a compaction
 compact-told : (old next : Gateway) (answer : Result Out Refusal) → CompactStep old answer next → (made_of answer ≡ []) × (answered_of answer ≡ [])
 compact-told old next (Ok out) h = (ap (λ (o : Out). made_of (Ok o)) h.1, ap (λ (o : Out). o.answer) h.1)
 compact-told old next (Err fault) h = (refl, refl)
 
-telling-fed : (field : Field) (ts : List (List Op)) (t : Telling field ts) (i : ℕ) (old next : Gateway) (made : List (List Op)) → slice_get field.gateways i ≡ Some old
-    → (k : ℕ) (delta : List Op) (answer : Result Out Refusal) → slice_get field.deltas k ≡ Some delta → TakeStep old delta answer next made → Telling (changed field i next made) (ts ++ made)
-telling-fed field ts t i old next made is k delta (Err fault) there h = telling-still field ts t i old next made is (still old next made h.1)
-telling-fed field ts t i old next made is k delta (Ok out) there h =
-    telling-quiet field ts t i old next made is delta (ap (λ (x : Gateway). x.config) h.3) (ap (λ (x : Gateway). x.taken) h.3)
-    (all-at (λ (D : List Op). AllByRecursion (IsTold ts) D) field.deltas k delta t.all.lists there) h.2
+telling-fed : (W : Type 0) (field : Field) (ts : List (List Op)) (t : Telling W field ts) (i : ℕ) (old next : Gateway) (made : List (List Op)) → slice_get field.gateways i ≡ Some old
+    → (k : ℕ) (delta : List Op) → slice_get field.deltas k ≡ Some delta → Still old next made ⊎ Fed old delta next made → Telling W (changed field i next made) (ts ++ made)
+telling-fed W field ts t i old next made is k delta there (inl u) = telling-still W field ts t i old next made is u
+telling-fed W field ts t i old next made is k delta there (inr u) =
+    telling-quiet W field ts t i old next made is delta u.config u.taken
+    (λ q. all-at (λ (D : List Op). AllByRecursion (IsTold ts) D) field.deltas k delta (t.all q).lists there) u.none
 
 -- nor does an answer to a digest
-telling-asked : (field : Field) (ts : List (List Op)) → Telling field ts → (j : ℕ) (asker peer : Gateway) (answer : Result Out Refusal) (made : List (List Op)) → slice_get field.gateways j ≡ Some peer → AnswerStep asker peer answer made → Telling (record field { deltas = field.deltas ++ made }) ts
-telling-asked field ts t j asker peer answer made there h = record {
+telling-asked : (W : Type 0) (field : Field) (ts : List (List Op)) → Telling W field ts → (j : ℕ) (asker peer : Gateway) (answer : Result Out Refusal) (made : List (List Op)) → slice_get field.gateways j ≡ Some peer → AnswerStep asker peer answer made → Telling W (record field { deltas = field.deltas ++ made }) ts
+telling-asked W field ts t j asker peer answer made there h = record {
   once = t.once;
-  all = record {
-    sets = t.all.sets;
-    lists = all-append (λ (D : List Op). AllByRecursion (IsTold ts) D) field.deltas made t.all.lists (all-answered (IsTold ts) (λ c origin first last. tt) peer.taken made (answered asker peer answer made h) (t.all.sets j peer there));
+  all = λ q. record {
+    sets = (t.all q).sets;
+    lists = all-append (λ (D : List Op). AllByRecursion (IsTold ts) D) field.deltas made (t.all q).lists (all-answered (IsTold ts) (λ c origin first last. tt) peer.taken made (answered asker peer answer made h) ((t.all q).sets j peer there));
   };
 }
 
-quiet : (field : Field) (ts none : List (List Op)) → none ≡ [] → Telling field ts → Telling field (ts ++ none)
-quiet field ts none e t = subst (λ m. Telling field (ts ++ m)) (sym e) (subst (Telling field) (sym (append-nil ts)) t)
+quiet : (W : Type 0) (field : Field) (ts none : List (List Op)) → none ≡ [] → Telling W field ts → Telling W field (ts ++ none)
+quiet W field ts none e t = subst (λ m. Telling W field (ts ++ m)) (sym e) (subst (Telling W field) (sym (append-nil ts)) t)
 
-after-telling : (old : Field) (event : Event) (answer : Answer) (new : Field) (ts : List (List Op)) → After old event answer new → FlushField old → Telling old ts → Telling new (ts ++ made_by answer)
-after-telling old (Frame number from bytes now) (Node answer) new ts h s t =
-    subst (λ (x : Field). Telling x (ts ++ made_of (said answer))) (sym h.6) (telling-own old ts t number h.0 h.1 h.2 h.3 s h.4 (Datagram from bytes) now (said answer) h.5)
-after-telling old (Tick number now) (Node answer) new ts h s t =
-    subst (λ (x : Field). Telling x (ts ++ made_of (said answer))) (sym h.6) (telling-own old ts t number h.0 h.1 h.2 h.3 s h.4 Clock now (said answer) h.5)
-after-telling old (Take number delta) (Node answer) new ts h s t =
+after-telling : (W : Type 0) (old : Field) (event : Event) (answer : Answer) (new : Field) (ts : List (List Op)) → After old event answer new → FlushField old → (W → AreWell old) → Telling W old ts → Telling W new (ts ++ made_by answer)
+after-telling W old (Frame number from bytes now) (Node answer) new ts h s well t =
+    subst (λ (x : Field). Telling W x (ts ++ made_of (said answer))) (sym h.6) (telling-own W old ts t number h.0 h.1 h.2 h.3 s h.4 (Datagram from bytes) now (said answer) h.5)
+after-telling W old (Tick number now) (Node answer) new ts h s well t =
+    subst (λ (x : Field). Telling W x (ts ++ made_of (said answer))) (sym h.6) (telling-own W old ts t number h.0 h.1 h.2 h.3 s h.4 Clock now (said answer) h.5)
+after-telling W old (Take number delta) (Node answer) new ts h s well t =
     let none = take-told h.1 h.2 h.4 (said answer) h.3 h.7 in
-    subst (λ (x : Field). Telling x (ts ++ made_of (said answer))) (sym h.8)
-    (subst (λ m. Telling (changed old h.0 h.2 h.3) (ts ++ m)) (none.0 ∙ sym none.1) (telling-fed old ts t h.0 h.1 h.2 h.3 h.5.1 (delta - 1) h.4 (said answer) h.6.1 h.7))
-after-telling old (Asks number peer) (Node answer) new ts h s t =
-    subst (λ (x : Field). Telling x (ts ++ made_of (said answer))) (sym h.8)
-    (quiet (record old { deltas = old.deltas ++ h.4 }) ts (made_of (said answer)) (answer-told h.2 h.3 (said answer) h.4 h.7).0 (telling-asked old ts t h.1 h.2 h.3 (said answer) h.4 h.6.1 h.7))
-after-telling old (Compact number) (Node answer) new ts h s t =
-    subst (λ (x : Field). Telling x (ts ++ made_of (said answer))) (sym h.5)
-    (subst (λ m. Telling (changed old h.0 h.2 []) (ts ++ m)) (sym (compact-told h.1 h.2 (said answer) h.4).0)
-    (telling-still old ts t h.0 h.1 h.2 [] h.3.1 (compact-still h.1 h.2 (said answer) h.4)))
-after-telling old (Restart number kept) (Records count) new ts h s t =
-    subst (λ (x : Field). Telling x (ts ++ [])) (sym h.4) (telling-still old ts t h.0 h.1 (restarted kept h.1) [] h.2.1 (restart-still kept h.1))
-after-telling old (Show number) (Views views) new ts h s t = quiet new ts [] refl (subst (λ (x : Field). Telling x ts) (sym h.4) t)
-after-telling old (Frame number from bytes now) (Views views) new ts h s t = absurd h
-after-telling old (Tick number now) (Views views) new ts h s t = absurd h
-after-telling old (Take number delta) (Views views) new ts h s t = absurd h
-after-telling old (Asks number peer) (Views views) new ts h s t = absurd h
-after-telling old (Show number) (Node answer) new ts h s t = absurd h
-after-telling old (Compact number) (Views views) new ts h s t = absurd h
-after-telling old (Restart number kept) (Views views) new ts h s t = absurd h
-after-telling old (Restart number kept) (Node answer) new ts h s t = absurd h
-after-telling old (Frame number from bytes now) (Records count) new ts h s t = absurd h
-after-telling old (Tick number now) (Records count) new ts h s t = absurd h
-after-telling old (Take number delta) (Records count) new ts h s t = absurd h
-after-telling old (Asks number peer) (Records count) new ts h s t = absurd h
-after-telling old (Compact number) (Records count) new ts h s t = absurd h
-after-telling old (Show number) (Records count) new ts h s t = absurd h
-after-telling old (WriteFails number bytes sync) (Node answer) new ts h s t = absurd h
-after-telling old (WriteFails number bytes sync) (Views views) new ts h s t = absurd h
-after-telling old (WriteFails number bytes sync) (Records count) new ts h s t = absurd h
-after-telling old (Frame number from bytes now) Nothing new ts h s t = absurd h
-after-telling old (Tick number now) Nothing new ts h s t = absurd h
-after-telling old (Take number delta) Nothing new ts h s t = absurd h
-after-telling old (Asks number peer) Nothing new ts h s t = absurd h
-after-telling old (Compact number) Nothing new ts h s t = absurd h
-after-telling old (Restart number kept) Nothing new ts h s t = absurd h
-after-telling old (Show number) Nothing new ts h s t = absurd h
+    subst (λ (x : Field). Telling W x (ts ++ made_of (said answer))) (sym h.8)
+    (subst (λ m. Telling W (changed old h.0 h.2 h.3) (ts ++ m)) (none.0 ∙ sym none.1) (telling-fed W old ts t h.0 h.1 h.2 h.3 h.5.1 (delta - 1) h.4 h.6.1 (take-moves h.1 h.4 (said answer) h.2 h.3 h.7)))
+after-telling W old (Asks number peer) (Node answer) new ts h s well t =
+    subst (λ (x : Field). Telling W x (ts ++ made_of (said answer))) (sym h.8)
+    (quiet W (record old { deltas = old.deltas ++ h.4 }) ts (made_of (said answer)) (answer-told h.2 h.3 (said answer) h.4 h.7).0 (telling-asked W old ts t h.1 h.2 h.3 (said answer) h.4 h.6.1 h.7))
+after-telling W old (WriteFails number bytes sync) Nothing new ts h s well t =
+    subst (λ (x : Field). Telling W x (ts ++ [])) (sym h.3) (telling-still W old ts t h.0 h.1 (failing bytes sync h.1) [] h.2.1 (record { config = refl; taken = refl; none = refl }))
+after-telling W old (Compact number) (Node answer) new ts h s well t =
+    subst (λ (x : Field). Telling W x (ts ++ made_of (said answer))) (sym h.5)
+    (subst (λ m. Telling W (changed old h.0 h.2 []) (ts ++ m)) (sym (compact-told h.1 h.2 (said answer) h.4).0)
+    (telling-still W old ts t h.0 h.1 h.2 [] h.3.1 (compact-still h.1 h.2 (said answer) h.4)))
+after-telling W old (Restart number kept) (Records count) new ts h s well t =
+    subst (λ (x : Field). Telling W x (ts ++ [])) (sym h.4) (telling-back W old ts t h.0 h.1 (restarted kept h.1) [] h.2.1 (λ q. (well q h.0 h.1 h.2.1).0) (restart-moves kept h.1))
+after-telling W old (Show number) (Views views) new ts h s well t = quiet W new ts [] refl (subst (λ (x : Field). Telling W x ts) (sym h.4) t)
+after-telling W old (Frame number from bytes now) (Views views) new ts h s well t = absurd h
+after-telling W old (Tick number now) (Views views) new ts h s well t = absurd h
+after-telling W old (Take number delta) (Views views) new ts h s well t = absurd h
+after-telling W old (Asks number peer) (Views views) new ts h s well t = absurd h
+after-telling W old (Show number) (Node answer) new ts h s well t = absurd h
+after-telling W old (Compact number) (Views views) new ts h s well t = absurd h
+after-telling W old (Restart number kept) (Views views) new ts h s well t = absurd h
+after-telling W old (Restart number kept) (Node answer) new ts h s well t = absurd h
+after-telling W old (Frame number from bytes now) (Records count) new ts h s well t = absurd h
+after-telling W old (Tick number now) (Records count) new ts h s well t = absurd h
+after-telling W old (Take number delta) (Records count) new ts h s well t = absurd h
+after-telling W old (Asks number peer) (Records count) new ts h s well t = absurd h
+after-telling W old (Compact number) (Records count) new ts h s well t = absurd h
+after-telling W old (Show number) (Records count) new ts h s well t = absurd h
+after-telling W old (WriteFails number bytes sync) (Node answer) new ts h s well t = absurd h
+after-telling W old (WriteFails number bytes sync) (Views views) new ts h s well t = absurd h
+after-telling W old (WriteFails number bytes sync) (Records count) new ts h s well t = absurd h
+after-telling W old (Frame number from bytes now) Nothing new ts h s well t = absurd h
+after-telling W old (Tick number now) Nothing new ts h s well t = absurd h
+after-telling W old (Take number delta) Nothing new ts h s well t = absurd h
+after-telling W old (Asks number peer) Nothing new ts h s well t = absurd h
+after-telling W old (Compact number) Nothing new ts h s well t = absurd h
+after-telling W old (Restart number kept) Nothing new ts h s well t = absurd h
+after-telling W old (Show number) Nothing new ts h s well t = absurd h
 
 none-there : (none : List (List Op)) (delta : List Op) → none ≡ [] → Contains none delta → ⊥
 none-there none delta e h = All-contains (λ _. ⊥) [] delta (All-from_recursion (λ _. ⊥) [] tt) (subst (λ ds. Contains ds delta) e h)
@@ -182,6 +198,7 @@ after-makes old new (Frame number from bytes now) (Node answer) delta h there = 
 after-makes old new (Tick number now) (Node answer) delta h there = tt
 after-makes old new (Take number at) (Node answer) delta h there = none-there (made_of (said answer)) delta (take-told h.1 h.2 h.4 (said answer) h.3 h.7).1 there
 after-makes old new (Asks number peer) (Node answer) delta h there = none-there (made_of (said answer)) delta (answer-told h.2 h.3 (said answer) h.4 h.7).0 there
+after-makes old new (WriteFails number bytes sync) Nothing delta h there = none-there [] delta refl there
 after-makes old new (Compact number) (Node answer) delta h there = none-there (made_of (said answer)) delta (compact-told h.1 h.2 (said answer) h.4).0 there
 after-makes old new (Restart number kept) (Records count) delta h there = none-there [] delta refl there
 after-makes old new (Show number) (Views views) delta h there = none-there [] delta refl there
@@ -202,8 +219,8 @@ after-makes old new (Show number) (Records count) delta h there = absurd h
 after-makes old new (WriteFails number bytes sync) (Node answer) delta h there = absurd h
 after-makes old new (WriteFails number bytes sync) (Views views) delta h there = absurd h
 after-makes old new (WriteFails number bytes sync) (Records count) delta h there = absurd h
-after-makes old new (Frame number from bytes now) Nothing delta h there = absurd h
-after-makes old new (Tick number now) Nothing delta h there = absurd h
+after-makes old new (Frame number from bytes now) Nothing delta h there = tt
+after-makes old new (Tick number now) Nothing delta h there = tt
 after-makes old new (Take number delta) Nothing delta h there = absurd h
 after-makes old new (Asks number peer) Nothing delta h there = absurd h
 after-makes old new (Compact number) Nothing delta h there = absurd h
@@ -229,6 +246,7 @@ after-brought old (Take number delta) (Node answer) new h =
 after-brought old (Asks number peer) (Node answer) new h =
     let r = answer-told h.2 h.3 (said answer) h.4 h.7 in
     ap (λ (x : Field). x.deltas) h.8 ∙ ap (λ m. old.deltas ++ m) (r.1 ∙ ap (λ xs. xs ++ answered_of (said answer)) (sym r.0))
+after-brought old (WriteFails number bytes sync) Nothing new h = ap (λ (x : Field). x.deltas) h.3
 after-brought old (Compact number) (Node answer) new h =
     let none = compact-told h.1 h.2 (said answer) h.4 in
     ap (λ (x : Field). x.deltas) h.5 ∙ ap (λ m. old.deltas ++ m) (only (made_of (said answer)) [] (answered_of (said answer)) (sym none.0) none.1)
@@ -265,6 +283,7 @@ after-unasked old (Frame number from bytes now) (Node answer) new h e = ap (λ m
 after-unasked old (Tick number now) (Node answer) new h e = ap (λ m. made_of (said answer) ++ m) (own-brought h.1 h.2 Clock now (said answer) h.3 h.5) ∙ append-nil (made_of (said answer))
 after-unasked old (Take number delta) (Node answer) new h e = ap (λ m. made_of (said answer) ++ m) (take-told h.1 h.2 h.4 (said answer) h.3 h.7).2 ∙ append-nil (made_of (said answer))
 after-unasked old (Asks number peer) (Node answer) new h e = absurd (none-some peer (sym e))
+after-unasked old (WriteFails number bytes sync) Nothing new h e = refl
 after-unasked old (Compact number) (Node answer) new h e = ap (λ m. made_of (said answer) ++ m) (compact-told h.1 h.2 (said answer) h.4).1 ∙ append-nil (made_of (said answer))
 after-unasked old (Restart number kept) (Records count) new h e = refl
 after-unasked old (Show number) (Views views) new h e = refl
@@ -295,14 +314,16 @@ after-unasked old (Show number) Nothing new h e = absurd h
 
 -- ---- a run
 
-run-telling : (old : Field) (events : List Event) (answers : List Answer) (new : Field) (ts : List (List Op)) → Run old events answers new → FlushField old → WholeField old → Telling old ts → Telling new (ts ++ told answers)
-run-telling old [] [] new ts h s w t = subst (λ (x : Field). Telling x (ts ++ [])) (sym h) (subst (Telling old) (sym (append-nil ts)) t)
-run-telling old (event ∷ events) (answer ∷ answers) new ts h s w t =
-    let one = after-sound old event answer h.0 h.1 s w in
-    subst (Telling new) (append_assoc ts (made_by answer) (told answers))
-    (run-telling h.0 events answers new (ts ++ made_by answer) h.2 one.flush one.whole (after-telling old event answer h.0 ts h.1 s t))
-run-telling old [] (answer ∷ answers) new ts h s w t = absurd h
-run-telling old (event ∷ events) [] new ts h s w t = absurd h
+run-telling : (W : Type 0) (old : Field) (events : List Event) (answers : List Answer) (new : Field) (ts : List (List Op)) → Run old events answers new → FlushField old → WholeField old → DueField old
+    → (W → AllByRecursion (λ event. ¬ (Arranges event)) events) → (W → AreWell old) → Telling W old ts → Telling W new (ts ++ told answers)
+run-telling W old [] [] new ts h s w d no well t = subst (λ (x : Field). Telling W x (ts ++ [])) (sym h) (subst (Telling W old) (sym (append-nil ts)) t)
+run-telling W old (event ∷ events) (answer ∷ answers) new ts h s w d no well t =
+    let one = after-sound old event answer h.0 h.1 s w d in
+    subst (Telling W new) (append_assoc ts (made_by answer) (told answers))
+    (run-telling W h.0 events answers new (ts ++ made_by answer) h.2 one.flush one.whole (after-due old event answer h.0 h.1 d)
+    (λ q. (no q).1) (λ q. after-well old event answer h.0 h.1 (no q).0 (well q)) (after-telling W old event answer h.0 ts h.1 s well t))
+run-telling W old [] (answer ∷ answers) new ts h s w d no well t = absurd h
+run-telling W old (event ∷ events) [] new ts h s w d no well t = absurd h
 
 pub run-brought : (old : Field) (events : List Event) (answers : List Answer) (new : Field) → Run old events answers new → new.deltas ≡ old.deltas ++ brought answers
 run-brought old [] [] new h = ap (λ (x : Field). x.deltas) h ∙ sym (append-nil old.deltas)
@@ -318,14 +339,16 @@ run-unasked old (event ∷ events) (answer ∷ answers) new h e =
 run-unasked old [] (answer ∷ answers) new h e = absurd h
 run-unasked old (event ∷ events) [] new h e = absurd h
 
-start-telling : (configs : List Config) → Telling (new_field configs) []
-start-telling configs = record {
+start-telling : (W : Type 0) (configs : List Config) → Telling W (new_field configs) []
+start-telling W configs = record {
   once = record { each = tt; apart = λ i j one other a b at there inside within named. absurd (none-some one at); proper = tt };
-  all = record { sets = λ j gateway there. subst (λ T. AllByRecursion (IsTold []) T) (sym (start-taken configs j gateway there)) tt; lists = tt };
+  all = λ _. record { sets = λ j gateway there. subst (λ T. AllByRecursion (IsTold []) T) (sym (start-taken configs j gateway there)) tt; lists = tt };
 }
 
-field-telling : (configs : List Config) (events : List Event) (answers : List Answer) (field : Field) → Run (new_field configs) events answers field → Telling field (told answers)
-field-telling configs events answers field h = run-telling (new_field configs) events answers field [] h (start-flush configs) (start-whole configs) (start-telling configs)
+field-telling : (configs : List Config) (events : List Event) (answers : List Answer) (field : Field) → Run (new_field configs) events answers field → Telling (NoneFails events) field (told answers)
+field-telling configs events answers field h =
+    run-telling (NoneFails events) (new_field configs) events answers field [] h (start-flush configs) (start-whole configs) (start-due configs)
+    (λ q. all-moved (λ (event : Event). ¬ (Arranges event)) events q) (λ _. start-well configs) (start-telling (NoneFails events) configs)
 
 -- ---- the laws
 
@@ -338,10 +361,10 @@ made-once deltas apart proper i j k l one other a b at there inside within named
 pub field-once : (configs : List Config) (events : List Event) (answers : List Answer) (field : Field) → Run (new_field configs) events answers field → AreMadeOnce (told answers)
 field-once configs events answers field h = let t = field-telling configs events answers field h in made-once (told answers) t.once.apart t.once.proper
 
-pub field-told : (configs : List Config) (events : List Event) (answers : List Answer) (field : Field) (op : Op) → Run (new_field configs) events answers field → Contains (everything field) op → IfSome (number_of op) (λ number. Contains (all_of (told answers)) op)
-field-told configs events answers field op h there =
+pub field-told : (configs : List Config) (events : List Event) (answers : List Answer) (field : Field) (op : Op) → Run (new_field configs) events answers field → NoneFails events → Contains (everything field) op → IfSome (number_of op) (λ number. Contains (all_of (told answers)) op)
+field-told configs events answers field op h none there =
     All-contains (IsTold (told answers)) (everything field) op
-    (All-from_recursion (IsTold (told answers)) (everything field) (each-all (IsTold (told answers)) field (field-telling configs events answers field h).all)) there
+    (All-from_recursion (IsTold (told answers)) (everything field) (each-all (IsTold (told answers)) field ((field-telling configs events answers field h).all none))) there
 
 pub field-brought : (configs : List Config) (events : List Event) (answers : List Answer) (field : Field) → Run (new_field configs) events answers field → field.deltas ≡ brought answers
 field-brought configs events answers field h = run-brought (new_field configs) events answers field h

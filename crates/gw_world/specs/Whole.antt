@@ -1,5 +1,5 @@
 -- A whole field: the sets of all its gateways, all deltas of its list, and what answers tell of.
-use Rattle.std.specs.Prelude.{◌≡◌, ℕ, List, [], ◌++◌, flat_map, Option, Some, None, IfSome, slice_get}
+use Rattle.std.specs.Prelude.{◌≡◌, ℕ, List, [], ◌++◌, flat_map, Option, Some, None, IfSome, slice_get, Contains}
 use Rattle.rep_ops.specs.declared.op.Op.{Op}
 use Rattle.rep_ops.specs.declared.op.Op.TheVariants.{Session as OfSession, Put as OfPut, Ack}
 use Rattle.rep_ops.specs.Sets.{Stands, Within}
@@ -59,6 +59,21 @@ MayMake (WriteFails number bytes sync) = ⊥
 MayMake (Compact number) = ⊥
 MayMake (Restart number kept) = ⊥
 MayMake (Show number) = ⊥
+
+-- an event that arranges a failure
+abbrev pub Arranges : Event → Type 0
+Arranges (WriteFails number bytes sync) = Unit {0}
+Arranges (Frame number from bytes now) = ⊥
+Arranges (Tick number now) = ⊥
+Arranges (Take number delta) = ⊥
+Arranges (Asks number peer) = ⊥
+Arranges (Compact number) = ⊥
+Arranges (Restart number kept) = ⊥
+Arranges (Show number) = ⊥
+
+-- none of the events does
+abbrev pub NoneFails : List Event → Type 0
+NoneFails events = (event : Event) → Contains events event → ¬ (Arranges event)
 
 -- all deltas that the answers tell of as made, in their order
 abbrev pub told : List Answer → List (List Op)

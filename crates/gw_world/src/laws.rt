@@ -21,7 +21,7 @@ ghost use Rattle.gw_world.specs.Gateways.{Gateway};
 ghost use Rattle.gw_world.specs.Field.{Field, new_field, IsAt, IsDeltaAt, After, Run, gateway_of, peer_of, shown};
 ghost use Rattle.gw_world.specs.Steps.{IsWritable, IsPlan, OwnStep, TakeStep, AnswerStep};
 ghost use Rattle.gw_world.specs.Steady.{IsSteady};
-ghost use Rattle.gw_world.specs.Whole.{listed, everything, number_of, IsHome, AreMadeOnce, made_by, MayMake, told, brought, HasTakenAll};
+ghost use Rattle.gw_world.specs.Whole.{listed, everything, number_of, IsHome, AreMadeOnce, made_by, MayMake, NoneFails, told, brought, HasTakenAll};
 
 /// Whatever happens in a field, each gateway stays flush, and what it wrote itself comes back to it as it
 /// wrote it. So the operations that it makes contradict nothing that it has taken, and no datagram and
@@ -32,7 +32,7 @@ pub fn steady_field()
     ensures no_conflict { (field : Field) (number i : ℕ) (gateway : Gateway) (occasion : Occasion) (now : ℕ) (client : List ℕ) (new : Gateway) (made : List (List Op)) → IsSteady field → IsAt field number i gateway → OwnStep gateway occasion now (Err (refusals.Conflict client)) new made → ⊥ }
 {}
 
-/// A field never contradicts itself. In whatever all its gateways have taken and all deltas of its list
+/// A field never contradicts itself, whatever fails in it. In whatever all its gateways have taken and all deltas of its list
 /// hold, no name of a session operation or a message stands for two operations, and so in each part of
 /// it, however it is put together. Each delta of the list is a delta, with counter 0 exactly at the
 /// operations that take a session, and can be written. A delta of the list agrees with what any gateway
@@ -52,20 +52,24 @@ pub fn consistent_field()
 /// No session operation and no message is made twice. Each that is anywhere in a field stands in the set
 /// of the gateway whose number is in its name. What an event adds to a field is named after the gateway
 /// that the event is at: nobody else writes under that number. In all deltas that answers tell of as
-/// made, a name stands in one place; only answers to datagrams and ticks tell of any; and whatever has a
-/// name was told of. The list is what the answers bring, in their order: deltas that were made, and
+/// made, a name stands in one place; only answers to datagrams and ticks tell of any; and where no
+/// failure is arranged, whatever has a name was told of. The list is what the answers bring, in their order: deltas that were made, and
 /// deltas that answer a digest, which repeat what was made before. Where no digest is sent, in the whole
 /// list a name stands in one place.
 pub fn made_once()
     ensures home { (configs : List Config) (events : List Event) (answers : List Answer) (field : Field) (op : Op) → Run (new_field configs) events answers field → Contains (everything field) op → IsHome field op }
-    ensures writes { (old new : Field) (event : Event) (answer : Answer) (op : Op) → After old event answer new → Contains (everything new) op → Contains (everything old) op ⊎ IfSome (number_of op) (λ number. number ≡ gateway_of event) }
+    ensures writes { (configs : List Config) (events : List Event) (answers : List Answer)
+        (old new : Field) (event : Event) (answer : Answer) (op : Op)
+        → Run (new_field configs) events answers old → After old event answer new
+        → Contains (everything new) op
+        → Contains (everything old) op ⊎ IfSome (number_of op) (λ number. number ≡ gateway_of event) }
     ensures once { (configs : List Config) (events : List Event) (answers : List Answer)
         (field : Field)
         → Run (new_field configs) events answers field → AreMadeOnce (told answers) }
     ensures makes { (old new : Field) (event : Event) (answer : Answer) (delta : List Op)
         → After old event answer new → Contains (made_by answer) delta → MayMake event }
     ensures told { (configs : List Config) (events : List Event) (answers : List Answer)
-        (field : Field) (op : Op) → Run (new_field configs) events answers field
+        (field : Field) (op : Op) → Run (new_field configs) events answers field → NoneFails events
         → Contains (everything field) op
         → IfSome (number_of op) (λ number. Contains (all_of (told answers)) op) }
     ensures list { (configs : List Config) (events : List Event) (answers : List Answer)
@@ -77,15 +81,17 @@ pub fn made_once()
         → AreMadeOnce field.deltas }
 {}
 
-/// Gateways that have taken the same have the same. Nothing stands in a gateway's set that does not
-/// stand in the list. Two gateways that have taken the same operations, in whatever order and however
-/// often, have equal sets. What a gateway has taken, operation by operation, stands in its set. A
-/// gateway that every delta of the list has reached has what the list has, by whatever operations it
-/// came, and so two of them have equal sets. And gateways with equal sets show the same.
+/// Gateways that have taken the same have the same. Two gateways that have taken the same operations, in whatever order and however
+/// often, have equal sets. What a gateway has taken, operation by operation, stands in its set. Two
+/// gateways that have, by whatever operations, all that stands in the field have equal sets. Where no
+/// failure is arranged, nothing stands in a gateway's set that does not stand in the list; so a gateway
+/// that every delta of the list has reached has what the list has, and two of them have equal sets. (A
+/// delta that a gateway refused, and read back when it was opened again, is in no list until the gateway
+/// answers a digest.) And gateways with equal sets show the same.
 pub fn settled_field()
-    ensures listed { (configs : List Config) (events : List Event) (answers : List Answer) (field : Field) (gateway : Gateway) (op : Op) → Run (new_field configs) events answers field → Contains field.gateways gateway → Contains gateway.taken op → Contains (listed field) op }
+    ensures listed { (configs : List Config) (events : List Event) (answers : List Answer) (field : Field) (gateway : Gateway) (op : Op) → Run (new_field configs) events answers field → NoneFails events → Contains field.gateways gateway → Contains gateway.taken op → Contains (listed field) op }
     ensures within { (configs : List Config) (events : List Event) (answers : List Answer)
-        (field : Field) (gateway : Gateway) → Run (new_field configs) events answers field
+        (field : Field) (gateway : Gateway) → Run (new_field configs) events answers field → NoneFails events
         → Contains field.gateways gateway → Within gateway.taken (listed field) }
     ensures alike { (configs : List Config) (events : List Event) (answers : List Answer) (field : Field) (one other : Gateway) → Run (new_field configs) events answers field → Contains field.gateways one → Contains field.gateways other → ((op : Op) → Contains one.taken op ↔ Contains other.taken op) → Same one.taken other.taken }
     ensures reached { (configs : List Config) (events : List Event) (answers : List Answer)
@@ -93,10 +99,14 @@ pub fn settled_field()
         → Run (new_field configs) events answers field → Contains field.gateways gateway
         → ((op : Op) → Contains part op → Contains gateway.taken op) → Within part gateway.taken }
     ensures all { (configs : List Config) (events : List Event) (answers : List Answer)
-        (field : Field) (gateway : Gateway) → Run (new_field configs) events answers field
+        (field : Field) (gateway : Gateway) → Run (new_field configs) events answers field → NoneFails events
         → Contains field.gateways gateway
         → HasTakenAll field gateway → Same gateway.taken (listed field) }
-    ensures settled { (configs : List Config) (events : List Event) (answers : List Answer) (field : Field) (one other : Gateway) → Run (new_field configs) events answers field → Contains field.gateways one → Contains field.gateways other → HasTakenAll field one → HasTakenAll field other → Same one.taken other.taken }
+    ensures complete { (configs : List Config) (events : List Event) (answers : List Answer)
+        (field : Field) (one other : Gateway) → Run (new_field configs) events answers field
+        → Contains field.gateways one → Contains field.gateways other
+        → Within (everything field) one.taken → Within (everything field) other.taken → Same one.taken other.taken }
+    ensures settled { (configs : List Config) (events : List Event) (answers : List Answer) (field : Field) (one other : Gateway) → Run (new_field configs) events answers field → NoneFails events → Contains field.gateways one → Contains field.gateways other → HasTakenAll field one → HasTakenAll field other → Same one.taken other.taken }
     ensures shown { (one other : List Op) → Same one other → shown one ≡ shown other }
 {}
 

@@ -18,6 +18,7 @@ returns-clause-ok g c =
       durable = c.in-Ok.ensures.durable tt;
       place = c.in-Ok.ensures.place tt;
       known = c.in-Ok.ensures.known tt;
+      planned = c.in-Ok.ensures.quiet tt (unplanned c.new.ensures) (sym c.starved-in-Ok.ensures ∙ c.if-starved.false) ∙ ap (λ (d : MemoryState). Some d.plan) c.new.ensures;
     })
     (c.in-Ok.ensures.none tt (empty_records c.in_ok-copy.field-0.gateway _ empty))
     ∙ ap (λ (config : Config). new_gateway config) c.in_ok-copy.ensures.ok
@@ -32,4 +33,5 @@ returns-clause-lasts g c =
       durable = c.in-Ok.ensures.durable tt;
       place = c.in-Ok.ensures.place tt;
       known = c.in-Ok.ensures.known tt;
+      planned = c.in-Ok.ensures.quiet tt (unplanned c.new.ensures) (sym c.starved-in-Ok.ensures ∙ c.if-starved.false) ∙ ap (λ (d : MemoryState). Some d.plan) c.new.ensures;
     })
