@@ -2,7 +2,8 @@
 use Rattle.std.proofs.Common.{◌≡◌, ◌≢◌, ℕ, ◌==◌, false, List, [], ◌∷◌, ◌++◌, length, Some, Result, Ok, Err, refl, ap, inl, inr}
 use Rattle.rep_ops.specs.declared.op.Op.{Op}
 use Rattle.rep_ops.specs.Deltas.{IsDelta}
-use Rattle.rep_ops.specs.Making.{IsDeltaOf}
+use Rattle.rep_ops.specs.Making.{AreApart, IsDeltaOf}
+use Rattle.rep_ops.specs.Spelling.{IsWithinLimit}
 use Rattle.rep_model.specs.Keep.{IsKeptOf}
 use Rattle.rep_model.specs.Taking.{Fits}
 use Rattle.sn_frame.specs.declared.frame.Frame.{Frame}
@@ -74,14 +75,14 @@ module _ {D : Type 0} {G : Ghosts D} where
   no_room old new plan excuse delta (refusals.Journal fault) d h u = absurd h
 
   -- the journal refused the delta of a plan
-  pub given_up : (old new : State G) (plan : Plan) (excuse : Out) (delta : List Op) (fault : JournalFault) → plan.ops ≢ [] → excuse ≡ only_sends excuse.sends → IsDeltaOf plan.ops delta → Fits old.kept delta
+  pub given_up : (old new : State G) (plan : Plan) (excuse : Out) (delta : List Op) (fault : JournalFault) → plan.ops ≢ [] → excuse ≡ only_sends excuse.sends → AreApart plan.ops → IsDeltaOf plan.ops delta → IsWithinLimit delta → Fits old.kept delta
       → new.config ≡ old.config → new.kept ≡ old.kept → new.local ≡ old.local → new.records ≡ old.records → WrittenAs old.journal delta (Err fault) new.journal → CarriedOut old plan excuse (Err (refusal_of fault excuse)) new
-  given_up old new plan excuse delta faults.Disk some answer d fits config kept local records h =
-      (refl, record { some = some; config = config; records = records; kept = kept; local = local; delta = delta; is_delta = d; fits = fits; failed = h; answer = answer })
-  given_up old new plan excuse delta faults.Halted some answer d fits config kept local records h = (h.0, record { config = config; kept = kept; local = local; journal = h.1; records = records })
-  given_up old new plan excuse delta faults.Memory some answer d fits config kept local records h = record { config = config; kept = kept; local = local; journal = h; records = records }
-  given_up old new plan excuse delta faults.Foreign some answer d fits config kept local records h = absurd h
-  given_up old new plan excuse delta (faults.BadRecord slot at) some answer d fits config kept local records h = absurd h
+  given_up old new plan excuse delta faults.Disk some answer apart d limit fits config kept local records h =
+      (refl, record { some = some; config = config; records = records; kept = kept; local = local; apart = apart; delta = delta; is_delta = d; limit = limit; fits = fits; failed = h; answer = answer })
+  given_up old new plan excuse delta faults.Halted some answer apart d limit fits config kept local records h = (h.0, record { config = config; kept = kept; local = local; journal = h.1; records = records })
+  given_up old new plan excuse delta faults.Memory some answer apart d limit fits config kept local records h = record { config = config; kept = kept; local = local; journal = h; records = records }
+  given_up old new plan excuse delta faults.Foreign some answer apart d limit fits config kept local records h = absurd h
+  given_up old new plan excuse delta (faults.BadRecord slot at) some answer apart d limit fits config kept local records h = absurd h
 
   -- a frame was read, and its plan was carried out or not
   pub frame_answered : (old new : State G) (from : Addr) (bytes : List ℕ) (frame : Frame) (now : ℕ) (answer : Result Out Refusal) → is_halted old ≡ false → IsValue frame → Spells bytes frame
