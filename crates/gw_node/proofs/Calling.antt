@@ -18,13 +18,13 @@ use Rattle.jr_journal.specs.declared.journal.Journal.{Journal}
 use Rattle.gw_node.specs.declared.out.Out.{Out}
 use Rattle.gw_node.specs.declared.refusal.Refusal.{Refusal}
 use Rattle.gw_node.specs.declared.refusal.Refusal.TheVariants as refusals
-use Rattle.gw_node.specs.Occasions.{Datagram}
+use Rattle.gw_node.specs.Occasions.{Datagram, Clock}
 use Rattle.gw_node.specs.Parts.{State, is_halted, IsUnchanged, only_sends}
 use Rattle.gw_node.specs.Writing.{IsWritten, WrittenAs, WrittenIfAny, refusal_of}
 use Rattle.gw_node.specs.Excuses.{excuses}
 use Rattle.gw_node.specs.Plans.{IsMisfit, Makes}
 use Rattle.gw_node.specs.Calls.{OwnCall, TakeCall, IsNoted}
-use Rattle.gw_node.specs.Handling.{HaveNoDelta, planned_for, CarriedOut, Answers}
+use Rattle.gw_node.specs.Handling.{HaveNoDelta, planned_for, ticked, CarriedOut, Answers}
 
 module _ {D : Type 0} {G : Ghosts D} where
   -- a delta with operations is written
@@ -97,3 +97,15 @@ module _ {D : Type 0} {G : Ghosts D} where
       (runs, (plan, (frame, value, spells, is_plan), (frame, value, spells, ap (λ out. out.sends) h.0), h.1))
   frame_answered old new from bytes frame now (Err refusals.Memory) runs value spells h = h
   frame_answered old new from bytes frame now (Err (refusals.Journal fault)) runs value spells (plan, is_plan, h) = absurd h
+
+  -- the plan of a tick was carried out or not
+  pub tick_answered : (old new : State G) (now : ℕ) (plan : Plan) (answer : Result Out Refusal) → is_halted old ≡ false → ticked old now ≡ Some plan → CarriedOut old plan (only_sends []) answer new → OwnCall old Clock now answer new
+  tick_answered old new now plan (Ok out) runs is_plan h = (runs, (plan, is_plan, h))
+  tick_answered old new now plan (Err refusals.Halted) runs is_plan h = h
+  tick_answered old new now plan (Err (refusals.Frame fault)) runs is_plan h = absurd h
+  tick_answered old new now plan (Err refusals.Exhausted) runs is_plan h = absurd h
+  tick_answered old new now plan (Err (refusals.Conflict client)) runs is_plan h = (runs, (plan, is_plan, h.0), h.1)
+  tick_answered old new now plan (Err refusals.Full) runs is_plan h = (runs, (plan, is_plan, h.0), h.1)
+  tick_answered old new now plan (Err (refusals.Disk excuse)) runs is_plan h = (runs, (plan, is_plan, ap (λ out. out.sends) h.0, h.1))
+  tick_answered old new now plan (Err refusals.Memory) runs is_plan h = h
+  tick_answered old new now plan (Err (refusals.Journal fault)) runs is_plan h = absurd h
