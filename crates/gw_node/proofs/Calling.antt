@@ -2,7 +2,8 @@
 use Rattle.std.proofs.Common.{◌≡◌, ◌≢◌, ℕ, ◌==◌, false, List, [], ◌∷◌, ◌++◌, length, Some, Result, Ok, Err, refl, ap, inl, inr}
 use Rattle.rep_ops.specs.declared.op.Op.{Op}
 use Rattle.rep_ops.specs.Deltas.{IsDelta}
-use Rattle.rep_ops.specs.Making.{IsDeltaOf}
+use Rattle.rep_ops.specs.Making.{AreApart, IsDeltaOf}
+use Rattle.rep_ops.specs.Spelling.{IsWithinLimit}
 use Rattle.rep_model.specs.Keep.{IsKeptOf}
 use Rattle.rep_model.specs.Taking.{Fits}
 use Rattle.sn_frame.specs.declared.frame.Frame.{Frame}
@@ -17,13 +18,13 @@ use Rattle.jr_journal.specs.declared.journal.Journal.{Journal}
 use Rattle.gw_node.specs.declared.out.Out.{Out}
 use Rattle.gw_node.specs.declared.refusal.Refusal.{Refusal}
 use Rattle.gw_node.specs.declared.refusal.Refusal.TheVariants as refusals
-use Rattle.gw_node.specs.Occasions.{Datagram}
+use Rattle.gw_node.specs.Occasions.{Datagram, Clock}
 use Rattle.gw_node.specs.Parts.{State, is_halted, IsUnchanged, only_sends}
 use Rattle.gw_node.specs.Writing.{IsWritten, WrittenAs, WrittenIfAny, refusal_of}
 use Rattle.gw_node.specs.Excuses.{excuses}
 use Rattle.gw_node.specs.Plans.{IsMisfit, Makes}
 use Rattle.gw_node.specs.Calls.{OwnCall, TakeCall, IsNoted}
-use Rattle.gw_node.specs.Handling.{HaveNoDelta, planned_for, CarriedOut, Answers}
+use Rattle.gw_node.specs.Handling.{HaveNoDelta, planned_for, ticked, CarriedOut, Answers}
 
 module _ {D : Type 0} {G : Ghosts D} where
   -- a delta with operations is written
@@ -74,14 +75,14 @@ module _ {D : Type 0} {G : Ghosts D} where
   no_room old new plan excuse delta (refusals.Journal fault) d h u = absurd h
 
   -- the journal refused the delta of a plan
-  pub given_up : (old new : State G) (plan : Plan) (excuse : Out) (delta : List Op) (fault : JournalFault) → plan.ops ≢ [] → excuse ≡ only_sends excuse.sends → IsDeltaOf plan.ops delta → Fits old.kept delta
+  pub given_up : (old new : State G) (plan : Plan) (excuse : Out) (delta : List Op) (fault : JournalFault) → plan.ops ≢ [] → excuse ≡ only_sends excuse.sends → AreApart plan.ops → IsDeltaOf plan.ops delta → IsWithinLimit delta → Fits old.kept delta
       → new.config ≡ old.config → new.kept ≡ old.kept → new.local ≡ old.local → new.records ≡ old.records → WrittenAs old.journal delta (Err fault) new.journal → CarriedOut old plan excuse (Err (refusal_of fault excuse)) new
-  given_up old new plan excuse delta faults.Disk some answer d fits config kept local records h =
-      (refl, record { some = some; config = config; records = records; kept = kept; local = local; delta = delta; is_delta = d; fits = fits; failed = h; answer = answer })
-  given_up old new plan excuse delta faults.Halted some answer d fits config kept local records h = (h.0, record { config = config; kept = kept; local = local; journal = h.1; records = records })
-  given_up old new plan excuse delta faults.Memory some answer d fits config kept local records h = record { config = config; kept = kept; local = local; journal = h; records = records }
-  given_up old new plan excuse delta faults.Foreign some answer d fits config kept local records h = absurd h
-  given_up old new plan excuse delta (faults.BadRecord slot at) some answer d fits config kept local records h = absurd h
+  given_up old new plan excuse delta faults.Disk some answer apart d limit fits config kept local records h =
+      (refl, record { some = some; config = config; records = records; kept = kept; local = local; apart = apart; delta = delta; is_delta = d; limit = limit; fits = fits; failed = h; answer = answer })
+  given_up old new plan excuse delta faults.Halted some answer apart d limit fits config kept local records h = (h.0, record { config = config; kept = kept; local = local; journal = h.1; records = records })
+  given_up old new plan excuse delta faults.Memory some answer apart d limit fits config kept local records h = record { config = config; kept = kept; local = local; journal = h; records = records }
+  given_up old new plan excuse delta faults.Foreign some answer apart d limit fits config kept local records h = absurd h
+  given_up old new plan excuse delta (faults.BadRecord slot at) some answer apart d limit fits config kept local records h = absurd h
 
   -- a frame was read, and its plan was carried out or not
   pub frame_answered : (old new : State G) (from : Addr) (bytes : List ℕ) (frame : Frame) (now : ℕ) (answer : Result Out Refusal) → is_halted old ≡ false → IsValue frame → Spells bytes frame
@@ -96,3 +97,15 @@ module _ {D : Type 0} {G : Ghosts D} where
       (runs, (plan, (frame, value, spells, is_plan), (frame, value, spells, ap (λ out. out.sends) h.0), h.1))
   frame_answered old new from bytes frame now (Err refusals.Memory) runs value spells h = h
   frame_answered old new from bytes frame now (Err (refusals.Journal fault)) runs value spells (plan, is_plan, h) = absurd h
+
+  -- the plan of a tick was carried out or not
+  pub tick_answered : (old new : State G) (now : ℕ) (plan : Plan) (answer : Result Out Refusal) → is_halted old ≡ false → ticked old now ≡ Some plan → CarriedOut old plan (only_sends []) answer new → OwnCall old Clock now answer new
+  tick_answered old new now plan (Ok out) runs is_plan h = (runs, (plan, is_plan, h))
+  tick_answered old new now plan (Err refusals.Halted) runs is_plan h = h
+  tick_answered old new now plan (Err (refusals.Frame fault)) runs is_plan h = absurd h
+  tick_answered old new now plan (Err refusals.Exhausted) runs is_plan h = absurd h
+  tick_answered old new now plan (Err (refusals.Conflict client)) runs is_plan h = (runs, (plan, is_plan, h.0), h.1)
+  tick_answered old new now plan (Err refusals.Full) runs is_plan h = (runs, (plan, is_plan, h.0), h.1)
+  tick_answered old new now plan (Err (refusals.Disk excuse)) runs is_plan h = (runs, (plan, is_plan, ap (λ out. out.sends) h.0, h.1))
+  tick_answered old new now plan (Err refusals.Memory) runs is_plan h = h
+  tick_answered old new now plan (Err (refusals.Journal fault)) runs is_plan h = absurd h

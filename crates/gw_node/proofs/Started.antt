@@ -130,12 +130,13 @@ leaves_no_more gateway old new deltas is sound leaves = λ k l. (
     (
       (leaves k l).0 ∙ is ∙ ap (records gateway) (sym (all_left old)),
       (leaves k l).1 ∙ sym sound ∙ ap (fault_of gateway) (sym (all_left old)),
+      λ _. (leaves k l).2,
     ),
   ),
 )
 
 pub leaves_itself : (gateway : ℕ) (d : Slots) → LeavesNoMore gateway d d
-leaves_itself gateway d = λ k l. (k, (l, (refl, refl)))
+leaves_itself gateway d = λ k l. (k, (l, (refl, refl, λ begun. begun)))
 
 module _ {D : Type 0} {G : Ghosts D} where
   pub started : (config : Config) (state : State G) (journal : Journal D G) → state.config ≡ config → state.local ≡ no_local → state.journal ≡ journal → is_stopped journal ≡ false → gateway_of journal ≡ config.gateway → IsStarted config state

@@ -14,8 +14,9 @@ use Rattle.jr_journal.specs.declared.disk.Disk.{Ghosts}
 use Rattle.jr_journal.specs.declared.journal.Journal.{Journal}
 use Rattle.jr_journal.specs.Disk.{Slots, SlotBytes, Image, image, bytes_of, left_of, after_crash, EachCrash}
 use Rattle.jr_journal.specs.Records.{records}
+use Rattle.jr_journal.specs.Faults.{is_fresh}
 use Rattle.jr_journal.specs.declared.fault.JournalFault.TheVariants as journal_faults
-use Rattle.jr_journal.specs.Journals.{Opens, Leaves}
+use Rattle.jr_journal.specs.Journals.{Opens, Leaves, LeavesOneMore, LeavesEither}
 use Rattle.jr_journal.specs.Opening.{LeavesNoMore}
 use Rattle.jr_journal.specs.Parts.{disk_of, gateway_of}
 use Rattle.rep_digest.specs.declared.entry.ClientEntry.{ClientEntry}
@@ -47,7 +48,7 @@ all_left d =
     let second = left_all d.second in
     λ i. record { first = first i; second = second i }
 
-stands_at : (gateway : ℕ) (S refused : List Op) (d : Slots) → EachCrash (λ i. StandsFor gateway S refused i) d → StandsFor gateway S refused (image d)
+pub stands_at : (gateway : ℕ) (S refused : List Op) (d : Slots) → EachCrash (λ i. StandsFor gateway S refused i) d → StandsFor gateway S refused (image d)
 stands_at gateway S refused d h =
     subst (λ (i : Image). StandsFor gateway S refused i) (all_left d) (h (length d.first.unsynced) (length d.second.unsynced))
 
@@ -73,6 +74,27 @@ pub as_taken : (S J : List Op) → IsWhole S [] J → CountsAs S J
 as_taken S J (inl h) = h
 as_taken S J (inr h) = subst (λ (T : List Op). CountsAs T J) (append-nil S) h
 
+-- ---- an image in which an opening begins no journal
+
+abbrev pub IsBegun : Image → Type 0
+IsBegun i = is_fresh i ≡ false
+
+begun_all : (gateway : ℕ) (d : Slots) (deltas : List (List Op)) → Leaves gateway d deltas → EachCrash IsBegun d
+begun_all gateway d deltas h = λ k l. (h k l).2
+
+either_begun : (gateway : ℕ) (deltas base : List (List Op)) (i : Image) → Opens gateway deltas i ⊎ Opens gateway base i → IsBegun i
+either_begun gateway deltas base i (inl opens) = opens.2
+either_begun gateway deltas base i (inr opens) = opens.2
+
+begun_one_more : (gateway : ℕ) (d : Slots) (deltas : List (List Op)) (delta : List Op) → LeavesOneMore gateway d deltas delta → EachCrash IsBegun d
+begun_one_more gateway d deltas delta h = λ k l. either_begun gateway deltas (deltas ++ delta ∷ []) (after_crash k l d) (h k l)
+
+begun_either : (gateway : ℕ) (d : Slots) (deltas base : List (List Op)) → LeavesEither gateway d deltas base → EachCrash IsBegun d
+begun_either gateway d deltas base h = λ k l. either_begun gateway deltas base (after_crash k l d) (h k l)
+
+begun_still : (gateway : ℕ) (old new : Slots) → LeavesNoMore gateway old new → EachCrash IsBegun old → EachCrash IsBegun new
+begun_still gateway old new leaves h = λ k l. let a = leaves k l in a.1.1.2 (h a.0 a.1.0)
+
 -- with one record more
 one_more : (S D : List Op) (deltas : List (List Op)) → CountsAs S (ops_of deltas) → CountsAs (S ++ D) (ops_of (deltas ++ D ∷ []))
 one_more S D deltas h =
@@ -81,7 +103,7 @@ one_more S D deltas h =
 
 -- ---- a delta that may be written behind records
 
-record MayFollow (S kept D : List Op) (deltas : List (List Op)) : Type 0 where
+pub record MayFollow (S kept D : List Op) (deltas : List (List Op)) : Type 0 where
   pub agrees : AllAgree S D
   pub delta : IsDelta D
   pub counts : CountsAs S kept
@@ -98,7 +120,7 @@ module _ (S kept D : List Op) (deltas : List (List Op)) (h : MayFollow S kept D 
   proper_then : IsConsistent (ops_of (deltas ++ D ∷ []))
   proper_then = proper_more S D deltas h.agrees (delta_consistent D h.delta) (within-nothing (ops_of deltas) S h.now.between.upper) h.now.proper
 
-  taken_then : StandFor (S ++ D) [] (deltas ++ D ∷ [])
+  pub taken_then : StandFor (S ++ D) [] (deltas ++ D ∷ [])
   taken_then = record { between = between_more S D deltas h.agrees h.now.between; whole = inl (one_more S D deltas counted); roomy = room_then; proper = proper_then }
 
   left_over : StandFor S D (deltas ++ D ∷ [])
@@ -116,7 +138,7 @@ at_gateway a b S refused d same h = subst (λ (g : ℕ). EachCrash (λ i. Stands
 
 -- ---- a base in the place of records
 
-base_now : (S kept : List Op) (base deltas : List (List Op)) → IsHeld kept base → CountsAs S kept → StandFor S [] deltas → StandFor S [] base
+pub base_now : (S kept : List Op) (base deltas : List (List Op)) → IsHeld kept base → CountsAs S kept → StandFor S [] deltas → StandFor S [] base
 base_now S kept base deltas (W, is, split) counts h =
     let same : Same (ops_of base) (keep S) = same_trans (subst (λ (ops : List Op). Same ops (keep kept)) (sym split.whole) is.same) counts in
     record {
@@ -148,12 +170,13 @@ stand_again S refused deltas h = record {
 }
 
 -- where a crash leaves no more than before, it stands for as much
-stands_still : (gateway : ℕ) (S refused : List Op) (old new : Slots) → LeavesNoMore gateway old new → EachCrash (λ i. StandsFor gateway S refused i) old → EachCrash (λ i. StandsFor gateway S refused i) new
-stands_still gateway S refused old new leaves h = λ k l.
+stands_still : (gateway : ℕ) (S refused : List Op) (old new : Slots) → LeavesNoMore gateway old new → EachCrash IsBegun old → EachCrash (λ i. StandsFor gateway S refused i) old
+    → EachCrash (λ i. StandsFor gateway S refused i) new
+stands_still gateway S refused old new leaves begun h = λ k l.
     let a = leaves k l in
     let i = after_crash a.0 a.1.0 old in
     let there = h a.0 a.1.0 in
-    opened gateway S refused (records gateway i) (after_crash k l new) (a.1.1.0, a.1.1.1 ∙ there.sound) (records_stand gateway S refused i there)
+    opened gateway S refused (records gateway i) (after_crash k l new) (a.1.1.0, a.1.1.1 ∙ there.sound, a.1.1.2 (begun a.0 a.1.0)) (records_stand gateway S refused i there)
 
 -- a node that was not opened again goes on only if it did before
 still_runs : (refusal : Refusal) (now before : Bool) → (refusal ≢ refusals.Memory → now ≡ true) → (refusal ≡ refusals.Memory → now ≡ before) → now ≡ false → before ≡ false
@@ -178,6 +201,7 @@ module _ {D : Type 0} {G : Ghosts D} where
     images = λ honest.
         at_gateway gateway (gateway_of state.journal) (S ++ ops_of deltas) [] (G.slots (disk_of state.journal)) same
         (λ k l. opened gateway (S ++ ops_of deltas) [] deltas (after_crash k l (G.slots (disk_of state.journal))) (leaves honest k l) (stand_again S refused deltas h));
+    begun = λ honest. begun_all gateway (G.slots (disk_of state.journal)) deltas (leaves honest);
   }
 
   -- where nothing was refused it is what had been taken
@@ -189,6 +213,7 @@ module _ {D : Type 0} {G : Ghosts D} where
     images = λ honest.
         at_gateway gateway (gateway_of state.journal) S [] (G.slots (disk_of state.journal)) same
         (λ k l. opened gateway S [] deltas (after_crash k l (G.slots (disk_of state.journal))) (leaves honest k l) h);
+    begun = λ honest. begun_all gateway (G.slots (disk_of state.journal)) deltas (leaves honest);
   }
 
   -- ---- one call
@@ -209,6 +234,7 @@ module _ {D : Type 0} {G : Ghosts D} where
         at_gateway (gateway_of old.journal) (gateway_of new.journal) (S ++ delta) [] (G.slots (disk_of new.journal)) w.gateway
         (λ k l. opened (gateway_of old.journal) (S ++ delta) [] (on_disk old ++ delta ∷ []) (after_crash k l (G.slots (disk_of new.journal))) (w.durable honest k l)
         (taken_then S old.kept delta (on_disk old) (follow old S delta all is fits h honest)));
+    begun = λ honest. begun_all (gateway_of old.journal) (G.slots (disk_of new.journal)) (on_disk old ++ delta ∷ []) (w.durable honest);
   }
 
   pub no_more : (old new : State G) (delta : List Op) → IsDelta delta → Fits old.kept delta → new.kept ≡ old.kept → IsFailed old.journal delta new.journal → TakesNoMore old delta new
@@ -218,7 +244,11 @@ module _ {D : Type 0} {G : Ghosts D} where
     images = λ honest.
         at_gateway (gateway_of old.journal) (gateway_of new.journal) S delta (G.slots (disk_of new.journal)) w.gateway
         (λ k l. torn S old.kept delta (on_disk old) (follow old S delta all is fits h honest) (gateway_of old.journal) (after_crash k l (G.slots (disk_of new.journal))) (w.torn honest k l));
+    begun = λ honest. begun_one_more (gateway_of old.journal) (G.slots (disk_of new.journal)) (on_disk old) delta (w.torn honest);
   }
+
+  untouched_begun : (old new : Journal D G) → IsUntouched old new → (G.honest → EachCrash IsBegun (G.slots (disk_of old))) → G.honest → EachCrash IsBegun (G.slots (disk_of new))
+  untouched_begun old new u begun honest = subst (λ (d : D). EachCrash IsBegun (G.slots d)) (sym u.disk) (begun honest)
 
   untouched_images : (old new : Journal D G) (S refused : List Op) → IsUntouched old new → (G.honest → EachCrash (λ i. StandsFor (gateway_of old) S refused i) (G.slots (disk_of old)))
       → G.honest → EachCrash (λ i. StandsFor (gateway_of new) S refused i) (G.slots (disk_of new))
@@ -232,6 +262,19 @@ module _ {D : Type 0} {G : Ghosts D} where
     counts = subst (λ (K : List Op). CountsAs S K) (sym kept) h.counts;
     quiet = λ runs. h.quiet (sym u.halted ∙ runs);
     images = untouched_images old.journal new.journal S refused u h.images;
+    begun = untouched_begun old.journal new.journal u h.begun;
+  }
+
+  -- another failure is arranged on the disk, and its slots are as they were
+  pub still : (old new : State G) → new.kept ≡ old.kept → gateway_of new.journal ≡ gateway_of old.journal → is_halted new ≡ is_halted old
+      → G.slots (disk_of new.journal) ≡ G.slots (disk_of old.journal) → TakesNothing old new
+  still old new kept gateway halted slots = λ S refused h. record {
+    counts = subst (λ (K : List Op). CountsAs S K) (sym kept) h.counts;
+    quiet = λ runs. h.quiet (sym halted ∙ runs);
+    images = λ honest.
+        at_gateway (gateway_of old.journal) (gateway_of new.journal) S refused (G.slots (disk_of new.journal)) gateway
+        (subst (λ (d : Slots). EachCrash (λ i. StandsFor (gateway_of old.journal) S refused i) d) (sym slots) (h.images honest));
+    begun = λ honest. subst (λ (d : Slots). EachCrash IsBegun d) (sym slots) (h.begun honest);
   }
 
   pub unchanged : (old new : State G) → IsUnchanged old new → TakesNothing old new
@@ -245,6 +288,7 @@ module _ {D : Type 0} {G : Ghosts D} where
     images = λ honest.
         subst (λ (T : List Op). EachCrash (λ i. StandsFor (gateway_of new.journal) T [] i) (G.slots (disk_of new.journal))) (sym (append-nil S))
         (untouched_images old.journal new.journal S [] u h.images honest);
+    begun = untouched_begun old.journal new.journal u h.begun;
   }
 
   noted : (old new : State G) (delta : List Op) → IsDelta delta → Fits old.kept delta → IsKeptOf (old.kept ++ delta) new.kept → IsNoted old.journal delta new.journal → TakesMore old delta new
@@ -263,6 +307,7 @@ module _ {D : Type 0} {G : Ghosts D} where
             at_gateway (gateway_of old.journal) (gateway_of new.journal) S refused (G.slots (disk_of new.journal)) w.gateway
             (λ k l. opened (gateway_of old.journal) S refused base (after_crash k l (G.slots (disk_of new.journal))) (w.durable honest k l)
             (base_stands S refused old.kept base (on_disk old) none held h.counts (before old S refused h honest)));
+        begun = λ honest. begun_all (gateway_of old.journal) (G.slots (disk_of new.journal)) base (w.durable honest);
       }
 
   pub not_rewritten : (old new : State G) (base : List (List Op)) → IsHeld old.kept base → new.kept ≡ old.kept → IsNotRewritten old.journal base new.journal → TakesNothing old new
@@ -275,6 +320,7 @@ module _ {D : Type 0} {G : Ghosts D} where
             at_gateway (gateway_of old.journal) (gateway_of new.journal) S refused (G.slots (disk_of new.journal)) w.gateway
             (λ k l. either_stands (gateway_of old.journal) S refused (on_disk old) base (after_crash k l (G.slots (disk_of new.journal))) (before old S refused h honest)
             (base_stands S refused old.kept base (on_disk old) none held h.counts (before old S refused h honest)) (w.torn honest k l));
+        begun = λ honest. begun_either (gateway_of old.journal) (G.slots (disk_of new.journal)) (on_disk old) base (w.torn honest);
       }
 
   pub reopened : (old new : State G) → IsReopened old new → TakesAgain old new
@@ -290,7 +336,8 @@ module _ {D : Type 0} {G : Ghosts D} where
     quiet = λ runs. h.quiet (still_runs refusal (is_halted new) (is_halted old) w.halts w.wanting runs);
     images = λ honest.
         at_gateway (gateway_of old.journal) (gateway_of new.journal) S refused (G.slots (disk_of new.journal)) w.gateway
-        (stands_still (gateway_of old.journal) S refused (G.slots (disk_of old.journal)) (G.slots (disk_of new.journal)) (w.leaves honest) (h.images honest));
+        (stands_still (gateway_of old.journal) S refused (G.slots (disk_of old.journal)) (G.slots (disk_of new.journal)) (w.leaves honest) (h.begun honest) (h.images honest));
+    begun = λ honest. begun_still (gateway_of old.journal) (G.slots (disk_of old.journal)) (G.slots (disk_of new.journal)) (w.leaves honest) (h.begun honest);
   }
 
   -- ---- calls

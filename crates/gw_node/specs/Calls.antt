@@ -7,7 +7,7 @@ use Rattle.rep_model.specs.Views.{view, is_named}
 use Rattle.rep_model.specs.Keep.{IsKeptOf}
 use Rattle.rep_model.specs.Held.{IsHeld}
 use Rattle.rep_model.specs.Taking.{Fits}
-use Rattle.rep_ops.specs.Spelling.{max_octets}
+use Rattle.rep_ops.specs.Spelling.{max_octets, IsWithinLimit as IsDeltaWithinLimit}
 use Rattle.rep_digest.specs.declared.entry.ClientEntry.{ClientEntry}
 use Rattle.rep_digest.specs.Digests.{digest}
 use Rattle.rep_digest.specs.Answers.{IsAnswer}
@@ -43,15 +43,18 @@ pub record IsDone {D : Type 0} {G : Ghosts D} (old : State G) (plan : Plan) (out
   pub made : Makes plan.ops out.made old new
   pub answer : out ≡ record (only_sends plan.sends) { made = out.made }
 
--- the journal could not be written: nothing of the plan was done, and its client is told so
+-- the journal could not be written: nothing of the plan was done, and its client is told so; its operations make a delta as they do where
+-- it is carried out
 pub record IsGivenUp {D : Type 0} {G : Ghosts D} (old : State G) (plan : Plan) (excuse : Out) (new : State G) : Type 0 where
   pub some : plan.ops ≢ []
   pub config : new.config ≡ old.config
   pub records : new.records ≡ old.records
   pub kept : new.kept ≡ old.kept
   pub local : new.local ≡ old.local
+  pub apart : AreApart plan.ops
   pub delta : List Op
   pub is_delta : IsDeltaOf plan.ops delta
+  pub limit : IsDeltaWithinLimit delta
   pub fits : Fits old.kept delta
   pub failed : IsFailed old.journal delta new.journal
   pub answer : excuse ≡ only_sends excuse.sends

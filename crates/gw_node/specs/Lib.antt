@@ -10,3 +10,4 @@ pub mod Taking
 pub mod Carrying
 pub mod Opening
 pub mod Failures
+pub mod Arranging

@@ -8,7 +8,7 @@ use Rattle.rep_model.specs.Roomy.{IsRoomy}
 use Rattle.jr_journal.specs.declared.disk.Disk.{Ghosts}
 use Rattle.jr_journal.specs.Disk.{Image, image, EachCrash}
 use Rattle.jr_journal.specs.Records.{records}
-use Rattle.jr_journal.specs.Faults.{fault_of}
+use Rattle.jr_journal.specs.Faults.{is_fresh, fault_of}
 use Rattle.jr_journal.specs.Parts.{disk_of, gateway_of}
 use Rattle.gw_node.specs.Parts.{State, is_halted}
 
@@ -39,8 +39,9 @@ pub record StandsFor (gateway : ℕ) (S refused : List Op) (i : Image) : Type 0 
   pub proper : IsConsistent (ops_of (records gateway i))
 
 -- The node has taken the set S: its replica counts as S; and whatever a crash leaves of an honest disk stands for S, but for one
--- refused delta, of which there is none as long as the node goes on.
+-- refused delta, of which there is none as long as the node goes on; and an opening of it begins no journal.
 pub record HasTaken {D : Type 0} {G : Ghosts D} (S refused : List Op) (state : State G) : Type 0 where
   pub counts : CountsAs S state.kept
   pub quiet : is_halted state ≡ false → refused ≡ []
   pub images : G.honest → EachCrash (λ i. StandsFor (gateway_of state.journal) S refused i) (G.slots (disk_of state.journal))
+  pub begun : G.honest → EachCrash (λ i. is_fresh i ≡ false) (G.slots (disk_of state.journal))

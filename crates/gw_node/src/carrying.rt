@@ -4,6 +4,7 @@
 ghost use Rattle.std.specs.Prelude.{◌≡◌, ◌≢◌, ◌++◌, [], IfOk, IfErr, OnOk};
 ghost use Rattle.rep_ops.specs.Deltas.{IsDelta};
 ghost use Rattle.rep_ops.specs.Making.{AreApart, IsDeltaOf};
+ghost use Rattle.rep_ops.specs.Spelling.{IsWithinLimit};
 ghost use Rattle.rep_model.specs.Taking.{Fits};
 ghost use Rattle.rep_model.specs.Keep.{IsKeptOf};
 ghost use Rattle.gw_node.specs.Parts.{state_of, IsUnchanged, only_sends};
@@ -28,6 +29,7 @@ use std::alloc::Global;
 fn delta_of(alloc: Global, ops: Vec<Op>) -> Result<Delta, Refusal>
     ensures apart { OnOk result (AreApart ops.items) }
     ensures ok { IfOk result (λ delta. IsDeltaOf ops.items delta) }
+    ensures limit { IfOk result (λ delta. IsWithinLimit delta) }
     ensures err { IfErr result (HaveNoDelta ops.items) }
 {
     match Delta::from_ops(alloc, ops) {

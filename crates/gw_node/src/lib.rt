@@ -19,7 +19,7 @@
 //!
 //! The definitions are in `specs/`: `Occasions` (datagrams, ticks and their plans), `Parts` (what contracts see of a node),
 //! `Plans` (what a plan comes to), `Calls` (what each call may answer), `Failures` (which answers tell of the disk), `Writing` (what becomes of the journal), `Excuses`,
-//! `Taking` (what a node has taken, and what a crash leaves of it), `Carrying` (how a call carries that on), `Opening`.
+//! `Taking` (what a node has taken, and what a crash leaves of it), `Arranging` (a failure is arranged), `Carrying` (how a call carries that on), `Opening`.
 //! `Handling` is for private functions.
 #![tactic(auto)]
 

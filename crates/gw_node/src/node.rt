@@ -16,6 +16,7 @@ ghost use Rattle.gw_node.specs.Calls.{OwnCall, TakeCall, ViewCall, DigestCall, A
 ghost use Rattle.gw_node.specs.Keeping.{Keeps};
 ghost use Rattle.gw_node.specs.Taking.{ops_of, StandsFor, HasTaken};
 ghost use Rattle.gw_node.specs.Opening.{IsStarted, FitInTurn, MayRefuse, IsDiskFault, IsOpenFault, LeavesSlots, GoesOnIn, ReopenCall};
+ghost use Rattle.gw_node.specs.Arranging.{Arranges};
 ghost use Rattle.gw_node.specs.Carrying.{CarriesOn, OwnCarriesOn, TakesNothing, ReopenCarriesOn, StepCarriesOn};
 
 use super::anew::{handle_compact, handle_reopen};
@@ -274,5 +275,14 @@ impl<R: Replica> Node<R, MemoryDisk> {
         ensures { result ≡ (disk_of self.now).starved }
     {
         self.journal.starved()
+    }
+
+    /// Arranges a failure on the disk of its journal, in place of one that was arranged before, and changes nothing else: the
+    /// next append goes out and its sync fails, or the next append stops after so many bytes.
+    pub fn fail_next(&mut self, bytes: usize, sync: bool)
+        ensures call { Arranges bytes sync (state_of R.kept self.old) (state_of R.kept self.new) }
+        ensures taken { TakesNothing (state_of R.kept self.old) (state_of R.kept self.new) }
+    {
+        self.journal.fail_next(bytes, sync);
     }
 }

@@ -12,7 +12,7 @@ use Rattle.jr_journal.specs.Records.{IsReadable, base_bytes, slot_content, recor
 use Rattle.jr_journal.specs.Journals.{other, is_below, is_in_use, after_append, emptied, Opens, Leaves, LeavesEither}
 use Rattle.jr_journal.specs.Opening.{synced_slots}
 use Rattle.jr_journal.proofs.Contents.{IsSealed, sealed_again}
-use Rattle.jr_journal.proofs.Sound.{image_at, used_sound}
+use Rattle.jr_journal.proofs.Sound.{image_at, used_sound, not_fresh}
 use Rattle.jr_journal.proofs.Settled.{IsUsed, in_use_shape, in_use_again, used_leaves, used_records, records_at, with_more, crash_more, take_both, sealed_at}
 use Rattle.jr_journal.proofs.Bases.{whole_of, cut_slot, whole_slot, whole_full}
 use Rattle.jr_journal.proofs.Appending.{IsKept, going_on}
@@ -47,13 +47,17 @@ compact_leaves gateway slot d m f base w k l h readable fits =
       | inl lt ↦
           let below : is_below (slot_content gateway (image_at i (other slot))) m ≡ true =
           ap (λ x. is_below x m) (ap (λ ys. slot_content gateway ys) c.1 ∙ cut_slot gateway (m + 1) c.0 base readable lt) in
-          inl (records_at gateway slot i m f here below, used_sound gateway slot i m f here below)
+          inl (records_at gateway slot i m f here below, used_sound gateway slot i m f here below, not_fresh gateway slot i m f here)
       | inr le ↦
           let all : image_at i (other slot) ≡ bytes = c.1 ∙ take_all c.0 bytes le in
           let there : IsSealed gateway (image_at i (other slot)) (m + 1) (whole_of base) = sealed_at gateway bytes (image_at i (other slot)) (m + 1) (whole_of base) all (whole_slot gateway (m + 1) base readable fits) in
           let older : is_below (slot_content gateway (image_at i (other (other slot)))) (m + 1) ≡ true =
           ap (λ s. is_below (slot_content gateway (image_at i s)) (m + 1)) (other_twice slot) ∙ (ap (λ x. is_below x (m + 1)) (sealed_again gateway (image_at i slot) m f here) ∙ lt-ltb m (m + 1) (omega arith)) in
-          inr (records_at gateway (other slot) i (m + 1) (whole_of base) there older, used_sound gateway (other slot) i (m + 1) (whole_of base) there older)
+          inr (
+            records_at gateway (other slot) i (m + 1) (whole_of base) there older,
+            used_sound gateway (other slot) i (m + 1) (whole_of base) there older,
+            not_fresh gateway (other slot) i (m + 1) (whole_of base) there,
+          )
     ]
 
 -- ---- and synced
@@ -118,14 +122,14 @@ module _ (gateway : ℕ) (slot : Slot) (generation next : ℕ) (halted : Bool) (
       elim part [
         | inl same ↦ λ k l.
             let opens = used_leaves gateway slot old generation in_use.0 in_use.1 k l in
-            inl (subst (λ (d : Slots). Opens gateway (records gateway (image old)) (after_crash k l d)) (sym same) (opens.0 ∙ sym before, opens.1))
+            inl (subst (λ (d : Slots). Opens gateway (records gateway (image old)) (after_crash k l d)) (sym same) (opens.0 ∙ sym before, opens.1, opens.2))
         | inr out ↦ λ k l.
             let more = with_more (emptied old (other slot)) (other slot) (take out.0 (base_bytes gateway (generation + 1) base)) in
             let there : new ≡ more = out.1 ∙ ap (λ xs. with_more (emptied old (other slot)) (other slot) (take out.0 xs)) is in
             subst (λ (d : Slots). Opens gateway (records gateway (image old)) (after_crash k l d) ⊎ Opens gateway base (after_crash k l d)) (sym there)
             (elim (compact_leaves gateway slot old generation in_use.0 base out.0 k l in_use.1 h.readable fits) [
-              | inl opens ↦ inl (opens.0 ∙ sym before, opens.1)
-              | inr opens ↦ inr (opens.0 ∙ append-nil base, opens.1)
+              | inl opens ↦ inl (opens.0 ∙ sym before, opens.1, opens.2)
+              | inr opens ↦ inr (opens.0 ∙ append-nil base, opens.1, opens.2)
             ])
       ]
 
@@ -146,7 +150,7 @@ module _ (gateway : ℕ) (slot : Slot) (generation next : ℕ) (halted : Bool) (
   pub compact_durable : new ≡ after_append None (emptied old (other slot)) (other slot) bytes → Leaves gateway new base
   compact_durable e = λ k l.
       let opens = used_leaves gateway (other slot) done (generation + 1) (whole_of base) used_now k l in
-      subst (λ (d : Slots). Opens gateway base (after_crash k l d)) (sym (now_is e)) (opens.0 ∙ append-nil base, opens.1)
+      subst (λ (d : Slots). Opens gateway base (after_crash k l d)) (sym (now_is e)) (opens.0 ∙ append-nil base, opens.1, opens.2)
 
 -- ---- an opening that changed nothing
 

@@ -13,7 +13,7 @@ use Rattle.jr_journal.specs.declared.opening.Opening.{Opening}
 use Rattle.jr_journal.specs.declared.opening.Opening.TheVariants.{New, Held}
 use Rattle.jr_journal.specs.Disk.{SlotBytes, Slots, Image, replaced, bytes_of, image, all_synced, left_of, after_crash}
 use Rattle.jr_journal.specs.Records.{new_journal, magic, made, begins, after_header, found, slot_content, chosen, records}
-use Rattle.jr_journal.specs.Faults.{slots_fault, fault_of}
+use Rattle.jr_journal.specs.Faults.{is_fresh, slots_fault, fault_of}
 use Rattle.jr_journal.specs.Opening.{synced_slots, IsOpening, IsPartly, OpensAlike, LeavesNoMore}
 use Rattle.jr_journal.proofs.Pieces.{found_nothing}
 use Rattle.jr_journal.proofs.Contents.{IsSealed, content_cut, content_whole, sealed_again}
@@ -47,12 +47,12 @@ crash_synced k l d =
     images (left_of k (all_synced d.first)) (bytes_of d.first) (left_of l (all_synced d.second)) (bytes_of d.second) (synced_left k d.first) (synced_left l d.second)
 
 alike : (gateway : ℕ) (i j : Image) → i ≡ j → OpensAlike gateway i j
-alike gateway i j e = (ap (λ x. records gateway x) e, ap (λ x. fault_of gateway x) e)
+alike gateway i j e = (ap (λ x. records gateway x) e, ap (λ x. fault_of gateway x) e, λ begun. ap is_fresh e ∙ begun)
 
 from_image : (gateway : ℕ) (old new : Slots) → ((k l : ℕ) → OpensAlike gateway (after_crash k l new) (image old)) → LeavesNoMore gateway old new
 from_image gateway old new h = λ k l.
     let all = alike gateway (image old) (after_crash (length old.first.unsynced) (length old.second.unsynced) old) (sym (crash_all old)) in
-    (length old.first.unsynced, (length old.second.unsynced, ((h k l).0 ∙ all.0, (h k l).1 ∙ all.1)))
+    (length old.first.unsynced, (length old.second.unsynced, ((h k l).0 ∙ all.0, (h k l).1 ∙ all.1, λ begun. (h k l).2 (all.2 begun))))
 
 pub same_leaves : (gateway : ℕ) (old new : Slots) → new ≡ old → LeavesNoMore gateway old new
 same_leaves gateway old new e = λ k l. (k, (l, alike gateway (after_crash k l new) (after_crash k l old) (ap (λ d. after_crash k l d) e)))
@@ -151,7 +151,8 @@ partly_leaves gateway old synced read new o e same h part =
   where
     go : (o : Opening) → IsOpening gateway (image old) o → IsPartly gateway o (synced_slots old) new → LeavesNoMore gateway old new
     go New here part =
-        let none : (image old).second ≡ [] = fresh_empty (image old) (ruled gateway (image old) New here).0 in
+        let fresh : is_fresh (image old) ≡ true = (ruled gateway (image old) New here).0 in
+        let none : (image old).second ≡ [] = fresh_empty (image old) fresh in
         elim part [
           | inl unchanged ↦ synced_leaves gateway old new unchanged
           | inr out ↦
@@ -159,6 +160,7 @@ partly_leaves gateway old synced read new o e same h part =
               let is : after_crash k l new ≡ after_crash k l (begun (synced_slots old) (take out.0 (new_journal gateway))) = ap (λ d. after_crash k l d) out.1 in (
                 ap (λ i. records gateway i) is ∙ (begun_leaves gateway old out.0 k l none ∙ opening_records gateway (image old) New here),
                 ap (λ i. fault_of gateway i) is ∙ (begun_sound gateway old out.0 k l none ∙ sym (opening_found gateway (image old) New here)),
+                λ begun. absurd (let clash : true ≡ false = sym fresh ∙ begun in cc),
               ))
         ]
     go (Held slot m f n) here part =
@@ -171,5 +173,6 @@ partly_leaves gateway old synced read new o e same h part =
               let there = recovered_leaves gateway (image old) (Held slot m f n) here k l in (
                 ap (λ i. records gateway i) same ∙ (there.0 ∙ opening_records gateway (image old) (Held slot m f n) here),
                 ap (λ i. fault_of gateway i) same ∙ (there.1 ∙ sym (opening_found gateway (image old) (Held slot m f n) here)),
+                λ begun. ap is_fresh same ∙ there.2,
               ))
         ]

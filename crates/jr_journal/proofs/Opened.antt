@@ -1,9 +1,8 @@
 -- What an opened journal is, by the image that was there.
-use Rattle.std.proofs.Common.{◌≡◌, ℕ, ◌+◌, ◌-◌, ◌<◌, ◌≤◌, Bool, true, false, cond, ◌&&◌, List, [], ◌∷◌, ◌++◌, length, take, drop, Some, None, refl, sym, ap, subst, ◌∙◌, inl, inr, arith}
+use Rattle.std.proofs.Common.{◌≡◌, ℕ, ◌+◌, ◌-◌, ◌≤◌, Bool, true, false, cond, List, [], ◌∷◌, ◌++◌, length, take, drop, Some, None, refl, sym, ap, subst, ◌∙◌, inl, inr, arith}
 use Rattle.std.specs.Prelude.{nat_lt}
 use Rattle.std.specs.Str.{bytes_eq}
-use Rattle.std.proofs.Math.ListN.{drop_of_length-le}
-use Rattle.std.proofs.lemmas.Bool.{cases_lt, cases_Bool, and_parts, le-ltb}
+use Rattle.std.proofs.lemmas.Bool.{cases_Bool, and_parts}
 use Rattle.std.proofs.lemmas.List.{append-nil, take_all, length-take, length-append, length-drop}
 use Rattle.std.proofs.lemmas.Slice.Eq.{bytes_eq-Decides}
 use Rattle.rep_ops.specs.declared.op.Op.{Op}
@@ -17,14 +16,14 @@ use Rattle.jr_journal.specs.declared.content.SlotContent.TheVariants.{Alien, Uns
 use Rattle.jr_journal.specs.declared.opening.Opening.{Opening}
 use Rattle.jr_journal.specs.declared.opening.Opening.TheVariants.{New, Held}
 use Rattle.jr_journal.specs.Disk.{SlotBytes, Slots, Image, at, replaced, bytes_of, image, cut_to}
-use Rattle.jr_journal.specs.Records.{new_journal, magic, piece_at, made, joined, one_seal, found, slot_content, generation_in, chosen, records}
+use Rattle.jr_journal.specs.Records.{new_journal, magic, piece_at, made, joined, one_seal, slot_content, generation_in, chosen, records}
 use Rattle.jr_journal.specs.Faults.{is_nil, is_fresh, slots_fault, fault_of}
 use Rattle.jr_journal.specs.Journals.{other, is_below, is_in_use, Leaves}
 use Rattle.jr_journal.specs.Opening.{synced_bytes, synced_image, synced_slots, reads_first, cut_end, recovered, slot_read, generation_read, opening_of, deltas_of, place_of, number_of, IsOpening, IsSized, settled, is_new}
 use Rattle.jr_journal.proofs.Pieces.{found_seal, found_nothing}
 use Rattle.jr_journal.proofs.Append.{found_inside}
 use Rattle.jr_journal.proofs.Contents.{IsSealed, sealed_shape, sealed_cut}
-use Rattle.jr_journal.proofs.Sound.{image_at, image_of, empty_unsealed, alone_sound, used_sound}
+use Rattle.jr_journal.proofs.Sound.{image_at, image_of, empty_unsealed, alone_sound, used_sound, not_fresh}
 use Rattle.jr_journal.proofs.Settled.{IsUsed, in_use_again, used_leaves, records_at}
 
 -- ---- what is to be done, by what the slots are
@@ -90,38 +89,9 @@ opening_found gateway i o h = h.0
 
 -- ---- fresh, or not
 
--- a sealed slot has its header and its seal
-sealed_long : (gateway : ℕ) (xs : List ℕ) (m : ℕ) (f : Found) → IsSealed gateway xs m f → 14 ≤ length xs
-sealed_long gateway xs m f h =
-    elim (cases_lt (length xs) 14) [
-      | inl lt ↦
-          let none : drop 13 xs ≡ [] = drop_of_length-le xs {i = 13} (omega arith) in
-          let flag : false ≡ f.sealed = ap (λ (r : Found). r.sealed) (sym (found_nothing 0 false) ∙ (ap (λ ys. found 0 false ys) (sym none) ∙ h.pieces)) in
-          absurd (let clash : false ≡ true = flag ∙ h.seal in cc)
-      | inr le ↦ le
-    ]
-
 nil_is : (xs : List ℕ) → is_nil xs ≡ true → xs ≡ []
 nil_is [] e = refl
 nil_is (x ∷ xs) e = absurd cc
-
-not_nil : (xs : List ℕ) → 0 < length xs → is_nil xs ≡ false
-not_nil [] lt = absurd (omega arith)
-not_nil (x ∷ xs) lt = refl
-
-and_not : (a b : Bool) → b ≡ false → (a && b) ≡ false
-and_not true b e = e
-and_not false b e = refl
-
-not_and : (a b : Bool) → a ≡ false → (a && b) ≡ false
-not_and true b e = absurd cc
-not_and false b e = refl
-
-pub not_fresh : (gateway : ℕ) (slot : Slot) (i : Image) (m : ℕ) (f : Found) → IsSealed gateway (image_at i slot) m f → is_fresh i ≡ false
-not_fresh gateway First i m f h = and_not (is_nil i.second) (nat_lt (length i.first) 14) (le-ltb (length i.first) 14 (sealed_long gateway i.first m f h))
-not_fresh gateway Second i m f h =
-    let long = sealed_long gateway i.second m f h in
-    not_and (is_nil i.second) (nat_lt (length i.first) 14) (not_nil i.second (omega arith))
 
 held_stale : (gateway : ℕ) (i : Image) (slot : Slot) (m : ℕ) (f : Found) → slot_content gateway (image_at i slot) ≡ Sealed m f → is_fresh i ≡ false
 held_stale gateway i slot m f e = not_fresh gateway slot i m f (sealed_shape gateway (image_at i slot) m f e)

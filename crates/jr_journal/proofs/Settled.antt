@@ -15,7 +15,7 @@ use Rattle.jr_journal.specs.Journals.{other, is_below, leads, is_settled, is_in_
 use Rattle.jr_journal.specs.Faults.{is_nil, fault_of}
 use Rattle.jr_journal.proofs.Append.{found_written, found_front, length_written}
 use Rattle.jr_journal.proofs.Contents.{IsSealed, IsFull, sealed_shape, sealed_again, sealed_more}
-use Rattle.jr_journal.proofs.Sound.{image_at, none_is, is_none_at, more_sound, replaced_sound}
+use Rattle.jr_journal.proofs.Sound.{image_at, none_is, is_none_at, more_sound, replaced_sound, not_fresh}
 
 -- ---- which slot is read
 
@@ -144,12 +144,13 @@ clean_all d k l a b =
 
 pub used_leaves : (gateway : ℕ) (slot : Slot) (d : Slots) (m : ℕ) (f : Found) → IsUsed gateway slot d m f → Leaves gateway d f.deltas
 used_leaves gateway slot d m f h = λ k l.
+    let sealed : IsSealed gateway (image_at (after_crash k l d) slot) m f =
+    sealed_at gateway (at d slot).synced (image_at (after_crash k l d) slot) m f (clean_crash slot d k l h.first_clean h.second_clean) h.sealed in
     let now : records gateway (after_crash k l d) ≡ f.deltas =
-    records_at gateway slot (after_crash k l d) m f
-    (sealed_at gateway (at d slot).synced (image_at (after_crash k l d) slot) m f (clean_crash slot d k l h.first_clean h.second_clean) h.sealed)
+    records_at gateway slot (after_crash k l d) m f sealed
     (below_at gateway (at d (other slot)).synced (image_at (after_crash k l d) (other slot)) m (clean_crash (other slot) d k l h.first_clean h.second_clean) h.below) in
     let sound : fault_of gateway (after_crash k l d) ≡ None = ap (λ i. fault_of gateway i) (clean_all d k l h.first_clean h.second_clean) ∙ h.sound in
-    (now, sound)
+    (now, sound, not_fresh gateway slot (after_crash k l d) m f sealed)
 
 pub used_records : (gateway : ℕ) (slot : Slot) (d : Slots) (m : ℕ) (f : Found) → IsUsed gateway slot d m f → records gateway (image d) ≡ f.deltas
 used_records gateway slot d m f h =
@@ -205,9 +206,10 @@ more_leaves gateway slot d m f delta w h readable = λ k l.
     records_at gateway slot (after_crash k l new) m s.0 sealed
     (below_at gateway (at d (other slot)).synced (image_at (after_crash k l new) (other slot)) m c.2 h.below) in
     let before : f.deltas ≡ records gateway (image d) = sym (used_records gateway slot d m f h) in
+    let begun = not_fresh gateway slot (after_crash k l new) m s.0 sealed in
     elim s.2 [
-      | inl same ↦ inl (now ∙ (same ∙ before), sound)
-      | inr longer ↦ inr (now ∙ (longer ∙ ap (λ xs. xs ++ delta ∷ []) before), sound)
+      | inl same ↦ inl (now ∙ (same ∙ before), sound, begun)
+      | inr longer ↦ inr (now ∙ (longer ∙ ap (λ xs. xs ++ delta ∷ []) before), sound, begun)
     ]
 
 -- ---- and synced

@@ -1,6 +1,8 @@
--- When there is no fault in two slots, either of which may be in use.
-use Rattle.std.proofs.Common.{◌≡◌, ℕ, Bool, true, false, cond, List, [], length, Option, Some, None, refl, sym, ap, ◌∙◌}
+-- When there is no fault in two slots, either of which may be in use; and when there is a journal.
+use Rattle.std.proofs.Common.{◌≡◌, ℕ, ◌<◌, ◌≤◌, Bool, true, false, cond, ◌&&◌, List, [], ◌∷◌, length, drop, Option, Some, None, refl, sym, ap, ◌∙◌, inl, inr, arith}
 use Rattle.std.specs.Prelude.{nat_lt}
+use Rattle.std.proofs.Math.ListN.{drop_of_length-le}
+use Rattle.std.proofs.lemmas.Bool.{cases_lt, le-ltb}
 use Rattle.jr_journal.specs.declared.disk.Slot.{Slot}
 use Rattle.jr_journal.specs.declared.disk.Slot.TheVariants.{First, Second}
 use Rattle.jr_journal.specs.declared.fault.JournalFault.{JournalFault}
@@ -9,9 +11,10 @@ use Rattle.jr_journal.specs.declared.piece.Found.{Found}
 use Rattle.jr_journal.specs.declared.content.SlotContent.{SlotContent}
 use Rattle.jr_journal.specs.declared.content.SlotContent.TheVariants.{Alien, Unsealed, Sealed, Broken}
 use Rattle.jr_journal.specs.Disk.{SlotBytes, Slots, Image, at, replaced, synced_part}
-use Rattle.jr_journal.specs.Records.{slot_content}
-use Rattle.jr_journal.specs.Faults.{is_none, is_fresh, slots_fault, fault_of}
+use Rattle.jr_journal.specs.Records.{found, slot_content}
+use Rattle.jr_journal.specs.Faults.{is_nil, is_none, is_fresh, slots_fault, fault_of}
 use Rattle.jr_journal.specs.Journals.{other, is_below}
+use Rattle.jr_journal.proofs.Pieces.{found_nothing}
 use Rattle.jr_journal.proofs.Contents.{IsSealed, sealed_again}
 
 abbrev pub image_at : Image → Slot → List ℕ
@@ -110,3 +113,34 @@ below_beside (Broken from) m f x e = absurd cc
 pub used_sound : (gateway : ℕ) (slot : Slot) (i : Image) (m : ℕ) (f : Found) → IsSealed gateway (image_at i slot) m f → is_below (slot_content gateway (image_at i (other slot))) m ≡ true → fault_of gateway i ≡ None
 used_sound gateway First i m f h e = ap (λ a. slots_fault a (slot_content gateway i.second) (is_fresh i)) (sealed_again gateway i.first m f h) ∙ beside_below (slot_content gateway i.second) m f (is_fresh i) e
 used_sound gateway Second i m f h e = ap (λ b. slots_fault (slot_content gateway i.first) b (is_fresh i)) (sealed_again gateway i.second m f h) ∙ below_beside (slot_content gateway i.first) m f (is_fresh i) e
+
+-- ---- a sealed slot in either place
+
+-- a sealed slot has its header and its seal
+sealed_long : (gateway : ℕ) (xs : List ℕ) (m : ℕ) (f : Found) → IsSealed gateway xs m f → 14 ≤ length xs
+sealed_long gateway xs m f h =
+    elim (cases_lt (length xs) 14) [
+      | inl lt ↦
+          let none : drop 13 xs ≡ [] = drop_of_length-le xs {i = 13} (omega arith) in
+          let flag : false ≡ f.sealed = ap (λ (r : Found). r.sealed) (sym (found_nothing 0 false) ∙ (ap (λ ys. found 0 false ys) (sym none) ∙ h.pieces)) in
+          absurd (let clash : false ≡ true = flag ∙ h.seal in cc)
+      | inr le ↦ le
+    ]
+
+not_nil : (xs : List ℕ) → 0 < length xs → is_nil xs ≡ false
+not_nil [] lt = absurd (omega arith)
+not_nil (x ∷ xs) lt = refl
+
+and_not : (a b : Bool) → b ≡ false → (a && b) ≡ false
+and_not true b e = e
+and_not false b e = refl
+
+not_and : (a b : Bool) → a ≡ false → (a && b) ≡ false
+not_and true b e = absurd cc
+not_and false b e = refl
+
+pub not_fresh : (gateway : ℕ) (slot : Slot) (i : Image) (m : ℕ) (f : Found) → IsSealed gateway (image_at i slot) m f → is_fresh i ≡ false
+not_fresh gateway First i m f h = and_not (is_nil i.second) (nat_lt (length i.first) 14) (le-ltb (length i.first) 14 (sealed_long gateway i.first m f h))
+not_fresh gateway Second i m f h =
+    let long = sealed_long gateway i.second m f h in
+    not_and (is_nil i.second) (nat_lt (length i.first) 14) (not_nil i.second (omega arith))

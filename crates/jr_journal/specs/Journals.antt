@@ -11,7 +11,7 @@ use Rattle.jr_journal.specs.declared.content.SlotContent.{SlotContent}
 use Rattle.jr_journal.specs.declared.content.SlotContent.TheVariants.{Alien, Unsealed, Sealed, Broken}
 use Rattle.jr_journal.specs.Disk.{Slots, Image, at, replaced, cut_to, synced_part, appended, all_synced, EachCrash}
 use Rattle.jr_journal.specs.Records.{records, slot_content, generation_in}
-use Rattle.jr_journal.specs.Faults.{is_nil, is_none, fault_of}
+use Rattle.jr_journal.specs.Faults.{is_nil, is_none, is_fresh, fault_of}
 
 -- ---- the slot in use
 
@@ -47,9 +47,9 @@ is_in_use gateway slot generation d =
 
 -- ---- crashes
 
--- an opening finds these records and no fault
+-- an opening finds these records and no fault, and begins no journal
 abbrev pub Opens : ℕ → List (List Op) → Image → Type 0
-Opens gateway deltas i = (records gateway i ≡ deltas) × (fault_of gateway i ≡ None)
+Opens gateway deltas i = (records gateway i ≡ deltas) × (fault_of gateway i ≡ None) × (is_fresh i ≡ false)
 
 -- a crash now leaves a journal of these records and no others
 abbrev pub Leaves : ℕ → Slots → List (List Op) → Type 0

@@ -135,9 +135,11 @@ abbrev pub IsPartly : ℕ → Opening → Slots → Slots → Type 0
 IsPartly gateway New old new = IsBegun gateway old new
 IsPartly gateway (Held slot m f size) old new = (new ≡ old) ⊎ (new ≡ replaced old slot (cut_to (at old slot) (13 + f.whole)))
 
--- an opening finds the same in both: the same records and the same fault, if any
+-- an opening finds the same in both: the same records and the same fault, if any; and where it begins no journal in the second, it
+-- begins none in the first
 abbrev pub OpensAlike : ℕ → Image → Image → Type 0
-OpensAlike gateway i j = (records gateway i ≡ records gateway j) × (fault_of gateway i ≡ fault_of gateway j)
+OpensAlike gateway i j =
+    (records gateway i ≡ records gateway j) × (fault_of gateway i ≡ fault_of gateway j) × (is_fresh j ≡ false → is_fresh i ≡ false)
 
 -- whatever a crash leaves now, a crash before would have left what opens alike
 abbrev pub LeavesNoMore : ℕ → Slots → Slots → Type 0

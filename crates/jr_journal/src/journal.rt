@@ -268,12 +268,23 @@ impl<D: Disk + Drop> Journal<D> {
 
 impl Journal<MemoryDisk> {
     ghost use Rattle.std.specs.Prelude.{◌≡◌};
-    ghost use Rattle.jr_journal.specs.Parts.{disk_of};
+    ghost use Rattle.jr_journal.specs.Memory.{failing};
+    ghost use Rattle.jr_journal.specs.Parts.{disk_of, gateway_of, slot_of, generation_of, is_halted as is_stopped};
 
     /// Whether memory was refused in the disk.
     pub fn starved(&self) -> bool
         ensures { result ≡ (disk_of self.now).starved }
     {
         self.disk.starved()
+    }
+
+    /// Arranges a failure on its disk, in place of one that was arranged before, and changes nothing else: the next append
+    /// goes out and its sync fails, or the next append stops after so many bytes.
+    pub fn fail_next(&mut self, bytes: usize, sync: bool)
+        ensures disk { disk_of self.new ≡ failing bytes sync (disk_of self.old) }
+        ensures same { (gateway_of self.new ≡ gateway_of self.old) × (slot_of self.new ≡ slot_of self.old) × (generation_of self.new ≡ generation_of self.old) }
+        ensures halted { is_stopped self.new ≡ is_stopped self.old }
+    {
+        self.disk.fail_next(bytes, sync);
     }
 }

@@ -63,6 +63,7 @@ returns-in-Err-write_if_made g c =
     rw told (given_up (state_of g.R.Replica.kept c.args.node.now)
     (record { config = c.args.node.now.config; kept = g.R.Replica.kept c.prepare-2.new.replica; local = c.prepare.new.self.local; journal = c.write_if_made.new.journal; records = c.args.node.now.records })
     c.args.plan c.args.excuse delta c.in-Err-write_if_made.fault c.requires.some c.requires.excuse
+    (subst AreApart c.into_vec.ensures c.in-Ok.ensures.apart)
     (subst (λ (ops : List Op). IsDeltaOf ops delta) c.into_vec.ensures c.in-Ok.ensures.ok)
-    c.in_ok-staged.ensures.fits refl c.prepare-2.ensures.unchanged c.prepare.ensures.unchanged refl
+    c.in-Ok.ensures.limit c.in_ok-staged.ensures.fits refl c.prepare-2.ensures.unchanged c.prepare.ensures.unchanged refl
     (subst (λ (made : Option (List Op)). WrittenIfMade c.args.node.now.journal made (Err c.in-Err-write_if_made.fault) c.write_if_made.new.journal) given_is c.in-Err-write_if_made.ensures))
