@@ -1,6 +1,7 @@
 -- A line is read in one way.
-use Rattle.std.proofs.Common.{◌≡◌, ℕ, true, false, cond, List, [], ◌∷◌, Option, Some, None, refl, ap, sym, subst, ◌∙◌, ◌⊎◌, inl, inr, Bor, map, get_or}
+use Rattle.std.proofs.Common.{◌≡◌, Bool, ℕ, true, false, cond, List, [], ◌∷◌, Option, Some, None, refl, ap, sym, subst, ◌∙◌, ◌⊎◌, inl, inr, Bor, map, get_or}
 use Rattle.std.specs.Prelude.{Result, Ok, Err, codes}
+use Rattle.std.specs.Prelude.{◌≢◌}
 use Rattle.std.specs.Str.{bytes_eq, all_ascii_digits}
 use Rattle.gw_play.specs.declared.command.Command.{Command}
 use Rattle.gw_play.specs.declared.command.Word.{Word}
@@ -9,7 +10,7 @@ use Rattle.gw_play.specs.declared.fault.LineFault.{LineFault}
 use Rattle.gw_play.specs.declared.fault.LineFault.TheVariants as faults
 use Rattle.gw_world.specs.declared.event.Event.TheVariants as events
 use Rattle.gw_play.specs.declared.command.Command.TheVariants as commands
-use Rattle.gw_play.specs.Commands.{fields_of, text_of, IsAddress, IsSpared, Says, Spells, Reads}
+use Rattle.gw_play.specs.Commands.{fields_of, text_of, IsAddress, IsFailure, IsSpared, Says, Spells, Reads}
 use Rattle.gw_play.specs.Numbers.{IsNumber, value_of}
 use Rattle.gw_play.specs.Octets.{IsHex}
 use Rattle.sn_topic.specs.Topics.{IsName}
@@ -26,9 +27,10 @@ word_at text =
     cond (bytes_eq text (codes "take")) (Some words.Take) (
     cond (bytes_eq text (codes "predefine")) (Some words.Predefine) (
     cond (bytes_eq text (codes "answer")) (Some words.Answer) (
+    cond (bytes_eq text (codes "fail")) (Some words.Fail) (
     cond (bytes_eq text (codes "compact")) (Some words.Compact) (
     cond (bytes_eq text (codes "restart")) (Some words.Restart) (
-    cond (bytes_eq text (codes "show")) (Some words.Show) None))))))))
+    cond (bytes_eq text (codes "show")) (Some words.Show) None)))))))))
 
 word_at-text : (word : Word) → word_at (text_of word) ≡ Some word
 word_at-text words.Gateway = refl
@@ -37,6 +39,7 @@ word_at-text words.Frame = refl
 word_at-text words.Tick = refl
 word_at-text words.Take = refl
 word_at-text words.Answer = refl
+word_at-text words.Fail = refl
 word_at-text words.Compact = refl
 word_at-text words.Restart = refl
 word_at-text words.Show = refl
@@ -101,6 +104,35 @@ one_hex a b x y same (inl p) (inr q) = let e : decode_of b ≡ Err OddLength = a
 one_hex a b x y same (inr p) (inl q) = let e : decode_of a ≡ Err OddLength = ap decode_of (same ∙ q.0) in let f = p.1 in cc
 one_hex a b x y same (inr p) (inr q) = let e = p.1 in let f = q.1 in let d = ap decode_of same in cc
 
+-- where the second field does not say how the next write fails, the fields arrange nothing
+pub no_failure : (fields : List (Bor (List ℕ))) (d : Bor (List ℕ)) → ((bytes : ℕ) (sync : Bool) → IsFailure (get_or fields 1 d).now bytes sync → ⊥)
+    → (command : Command) → Says words.Fail (map (λ (field : Bor (List ℕ)). field.now) fields) command → ⊥
+no_failure (a ∷ b ∷ []) d none (commands.Happens (events.WriteFails gateway bytes sync)) said = none bytes sync said.1
+no_failure (a ∷ b ∷ []) d none command said = said
+no_failure fields d none command said = said
+
+-- `sync` writes no number
+sync_digits : all_ascii_digits (codes "sync") ≡ false
+sync_digits = refl
+
+no_count : (a : List ℕ) (bits n : ℕ) → a ≡ codes "sync" → IsNumber bits a n → ⊥
+no_count a bits n is p =
+    let digits : all_ascii_digits a ≡ true = p.0.1 in
+    let none : all_ascii_digits a ≡ false = ap all_ascii_digits is ∙ sync_digits in
+    let clash : false ≡ true = sym none ∙ digits in cc
+
+-- a text that is not `sync` and no number says no failure
+pub says_no_failure : (text : List ℕ) → text ≢ codes "sync" → ((n : ℕ) → IsNumber 64 text n → ⊥) → (bytes : ℕ) (sync : Bool) → IsFailure text bytes sync → ⊥
+says_no_failure text other none bytes true h = other h.0
+says_no_failure text other none bytes false h = none bytes h
+
+-- one failure is said
+one_failure : (a b : List ℕ) (m n : ℕ) (s t : Bool) → a ≡ b → IsFailure a m s → IsFailure b n t → (m ≡ n) × (s ≡ t)
+one_failure a b m n true true same p q = (p.1 ∙ sym q.1, refl)
+one_failure a b m n true false same p q = absurd (no_count b 64 n (sym same ∙ p.0) q)
+one_failure a b m n false true same p q = absurd (no_count a 64 m (same ∙ q.0) p)
+one_failure a b m n false false same p q = (one_number 64 a b m n same p q, refl)
+
 -- `all` writes no number
 all_digits : all_ascii_digits (codes "all") ≡ false
 all_digits = refl
@@ -155,6 +187,11 @@ compact_says : (fields : List (List ℕ)) (c : Command) → Says words.Compact f
     → (text : List ℕ) × (g : ℕ) × (fields ≡ text ∷ []) × (c ≡ commands.Happens (events.Compact g)) × IsNumber 8 text g
 compact_says (text ∷ []) (commands.Happens (events.Compact g)) said = (text, g, refl, refl, said)
 compact_says fields c said = absurd said
+
+fail_says : (fields : List (List ℕ)) (c : Command) → Says words.Fail fields c
+    → (a b : List ℕ) × (g bytes : ℕ) × (sync : Bool) × (fields ≡ a ∷ b ∷ []) × (c ≡ commands.Happens (events.WriteFails g bytes sync)) × IsNumber 8 a g × IsFailure b bytes sync
+fail_says (a ∷ b ∷ []) (commands.Happens (events.WriteFails g bytes sync)) said = (a, b, g, bytes, sync, refl, refl, said.0, said.1)
+fail_says fields c said = absurd said
 
 restart_says : (fields : List (List ℕ)) (c : Command) → Says words.Restart fields c
     → (a b : List ℕ) × (g k : ℕ) × (fields ≡ a ∷ b ∷ []) × (c ≡ commands.Happens (events.Restart g k)) × IsNumber 8 a g × IsSpared b k
@@ -217,6 +254,14 @@ one_saying words.Compact fields c d p q =
     let y = compact_says fields d q in
     let e = x.2 in let f = y.2 in let h = x.3 in let k = y.3 in
     let g : x.1 ≡ y.1 = one_number 8 x.0 y.0 x.1 y.1 (cc) x.4 y.4 in cc
+one_saying words.Fail fields c d p q =
+    let x = fail_says fields c p in
+    let y = fail_says fields d q in
+    let e = x.5 in let f = y.5 in let h = x.6 in let k = y.6 in
+    let g : x.2 ≡ y.2 = one_number 8 x.0 y.0 x.2 y.2 (cc) x.7 y.7 in
+    let how = one_failure x.1 y.1 x.3 y.3 x.4 y.4 (cc) x.8 y.8 in
+    let bytes : x.3 ≡ y.3 = how.0 in
+    let sync : x.4 ≡ y.4 = how.1 in cc
 one_saying words.Restart fields c d p q =
     let x = restart_says fields c p in
     let y = restart_says fields d q in

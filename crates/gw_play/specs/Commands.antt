@@ -1,5 +1,5 @@
 -- The lines of a script.
-use Rattle.std.specs.Prelude.{◌≡◌, ℕ, ◌-◌, ◌^◌, ◌==◌, ◌⊎◌, List, [], ◌∷◌, codes, Result, Ok, Err}
+use Rattle.std.specs.Prelude.{◌≡◌, Bool, true, false, ℕ, ◌-◌, ◌^◌, ◌==◌, ◌⊎◌, List, [], ◌∷◌, codes, Result, Ok, Err}
 use Rattle.std.specs.List.{slice_split}
 use Rattle.sn_flow.specs.declared.config.Addr.{Addr}
 use Rattle.gw_world.specs.declared.event.Event.TheVariants as events
@@ -29,6 +29,7 @@ text_of words.Frame = codes "frame"
 text_of words.Tick = codes "tick"
 text_of words.Take = codes "take"
 text_of words.Answer = codes "answer"
+text_of words.Fail = codes "fail"
 text_of words.Compact = codes "compact"
 text_of words.Restart = codes "restart"
 text_of words.Show = codes "show"
@@ -41,6 +42,11 @@ IsAddress text address = (address.host ≡ 0) × IsNumber 16 text address.port
 abbrev pub IsSpared : List ℕ → ℕ → Type 0
 IsSpared text keep = ((text ≡ codes "all") × (keep ≡ 2 ^ 64 - 1)) ⊎ IsNumber 64 text keep
 
+-- the text says how the next write fails: its sync does, or it stops after so many bytes
+abbrev pub IsFailure : List ℕ → ℕ → Bool → Type 0
+IsFailure text bytes true = (text ≡ codes "sync") × (bytes ≡ 0)
+IsFailure text bytes false = IsNumber 64 text bytes
+
 -- behind this word, the fields say the command
 abbrev pub Says : Word → List (List ℕ) → Command → Type 0
 Says words.Gateway (number ∷ []) (commands.Gateway g) = IsNumber 8 number g
@@ -51,6 +57,7 @@ Says words.Frame (gateway ∷ address ∷ moment ∷ octets ∷ []) (commands.Ha
 Says words.Tick (gateway ∷ moment ∷ []) (commands.Happens (events.Tick g now)) = IsNumber 8 gateway g × IsNumber 64 moment now
 Says words.Take (gateway ∷ delta ∷ []) (commands.Happens (events.Take g d)) = IsNumber 8 gateway g × IsNumber 64 delta d
 Says words.Answer (gateway ∷ peer ∷ []) (commands.Happens (events.Answer g p)) = IsNumber 8 gateway g × IsNumber 8 peer p
+Says words.Fail (gateway ∷ failure ∷ []) (commands.Happens (events.WriteFails g bytes sync)) = IsNumber 8 gateway g × IsFailure failure bytes sync
 Says words.Compact (gateway ∷ []) (commands.Happens (events.Compact g)) = IsNumber 8 gateway g
 Says words.Restart (gateway ∷ bytes ∷ []) (commands.Happens (events.Restart g keep)) = IsNumber 8 gateway g × IsSpared bytes keep
 Says words.Show (gateway ∷ []) (commands.Happens (events.Show g)) = IsNumber 8 gateway g

@@ -124,6 +124,7 @@ abbrev pub answer_text : ℕ → Answer → List ℕ
 answer_text before (answers.Node answer) = said_text before (said answer)
 answer_text before (answers.Views views) = views_text views
 answer_text before (answers.Records count) = records_line count
+answer_text before answers.Nothing = []
 
 -- how many deltas there are behind it
 abbrev pub deltas_behind : ℕ → Result Out Refusal → ℕ
@@ -134,6 +135,7 @@ abbrev pub deltas_after : ℕ → Answer → ℕ
 deltas_after before (answers.Node answer) = deltas_behind before (said answer)
 deltas_after before (answers.Views views) = before
 deltas_after before (answers.Records count) = before
+deltas_after before answers.Nothing = before
 
 -- answers in their order
 abbrev pub answers_text : ℕ → List Answer → List ℕ

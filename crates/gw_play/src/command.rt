@@ -1,9 +1,9 @@
 //! What a line says.
 
-ghost use Rattle.std.specs.Prelude.{◌≡◌, ◌≢◌, ◌==◌, ◌⊎◌, ℕ, Err, IfOk, MatchOption, map};
+ghost use Rattle.std.specs.Prelude.{◌≡◌, ◌≢◌, ◌==◌, ◌⊎◌, ℕ, Bool, Err, IfOk, MatchOption, map};
 ghost use Rattle.std.specs.List.{slice_split};
 ghost use Rattle.gw_play.specs.declared.command.Word.TheVariants as words;
-ghost use Rattle.gw_play.specs.Commands.{IsSpared, Reads, Says, Spells};
+ghost use Rattle.gw_play.specs.Commands.{IsFailure, IsSpared, Reads, Says, Spells};
 ghost use Rattle.sn_topic.specs.Topics.{IsName};
 
 use super::bytes::bytes;
@@ -46,6 +46,8 @@ pub enum Word {
     Take,
     /// A digest goes to another gateway.
     Answer,
+    /// The next write of a journal is to fail.
+    Fail,
     /// A journal is written anew.
     Compact,
     /// A gateway stops, and is opened again.
@@ -69,6 +71,7 @@ impl Word {
             b"tick" => Some(Word::Tick),
             b"take" => Some(Word::Take),
             b"answer" => Some(Word::Answer),
+            b"fail" => Some(Word::Fail),
             b"compact" => Some(Word::Compact),
             b"restart" => Some(Word::Restart),
             b"show" => Some(Word::Show),
@@ -111,6 +114,7 @@ fn say(alloc: Global, word: Word, fields: &[&[u8]]) -> Result<Command, LineFault
         Word::Tick => tick(fields),
         Word::Take => take(fields),
         Word::Answer => answer(fields),
+        Word::Fail => fail(fields),
         Word::Compact => compact(fields),
         Word::Restart => restart(fields),
         Word::Show => show(fields),
@@ -225,6 +229,39 @@ fn answer(fields: &[&[u8]]) -> Result<Command, LineFault>
     match (number_u8(gateway), number_u8(peer)) {
         (Some(gateway), Some(peer)) => Ok(Command::Happens(Event::Answer { gateway, peer })),
         _ => Err(LineFault::NotACommand),
+    }
+}
+
+/// How the next write fails: after so many bytes, or in its sync.
+fn failure(text: &[u8]) -> Option<(u64, bool)>
+    ensures { MatchOption result ((bytes : ℕ) (sync : Bool) → ¬ (IsFailure text.now bytes sync)) (λ said. IsFailure text.now said.0 said.1) }
+{
+    if text == b"sync".as_slice() {
+        return Some((0, true));
+    }
+    match number(text) {
+        Some(bytes) => Some((bytes, false)),
+        None => None,
+    }
+}
+
+/// What the fields behind `fail` say.
+fn fail(fields: &[&[u8]]) -> Result<Command, LineFault>
+    ensures { Reads (Says words.Fail (map (λ field. field.now) fields.now)) result }
+{
+    let [gateway, how] = fields else {
+        return Err(LineFault::NotACommand);
+    };
+    let Some(gateway) = number_u8(gateway) else {
+        return Err(LineFault::NotACommand);
+    };
+    match failure(how) {
+        Some((bytes, sync)) => Ok(Command::Happens(Event::WriteFails {
+            gateway,
+            bytes,
+            sync,
+        })),
+        None => Err(LineFault::NotACommand),
     }
 }
 

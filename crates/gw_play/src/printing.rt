@@ -52,6 +52,7 @@ fn print_answer(
             print_records(text, *count)?;
             Ok(before)
         }
+        Answer::Nothing => Ok(before),
     }
 }
 
