@@ -24,7 +24,7 @@ use Rattle.jr_journal.specs.declared.content.SlotContent.{SlotContent}
 use Rattle.jr_journal.specs.Records.{written, base_bytes, records, slot_content}
 use Rattle.jr_journal.specs.Faults.{is_fresh, fault_of}
 use Rattle.jr_journal.specs.Disk.{Slots, SlotBytes, Image, image, bytes_of, appended, left_of, after_crash, EachCrash}
-use Rattle.jr_journal.specs.Memory.{MemoryState, crashed_disk, failing as failing_disk}
+use Rattle.jr_journal.specs.Memory.{MemoryState, empty_disk, crashed_disk, failing as failing_disk}
 use Rattle.jr_journal.specs.Opening.{recovered, reads_first, is_quiet}
 use Rattle.jr_journal.specs.Journals.{other, emptied, after_append, last_generation, AppendedAs, Opens}
 use Rattle.jr_journal.specs.Parts.{disk_of, slot_of, generation_of, gateway_of}
@@ -44,7 +44,7 @@ use Rattle.gw_node.specs.Keeping.{Keeps}
 use Rattle.gw_node.specs.Opening.{IsStarted, GoesOnIn, IsOpenFault, IsDiskFault}
 use Rattle.gw_node.specs.Taking.{ops_of, on_disk, IsBetween, IsWhole, StandsFor, HasTaken}
 use Rattle.gw_node.proofs.Started.{wants_memory}
-use Rattle.gw_node.proofs.Taken.{StandFor, MayFollow, before, follow, taken_then, opened}
+use Rattle.gw_node.proofs.Taken.{StandFor, MayFollow, stands_at, records_stand, taken_then, opened}
 use Rattle.gw_world.specs.Gateways.{new_gateway, with_refused}
 use Rattle.gw_world.specs.Drives.{Drive, opened as opened_in, new_drive, GoesOut, with_record, noted, torn, generation, compacted, torn_base, arranged, left_by, opened_again, has_more}
 use Rattle.gw_world.specs.Keeping.{IsSynced, Lasts}
@@ -290,7 +290,9 @@ module _ {D : Type 0} {G : Ghosts D} where
         planned = m.1;
         drive = same_parts (drive_of new) (torn m.0 delta (drive_of old)) m.2 w.slot w.halts (ap known_plan m.3);
         lasts = λ S agrees l.
-            let may = follow old S delta agrees is fits (to_taken old calm S calm.begun l) honest in
+            let taken = to_taken old calm S calm.begun l in
+            let now = records_stand (gateway_of old.journal) S [] (image (G.slots (disk_of old.journal))) (stands_at (gateway_of old.journal) S [] (G.slots (disk_of old.journal)) (taken.images honest)) in
+            let may : MayFollow S old.kept delta (on_disk old) = record { agrees = agrees; delta = is; counts = l.counts; fits = fits; now = now } in
             record {
               counts = subst (λ (K : List Op). CountsAs S K) (sym kept) l.counts;
               synced = λ goes. absurd (true≢false (sym w.halts ∙ goes));
@@ -596,6 +598,10 @@ module _ {D : Type 0} {G : Ghosts D} where
 
 pub crash_left : (left : ℕ) (d : MemoryState) → image (crashed_disk left d).slots ≡ after_crash left left d.slots
 crash_left left d = λ j. record { first = append-nil (left_of left d.slots.first) j; second = append-nil (left_of left d.slots.second) j }
+
+-- on an empty disk nothing is arranged
+pub unplanned : (d : MemoryState) (fresh : Bool) → d ≡ empty_disk → IsTrue (is_quiet (Some d.plan) fresh)
+unplanned d fresh e = subst (λ (x : MemoryState). IsTrue (is_quiet (Some x.plan) fresh)) (sym e) refl
 
 -- no opening meets what is arranged for an append, where it begins no journal
 stays_quiet : (outlook : Option (Option Plan)) → IsTrue (is_quiet outlook false) → (fresh : Bool) → fresh ≡ false → IsTrue (is_quiet outlook fresh)

@@ -27,7 +27,7 @@ flat-all P f [] h = tt
 flat-all P f (x ∷ xs) h = (all-left P (f x) (flat_map f xs) h, flat-all P f xs (all-right P (f x) (flat_map f xs) h))
 
 -- after the gateway at i became next, each is next or as it was
-set-cases : (i j : ℕ) (gs : List Gateway) (next gateway : Gateway) → slice_get (set gs i next) j ≡ Some gateway → (gateway ≡ next) ⊎ (slice_get gs j ≡ Some gateway)
+pub set-cases : (i j : ℕ) (gs : List Gateway) (next gateway : Gateway) → slice_get (set gs i next) j ≡ Some gateway → (gateway ≡ next) ⊎ (slice_get gs j ≡ Some gateway)
 set-cases i j [] next gateway e = absurd (none-some gateway e)
 set-cases zero zero (g ∷ gs) next gateway e = inl (sym (same_Some next gateway e))
 set-cases zero (suc j) (g ∷ gs) next gateway e = inr e

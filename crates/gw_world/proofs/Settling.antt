@@ -109,11 +109,11 @@ after-listed old (Restart number kept) Nothing new h well w = absurd h
 after-listed old (Show number) Nothing new h well w = absurd h
 
 run-listed : (old : Field) (events : List Event) (answers : List Answer) (new : Field) → Run old events answers new → AllByRecursion (λ event. ¬ (Arranges event)) events → AreWell old → AreListed old → AreListed new
-run-listed old [] [] new h no well w = subst AreListed (sym h) w
-run-listed old (event ∷ events) (answer ∷ answers) new h no well w =
-    run-listed h.0 events answers new h.2 no.1 (after-well old event answer h.0 h.1 no.0 well) (after-listed old event answer h.0 h.1 well w)
-run-listed old [] (answer ∷ answers) new h no well w = absurd h
-run-listed old (event ∷ events) [] new h no well w = absurd h
+run-listed old [] [] new h never well w = subst AreListed (sym h) w
+run-listed old (event ∷ events) (answer ∷ answers) new h never well w =
+    run-listed h.0 events answers new h.2 never.1 (after-well old event answer h.0 h.1 never.0 well) (after-listed old event answer h.0 h.1 well w)
+run-listed old [] (answer ∷ answers) new h never well w = absurd h
+run-listed old (event ∷ events) [] new h never well w = absurd h
 
 start-listed : (configs : List Config) → AreListed (new_field configs)
 start-listed configs = record {

@@ -102,7 +102,7 @@ made-moves old plan (op ∷ ops) (Some delta) new made p e h = inr (record {
   one = h.3;
 })
 
-plan-drafted : (old : Gateway) (occasion : Occasion) (now : ℕ) (plan : Plan) → IsPlan old occasion now (Some plan) → IsOfDraft old.config.gateway (seen_of old.taken) plan
+pub plan-drafted : (old : Gateway) (occasion : Occasion) (now : ℕ) (plan : Plan) → IsPlan old occasion now (Some plan) → IsOfDraft old.config.gateway (seen_of old.taken) plan
 plan-drafted old (Datagram from bytes) now plan h = step-drafted old.config.gateway old.config.predefined old.taken old.local from h.0 now plan h.3
 plan-drafted old Clock now plan h = tick-drafted old.config.gateway old.config.advertise old.config.field old.config.predefined old.taken old.local now plan h
 

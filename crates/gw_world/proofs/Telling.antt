@@ -18,6 +18,7 @@ use Rattle.gw_world.specs.declared.event.Answer.{Answer}
 use Rattle.gw_world.specs.declared.event.Answer.TheVariants.{Node, Views, Records, Nothing}
 use Rattle.gw_node.specs.declared.out.Out.{Out}
 use Rattle.gw_node.specs.declared.refusal.Refusal.{Refusal}
+use Rattle.gw_node.specs.declared.refusal.Refusal.TheVariants as refusals
 use Rattle.gw_node.specs.Parts.{said}
 use Rattle.gw_node.specs.Occasions.{Occasion, Datagram, Clock}
 use Rattle.gw_world.specs.Gateways.{Gateway}
@@ -221,7 +222,7 @@ after-makes old new (WriteFails number bytes sync) (Views views) delta h there =
 after-makes old new (WriteFails number bytes sync) (Records count) delta h there = absurd h
 after-makes old new (Frame number from bytes now) Nothing delta h there = tt
 after-makes old new (Tick number now) Nothing delta h there = tt
-after-makes old new (Take number delta) Nothing delta h there = absurd h
+after-makes old new (Take number at) Nothing delta h there = absurd h
 after-makes old new (Asks number peer) Nothing delta h there = absurd h
 after-makes old new (Compact number) Nothing delta h there = absurd h
 after-makes old new (Restart number kept) Nothing delta h there = absurd h
@@ -316,14 +317,14 @@ after-unasked old (Show number) Nothing new h e = absurd h
 
 run-telling : (W : Type 0) (old : Field) (events : List Event) (answers : List Answer) (new : Field) (ts : List (List Op)) → Run old events answers new → FlushField old → WholeField old → DueField old
     → (W → AllByRecursion (λ event. ¬ (Arranges event)) events) → (W → AreWell old) → Telling W old ts → Telling W new (ts ++ told answers)
-run-telling W old [] [] new ts h s w d no well t = subst (λ (x : Field). Telling W x (ts ++ [])) (sym h) (subst (Telling W old) (sym (append-nil ts)) t)
-run-telling W old (event ∷ events) (answer ∷ answers) new ts h s w d no well t =
+run-telling W old [] [] new ts h s w d never well t = subst (λ (x : Field). Telling W x (ts ++ [])) (sym h) (subst (Telling W old) (sym (append-nil ts)) t)
+run-telling W old (event ∷ events) (answer ∷ answers) new ts h s w d never well t =
     let one = after-sound old event answer h.0 h.1 s w d in
     subst (Telling W new) (append_assoc ts (made_by answer) (told answers))
     (run-telling W h.0 events answers new (ts ++ made_by answer) h.2 one.flush one.whole (after-due old event answer h.0 h.1 d)
-    (λ q. (no q).1) (λ q. after-well old event answer h.0 h.1 (no q).0 (well q)) (after-telling W old event answer h.0 ts h.1 s well t))
-run-telling W old [] (answer ∷ answers) new ts h s w d no well t = absurd h
-run-telling W old (event ∷ events) [] new ts h s w d no well t = absurd h
+    (λ q. (never q).1) (λ q. after-well old event answer h.0 h.1 (never q).0 (well q)) (after-telling W old event answer h.0 ts h.1 s well t))
+run-telling W old [] (answer ∷ answers) new ts h s w d never well t = absurd h
+run-telling W old (event ∷ events) [] new ts h s w d never well t = absurd h
 
 pub run-brought : (old : Field) (events : List Event) (answers : List Answer) (new : Field) → Run old events answers new → new.deltas ≡ old.deltas ++ brought answers
 run-brought old [] [] new h = ap (λ (x : Field). x.deltas) h ∙ sym (append-nil old.deltas)

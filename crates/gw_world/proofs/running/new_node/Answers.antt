@@ -1,11 +1,11 @@
 -- What it holds where it was opened on an empty disk.
-use Rattle.std.proofs.Common.{ap, ◌∙◌}
+use Rattle.std.proofs.Common.{Some, sym, ap, ◌∙◌}
 use Rattle.sn_flow.specs.declared.config.Config.{Config}
 use Rattle.jr_journal.specs.Disk.{image}
 use Rattle.jr_journal.specs.Memory.{MemoryState}
 use Rattle.gw_node.specs.Parts.{state_of}
 use Rattle.gw_world.specs.Gateways.{new_gateway}
-use Rattle.gw_world.proofs.Calmness.{opened_new, lasts_new, empty_records}
+use Rattle.gw_world.proofs.Calmness.{opened_new, lasts_new, calm_new, unplanned, empty_records}
 use Rattle.gw_world.proofs.running.new_node.Goals as goal
 
 pub returns-clause-ok : goal.returns-clause-ok
@@ -18,7 +18,7 @@ returns-clause-ok g c =
       durable = c.in-Ok.ensures.durable tt;
       place = c.in-Ok.ensures.place tt;
       known = c.in-Ok.ensures.known tt;
-      planned = c.in-Ok.ensures.quiet tt (unplanned c.new.ensures) (sym c.starved-in-Ok.ensures ∙ c.if-starved.false) ∙ ap (λ (d : MemoryState). Some d.plan) c.new.ensures;
+      planned = c.in-Ok.ensures.quiet tt (unplanned _ _ c.new.ensures) (sym c.starved.ensures ∙ c.if-starved.false) ∙ ap (λ (d : MemoryState). Some d.plan) c.new.ensures;
     })
     (c.in-Ok.ensures.none tt (empty_records c.in_ok-copy.field-0.gateway _ empty))
     ∙ ap (λ (config : Config). new_gateway config) c.in_ok-copy.ensures.ok
@@ -33,5 +33,18 @@ returns-clause-lasts g c =
       durable = c.in-Ok.ensures.durable tt;
       place = c.in-Ok.ensures.place tt;
       known = c.in-Ok.ensures.known tt;
-      planned = c.in-Ok.ensures.quiet tt (unplanned c.new.ensures) (sym c.starved-in-Ok.ensures ∙ c.if-starved.false) ∙ ap (λ (d : MemoryState). Some d.plan) c.new.ensures;
+      planned = c.in-Ok.ensures.quiet tt (unplanned _ _ c.new.ensures) (sym c.starved.ensures ∙ c.if-starved.false) ∙ ap (λ (d : MemoryState). Some d.plan) c.new.ensures;
+    })
+
+pub returns-clause-calm : goal.returns-clause-calm
+returns-clause-calm g c =
+    let empty = ap (λ (d : MemoryState). image d.slots) c.new.ensures in
+    calm_new (state_of g.R.Replica.kept c.in-Ok.node) c.in_ok-copy.field-0 _ empty (c.in-Ok.ensures.found tt) (sym c.starved.ensures ∙ c.if-starved.false)
+    (record {
+      starts = c.in-Ok.ensures.starts;
+      keeps = c.in-Ok.ensures.keeps tt;
+      durable = c.in-Ok.ensures.durable tt;
+      place = c.in-Ok.ensures.place tt;
+      known = c.in-Ok.ensures.known tt;
+      planned = c.in-Ok.ensures.quiet tt (unplanned _ _ c.new.ensures) (sym c.starved.ensures ∙ c.if-starved.false) ∙ ap (λ (d : MemoryState). Some d.plan) c.new.ensures;
     })
