@@ -1,5 +1,6 @@
 pub mod Disk
 pub mod Memory
+pub mod Once
 pub mod Records
 pub mod Faults
 pub mod Journals

@@ -9,6 +9,7 @@
 //!
 //! - `disk`: what a journal asks of a disk (`Disk`), over two slots of bytes.
 //! - `memory`: a disk in memory (`MemoryDisk`), proved to do what `Disk` says; failures can be arranged.
+//! - `once`: a disk in memory of which one sync, cut or read fails (`OnceDisk`).
 //! - `failures`: a count without an upper end, which contracts alone see.
 //! - `piece`, `content`: reading a slot, one function for each definition.
 //! - `record`: a record as it is written.
@@ -18,7 +19,7 @@
 //! - `journal`: `Journal`, with `open`, `append`, `compact` and `reopen`.
 //! - `fault`: why a journal refuses.
 //!
-//! The definitions are in `specs/`: `Disk` (slots and what a crash leaves), `Memory` (a disk in memory), `Records` (from the
+//! The definitions are in `specs/`: `Disk` (slots and what a crash leaves), `Memory` and `Once` (disks in memory), `Records` (from the
 //! bytes of a slot to its records), `Faults` (which fault there is in two slots), `Parts` (what contracts see of a journal),
 //! `Journals` (what a journal keeps true, an append, a compaction), `Opening` (the slots behind an opening).
 #![tactic(auto)]
@@ -30,6 +31,7 @@ mod failures;
 mod fault;
 mod journal;
 mod memory;
+mod once;
 mod opening;
 mod piece;
 mod record;
@@ -39,3 +41,4 @@ pub use failures::Failures;
 pub use fault::JournalFault;
 pub use journal::Journal;
 pub use memory::{MemoryDisk, memory_disk_is_honest};
+pub use once::{OnceCall, OnceDisk, once_disk_is_honest};

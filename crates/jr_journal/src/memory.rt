@@ -203,7 +203,7 @@ impl MemoryDisk {
     }
 
     /// A call failed.
-    fn count_failure(&mut self)
+    pub(crate) fn count_failure(&mut self)
         ensures { self.new ≡ record self.old { failures = self.old.failures + 1 } }
     {
         self.failures = Failures::next(&self.failures);
@@ -284,7 +284,7 @@ impl Disk for MemoryDisk {
 }
 
 /// Asks for an honest disk.
-fn ask_for_honesty<D: Disk>(_disk: &D)
+pub(crate) fn ask_for_honesty<D: Disk>(_disk: &D)
     requires { D.honest }
 {}
 

@@ -11,7 +11,7 @@ use rep_ops::{Delta, Op};
 use std::alloc::Global;
 
 /// A disk with these octets in its slots, synced.
-fn disk_with(alloc: Global, first: &[u8], second: &[u8]) -> Result<MemoryDisk, Stop> {
+pub(crate) fn disk_with(alloc: Global, first: &[u8], second: &[u8]) -> Result<MemoryDisk, Stop> {
     let mut disk = MemoryDisk::new(alloc);
     put(&mut disk, Slot::First, first)?;
     put(&mut disk, Slot::Second, second)?;
@@ -19,7 +19,7 @@ fn disk_with(alloc: Global, first: &[u8], second: &[u8]) -> Result<MemoryDisk, S
 }
 
 /// How many records an opening reads, and in which slot, or why none.
-fn opening(alloc: Global, disk: MemoryDisk, gateway: u8) -> Result<String, Stop> {
+pub(crate) fn opening(alloc: Global, disk: MemoryDisk, gateway: u8) -> Result<String, Stop> {
     match Journal::open(alloc, disk, gateway) {
         Ok((journal, deltas)) => {
             let slot = slot_word(journal.slot());

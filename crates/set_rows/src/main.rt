@@ -64,13 +64,15 @@
 //! | `openings GATEWAY SLOT` | what is opened where each beginning of the octets stands behind what the slot has: the slot that is read, and its octets |
 //! | `appends GATEWAY COUNT` | what is opened behind an `append` that stops behind each number of octets up to this one, and a crash that leaves these |
 //! | `compactions GATEWAY COUNT` | the same of a `compact` |
+//! | `retries GATEWAY CALL COUNT` | what an `open`, a `reopen` and a `compact` answer where one CALL (`sync`, `cut` or `read`) fails behind each number of them up to this one |
 //!
-//! From `append` to `close` these want the journal open, all others closed. The last three try each place on a disk of its own, with what
-//! the row's disk has; neighbours that give the same share a line.
+//! From `append` to `close` these want the journal open, all others closed. The last four try each place on a disk of its own, with what
+//! the row's disk has; neighbours that give the same share a line. With `retries` what is refused is tried once again, a compaction behind
+//! one more `reopen`; the line has the number of records that each opening reads, and those of an opening of what is left.
 //!
 //! - `row`: what the lines of a row have brought about (`Row`), and the play of one more.
 //! - `fields`, `names`, `operations`, `changes`: lines that are read.
-//! - `deltas`, `replicas`, `journals`, `attempts`: lines that are played.
+//! - `deltas`, `replicas`, `journals`, `attempts`, `retries`: lines that are played.
 //! - `words`, `printing`, `runs`: what is printed.
 //! - `stop`: why a line is not played.
 #![tactic(auto)]
@@ -84,6 +86,7 @@ mod names;
 mod operations;
 mod printing;
 mod replicas;
+mod retries;
 mod row;
 mod runs;
 mod stop;

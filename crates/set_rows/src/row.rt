@@ -6,6 +6,7 @@ use crate::names::Names;
 use crate::operations::{
     ack_op, ack_ops, apply, described, put_op, put_ops, session_op, session_ops,
 };
+use crate::retries::retries;
 use crate::stop::Stop;
 use crate::{deltas, journals, names, replicas};
 use rep_ops::Op;
@@ -57,7 +58,7 @@ pub(crate) fn play(
             let ops = mem::replace(&mut row.ops, Vec::new(alloc));
             play_use(alloc, text, row, ops, first)
         }
-        "append" | "appends" | "compact" | "compactions" => {
+        "append" | "appends" | "compact" | "compactions" | "retries" => {
             let ops = mem::replace(&mut row.ops, Vec::new(alloc));
             play_writing(alloc, text, &mut row.store, ops, first, rest)
         }
@@ -138,6 +139,7 @@ fn play_writing(
         "append" => journals::append(alloc, text, store, ops),
         "appends" => appends(alloc, text, store, ops, rest),
         "compact" => journals::compact(alloc, text, store, ops),
+        "retries" => retries(alloc, text, store, ops, rest),
         _ => compactions(alloc, text, store, ops, rest),
     }
 }
