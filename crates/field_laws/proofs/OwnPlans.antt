@@ -1,5 +1,6 @@
 -- In a run each gateway keeps well.
-use Rattle.std.proofs.Common.{◌≡◌, ◌≢◌, ◌⊎◌, ℕ, zero, suc, ◌≤◌, ◌-◌, List, [], ◌∷◌, map, set, slice_get, Option, Some, None, Result, Ok, Err, refl, sym, subst, inl, inr, IsTrue}
+use Rattle.std.specs.List.{AllByRecursion}
+use Rattle.std.proofs.Common.{◌≡◌, ◌≢◌, ◌⊎◌, Bool, true, false, ℕ, zero, suc, ◌≤◌, ◌-◌, List, [], ◌∷◌, map, set, slice_get, Option, Some, None, Result, Ok, Err, refl, sym, subst, inl, inr, IsTrue}
 use Rattle.std.proofs.lemmas.Option.{none-some, same_Some}
 use Rattle.rep_ops.specs.declared.op.Op.{Op}
 use Rattle.rep_ops.specs.declared.fault.OpsFault.{OpsFault}
@@ -19,13 +20,14 @@ use Rattle.gw_node.specs.declared.refusal.Refusal.TheVariants as refusals
 use Rattle.gw_node.specs.Occasions.{Occasion, Datagram, Clock}
 use Rattle.gw_node.specs.Parts.{said}
 use Rattle.gw_world.specs.declared.event.Event.{Event}
-use Rattle.gw_world.specs.declared.event.Event.TheVariants.{Frame, Tick, Take, Answer as Asks, Compact, Restart, Show}
+use Rattle.gw_world.specs.declared.event.Event.TheVariants.{Frame, Tick, Take, Answer as Asks, WriteFails, Compact, Restart, Show}
 use Rattle.gw_world.specs.declared.event.Answer.{Answer}
-use Rattle.gw_world.specs.declared.event.Answer.TheVariants.{Node, Views, Records}
-use Rattle.gw_world.specs.Gateways.{Gateway, new_gateway}
-use Rattle.gw_world.specs.Field.{Field, new_field, IsAt, After, Run}
-use Rattle.gw_world.specs.Steps.{IsUnchanged, IsMade, IsPlan, IsTooMuch, OwnStep, TakeStep, CompactStep, restarted}
+use Rattle.gw_world.specs.declared.event.Answer.TheVariants.{Node, Views, Records, Nothing}
+use Rattle.gw_world.specs.Gateways.{Gateway, new_gateway, with_refused}
+use Rattle.gw_world.specs.Field.{Field, new_field, IsAt, failing, After, Run}
+use Rattle.gw_world.specs.Steps.{IsUnchanged, IsTorn, IsMade, IsPlan, IsTooMuch, OwnStep, TakeStep, CompactStep, has_refused, restarted}
 use Rattle.gw_world.proofs.Consistency.{FlushField, WholeField, after-sound, start-whole}
+use Rattle.gw_world.proofs.Failures.{DueAs, DueField, after-due, start-due}
 use Rattle.gw_world.proofs.Each.{all-at}
 use Rattle.gw_world.proofs.Numbers.{place_of-first, first-number}
 use Rattle.gw_world.proofs.Steadiness.{start-flush}
@@ -95,19 +97,32 @@ module _ (field : Field) (s : FlushField field) (all : AreWell field.gateways) (
         asked = after-asked old.local.dialogs plan.local w.asked makes.moves;
       })
 
+  -- a delta that could not be written is not taken
+  torn-well : (delta : List Op) (next : Gateway) (made : List (List Op)) → IsTorn old delta next made → Well next
+  torn-well delta next made t =
+      let w = all i old at.1 in
+      subst Well (sym t.halted) (record { numbered = w.numbered; made = w.made; asked = w.asked })
+
   own-well : (occasion : Occasion) (now : ℕ) (answer : Result Out Refusal) (next : Gateway) (made : List (List Op)) → OwnStep old occasion now answer next made → Well next
   own-well occasion now (Ok out) next made h = made-well h.0 (makes-here occasion now h.0 h.1) h.0.ops out.made next made h.2.1
   own-well occasion now (Err (refusals.Frame fault)) next made h = same-well next made h.1
   own-well occasion now (Err refusals.Exhausted) next made h = same-well next made h.1
   own-well occasion now (Err (refusals.Conflict client)) next made h = same-well next made h.3
   own-well occasion now (Err refusals.Full) next made h = same-well next made h.3
-  own-well occasion now (Err refusals.Halted) next made h = absurd h
-  own-well occasion now (Err (refusals.Disk excuse)) next made h = absurd h
+  own-well occasion now (Err refusals.Halted) next made h = same-well next made h.1
+  own-well occasion now (Err (refusals.Disk excuse)) next made h = torn-well h.2.delta next made h.2.torn
   own-well occasion now (Err (refusals.Journal fault)) next made h = absurd h
   own-well occasion now (Err refusals.Memory) next made h = absurd h
 
   take-well : (delta : List Op) (answer : Result Out Refusal) (next : Gateway) (made : List (List Op)) → IsDelta delta → TakeStep old delta answer next made → Well next
-  take-well delta (Err fault) next made proper h = same-well next made h.1
+  take-well delta (Err (refusals.Conflict client)) next made proper h = same-well next made h.1
+  take-well delta (Err refusals.Full) next made proper h = same-well next made h.1
+  take-well delta (Err refusals.Halted) next made proper h = same-well next made h.1
+  take-well delta (Err (refusals.Disk excuse)) next made proper h = torn-well delta next made h.2
+  take-well delta (Err (refusals.Frame fault)) next made proper h = absurd h
+  take-well delta (Err refusals.Exhausted) next made proper h = absurd h
+  take-well delta (Err (refusals.Journal fault)) next made proper h = absurd h
+  take-well delta (Err refusals.Memory) next made proper h = absurd h
   take-well delta (Ok out) next made proper h =
       let w = all i old at.1 in
       subst Well (sym h.3) (record {
@@ -121,47 +136,76 @@ compact-well : (old next : Gateway) (answer : Result Out Refusal) → Well old �
 compact-well old next (Ok out) w h = subst Well (sym h.2.2) (record { numbered = w.numbered; made = w.made; asked = w.asked })
 compact-well old next (Err (refusals.Journal fault)) w h = subst Well (sym h.2) w
 compact-well old next (Err (refusals.Frame fault)) w h = absurd h
-compact-well old next (Err refusals.Halted) w h = absurd h
-compact-well old next (Err (refusals.Disk excuse)) w h = absurd h
+compact-well old next (Err refusals.Halted) w h = subst Well (sym h.1) w
+compact-well old next (Err (refusals.Disk excuse)) w h = subst Well (sym h.2.4) (record { numbered = w.numbered; made = w.made; asked = w.asked })
 compact-well old next (Err (refusals.Conflict client)) w h = absurd h
 compact-well old next (Err refusals.Full) w h = absurd h
 compact-well old next (Err refusals.Exhausted) w h = absurd h
 compact-well old next (Err refusals.Memory) w h = absurd h
 
-restart-well : (kept : ℕ) (old : Gateway) → Well old → Well (restarted kept old)
-restart-well kept old w = record { numbered = w.numbered; made = w.made; asked = tt }
+-- what was refused is a delta
+refused-made : (deltas : List (List Op)) (gateway : Gateway) → AllByRecursion IsDelta deltas → DueAs deltas gateway → AreWellMade gateway.refused
+refused-made deltas gateway proper (inl none) = subst AreWellMade (sym none) tt
+refused-made deltas gateway proper (inr (inl own)) = own.proper.well_made
+refused-made deltas gateway proper (inr (inr (k, there))) = (all-at IsDelta deltas k gateway.refused proper there).well_made
+
+back-made : (b : Bool) (S refused : List Op) → AreWellMade S → AreWellMade refused → AreWellMade (with_refused b S refused)
+back-made true S refused h k = all-append (λ op. IsTrue (is_well_made op)) S refused h k
+back-made false S refused h k = h
+
+restart-well : (kept : ℕ) (old : Gateway) (deltas : List (List Op)) → AllByRecursion IsDelta deltas → DueAs deltas old → Well old → Well (restarted kept old)
+restart-well kept old deltas proper due w = record {
+  numbered = w.numbered;
+  made = back-made (has_refused kept old) old.taken old.refused w.made (refused-made deltas old proper due);
+  asked = tt;
+}
+
+failing-well : (bytes : ℕ) (sync : Bool) (old : Gateway) → Well old → Well (failing bytes sync old)
+failing-well bytes sync old w = record { numbered = w.numbered; made = w.made; asked = w.asked }
 
 abbrev WellField : Field → Type 0
 WellField field = AreWell field.gateways
 
-after-well : (old : Field) (event : Event) (answer : Answer) (new : Field) → After old event answer new → FlushField old → WholeField old → WellField old → WellField new
-after-well old (Frame number from bytes now) (Node answer) new h s w all =
+after-well : (old : Field) (event : Event) (answer : Answer) (new : Field) → After old event answer new → FlushField old → WholeField old → DueField old → WellField old → WellField new
+after-well old (Frame number from bytes now) (Node answer) new h s w d all =
     subst WellField (sym h.6) (set-well h.0 old.gateways h.2 all (own-well old s all number h.0 h.1 h.4 (Datagram from bytes) now (said answer) h.2 h.3 h.5))
-after-well old (Tick number now) (Node answer) new h s w all =
+after-well old (Tick number now) (Node answer) new h s w d all =
     subst WellField (sym h.6) (set-well h.0 old.gateways h.2 all (own-well old s all number h.0 h.1 h.4 Clock now (said answer) h.2 h.3 h.5))
-after-well old (Take number delta) (Node answer) new h s w all =
+after-well old (Take number delta) (Node answer) new h s w d all =
     subst WellField (sym h.8) (set-well h.0 old.gateways h.2 all
     (take-well old s all number h.0 h.1 h.5 h.4 (said answer) h.2 h.3 (all-at IsDelta old.deltas (delta - 1) h.4 w.proper h.6.1) h.7))
-after-well old (Asks number peer) (Node answer) new h s w all = subst WellField (sym h.8) all
-after-well old (Compact number) (Node answer) new h s w all =
+after-well old (Asks number peer) (Node answer) new h s w d all = subst WellField (sym h.8) all
+after-well old (WriteFails number bytes sync) Nothing new h s w d all =
+    subst WellField (sym h.3) (set-well h.0 old.gateways (failing bytes sync h.1) all (failing-well bytes sync h.1 (all h.0 h.1 h.2.1)))
+after-well old (Compact number) (Node answer) new h s w d all =
     subst WellField (sym h.5) (set-well h.0 old.gateways h.2 all (compact-well h.1 h.2 (said answer) (all h.0 h.1 h.3.1) h.4))
-after-well old (Restart number kept) (Records count) new h s w all =
-    subst WellField (sym h.4) (set-well h.0 old.gateways (restarted kept h.1) all (restart-well kept h.1 (all h.0 h.1 h.2.1)))
-after-well old (Show number) (Views views) new h s w all = subst WellField (sym h.4) all
-after-well old (Frame number from bytes now) (Views views) new h s w all = absurd h
-after-well old (Tick number now) (Views views) new h s w all = absurd h
-after-well old (Take number delta) (Views views) new h s w all = absurd h
-after-well old (Asks number peer) (Views views) new h s w all = absurd h
-after-well old (Show number) (Node answer) new h s w all = absurd h
-after-well old (Compact number) (Views views) new h s w all = absurd h
-after-well old (Restart number kept) (Views views) new h s w all = absurd h
-after-well old (Restart number kept) (Node answer) new h s w all = absurd h
-after-well old (Frame number from bytes now) (Records count) new h s w all = absurd h
-after-well old (Tick number now) (Records count) new h s w all = absurd h
-after-well old (Take number delta) (Records count) new h s w all = absurd h
-after-well old (Asks number peer) (Records count) new h s w all = absurd h
-after-well old (Compact number) (Records count) new h s w all = absurd h
-after-well old (Show number) (Records count) new h s w all = absurd h
+after-well old (Restart number kept) (Records count) new h s w d all =
+    subst WellField (sym h.4) (set-well h.0 old.gateways (restarted kept h.1) all (restart-well kept h.1 old.deltas w.proper (d h.0 h.1 h.2.1).due (all h.0 h.1 h.2.1)))
+after-well old (Show number) (Views views) new h s w d all = subst WellField (sym h.4) all
+after-well old (Frame number from bytes now) (Views views) new h s w d all = absurd h
+after-well old (Tick number now) (Views views) new h s w d all = absurd h
+after-well old (Take number delta) (Views views) new h s w d all = absurd h
+after-well old (Asks number peer) (Views views) new h s w d all = absurd h
+after-well old (Show number) (Node answer) new h s w d all = absurd h
+after-well old (Compact number) (Views views) new h s w d all = absurd h
+after-well old (Restart number kept) (Views views) new h s w d all = absurd h
+after-well old (Restart number kept) (Node answer) new h s w d all = absurd h
+after-well old (Frame number from bytes now) (Records count) new h s w d all = absurd h
+after-well old (Tick number now) (Records count) new h s w d all = absurd h
+after-well old (Take number delta) (Records count) new h s w d all = absurd h
+after-well old (Asks number peer) (Records count) new h s w d all = absurd h
+after-well old (Compact number) (Records count) new h s w d all = absurd h
+after-well old (Show number) (Records count) new h s w d all = absurd h
+after-well old (Frame number from bytes now) Nothing new h s w d all = absurd h
+after-well old (Tick number now) Nothing new h s w d all = absurd h
+after-well old (Take number delta) Nothing new h s w d all = absurd h
+after-well old (Asks number peer) Nothing new h s w d all = absurd h
+after-well old (WriteFails number bytes sync) (Node answer) new h s w d all = absurd h
+after-well old (WriteFails number bytes sync) (Views views) new h s w d all = absurd h
+after-well old (WriteFails number bytes sync) (Records count) new h s w d all = absurd h
+after-well old (Compact number) Nothing new h s w d all = absurd h
+after-well old (Restart number kept) Nothing new h s w d all = absurd h
+after-well old (Show number) Nothing new h s w d all = absurd h
 
 -- ---- what a run does
 
@@ -169,13 +213,13 @@ record Ran (field : Field) : Type 0 where
   flush : FlushField field
   well : WellField field
 
-run-well : (old : Field) (events : List Event) (answers : List Answer) (new : Field) → Run old events answers new → FlushField old → WholeField old → WellField old → Ran new
-run-well old [] [] new h s w all = record { flush = subst FlushField (sym h) s; well = subst WellField (sym h) all }
-run-well old (event ∷ events) (answer ∷ answers) new h s w all =
-    let one = after-sound old event answer h.0 h.1 s w in
-    run-well h.0 events answers new h.2 one.flush one.whole (after-well old event answer h.0 h.1 s w all)
-run-well old [] (answer ∷ answers) new h s w all = absurd h
-run-well old (event ∷ events) [] new h s w all = absurd h
+run-well : (old : Field) (events : List Event) (answers : List Answer) (new : Field) → Run old events answers new → FlushField old → WholeField old → DueField old → WellField old → Ran new
+run-well old [] [] new h s w d all = record { flush = subst FlushField (sym h) s; well = subst WellField (sym h) all }
+run-well old (event ∷ events) (answer ∷ answers) new h s w d all =
+    let one = after-sound old event answer h.0 h.1 s w d in
+    run-well h.0 events answers new h.2 one.flush one.whole (after-due old event answer h.0 h.1 d) (after-well old event answer h.0 h.1 s w d all)
+run-well old [] (answer ∷ answers) new h s w d all = absurd h
+run-well old (event ∷ events) [] new h s w d all = absurd h
 
 start-well : (configs : List Config) → AreNumbered configs → AreWell (map new_gateway configs)
 start-well [] numbered j gateway e = absurd (none-some gateway e)
@@ -185,7 +229,7 @@ start-well (config ∷ configs) numbered (suc j) gateway e = start-well configs 
 module _ (configs : List Config) (events : List Event) (answers : List Answer) (field : Field) (number i : ℕ) (gateway : Gateway)
     (numbered : AreNumbered configs) (run : Run (new_field configs) events answers field) (at : IsAt field number i gateway) where
   ran : Ran field
-  ran = run-well (new_field configs) events answers field run (start-flush configs) (start-whole configs) (start-well configs numbered)
+  ran = run-well (new_field configs) events answers field run (start-flush configs) (start-whole configs) (start-due configs) (start-well configs numbered)
 
   pub run-keeps : KeepsWell number gateway.taken gateway.local
   run-keeps = keeps-here field ran.flush ran.well number i gateway at
