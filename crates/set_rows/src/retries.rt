@@ -47,12 +47,7 @@ pub(crate) fn retries(
 }
 
 /// What the three calls answer, and what is opened of the disk that they leave.
-fn all_calls(
-    alloc: Global,
-    disk: OnceDisk,
-    gateway: u8,
-    base: &[Delta],
-) -> Result<String, Stop> {
+fn all_calls(alloc: Global, disk: OnceDisk, gateway: u8, base: &[Delta]) -> Result<String, Stop> {
     let mut said = String::new(alloc);
     let mut journal = open(alloc, &mut said, disk, gateway)?;
     if !reopens(alloc, &mut said, &mut journal)? {
