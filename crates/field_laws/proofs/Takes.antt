@@ -1,5 +1,5 @@
 -- In a run counter 0 stands exactly at the operations that take a session.
-use Rattle.std.proofs.Common.{◌≡◌, ◌↔◌, ℕ, Bool, true, false, ◌&&◌, ◌==◌, nat_lt, if◌then◌else◌, List, [], ◌∷◌, flat_map, Some, Contains, refl, sym, true≢false, arith, eqb-true, ltb-true, IsTrue}
+use Rattle.std.proofs.Common.{◌≡◌, ◌↔◌, ◌⊎◌, ◌-◌, ◌++◌, map, set, slice_get, append-nil, inl, inr, refl, ap, ◌∙◌, subst, ℕ, Bool, true, false, ◌&&◌, ◌==◌, nat_lt, if◌then◌else◌, List, [], ◌∷◌, Some, Contains, sym, true≢false, arith, eqb-true, ltb-true, IsTrue}
 use Rattle.std.specs.List.{AllByRecursion}
 use Rattle.std.proofs.lemmas.Bool.{and_parts}
 use Rattle.std.proofs.lemmas.List.Elements.{All-from_recursion, All-contains}
@@ -12,18 +12,23 @@ use Rattle.rep_ops.specs.Deltas.{IsDelta}
 use Rattle.rep_ops.specs.Ranges.{is_change}
 use Rattle.rep_ops.specs.Sets.{operation_at}
 use Rattle.rep_ops.specs.WellMade.{is_stamp, is_counted, is_well_made}
-use Rattle.rep_model.proofs.Joins.{all-moved}
 use Rattle.sn_flow.specs.declared.config.Config.{Config}
 use Rattle.sn_flow.proofs.Lists.{all-append, all-weaken}
 use Rattle.gw_world.specs.declared.event.Event.{Event}
 use Rattle.gw_world.specs.declared.event.Answer.{Answer}
-use Rattle.gw_world.specs.Gateways.{Gateway}
-use Rattle.gw_world.specs.Field.{Field, new_field, Run}
+use Rattle.gw_world.specs.Gateways.{Gateway, new_gateway}
+use Rattle.gw_world.specs.Field.{Field, new_field, failing, After, Run}
 use Rattle.gw_node.specs.Keeping.{Keeps}
-use Rattle.gw_world.specs.Whole.{listed}
-use Rattle.gw_world.proofs.Consistency.{field-whole, field-well_made}
-use Rattle.gw_world.proofs.Settling.{field-listed}
 use Rattle.field_laws.specs.Takes.{IsTakeAtZero}
+use Rattle.gw_node.specs.Occasions.{Datagram, Clock}
+use Rattle.gw_node.specs.Parts.{said}
+use Rattle.gw_world.specs.declared.event.Event.TheVariants.{Frame, Tick, Take, Answer as Asks, WriteFails, Compact, Restart, Show}
+use Rattle.gw_world.specs.declared.event.Answer.TheVariants.{Node, Views, Records, Nothing}
+use Rattle.gw_world.specs.Steps.{restarted}
+use Rattle.gw_world.proofs.Consistency.{FlushField, WholeField, after-sound, start-taken, start-whole, field-well_made}
+use Rattle.gw_world.proofs.Each.{all-at, all-places, set-cases}
+use Rattle.gw_world.proofs.Failures.{DueAs, DueField, after-due, start-due}
+use Rattle.gw_world.proofs.Steadiness.{Still, Stepped, Fed, own-moves, take-moves, compact-still, restart-moves, start-flush}
 
 at-zero : (takes : Bool) (counter : ℕ) → (if takes then counter == 0 else nat_lt 0 counter) ≡ true → (takes ≡ true) ↔ (counter ≡ 0)
 at-zero true counter e = (λ _. eqb-true counter 0 e, λ _. refl)
@@ -38,9 +43,90 @@ take-at-zero (Ack c origin first last) made = tt
 delta-takes : (delta : List Op) → IsDelta delta → AllByRecursion IsTakeAtZero delta
 delta-takes delta d = all-weaken (λ op. IsTrue (is_well_made op)) IsTakeAtZero take-at-zero delta d.well_made
 
-all-listed : (deltas : List (List Op)) → AllByRecursion IsDelta deltas → AllByRecursion IsTakeAtZero (flat_map (λ (delta : List Op). delta) deltas)
-all-listed [] h = tt
-all-listed (delta ∷ rest) h = all-append IsTakeAtZero delta (flat_map (λ (d : List Op). d) rest) (delta-takes delta h.0) (all-listed rest h.1)
+-- ---- sets
+
+abbrev HaveTakes : List Gateway → Type 0
+HaveTakes gs = (j : ℕ) (gateway : Gateway) → slice_get gs j ≡ Some gateway → AllByRecursion IsTakeAtZero gateway.taken
+
+grown : (gs : List Gateway) (i : ℕ) (old next : Gateway) (more : List Op) → slice_get gs i ≡ Some old → next.taken ≡ old.taken ++ more → AllByRecursion IsTakeAtZero more → HaveTakes gs → HaveTakes (set gs i next)
+grown gs i old next more is taken news all j gateway there = elim (set-cases i j gs next gateway there) [
+  | inl own ↦ subst (λ (g : Gateway). AllByRecursion IsTakeAtZero g.taken) (sym own) (subst (λ (T : List Op). AllByRecursion IsTakeAtZero T) (sym taken) (all-append IsTakeAtZero old.taken more (all i old is) news))
+  | inr other ↦ all j gateway other
+]
+
+same-set : (gs : List Gateway) (i : ℕ) (old next : Gateway) → slice_get gs i ≡ Some old → next.taken ≡ old.taken → HaveTakes gs → HaveTakes (set gs i next)
+same-set gs i old next is taken all = grown gs i old next [] is (taken ∙ sym (append-nil old.taken)) tt all
+
+moved-takes : (gs : List Gateway) (i : ℕ) (old next : Gateway) (made : List (List Op)) → slice_get gs i ≡ Some old → Still old next made ⊎ Stepped old next made → HaveTakes gs → HaveTakes (set gs i next)
+moved-takes gs i old next made is (inl u) all = same-set gs i old next is u.taken all
+moved-takes gs i old next made is (inr u) all = grown gs i old next u.delta is u.taken (delta-takes u.delta u.proper) all
+
+fed-takes : (gs : List Gateway) (i : ℕ) (old next : Gateway) (more : List Op) (made : List (List Op)) → slice_get gs i ≡ Some old → AllByRecursion IsTakeAtZero more → Still old next made ⊎ Fed old more next made → HaveTakes gs → HaveTakes (set gs i next)
+fed-takes gs i old next more made is news (inl u) all = same-set gs i old next is u.taken all
+fed-takes gs i old next more made is news (inr u) all = grown gs i old next more is u.taken news all
+
+refused-takes : (deltas : List (List Op)) (gateway : Gateway) → AllByRecursion IsDelta deltas → DueAs deltas gateway → AllByRecursion IsTakeAtZero gateway.refused
+refused-takes deltas gateway proper (inl none) = subst (λ (R : List Op). AllByRecursion IsTakeAtZero R) (sym none) tt
+refused-takes deltas gateway proper (inr (inl own)) = delta-takes gateway.refused own.proper
+refused-takes deltas gateway proper (inr (inr (k, there))) = delta-takes gateway.refused (all-at IsDelta deltas k gateway.refused proper there)
+
+abbrev TakesField : Field → Type 0
+TakesField field = HaveTakes field.gateways
+
+after-takes : (old : Field) (event : Event) (answer : Answer) (new : Field) → After old event answer new → WholeField old → DueField old → TakesField old → TakesField new
+after-takes old (Frame number from bytes now) (Node answer) new h w d all =
+    subst TakesField (sym h.6) (moved-takes old.gateways h.0 h.1 h.2 h.3 h.4.1 (own-moves h.1 (Datagram from bytes) now (said answer) h.2 h.3 h.5) all)
+after-takes old (Tick number now) (Node answer) new h w d all =
+    subst TakesField (sym h.6) (moved-takes old.gateways h.0 h.1 h.2 h.3 h.4.1 (own-moves h.1 Clock now (said answer) h.2 h.3 h.5) all)
+after-takes old (Take number delta) (Node answer) new h w d all =
+    subst TakesField (sym h.8)
+    (fed-takes old.gateways h.0 h.1 h.2 h.4 h.3 h.5.1 (delta-takes h.4 (all-at IsDelta old.deltas (delta - 1) h.4 w.proper h.6.1)) (take-moves h.1 h.4 (said answer) h.2 h.3 h.7) all)
+after-takes old (Asks number peer) (Node answer) new h w d all = subst TakesField (sym h.8) all
+after-takes old (WriteFails number bytes sync) Nothing new h w d all =
+    subst TakesField (sym h.3) (same-set old.gateways h.0 h.1 (failing bytes sync h.1) h.2.1 refl all)
+after-takes old (Compact number) (Node answer) new h w d all =
+    subst TakesField (sym h.5) (same-set old.gateways h.0 h.1 h.2 h.3.1 (compact-still h.1 h.2 (said answer) h.4).taken all)
+after-takes old (Restart number kept) (Records count) new h w d all =
+    subst TakesField (sym h.4)
+    (fed-takes old.gateways h.0 h.1 (restarted kept h.1) h.1.refused [] h.2.1 (refused-takes old.deltas h.1 w.proper (d h.0 h.1 h.2.1).due) (restart-moves kept h.1) all)
+after-takes old (Show number) (Views views) new h w d all = subst TakesField (sym h.4) all
+after-takes old (Frame number from bytes now) (Views views) new h w d all = absurd h
+after-takes old (Frame number from bytes now) (Records count) new h w d all = absurd h
+after-takes old (Frame number from bytes now) Nothing new h w d all = absurd h
+after-takes old (Tick number now) (Views views) new h w d all = absurd h
+after-takes old (Tick number now) (Records count) new h w d all = absurd h
+after-takes old (Tick number now) Nothing new h w d all = absurd h
+after-takes old (Take number delta) (Views views) new h w d all = absurd h
+after-takes old (Take number delta) (Records count) new h w d all = absurd h
+after-takes old (Take number delta) Nothing new h w d all = absurd h
+after-takes old (Asks number peer) (Views views) new h w d all = absurd h
+after-takes old (Asks number peer) (Records count) new h w d all = absurd h
+after-takes old (Asks number peer) Nothing new h w d all = absurd h
+after-takes old (WriteFails number bytes sync) (Node answer) new h w d all = absurd h
+after-takes old (WriteFails number bytes sync) (Views views) new h w d all = absurd h
+after-takes old (WriteFails number bytes sync) (Records count) new h w d all = absurd h
+after-takes old (Compact number) (Views views) new h w d all = absurd h
+after-takes old (Compact number) (Records count) new h w d all = absurd h
+after-takes old (Compact number) Nothing new h w d all = absurd h
+after-takes old (Restart number kept) (Node answer) new h w d all = absurd h
+after-takes old (Restart number kept) (Views views) new h w d all = absurd h
+after-takes old (Restart number kept) Nothing new h w d all = absurd h
+after-takes old (Show number) (Node answer) new h w d all = absurd h
+after-takes old (Show number) (Records count) new h w d all = absurd h
+after-takes old (Show number) Nothing new h w d all = absurd h
+
+run-takes : (old : Field) (events : List Event) (answers : List Answer) (new : Field) → Run old events answers new → FlushField old → WholeField old → DueField old → TakesField old → TakesField new
+run-takes old [] [] new h s w d all = subst TakesField (sym h) all
+run-takes old (event ∷ events) (answer ∷ answers) new h s w d all =
+    let one = after-sound old event answer h.0 h.1 s w d in
+    run-takes h.0 events answers new h.2 one.flush one.whole (after-due old event answer h.0 h.1 d) (after-takes old event answer h.0 h.1 w d all)
+run-takes old [] (answer ∷ answers) new h s w d all = absurd h
+run-takes old (event ∷ events) [] new h s w d all = absurd h
+
+start-takes : (configs : List Config) → HaveTakes (map new_gateway configs)
+start-takes configs j gateway there = subst (λ (T : List Op). AllByRecursion IsTakeAtZero T) (sym (start-taken configs j gateway there)) tt
+
+-- ---- the laws
 
 module _ (configs : List Config) (events : List Event) (answers : List Answer) (field : Field) (run : Run (new_field configs) events answers field) where
   pub listed-takes : (delta : List Op) → Contains field.deltas delta → AllByRecursion IsTakeAtZero delta
@@ -48,10 +134,9 @@ module _ (configs : List Config) (events : List Event) (answers : List Answer) (
 
   pub taken-takes : (gateway : Gateway) → Contains field.gateways gateway → AllByRecursion IsTakeAtZero gateway.taken
   taken-takes gateway in_field =
-      all-moved IsTakeAtZero gateway.taken
-      (λ op there. All-contains IsTakeAtZero (listed field) op
-      (All-from_recursion IsTakeAtZero (listed field) (all-listed field.deltas (field-whole configs events answers field run).proper))
-      (field-listed configs events answers field gateway op run in_field there))
+      let all = run-takes (new_field configs) events answers field run (start-flush configs) (start-whole configs) (start-due configs) (start-takes configs) in
+      All-contains (λ (g : Gateway). AllByRecursion IsTakeAtZero g.taken) field.gateways gateway
+      (All-from_recursion (λ (g : Gateway). AllByRecursion IsTakeAtZero g.taken) field.gateways (all-places (λ (g : Gateway). AllByRecursion IsTakeAtZero g.taken) field.gateways all)) in_field
 
   pub kept-takes : (gateway : Gateway) (kept : List Op) → Contains field.gateways gateway → Keeps gateway.taken kept
       → (c : List ℕ) (stamp : Stamp) (counter : ℕ) (change : SessionOp) → operation_at c kept (stamp, counter) ≡ Some change → IsTakeAtZero (OfSession c stamp counter change)
