@@ -124,7 +124,7 @@ abbrev pub answer_text : ℕ → Answer → List ℕ
 answer_text before (answers.Node answer) = said_text before (said answer)
 answer_text before (answers.Views views) = views_text views
 answer_text before (answers.Records count) = records_line count
-answer_text before answers.Nothing = []
+answer_text before answers.Nothing = codes "quiet" ▹ line_end
 
 -- how many deltas there are behind it
 abbrev pub deltas_behind : ℕ → Result Out Refusal → ℕ

@@ -52,7 +52,10 @@ fn print_answer(
             print_records(text, *count)?;
             Ok(before)
         }
-        Answer::Nothing => Ok(before),
+        Answer::Nothing => {
+            text.push_str("quiet\n")?;
+            Ok(before)
+        }
     }
 }
 
