@@ -1,11 +1,10 @@
 //! Equal events, and events with what each leaves shown.
 
-use super::fault::RandomFault;
 use gw_world::Event;
-use std::alloc::Global;
+use std::alloc::{AllocError, Global};
 
 /// An equal event.
-pub(crate) fn copy_event(alloc: Global, event: &Event) -> Result<Event, RandomFault> {
+pub(crate) fn copy_event(alloc: Global, event: &Event) -> Result<Event, AllocError> {
     match event {
         Event::Frame {
             gateway,
@@ -44,7 +43,7 @@ pub(crate) fn append_copies(
     alloc: Global,
     made: &mut Vec<Event>,
     events: &[Event],
-) -> Result<(), RandomFault> {
+) -> Result<(), AllocError> {
     for event in events {
         made.push(copy_event(alloc, event)?)?;
     }
@@ -52,7 +51,7 @@ pub(crate) fn append_copies(
 }
 
 /// The events, each with what its gateways show behind it.
-pub(crate) fn with_shows(alloc: Global, events: &[Event]) -> Result<Vec<Event>, RandomFault> {
+pub(crate) fn with_shows(alloc: Global, events: &[Event]) -> Result<Vec<Event>, AllocError> {
     let mut made = Vec::new(alloc);
     for event in events {
         made.push(copy_event(alloc, event)?)?;

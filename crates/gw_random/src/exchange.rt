@@ -1,11 +1,10 @@
 //! At the end gateways exchange what they have.
 
 use super::copying::append_copies;
-use super::fault::RandomFault;
 use super::field::{Field, Played, added};
 use gw_world::Event;
 use rep_model::Replica;
-use std::alloc::Global;
+use std::alloc::{AllocError, Global};
 
 /// The events, and behind them an exchange: each gateway is opened again, asks each other, and takes what is answered. Nothing
 /// where the events cannot be played.
@@ -13,7 +12,7 @@ pub(crate) fn with_exchange<R: Replica>(
     alloc: Global,
     field: &Field,
     events: &[Event],
-) -> Result<Option<Vec<Event>>, RandomFault> {
+) -> Result<Option<Vec<Event>>, AllocError> {
     let mut all = Vec::new(alloc);
     append_copies(alloc, &mut all, events)?;
     for gateway in 1..=field.gateways {
@@ -30,7 +29,7 @@ pub(crate) fn with_exchange<R: Replica>(
 }
 
 /// Each gateway asks each other.
-fn append_questions(all: &mut Vec<Event>, gateways: u8) -> Result<(), RandomFault> {
+fn append_questions(all: &mut Vec<Event>, gateways: u8) -> Result<(), AllocError> {
     for gateway in 1..=gateways {
         for peer in 1..=gateways {
             if gateway != peer {
@@ -47,7 +46,7 @@ fn takes(
     events: &[Event],
     played: &Played,
     from: usize,
-) -> Result<Vec<Event>, RandomFault> {
+) -> Result<Vec<Event>, AllocError> {
     let mut takes = Vec::new(alloc);
     let mut listed = 0u64;
     let both = events.iter().zip(played.answers.as_slice());

@@ -1,6 +1,5 @@
 //! The gateways of a script, and what they answer.
 
-use super::fault::RandomFault;
 use super::writing::{PREDEFINED, PREDEFINED_ID};
 use gw_world::{Answer, Event, World, WorldFault, run};
 use octets::Sequence;
@@ -8,7 +7,7 @@ use rep_model::Replica;
 use rep_ops::Delta;
 use sn_flow::Config;
 use sn_topic::{Predefined, TopicName};
-use std::alloc::Global;
+use std::alloc::{AllocError, Global};
 
 /// The gateways of a script, which are numbered from 1.
 #[derive(Drop)]
@@ -29,10 +28,7 @@ pub(crate) struct Played {
 
 impl Field {
     /// So many gateways.
-    pub(crate) fn new(alloc: Global, gateways: u8) -> Result<Field, RandomFault> {
-        if gateways == 0 || gateways > 8 {
-            return Err(RandomFault::Gateways);
-        }
+    pub(crate) fn new(alloc: Global, gateways: u8) -> Result<Field, AllocError> {
         let mut configs = Vec::new(alloc);
         for gateway in 1..=gateways {
             configs.push(config(alloc, gateway)?)?;
@@ -45,26 +41,30 @@ impl Field {
         &self,
         alloc: Global,
         events: &[Event],
-    ) -> Result<Option<Played>, RandomFault> {
+    ) -> Result<Option<Played>, AllocError> {
         match run::<R>(alloc, self.configs.as_slice(), events) {
-            Ok(World {
-                answers, deltas, ..
-            }) => Ok(Some(Played { answers, deltas })),
-            Err(WorldFault::Memory) => Err(RandomFault::Memory),
+            Ok(
+                World {
+                    answers,
+                    deltas,
+                    ..
+                },
+            ) => Ok(Some(Played { answers, deltas })),
+            Err(WorldFault::Memory) => Err(AllocError),
             Err(_) => Ok(None),
         }
     }
 }
 
 /// What a gateway is told.
-fn config(alloc: Global, gateway: u8) -> Result<Config, RandomFault> {
+fn config(alloc: Global, gateway: u8) -> Result<Config, AllocError> {
     let Ok(name) = TopicName::new(alloc, PREDEFINED) else {
-        return Err(RandomFault::Memory);
+        return Err(AllocError);
     };
     let mut entries = Vec::new(alloc);
     entries.push((PREDEFINED_ID, name))?;
     let Ok(predefined) = Predefined::new(alloc, entries) else {
-        return Err(RandomFault::Memory);
+        return Err(AllocError);
     };
     Ok(Config {
         gateway,

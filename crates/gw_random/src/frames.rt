@@ -68,7 +68,9 @@ fn msg_id(draw: &mut Draw) -> u16 {
 fn message(alloc: Global, draw: &mut Draw) -> Result<Octets, AllocError> {
     let mut octets = Vec::new(alloc);
     for _ in 0..draw.octet_below(4) {
-        octets.push(draw.octet_below(255)).map_err(AllocError::from)?;
+        octets
+            .push(draw.octet_below(255))
+            .map_err(AllocError::from)?;
     }
     Ok(Octets::new(octets))
 }
@@ -79,11 +81,7 @@ fn service(draw: &mut Draw) -> u8 {
 }
 
 /// A frame that a client sends of itself.
-pub(crate) fn any_frame(
-    alloc: Global,
-    draw: &mut Draw,
-    client: u8,
-) -> Result<Frame, AllocError> {
+pub(crate) fn any_frame(alloc: Global, draw: &mut Draw, client: u8) -> Result<Frame, AllocError> {
     match draw.octet_below(20) {
         0..=2 => register(alloc, draw),
         3..=6 => subscribe(alloc, draw),
@@ -99,11 +97,7 @@ pub(crate) fn any_frame(
 }
 
 /// CONNECT, clean or not, with a will or without.
-pub(crate) fn connect(
-    alloc: Global,
-    draw: &mut Draw,
-    client: u8,
-) -> Result<Frame, AllocError> {
+pub(crate) fn connect(alloc: Global, draw: &mut Draw, client: u8) -> Result<Frame, AllocError> {
     let clean = if draw.is_once_in(3) { 4 } else { 0 };
     let will = if draw.is_once_in(3) { 8 } else { 0 };
     Ok(Frame::Connect {
@@ -199,7 +193,9 @@ fn will(alloc: Global, draw: &mut Draw) -> Result<Option<Will>, AllocError> {
         return Ok(None);
     }
     Ok(Some(Will {
-        flags: Flags { bits: service(draw) },
+        flags: Flags {
+            bits: service(draw),
+        },
         topic: Octets::from_slice(alloc, name(draw))?,
     }))
 }
@@ -238,11 +234,7 @@ fn asleep(draw: &mut Draw) -> Frame {
 }
 
 /// PINGREQ with the client's id, or without one.
-pub(crate) fn ping(
-    alloc: Global,
-    draw: &mut Draw,
-    client: u8,
-) -> Result<Frame, AllocError> {
+pub(crate) fn ping(alloc: Global, draw: &mut Draw, client: u8) -> Result<Frame, AllocError> {
     if draw.is_once_in(4) {
         return Ok(Frame::PingReq {
             client: Octets::new(Vec::new(alloc)),
@@ -284,7 +276,9 @@ pub(crate) fn reply(
         Frame::WillTopicReq => Ok(Some(will_topic(alloc, draw)?)),
         Frame::WillMsgReq => Ok(Some(will_message(alloc, draw)?)),
         Frame::Register {
-            topic_id, msg_id, ..
+            topic_id,
+            msg_id,
+            ..
         } => Ok(Some(Frame::RegAck {
             topic_id: *topic_id,
             msg_id: *msg_id,

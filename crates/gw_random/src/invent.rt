@@ -1,7 +1,6 @@
 //! A script from a seed.
 
 use super::draw::Draw;
-use super::fault::RandomFault;
 use super::field::{Field, added};
 use super::frames::{any_frame, connect, octets_of, ping, reply};
 use super::listed::Listed;
@@ -9,7 +8,7 @@ use gw_world::{Answer, Event, Out};
 use rep_model::Replica;
 use sn_flow::Addr;
 use sn_frame::{Frame, decode};
-use std::alloc::Global;
+use std::alloc::{AllocError, Global};
 
 /// How many rounds a script has. Between two of them it is played, so that the next can answer.
 const ROUNDS: u8 = 12;
@@ -44,7 +43,7 @@ pub(crate) fn invented<R: Replica>(
     alloc: Global,
     field: &Field,
     seed: u64,
-) -> Result<Vec<Event>, RandomFault> {
+) -> Result<Vec<Event>, AllocError> {
     let mut events = Vec::new(alloc);
     let mut invention = Invention::begun(alloc, field.gateways, seed)?;
     invention.arrivals(alloc, &mut events)?;
@@ -64,7 +63,7 @@ pub(crate) fn invented<R: Replica>(
 
 impl Invention {
     /// Nothing has happened.
-    fn begun(alloc: Global, gateways: u8, seed: u64) -> Result<Invention, RandomFault> {
+    fn begun(alloc: Global, gateways: u8, seed: u64) -> Result<Invention, AllocError> {
         let mut draw = Draw::new(seed);
         let mut homes = Vec::new(alloc);
         for _ in 0..draw.octet_below(4).saturating_add(2) {
@@ -112,7 +111,7 @@ impl Invention {
         client: u8,
         gateway: u8,
         frame: &Frame,
-    ) -> Result<Event, RandomFault> {
+    ) -> Result<Event, AllocError> {
         let sender = if self.draw.is_once_in(40) {
             self.client()
         } else {
@@ -130,7 +129,7 @@ impl Invention {
     }
 
     /// Each client connects.
-    fn arrivals(&mut self, alloc: Global, events: &mut Vec<Event>) -> Result<(), RandomFault> {
+    fn arrivals(&mut self, alloc: Global, events: &mut Vec<Event>) -> Result<(), AllocError> {
         for client in 0..self.homes.len() {
             let client = u8::try_from(client).unwrap_or(0);
             let event = self.connects(alloc, client, false)?;
@@ -140,14 +139,14 @@ impl Invention {
     }
 
     /// A client connects.
-    fn connects(&mut self, alloc: Global, client: u8, roams: bool) -> Result<Event, RandomFault> {
+    fn connects(&mut self, alloc: Global, client: u8, roams: bool) -> Result<Event, AllocError> {
         let gateway = self.home(client, roams);
         let frame = connect(alloc, &mut self.draw, client)?;
         self.frame(alloc, client, gateway, &frame)
     }
 
     /// A client sends something of itself.
-    fn sends(&mut self, alloc: Global) -> Result<Event, RandomFault> {
+    fn sends(&mut self, alloc: Global) -> Result<Event, AllocError> {
         let client = self.client();
         let roams = self.draw.is_once_in(3);
         match self.draw.octet_below(12) {
@@ -166,7 +165,7 @@ impl Invention {
     }
 
     /// A round of events.
-    fn round(&mut self, alloc: Global, events: &mut Vec<Event>) -> Result<(), RandomFault> {
+    fn round(&mut self, alloc: Global, events: &mut Vec<Event>) -> Result<(), AllocError> {
         for _ in 0..self.draw.octet_below(LEAST).saturating_add(LEAST) {
             let event = self.event(alloc)?;
             events.push(event)?;
@@ -181,7 +180,7 @@ impl Invention {
     }
 
     /// One event.
-    fn event(&mut self, alloc: Global) -> Result<Event, RandomFault> {
+    fn event(&mut self, alloc: Global) -> Result<Event, AllocError> {
         self.wait();
         let gateway = self.gateway();
         match self.draw.octet_below(32) {
@@ -211,7 +210,7 @@ impl Invention {
     }
 
     /// A gateway takes a delta, if there is one.
-    fn takes(&mut self, alloc: Global, gateway: u8) -> Result<Event, RandomFault> {
+    fn takes(&mut self, alloc: Global, gateway: u8) -> Result<Event, AllocError> {
         match self.listed.choose(alloc, &mut self.draw, gateway)? {
             Some(delta) => Ok(Event::Take { gateway, delta }),
             None => Ok(self.ticks(gateway)),
@@ -242,7 +241,7 @@ impl Invention {
     }
 
     /// What an answer tells the inventor: which deltas there are, and what clients were sent.
-    fn learn(&mut self, alloc: Global, event: &Event, answer: &Answer) -> Result<(), RandomFault> {
+    fn learn(&mut self, alloc: Global, event: &Event, answer: &Answer) -> Result<(), AllocError> {
         let gateway = event.gateway();
         let holder = event.peer().unwrap_or(gateway);
         for _ in 0..added(answer) {
@@ -255,13 +254,13 @@ impl Invention {
     }
 
     /// Clients make up their minds what to answer to what they were sent.
-    fn hear(&mut self, alloc: Global, gateway: u8, out: &Out) -> Result<(), RandomFault> {
+    fn hear(&mut self, alloc: Global, gateway: u8, out: &Out) -> Result<(), AllocError> {
         if self.replies.len() > IN_MIND {
             self.replies.clear();
         }
         for send in out.sends.as_slice() {
             let Ok(sent) = decode(alloc, send.bytes.as_slice()) else {
-                return Err(RandomFault::Memory);
+                return Err(AllocError);
             };
             if let Some(frame) = reply(alloc, &mut self.draw, &sent)? {
                 self.replies.push(Event::Frame {

@@ -1,6 +1,5 @@
 //! A run compared with the definitions.
 
-use super::fault::RandomFault;
 use super::field::{Field, Played, added};
 use super::seat::{Seat, are_same, has_vanished};
 use gw_world::{Answer, Event, NodeFault, Out};
@@ -8,7 +7,7 @@ use octets::Sequence;
 use rep_model::{ClientView, Replica};
 use rep_ops::{ClientId, Delta};
 use rep_same::same_deltas;
-use std::alloc::Global;
+use std::alloc::{AllocError, Global};
 
 /// What differs.
 #[derive(Clone, Copy, Debug, PartialEq, Eq)]
@@ -66,7 +65,7 @@ pub(crate) fn judged(
     field: &Field,
     events: &[Event],
     played: &Played,
-) -> Result<Option<Difference>, RandomFault> {
+) -> Result<Option<Difference>, AllocError> {
     let mut seats = Seats::empty(alloc, field.gateways)?;
     let both = events.iter().zip(played.answers.as_slice());
     for (at, (event, answer)) in both.enumerate() {
@@ -101,7 +100,7 @@ fn views_at(played: &Played, at: usize) -> Option<&Sequence<(ClientId, ClientVie
 
 impl Seats {
     /// Gateways that have made and taken nothing.
-    fn empty(alloc: Global, gateways: u8) -> Result<Seats, RandomFault> {
+    fn empty(alloc: Global, gateways: u8) -> Result<Seats, AllocError> {
         let mut seats = Vec::new(alloc);
         for _ in 0..gateways {
             seats.push(Seat::empty(alloc)?)?;
@@ -117,7 +116,7 @@ impl Seats {
         at: usize,
         event: &Event,
         answer: &Answer,
-    ) -> Result<Option<What>, RandomFault> {
+    ) -> Result<Option<What>, AllocError> {
         self.listed = self.listed.saturating_add(added(answer));
         let place = usize::from(event.gateway().saturating_sub(1));
         let Some(seat) = self.seats.get_mut(place) else {
@@ -132,7 +131,7 @@ impl Seats {
     }
 
     /// What differs between gateways that have exchanged all, if something does.
-    fn settled(&self, alloc: Global, played: &Played) -> Result<Option<What>, RandomFault> {
+    fn settled(&self, alloc: Global, played: &Played) -> Result<Option<What>, AllocError> {
         let Some((first, rest)) = self.seats.as_slice().split_first() else {
             return Ok(None);
         };
@@ -151,10 +150,10 @@ impl Seats {
 }
 
 /// What must be kept of a gateway's set.
-fn held_of(alloc: Global, seat: &Seat) -> Result<Vec<Delta>, RandomFault> {
+fn held_of(alloc: Global, seat: &Seat) -> Result<Vec<Delta>, AllocError> {
     match seat.plain.held(alloc) {
         Ok(held) => Ok(held),
-        Err(_) => Err(RandomFault::Memory),
+        Err(_) => Err(AllocError),
     }
 }
 
@@ -191,7 +190,7 @@ fn follow_out(
     listed: u64,
     event: &Event,
     out: &Out,
-) -> Result<Option<What>, RandomFault> {
+) -> Result<Option<What>, AllocError> {
     seat.latest = number_of(listed, event, out);
     let Some(number) = seat.latest else {
         return Ok(None);
@@ -224,7 +223,7 @@ fn follow_views(
     played: &Played,
     at: usize,
     views: &[(ClientId, ClientView)],
-) -> Result<Option<What>, RandomFault> {
+) -> Result<Option<What>, AllocError> {
     let delta = match seat.latest {
         Some(number) => delta_at(played, number),
         None => None,

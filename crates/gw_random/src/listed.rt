@@ -1,8 +1,7 @@
 //! Which deltas there are, and which gateways have them.
 
 use super::draw::Draw;
-use super::fault::RandomFault;
-use std::alloc::Global;
+use std::alloc::{AllocError, Global};
 
 /// Which gateways have each delta of the list: the first gateway is the lowest bit.
 #[derive(Drop)]
@@ -38,7 +37,7 @@ impl Listed {
     }
 
     /// One more delta, which this gateway has.
-    pub(crate) fn add(&mut self, gateway: u8) -> Result<(), RandomFault> {
+    pub(crate) fn add(&mut self, gateway: u8) -> Result<(), AllocError> {
         self.holders.push(bit_of(gateway))?;
         Ok(())
     }
@@ -49,7 +48,7 @@ impl Listed {
         alloc: Global,
         draw: &mut Draw,
         gateway: u8,
-    ) -> Result<Option<u64>, RandomFault> {
+    ) -> Result<Option<u64>, AllocError> {
         let bit = bit_of(gateway);
         let any = draw.is_once_in(10);
         let mut open = Vec::new(alloc);

@@ -45,6 +45,9 @@ pub fn random_run<R: Replica>(
     ensures whole { IfOk result (λ report. report.found ≡ None → events ≤ report.events) }
     ensures gateways { (result ≡ Err RandomFault.Gateways) ↔ ((gateways ≡ 0) ⊎ (8 < gateways)) }
 {
+    if gateways == 0 || gateways > 8 {
+        return Err(RandomFault::Gateways);
+    }
     let field = Field::new(alloc, gateways)?;
     let mut draw = Draw::new(seed);
     let mut played = 0u64;
@@ -75,7 +78,7 @@ fn look<R: Replica>(
     field: &Field,
     seed: u64,
     events: Vec<Event>,
-) -> Result<Option<Found>, RandomFault> {
+) -> Result<Option<Found>, AllocError> {
     match examined::<R>(alloc, field, events.as_slice())? {
         Verdict::Same => Ok(None),
         Verdict::Stuck => Ok(Some(stuck(alloc, field, seed, events.as_slice())?)),
@@ -84,18 +87,13 @@ fn look<R: Replica>(
             difference,
         } => {
             let short = shortened::<R>(alloc, field, events, all, difference)?;
-            Ok(Some(found(alloc, field, seed, &short)?))
+            Ok(Some(describe(alloc, field, seed, &short)?))
         }
     }
 }
 
 /// A script that cannot be played.
-fn stuck(
-    alloc: Global,
-    field: &Field,
-    seed: u64,
-    events: &[Event],
-) -> Result<Found, AllocError> {
+fn stuck(alloc: Global, field: &Field, seed: u64, events: &[Event]) -> Result<Found, AllocError> {
     let words = What::Stopped.words();
     Ok(Found {
         script: script(alloc, field.gateways, events)?,
@@ -104,7 +102,7 @@ fn stuck(
 }
 
 /// A short script that differs, and what differs.
-fn found(alloc: Global, field: &Field, seed: u64, short: &Short) -> Result<Found, RandomFault> {
+fn describe(alloc: Global, field: &Field, seed: u64, short: &Short) -> Result<Found, AllocError> {
     let Difference { at, gateway, what } = short.difference;
     let mut front = Vec::new(alloc);
     let until = short.all.as_slice().iter().take(at.saturating_add(1));

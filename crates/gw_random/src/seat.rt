@@ -1,11 +1,10 @@
 //! What a gateway must show by the definitions.
 
-use super::fault::RandomFault;
 use rep_model::{ClientView, Replica, TakeFault};
 use rep_ops::{ClientId, Delta, Op, Put};
 use rep_plain::Plain;
 use rep_same::{same_client, same_put, same_view};
-use std::alloc::Global;
+use std::alloc::{AllocError, Global};
 
 /// What a gateway must show: the views of the set that it has made and taken.
 #[derive(Drop)]
@@ -20,9 +19,9 @@ pub(crate) struct Seat {
 
 impl Seat {
     /// A gateway that has made and taken nothing.
-    pub(crate) fn empty(alloc: Global) -> Result<Seat, RandomFault> {
+    pub(crate) fn empty(alloc: Global) -> Result<Seat, AllocError> {
         let Ok(plain) = Plain::empty(alloc) else {
-            return Err(RandomFault::Memory);
+            return Err(AllocError);
         };
         Ok(Seat {
             plain,
@@ -32,13 +31,13 @@ impl Seat {
     }
 
     /// Takes a delta. False where it does not fit.
-    pub(crate) fn take(&mut self, alloc: Global, delta: &Delta) -> Result<bool, RandomFault> {
+    pub(crate) fn take(&mut self, alloc: Global, delta: &Delta) -> Result<bool, AllocError> {
         match self.plain.prepare(alloc, delta) {
             Ok(staged) => {
                 self.plain.commit(staged);
                 Ok(true)
             }
-            Err(TakeFault::Memory) => Err(RandomFault::Memory),
+            Err(TakeFault::Memory) => Err(AllocError),
             Err(_) => Ok(false),
         }
     }
@@ -48,9 +47,9 @@ impl Seat {
         &self,
         alloc: Global,
         views: &[(ClientId, ClientView)],
-    ) -> Result<bool, RandomFault> {
+    ) -> Result<bool, AllocError> {
         let Ok(clients) = self.plain.clients(alloc) else {
-            return Err(RandomFault::Memory);
+            return Err(AllocError);
         };
         if clients.len() != views.len() {
             return Ok(false);

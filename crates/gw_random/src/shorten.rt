@@ -2,12 +2,11 @@
 
 use super::copying::{copy_event, with_shows};
 use super::exchange::with_exchange;
-use super::fault::RandomFault;
 use super::field::{Field, added};
 use super::judge::{Difference, What, judged};
 use gw_world::Event;
 use rep_model::Replica;
-use std::alloc::Global;
+use std::alloc::{AllocError, Global};
 
 /// How often all events are looked at.
 const PASSES: u8 = 4;
@@ -44,7 +43,7 @@ pub(crate) fn examined<R: Replica>(
     alloc: Global,
     field: &Field,
     events: &[Event],
-) -> Result<Verdict, RandomFault> {
+) -> Result<Verdict, AllocError> {
     let Some(all) = with_exchange::<R>(alloc, field, events)? else {
         return Ok(Verdict::Stuck);
     };
@@ -83,7 +82,7 @@ pub(crate) fn shortened<R: Replica>(
     script: Vec<Event>,
     all: Vec<Event>,
     difference: Difference,
-) -> Result<Short, RandomFault> {
+) -> Result<Short, AllocError> {
     let mut events = script;
     events.truncate(difference.at.saturating_add(1));
     let mut short = Short {
@@ -102,11 +101,7 @@ pub(crate) fn shortened<R: Replica>(
 }
 
 /// Leaves out each event once, where the script still differs without it.
-fn pass<R: Replica>(
-    alloc: Global,
-    field: &Field,
-    short: &mut Short,
-) -> Result<(), RandomFault> {
+fn pass<R: Replica>(alloc: Global, field: &Field, short: &mut Short) -> Result<(), AllocError> {
     let counts = counts::<R>(alloc, field, short.events.as_slice())?;
     for (index, (first, count)) in counts.as_slice().iter().enumerate().rev() {
         let is_left_out = leave_out::<R>(alloc, field, short, index, *first, *count)?;
@@ -122,7 +117,7 @@ fn counts<R: Replica>(
     alloc: Global,
     field: &Field,
     events: &[Event],
-) -> Result<Vec<(u64, u64)>, RandomFault> {
+) -> Result<Vec<(u64, u64)>, AllocError> {
     let mut counts = Vec::new(alloc);
     let mut listed = 0u64;
     let Some(played) = field.play::<R>(alloc, events)? else {
@@ -144,7 +139,7 @@ fn leave_out<R: Replica>(
     index: usize,
     first: u64,
     count: u64,
-) -> Result<bool, RandomFault> {
+) -> Result<bool, AllocError> {
     let mut fewer = without(alloc, short.events.as_slice(), index, first, count)?;
     let verdict = examined::<R>(alloc, field, fewer.as_slice())?;
     let Verdict::Differs { events, difference } = verdict else {
@@ -170,7 +165,7 @@ fn without(
     index: usize,
     first: u64,
     count: u64,
-) -> Result<Vec<Event>, RandomFault> {
+) -> Result<Vec<Event>, AllocError> {
     let mut made = Vec::new(alloc);
     for (at, event) in events.iter().enumerate() {
         if at != index {
@@ -187,7 +182,7 @@ fn push_moved(
     event: &Event,
     first: u64,
     count: u64,
-) -> Result<(), RandomFault> {
+) -> Result<(), AllocError> {
     match event {
         Event::Take { gateway, delta } => {
             if *delta > first.saturating_add(count) {

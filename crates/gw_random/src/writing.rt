@@ -10,11 +10,7 @@ pub(crate) const PREDEFINED: &[u8] = b"far/off";
 pub(crate) const PREDEFINED_ID: u16 = 700;
 
 /// The lines of a script: so many gateways, and then these events.
-pub(crate) fn script(
-    alloc: Global,
-    gateways: u8,
-    events: &[Event],
-) -> Result<String, AllocError> {
+pub(crate) fn script(alloc: Global, gateways: u8, events: &[Event]) -> Result<String, AllocError> {
     let mut text = String::new(alloc);
     for number in 1..=gateways {
         gateway_lines(alloc, &mut text, number)?;
