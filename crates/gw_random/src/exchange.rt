@@ -1,0 +1,65 @@
+//! At the end gateways exchange what they have.
+
+use super::copying::append_copies;
+use super::field::{Field, Played, added};
+use gw_world::Event;
+use rep_model::Replica;
+use std::alloc::{AllocError, Global};
+
+/// The events, and behind them an exchange: each gateway is opened again, asks each other, and takes what is answered. Nothing
+/// where the events cannot be played.
+pub(crate) fn with_exchange<R: Replica>(
+    alloc: Global,
+    field: &Field,
+    events: &[Event],
+) -> Result<Option<Vec<Event>>, AllocError> {
+    let mut all = Vec::new(alloc);
+    append_copies(alloc, &mut all, events)?;
+    for gateway in 1..=field.gateways {
+        let keep = u64::MAX;
+        all.push(Event::Restart { gateway, keep })?;
+    }
+    append_questions(&mut all, field.gateways)?;
+    let Some(played) = field.play::<R>(alloc, all.as_slice())? else {
+        return Ok(None);
+    };
+    let takes = takes(alloc, all.as_slice(), &played, events.len())?;
+    append_copies(alloc, &mut all, takes.as_slice())?;
+    Ok(Some(all))
+}
+
+/// Each gateway asks each other.
+fn append_questions(all: &mut Vec<Event>, gateways: u8) -> Result<(), AllocError> {
+    for gateway in 1..=gateways {
+        for peer in 1..=gateways {
+            if gateway != peer {
+                all.push(Event::Answer { gateway, peer })?;
+            }
+        }
+    }
+    Ok(())
+}
+
+/// Each gateway takes what its questions from this index on were answered.
+fn takes(
+    alloc: Global,
+    events: &[Event],
+    played: &Played,
+    from: usize,
+) -> Result<Vec<Event>, AllocError> {
+    let mut takes = Vec::new(alloc);
+    let mut listed = 0u64;
+    let both = events.iter().zip(played.answers.as_slice());
+    for (index, (event, answer)) in both.enumerate() {
+        for _ in 0..added(answer) {
+            listed = listed.saturating_add(1);
+            if index >= from {
+                takes.push(Event::Take {
+                    gateway: event.gateway(),
+                    delta: listed,
+                })?;
+            }
+        }
+    }
+    Ok(takes)
+}

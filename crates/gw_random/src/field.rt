@@ -1,0 +1,86 @@
+//! The gateways of a script, and what they answer.
+
+use super::writing::{PREDEFINED, PREDEFINED_ID};
+use gw_world::{Answer, Event, World, WorldFault, run};
+use octets::Sequence;
+use rep_model::Replica;
+use rep_ops::Delta;
+use sn_flow::Config;
+use sn_topic::{Predefined, TopicName};
+use std::alloc::{AllocError, Global};
+
+/// The gateways of a script, which are numbered from 1.
+#[derive(Drop)]
+pub(crate) struct Field {
+    /// How many there are, 1 to 8.
+    pub(crate) gateways: u8,
+    configs: Vec<Config>,
+}
+
+/// What a run answered.
+#[derive(Drop)]
+pub(crate) struct Played {
+    /// An answer for each event.
+    pub(crate) answers: Sequence<Answer>,
+    /// The deltas that were made or answered.
+    pub(crate) deltas: Sequence<Delta>,
+}
+
+impl Field {
+    /// So many gateways.
+    pub(crate) fn new(alloc: Global, gateways: u8) -> Result<Field, AllocError> {
+        let mut configs = Vec::new(alloc);
+        for gateway in 1..=gateways {
+            configs.push(config(alloc, gateway)?)?;
+        }
+        Ok(Field { gateways, configs })
+    }
+
+    /// Plays events. Nothing where one names a delta that is not there.
+    pub(crate) fn play<R: Replica>(
+        &self,
+        alloc: Global,
+        events: &[Event],
+    ) -> Result<Option<Played>, AllocError> {
+        match run::<R>(alloc, self.configs.as_slice(), events) {
+            Ok(
+                World {
+                    answers,
+                    deltas,
+                    ..
+                },
+            ) => Ok(Some(Played { answers, deltas })),
+            Err(WorldFault::Memory) => Err(AllocError),
+            Err(_) => Ok(None),
+        }
+    }
+}
+
+/// What a gateway is told.
+fn config(alloc: Global, gateway: u8) -> Result<Config, AllocError> {
+    let Ok(name) = TopicName::new(alloc, PREDEFINED) else {
+        return Err(AllocError);
+    };
+    let mut entries = Vec::new(alloc);
+    entries.push((PREDEFINED_ID, name))?;
+    let Ok(predefined) = Predefined::new(alloc, entries) else {
+        return Err(AllocError);
+    };
+    Ok(Config {
+        gateway,
+        advertise: 0,
+        field: Sequence::empty(alloc),
+        predefined,
+    })
+}
+
+/// How many deltas an answer adds to the list.
+pub(crate) fn added(answer: &Answer) -> u64 {
+    match answer {
+        Answer::Node(Ok(out)) => {
+            let made = if out.made.is_some() { 1 } else { 0 };
+            (out.answer.len() as u64).saturating_add(made)
+        }
+        Answer::Node(Err(_)) | Answer::Views(_) | Answer::Records(_) => 0,
+    }
+}

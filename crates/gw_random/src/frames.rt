@@ -1,0 +1,319 @@
+//! What clients send.
+
+use super::draw::Draw;
+use super::writing::{PREDEFINED, PREDEFINED_ID};
+use octets::{Octets, append_u16};
+use sn_frame::{Flags, Frame, Qos, Will, encode};
+use std::alloc::{AllocError, Global};
+
+/// Names that clients register, subscribe to and publish under.
+const NAMES: [&[u8]; 5] = [b"a/b", b"a/c", b"d", b"xy", PREDEFINED];
+
+/// Filters with wildcards.
+const WILD: [&[u8]; 4] = [b"a/+", b"#", b"+/b", b"a/#"];
+
+/// The name `xy` in the place of a topic id.
+const SHORT_NAME: u16 = 0x7879;
+
+/// How long a client may be silent, in seconds.
+const SILENCE: [u16; 4] = [0, 5, 60, 600];
+
+/// The octets of a frame. None where it cannot be spelled.
+pub(crate) fn octets_of(alloc: Global, frame: &Frame) -> Result<Octets, AllocError> {
+    let mut octets = Vec::new(alloc);
+    match encode(alloc, frame, &mut octets) {
+        Ok(()) => Ok(Octets::new(octets)),
+        Err(_) => Err(AllocError),
+    }
+}
+
+/// The name of the client of this number.
+pub(crate) fn name_of(client: u8) -> [u8; 2] {
+    [b'c', client]
+}
+
+/// One of the names.
+fn name(draw: &mut Draw) -> &'static [u8] {
+    match draw.one_of(&NAMES) {
+        Some(name) => name,
+        None => PREDEFINED,
+    }
+}
+
+/// A name or a filter with wildcards.
+fn filter(draw: &mut Draw) -> &'static [u8] {
+    if draw.is_once_in(2) {
+        return name(draw);
+    }
+    match draw.one_of(&WILD) {
+        Some(filter) => filter,
+        None => PREDEFINED,
+    }
+}
+
+/// How long the client may be silent.
+fn silence(draw: &mut Draw) -> u16 {
+    match draw.one_of(&SILENCE) {
+        Some(seconds) => *seconds,
+        None => 0,
+    }
+}
+
+/// A message id, of few.
+fn msg_id(draw: &mut Draw) -> u16 {
+    u16::from(draw.octet_below(5)) + 1
+}
+
+/// A message of up to three octets.
+fn message(alloc: Global, draw: &mut Draw) -> Result<Octets, AllocError> {
+    let mut octets = Vec::new(alloc);
+    for _ in 0..draw.octet_below(4) {
+        octets
+            .push(draw.octet_below(255))
+            .map_err(AllocError::from)?;
+    }
+    Ok(Octets::new(octets))
+}
+
+/// The bits of a quality of service of 0 to 2.
+fn service(draw: &mut Draw) -> u8 {
+    draw.octet_below(3) * 32
+}
+
+/// A frame that a client sends of itself.
+pub(crate) fn any_frame(alloc: Global, draw: &mut Draw, client: u8) -> Result<Frame, AllocError> {
+    match draw.octet_below(20) {
+        0..=2 => register(alloc, draw),
+        3..=6 => subscribe(alloc, draw),
+        7 => unsubscribe(alloc, draw),
+        8..=13 => publish(alloc, draw),
+        14 => unconnected(alloc, draw),
+        15 => will_update(alloc, draw),
+        16 => Ok(Frame::Disconnect { duration: None }),
+        17 => ping(alloc, draw, client),
+        18 => Ok(odd(draw)),
+        _ => Ok(asleep(draw)),
+    }
+}
+
+/// CONNECT, clean or not, with a will or without.
+pub(crate) fn connect(alloc: Global, draw: &mut Draw, client: u8) -> Result<Frame, AllocError> {
+    let clean = if draw.is_once_in(3) { 4 } else { 0 };
+    let will = if draw.is_once_in(3) { 8 } else { 0 };
+    Ok(Frame::Connect {
+        flags: Flags { bits: clean | will },
+        protocol: 1,
+        duration: silence(draw),
+        client: Octets::from_slice(alloc, &name_of(client))?,
+    })
+}
+
+/// REGISTER of a name.
+fn register(alloc: Global, draw: &mut Draw) -> Result<Frame, AllocError> {
+    Ok(Frame::Register {
+        topic_id: 0,
+        msg_id: msg_id(draw),
+        name: Octets::from_slice(alloc, name(draw))?,
+    })
+}
+
+/// The flags and the topic of a SUBSCRIBE or UNSUBSCRIBE: in full, by its predefined id, or a short name.
+fn topic_asked(alloc: Global, draw: &mut Draw) -> Result<(Flags, Octets), AllocError> {
+    let bits = service(draw);
+    match draw.octet_below(6) {
+        0 => Ok((Flags { bits: bits | 1 }, id_octets(alloc)?)),
+        1 => Ok((Flags { bits: bits | 2 }, Octets::from_slice(alloc, b"xy")?)),
+        _ => Ok((Flags { bits }, Octets::from_slice(alloc, filter(draw))?)),
+    }
+}
+
+/// The predefined topic id as octets.
+fn id_octets(alloc: Global) -> Result<Octets, AllocError> {
+    let mut octets = Vec::new(alloc);
+    append_u16(&mut octets, PREDEFINED_ID)?;
+    Ok(Octets::new(octets))
+}
+
+/// SUBSCRIBE.
+fn subscribe(alloc: Global, draw: &mut Draw) -> Result<Frame, AllocError> {
+    let (flags, topic) = topic_asked(alloc, draw)?;
+    Ok(Frame::Subscribe {
+        flags,
+        msg_id: msg_id(draw),
+        topic,
+    })
+}
+
+/// UNSUBSCRIBE.
+fn unsubscribe(alloc: Global, draw: &mut Draw) -> Result<Frame, AllocError> {
+    let (flags, topic) = topic_asked(alloc, draw)?;
+    Ok(Frame::Unsubscribe {
+        flags,
+        msg_id: msg_id(draw),
+        topic,
+    })
+}
+
+/// The bits of a topic field's type, and the field: an id of the session, the predefined id, or a short name.
+fn topic_field(draw: &mut Draw) -> (u8, u16) {
+    match draw.octet_below(4) {
+        0 => (1, PREDEFINED_ID),
+        1 => (2, SHORT_NAME),
+        _ => (0, u16::from(draw.octet_below(5)) + 1),
+    }
+}
+
+/// PUBLISH at quality of service 0 to 2.
+fn publish(alloc: Global, draw: &mut Draw) -> Result<Frame, AllocError> {
+    let (kind, topic) = topic_field(draw);
+    let bits = service(draw) | kind;
+    let again = if draw.is_once_in(8) { 128 } else { 0 };
+    Ok(Frame::Publish {
+        flags: Flags { bits: bits | again },
+        topic,
+        msg_id: msg_id(draw),
+        body: message(alloc, draw)?,
+    })
+}
+
+/// PUBLISH at quality of service -1.
+fn unconnected(alloc: Global, draw: &mut Draw) -> Result<Frame, AllocError> {
+    let (kind, topic) = topic_field(draw);
+    Ok(Frame::Publish {
+        flags: Flags { bits: 96 | kind },
+        topic,
+        msg_id: 0,
+        body: message(alloc, draw)?,
+    })
+}
+
+/// A will's flags and topic, or none.
+fn will(alloc: Global, draw: &mut Draw) -> Result<Option<Will>, AllocError> {
+    if draw.is_once_in(5) {
+        return Ok(None);
+    }
+    Ok(Some(Will {
+        flags: Flags {
+            bits: service(draw),
+        },
+        topic: Octets::from_slice(alloc, name(draw))?,
+    }))
+}
+
+/// WILLTOPIC, the answer to WILLTOPICREQ.
+pub(crate) fn will_topic(alloc: Global, draw: &mut Draw) -> Result<Frame, AllocError> {
+    Ok(Frame::WillTopic {
+        will: will(alloc, draw)?,
+    })
+}
+
+/// WILLMSG, the answer to WILLMSGREQ.
+pub(crate) fn will_message(alloc: Global, draw: &mut Draw) -> Result<Frame, AllocError> {
+    Ok(Frame::WillMsg {
+        message: message(alloc, draw)?,
+    })
+}
+
+/// An update of the will: of its topic, or of its message.
+fn will_update(alloc: Global, draw: &mut Draw) -> Result<Frame, AllocError> {
+    if draw.is_once_in(2) {
+        return Ok(Frame::WillTopicUpd {
+            will: will(alloc, draw)?,
+        });
+    }
+    Ok(Frame::WillMsgUpd {
+        message: message(alloc, draw)?,
+    })
+}
+
+/// DISCONNECT with a duration.
+fn asleep(draw: &mut Draw) -> Frame {
+    Frame::Disconnect {
+        duration: Some(silence(draw)),
+    }
+}
+
+/// PINGREQ with the client's id, or without one.
+pub(crate) fn ping(alloc: Global, draw: &mut Draw, client: u8) -> Result<Frame, AllocError> {
+    if draw.is_once_in(4) {
+        return Ok(Frame::PingReq {
+            client: Octets::new(Vec::new(alloc)),
+        });
+    }
+    Ok(Frame::PingReq {
+        client: Octets::from_slice(alloc, &name_of(client))?,
+    })
+}
+
+/// A frame that answers nothing, or that no client sends.
+fn odd(draw: &mut Draw) -> Frame {
+    let msg_id = msg_id(draw);
+    match draw.octet_below(6) {
+        0 => Frame::PubRel { msg_id },
+        1 => Frame::PubRec { msg_id },
+        2 => Frame::PubComp { msg_id },
+        3 => Frame::SearchGw { radius: 1 },
+        4 => Frame::PubAck {
+            topic_id: 1,
+            msg_id,
+            code: draw.octet_below(4),
+        },
+        _ => Frame::RegAck {
+            topic_id: 1,
+            msg_id,
+            code: draw.octet_below(4),
+        },
+    }
+}
+
+/// What a client answers to a frame that it was sent, if it answers.
+pub(crate) fn reply(
+    alloc: Global,
+    draw: &mut Draw,
+    sent: &Frame,
+) -> Result<Option<Frame>, AllocError> {
+    match sent {
+        Frame::WillTopicReq => Ok(Some(will_topic(alloc, draw)?)),
+        Frame::WillMsgReq => Ok(Some(will_message(alloc, draw)?)),
+        Frame::Register {
+            topic_id,
+            msg_id,
+            ..
+        } => Ok(Some(Frame::RegAck {
+            topic_id: *topic_id,
+            msg_id: *msg_id,
+            code: code(draw),
+        })),
+        Frame::Publish {
+            flags,
+            topic,
+            msg_id,
+            ..
+        } => Ok(received(draw, *flags, *topic, *msg_id)),
+        Frame::PubRec { msg_id } => Ok(Some(Frame::PubRel { msg_id: *msg_id })),
+        Frame::PubRel { msg_id } => Ok(Some(Frame::PubComp { msg_id: *msg_id })),
+        _ => Ok(None),
+    }
+}
+
+/// A return code, accepted most times.
+fn code(draw: &mut Draw) -> u8 {
+    if draw.is_once_in(8) {
+        draw.octet_below(4)
+    } else {
+        0
+    }
+}
+
+/// What a client answers to a publication.
+fn received(draw: &mut Draw, flags: Flags, topic: u16, msg_id: u16) -> Option<Frame> {
+    match flags.qos() {
+        Qos::One => Some(Frame::PubAck {
+            topic_id: topic,
+            msg_id,
+            code: code(draw),
+        }),
+        Qos::Two => Some(Frame::PubRec { msg_id }),
+        Qos::Zero | Qos::MinusOne => None,
+    }
+}

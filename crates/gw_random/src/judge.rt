@@ -1,0 +1,245 @@
+//! A run compared with the definitions.
+
+use super::field::{Field, Played, added};
+use super::seat::{Seat, are_same, has_vanished};
+use gw_world::{Answer, Event, NodeFault, Out};
+use octets::Sequence;
+use rep_model::{ClientView, Replica};
+use rep_ops::{ClientId, Delta};
+use rep_same::same_deltas;
+use std::alloc::{AllocError, Global};
+
+/// What differs.
+#[derive(Clone, Copy, Debug, PartialEq, Eq)]
+pub(crate) enum What {
+    /// The run stops where it must not.
+    Stopped,
+    /// A delta contradicts what was taken, or is refused.
+    Refused,
+    /// A gateway does not show the views of its set.
+    Views,
+    /// A message that waited waits no more, and was not acknowledged.
+    Vanished,
+    /// Gateways that exchanged what they have do not have the same.
+    Sets,
+    /// Gateways that have the same do not show the same.
+    Apart,
+}
+
+/// Where a run differs from the definitions.
+#[derive(Clone, Copy, Debug)]
+pub(crate) struct Difference {
+    /// The index of the event.
+    pub(crate) at: usize,
+    /// The gateway.
+    pub(crate) gateway: u8,
+    /// What differs.
+    pub(crate) what: What,
+}
+
+impl What {
+    /// What differs, in words.
+    pub(crate) fn words(self) -> &'static str {
+        match self {
+            What::Stopped => "the run stops",
+            What::Refused => "a delta is refused",
+            What::Views => "what is shown is not what the set says",
+            What::Vanished => "a message waits no more that was not acknowledged",
+            What::Sets => "gateways have exchanged all and have not the same",
+            What::Apart => "gateways have the same and do not show the same",
+        }
+    }
+}
+
+/// The seats of a field's gateways.
+#[derive(Drop)]
+struct Seats {
+    seats: Vec<Seat>,
+    /// How many deltas there are.
+    listed: u64,
+}
+
+/// Where a run differs, if it does. The events are those that were played.
+pub(crate) fn judged(
+    alloc: Global,
+    field: &Field,
+    events: &[Event],
+    played: &Played,
+) -> Result<Option<Difference>, AllocError> {
+    let mut seats = Seats::empty(alloc, field.gateways)?;
+    let both = events.iter().zip(played.answers.as_slice());
+    for (at, (event, answer)) in both.enumerate() {
+        if let Some(what) = seats.follow(alloc, played, at, event, answer)? {
+            let gateway = event.gateway();
+            return Ok(Some(Difference { at, gateway, what }));
+        }
+    }
+    let Some(what) = seats.settled(alloc, played)? else {
+        return Ok(None);
+    };
+    Ok(Some(Difference {
+        at: events.len(),
+        gateway: field.gateways,
+        what,
+    }))
+}
+
+/// The delta of this number; the first has number 1.
+fn delta_at(played: &Played, number: u64) -> Option<&Delta> {
+    let index = usize::try_from(number.checked_sub(1)?).ok()?;
+    played.deltas.as_slice().get(index)
+}
+
+/// The views of an answer.
+fn views_at(played: &Played, at: usize) -> Option<&Sequence<(ClientId, ClientView)>> {
+    match played.answers.as_slice().get(at)? {
+        Answer::Views(views) => Some(views),
+        Answer::Node(_) | Answer::Records(_) => None,
+    }
+}
+
+impl Seats {
+    /// Gateways that have made and taken nothing.
+    fn empty(alloc: Global, gateways: u8) -> Result<Seats, AllocError> {
+        let mut seats = Vec::new(alloc);
+        for _ in 0..gateways {
+            seats.push(Seat::empty(alloc)?)?;
+        }
+        Ok(Seats { seats, listed: 0 })
+    }
+
+    /// Goes on by one event. What differs, if something does.
+    fn follow(
+        &mut self,
+        alloc: Global,
+        played: &Played,
+        at: usize,
+        event: &Event,
+        answer: &Answer,
+    ) -> Result<Option<What>, AllocError> {
+        self.listed = self.listed.saturating_add(added(answer));
+        let place = usize::from(event.gateway().saturating_sub(1));
+        let Some(seat) = self.seats.get_mut(place) else {
+            return Ok(Some(What::Stopped));
+        };
+        match answer {
+            Answer::Node(Ok(out)) => follow_out(alloc, seat, played, self.listed, event, out),
+            Answer::Node(Err(fault)) => Ok(follow_fault(seat, fault)),
+            Answer::Views(views) => follow_views(alloc, seat, played, at, views.as_slice()),
+            Answer::Records(_) => Ok(None),
+        }
+    }
+
+    /// What differs between gateways that have exchanged all, if something does.
+    fn settled(&self, alloc: Global, played: &Played) -> Result<Option<What>, AllocError> {
+        let Some((first, rest)) = self.seats.as_slice().split_first() else {
+            return Ok(None);
+        };
+        let held = held_of(alloc, first)?;
+        for seat in rest {
+            let other = held_of(alloc, seat)?;
+            if !same_deltas(held.as_slice(), other.as_slice()) {
+                return Ok(Some(What::Sets));
+            }
+            if !show_same(played, first, seat) {
+                return Ok(Some(What::Apart));
+            }
+        }
+        Ok(None)
+    }
+}
+
+/// What must be kept of a gateway's set.
+fn held_of(alloc: Global, seat: &Seat) -> Result<Vec<Delta>, AllocError> {
+    match seat.plain.held(alloc) {
+        Ok(held) => Ok(held),
+        Err(_) => Err(AllocError),
+    }
+}
+
+/// Whether two gateways showed the same last, where both were shown.
+fn show_same(played: &Played, one: &Seat, other: &Seat) -> bool {
+    let (Some(one), Some(other)) = (one.shown, other.shown) else {
+        return true;
+    };
+    match (views_at(played, one), views_at(played, other)) {
+        (Some(one), Some(other)) => are_same(one.as_slice(), other.as_slice()),
+        _ => true,
+    }
+}
+
+/// The number of the delta that an event made or took. So many deltas are listed then.
+fn number_of(listed: u64, event: &Event, out: &Out) -> Option<u64> {
+    match event {
+        Event::Take { delta, .. } => Some(*delta),
+        _ => {
+            if out.made.is_some() {
+                Some(listed)
+            } else {
+                None
+            }
+        }
+    }
+}
+
+/// A gateway did what it was to do.
+fn follow_out(
+    alloc: Global,
+    seat: &mut Seat,
+    played: &Played,
+    listed: u64,
+    event: &Event,
+    out: &Out,
+) -> Result<Option<What>, AllocError> {
+    seat.latest = number_of(listed, event, out);
+    let Some(number) = seat.latest else {
+        return Ok(None);
+    };
+    let Some(delta) = delta_at(played, number) else {
+        return Ok(Some(What::Stopped));
+    };
+    if seat.take(alloc, delta)? {
+        Ok(None)
+    } else {
+        Ok(Some(What::Refused))
+    }
+}
+
+/// A gateway refused. Only frames that are none may be refused, and what would pass a limit.
+fn follow_fault(seat: &mut Seat, fault: &NodeFault) -> Option<What> {
+    seat.latest = None;
+    match fault {
+        NodeFault::Frame { .. } | NodeFault::Full | NodeFault::Exhausted => None,
+        NodeFault::Halted | NodeFault::Disk { .. } => Some(What::Refused),
+        NodeFault::Conflict { .. } | NodeFault::Journal { .. } => Some(What::Refused),
+        NodeFault::Memory => Some(What::Stopped),
+    }
+}
+
+/// A gateway is shown.
+fn follow_views(
+    alloc: Global,
+    seat: &mut Seat,
+    played: &Played,
+    at: usize,
+    views: &[(ClientId, ClientView)],
+) -> Result<Option<What>, AllocError> {
+    let delta = match seat.latest {
+        Some(number) => delta_at(played, number),
+        None => None,
+    };
+    if let Some(before) = seat.shown {
+        if let Some(before) = views_at(played, before) {
+            if has_vanished(before.as_slice(), views, delta) {
+                return Ok(Some(What::Vanished));
+            }
+        }
+    }
+    seat.shown = Some(at);
+    seat.latest = None;
+    if seat.shows(alloc, views)? {
+        Ok(None)
+    } else {
+        Ok(Some(What::Views))
+    }
+}

@@ -1,0 +1,37 @@
+//! A simulator that invents its failures.
+//!
+//! `random_run` makes scripts from a seed, plays each through the real thing (`gw_world::run`), and checks at each step what the
+//! definitions say: a gateway shows the views of the set that it made and took, and a message that waits goes away only by its
+//! acknowledgement. A script that shows something else is made short and is part of the report.
+//!
+//! - `draw`: numbers that look random.
+//! - `frames`: what clients send.
+//! - `field`: the gateways of a script, and what they answer (`Field`).
+//! - `invent`: a script from a seed (`Invention`).
+//! - `listed`: which deltas there are, and who has them.
+//! - `writing`: events as lines that the simulator reads.
+//! - `copying`: equal events, and events with what each leaves shown.
+//! - `seat`: what a gateway must show by the definitions (`Seat`).
+//! - `judge`: a run compared with the definitions (`Difference`).
+//! - `exchange`: at the end gateways exchange what they have.
+//! - `shorten`: a script that differs, made short.
+//! - `report`: all of it (`random_run`, `Report`).
+//! - `fault`: why there is no report.
+#![tactic(auto)]
+
+mod copying;
+mod draw;
+mod exchange;
+mod fault;
+mod field;
+mod frames;
+mod invent;
+mod judge;
+mod listed;
+mod report;
+mod seat;
+mod shorten;
+mod writing;
+
+pub use fault::RandomFault;
+pub use report::{Found, Report, random_run};

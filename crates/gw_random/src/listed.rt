@@ -1,0 +1,68 @@
+//! Which deltas there are, and which gateways have them.
+
+use super::draw::Draw;
+use std::alloc::{AllocError, Global};
+
+/// Which gateways have each delta of the list: the first gateway is the lowest bit.
+#[derive(Drop)]
+pub(crate) struct Listed {
+    holders: Vec<u8>,
+}
+
+/// The bit of a gateway.
+fn bit_of(gateway: u8) -> u8 {
+    match gateway {
+        1 => 1,
+        2 => 2,
+        3 => 4,
+        4 => 8,
+        5 => 16,
+        6 => 32,
+        7 => 64,
+        _ => 128,
+    }
+}
+
+impl Listed {
+    /// There is no delta.
+    pub(crate) fn empty(alloc: Global) -> Listed {
+        Listed {
+            holders: Vec::new(alloc),
+        }
+    }
+
+    /// How many deltas there are.
+    pub(crate) fn count(&self) -> u64 {
+        self.holders.len() as u64
+    }
+
+    /// One more delta, which this gateway has.
+    pub(crate) fn add(&mut self, gateway: u8) -> Result<(), AllocError> {
+        self.holders.push(bit_of(gateway))?;
+        Ok(())
+    }
+
+    /// The number of a delta that the gateway is to take: mostly one that it has not, and sometimes any.
+    pub(crate) fn choose(
+        &mut self,
+        alloc: Global,
+        draw: &mut Draw,
+        gateway: u8,
+    ) -> Result<Option<u64>, AllocError> {
+        let bit = bit_of(gateway);
+        let any = draw.is_once_in(10);
+        let mut open = Vec::new(alloc);
+        for (index, holders) in self.holders.as_slice().iter().enumerate() {
+            if any || *holders & bit == 0 {
+                open.push(index)?;
+            }
+        }
+        let Some(index) = draw.one_of(open.as_slice()).copied() else {
+            return Ok(None);
+        };
+        if let Some(holders) = self.holders.get_mut(index) {
+            *holders |= bit;
+        }
+        Ok(Some((index as u64).saturating_add(1)))
+    }
+}

@@ -1,0 +1,123 @@
+//! Scripts from a seed, as many as asked for.
+
+ghost use Rattle.std.specs.Prelude.{◌≡◌, ◌≤◌, ◌<◌, ◌⊎◌, ◌↔◌, IfOk, None, Err};
+
+use super::copying::copy_event;
+use super::draw::Draw;
+use super::fault::RandomFault;
+use super::field::Field;
+use super::invent::invented;
+use super::judge::{Difference, What};
+use super::shorten::{Short, Verdict, examined, shortened};
+use super::writing::script;
+use gw_world::Event;
+use rep_model::Replica;
+use std::alloc::{AllocError, Global};
+
+/// A script that shows something else than the definitions say.
+#[derive(Debug, Drop)]
+pub struct Found {
+    /// The script, as lines that the simulator reads.
+    pub script: String,
+    /// What differs, in a line.
+    pub told: String,
+}
+
+/// What came of the scripts of a seed.
+#[derive(Debug, Drop)]
+pub struct Report {
+    /// How many events the scripts had.
+    pub events: u64,
+    /// How many scripts were played.
+    pub scripts: u64,
+    /// The first that differs, if one does.
+    pub found: Option<Found>,
+}
+
+/// Plays random scripts over so many gateways, of so many events in all, and says where one differs from the definitions.
+pub fn random_run<R: Replica>(
+    alloc: Global,
+    seed: u64,
+    events: u64,
+    gateways: u8,
+) -> Result<Report, RandomFault>
+    // Where nothing is found, so many events were played.
+    ensures whole { IfOk result (λ report. report.found ≡ None → events ≤ report.events) }
+    ensures gateways { (result ≡ Err RandomFault.Gateways) ↔ ((gateways ≡ 0) ⊎ (8 < gateways)) }
+{
+    if gateways == 0 || gateways > 8 {
+        return Err(RandomFault::Gateways);
+    }
+    let field = Field::new(alloc, gateways)?;
+    let mut draw = Draw::new(seed);
+    let mut played = 0u64;
+    let mut scripts = 0u64;
+    while played < events {
+        let own = draw.number();
+        let invented = invented::<R>(alloc, &field, own)?;
+        played = played.saturating_add((invented.len() as u64).max(1));
+        scripts = scripts.saturating_add(1);
+        if let Some(found) = look::<R>(alloc, &field, own, invented)? {
+            return Ok(Report {
+                events: played,
+                scripts,
+                found: Some(found),
+            });
+        }
+    }
+    Ok(Report {
+        events: played,
+        scripts,
+        found: None,
+    })
+}
+
+/// What differs in a script, if something does.
+fn look<R: Replica>(
+    alloc: Global,
+    field: &Field,
+    seed: u64,
+    events: Vec<Event>,
+) -> Result<Option<Found>, AllocError> {
+    match examined::<R>(alloc, field, events.as_slice())? {
+        Verdict::Same => Ok(None),
+        Verdict::Stuck => Ok(Some(stuck(alloc, field, seed, events.as_slice())?)),
+        Verdict::Differs {
+            events: all,
+            difference,
+        } => {
+            let short = shortened::<R>(alloc, field, events, all, difference)?;
+            Ok(Some(describe(alloc, field, seed, &short)?))
+        }
+    }
+}
+
+/// A script that cannot be played.
+fn stuck(alloc: Global, field: &Field, seed: u64, events: &[Event]) -> Result<Found, AllocError> {
+    let words = What::Stopped.words();
+    Ok(Found {
+        script: script(alloc, field.gateways, events)?,
+        told: format!(in alloc; "script {seed}: {words}")?,
+    })
+}
+
+/// A short script that differs, and what differs.
+fn describe(alloc: Global, field: &Field, seed: u64, short: &Short) -> Result<Found, AllocError> {
+    let Difference { at, gateway, what } = short.difference;
+    let mut front = Vec::new(alloc);
+    let until = short.all.as_slice().iter().take(at.saturating_add(1));
+    for event in until {
+        front.push(copy_event(alloc, event)?)?;
+    }
+    for number in 1..=field.gateways {
+        if number == gateway || what == What::Apart || what == What::Sets {
+            front.push(Event::Show { gateway: number })?;
+        }
+    }
+    let number = at.saturating_add(1);
+    let words = what.words();
+    Ok(Found {
+        script: script(alloc, field.gateways, front.as_slice())?,
+        told: format!(in alloc; "script {seed}: event {number}, gateway {gateway}: {words}")?,
+    })
+}

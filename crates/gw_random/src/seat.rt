@@ -1,0 +1,144 @@
+//! What a gateway must show by the definitions.
+
+use rep_model::{ClientView, Replica, TakeFault};
+use rep_ops::{ClientId, Delta, Op, Put};
+use rep_plain::Plain;
+use rep_same::{same_client, same_put, same_view};
+use std::alloc::{AllocError, Global};
+
+/// What a gateway must show: the views of the set that it has made and taken.
+#[derive(Drop)]
+pub(crate) struct Seat {
+    /// The set, kept whole.
+    pub(crate) plain: Plain,
+    /// The index of the answer that showed its views last.
+    pub(crate) shown: Option<usize>,
+    /// The number of the delta that it has made or taken since.
+    pub(crate) latest: Option<u64>,
+}
+
+impl Seat {
+    /// A gateway that has made and taken nothing.
+    pub(crate) fn empty(alloc: Global) -> Result<Seat, AllocError> {
+        let Ok(plain) = Plain::empty(alloc) else {
+            return Err(AllocError);
+        };
+        Ok(Seat {
+            plain,
+            shown: None,
+            latest: None,
+        })
+    }
+
+    /// Takes a delta. False where it does not fit.
+    pub(crate) fn take(&mut self, alloc: Global, delta: &Delta) -> Result<bool, AllocError> {
+        match self.plain.prepare(alloc, delta) {
+            Ok(staged) => {
+                self.plain.commit(staged);
+                Ok(true)
+            }
+            Err(TakeFault::Memory) => Err(AllocError),
+            Err(_) => Ok(false),
+        }
+    }
+
+    /// Whether these are the views of the set.
+    pub(crate) fn shows(
+        &self,
+        alloc: Global,
+        views: &[(ClientId, ClientView)],
+    ) -> Result<bool, AllocError> {
+        let Ok(clients) = self.plain.clients(alloc) else {
+            return Err(AllocError);
+        };
+        if clients.len() != views.len() {
+            return Ok(false);
+        }
+        for (client, (shown, view)) in clients.as_slice().iter().zip(views) {
+            if !same_client(client, shown) || !self.sees(client, view) {
+                return Ok(false);
+            }
+        }
+        Ok(true)
+    }
+
+    /// Whether this is the view of a client.
+    fn sees(&self, client: &ClientId, view: &ClientView) -> bool {
+        match self.plain.view_of(client) {
+            Some(seen) => same_view(seen, view),
+            None => false,
+        }
+    }
+}
+
+/// Whether two gateways show the same.
+pub(crate) fn are_same(a: &[(ClientId, ClientView)], b: &[(ClientId, ClientView)]) -> bool {
+    if a.len() != b.len() {
+        return false;
+    }
+    for ((client, view), (other, seen)) in a.iter().zip(b) {
+        if !same_client(client, other) || !same_view(view, seen) {
+            return false;
+        }
+    }
+    true
+}
+
+/// Whether a message waited before, waits no more, and this delta does not acknowledge it.
+pub(crate) fn has_vanished(
+    before: &[(ClientId, ClientView)],
+    after: &[(ClientId, ClientView)],
+    delta: Option<&Delta>,
+) -> bool {
+    for (client, view) in before {
+        for put in view.pending.as_slice() {
+            if !waits(after, client, put) && !acknowledges(delta, client, put) {
+                return true;
+            }
+        }
+    }
+    false
+}
+
+/// Whether a message waits for a client.
+fn waits(views: &[(ClientId, ClientView)], client: &ClientId, put: &Put) -> bool {
+    for (other, view) in views {
+        if same_client(other, client) {
+            return view
+                .pending
+                .as_slice()
+                .iter()
+                .any(|waiting| same_put(waiting, put));
+        }
+    }
+    false
+}
+
+/// Whether a delta acknowledges a client's message.
+fn acknowledges(delta: Option<&Delta>, client: &ClientId, put: &Put) -> bool {
+    match delta {
+        Some(delta) => delta
+            .ops()
+            .iter()
+            .any(|op| is_acknowledgement(op, client, put)),
+        None => false,
+    }
+}
+
+/// Whether an operation acknowledges a client's message.
+fn is_acknowledgement(op: &Op, client: &ClientId, put: &Put) -> bool {
+    match op {
+        Op::Ack {
+            client: other,
+            origin,
+            first,
+            last,
+        } => {
+            same_client(other, client)
+                && *origin == put.origin
+                && *first <= put.seq
+                && put.seq <= *last
+        }
+        Op::Session { .. } | Op::Put { .. } => false,
+    }
+}

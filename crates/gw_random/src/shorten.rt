@@ -1,0 +1,200 @@
+//! A script that differs, made short.
+
+use super::copying::{copy_event, with_shows};
+use super::exchange::with_exchange;
+use super::field::{Field, added};
+use super::judge::{Difference, What, judged};
+use gw_world::Event;
+use rep_model::Replica;
+use std::alloc::{AllocError, Global};
+
+/// How often all events are looked at.
+const PASSES: u8 = 4;
+
+/// What came of a script.
+#[derive(Drop)]
+pub(crate) enum Verdict {
+    /// It cannot be played.
+    Stuck,
+    /// All is as the definitions say.
+    Same,
+    /// It differs. These are all events, the exchange too.
+    Differs {
+        /// The events.
+        events: Vec<Event>,
+        /// Where it differs; the index is among these events.
+        difference: Difference,
+    },
+}
+
+/// A script that differs.
+#[derive(Drop)]
+pub(crate) struct Short {
+    /// The script, without an exchange.
+    pub(crate) events: Vec<Event>,
+    /// The script, with the exchange where it differs there.
+    pub(crate) all: Vec<Event>,
+    /// Where it differs.
+    pub(crate) difference: Difference,
+}
+
+/// What comes of a script.
+pub(crate) fn examined<R: Replica>(
+    alloc: Global,
+    field: &Field,
+    events: &[Event],
+) -> Result<Verdict, AllocError> {
+    let Some(all) = with_exchange::<R>(alloc, field, events)? else {
+        return Ok(Verdict::Stuck);
+    };
+    let shown = with_shows(alloc, all.as_slice())?;
+    let Some(played) = field.play::<R>(alloc, shown.as_slice())? else {
+        return Ok(Verdict::Stuck);
+    };
+    match judged(alloc, field, shown.as_slice(), &played)? {
+        None => Ok(Verdict::Same),
+        Some(found) => Ok(Verdict::Differs {
+            events: all,
+            difference: Difference {
+                at: place_of(shown.as_slice(), found.at),
+                ..found
+            },
+        }),
+    }
+}
+
+/// The index among all events of one that stands there among those with shows.
+fn place_of(shown: &[Event], at: usize) -> usize {
+    let mut place = 0usize;
+    for event in shown.iter().take(at.saturating_add(1)) {
+        match event {
+            Event::Show { .. } => {}
+            _ => place = place.saturating_add(1),
+        }
+    }
+    place.saturating_sub(1)
+}
+
+/// The script made as short as it can be by leaving out one event after the other, from the back.
+pub(crate) fn shortened<R: Replica>(
+    alloc: Global,
+    field: &Field,
+    script: Vec<Event>,
+    all: Vec<Event>,
+    difference: Difference,
+) -> Result<Short, AllocError> {
+    let mut events = script;
+    events.truncate(difference.at.saturating_add(1));
+    let mut short = Short {
+        events,
+        all,
+        difference,
+    };
+    for _ in 0..PASSES {
+        let before = short.events.len();
+        pass::<R>(alloc, field, &mut short)?;
+        if short.events.len() >= before {
+            break;
+        }
+    }
+    Ok(short)
+}
+
+/// Leaves out each event once, where the script still differs without it.
+fn pass<R: Replica>(alloc: Global, field: &Field, short: &mut Short) -> Result<(), AllocError> {
+    let counts = counts::<R>(alloc, field, short.events.as_slice())?;
+    for (index, (first, count)) in counts.as_slice().iter().enumerate().rev() {
+        let is_left_out = leave_out::<R>(alloc, field, short, index, *first, *count)?;
+        if !is_left_out && *count > 0 {
+            leave_out::<R>(alloc, field, short, index, *first, 0)?;
+        }
+    }
+    Ok(())
+}
+
+/// For each event, how many deltas there are before it, and how many it adds.
+fn counts<R: Replica>(
+    alloc: Global,
+    field: &Field,
+    events: &[Event],
+) -> Result<Vec<(u64, u64)>, AllocError> {
+    let mut counts = Vec::new(alloc);
+    let mut listed = 0u64;
+    let Some(played) = field.play::<R>(alloc, events)? else {
+        return Ok(counts);
+    };
+    for answer in played.answers.as_slice() {
+        let count = added(answer);
+        counts.push((listed, count))?;
+        listed = listed.saturating_add(count);
+    }
+    Ok(counts)
+}
+
+/// Leaves an event out, if the script still differs in the same way without it.
+fn leave_out<R: Replica>(
+    alloc: Global,
+    field: &Field,
+    short: &mut Short,
+    index: usize,
+    first: u64,
+    count: u64,
+) -> Result<bool, AllocError> {
+    let mut fewer = without(alloc, short.events.as_slice(), index, first, count)?;
+    let verdict = examined::<R>(alloc, field, fewer.as_slice())?;
+    let Verdict::Differs { events, difference } = verdict else {
+        return Ok(false);
+    };
+    if difference.what != short.difference.what {
+        return Ok(false);
+    }
+    fewer.truncate(difference.at.saturating_add(1));
+    *short = Short {
+        events: fewer,
+        all: events,
+        difference,
+    };
+    Ok(true)
+}
+
+/// The events without one, which follows so many deltas and added so many. These are taken no more, and later ones have other
+/// numbers.
+fn without(
+    alloc: Global,
+    events: &[Event],
+    index: usize,
+    first: u64,
+    count: u64,
+) -> Result<Vec<Event>, AllocError> {
+    let mut made = Vec::new(alloc);
+    for (at, event) in events.iter().enumerate() {
+        if at != index {
+            push_moved(alloc, &mut made, event, first, count)?;
+        }
+    }
+    Ok(made)
+}
+
+/// Appends an event, with the number that its delta then has.
+fn push_moved(
+    alloc: Global,
+    made: &mut Vec<Event>,
+    event: &Event,
+    first: u64,
+    count: u64,
+) -> Result<(), AllocError> {
+    match event {
+        Event::Take { gateway, delta } => {
+            if *delta > first.saturating_add(count) {
+                made.push(Event::Take {
+                    gateway: *gateway,
+                    delta: delta.saturating_sub(count),
+                })?;
+            } else if *delta <= first {
+                made.push(copy_event(alloc, event)?)?;
+            }
+        }
+        _ => made.push(copy_event(alloc, event)?)?,
+    }
+    Ok(())
+}

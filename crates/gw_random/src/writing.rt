@@ -1,0 +1,83 @@
+//! Events as lines that the simulator reads.
+
+use gw_world::Event;
+use std::alloc::{AllocError, Global};
+
+/// A topic that each gateway has a predefined id of.
+pub(crate) const PREDEFINED: &[u8] = b"far/off";
+
+/// Its id.
+pub(crate) const PREDEFINED_ID: u16 = 700;
+
+/// The lines of a script: so many gateways, and then these events.
+pub(crate) fn script(alloc: Global, gateways: u8, events: &[Event]) -> Result<String, AllocError> {
+    let mut text = String::new(alloc);
+    for number in 1..=gateways {
+        gateway_lines(alloc, &mut text, number)?;
+    }
+    for event in events {
+        event_line(alloc, &mut text, event)?;
+    }
+    Ok(text)
+}
+
+/// The lines of a gateway and of its predefined topic id.
+fn gateway_lines(alloc: Global, text: &mut String, number: u8) -> Result<(), AllocError> {
+    let name = hex::encode(alloc, PREDEFINED)?;
+    let id = PREDEFINED_ID;
+    writeln!(text, "gateway {number}")?;
+    writeln!(text, "predefine {number} {id} {name}")
+}
+
+/// The line of an event.
+fn event_line(alloc: Global, text: &mut String, event: &Event) -> Result<(), AllocError> {
+    match event {
+        Event::Frame {
+            gateway,
+            from,
+            bytes,
+            now,
+        } => frame_line(alloc, text, *gateway, from.port, *now, bytes.as_slice()),
+        Event::Tick { gateway, now } => numbers_line(text, "tick", *gateway, *now),
+        Event::Take { gateway, delta } => numbers_line(text, "take", *gateway, *delta),
+        Event::Answer { gateway, peer } => numbers_line(text, "answer", *gateway, u64::from(*peer)),
+        Event::Compact { gateway } => gateway_line(text, "compact", *gateway),
+        Event::Restart { gateway, keep } => restart_line(text, *gateway, *keep),
+        Event::Show { gateway } => gateway_line(text, "show", *gateway),
+    }
+}
+
+/// The line of a datagram.
+fn frame_line(
+    alloc: Global,
+    text: &mut String,
+    gateway: u8,
+    port: u16,
+    now: u64,
+    bytes: &[u8],
+) -> Result<(), AllocError> {
+    write!(text, "frame {gateway} {port} {now} ")?;
+    if bytes.is_empty() {
+        return text.push_str("-\n");
+    }
+    let digits = hex::encode(alloc, bytes)?;
+    writeln!(text, "{digits}")
+}
+
+/// A line of a word and two numbers.
+fn numbers_line(text: &mut String, word: &str, gateway: u8, number: u64) -> Result<(), AllocError> {
+    writeln!(text, "{word} {gateway} {number}")
+}
+
+/// A line of a word and a gateway.
+fn gateway_line(text: &mut String, word: &str, gateway: u8) -> Result<(), AllocError> {
+    writeln!(text, "{word} {gateway}")
+}
+
+/// The line of a gateway that is opened again.
+fn restart_line(text: &mut String, gateway: u8, keep: u64) -> Result<(), AllocError> {
+    if keep == u64::MAX {
+        return writeln!(text, "restart {gateway} all");
+    }
+    writeln!(text, "restart {gateway} {keep}")
+}

@@ -1,0 +1,40 @@
+//! The words of the command line.
+
+use clap::{Arg, ArgAction, Command};
+use std::alloc::Global;
+
+/// What was asked for.
+#[derive(Clone, Copy)]
+pub struct Options {
+    /// What the scripts are made from.
+    pub seed: u64,
+    /// How many events there are to be in all.
+    pub events: u64,
+    /// How many gateways there are.
+    pub gateways: u8,
+}
+
+/// Reads the words, the program's name first. Nothing where they do not parse, `--help` among them, or where memory ran out.
+pub(crate) fn read_words(alloc: Global, words: &[String]) -> Option<Options> {
+    let seed = Arg::new(alloc, "random")
+        .long("random")
+        .required(true)
+        .action(ArgAction::Set)
+        .value_parser(clap::value_parser!(u64).range(0..=i64::MAX));
+    let events = Arg::new(alloc, "events")
+        .long("events")
+        .action(ArgAction::Set)
+        .value_parser(clap::value_parser!(u64).range(1..=1_000_000_000));
+    let gateways = Arg::new(alloc, "gateways")
+        .long("gateways")
+        .action(ArgAction::Set)
+        .value_parser(clap::value_parser!(u8).range(1..=8));
+    let command = Command::new(alloc, "gw_sim").arg(seed).ok()?;
+    let command = command.arg(events).ok()?.arg(gateways).ok()?;
+    let matches = command.try_get_matches_from(words).ok()?;
+    Some(Options {
+        seed: matches.get_one::<u64>("random")?,
+        events: matches.get_one::<u64>("events").unwrap_or(20_000),
+        gateways: matches.get_one::<u8>("gateways").unwrap_or(3),
+    })
+}
