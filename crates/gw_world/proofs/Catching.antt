@@ -120,13 +120,13 @@ after-later old (Compact number) Nothing new j S h l = absurd h
 after-later old (Restart number kept) Nothing new j S h l = absurd h
 after-later old (Show number) Nothing new j S h l = absurd h
 
-run-later : (old : Field) (events : List Event) (answers : List Answer) (new : Field) (j : ℕ) (S : List Op) → Run old events answers new → Later old.gateways j S → Later new.gateways j S
+pub run-later : (old : Field) (events : List Event) (answers : List Answer) (new : Field) (j : ℕ) (S : List Op) → Run old events answers new → Later old.gateways j S → Later new.gateways j S
 run-later old [] [] new j S h l = subst (λ (x : Field). Later x.gateways j S) (sym h) l
 run-later old (event ∷ events) (answer ∷ answers) new j S h l = run-later h.0 events answers new j S h.2 (after-later old event answer h.0 j S h.1 l)
 run-later old [] (answer ∷ answers) new j S h l = absurd h
 run-later old (event ∷ events) [] new j S h l = absurd h
 
-later-now : (gs : List Gateway) (j : ℕ) (gateway : Gateway) → slice_get gs j ≡ Some gateway → Later gs j gateway.taken
+pub later-now : (gs : List Gateway) (j : ℕ) (gateway : Gateway) → slice_get gs j ≡ Some gateway → Later gs j gateway.taken
 later-now gs j gateway e = record { gateway = gateway; place = e; more = []; taken = sym (append-nil gateway.taken) }
 
 -- ---- what a gateway has taken stands in its field

@@ -129,7 +129,7 @@ field-listed configs events answers field gateway op h none in_field there =
     All-contains (IsListed field.deltas) gateway.taken op (All-from_recursion (IsListed field.deltas) gateway.taken all) there
 
 -- what a gateway has taken is in the field
-set-there : (field : Field) (gateway : Gateway) → Contains field.gateways gateway → (op : Op) → Contains gateway.taken op → Contains (everything field) op
+pub set-there : (field : Field) (gateway : Gateway) → Contains field.gateways gateway → (op : Op) → Contains gateway.taken op → Contains (everything field) op
 set-there field gateway in_field =
     let each = all-each (Contains (everything field)) field (all-moved (Contains (everything field)) (everything field) (λ op h. h)) in
     let all = All-contains (λ (g : Gateway). AllByRecursion (Contains (everything field)) g.taken) field.gateways gateway
@@ -163,7 +163,7 @@ same-within A B f g = record {
 }
 
 -- of parts of a field, that which has all operations of another has what stands in it
-parts-within : (field : Field) → WholeField field → (part other : List Op) → ((op : Op) → Contains part op → Contains (everything field) op) → ((op : Op) → Contains other op → Contains part op) → Within other part
+pub parts-within : (field : Field) → WholeField field → (part other : List Op) → ((op : Op) → Contains part op → Contains (everything field) op) → ((op : Op) → Contains other op → Contains part op) → Within other part
 parts-within field w part other inside f =
     within-standing part other (all-moved (Stands part) other (λ op h. All-contains (Stands part) part op (All-from_recursion (Stands part) part (parts-consistent field w part inside)) (f op h)))
 
