@@ -1,3 +1,4 @@
 mod Examples
 pub mod OwnPlans
 pub mod Takes
+pub mod Stored

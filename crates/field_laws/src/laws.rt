@@ -1,13 +1,13 @@
 //! The laws. Each function does nothing; its contract is a law, proved for all runs.
 
-ghost use Rattle.std.specs.Prelude.{◌≡◌, ◌⊎◌, ℕ, List, Some, Err, Contains};
+ghost use Rattle.std.specs.Prelude.{◌≡◌, ◌⊎◌, ◌++◌, ℕ, Bool, List, slice_get, Some, Err, Contains};
 ghost use Rattle.std.specs.List.{AllByRecursion};
 ghost use Rattle.sn_session.specs.declared.change.SessionOp.{SessionOp};
 ghost use Rattle.rep_ops.specs.declared.op.Stamp.{Stamp};
 ghost use Rattle.rep_ops.specs.declared.op.Op.{Op};
 ghost use Rattle.rep_ops.specs.declared.op.Op.TheVariants.{Session as OfSession};
 ghost use Rattle.rep_ops.specs.Making.{AreApart};
-ghost use Rattle.rep_ops.specs.Sets.{operation_at};
+ghost use Rattle.rep_ops.specs.Sets.{operation_at, Same};
 ghost use Rattle.sn_flow.specs.declared.config.Config.{Config};
 ghost use Rattle.sn_flow.specs.declared.plan.Plan.{Plan};
 ghost use Rattle.plan_laws.specs.KeepsWell.{KeepsWell};
@@ -15,9 +15,14 @@ ghost use Rattle.gw_node.specs.Occasions.{Occasion};
 ghost use Rattle.gw_node.specs.declared.refusal.Refusal.TheVariants as refusals;
 ghost use Rattle.gw_world.specs.declared.event.Event.{Event};
 ghost use Rattle.gw_world.specs.declared.event.Answer.{Answer};
-ghost use Rattle.gw_world.specs.Gateways.{Gateway};
-ghost use Rattle.gw_world.specs.Field.{Field, new_field, IsAt, Run};
+ghost use Rattle.gw_world.specs.Gateways.{Gateway, with_refused};
+ghost use Rattle.gw_world.specs.Field.{Field, new_field, IsAt, After, Run, gateway_of};
 ghost use Rattle.gw_node.specs.Keeping.{Keeps};
+ghost use Rattle.gw_node.specs.Taking.{ops_of, StandsFor};
+ghost use Rattle.jr_journal.specs.Disk.{Image};
+ghost use Rattle.jr_journal.specs.Records.{records};
+ghost use Rattle.rep_model.specs.Keep.{keep};
+ghost use Rattle.gw_world.specs.Whole.{made_by};
 ghost use Rattle.gw_world.specs.Steps.{IsPlan, IsTooMuch, OwnStep};
 ghost use Rattle.field_laws.specs.OwnPlans.{AreNumbered, IsTooLong};
 ghost use Rattle.field_laws.specs.Takes.{IsTakeAtZero};
@@ -64,4 +69,20 @@ pub fn takes_at_zero()
         → Contains field.gateways gateway → Keeps gateway.taken kept
         → operation_at c kept (stamp, counter) ≡ Some change
         → IsTakeAtZero (OfSession c stamp counter change) }
+{}
+
+/// What a gateway made is in its own journal. At any moment behind the event that made a delta, whatever
+/// failed, stopped or was compacted since: what a crash leaves of the disk of the gateway that made it
+/// (a journal that stands for that gateway's set, as the contract of `run` says of each) has the delta, up
+/// to what must be kept.
+pub fn stored()
+    ensures { (configs : List Config) (events more : List Event) (answers replies : List Answer)
+        (old mid new : Field) (event : Event) (answer : Answer) (delta : List Op) (i : ℕ)
+        (maker later : Gateway) (b : Bool) (image : Image)
+        → Run (new_field configs) events answers old → After old event answer mid
+        → Contains (made_by answer) delta → IsAt old (gateway_of event) i maker
+        → Run mid more replies new → slice_get new.gateways i ≡ Some later
+        → StandsFor later.config.gateway (with_refused b later.taken later.refused) [] image
+        → Same (keep (ops_of (records later.config.gateway image) ++ delta))
+        (keep (ops_of (records later.config.gateway image))) }
 {}

@@ -1,0 +1,139 @@
+-- What a gateway made is in its own journal.
+use Rattle.std.specs.List.{AllByRecursion}
+use Rattle.std.proofs.Common.{◌≡◌, ◌⊎◌, ℕ, Bool, true, false, ◌||◌, List, [], ◌∷◌, ◌++◌, slice_get, set, append-nil, Option, Some, None, Contains, Result, Ok, Err, refl, sym, ap, ◌∙◌, subst, inl, inr}
+use Rattle.rep_model.proofs.Lookup.{or_else}
+use Rattle.std.proofs.lemmas.List.Elements.{All-from_recursion, All-contains, Contains-append_left, Contains-append_right}
+use Rattle.std.proofs.lemmas.Option.{none-some, same_Some, slice_get_within, get_or_from_slice_get}
+use Rattle.rep_ops.specs.declared.op.Op.{Op}
+use Rattle.rep_ops.specs.Sets.{operation_at, put_at, is_acknowledged, Within, Same}
+use Rattle.rep_model.specs.Keep.{keep, CountsAs}
+use Rattle.rep_model.proofs.Joins.{counts-more, within-left, operation_at_both, put_at_both, is_acknowledged_both, same_sym, same_trans}
+use Rattle.rep_model.proofs.Thin.{same_kept, thin-same}
+use Rattle.jr_journal.specs.Disk.{Image}
+use Rattle.jr_journal.specs.Records.{records}
+use Rattle.sn_flow.specs.declared.config.Config.{Config}
+use Rattle.gw_node.specs.declared.out.Out.{Out}
+use Rattle.gw_node.specs.declared.refusal.Refusal.{Refusal}
+use Rattle.gw_node.specs.Occasions.{Occasion, Datagram, Clock}
+use Rattle.gw_node.specs.Parts.{said}
+use Rattle.gw_node.specs.Taking.{ops_of, IsWhole, StandsFor}
+use Rattle.gw_node.proofs.Between.{within-trans}
+use Rattle.gw_node.proofs.Taken.{as_taken}
+use Rattle.gw_world.specs.declared.event.Event.{Event}
+use Rattle.gw_world.specs.declared.event.Event.TheVariants.{Frame, Tick, Take, Answer as Asks, WriteFails, Compact, Restart, Show}
+use Rattle.gw_world.specs.declared.event.Answer.{Answer}
+use Rattle.gw_world.specs.declared.event.Answer.TheVariants.{Node, Views, Records, Nothing}
+use Rattle.gw_world.specs.Gateways.{Gateway, with_refused}
+use Rattle.gw_world.specs.Field.{Field, new_field, IsAt, changed, After, Run, gateway_of}
+use Rattle.gw_world.specs.Events.{made_of}
+use Rattle.gw_world.specs.Steps.{OwnStep}
+use Rattle.gw_world.specs.Whole.{everything, made_by, MayMake}
+use Rattle.gw_world.proofs.Catching.{Later, run-later, later-now}
+use Rattle.gw_world.proofs.Consistency.{WholeField, after-sound, field-sound, run-sound}
+use Rattle.gw_world.proofs.Failures.{after-due}
+use Rattle.gw_world.proofs.Numbers.{set-there as set-at}
+use Rattle.gw_world.proofs.Settling.{set-there, parts-within}
+use Rattle.gw_world.proofs.Steadiness.{Still, Stepped, own-moves, own-told}
+use Rattle.gw_world.proofs.Telling.{after-makes}
+
+-- ---- what stands in a set adds nothing to it
+
+behind : {X : Type 0} (w d : Option X) → ((x : X) → d ≡ Some x → w ≡ Some x) → or_else w d ≡ w
+behind (Some x) d f = refl
+behind None None f = refl
+behind None (Some x) f = sym (f x refl)
+
+behind_test : (w d : Bool) → (d ≡ true → w ≡ true) → (w || d) ≡ w
+behind_test true d f = refl
+behind_test false true f = sym (f refl)
+behind_test false false f = refl
+
+same-behind : (W D : List Op) → Within D W → Same (W ++ D) W
+same-behind W D h = record {
+  operations_same = λ c name. operation_at_both c W D name ∙ behind (operation_at c W name) (operation_at c D name) (λ x. h.operations_in c name x);
+  puts_same = λ c name. put_at_both c W D name ∙ behind (put_at c W name) (put_at c D name) (λ x. h.puts_in c name x);
+  acknowledgements_same = λ c name. is_acknowledged_both c W D name ∙ behind_test (is_acknowledged c W name) (is_acknowledged c D name) (h.acknowledgements_in c name);
+}
+
+-- nor to what counts as the set
+adds-nothing : (S J D : List Op) → Within D S → CountsAs S J → Same (keep (J ++ D)) (keep J)
+adds-nothing S J D within counts =
+    same_trans (counts-more S J D counts) (same_trans (same_kept (S ++ D) S (thin-same (S ++ D) S (same-behind S D within))) (same_sym counts))
+
+within-back : (b : Bool) (D S refused : List Op) → Within D S → Within D (with_refused b S refused)
+within-back true D S refused h = within-trans D S (S ++ refused) h (within-left S refused)
+within-back false D S refused h = h
+
+-- ---- what a step of its own made
+
+nothing-there : (none : List (List Op)) (delta : List Op) → none ≡ [] → Contains none delta → ⊥
+nothing-there none delta e h = All-contains (λ _. ⊥) [] delta (All-from_recursion (λ _. ⊥) [] tt) (subst (λ (ds : List (List Op)). Contains ds delta) e h)
+
+only-one : (one : List Op) (delta : List Op) → Contains (one ∷ []) delta → delta ≡ one
+only-one one delta h = All-contains (λ (d : List Op). d ≡ one) (one ∷ []) delta (All-from_recursion (λ (d : List Op). d ≡ one) (one ∷ []) (refl, tt)) h
+
+-- the gateway took it
+took : (old next : Gateway) (made : List (List Op)) (delta : List Op) → Contains made delta → Still old next made ⊎ Stepped old next made → next.taken ≡ old.taken ++ delta
+took old next made delta h (inl u) = absurd (nothing-there made delta u.none h)
+took old next made delta h (inr u) =
+    u.taken ∙ ap (λ (D : List Op). old.taken ++ D) (sym (only-one u.delta delta (subst (λ (ds : List (List Op)). Contains ds delta) u.one h)))
+
+same-place : (field : Field) (number i j : ℕ) (one other : Gateway) → IsAt field number i one → IsAt field number j other → i ≡ j
+same-place field number i j one other h k = same_Some i j (sym h.0 ∙ k.0)
+
+-- from then on it stands in what the gateway in this place has taken
+own-later : (old mid : Field) (number i : ℕ) (maker : Gateway) (occasion : Occasion) (now : ℕ) (answer : Result Out Refusal) (delta : List Op)
+    → IsAt old number i maker → (j : ℕ) (gateway next : Gateway) (made : List (List Op)) → IsAt old number j gateway → OwnStep gateway occasion now answer next made → mid ≡ changed old j next made
+    → Contains (made_of answer) delta → (S : List Op) × Later mid.gateways i (S ++ delta)
+own-later old mid number i maker occasion now answer delta at j gateway next made here step is there =
+    let e = same-place old number j i gateway maker here at in
+    let is_taken = took gateway next made delta (subst (λ (ds : List (List Op)). Contains ds delta) (sym (own-told gateway occasion now answer next made step)) there) (own-moves gateway occasion now answer next made step) in
+    (
+      gateway.taken,
+      subst (λ (k : ℕ). Later mid.gateways k (gateway.taken ++ delta)) e
+      (subst (λ (T : List Op). Later mid.gateways j T) is_taken
+      (subst (λ (f : Field). Later f.gateways j next.taken) (sym is) (later-now (set old.gateways j next) j next (set-at j old.gateways gateway next here.1)))),
+    )
+
+made-later : (old mid : Field) (event : Event) (answer : Answer) (delta : List Op) (i : ℕ) (maker : Gateway) → After old event answer mid → Contains (made_by answer) delta
+    → MayMake event → IsAt old (gateway_of event) i maker → (S : List Op) × Later mid.gateways i (S ++ delta)
+made-later old mid (Frame number from bytes now) (Node answer) delta i maker h there may at =
+    own-later old mid number i maker (Datagram from bytes) now (said answer) delta at h.0 h.1 h.2 h.3 h.4 h.5 h.6 there
+made-later old mid (Tick number now) (Node answer) delta i maker h there may at =
+    own-later old mid number i maker Clock now (said answer) delta at h.0 h.1 h.2 h.3 h.4 h.5 h.6 there
+made-later old mid (Frame number from bytes now) (Views views) delta i maker h there may at = absurd h
+made-later old mid (Frame number from bytes now) (Records count) delta i maker h there may at = absurd h
+made-later old mid (Frame number from bytes now) Nothing delta i maker h there may at = absurd h
+made-later old mid (Tick number now) (Views views) delta i maker h there may at = absurd h
+made-later old mid (Tick number now) (Records count) delta i maker h there may at = absurd h
+made-later old mid (Tick number now) Nothing delta i maker h there may at = absurd h
+made-later old mid (Take number k) answer delta i maker h there may at = absurd may
+made-later old mid (Asks number peer) answer delta i maker h there may at = absurd may
+made-later old mid (WriteFails number bytes sync) answer delta i maker h there may at = absurd may
+made-later old mid (Compact number) answer delta i maker h there may at = absurd may
+made-later old mid (Restart number kept) answer delta i maker h there may at = absurd may
+made-later old mid (Show number) answer delta i maker h there may at = absurd may
+
+contains-place : (gs : List Gateway) (i : ℕ) (gateway : Gateway) → slice_get gs i ≡ Some gateway → Contains gs gateway
+contains-place gs i gateway e = (i, slice_get_within gs i gateway e, get_or_from_slice_get gs i gateway gateway e)
+
+-- ---- the law
+
+pub field-stored : (configs : List Config) (events more : List Event) (answers replies : List Answer) (old mid new : Field) (event : Event) (answer : Answer) (delta : List Op) (i : ℕ) (maker later : Gateway) (b : Bool) (image : Image)
+    → Run (new_field configs) events answers old → After old event answer mid → Contains (made_by answer) delta → IsAt old (gateway_of event) i maker
+    → Run mid more replies new → slice_get new.gateways i ≡ Some later → StandsFor later.config.gateway (with_refused b later.taken later.refused) [] image
+    → Same (keep (ops_of (records later.config.gateway image) ++ delta)) (keep (ops_of (records later.config.gateway image)))
+field-stored configs events more answers replies old mid new event answer delta i maker later b image run after there at goes_on place stands =
+    let first = field-sound configs events answers old run in
+    let one = after-sound old event answer mid after first.flush first.whole first.due in
+    let last = run-sound mid more replies new goes_on one.flush one.whole (after-due old event answer mid after first.due) in
+    let made = made-later old mid event answer delta i maker after there (after-makes old mid event answer delta after there) at in
+    let now = run-later mid more replies new i (made.0 ++ delta) goes_on made.1 in
+    let is : later.taken ≡ (made.0 ++ delta) ++ now.more = ap (λ (x : Gateway). x.taken) (same_Some later now.gateway (sym place ∙ now.place)) ∙ now.taken in
+    let inside : (op : Op) → Contains delta op → Contains later.taken op = λ op h.
+    subst (λ (T : List Op). Contains T op) (sym is) (Contains-append_left (made.0 ++ delta) now.more op (Contains-append_right made.0 delta op h)) in
+    let in_field : Contains new.gateways later = contains-place new.gateways i later place in
+    let within : Within delta later.taken = parts-within new last.whole later.taken delta (set-there new later in_field) inside in
+    let S = with_refused b later.taken later.refused in
+    let J = ops_of (records later.config.gateway image) in
+    adds-nothing S J delta (within-back b delta later.taken later.refused within) (as_taken S J stands.whole)

@@ -1,0 +1,5 @@
+use Rattle.field_laws.proofs.Stored.{field-stored}
+use Rattle.field_laws.proofs.laws.stored.Goals as goal
+
+pub returns : goal.returns
+returns c = field-stored
