@@ -1,4 +1,4 @@
 mod Examples
 pub mod OwnPlans
 pub mod Takes
-pub mod Stored
+pub mod InJournals

@@ -1,6 +1,6 @@
 //! The laws. Each function does nothing; its contract is a law, proved for all runs.
 
-ghost use Rattle.std.specs.Prelude.{◌≡◌, ◌⊎◌, ◌++◌, ℕ, Bool, List, slice_get, Some, Err, Contains};
+ghost use Rattle.std.specs.Prelude.{◌≡◌, ◌⊎◌, [], ◌++◌, ℕ, Bool, List, slice_get, Some, Err, Contains};
 ghost use Rattle.std.specs.List.{AllByRecursion};
 ghost use Rattle.sn_session.specs.declared.change.SessionOp.{SessionOp};
 ghost use Rattle.rep_ops.specs.declared.op.Stamp.{Stamp};

@@ -1,4 +1,4 @@
-use Rattle.field_laws.proofs.Stored.{field-stored}
+use Rattle.field_laws.proofs.InJournals.{field-stored}
 use Rattle.field_laws.proofs.laws.stored.Goals as goal
 
 pub returns : goal.returns
