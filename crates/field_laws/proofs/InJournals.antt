@@ -8,7 +8,7 @@ use Rattle.rep_ops.specs.declared.op.Op.{Op}
 use Rattle.rep_ops.specs.Sets.{operation_at, put_at, is_acknowledged, Within, Same}
 use Rattle.rep_model.specs.Keep.{keep, CountsAs}
 use Rattle.rep_model.proofs.Joins.{counts-more, within-left, same_sym, same_trans}
-use Rattle.rep_model.proofs.Lookup.{operation_at_both, put_at_both, is_acknowledged_both}
+use Rattle.rep_model.proofs.Readers.{operation_at_both, put_at_both, is_acknowledged_both}
 use Rattle.rep_model.proofs.Thin.{same_kept, thin-same}
 use Rattle.jr_journal.specs.Disk.{Image}
 use Rattle.jr_journal.specs.Records.{records}
