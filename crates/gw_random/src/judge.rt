@@ -224,9 +224,12 @@ fn show_same(played: &Played, one: &Seat, other: &Seat) -> bool {
 
 /// A delta that was lost, if there is one.
 fn copied(alloc: Global, delta: Option<&Delta>) -> Result<Option<Lost>, AllocError> {
-    match delta {
-        Some(delta) => Ok(Some(Lost::Delta(delta.copy(alloc)?))),
-        None => Ok(None),
+    let Some(delta) = delta else {
+        return Ok(None);
+    };
+    match delta.copy(alloc) {
+        Ok(copy) => Ok(Some(Lost::Delta(copy))),
+        Err(_) => Err(AllocError),
     }
 }
 
