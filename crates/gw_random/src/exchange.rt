@@ -6,9 +6,8 @@ use gw_world::Event;
 use rep_model::Replica;
 use std::alloc::{AllocError, Global};
 
-/// The events, and behind them an exchange: each gateway is opened again, and writes its journal anew, so that no failure is
-/// arranged any more; it is opened once more, asks each other, and takes what is answered. Nothing where the events cannot be
-/// played.
+/// The events, and behind them an exchange: each gateway is opened again, asks each other, and takes what is answered. Nothing
+/// where the events cannot be played.
 pub(crate) fn with_exchange<R: Replica>(
     alloc: Global,
     field: &Field,
@@ -18,8 +17,6 @@ pub(crate) fn with_exchange<R: Replica>(
     append_copies(alloc, &mut all, events)?;
     for gateway in 1..=field.gateways {
         let keep = u64::MAX;
-        all.push(Event::Restart { gateway, keep })?;
-        all.push(Event::Compact { gateway })?;
         all.push(Event::Restart { gateway, keep })?;
     }
     append_questions(&mut all, field.gateways)?;

@@ -4,7 +4,7 @@ use super::draw::Draw;
 use super::field::{Field, added};
 use super::frames::{any_frame, connect, octets_of, ping, reply};
 use super::listed::Listed;
-use gw_world::{Answer, Event, NodeFault, Out};
+use gw_world::{Answer, Event, Out};
 use rep_model::Replica;
 use sn_flow::Addr;
 use sn_frame::{Frame, decode};
@@ -36,8 +36,6 @@ struct Invention {
     replies: Vec<Event>,
     /// Which deltas there are.
     listed: Listed,
-    /// Gateways that a write of which has failed.
-    halted: Vec<u8>,
 }
 
 /// The script of a seed.
@@ -78,7 +76,6 @@ impl Invention {
             now: 0,
             replies: Vec::new(alloc),
             listed: Listed::empty(alloc),
-            halted: Vec::new(alloc),
         })
     }
 
@@ -185,9 +182,6 @@ impl Invention {
     /// One event.
     fn event(&mut self, alloc: Global) -> Result<Event, AllocError> {
         self.wait();
-        if let Some(gateway) = self.halted.pop() {
-            return Ok(self.restarts(gateway));
-        }
         let gateway = self.gateway();
         match self.draw.octet_below(32) {
             0..=8 => match self.replies.pop() {
@@ -199,7 +193,10 @@ impl Invention {
             26 => Ok(self.asks(gateway)),
             27 => Ok(Event::Compact { gateway }),
             28 => Ok(self.restarts(gateway)),
-            29 => Ok(self.fails(gateway)),
+            29 => match self.failed_write(gateway) {
+                Some(event) => Ok(event),
+                None => Ok(self.ticks(gateway)),
+            },
             _ => Ok(self.ticks(gateway)),
         }
     }
@@ -238,13 +235,9 @@ impl Invention {
         Event::Restart { gateway, keep }
     }
 
-    /// The next write of a gateway is to fail.
-    fn fails(&mut self, gateway: u8) -> Event {
-        Event::WriteFails {
-            gateway,
-            bytes: self.draw.below(80),
-            sync: self.draw.is_once_in(3),
-        }
+    /// The next write of a gateway is to fail. Nothing as long as no event says so.
+    fn failed_write(&mut self, _gateway: u8) -> Option<Event> {
+        None
     }
 
     /// What an answer tells the inventor: which deltas there are, and what clients were sent.
@@ -256,9 +249,6 @@ impl Invention {
         }
         if let Answer::Node(Ok(out)) = answer {
             self.hear(alloc, gateway, out)?;
-        }
-        if let Answer::Node(Err(NodeFault::Disk { .. })) = answer {
-            self.halted.push(gateway)?;
         }
         Ok(())
     }

@@ -1,8 +1,7 @@
 //! A run compared with the definitions.
 
 use super::field::{Field, Played, added};
-use super::copying::copy_event;
-use super::seat::{Lost, Seat, are_same, has_vanished};
+use super::seat::{Seat, are_same, has_vanished};
 use gw_world::{Answer, Event, NodeFault, Out};
 use octets::Sequence;
 use rep_model::{ClientView, Replica};
@@ -25,10 +24,6 @@ pub(crate) enum What {
     Sets,
     /// Gateways that have the same do not show the same.
     Apart,
-    /// A write fails where it is not to, or goes well where it is to fail, or a halted gateway goes on.
-    Failing,
-    /// A gateway that was opened again has read another number of records.
-    Records,
 }
 
 /// Where a run differs from the definitions.
@@ -52,8 +47,6 @@ impl What {
             What::Vanished => "a message waits no more that was not acknowledged",
             What::Sets => "gateways have exchanged all and have not the same",
             What::Apart => "gateways have the same and do not show the same",
-            What::Failing => "a write fails or goes well where it is not to",
-            What::Records => "a gateway reads another number of records",
         }
     }
 }
@@ -67,7 +60,7 @@ struct Seats {
 }
 
 /// Where a run differs, if it does. The events are those that were played.
-pub(crate) fn judged<R: Replica>(
+pub(crate) fn judged(
     alloc: Global,
     field: &Field,
     events: &[Event],
@@ -76,13 +69,7 @@ pub(crate) fn judged<R: Replica>(
     let mut seats = Seats::empty(alloc, field.gateways)?;
     let both = events.iter().zip(played.answers.as_slice());
     for (at, (event, answer)) in both.enumerate() {
-        let found = match answer {
-            Answer::Node(Err(NodeFault::Disk { .. })) => {
-                seats.lose::<R>(alloc, field, events, played, at, event)?
-            }
-            _ => seats.follow(alloc, played, at, event, answer)?,
-        };
-        if let Some(what) = found {
+        if let Some(what) = seats.follow(alloc, played, at, event, answer)? {
             let gateway = event.gateway();
             return Ok(Some(Difference { at, gateway, what }));
         }
@@ -107,7 +94,7 @@ fn delta_at(played: &Played, number: u64) -> Option<&Delta> {
 fn views_at(played: &Played, at: usize) -> Option<&Sequence<(ClientId, ClientView)>> {
     match played.answers.as_slice().get(at)? {
         Answer::Views(views) => Some(views),
-        Answer::Node(_) | Answer::Records(_) | Answer::Nothing => None,
+        Answer::Node(_) | Answer::Records(_) => None,
     }
 }
 
@@ -139,48 +126,7 @@ impl Seats {
             Answer::Node(Ok(out)) => follow_out(alloc, seat, played, self.listed, event, out),
             Answer::Node(Err(fault)) => Ok(follow_fault(seat, fault)),
             Answer::Views(views) => follow_views(alloc, seat, played, at, views.as_slice()),
-            Answer::Records(count) => follow_restart(alloc, seat, *count),
-            Answer::Nothing => {
-                seat.failure = Some(at);
-                Ok(None)
-            }
-        }
-    }
-
-    /// The disk of a gateway failed. What differs, if something does.
-    fn lose<R: Replica>(
-        &mut self,
-        alloc: Global,
-        field: &Field,
-        events: &[Event],
-        played: &Played,
-        at: usize,
-        event: &Event,
-    ) -> Result<Option<What>, AllocError> {
-        let place = usize::from(event.gateway().saturating_sub(1));
-        let Some(seat) = self.seats.get_mut(place) else {
-            return Ok(Some(What::Stopped));
-        };
-        let Some(arranged) = seat.failure else {
-            return Ok(Some(What::Failing));
-        };
-        if seat.is_halted {
-            return Ok(Some(What::Failing));
-        }
-        seat.latest = None;
-        seat.failure = None;
-        seat.is_halted = true;
-        let lost = match event {
-            Event::Compact { .. } => Some(Lost::Base(held_of(alloc, seat)?.len() as u64)),
-            Event::Take { delta, .. } => copied(alloc, delta_at(played, *delta))?,
-            _ => made_without::<R>(alloc, field, events, arranged, at)?,
-        };
-        match lost {
-            Some(lost) => {
-                seat.lost = lost;
-                Ok(None)
-            }
-            None => Ok(Some(What::Failing)),
+            Answer::Records(_) => Ok(None),
         }
     }
 
@@ -222,74 +168,6 @@ fn show_same(played: &Played, one: &Seat, other: &Seat) -> bool {
     }
 }
 
-/// A delta that was lost, if there is one.
-fn copied(alloc: Global, delta: Option<&Delta>) -> Result<Option<Lost>, AllocError> {
-    let Some(delta) = delta else {
-        return Ok(None);
-    };
-    match delta.copy(alloc) {
-        Ok(copy) => Ok(Some(Lost::Delta(copy))),
-        Err(_) => Err(AllocError),
-    }
-}
-
-/// What the event of this index would have made, had the failure not been arranged by the event of that index.
-fn made_without<R: Replica>(
-    alloc: Global,
-    field: &Field,
-    events: &[Event],
-    arranged: usize,
-    at: usize,
-) -> Result<Option<Lost>, AllocError> {
-    let mut others = Vec::new(alloc);
-    let until = events.iter().take(at.saturating_add(1));
-    for (index, event) in until.enumerate() {
-        if index != arranged {
-            others.push(copy_event(alloc, event)?)?;
-        }
-    }
-    let Some(played) = field.play::<R>(alloc, others.as_slice())? else {
-        return Ok(None);
-    };
-    match played.answers.as_slice().last() {
-        Some(Answer::Node(Ok(out))) => copied(alloc, out.made.as_ref()),
-        _ => Ok(None),
-    }
-}
-
-/// A gateway was opened again, and read so many records.
-fn follow_restart(alloc: Global, seat: &mut Seat, count: u64) -> Result<Option<What>, AllocError> {
-    let lost = std::mem::replace(&mut seat.lost, Lost::Nothing);
-    let before = seat.records;
-    seat.is_halted = false;
-    seat.latest = None;
-    seat.records = count;
-    if count == before {
-        return Ok(None);
-    }
-    match lost {
-        Lost::Delta(delta) => {
-            if count != before.saturating_add(1) {
-                return Ok(Some(What::Records));
-            }
-            seat.shown = None;
-            if seat.take(alloc, &delta)? {
-                Ok(None)
-            } else {
-                Ok(Some(What::Refused))
-            }
-        }
-        Lost::Base(base) => {
-            if count == base {
-                Ok(None)
-            } else {
-                Ok(Some(What::Records))
-            }
-        }
-        Lost::Nothing => Ok(Some(What::Records)),
-    }
-}
-
 /// The number of the delta that an event made or took. So many deltas are listed then.
 fn number_of(listed: u64, event: &Event, out: &Out) -> Option<u64> {
     match event {
@@ -314,25 +192,12 @@ fn follow_out(
     out: &Out,
 ) -> Result<Option<What>, AllocError> {
     seat.latest = number_of(listed, event, out);
-    if seat.is_halted && !matches!(event, Event::Answer { .. }) {
-        return Ok(Some(What::Failing));
-    }
-    if let Event::Compact { .. } = event {
-        seat.records = held_of(alloc, seat)?.len() as u64;
-        return Ok(failing(seat));
-    }
     let Some(number) = seat.latest else {
         return Ok(None);
     };
     let Some(delta) = delta_at(played, number) else {
         return Ok(Some(What::Stopped));
     };
-    if !delta.ops().is_empty() {
-        seat.records = seat.records.saturating_add(1);
-        if seat.failure.is_some() {
-            return Ok(Some(What::Failing));
-        }
-    }
     if seat.take(alloc, delta)? {
         Ok(None)
     } else {
@@ -340,27 +205,12 @@ fn follow_out(
     }
 }
 
-/// A write went well: no failure may be arranged for it.
-fn failing(seat: &Seat) -> Option<What> {
-    if seat.failure.is_some() {
-        return Some(What::Failing);
-    }
-    None
-}
-
-/// A gateway refused. Only frames that are none may be refused, what would pass a limit, and all that comes to a halted gateway.
+/// A gateway refused. Only frames that are none may be refused, and what would pass a limit.
 fn follow_fault(seat: &mut Seat, fault: &NodeFault) -> Option<What> {
     seat.latest = None;
     match fault {
         NodeFault::Frame { .. } | NodeFault::Full | NodeFault::Exhausted => None,
-        NodeFault::Halted => {
-            if seat.is_halted {
-                None
-            } else {
-                Some(What::Failing)
-            }
-        }
-        NodeFault::Disk { .. } => Some(What::Failing),
+        NodeFault::Halted | NodeFault::Disk { .. } => Some(What::Refused),
         NodeFault::Conflict { .. } | NodeFault::Journal { .. } => Some(What::Refused),
         NodeFault::Memory => Some(What::Stopped),
     }

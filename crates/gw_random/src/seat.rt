@@ -15,25 +15,6 @@ pub(crate) struct Seat {
     pub(crate) shown: Option<usize>,
     /// The number of the delta that it has made or taken since.
     pub(crate) latest: Option<u64>,
-    /// The index of the event that arranged a failure, where that has not come yet.
-    pub(crate) failure: Option<usize>,
-    /// A write has failed since it was opened.
-    pub(crate) is_halted: bool,
-    /// How many records its journal has that are synced.
-    pub(crate) records: u64,
-    /// What it was writing when that failed.
-    pub(crate) lost: Lost,
-}
-
-/// What a gateway was writing when its disk failed. All of it may be on the disk.
-#[derive(Drop)]
-pub(crate) enum Lost {
-    /// Nothing.
-    Nothing,
-    /// A delta.
-    Delta(Delta),
-    /// Its journal anew, of so many records.
-    Base(u64),
 }
 
 impl Seat {
@@ -46,10 +27,6 @@ impl Seat {
             plain,
             shown: None,
             latest: None,
-            failure: None,
-            is_halted: false,
-            records: 0,
-            lost: Lost::Nothing,
         })
     }
 
