@@ -94,7 +94,7 @@ fn delta_at(played: &Played, number: u64) -> Option<&Delta> {
 fn views_at(played: &Played, at: usize) -> Option<&Sequence<(ClientId, ClientView)>> {
     match played.answers.as_slice().get(at)? {
         Answer::Views(views) => Some(views),
-        Answer::Node(_) | Answer::Records(_) => None,
+        Answer::Node(_) | Answer::Records(_) | Answer::Nothing => None,
     }
 }
 
@@ -126,7 +126,7 @@ impl Seats {
             Answer::Node(Ok(out)) => follow_out(alloc, seat, played, self.listed, event, out),
             Answer::Node(Err(fault)) => Ok(follow_fault(seat, fault)),
             Answer::Views(views) => follow_views(alloc, seat, played, at, views.as_slice()),
-            Answer::Records(_) => Ok(None),
+            Answer::Records(_) | Answer::Nothing => Ok(None),
         }
     }
 
