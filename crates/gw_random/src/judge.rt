@@ -234,6 +234,20 @@ fn arranged(seat: &mut Seat, at: usize, event: &Event) -> Option<What> {
     }
 }
 
+/// Whether a message waits no more, and what the gateway has since does not acknowledge it.
+fn vanished(seat: &Seat, played: &Played, views: &[(ClientId, ClientView)]) -> bool {
+    let Some(shown) = seat.shown else {
+        return false;
+    };
+    let Some(before) = views_at(played, shown) else {
+        return false;
+    };
+    match seat.latest {
+        Some(number) => has_vanished(before.as_slice(), views, delta_at(played, number)),
+        None => has_vanished(before.as_slice(), views, seat.joined.as_ref()),
+    }
+}
+
 /// A gateway is shown.
 fn follow_views(
     alloc: Global,
@@ -242,16 +256,8 @@ fn follow_views(
     at: usize,
     views: &[(ClientId, ClientView)],
 ) -> Result<Option<What>, AllocError> {
-    let delta = match seat.latest {
-        Some(number) => delta_at(played, number),
-        None => seat.joined.as_ref(),
-    };
-    if let Some(before) = seat.shown {
-        if let Some(before) = views_at(played, before) {
-            if has_vanished(before.as_slice(), views, delta) {
-                return Ok(Some(What::Vanished));
-            }
-        }
+    if vanished(seat, played, views) {
+        return Ok(Some(What::Vanished));
     }
     seat.shown = Some(at);
     seat.latest = None;
