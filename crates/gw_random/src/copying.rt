@@ -29,6 +29,15 @@ pub(crate) fn copy_event(alloc: Global, event: &Event) -> Result<Event, AllocErr
             gateway: *gateway,
             peer: *peer,
         }),
+        Event::WriteFails {
+            gateway,
+            bytes,
+            sync,
+        } => Ok(Event::WriteFails {
+            gateway: *gateway,
+            bytes: *bytes,
+            sync: *sync,
+        }),
         Event::Compact { gateway } => Ok(Event::Compact { gateway: *gateway }),
         Event::Restart { gateway, keep } => Ok(Event::Restart {
             gateway: *gateway,

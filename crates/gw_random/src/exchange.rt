@@ -15,10 +15,7 @@ pub(crate) fn with_exchange<R: Replica>(
 ) -> Result<Option<Vec<Event>>, AllocError> {
     let mut all = Vec::new(alloc);
     append_copies(alloc, &mut all, events)?;
-    for gateway in 1..=field.gateways {
-        let keep = u64::MAX;
-        all.push(Event::Restart { gateway, keep })?;
-    }
+    append_restarts(&mut all, field.gateways, events)?;
     append_questions(&mut all, field.gateways)?;
     let Some(played) = field.play::<R>(alloc, all.as_slice())? else {
         return Ok(None);
@@ -26,6 +23,27 @@ pub(crate) fn with_exchange<R: Replica>(
     let takes = takes(alloc, all.as_slice(), &played, events.len())?;
     append_copies(alloc, &mut all, takes.as_slice())?;
     Ok(Some(all))
+}
+
+/// Each gateway is opened again. Where failures were arranged for it, none is left.
+fn append_restarts(all: &mut Vec<Event>, gateways: u8, events: &[Event]) -> Result<(), AllocError> {
+    let keep = u64::MAX;
+    for gateway in 1..=gateways {
+        all.push(Event::Restart { gateway, keep })?;
+        if events.iter().any(|event| is_failure(event, gateway)) {
+            all.push(Event::Compact { gateway })?;
+            all.push(Event::Restart { gateway, keep })?;
+        }
+    }
+    Ok(())
+}
+
+/// Whether an event arranges a failure for this gateway.
+fn is_failure(event: &Event, number: u8) -> bool {
+    match event {
+        Event::WriteFails { gateway, .. } => *gateway == number,
+        _ => false,
+    }
 }
 
 /// Each gateway asks each other.

@@ -4,7 +4,7 @@ use super::draw::Draw;
 use super::field::{Field, added};
 use super::frames::{any_frame, connect, octets_of, ping, reply};
 use super::listed::Listed;
-use gw_world::{Answer, Event, Out};
+use gw_world::{Answer, Event, NodeFault, Out};
 use rep_model::Replica;
 use sn_flow::Addr;
 use sn_frame::{Frame, decode};
@@ -36,6 +36,8 @@ struct Invention {
     replies: Vec<Event>,
     /// Which deltas there are.
     listed: Listed,
+    /// A gateway that is to be opened again after so many events.
+    due: Option<(u8, u8)>,
 }
 
 /// The script of a seed.
@@ -76,6 +78,7 @@ impl Invention {
             now: 0,
             replies: Vec::new(alloc),
             listed: Listed::empty(alloc),
+            due: None,
         })
     }
 
@@ -167,7 +170,7 @@ impl Invention {
     /// A round of events.
     fn round(&mut self, alloc: Global, events: &mut Vec<Event>) -> Result<(), AllocError> {
         for _ in 0..self.draw.octet_below(LEAST).saturating_add(LEAST) {
-            let event = self.event(alloc)?;
+            let event = self.next(alloc)?;
             events.push(event)?;
         }
         Ok(())
@@ -177,6 +180,51 @@ impl Invention {
     fn wait(&mut self) {
         let seconds = if self.draw.is_once_in(30) { 90 } else { 4 };
         self.now = self.now.saturating_add(self.draw.below(seconds));
+    }
+
+    /// One event; where a gateway is due, mostly one at it.
+    fn next(&mut self, alloc: Global) -> Result<Event, AllocError> {
+        let Some((gateway, left)) = self.due else {
+            return self.event(alloc);
+        };
+        if left == 0 {
+            self.due = None;
+            return Ok(self.opens_again(gateway));
+        }
+        self.due = Some((gateway, left.saturating_sub(1)));
+        if self.draw.is_once_in(3) {
+            return self.event(alloc);
+        }
+        self.wait();
+        self.writes(alloc, gateway)
+    }
+
+    /// An event at a gateway that it may write for.
+    fn writes(&mut self, alloc: Global, gateway: u8) -> Result<Event, AllocError> {
+        match self.draw.octet_below(8) {
+            0..=2 => self.takes(alloc, gateway),
+            3 => Ok(self.ticks(gateway)),
+            4 => Ok(Event::Compact { gateway }),
+            _ => {
+                let client = self.client();
+                let frame = if self.draw.is_once_in(4) {
+                    connect(alloc, &mut self.draw, client)?
+                } else {
+                    any_frame(alloc, &mut self.draw, client)?
+                };
+                self.frame(alloc, client, gateway, &frame)
+            }
+        }
+    }
+
+    /// A gateway is opened again after a write that failed.
+    fn opens_again(&mut self, gateway: u8) -> Event {
+        let keep = match self.draw.octet_below(4) {
+            0 => 0,
+            1 => self.draw.below(120),
+            _ => u64::MAX,
+        };
+        Event::Restart { gateway, keep }
     }
 
     /// One event.
@@ -193,10 +241,7 @@ impl Invention {
             26 => Ok(self.asks(gateway)),
             27 => Ok(Event::Compact { gateway }),
             28 => Ok(self.restarts(gateway)),
-            29 => match self.failed_write(gateway) {
-                Some(event) => Ok(event),
-                None => Ok(self.ticks(gateway)),
-            },
+            29 => Ok(self.failed_write(gateway)),
             _ => Ok(self.ticks(gateway)),
         }
     }
@@ -235,9 +280,33 @@ impl Invention {
         Event::Restart { gateway, keep }
     }
 
-    /// The next write of a gateway is to fail. Nothing as long as no event says so.
-    fn failed_write(&mut self, _gateway: u8) -> Option<Event> {
-        None
+    /// The next write of a gateway is to fail.
+    fn failed_write(&mut self, gateway: u8) -> Event {
+        let left = self.draw.octet_below(6).saturating_add(2);
+        if self.due.is_none() {
+            self.due = Some((gateway, left));
+        }
+        let sync = self.draw.is_once_in(3);
+        let bytes = if sync { 0 } else { self.draw.below(80) };
+        Event::WriteFails {
+            gateway,
+            bytes,
+            sync,
+        }
+    }
+
+    /// A gateway is halted: it is to be opened again soon, and what it was to take it has not.
+    fn note_halt(&mut self, event: &Event, fault: &NodeFault) {
+        match fault {
+            NodeFault::Halted | NodeFault::Disk { .. } => {}
+            _ => return,
+        }
+        if self.due.is_none() {
+            self.due = Some((event.gateway(), 2));
+        }
+        if let Event::Take { gateway, delta } = event {
+            self.listed.forget(*gateway, *delta);
+        }
     }
 
     /// What an answer tells the inventor: which deltas there are, and what clients were sent.
@@ -247,10 +316,14 @@ impl Invention {
         for _ in 0..added(answer) {
             self.listed.add(holder)?;
         }
-        if let Answer::Node(Ok(out)) = answer {
-            self.hear(alloc, gateway, out)?;
+        match answer {
+            Answer::Node(Ok(out)) => self.hear(alloc, gateway, out),
+            Answer::Node(Err(fault)) => {
+                self.note_halt(event, fault);
+                Ok(())
+            }
+            Answer::Views(_) | Answer::Records(_) | Answer::Nothing => Ok(()),
         }
-        Ok(())
     }
 
     /// Clients make up their minds what to answer to what they were sent.

@@ -1,8 +1,9 @@
 //! A run compared with the definitions.
 
+use super::disk::{follow_fault, follow_restart, is_written, may_go_on};
 use super::field::{Field, Played, added};
 use super::seat::{Seat, are_same, has_vanished};
-use gw_world::{Answer, Event, NodeFault, Out};
+use gw_world::{Answer, Event, Out};
 use octets::Sequence;
 use rep_model::{ClientView, Replica};
 use rep_ops::{ClientId, Delta};
@@ -18,6 +19,12 @@ pub(crate) enum What {
     Refused,
     /// A gateway does not show the views of its set.
     Views,
+    /// A write fails that was not to fail, or one does not that was.
+    Disk,
+    /// A gateway goes on after a write that failed, or refuses before one does.
+    Halted,
+    /// A journal has not the records that it must have.
+    Records,
     /// A message that waited waits no more, and was not acknowledged.
     Vanished,
     /// Gateways that exchanged what they have do not have the same.
@@ -44,6 +51,9 @@ impl What {
             What::Stopped => "the run stops",
             What::Refused => "a delta is refused",
             What::Views => "what is shown is not what the set says",
+            What::Disk => "a write fails that was not to fail, or one does not that was",
+            What::Halted => "a gateway goes on after a failed write, or stops before one",
+            What::Records => "a journal has not the records that it must have",
             What::Vanished => "a message waits no more that was not acknowledged",
             What::Sets => "gateways have exchanged all and have not the same",
             What::Apart => "gateways have the same and do not show the same",
@@ -60,7 +70,7 @@ struct Seats {
 }
 
 /// Where a run differs, if it does. The events are those that were played.
-pub(crate) fn judged(
+pub(crate) fn judged<R: Replica>(
     alloc: Global,
     field: &Field,
     events: &[Event],
@@ -69,7 +79,7 @@ pub(crate) fn judged(
     let mut seats = Seats::empty(alloc, field.gateways)?;
     let both = events.iter().zip(played.answers.as_slice());
     for (at, (event, answer)) in both.enumerate() {
-        if let Some(what) = seats.follow(alloc, played, at, event, answer)? {
+        if let Some(what) = seats.follow::<R>(alloc, field, events, played, at, event, answer)? {
             let gateway = event.gateway();
             return Ok(Some(Difference { at, gateway, what }));
         }
@@ -85,7 +95,7 @@ pub(crate) fn judged(
 }
 
 /// The delta of this number; the first has number 1.
-fn delta_at(played: &Played, number: u64) -> Option<&Delta> {
+pub(crate) fn delta_at(played: &Played, number: u64) -> Option<&Delta> {
     let index = usize::try_from(number.checked_sub(1)?).ok()?;
     played.deltas.as_slice().get(index)
 }
@@ -94,7 +104,7 @@ fn delta_at(played: &Played, number: u64) -> Option<&Delta> {
 fn views_at(played: &Played, at: usize) -> Option<&Sequence<(ClientId, ClientView)>> {
     match played.answers.as_slice().get(at)? {
         Answer::Views(views) => Some(views),
-        Answer::Node(_) | Answer::Records(_) => None,
+        Answer::Node(_) | Answer::Records(_) | Answer::Nothing => None,
     }
 }
 
@@ -109,9 +119,11 @@ impl Seats {
     }
 
     /// Goes on by one event. What differs, if something does.
-    fn follow(
+    fn follow<R: Replica>(
         &mut self,
         alloc: Global,
+        field: &Field,
+        events: &[Event],
         played: &Played,
         at: usize,
         event: &Event,
@@ -124,9 +136,12 @@ impl Seats {
         };
         match answer {
             Answer::Node(Ok(out)) => follow_out(alloc, seat, played, self.listed, event, out),
-            Answer::Node(Err(fault)) => Ok(follow_fault(seat, fault)),
+            Answer::Node(Err(fault)) => {
+                follow_fault::<R>(alloc, field, events, played, seat, at, event, fault)
+            }
             Answer::Views(views) => follow_views(alloc, seat, played, at, views.as_slice()),
-            Answer::Records(_) => Ok(None),
+            Answer::Records(told) => follow_restart(alloc, seat, event, *told),
+            Answer::Nothing => Ok(arranged(seat, at, event)),
         }
     }
 
@@ -150,7 +165,7 @@ impl Seats {
 }
 
 /// What must be kept of a gateway's set.
-fn held_of(alloc: Global, seat: &Seat) -> Result<Vec<Delta>, AllocError> {
+pub(crate) fn held_of(alloc: Global, seat: &Seat) -> Result<Vec<Delta>, AllocError> {
     match seat.plain.held(alloc) {
         Ok(held) => Ok(held),
         Err(_) => Err(AllocError),
@@ -192,27 +207,44 @@ fn follow_out(
     out: &Out,
 ) -> Result<Option<What>, AllocError> {
     seat.latest = number_of(listed, event, out);
+    if !may_go_on(seat, event) {
+        return Ok(Some(What::Halted));
+    }
     let Some(number) = seat.latest else {
-        return Ok(None);
+        return is_written(alloc, seat, event, None);
     };
     let Some(delta) = delta_at(played, number) else {
         return Ok(Some(What::Stopped));
     };
     if seat.take(alloc, delta)? {
-        Ok(None)
+        is_written(alloc, seat, event, Some(delta))
     } else {
         Ok(Some(What::Refused))
     }
 }
 
-/// A gateway refused. Only frames that are none may be refused, and what would pass a limit.
-fn follow_fault(seat: &mut Seat, fault: &NodeFault) -> Option<What> {
-    seat.latest = None;
-    match fault {
-        NodeFault::Frame { .. } | NodeFault::Full | NodeFault::Exhausted => None,
-        NodeFault::Halted | NodeFault::Disk { .. } => Some(What::Refused),
-        NodeFault::Conflict { .. } | NodeFault::Journal { .. } => Some(What::Refused),
-        NodeFault::Memory => Some(What::Stopped),
+/// A failure is arranged.
+fn arranged(seat: &mut Seat, at: usize, event: &Event) -> Option<What> {
+    match event {
+        Event::WriteFails { bytes, sync, .. } => {
+            seat.drive.arrange(at, *bytes, *sync);
+            None
+        }
+        _ => Some(What::Stopped),
+    }
+}
+
+/// Whether a message waits no more, and what the gateway has since does not acknowledge it.
+fn vanished(seat: &Seat, played: &Played, views: &[(ClientId, ClientView)]) -> bool {
+    let Some(shown) = seat.shown else {
+        return false;
+    };
+    let Some(before) = views_at(played, shown) else {
+        return false;
+    };
+    match seat.latest {
+        Some(number) => has_vanished(before.as_slice(), views, delta_at(played, number)),
+        None => has_vanished(before.as_slice(), views, seat.joined.as_ref()),
     }
 }
 
@@ -224,19 +256,12 @@ fn follow_views(
     at: usize,
     views: &[(ClientId, ClientView)],
 ) -> Result<Option<What>, AllocError> {
-    let delta = match seat.latest {
-        Some(number) => delta_at(played, number),
-        None => None,
-    };
-    if let Some(before) = seat.shown {
-        if let Some(before) = views_at(played, before) {
-            if has_vanished(before.as_slice(), views, delta) {
-                return Ok(Some(What::Vanished));
-            }
-        }
+    if vanished(seat, played, views) {
+        return Ok(Some(What::Vanished));
     }
     seat.shown = Some(at);
     seat.latest = None;
+    seat.joined = None;
     if seat.shows(alloc, views)? {
         Ok(None)
     } else {

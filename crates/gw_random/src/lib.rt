@@ -5,6 +5,7 @@
 //! acknowledgement. A script that shows something else is made short and is part of the report.
 //!
 //! - `draw`: numbers that look random.
+//! - `drive`: what a gateway's journal must hold (`Drive`).
 //! - `frames`: what clients send.
 //! - `field`: the gateways of a script, and what they answer (`Field`).
 //! - `invent`: a script from a seed (`Invention`).
@@ -12,6 +13,7 @@
 //! - `writing`: events as lines that the simulator reads.
 //! - `copying`: equal events, and events with what each leaves shown.
 //! - `seat`: what a gateway must show by the definitions (`Seat`).
+//! - `disk`: events at a gateway whose disk may fail.
 //! - `judge`: a run compared with the definitions (`Difference`).
 //! - `exchange`: at the end gateways exchange what they have.
 //! - `shorten`: a script that differs, made short.
@@ -20,7 +22,9 @@
 #![tactic(auto)]
 
 mod copying;
+mod disk;
 mod draw;
+mod drive;
 mod exchange;
 mod fault;
 mod field;

@@ -42,6 +42,16 @@ impl Listed {
         Ok(())
     }
 
+    /// The gateway has not the delta of this number.
+    pub(crate) fn forget(&mut self, gateway: u8, number: u64) {
+        let Ok(index) = usize::try_from(number.saturating_sub(1)) else {
+            return;
+        };
+        if let Some(holders) = self.holders.get_mut(index) {
+            *holders &= !bit_of(gateway);
+        }
+    }
+
     /// The number of a delta that the gateway is to take: mostly one that it has not, and sometimes any.
     pub(crate) fn choose(
         &mut self,

@@ -1,5 +1,6 @@
 //! What a gateway must show by the definitions.
 
+use super::drive::Drive;
 use rep_model::{ClientView, Replica, TakeFault};
 use rep_ops::{ClientId, Delta, Op, Put};
 use rep_plain::Plain;
@@ -15,6 +16,10 @@ pub(crate) struct Seat {
     pub(crate) shown: Option<usize>,
     /// The number of the delta that it has made or taken since.
     pub(crate) latest: Option<u64>,
+    /// The delta that was refused, and that it has since it was opened again.
+    pub(crate) joined: Option<Delta>,
+    /// What its journal must hold.
+    pub(crate) drive: Drive,
 }
 
 impl Seat {
@@ -27,6 +32,8 @@ impl Seat {
             plain,
             shown: None,
             latest: None,
+            joined: None,
+            drive: Drive::empty(),
         })
     }
 

@@ -51,7 +51,7 @@ pub(crate) fn examined<R: Replica>(
     let Some(played) = field.play::<R>(alloc, shown.as_slice())? else {
         return Ok(Verdict::Stuck);
     };
-    match judged(alloc, field, shown.as_slice(), &played)? {
+    match judged::<R>(alloc, field, shown.as_slice(), &played)? {
         None => Ok(Verdict::Same),
         Some(found) => Ok(Verdict::Differs {
             events: all,

@@ -41,6 +41,11 @@ fn event_line(alloc: Global, text: &mut String, event: &Event) -> Result<(), All
         Event::Tick { gateway, now } => numbers_line(text, "tick", *gateway, *now),
         Event::Take { gateway, delta } => numbers_line(text, "take", *gateway, *delta),
         Event::Answer { gateway, peer } => numbers_line(text, "answer", *gateway, u64::from(*peer)),
+        Event::WriteFails {
+            gateway,
+            bytes,
+            sync,
+        } => fail_line(text, *gateway, *bytes, *sync),
         Event::Compact { gateway } => gateway_line(text, "compact", *gateway),
         Event::Restart { gateway, keep } => restart_line(text, *gateway, *keep),
         Event::Show { gateway } => gateway_line(text, "show", *gateway),
@@ -72,6 +77,14 @@ fn numbers_line(text: &mut String, word: &str, gateway: u8, number: u64) -> Resu
 /// A line of a word and a gateway.
 fn gateway_line(text: &mut String, word: &str, gateway: u8) -> Result<(), AllocError> {
     writeln!(text, "{word} {gateway}")
+}
+
+/// The line of a write that is to fail.
+fn fail_line(text: &mut String, gateway: u8, bytes: u64, sync: bool) -> Result<(), AllocError> {
+    if sync {
+        return writeln!(text, "fail {gateway} sync");
+    }
+    writeln!(text, "fail {gateway} {bytes}")
 }
 
 /// The line of a gateway that is opened again.
