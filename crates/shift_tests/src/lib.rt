@@ -7,10 +7,13 @@
 //! - `story`: two threads, what they are answered, and what the shift is closed with.
 //! - `threads`: four threads at once.
 //! - `limits`: how many calls there may be, and which calls are refused.
+//! - `failing`: a disk that fails once, and a gateway that is opened again in its shift.
 #![tactic(auto)]
 
 #[cfg(test)]
 mod closings;
+#[cfg(test)]
+mod failing;
 #[cfg(test)]
 mod gateways;
 #[cfg(test)]
