@@ -20,10 +20,9 @@ prove:
 	@echo "Proving gw_sim and all that it stands on: some twenty minutes on four processors, the first time."
 	@cd crates/gw_sim && rt run <stdin >/dev/null
 
-# One task a processor: without RT_JOBS a large crate waits for memory that it does not need.
 test:
 	python3 tools/trust.py --check
-	RT_JOBS=$${RT_JOBS:-$$(nproc)} rt ci
+	rt ci
 
 trust:
 	python3 tools/trust.py
