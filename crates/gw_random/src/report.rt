@@ -41,7 +41,7 @@ pub fn random_run<R: Replica>(
     events: u64,
     gateways: u8,
 ) -> Result<Report, RandomFault>
-    // Where nothing is found, so many events were played.
+    // Where nothing is found, so many events are counted.
     ensures whole { IfOk result (λ report. report.found ≡ None → events ≤ report.events) }
     ensures gateways { (result ≡ Err RandomFault.Gateways) ↔ ((gateways ≡ 0) ⊎ (8 < gateways)) }
 {
