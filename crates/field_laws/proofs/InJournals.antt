@@ -88,12 +88,11 @@ own-later : (old mid : Field) (number i : ℕ) (maker : Gateway) (occasion : Occ
     → Contains (made_of answer) delta → (S : List Op) × Later mid.gateways i (S ++ delta)
 own-later old mid number i maker occasion now answer delta at j gateway next made here step is there =
     let e = same-place old number j i gateway maker here at in
-    let is_taken = took gateway next made delta (subst (λ (ds : List (List Op)). Contains ds delta) (sym (own-told gateway occasion now answer next made step)) there) (own-moves gateway occasion now answer next made step) in
-    (
+    let is_taken = took gateway next made delta (subst (λ (ds : List (List Op)). Contains ds delta) (sym (own-told gateway occasion now answer next made step)) there) (own-moves gateway occasion now answer next made step) in (
       gateway.taken,
       subst (λ (k : ℕ). Later mid.gateways k (gateway.taken ++ delta)) e
-      (subst (λ (T : List Op). Later mid.gateways j T) is_taken
-      (subst (λ (f : Field). Later f.gateways j next.taken) (sym is) (later-now (set old.gateways j next) j next (set-at j old.gateways gateway next here.1)))),
+          (subst (λ (T : List Op). Later mid.gateways j T) is_taken
+          (subst (λ (f : Field). Later f.gateways j next.taken) (sym is) (later-now (set old.gateways j next) j next (set-at j old.gateways gateway next here.1)))),
     )
 
 made-later : (old mid : Field) (event : Event) (answer : Answer) (delta : List Op) (i : ℕ) (maker : Gateway) → After old event answer mid → Contains (made_by answer) delta

@@ -187,7 +187,7 @@ module _ {D : Type 0} {G : Ghosts D} where
       → (S : List Op) → HasTaken S [] state → Lasts S [] (held_of state)
   from_taken state honest number synced S h = record {
     counts = h.counts;
-    synced = λ runs. elim synced [ | inl all ↦ drive_synced (drive_of state) all | inr halted ↦ absurd (true≢false (sym halted ∙ runs)) ];
+    synced = λ runs. elim synced [ inl all ↦ drive_synced (drive_of state) all | inr halted ↦ absurd (true≢false (sym halted ∙ runs)) ];
     none = λ runs. refl;
     images = λ k m.
         subst (λ (T : List Op). StandsFor state.config.gateway T [] (after_crash k m (G.slots (disk_of state.journal)))) (sym (unrefused _ S))

@@ -13,7 +13,9 @@ ghost use Rattle.gw_world.specs.Worlds.{IsWorld, IsStop};
 ghost use Rattle.rep_ops.specs.declared.op.Op.{Op};
 
 use super::event::{Answer, Event};
-use super::field::{ask, compact_at, fail_at, frame_at, place_of, restart_at, show_at, take_at, tick_at};
+use super::field::{
+    ask, compact_at, fail_at, frame_at, place_of, restart_at, show_at, take_at, tick_at,
+};
 use super::world::{World, WorldFault};
 use gw_node::{Node, NodeFault, Out};
 use jr_journal::MemoryDisk;
