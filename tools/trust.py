@@ -41,8 +41,9 @@ PARTS = [
      "A field is a list of gateways, and of the deltas that they made. Events happen to it one after the other, and `run` gives "
      "what they give. Whatever the events are, no name of a session operation or a message ever stands for two things, none of "
      "them is made twice, and gateways that have taken the same show the same.",
-     "In these fields no disk fails, and `run` may always stop for want of memory; gateways may be stopped and opened again at any "
-     "moment. What one step does is named here and defined in part 4, and what a datagram spells in part 6.",
+     "In these fields a disk fails where an event arranges it, in the next write or in the sync behind that, and nowhere else: not in "
+     "an opening. Gateways may be stopped and opened again between any two events. `run` may always stop for want of memory. What one "
+     "step does is named here and defined in part 4, and what a datagram spells in part 6.",
      ["gw_world::run", "gw_world::steady_field", "gw_world::consistent_field", "gw_world::made_once", "gw_world::settled_field",
       "gw_world::one_run", "gw_world::answered_field", "field_laws::own_full", "field_laws::takes_at_zero"],
      []),
@@ -56,15 +57,17 @@ PARTS = [
       "sn_flow::other", "plan_laws::every_plan"],
      ["sn_deliver/Steps/step", "sn_deliver/Ticking/tick", "sn_flow/Locals/after_all", "sn_flow/Locals/owned"]),
     ("The disk",
-     "What a gateway makes or takes is written and synced before it is answered. After every crash its journal gives exactly what "
-     "was answered for, or that and the one record that was being written; amid a compaction, the old records or all that must be "
-     "kept. A gateway whose write failed is halted until it is opened again.",
+     "What a gateway makes or takes is written and synced before it is answered. After every crash its journal gives what counts as "
+     "all that was answered for, or that and the one record that was being written; amid a compaction, the old records or all that "
+     "must be kept. A gateway whose write failed is halted until it is opened again. In a field, what a gateway made is in its own "
+     "journal from then on.",
      "All of this is said of an honest disk, one that does what the clauses of `Disk` say: that a real one is honest is a premise. "
-     "The disk in memory calls itself honest, and so the prover holds it to them.",
+     "The disk in memory calls itself honest, and so the prover holds it to them. The law of what a gateway made speaks of every image "
+     "that stands for the gateway's set; that what a crash leaves is such an image is said by `run`, in part 3.",
      ["jr_journal::Disk", "jr_journal::MemoryDisk", "jr_journal::memory_disk_is_honest", "jr_journal::Journal::open",
       "jr_journal::Journal::append", "jr_journal::Journal::compact", "jr_journal::Journal::reopen", "rep_model::base_laws",
       "gw_node::Node::open", "gw_node::opening_laws", "gw_node::Node::frame", "gw_node::Node::take", "gw_node::Node::tick",
-      "gw_node::Node::compact", "gw_node::Node::reopen"],
+      "gw_node::Node::compact", "gw_node::Node::reopen", "field_laws::stored"],
      ["jr_journal/journal/Journal", "jr_journal/memory/MemoryDisk", "jr_journal/memory/impl Model for MemoryDisk",
       "jr_journal/fault/JournalFault", "gw_world/Calm/IsCalm", "gw_world/Drives/opened", "gw_world/Drives/new_drive",
       "gw_world/Drives/with_record", "gw_world/Drives/compacted", "gw_world/Drives/left_by", "gw_world/Steps/records_left",

@@ -95,17 +95,9 @@ fn follow_failure<R: Replica>(
         Event::Take { delta, .. } => copy_of(alloc, delta_at(played, *delta))?,
         _ => made_without::<R>(alloc, field, events, at, failure.first)?,
     };
-    let is_right = is_compaction(event) || has_operations(refused.as_ref());
+    let is_right = matches!(event, Event::Compact { .. }) || has_operations(refused.as_ref());
     seat.drive.fail(refused);
     Ok(differs_unless(is_right, What::Disk))
-}
-
-/// Whether an event writes a journal anew.
-fn is_compaction(event: &Event) -> bool {
-    match event {
-        Event::Compact { .. } => true,
-        _ => false,
-    }
 }
 
 /// Whether there is a delta with operations.

@@ -92,7 +92,9 @@ pub(crate) fn any_frame(alloc: Global, draw: &mut Draw, client: u8) -> Result<Fr
         16 => Ok(Frame::Disconnect { duration: None }),
         17 => ping(alloc, draw, client),
         18 => Ok(odd(draw)),
-        _ => Ok(asleep(draw)),
+        _ => Ok(Frame::Disconnect {
+            duration: Some(silence(draw)),
+        }),
     }
 }
 
@@ -200,20 +202,6 @@ fn will(alloc: Global, draw: &mut Draw) -> Result<Option<Will>, AllocError> {
     }))
 }
 
-/// WILLTOPIC, the answer to WILLTOPICREQ.
-pub(crate) fn will_topic(alloc: Global, draw: &mut Draw) -> Result<Frame, AllocError> {
-    Ok(Frame::WillTopic {
-        will: will(alloc, draw)?,
-    })
-}
-
-/// WILLMSG, the answer to WILLMSGREQ.
-pub(crate) fn will_message(alloc: Global, draw: &mut Draw) -> Result<Frame, AllocError> {
-    Ok(Frame::WillMsg {
-        message: message(alloc, draw)?,
-    })
-}
-
 /// An update of the will: of its topic, or of its message.
 fn will_update(alloc: Global, draw: &mut Draw) -> Result<Frame, AllocError> {
     if draw.is_once_in(2) {
@@ -224,13 +212,6 @@ fn will_update(alloc: Global, draw: &mut Draw) -> Result<Frame, AllocError> {
     Ok(Frame::WillMsgUpd {
         message: message(alloc, draw)?,
     })
-}
-
-/// DISCONNECT with a duration.
-fn asleep(draw: &mut Draw) -> Frame {
-    Frame::Disconnect {
-        duration: Some(silence(draw)),
-    }
 }
 
 /// PINGREQ with the client's id, or without one.
@@ -273,8 +254,12 @@ pub(crate) fn reply(
     sent: &Frame,
 ) -> Result<Option<Frame>, AllocError> {
     match sent {
-        Frame::WillTopicReq => Ok(Some(will_topic(alloc, draw)?)),
-        Frame::WillMsgReq => Ok(Some(will_message(alloc, draw)?)),
+        Frame::WillTopicReq => Ok(Some(Frame::WillTopic {
+            will: will(alloc, draw)?,
+        })),
+        Frame::WillMsgReq => Ok(Some(Frame::WillMsg {
+            message: message(alloc, draw)?,
+        })),
         Frame::Register {
             topic_id,
             msg_id,

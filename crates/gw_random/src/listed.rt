@@ -11,16 +11,8 @@ pub(crate) struct Listed {
 
 /// The bit of a gateway.
 fn bit_of(gateway: u8) -> u8 {
-    match gateway {
-        1 => 1,
-        2 => 2,
-        3 => 4,
-        4 => 8,
-        5 => 16,
-        6 => 32,
-        7 => 64,
-        _ => 128,
-    }
+    1u8.checked_shl(u32::from(gateway.saturating_sub(1)))
+        .unwrap_or(128)
 }
 
 impl Listed {

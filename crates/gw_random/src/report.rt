@@ -2,7 +2,7 @@
 
 ghost use Rattle.std.specs.Prelude.{◌≡◌, ◌≤◌, ◌<◌, ◌⊎◌, ◌↔◌, IfOk, None, Err};
 
-use super::copying::copy_event;
+use super::copying::append_copies;
 use super::draw::Draw;
 use super::fault::RandomFault;
 use super::field::Field;
@@ -41,7 +41,7 @@ pub fn random_run<R: Replica>(
     events: u64,
     gateways: u8,
 ) -> Result<Report, RandomFault>
-    // Where nothing is found, so many events were played.
+    // Where nothing is found, so many events are counted.
     ensures whole { IfOk result (λ report. report.found ≡ None → events ≤ report.events) }
     ensures gateways { (result ≡ Err RandomFault.Gateways) ↔ ((gateways ≡ 0) ⊎ (8 < gateways)) }
 {
@@ -105,10 +105,8 @@ fn stuck(alloc: Global, field: &Field, seed: u64, events: &[Event]) -> Result<Fo
 fn describe(alloc: Global, field: &Field, seed: u64, short: &Short) -> Result<Found, AllocError> {
     let Difference { at, gateway, what } = short.difference;
     let mut front = Vec::new(alloc);
-    let until = short.all.as_slice().iter().take(at.saturating_add(1));
-    for event in until {
-        front.push(copy_event(alloc, event)?)?;
-    }
+    let until = at.saturating_add(1).min(short.all.len());
+    append_copies(alloc, &mut front, &short.all[..until])?;
     for number in 1..=field.gateways {
         if number == gateway || what == What::Apart || what == What::Sets {
             front.push(Event::Show { gateway: number })?;

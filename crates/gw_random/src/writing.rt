@@ -38,17 +38,17 @@ fn event_line(alloc: Global, text: &mut String, event: &Event) -> Result<(), All
             bytes,
             now,
         } => frame_line(alloc, text, *gateway, from.port, *now, bytes.as_slice()),
-        Event::Tick { gateway, now } => numbers_line(text, "tick", *gateway, *now),
-        Event::Take { gateway, delta } => numbers_line(text, "take", *gateway, *delta),
-        Event::Answer { gateway, peer } => numbers_line(text, "answer", *gateway, u64::from(*peer)),
+        Event::Tick { gateway, now } => writeln!(text, "tick {gateway} {now}"),
+        Event::Take { gateway, delta } => writeln!(text, "take {gateway} {delta}"),
+        Event::Answer { gateway, peer } => writeln!(text, "answer {gateway} {peer}"),
         Event::WriteFails {
             gateway,
             bytes,
             sync,
         } => fail_line(text, *gateway, *bytes, *sync),
-        Event::Compact { gateway } => gateway_line(text, "compact", *gateway),
+        Event::Compact { gateway } => writeln!(text, "compact {gateway}"),
         Event::Restart { gateway, keep } => restart_line(text, *gateway, *keep),
-        Event::Show { gateway } => gateway_line(text, "show", *gateway),
+        Event::Show { gateway } => writeln!(text, "show {gateway}"),
     }
 }
 
@@ -67,16 +67,6 @@ fn frame_line(
     }
     let digits = hex::encode(alloc, bytes)?;
     writeln!(text, "{digits}")
-}
-
-/// A line of a word and two numbers.
-fn numbers_line(text: &mut String, word: &str, gateway: u8, number: u64) -> Result<(), AllocError> {
-    writeln!(text, "{word} {gateway} {number}")
-}
-
-/// A line of a word and a gateway.
-fn gateway_line(text: &mut String, word: &str, gateway: u8) -> Result<(), AllocError> {
-    writeln!(text, "{word} {gateway}")
 }
 
 /// The line of a write that is to fail.
