@@ -7,11 +7,21 @@
 #   make edits  tries more edits that must fail, which make test leaves out for the sake of its time; CRATES=NAME those of a crate
 #   make daemon proves and builds the daemon, and tries it over sockets on this machine
 #   make field  plays a story with three daemons on this machine
+#   make client proves and builds sn_client, a client for a person at a terminal
+#   make look   proves and builds jr_look, which shows what is in a journal
+#   make install PREFIX=/usr/local
+#               installs the programs that are built, man pages, a systemd unit and examples; DESTDIR is honoured; make uninstall
 #   make bench  times the simulator, digests and answers, the lock, and the two codecs beside plain C
 #
-# All need the Rattle kit's command `rt`; make test and make trust need python3 as well, make bench gcc too.
+# All but make install need the Rattle kit's command `rt`; make test, trust and install need python3 as well, make bench gcc too.
 
-.PHONY: run prove test edits bench trust daemon field clean
+PREFIX ?= /usr/local
+DESTDIR ?=
+PROGRAMS = sngw sn_client gw_sim jr_look
+UNITS = $(DESTDIR)$(PREFIX)/lib/systemd/system
+SHARE = $(DESTDIR)$(PREFIX)/share
+
+.PHONY: run prove test edits bench trust daemon field client look install uninstall clean
 
 run:
 	@sh examples/show.sh
@@ -39,6 +49,30 @@ daemon: crates/sngw/out/sngw
 
 field: crates/sngw/out/sngw
 	@python3 bench/field.py crates/sngw/out/sngw
+
+# Without arguments the client ends with status 4, and jr_look with status 1.
+crates/sn_client/out/sn_client:
+	@echo "Proving sn_client and all that it stands on: some minutes on four processors, the first time."
+	@cd crates/sn_client && rt run >/dev/null 2>&1; test -x out/sn_client
+
+client: crates/sn_client/out/sn_client
+	@echo "crates/sn_client/out/sn_client is built; docs/TRY.md tells what to do with it"
+
+crates/jr_look/out/jr_look:
+	@echo "Proving jr_look and all that it stands on: some twenty minutes on four processors, the first time."
+	@cd crates/jr_look && rt run >/dev/null 2>&1; test -x out/jr_look
+
+look: crates/jr_look/out/jr_look
+	@echo "crates/jr_look/out/jr_look is built"
+
+install:
+	@sh tools/install.sh "$(DESTDIR)" "$(PREFIX)"
+
+uninstall:
+	rm -f $(PROGRAMS:%=$(DESTDIR)$(PREFIX)/bin/%)
+	rm -f $(SHARE)/man/man8/sngw.8 $(SHARE)/man/man8/jr_look.8 $(SHARE)/man/man1/sn_client.1 $(SHARE)/man/man1/gw_sim.1
+	rm -f "$(UNITS)/nimhazel@.service"
+	rm -rf $(SHARE)/doc/nimhazel
 
 bench:
 	@sh bench/play.sh

@@ -1,0 +1,2 @@
+mod FlagLemmas
+mod TurnLaws

@@ -1,0 +1,220 @@
+//! A run: exchanges over the socket, and what is printed of them.
+
+ghost use Rattle.std.specs.Prelude.{◌≤◌, IfOk};
+
+use crate::asking::{begin, told_will};
+use crate::pace::Pace;
+use crate::talk::{Awaited, Outcome, Talk, acknowledgement};
+use crate::telling::{Hex, Told};
+use crate::wire::Wire;
+use crate::words::{Command, Settings};
+use sn_frame::{EncodeFault, Frame, decode, encode};
+use std::alloc::AllocError;
+use std::io;
+use std::net::Net;
+use std::time::{Clock, Duration, Instant, SystemTime};
+use thiserror::Error;
+
+/// The most octets of a datagram.
+const DATAGRAM: usize = 65_535;
+
+/// A connection with the session that is there.
+const CONNECT: Command<'static> = Command::Connect {
+    clean: false,
+    keep_alive: 0,
+    will: None,
+};
+
+/// Why a run failed.
+#[derive(Debug, Drop, Error)]
+pub(crate) enum Fault {
+    /// The socket, the clock or the output failed.
+    #[error("{0}")]
+    Io(io::Error),
+    /// What was asked for fits no frame.
+    #[error("{0}")]
+    Frame(EncodeFault),
+    /// Memory ran out.
+    #[error("out of memory")]
+    Memory,
+}
+
+impl From<io::Error> for Fault {
+    fn from(error: io::Error) -> Fault {
+        Fault::Io(error)
+    }
+}
+
+impl From<EncodeFault> for Fault {
+    fn from(fault: EncodeFault) -> Fault {
+        Fault::Frame(fault)
+    }
+}
+
+impl From<AllocError> for Fault {
+    fn from(_error: AllocError) -> Fault {
+        Fault::Memory
+    }
+}
+
+/// What a run has in hand.
+#[derive(Drop)]
+struct Run {
+    wire: Wire,
+    talk: Talk,
+    pace: Pace,
+    hex: bool,
+}
+
+/// A message id that is not 0, and seldom that of a run before.
+fn message_id(clock: &impl Clock) -> io::Result<u16>
+    ensures { IfOk result (λ id. 1 ≤ id) }
+{
+    let now = SystemTime::now(clock)?;
+    let since = now
+        .duration_since(SystemTime::UNIX_EPOCH)
+        .unwrap_or(Duration::ZERO);
+    Ok((since.as_millis() % 65_535) as u16 + 1)
+}
+
+/// A duration as a number of milliseconds.
+fn millis(duration: Duration) -> u64 {
+    u64::try_from(duration.as_millis()).unwrap_or(u64::MAX)
+}
+
+/// What the settings ask for, behind a connection where they ask for one.
+pub(crate) fn converse<R: Net + Clock + Print + AllocGlobal>(
+    rt: &R,
+    settings: &Settings<'_>,
+) -> Result<Outcome, Fault> {
+    let wire = Wire::open(rt, settings.port, settings.gateway)?;
+    let (client, gateway, port) = (settings.client, settings.gateway, wire.port()?);
+    println!(rt; "-- client {client:?} at port {port}, gateway {gateway}")?;
+    let talk = begin(rt.alloc(), client, &CONNECT, message_id(rt)?)?;
+    let mut run = Run {
+        wire,
+        talk,
+        pace: Pace::of(settings.seconds),
+        hex: settings.hex,
+    };
+    if settings.connect {
+        let outcome = run.exchange(rt, &CONNECT)?;
+        if outcome != Outcome::Accepted {
+            return Ok(outcome);
+        }
+    }
+    run.talk = begin(rt.alloc(), client, &settings.command, message_id(rt)?)?;
+    run.pace = Pace::of(settings.seconds);
+    run.exchange(rt, &settings.command)
+}
+
+impl Run {
+    /// One exchange, to its end.
+    fn exchange<R: Clock + Print + AllocGlobal>(
+        &mut self,
+        rt: &R,
+        command: &Command<'_>,
+    ) -> Result<Outcome, Fault> {
+        let mut buffer = vec![in rt.alloc(); 0_u8; DATAGRAM]?;
+        let start = Instant::now(rt)?;
+        for _ in 0..u64::MAX {
+            let moment = millis(start.elapsed(rt)?);
+            if self.pace.is_over(&self.talk, moment) {
+                break;
+            }
+            self.speak(rt, moment)?;
+            self.hear(rt, command, buffer.as_mut_slice(), moment)?;
+        }
+        let outcome = self.talk.conclude(self.pace.came);
+        if outcome == Outcome::Unanswered {
+            println!(rt; "-- nothing came that answers it")?;
+        }
+        Ok(outcome)
+    }
+
+    /// Sends the pending frame, where it is due.
+    fn speak<R: Print + AllocGlobal>(&mut self, rt: &R, moment: u64) -> Result<(), Fault> {
+        if !self.pace.is_due(&self.talk, moment) {
+            return Ok(());
+        }
+        if self.pace.sent.is_some() {
+            self.talk.repeat();
+        }
+        if let Some(frame) = &self.talk.pending {
+            say(rt, &self.wire, frame, self.hex)?;
+        }
+        self.pace.note_sent(moment);
+        Ok(())
+    }
+
+    /// Takes a datagram, if one comes within a while.
+    fn hear<R: Print + AllocGlobal>(
+        &mut self,
+        rt: &R,
+        command: &Command<'_>,
+        buffer: &mut [u8],
+        moment: u64,
+    ) -> Result<(), Fault> {
+        let Some(size) = self.wire.receive(buffer)? else {
+            return Ok(());
+        };
+        let octets = &buffer[..size];
+        match decode(rt.alloc(), octets) {
+            Ok(frame) => {
+                tell(rt, "<-", &frame, octets, self.hex)?;
+                self.answer(rt, command, &frame, moment)
+            }
+            Err(fault) => {
+                let digits = Hex(octets);
+                println!(rt; "<- no frame: {fault}: {digits}")?;
+                Ok(())
+            }
+        }
+    }
+
+    /// What a frame that came leads to.
+    fn answer<R: Print + AllocGlobal>(
+        &mut self,
+        rt: &R,
+        command: &Command<'_>,
+        frame: &Frame,
+        moment: u64,
+    ) -> Result<(), Fault> {
+        if let Some(reply) = acknowledgement(frame) {
+            say(rt, &self.wire, &reply, self.hex)?;
+        }
+        if let Some(reply) = told_will(rt.alloc(), command, frame)? {
+            say(rt, &self.wire, &reply, self.hex)?;
+        }
+        if matches!(frame, Frame::Disconnect { .. })
+            && !matches!(self.talk.awaited, Awaited::Farewell)
+        {
+            println!(rt;
+                "-- the gateway has no connection with this client at this port: connect"
+            )?;
+        }
+        let goes_on = self.talk.take(frame);
+        self.pace.note_came(moment, goes_on);
+        Ok(())
+    }
+}
+
+/// Sends a frame, and tells it.
+fn say<R: Print + AllocGlobal>(rt: &R, wire: &Wire, frame: &Frame, hex: bool) -> Result<(), Fault> {
+    let mut octets = Vec::new(rt.alloc());
+    encode(rt.alloc(), frame, &mut octets)?;
+    tell(rt, "->", frame, octets.as_slice(), hex)?;
+    wire.send(octets.as_slice())?;
+    Ok(())
+}
+
+/// Prints a frame in words, and its octets where they are asked for.
+fn tell<R: Print>(rt: &R, way: &str, frame: &Frame, octets: &[u8], hex: bool) -> io::Result<()> {
+    let told = Told(frame);
+    println!(rt; "{way} {told}")?;
+    if hex {
+        let digits = Hex(octets);
+        println!(rt; "   {digits}")?;
+    }
+    Ok(())
+}

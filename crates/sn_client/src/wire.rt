@@ -1,0 +1,59 @@
+//! The socket of a client.
+
+ghost use Rattle.std.specs.Prelude.{◌≤◌, IfOk, IfSome, length};
+
+use std::io;
+use std::io::ErrorKind;
+use std::net::{IpAddr, Ipv4Addr, Ipv6Addr, Net, SocketAddr, UdpSocket};
+use std::time::Duration;
+
+/// How many milliseconds a receive waits for a datagram.
+const A_WHILE: u64 = 50;
+
+/// A socket, and the gateway that it speaks with.
+#[derive(Drop)]
+pub(crate) struct Wire {
+    socket: UdpSocket,
+    gateway: SocketAddr,
+}
+
+impl Wire {
+    /// A socket that is bound to a port; with port 0 to one that is free.
+    pub(crate) fn open<N: Net>(net: &N, port: u16, gateway: SocketAddr) -> io::Result<Wire> {
+        let host = if gateway.is_ipv4() {
+            IpAddr::V4(Ipv4Addr::UNSPECIFIED)
+        } else {
+            IpAddr::V6(Ipv6Addr::UNSPECIFIED)
+        };
+        let socket = UdpSocket::bind(net, SocketAddr::new(host, port))?;
+        socket.set_read_timeout(Some(Duration::from_millis(A_WHILE)))?;
+        Ok(Wire { socket, gateway })
+    }
+
+    /// The port that it is bound to.
+    pub(crate) fn port(&self) -> io::Result<u16> {
+        Ok(self.socket.local_addr()?.port())
+    }
+
+    /// Sends a datagram to the gateway.
+    pub(crate) fn send(&self, octets: &[u8]) -> io::Result<()> {
+        self.socket.send_to(octets, self.gateway)?;
+        Ok(())
+    }
+
+    /// The size of a datagram that came from the gateway, which is in the front of the buffer; nothing where none came for a while.
+    /// What another sent is nothing.
+    pub(crate) fn receive(&self, buffer: &mut [u8]) -> io::Result<Option<usize>>
+        ensures { IfOk result (λ came. IfSome came (λ size. size ≤ length buffer.new)) }
+    {
+        match self.socket.recv_from(buffer) {
+            Ok((size, from)) if from == self.gateway => Ok(Some(size)),
+            Ok(_) => Ok(None),
+            Err(e)
+                if e.kind() == ErrorKind::WouldBlock
+                    || e.kind() == ErrorKind::TimedOut
+                    || e.kind() == ErrorKind::Interrupted => Ok(None),
+            Err(e) => Err(e),
+        }
+    }
+}

@@ -1,0 +1,306 @@
+//! From the words of a command line to what is asked for.
+
+ghost use Rattle.std.specs.Prelude.{◌≤◌, IfOk};
+
+mod grammar;
+
+use clap::{ArgMatches, Error};
+use grammar::command_line;
+use octets::read_u16;
+use sn_frame::Qos;
+use sn_topic::{Filter, TopicFault, TopicName};
+use std::alloc::{AllocError, Global};
+use std::net::SocketAddr;
+
+/// The most octets that a client's id has (MQTT-SN 1.2 section 5.3.1).
+const MAX_ID: usize = 23;
+
+/// How a topic is named in a frame (MQTT-SN 1.2 sections 5.3.11 and 5.3.12).
+#[derive(Clone, Copy)]
+pub(crate) enum Topic<'a> {
+    /// A name in full, or a filter.
+    Full(&'a str),
+    /// A name of two octets, as a number.
+    Short(u16),
+    /// An id that both sides know beforehand.
+    Predefined(u16),
+}
+
+/// What a gateway publishes for a client that is lost.
+#[derive(Clone, Copy)]
+pub(crate) struct WillWords<'a> {
+    /// The topic's name.
+    pub topic: &'a str,
+    /// The text.
+    pub message: &'a str,
+    /// How often it is to arrive.
+    pub qos: Qos,
+    /// Whether it is to be kept.
+    pub retain: bool,
+}
+
+/// What a run is for.
+#[derive(Clone, Copy)]
+pub(crate) enum Command<'a> {
+    /// Look whether a gateway is there.
+    Search,
+    /// Set up a connection.
+    Connect {
+        clean: bool,
+        keep_alive: u16,
+        will: Option<WillWords<'a>>,
+    },
+    /// Subscribe to a topic.
+    Subscribe {
+        topic: Topic<'a>,
+        qos: Qos,
+    },
+    /// End a subscription.
+    Unsubscribe {
+        topic: Topic<'a>,
+    },
+    /// Publish a text.
+    Publish {
+        topic: Topic<'a>,
+        text: &'a str,
+        qos: Qos,
+        retain: bool,
+    },
+    /// Fall asleep for so many seconds.
+    Sleep {
+        seconds: u16,
+    },
+    /// Wake up for what was kept meanwhile.
+    Wake,
+    /// Take what comes.
+    Listen,
+    /// End the connection.
+    Disconnect,
+}
+
+/// What a command line says.
+#[derive(Clone, Copy)]
+pub(crate) struct Settings<'a> {
+    /// Where the gateway is.
+    pub gateway: SocketAddr,
+    /// The client's id.
+    pub client: &'a str,
+    /// The port of this client; 0 for any that is free.
+    pub port: u16,
+    /// Whether octets are printed too.
+    pub hex: bool,
+    /// Whether a connection is set up first.
+    pub connect: bool,
+    /// How many seconds a run waits at most; 0 for no end.
+    pub seconds: u16,
+    /// What the run is for.
+    pub command: Command<'a>,
+}
+
+/// Why a command line says nothing.
+#[derive(Drop)]
+pub(crate) enum Unread {
+    /// The words are not arranged as they should be, or help is asked for.
+    Words(Error),
+    /// What is wrong with one of them.
+    Word(&'static str),
+}
+
+impl From<AllocError> for Unread {
+    fn from(error: AllocError) -> Unread {
+        Unread::Words(Error::from(error))
+    }
+}
+
+impl From<Error> for Unread {
+    fn from(error: Error) -> Unread {
+        Unread::Words(error)
+    }
+}
+
+/// What a command line says.
+pub(crate) fn read<'a>(alloc: Global, words: &'a [String]) -> Result<Settings<'a>, Unread> {
+    let matches = command_line(alloc)?.try_get_matches_from(words)?;
+    let Some((name, inner)) = matches.subcommand() else {
+        return Err(Unread::Word("COMMAND is missing"));
+    };
+    let client = client(inner)?;
+    Ok(Settings {
+        gateway: gateway(inner)?,
+        client,
+        port: inner.get_one::<u16>("port").unwrap_or(port_of(client)),
+        hex: inner.get_flag("hex"),
+        connect: inner.get_flag("connect"),
+        seconds: number(inner, if name == "listen" { "length" } else { "wait" })?,
+        command: asked(alloc, name, inner)?,
+    })
+}
+
+/// The address of the gateway.
+fn gateway(matches: &ArgMatches<'_>) -> Result<SocketAddr, Unread> {
+    let Some(word) = matches.get_str("gateway") else {
+        return Err(Unread::Word(
+            "--gateway is missing: where a gateway listens, as 127.0.0.1:18841",
+        ));
+    };
+    match word.parse::<SocketAddr>() {
+        Ok(gateway) => Ok(gateway),
+        Err(_) => Err(Unread::Word("--gateway is no address as 127.0.0.1:18841")),
+    }
+}
+
+/// The client's id: 1 to 23 octets.
+fn client<'a>(matches: &ArgMatches<'a>) -> Result<&'a str, Unread> {
+    match matches.get_str("id") {
+        None => Err(Unread::Word("--id is missing: the client's id, as s1")),
+        Some(word) if word.is_empty() => Err(Unread::Word("--id is empty")),
+        Some(word) if word.len() > MAX_ID => Err(Unread::Word("--id has more than 23 octets")),
+        Some(word) => Ok(word),
+    }
+}
+
+/// A port that is the same whenever the id is, outside of those that the system gives to others.
+fn port_of(client: &str) -> u16
+    ensures least { 20000 ≤ result }
+    ensures most { result ≤ 29999 }
+{
+    let mut sum = 0_u16;
+    for octet in client.as_bytes() {
+        sum = sum.wrapping_mul(31).wrapping_add(u16::from(*octet));
+    }
+    20_000 + sum % 10_000
+}
+
+/// A number of a command line.
+fn number(matches: &ArgMatches<'_>, id: &str) -> Result<u16, Unread> {
+    match matches.get_one::<u16>(id) {
+        Some(number) => Ok(number),
+        None => Err(Unread::Word("a number from 0 to 65535 is missing")),
+    }
+}
+
+/// A word of a command line.
+fn word<'a>(matches: &ArgMatches<'a>, id: &str) -> Result<&'a str, Unread> {
+    match matches.get_str(id) {
+        Some(word) => Ok(word),
+        None => Err(Unread::Word("a word is missing")),
+    }
+}
+
+/// The command and what stands behind it.
+fn asked<'a>(alloc: Global, name: &str, matches: &ArgMatches<'a>) -> Result<Command<'a>, Unread> {
+    match name {
+        "search" => Ok(Command::Search),
+        "connect" => Ok(Command::Connect {
+            clean: matches.get_flag("clean"),
+            keep_alive: number(matches, "keep-alive")?,
+            will: will(alloc, matches)?,
+        }),
+        "subscribe" => Ok(Command::Subscribe {
+            topic: filter(alloc, matches)?,
+            qos: qos(matches)?,
+        }),
+        "unsubscribe" => Ok(Command::Unsubscribe {
+            topic: filter(alloc, matches)?,
+        }),
+        "publish" => publish(alloc, matches),
+        "sleep" => match number(matches, "seconds")? {
+            0 => Err(Unread::Word("SECONDS is 0")),
+            seconds => Ok(Command::Sleep { seconds }),
+        },
+        "wake" => Ok(Command::Wake),
+        "listen" => Ok(Command::Listen),
+        _ => Ok(Command::Disconnect),
+    }
+}
+
+/// The will of a CONNECT.
+fn will<'a>(alloc: Global, matches: &ArgMatches<'a>) -> Result<Option<WillWords<'a>>, Unread> {
+    match (
+        matches.get_str("will-topic"),
+        matches.get_str("will-message"),
+    ) {
+        (None, None) => Ok(None),
+        (Some(topic), Some(message)) => {
+            check_name(alloc, topic)?;
+            Ok(Some(WillWords {
+                topic,
+                message,
+                qos: qos(matches)?,
+                retain: matches.get_flag("retain"),
+            }))
+        }
+        _ => Err(Unread::Word("--will-topic and --will-message go together")),
+    }
+}
+
+/// The words of `publish`. At QoS -1 no id can be asked for (MQTT-SN 1.2 section 6.8).
+fn publish<'a>(alloc: Global, matches: &ArgMatches<'a>) -> Result<Command<'a>, Unread> {
+    let name = word(matches, "topic")?;
+    let qos = qos(matches)?;
+    let topic = if matches.get_flag("predefined") {
+        topic_of_id(name)?
+    } else {
+        check_name(alloc, name)?;
+        in_form(name)
+    };
+    if qos == Qos::MinusOne && matches!(topic, Topic::Full(_)) {
+        return Err(Unread::Word("at QoS -1 TOPIC has two octets, or is an id with --predefined"));
+    }
+    Ok(Command::Publish {
+        topic,
+        text: word(matches, "text")?,
+        qos,
+        retain: matches.get_flag("retain"),
+    })
+}
+
+/// A quality of service.
+fn qos(matches: &ArgMatches<'_>) -> Result<Qos, Unread> {
+    match matches.get_str("qos") {
+        Some("0") => Ok(Qos::Zero),
+        Some("1") => Ok(Qos::One),
+        Some("2") => Ok(Qos::Two),
+        Some("-1") => Ok(Qos::MinusOne),
+        _ => Err(Unread::Word("--qos is none of -1, 0, 1 and 2")),
+    }
+}
+
+/// A predefined id.
+fn topic_of_id<'a>(word: &str) -> Result<Topic<'a>, Unread> {
+    match word.parse::<u16>() {
+        Ok(id) => Ok(Topic::Predefined(id)),
+        Err(_) => Err(Unread::Word("a predefined id is a number from 0 to 65535")),
+    }
+}
+
+/// Looks whether a topic's name is one.
+fn check_name(alloc: Global, word: &str) -> Result<(), Unread> {
+    match TopicName::new(alloc, word.as_bytes()) {
+        Ok(_) => Ok(()),
+        Err(TopicFault::Memory) => Err(Unread::from(AllocError)),
+        Err(_) => Err(Unread::Word("TOPIC is no name: 1 to 256 octets without a wildcard")),
+    }
+}
+
+/// A filter, or a predefined id. A filter with a wildcard is never a short name.
+fn filter<'a>(alloc: Global, matches: &ArgMatches<'a>) -> Result<Topic<'a>, Unread> {
+    let word = word(matches, "filter")?;
+    if matches.get_flag("predefined") {
+        return topic_of_id(word);
+    }
+    match Filter::new(alloc, word.as_bytes()) {
+        Ok(filter) if filter.has_wildcard() => Ok(Topic::Full(word)),
+        Ok(_) => Ok(in_form(word)),
+        Err(TopicFault::Memory) => Err(Unread::from(AllocError)),
+        Err(_) => Err(Unread::Word("FILTER is none: + or # alone in a level, and # in the last")),
+    }
+}
+
+/// A name as it goes into a frame: one of two octets takes the place of an id.
+fn in_form<'a>(word: &'a str) -> Topic<'a> {
+    match read_u16(word.as_bytes()) {
+        Some((number, [])) => Topic::Short(number),
+        _ => Topic::Full(word),
+    }
+}

@@ -1,0 +1,219 @@
+//! The options and commands of the program, and what help says of them.
+
+use clap::builder::ValueParser;
+use clap::{Arg, ArgAction, Command, value_parser};
+use std::alloc::{AllocError, Global};
+
+/// The qualities of service that a publication may have.
+static OF_PUBLISH: [&str; 4] = ["0", "1", "2", "-1"];
+
+/// The qualities of service that a subscription or a will may have.
+static OF_OTHERS: [&str; 3] = ["0", "1", "2"];
+
+/// What help says behind the options.
+const AFTER: &str =
+    "The session is at the gateway and belongs to the client's address: so all runs of one client have one port.
+A client that sleeps may wake at another gateway of the field.
+
+Status: 0 accepted, 1 refused, 2 no answer, 3 the socket or the output failed, 4 no such arguments
+
+An example, with the gateways of examples/field:
+  sn_client --gateway 127.0.0.1:18841 --id s1 connect --clean
+  sn_client --gateway 127.0.0.1:18841 --id s1 subscribe field/door --qos 1
+  sn_client --gateway 127.0.0.1:18841 --id s1 sleep 600
+  sn_client --gateway 127.0.0.1:18842 --id p1 --connect publish field/door open --qos 1
+  sn_client --gateway 127.0.0.1:18843 --id s1 wake";
+
+/// The whole command line.
+pub(super) fn command_line<'a>(alloc: Global) -> Result<Command<'a>, AllocError> {
+    let command = Command::new(alloc, "sn_client")
+        .about(
+            "A client of MQTT-SN 1.2: each run sends one thing to a gateway, and tells in words what goes and comes",
+        )
+        .after_help(AFTER)
+        .subcommand_required(true)
+        .arg_required_else_help(true)
+        .disable_help_subcommand(true);
+    let command = with_options(alloc, command)?
+        .subcommand(plain(alloc, "search", "Ask whether a gateway is there"))?
+        .subcommand(connect(alloc)?)?
+        .subcommand(subscribe(alloc)?)?
+        .subcommand(unsubscribe(alloc)?)?
+        .subcommand(publish(alloc)?)?
+        .subcommand(sleep(alloc)?)?
+        .subcommand(plain(
+            alloc,
+            "wake",
+            "Wake up for the messages that were kept, and sleep on",
+        ))?;
+    command
+        .subcommand(listen(alloc)?)?
+        .subcommand(plain(alloc, "disconnect", "End the connection"))
+}
+
+/// The options of every command.
+fn with_options<'a>(alloc: Global, command: Command<'a>) -> Result<Command<'a>, AllocError> {
+    let gateway = text(
+        alloc,
+        "gateway",
+        "ADDRESS",
+        "Where the gateway listens, as 127.0.0.1:18841",
+    )
+    .short('g');
+    let id = text(alloc, "id", "ID", "The client's id: 1 to 23 octets").short('i');
+    let port = text(
+        alloc,
+        "port",
+        "PORT",
+        "The client's own port; 0 for any. Left out, one that is made of the id",
+    )
+    .value_parser(value_parser!(u16));
+    let wait = text(
+        alloc,
+        "wait",
+        "SECONDS",
+        "How long to wait for an answer; 0 for no end",
+    )
+    .value_parser(value_parser!(u16))
+    .default_value("3");
+    command
+        .arg(gateway.global(true))?
+        .arg(id.global(true))?
+        .arg(port.global(true))?
+        .arg(flag(
+            alloc,
+            "connect",
+            "Connect first, with the session that is there",
+        )
+        .global(true))?
+        .arg(wait.global(true))?
+        .arg(flag(alloc, "hex", "Also print the octets of each frame").global(true))
+}
+
+/// A command without words of its own.
+fn plain<'a>(alloc: Global, name: &'a str, about: &'a str) -> Command<'a> {
+    Command::new(alloc, name).about(about)
+}
+
+/// An option with a value.
+fn text<'a>(alloc: Global, name: &'a str, value: &'a str, help: &'a str) -> Arg<'a> {
+    Arg::new(alloc, name)
+        .long(name)
+        .value_name(value)
+        .help(help)
+}
+
+/// An option without a value.
+fn flag<'a>(alloc: Global, name: &'a str, help: &'a str) -> Arg<'a> {
+    Arg::new(alloc, name)
+        .long(name)
+        .action(ArgAction::SetTrue)
+        .help(help)
+}
+
+/// A word that must be there.
+fn word<'a>(alloc: Global, name: &'a str, value: &'a str, help: &'a str) -> Arg<'a> {
+    Arg::new(alloc, name)
+        .required(true)
+        .value_name(value)
+        .help(help)
+}
+
+/// The option `--qos`.
+fn qos<'a>(alloc: Global, levels: &'static [&'static str]) -> Arg<'a> {
+    text(alloc, "qos", "QOS", "The quality of service")
+        .value_parser(ValueParser::Names(levels))
+        .allow_negative_numbers(true)
+        .default_value("0")
+}
+
+/// The option `--predefined`.
+fn predefined<'a>(alloc: Global) -> Arg<'a> {
+    flag(
+        alloc,
+        "predefined",
+        "What stands in the place of a name is a predefined topic id",
+    )
+}
+
+/// The command `connect`.
+fn connect<'a>(alloc: Global) -> Result<Command<'a>, AllocError> {
+    let keep_alive = text(
+        alloc,
+        "keep-alive",
+        "SECONDS",
+        "After half as much silence again the client is lost; 0 for never",
+    )
+    .value_parser(value_parser!(u16))
+    .default_value("0");
+    plain(alloc, "connect", "Set up a connection")
+        .arg(flag(alloc, "clean", "Begin with an empty session"))?
+        .arg(keep_alive)?
+        .arg(text(
+            alloc,
+            "will-topic",
+            "TOPIC",
+            "Where to publish the will if the client is lost",
+        ))?
+        .arg(text(alloc, "will-message", "TEXT", "What the will says"))?
+        .arg(qos(alloc, OF_OTHERS.as_slice()).help("The will's quality of service"))?
+        .arg(flag(alloc, "retain", "Set the will's retain flag"))
+}
+
+/// The command `subscribe`.
+fn subscribe<'a>(alloc: Global) -> Result<Command<'a>, AllocError> {
+    plain(alloc, "subscribe", "Subscribe to topics")
+        .arg(word(
+            alloc,
+            "filter",
+            "FILTER",
+            "Which topics, as tele/+ or tele/#",
+        ))?
+        .arg(qos(alloc, OF_OTHERS.as_slice()))?
+        .arg(predefined(alloc))
+}
+
+/// The command `unsubscribe`.
+fn unsubscribe<'a>(alloc: Global) -> Result<Command<'a>, AllocError> {
+    plain(alloc, "unsubscribe", "End a subscription")
+        .arg(word(
+            alloc,
+            "filter",
+            "FILTER",
+            "The filter as it was subscribed to",
+        ))?
+        .arg(predefined(alloc))
+}
+
+/// The command `publish`.
+fn publish<'a>(alloc: Global) -> Result<Command<'a>, AllocError> {
+    plain(alloc, "publish", "Publish a text")
+        .arg(word(
+            alloc,
+            "topic",
+            "TOPIC",
+            "The topic's name; one of two octets needs no id",
+        ))?
+        .arg(word(alloc, "text", "TEXT", "What is published").allow_negative_numbers(true))?
+        .arg(qos(alloc, OF_PUBLISH.as_slice()))?
+        .arg(flag(alloc, "retain", "Set the retain flag"))?
+        .arg(predefined(alloc))
+}
+
+/// The command `sleep`.
+fn sleep<'a>(alloc: Global) -> Result<Command<'a>, AllocError> {
+    let seconds = word(alloc, "seconds", "SECONDS", "For how long at most").value_parser(
+        value_parser!(u16),
+    );
+    plain(alloc, "sleep", "Fall asleep: messages are kept meanwhile").arg(seconds)
+}
+
+/// The command `listen`.
+fn listen<'a>(alloc: Global) -> Result<Command<'a>, AllocError> {
+    let length = Arg::new(alloc, "length")
+        .value_name("SECONDS")
+        .value_parser(value_parser!(u16))
+        .default_value("0")
+        .help("For how long; 0 until it is stopped");
+    plain(alloc, "listen", "Take what comes").arg(length)
+}

@@ -1,0 +1,39 @@
+#!/bin/sh
+# Installs the programs that are built, their man pages, the systemd unit and example settings.
+#
+# Usage: install.sh DESTDIR PREFIX        from the top of the repository; DESTDIR may be empty
+set -eu
+root=$1$2
+prefix=$2
+
+# How a program is built.
+target() {
+    case $1 in
+    sngw) echo daemon ;;
+    sn_client) echo client ;;
+    gw_sim) echo prove ;;
+    jr_look) echo look ;;
+    esac
+}
+
+installed=0
+for name in sngw sn_client gw_sim jr_look; do
+    if [ -x "crates/$name/out/$name" ]; then
+        install -D -m 755 "crates/$name/out/$name" "$root/bin/$name"
+        installed=$((installed + 1))
+        echo "installed $root/bin/$name"
+    else
+        echo "missing   $name: it is not built; 'make $(target "$name")' proves and builds it"
+    fi
+done
+python3 tools/man.py "$root/share/man"
+echo "installed $root/share/man"
+mkdir -p "$root/lib/systemd/system"
+sed "s|/usr/local/bin/|$prefix/bin/|" examples/nimhazel@.service >"$root/lib/systemd/system/nimhazel@.service"
+chmod 644 "$root/lib/systemd/system/nimhazel@.service"
+echo "installed $root/lib/systemd/system/nimhazel@.service"
+for name in one two three; do
+    install -D -m 644 "examples/field/$name.toml" "$root/share/doc/nimhazel/field/$name.toml"
+done
+echo "installed $root/share/doc/nimhazel: settings to begin with"
+echo "$installed programs of 4 are installed"
