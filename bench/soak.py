@@ -1,7 +1,7 @@
 #!/usr/bin/env python3
 """Tries a field of linked daemons for a long time: random clients, links that are cut, gateways that are killed, disks that are full.
 
-Usage: bench/soak.py PROGRAM MINUTES [--seed N] [--gateways N] [--look PROGRAM] [--steps N] [--keep FOLDER]
+Usage: bench/soak.py PROGRAM MINUTES [--seed N] [--gateways N] [--look PROGRAM] [--steps N] [--patience N] [--keep FOLDER]
 
 Each pair of gateways has a link, by way of a proxy that can be cut. In rounds of 20 to 100 seconds clients connect, sleep, wake at other
 gateways and publish at every quality of service, while links are cut, gateways are killed by `kill -9` and started again on their
@@ -123,7 +123,9 @@ class Book:
 
 
 class Walker(Client):
-    """A client for one visit at a gateway, some of whose datagrams are lost or come twice. It has quality of service 2 as well."""
+    """A client for one visit at a gateway, some of whose datagrams are lost or come twice."""
+
+    patience = 1.0  # on a slow machine all wait longer
 
     def __init__(self, name: bytes, gateway: Gateway, chance: random.Random):
         super().__init__(name, gateway)
@@ -141,6 +143,7 @@ class Walker(Client):
 
     def first_of(self, octets: bytes, wanted, seconds: float, every: float = 0.5, taken=None):
         """Sends again and again, until a frame comes that is wanted; others are given to `taken`."""
+        seconds, every = seconds * Walker.patience, every * Walker.patience
         end = time.monotonic() + seconds
         while time.monotonic() < end:
             self.send(octets)
@@ -239,6 +242,19 @@ class Publisher(Actor):
         self.book.open(made)
         return made
 
+    def mark(self, topics: set) -> dict:
+        """One message for each of these topics; what it says."""
+        made = {}
+        with self.visit(self.gateways[0]) as here:
+            if here.first_of(connect(self.who, 0, True), is_answer(CONNECTED), 5) != CONNECTED:
+                return made
+            for topic in sorted(topics):
+                publication = self.made(topic, 1)
+                field = self.field(here, topic, {})
+                if field is not None and self.put(here, publication, self.message(), *field):
+                    made[topic] = publication.body
+        return made
+
     def one(self, here: Walker, ids: dict) -> bool:
         """One publication; whether this visit goes on."""
         if self.left and self.chance.random() < 0.7:
@@ -334,7 +350,7 @@ class Subscriber(Actor):
     def fetch(self, gateway: Gateway, seconds: float = 4):
         """Wakes by PINGREQ, or connects; how many messages came up to PINGRESP, or nothing where none came. It falls asleep again."""
         with self.visit(gateway) as here:
-            before, end = sum(self.handed.values()), time.monotonic() + seconds
+            before, end = sum(self.handed.values()), time.monotonic() + seconds * Walker.patience
             while time.monotonic() < end:
                 answer = self.asks(here, ping(self.who), PONG, seconds=min(3, seconds))
                 if answer == GONE:
@@ -646,24 +662,18 @@ def differences(field: Field, look: str) -> str:
     return "they are the same now"
 
 
-def rehearse(field: Field, roamers: list, chance: random.Random) -> None:
+def rehearse(field: Field, roamers: list) -> None:
     """Each gateway knows of each subscription of a walker: it hands over what is published there."""
-    book = field.book
     for gateway in field.gateways:
-        marker = Publisher(book, [gateway], b"marker-%d" % gateway.number, str(chance.random()))
-        for roamer in roamers:
-            for topic in sorted(roamer.topics):
-                end, known = time.monotonic() + 120, False
-                while not known:
-                    expect(time.monotonic() < end, f"gateway {gateway.number} does not know that {roamer.who.decode()} wants {topic.decode()}")
-                    publication = marker.made(topic, 1)
-                    with marker.visit(gateway) as here:
-                        if here.first_of(connect(marker.who, 0, True), is_answer(CONNECTED), 5) == CONNECTED:
-                            field_of = marker.field(here, topic, {})
-                            if field_of is not None:
-                                marker.put(here, publication, marker.message(), *field_of)
-                    roamer.fetch(gateway, 10)
-                    known = publication.body in roamer.handed
+        marker = Publisher(field.book, [gateway], b"marker-%d" % gateway.number, "marker")
+        unknown, end = {(roamer, topic) for roamer in roamers for topic in roamer.topics}, time.monotonic() + 240
+        while unknown:
+            expect(time.monotonic() < end, f"gateway {gateway.number} does not know of each subscription: {len(unknown)} are missing")
+            field.book.clear()
+            made = marker.mark({topic for _, topic in unknown})
+            for roamer in {roamer for roamer, _ in unknown}:
+                roamer.fetch(gateway, 10)
+            unknown = {(roamer, topic) for roamer, topic in unknown if made.get(topic) not in roamer.handed}
 
 
 def round_over(field: Field, actors: list) -> None:
@@ -744,7 +754,7 @@ class Play:
 
     def __init__(self, field: Field, options):
         self.field, self.options = field, options
-        self.began = self.told = time.monotonic()
+        self.began = self.told = 0.0
         field_of = (field.book, field.gateways)
         self.roamers = [Roamer(place, *field_of, b"walker-%d" % place, str(options.seed)) for place in range(3)]
         self.homers = [Homer(gateway, *field_of, b"homer-%d" % gateway.number, str(options.seed)) for gateway in field.gateways]
@@ -756,15 +766,17 @@ class Play:
             print(f"{(self.told - self.began) / 60:5.1f} min  {summary(self.field.book)}", flush=True)
 
     def run(self) -> None:
-        field, end = self.field, self.began + 60 * self.options.minutes
-        subscribers = self.roamers + self.homers
+        field, subscribers = self.field, self.roamers + self.homers
         for gateway in field.gateways:
             field.begin(gateway)
         field.mend()
         for subscriber in subscribers:
             subscriber.settle_in(field.gateways[0])
-        rehearse(field, self.roamers, field.chance)
+        rehearse(field, self.roamers)
         drained(field, subscribers)
+        print(f"each of {len(field.gateways)} gateways knows of each subscription", flush=True)
+        self.began = self.told = time.monotonic()
+        end = self.began + 60 * self.options.minutes
         while time.monotonic() < end and not field.book.faults:
             seconds = min(field.chance.choice([20, 45, 70, 100]), max(10.0, end - time.monotonic()))
             one_round(field, subscribers + self.publishers, subscribers, seconds, self.options.look, self.tell)
@@ -778,6 +790,7 @@ def options_of() -> argparse.Namespace:
     reader.add_argument("--seed", type=int, default=1)
     reader.add_argument("--gateways", type=int, default=3)
     reader.add_argument("--steps", type=int, default=256)
+    reader.add_argument("--patience", type=float, default=1)
     reader.add_argument("--look", default="")
     reader.add_argument("--keep", default="")
     return reader.parse_args()
@@ -793,6 +806,7 @@ def main() -> int:
     if not os.access(program, os.X_OK) or options.look and not os.access(options.look, os.X_OK):
         sys.exit(f"{options.program} {options.look}: no program")
     signal.signal(signal.SIGTERM, stop)
+    Walker.patience = options.patience
     with tempfile.TemporaryDirectory(prefix="soak-", dir=os.environ.get("TMPDIR", "/var/tmp")) as folder:
         field = Field(program, folder, options)
         play = Play(field, options)
