@@ -303,10 +303,10 @@ static void hostile_stream(struct buffer *to, const struct buffer *corpus)
 }
 
 struct streams {
-    long thrown, greeted, closed, untaken, octets;
+    long thrown, greeted, closed, away, octets;
 };
 
-static int send_in_pieces(int fd, const struct buffer *octets)
+static void send_in_pieces(int fd, const struct buffer *octets)
 {
     static const size_t sizes[] = { 1, 5, 64, 4096, 65536 };
     size_t size = sizes[below(5)];
@@ -314,47 +314,55 @@ static int send_in_pieces(int fd, const struct buffer *octets)
         size_t more = octets->len - place < size ? octets->len - place : size;
         if (place > 200) more = octets->len - place;
         ssize_t sent = send(fd, octets->at + place, more, MSG_NOSIGNAL);
-        if (sent <= 0) return 0;
+        if (sent <= 0) return;
         place += (size_t)sent;
     }
-    return 1;
 }
 
-/* Waits for what the gateway says, and whether it closes the link. */
-static void listen_to(int fd, struct streams *seen, int milliseconds)
+/* Waits for what the gateway says, and whether it closes the link. A link that is taken is told a number before it is heard. */
+static int listen_to(int fd, struct streams *seen, double behind)
 {
     static uint8_t came[65536];
     int greeted = 0;
-    for (double end = now() + milliseconds / 1000.0, left; (left = end - now()) > 0;) {
+    for (double end = now() + 1, left; (left = end - now()) > 0;) {
         struct pollfd ready = { .fd = fd, .events = POLLIN };
         if (poll(&ready, 1, (int)(left * 1000) + 1) <= 0) break;
         ssize_t size = recv(fd, came, sizeof came, MSG_DONTWAIT);
         if (size <= 0) {
-            seen->closed++;
+            seen->closed += greeted;
             break;
         }
+        if (!greeted) end = now() + behind;
         greeted = 1;
         seen->octets += size;
     }
     seen->greeted += greeted;
+    return greeted;
+}
+
+/* Whether the gateway took the link: it has eight at most, and closes others at once. */
+static int throw_once(long port, const struct buffer *octets, struct streams *seen)
+{
+    struct linger at_once = { 1, 0 };
+    struct sockaddr_in at = address(port);
+    int taken = 0, fd = socket(AF_INET, SOCK_STREAM, 0);
+    if (fd < 0) failed("a socket");
+    if (!connect(fd, (struct sockaddr *)&at, sizeof at)) {
+        send_in_pieces(fd, octets);
+        taken = listen_to(fd, seen, below(4) ? 0.02 : 0.2);
+    }
+    if (below(2)) setsockopt(fd, SOL_SOCKET, SO_LINGER, &at_once, sizeof at_once);
+    close(fd);
+    return taken;
 }
 
 static void throw_one(long port, const struct buffer *octets, struct streams *seen)
 {
-    struct linger at_once = { 1, 0 };
-    struct sockaddr_in at = address(port);
-    int fd = socket(AF_INET, SOCK_STREAM, 0);
-    if (fd < 0) failed("a socket");
     seen->thrown++;
-    if (connect(fd, (struct sockaddr *)&at, sizeof at)) {
-        seen->untaken++;
-        close(fd);
-        usleep(1000);
-        return;
+    for (int turn = 0; turn < 20 && !throw_once(port, octets, seen); turn++) {
+        seen->away++;
+        usleep(10000);
     }
-    if (send_in_pieces(fd, octets)) listen_to(fd, seen, below(4) ? 100 : 400);
-    if (below(2)) setsockopt(fd, SOL_SOCKET, SO_LINGER, &at_once, sizeof at_once);
-    close(fd);
 }
 
 static struct streams throw_all(long port, long count, const struct buffer *corpus)
@@ -391,12 +399,12 @@ static void streams(long port, long count)
         all.thrown += one.thrown;
         all.greeted += one.greeted;
         all.closed += one.closed;
-        all.untaken += one.untaken;
+        all.away += one.away;
         all.octets += one.octets;
     }
     double seconds = now() - began;
-    printf("thrown %ld seconds %.1f rate %.1f greeted %ld closed %ld untaken %ld octets %ld corpus %zu\n", all.thrown, seconds,
-           all.thrown / seconds, all.greeted, all.closed, all.untaken, all.octets, corpus.len);
+    printf("thrown %ld seconds %.1f rate %.1f greeted %ld closed %ld away %ld octets %ld corpus %zu\n", all.thrown, seconds,
+           all.thrown / seconds, all.greeted, all.closed, all.away, all.octets, corpus.len);
 }
 
 int main(int count, char **words)

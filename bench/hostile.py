@@ -55,11 +55,11 @@ def fetch(gateway: Gateway) -> int:
 
 
 def answers(gateway: Gateway, probe: Client) -> None:
-    """It is there: SEARCHGW and, of a client that it knows or does not, PINGREQ."""
+    """It is there: SEARCHGW and, of a client that it knows and of one that it does not, PINGREQ."""
     gateway.alive()
     probe.ask(search(), frame(0x02, bytes([gateway.number])), 60)
     probe.flush()
-    probe.ask(ping(b"sleeper"), PONG, 60)
+    probe.ask(ping(probe.name), PONG, 60)
     probe.flush()
     probe.ask(ping(b"nobody at all"), GONE, 60)
 
@@ -76,13 +76,14 @@ def halves(gateway: Gateway, tool: str, words: list, count: int, seed: int, prob
 
 
 def say_datagrams(said: dict, memory: list) -> None:
-    print(f"  {said['sent']} datagrams, {int(float(said['octets'])):,} octets, {float(said['rate']):.0f} per second; {said['answered']} answers, of these "
-          f"{said['refused']} refusals; the slowest answer to SEARCHGW {float(said['slowest']) / 1000:.0f} ms; VmRSS {memory[-2]} KiB, then {memory[-1]}", flush=True)
+    print(f"  {said['sent']} datagrams, {int(float(said['octets'])):,} octets, {float(said['rate']):.0f} per second; {said['answered']} answers,"
+          f" of these {said['refused']} refusals;\n    the slowest answer to SEARCHGW {float(said['slowest']) / 1000:.0f} ms;"
+          f" VmRSS {memory[-2]} KiB, then {memory[-1]}", flush=True)
 
 
 def say_streams(said: dict, memory: list) -> None:
-    print(f"  {said['thrown']} streams, {float(said['rate']):.0f} per second; {said['greeted']} were greeted, {said['closed']} closed by the gateway; "
-          f"VmRSS {memory[-2]} KiB, then {memory[-1]}", flush=True)
+    print(f"  {said['thrown']} streams, {float(said['rate']):.0f} per second; {said['greeted']} were taken, {said['closed']} of these closed"
+          f" by the gateway;\n    {said['away']} times eight were open already; VmRSS {memory[-2]} KiB, then {memory[-1]}", flush=True)
 
 
 def steady(memory: list, most: int) -> None:
@@ -104,14 +105,17 @@ def bounded(program: str, tool: str, folder: str, options) -> None:
         gateway.start()
         keep_some(gateway)
         with Client(b"probe", gateway) as probe:
+            probe.connect()
             answers(gateway, probe)
             print(f"datagrams of 16 client names, seed {options.seed}", flush=True)
-            steady(halves(gateway, tool, ["datagrams", gateway.port], options.datagrams, options.seed, probe, [16], say_datagrams), options.growth)
+            thrown = halves(gateway, tool, ["datagrams", gateway.port], options.datagrams, options.seed, probe, [16], say_datagrams)
+            steady(thrown, options.growth)
             print(f"  {fetch(gateway)} messages that waited came all the same", flush=True)
             opens(gateway, 300)
             print("streams", flush=True)
             keep_some(gateway)
-            steady(halves(gateway, tool, ["streams", gateway.link], options.streams, options.seed, probe, [], say_streams), options.growth)
+            thrown = halves(gateway, tool, ["streams", gateway.link], options.streams, options.seed, probe, [], say_streams)
+            steady(thrown, options.growth)
             print(f"  a link is answered after {link_answers(gateway)}", flush=True)
             opens(gateway, 300)
 
@@ -121,7 +125,8 @@ def filled(program: str, folder: str, options) -> None:
         gateway.start()
         print(f"{options.fill} datagrams of any names and lengths", flush=True)
         began = time.monotonic()
-        print(f"  {throw_datagrams(gateway, options.fill, random.Random(options.seed))}; {time.monotonic() - began:.0f} seconds", flush=True)
+        said = throw_datagrams(gateway, options.fill, random.Random(options.seed))
+        print(f"  {said}; {time.monotonic() - began:.0f} seconds", flush=True)
         opens(gateway, 900)
 
 

@@ -1,7 +1,7 @@
 #!/usr/bin/env python3
 """Tries a field of linked daemons for a long time: random clients, links that are cut, gateways that are killed, disks that are full.
 
-Usage: bench/soak.py PROGRAM MINUTES [--seed N] [--gateways N] [--look PROGRAM] [--steps N] [--patience N] [--keep FOLDER]
+Usage: bench/soak.py PROGRAM MINUTES [--seed N] [--gateways N] [--look PROGRAM] [--steps N] [--patience N] [--keep FOLDER] [--older]
 
 Each pair of gateways has a link, by way of a proxy that can be cut. In rounds of 20 to 100 seconds clients connect, sleep, wake at other
 gateways and publish at every quality of service, while links are cut, gateways are killed by `kill -9` and started again on their
@@ -28,12 +28,15 @@ These hold because of what the clients leave undone:
   - Two gateways that have not heard of each other may give a message id of one client to two messages. An acknowledgement that still lies
     in a socket when the client comes back could then be taken for the other message: each visit of a client has an address of its own.
   - Quality of service 0 and -1 are counted and may be lost, and so is what was refused or not answered.
+
+With --older a killed gateway goes on from files that it had at an earlier start, as nobody may do: so it is seen that losses are found.
 """
 import argparse
 import collections
 import json
 import os
 import random
+import shutil
 import signal
 import socket
 import struct
@@ -45,7 +48,7 @@ import time
 
 sys.dont_write_bytecode = True
 from gateway import (CONNECTED, FOREVER, GONE, HOST, PONG, Client, Failed, Gateway, at_port, connect, expect, frame, free_ports, leave,
-                     number, opened, ping, publish, published, register, subscribe, until)
+                     number, opened, ping, publish, register, subscribe, until)
 
 ROOMY = 1 << 40  # a room that no journal needs
 MOST = 900  # frames of a round that may be messages for one subscriber
@@ -217,7 +220,8 @@ class Publisher(Actor):
 
     def act(self) -> None:
         with self.visit(self.chance.choice(self.gateways)) as here:
-            if here.first_of(connect(self.who, self.chance.choice([0, 5, 60]), self.chance.random() < 0.5), is_answer(CONNECTED), 2) != CONNECTED:
+            asked = connect(self.who, self.chance.choice([0, 5, 60]), self.chance.random() < 0.5)
+            if here.first_of(asked, is_answer(CONNECTED), 2) != CONNECTED:
                 return self.without_connection(here)
             ids = {}
             for _ in range(self.chance.randrange(1, 12)):
@@ -279,7 +283,7 @@ class Publisher(Actor):
             return flags, field
         if topic not in ids:
             message = self.message()
-            answer = here.first_of(register(topic, message), lambda octets: octets == GONE or octets[1:2] == b"\x0b" and octets[4:6] == number(message), 2)
+            answer = here.first_of(register(topic, message), lambda got: got == GONE or (got[1:2], got[4:6]) == (b"\x0b", number(message)), 2)
             if answer is None or answer == GONE or answer[6] != 0:
                 return None
             ids[topic] = answer[2:4]
@@ -288,11 +292,12 @@ class Publisher(Actor):
     def put(self, here: Walker, publication: Publication, message: int, flags: int, field: bytes) -> bool:
         """Sends it until it is acknowledged, refused, or four seconds are over."""
         octets = publish(field, publication.body, message if publication.quality else 0, flags | publication.quality << 5)
+        wanted = is_answer(b"\x07\x0d" + field + number(message), frame(0x0F, number(message)))
         for turn in range(4 if publication.quality else 1):
             if not self.book.may_send():
                 return False
             self.book.sends(publication, here.gateway.number)
-            answer = here.first_of(octets, is_answer(b"\x07\x0d" + field + number(message), frame(0x0F, number(message))), 0.1 if publication.quality == 0 else 1, 2)
+            answer = here.first_of(octets, wanted, 1 if publication.quality else 0.1, 2)
             octets = octets[:2] + bytes([octets[2] | 0x80]) + octets[3:]
             if publication.quality == 0:
                 return answer != GONE
@@ -341,8 +346,7 @@ class Subscriber(Actor):
         return True
 
     def connected(self, here: Walker, seconds: float = 2) -> bool:
-        duration = self.chance.choice([0, 3, 60])
-        return here.first_of(connect(self.who, duration), is_answer(CONNECTED), seconds, 0.5, lambda octets: self.hand(here, octets)) == CONNECTED
+        return self.asks(here, connect(self.who, self.chance.choice([0, 3, 60])), CONNECTED, seconds=seconds) == CONNECTED
 
     def asks(self, here: Walker, octets: bytes, *wanted: bytes, seconds: float = 2):
         return here.first_of(octets, is_answer(*wanted), seconds, 0.5, lambda got: self.hand(here, got))
@@ -434,8 +438,10 @@ class Homer(Subscriber):
         if spans and spans[-1][1] == float("inf"):
             spans[-1] = (spans[-1][0], time.monotonic())
             self.book.count("unsubscribed")
-            return self.asks(here, frame(0x14, b"\x02" + number(self.message) + topic), b"\x04\x15" + number(self.message), seconds=seconds) is not None
-        answer = self.asks(here, subscribe(topic, self.message, 0x22), b"\x08\x13\x20\x00\x00" + number(self.message) + b"\x00", seconds=seconds)
+            asked, wanted = frame(0x14, b"\x02" + number(self.message) + topic), frame(0x15, number(self.message))
+            return self.asks(here, asked, wanted, seconds=seconds) is not None
+        wanted = frame(0x13, b"\x20\x00\x00" + number(self.message) + b"\x00")
+        answer = self.asks(here, subscribe(topic, self.message, 0x22), wanted, seconds=seconds)
         if answer is not None and answer != GONE:
             spans.append((time.monotonic(), float("inf")))
             self.book.count("subscribed")
@@ -536,6 +542,7 @@ class Field:
         self.chance, self.book = random.Random(f"{options.seed} field"), Book()
         ports = free_ports(2 * options.gateways)
         self.ways, self.gateways, self.due, self.away, self.full, self.still = {}, [], [], set(), {}, set()
+        self.older = options.older
         for place in range(options.gateways):
             for other in range(place + 1, options.gateways):
                 # a ring: the last one dials the first
@@ -550,14 +557,28 @@ class Field:
         gateway.room = self.full.get(gateway.number, ROOMY)
         if not os.path.exists(gateway.settings):
             gateway.write()
+        if self.older:
+            self.go_back(gateway)
         gateway.begin()
         self.away.discard(gateway.number)
+
+    def go_back(self, gateway: Gateway) -> None:
+        """The files of the last start take the place of those of now, which are kept for the next one."""
+        for ending in (".0", ".1"):
+            now, before = gateway.journal + ending, gateway.journal + ending + ".before"
+            if os.path.exists(now):
+                shutil.copyfile(now, now + ".now")
+            if os.path.exists(before):
+                shutil.copyfile(before, now)
+            if os.path.exists(now + ".now"):
+                os.replace(now + ".now", before)
 
     def watch(self) -> None:
         """No daemon ends by itself."""
         for gateway in self.gateways:
             if gateway.number not in self.away and gateway.process.poll() is not None:
-                self.book.fault(f"gateway {gateway.number} ended with status {gateway.process.returncode}: {gateway.told().strip()[-2000:] or 'nothing told'}")
+                told = gateway.told().strip()[-2000:] or "nothing told"
+                self.book.fault(f"gateway {gateway.number} ended with status {gateway.process.returncode}: {told}")
                 self.begin(gateway)
 
     def later(self, seconds: float, what) -> None:
@@ -595,11 +616,17 @@ class Field:
     def kill(self, gateway: Gateway) -> None:
         if gateway.number in self.away:
             return
-        gateway.kill()
+        self.end(gateway)
         self.still.discard(gateway.number)
         self.away.add(gateway.number)
         self.book.count("kills")
         self.later(self.chance.choice([0, 0.5, 3, 8]), lambda: self.begin(gateway))
+
+    def end(self, gateway: Gateway) -> None:
+        """Ends the process at once, and counts what it printed."""
+        gateway.kill()
+        self.book.count("openings in place", max(0, len(gateway.openings()) - 1))
+        self.book.count("shifts", len(gateway.shifts()))
 
     def fill(self, gateway: Gateway) -> None:
         """There is room for a little more, or for none."""
@@ -792,6 +819,7 @@ def options_of() -> argparse.Namespace:
     reader.add_argument("--steps", type=int, default=256)
     reader.add_argument("--patience", type=float, default=1)
     reader.add_argument("--look", default="")
+    reader.add_argument("--older", action="store_true")
     reader.add_argument("--keep", default="")
     return reader.parse_args()
 
@@ -816,10 +844,9 @@ def main() -> int:
             field.book.fault(str(why))
         finally:
             for gateway in field.gateways:
-                gateway.kill()
+                field.end(gateway)
         if field.book.faults and options.keep:
-            os.makedirs(options.keep, exist_ok=True)
-            subprocess.run(["cp", "-r", folder, options.keep], check=False)
+            shutil.copytree(folder, options.keep, dirs_exist_ok=True)
     counts = field.book.counts
     for what in sorted(counts):
         print(f"{counts[what]:8d} {what}")
