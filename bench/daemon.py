@@ -1,7 +1,7 @@
 #!/usr/bin/env python3
 """Tries the daemon: what it tells and its statuses, clients over UDP, linked gateways, kills, the turn of shifts, hostile octets.
 
-Usage: bench/daemon.py PROGRAM [PART..] [--kills N] [--datagrams N] [--streams N] [--requests N] [--growth MIB] [--seed N]
+Usage: bench/daemon.py PROGRAM [PART..] [--kills N] [--datagrams N] [--streams N] [--requests N] [--growth MIB] [--seed N] [--seconds N]
 
 The parts, all where none is named:
 
@@ -11,9 +11,10 @@ The parts, all where none is named:
   kills     the daemon is killed N times (100) amid publications; what was acknowledged is there in the end
   shifts    N requests (600) over shifts of 16 calls are all answered
   compact   the journal shrinks when a shift is over; kills amid that; a disk is full, and the daemon goes on once there is room
-  hostile   N datagrams (20,000) and N streams of a link (500) that were made up: the daemon answers, and grows by MIB (64) at most
+  hostile   N datagrams (20,000) and N streams of a link (500) that were made up: the daemon answers, and grows by MIB (512) at most
 
-All goes on at 127.0.0.1, at ports that the system gives, in a folder that is gone afterwards. Status 0 only where nothing failed.
+A start may take N seconds (30). All goes on at 127.0.0.1, at ports that the system gives, in a folder that is gone afterwards. Status 0 only
+where nothing failed.
 """
 import argparse
 import os
@@ -968,7 +969,7 @@ def options_of() -> argparse.Namespace:
     reader = argparse.ArgumentParser(description=__doc__, formatter_class=argparse.RawDescriptionHelpFormatter, add_help=True)
     reader.add_argument("program")
     reader.add_argument("parts", nargs="*", metavar="PART")
-    for name, usual in (("kills", 100), ("datagrams", 20000), ("streams", 500), ("requests", 600), ("growth", 512), ("seed", 1)):
+    for name, usual in (("kills", 100), ("datagrams", 20000), ("streams", 500), ("requests", 600), ("growth", 512), ("seed", 1), ("seconds", 30)):
         reader.add_argument(f"--{name}", type=int, default=usual)
     options = reader.parse_args()
     for part in options.parts:
@@ -987,6 +988,7 @@ def main() -> int:
     if not os.access(program, os.X_OK):
         sys.exit(f"{options.program}: no program")
     signal.signal(signal.SIGTERM, stop)
+    Gateway.within = float(options.seconds)
     account = Account()
     for part in options.parts or PARTS:
         began = time.monotonic()

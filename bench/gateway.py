@@ -147,6 +147,8 @@ def with_the_starter(limit: int = 0, room: int = 0):
 class Gateway:
     """A daemon with its settings, its journal and what it printed. All files lie in the folder."""
 
+    within = 30.0  # seconds that a start may take
+
     def __init__(self, program: str, folder: str, gateway: int, ports: tuple = (), **more: str):
         self.program, self.folder, self.number = program, folder, gateway
         self.port, self.link = ports or free_ports(2)
@@ -174,8 +176,9 @@ class Gateway:
                 [self.program, "--config", self.settings, "--shifts", str(shifts)],
                 stdin=subprocess.DEVNULL, stdout=out, stderr=err, cwd=self.folder, preexec_fn=with_the_starter(0, self.room))
 
-    def start(self, shifts: int = 1_000_000, seconds: float = 30) -> tuple:
+    def start(self, shifts: int = 1_000_000, seconds: float = 0) -> tuple:
         """Starts the process, waits for its first line and for an answer, and gives the records and clients that it read."""
+        seconds = seconds or Gateway.within
         if not os.path.exists(self.settings):
             self.write()
         self.begin(shifts)
