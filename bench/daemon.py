@@ -827,7 +827,7 @@ def throw_datagrams(gateway: Gateway, count: int, chance: random.Random) -> str:
             sender = chance.choice(senders)
             sender.send(hostile_datagram(chance))
             if place % 40 == 39:
-                probe.ask(search(), frame(0x02, bytes([gateway.number])))
+                probe.ask(search(), frame(0x02, bytes([gateway.number])), Gateway.within)
                 sender.flush()
     for sender in senders:
         sender.close()

@@ -141,6 +141,7 @@ def options_of() -> argparse.Namespace:
 
 def main() -> int:
     options = options_of()
+    Gateway.within = 600.0
     program, tool = os.path.abspath(options.program), os.path.abspath(options.tool)
     with tempfile.TemporaryDirectory(prefix="hostile-", dir=os.environ.get("TMPDIR", "/var/tmp")) as folder:
         try:

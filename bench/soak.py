@@ -132,17 +132,27 @@ class Walker(Client):
 
     def __init__(self, name: bytes, gateway: Gateway, chance: random.Random):
         super().__init__(name, gateway)
-        self.chance = chance
+        self.chance, self.trace = chance, None
 
     def send(self, octets: bytes) -> None:
-        if self.chance.random() >= LOSS:
-            super().send(octets)
-        if self.chance.random() < LOSS:
+        times = (self.chance.random() >= LOSS) + (self.chance.random() < LOSS)
+        self.note(f"sends {times} times", octets)
+        for _ in range(times):
             super().send(octets)
 
     def receive(self, seconds: float):
         octets = super().receive(seconds)
-        return None if octets is not None and self.chance.random() < LOSS else octets
+        if octets is None:
+            return None
+        lost = self.chance.random() < LOSS
+        self.note("loses" if lost else "gets", octets)
+        return None if lost else octets
+
+    def note(self, what: str, octets: bytes) -> None:
+        """Keeps what a subscriber did, for whoever looks for the cause of a loss."""
+        if self.trace is not None:
+            port = self.socket.getsockname()[1]
+            self.trace.append(f"{time.monotonic():.3f} gateway {self.gateway.number} port {port} {what} {octets.hex()} {octets!r}")
 
     def first_of(self, octets: bytes, wanted, seconds: float, every: float = 0.5, taken=None):
         """Sends again and again, until a frame comes that is wanted; others are given to `taken`."""
@@ -318,6 +328,12 @@ class Subscriber(Actor):
         super().__init__(*given)
         self.handed = collections.Counter()
         self.topics = set()
+        self.trace = collections.deque(maxlen=100_000)
+
+    def visit(self, gateway: Gateway) -> Walker:
+        made = super().visit(gateway)
+        made.trace = self.trace
+        return made
 
     def hand(self, here: Walker, octets: bytes) -> None:
         """A frame of the gateway: messages are noted first, and then acknowledged."""
@@ -845,6 +861,9 @@ def main() -> int:
         finally:
             for gateway in field.gateways:
                 field.end(gateway)
+        for subscriber in play.roamers + play.homers if options.keep else []:
+            with open(os.path.join(folder, f"trace-{subscriber.who.decode()}"), "w", encoding="utf-8") as text:
+                text.write("\n".join(subscriber.trace))
         if field.book.faults and options.keep:
             shutil.copytree(folder, options.keep, dirs_exist_ok=True)
     counts = field.book.counts
