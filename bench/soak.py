@@ -744,15 +744,23 @@ def drained(field: Field, subscribers: list) -> None:
                 time.sleep(0.2)
 
 
-def look_at_round(field: Field, subscribers: list) -> None:
+def waits_at(field: Field, look: str, publication: Publication) -> list:
+    """The gateways at which the message still waits for somebody."""
+    if not look:
+        return []
+    return [gateway.number for gateway in field.gateways if publication.body.hex() in json.dumps(views(look, gateway))]
+
+
+def look_at_round(field: Field, subscribers: list, look: str) -> None:
     """What must have come, has. It is waited for, since deltas may be under way."""
     def missing() -> list:
         return [(subscriber, publication) for subscriber in subscribers for publication in field.book.round
                 if subscriber.must(publication) and publication.body not in subscriber.handed]
 
-    end = time.monotonic() + 60
     drained(field, subscribers)
-    while missing() and time.monotonic() < end:
+    end = time.monotonic() + 120 * Walker.patience
+    while missing() and time.monotonic() < end and not field.book.faults:
+        field.book.count("times it was looked again")
         time.sleep(1)
         drained(field, subscribers)
     lost = missing()
@@ -760,7 +768,8 @@ def look_at_round(field: Field, subscribers: list) -> None:
     field.book.count("owed", sum(subscriber.must(publication) for subscriber in subscribers for publication in field.book.round))
     for subscriber, publication in lost[:20]:
         spans = getattr(subscriber, "spans", {}).get(publication.topic, [])
-        field.book.fault(f"LOST for {subscriber.who.decode()}: {publication.told()}; subscribed {spans[-5:]}")
+        field.book.fault(f"LOST for {subscriber.who.decode()}: {publication.told()}; subscribed {spans[-5:]}; "
+                         f"waits at {waits_at(field, look, publication)}")
 
 
 def one_round(field: Field, actors: list, subscribers: list, seconds: float, look: str, tell) -> None:
@@ -777,7 +786,7 @@ def one_round(field: Field, actors: list, subscribers: list, seconds: float, loo
         tell()
         time.sleep(0.1)
     round_over(field, actors)
-    look_at_round(field, subscribers)
+    look_at_round(field, subscribers, look)
     if look:
         try:
             until(lambda: alike(field, look), 120, "gateways do not show the same", 1)
