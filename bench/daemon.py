@@ -1,7 +1,7 @@
 #!/usr/bin/env python3
 """Tries the daemon: what it tells and its statuses, clients over UDP, linked gateways, kills, the turn of shifts, hostile octets.
 
-Usage: bench/daemon.py PROGRAM [PART..] [--kills N] [--datagrams N] [--streams N] [--requests N] [--growth MIB] [--seed N]
+Usage: bench/daemon.py PROGRAM [PART..] [--kills N] [--datagrams N] [--streams N] [--requests N] [--growth MIB] [--seed N] [--seconds N]
 
 The parts, all where none is named:
 
@@ -11,9 +11,10 @@ The parts, all where none is named:
   kills     the daemon is killed N times (100) amid publications; what was acknowledged is there in the end
   shifts    N requests (600) over shifts of 16 calls are all answered
   compact   the journal shrinks when a shift is over; kills amid that; a disk is full, and the daemon goes on once there is room
-  hostile   N datagrams (20,000) and N streams of a link (500) that were made up: the daemon answers, and grows by MIB (64) at most
+  hostile   N datagrams (20,000) and N streams of a link (500) that were made up: the daemon answers, and grows by MIB (512) at most
 
-All goes on at 127.0.0.1, at ports that the system gives, in a folder that is gone afterwards. Status 0 only where nothing failed.
+A start may take N seconds (30). All goes on at 127.0.0.1, at ports that the system gives, in a folder that is gone afterwards. Status 0 only
+where nothing failed.
 """
 import argparse
 import os
@@ -375,11 +376,11 @@ def part_loopback(account: Account, program: str, folder: str, _) -> None:
 # ---- linked gateways
 
 
-def ring(program: str, folder: str, count: int) -> list:
-    """Gateways of which each dials the next."""
+def ring(program: str, folder: str, count: int, **more: str) -> list:
+    """Gateways of which each dials the next, with more settings."""
     ports = free_ports(2 * count)
     pairs = list(zip(ports[::2], ports[1::2]))
-    return [Gateway(program, folder, place + 1, pairs[place], peers=f"[{at_port(pairs[(place + 1) % count][1])}]")
+    return [Gateway(program, folder, place + 1, pairs[place], peers=f"[{at_port(pairs[(place + 1) % count][1])}]", **more)
             for place in range(count)]
 
 
@@ -426,8 +427,26 @@ def catch_up(gateways: list) -> str:
         return f"it had what it lacked {moved * 1000:.0f} ms after its first answer"
 
 
-def with_ring(program: str, folder: str, count: int, trial) -> str:
-    gateways = ring(program, folder, count)
+def tells_all(gateways: list, messages: int) -> str:
+    """Whatever is published at the first comes to the second, although a shift is over as soon as it has begun."""
+    with Client(b"s-short", gateways[0]) as sleeper, Client(b"p-short", gateways[0]) as publisher:
+        sleeper.connect()
+        sleeper.ask(subscribe(b"sh", 1, 0x22), b"\x08\x13")
+        sleeper.sleep()
+        gateways[1].await_octets(b"s-short")
+        publisher.connect(clean=True)
+        sent = [b"<%06d>" % message for message in range(messages)]
+        for message, body in enumerate(sent):
+            puback(publisher, b"sh", body, message + 1)
+    time.sleep(2)
+    held = gateways[1].held()
+    missing = [body for body in sent if body not in held]
+    expect(not missing, f"gateway 2 was not told of {len(missing)} of {messages} messages, as {missing[:3]}")
+    return f"{messages} messages over {len(gateways[0].shifts())} shifts"
+
+
+def with_ring(program: str, folder: str, count: int, trial, **more: str) -> str:
+    gateways = ring(program, folder, count, **more)
     try:
         for gateway in gateways:
             gateway.start()
@@ -438,10 +457,10 @@ def with_ring(program: str, folder: str, count: int, trial) -> str:
 
 
 def part_links(account: Account, program: str, folder: str, _) -> None:
-    def trial_in(name: str, count: int, trial) -> str:
+    def trial_in(name: str, count: int, trial, **more: str) -> str:
         place = os.path.join(folder, name)
         os.mkdir(place)
-        return with_ring(program, place, count, trial)
+        return with_ring(program, place, count, trial, **more)
 
     account.check("two gateways: sleep at 1, publish at 2, kill 2, wake at 1",
                   lambda: trial_in("two", 2, lambda g: take_over(g, g[1], g[0], b"two")))
@@ -450,6 +469,9 @@ def part_links(account: Account, program: str, folder: str, _) -> None:
     account.check("three gateways: sleep at 1, publish at 2, kill 2, wake at 3",
                   lambda: trial_in("three", 3, lambda g: take_over(g, g[1], g[2], b"three")))
     account.check("three gateways: 3 is away, publish at 2, start 3, wake at 3", lambda: trial_in("away", 3, catch_up))
+    for steps in ("1", "2"):
+        account.check(f"two gateways: shifts of {steps} calls, and each delta is told",
+                      lambda: trial_in(f"short-{steps}", 2, lambda g: tells_all(g, 150), steps=steps))
 
 
 # ---- kills
@@ -805,7 +827,7 @@ def throw_datagrams(gateway: Gateway, count: int, chance: random.Random) -> str:
             sender = chance.choice(senders)
             sender.send(hostile_datagram(chance))
             if place % 40 == 39:
-                probe.ask(search(), frame(0x02, bytes([gateway.number])))
+                probe.ask(search(), frame(0x02, bytes([gateway.number])), Gateway.within)
                 sender.flush()
     for sender in senders:
         sender.close()
@@ -947,7 +969,7 @@ def options_of() -> argparse.Namespace:
     reader = argparse.ArgumentParser(description=__doc__, formatter_class=argparse.RawDescriptionHelpFormatter, add_help=True)
     reader.add_argument("program")
     reader.add_argument("parts", nargs="*", metavar="PART")
-    for name, usual in (("kills", 100), ("datagrams", 20000), ("streams", 500), ("requests", 600), ("growth", 512), ("seed", 1)):
+    for name, usual in (("kills", 100), ("datagrams", 20000), ("streams", 500), ("requests", 600), ("growth", 512), ("seed", 1), ("seconds", 30)):
         reader.add_argument(f"--{name}", type=int, default=usual)
     options = reader.parse_args()
     for part in options.parts:
@@ -966,6 +988,7 @@ def main() -> int:
     if not os.access(program, os.X_OK):
         sys.exit(f"{options.program}: no program")
     signal.signal(signal.SIGTERM, stop)
+    Gateway.within = float(options.seconds)
     account = Account()
     for part in options.parts or PARTS:
         began = time.monotonic()

@@ -147,6 +147,8 @@ def with_the_starter(limit: int = 0, room: int = 0):
 class Gateway:
     """A daemon with its settings, its journal and what it printed. All files lie in the folder."""
 
+    within = 30.0  # seconds that a start may take
+
     def __init__(self, program: str, folder: str, gateway: int, ports: tuple = (), **more: str):
         self.program, self.folder, self.number = program, folder, gateway
         self.port, self.link = ports or free_ports(2)
@@ -174,8 +176,9 @@ class Gateway:
                 [self.program, "--config", self.settings, "--shifts", str(shifts)],
                 stdin=subprocess.DEVNULL, stdout=out, stderr=err, cwd=self.folder, preexec_fn=with_the_starter(0, self.room))
 
-    def start(self, shifts: int = 1_000_000, seconds: float = 30) -> tuple:
+    def start(self, shifts: int = 1_000_000, seconds: float = 0) -> tuple:
         """Starts the process, waits for its first line and for an answer, and gives the records and clients that it read."""
+        seconds = seconds or Gateway.within
         if not os.path.exists(self.settings):
             self.write()
         self.begin(shifts)
@@ -212,6 +215,11 @@ class Gateway:
             self.process.send_signal(signal.SIGKILL)
         if self.process:
             self.process.wait(30)
+
+    def limit_room(self, room: int) -> None:
+        """The disk of the process that runs is full: a file of its has so much room at most. It must have been started with a limit."""
+        resource.prlimit(self.process.pid, resource.RLIMIT_FSIZE, (room, resource.RLIM_INFINITY))
+        self.room = room
 
     def make_room(self) -> None:
         """The disk is not full any more."""
@@ -345,15 +353,19 @@ class Client:
                      f"within {seconds:.0f} seconds")
 
     def take(self, octets: bytes, seen: set, messages: list) -> None:
-        """A message or a topic that the gateway sends."""
+        """A message, a topic or a PUBREL that the gateway sends."""
         kind, body = opened(octets)
         if kind == 0x0A:
             self.send(frame(0x0B, body[:4] + b"\x00"))
+        if kind == 0x10:
+            self.send(frame(0x0E, body[:2]))
         if kind != 0x0C:
             return
         flags, field, message = body[0], body[1:3], int.from_bytes(body[3:5], "big")
         if flags & 0x60 == 0x20:
             self.send(published(field, message))
+        if flags & 0x60 == 0x40:
+            self.send(frame(0x0F, number(message)))
         if flags & 0x60 == 0 or message not in seen:
             messages.append(body[5:])
         seen.add(message)

@@ -138,8 +138,10 @@ compare "$rounds PINGREQ of one client" "$(best "$work/pings")" "$(best "$work/e
 
 puts 1
 compare "$messages PUBLISH of one client, $octets octets of the journal each" "$proved_line" "$plain_line"
+alone=$(told rate "$proved_line")
 puts 32
 compare "$messages PUBLISH of 32 clients, $octets octets of the journal each" "$proved_line" "$plain_line"
+awk -v a="$(told rate "$proved_line")" -v b="$alone" 'BEGIN { printf "  the daemon does %.2f of what it does for one client\n", a / b }'
 
 echo "a flood of twice as many PUBLISH as were handled"
 daemon
