@@ -361,8 +361,8 @@ class Subscriber(Actor):
                 self.hand(here, octets)
         return True
 
-    def connected(self, here: Walker, seconds: float = 2) -> bool:
-        return self.asks(here, connect(self.who, self.chance.choice([0, 3, 60])), CONNECTED, seconds=seconds) == CONNECTED
+    def connected(self, here: Walker, seconds: float = 2, durations: tuple = (0, 3, 60)) -> bool:
+        return self.asks(here, connect(self.who, self.chance.choice(durations)), CONNECTED, seconds=seconds) == CONNECTED
 
     def asks(self, here: Walker, octets: bytes, *wanted: bytes, seconds: float = 2):
         return here.first_of(octets, is_answer(*wanted), seconds, 0.5, lambda got: self.hand(here, got))
@@ -397,7 +397,7 @@ class Roamer(Subscriber):
 
     def settle_in(self, gateway: Gateway) -> None:
         with self.visit(gateway) as here:
-            expect(self.connected(here, 30), f"{self.who.decode()} could not connect")
+            expect(self.connected(here, 30, (0,)), f"{self.who.decode()} could not connect")
             for place, (_, kind, topic, quality) in enumerate(self.walk):
                 answer = self.asks(here, subscribe(topic, place + 1, kind | quality), b"\x08\x13", seconds=30)
                 expect(answer is not None and answer[-1] == 0, f"{self.who.decode()} could not subscribe")
@@ -442,7 +442,7 @@ class Homer(Subscriber):
 
     def settle_in(self, _) -> None:
         with self.visit(self.home) as here:
-            expect(self.connected(here, 30), f"{self.who.decode()} could not connect")
+            expect(self.connected(here, 30, (0,)), f"{self.who.decode()} could not connect")
             for topic in LOCAL[:2]:
                 expect(self.turn(here, topic, 30), f"{self.who.decode()} could not subscribe")
             expect(self.asks(here, leave(FOREVER), GONE, seconds=30) == GONE, f"{self.who.decode()} could not fall asleep")
