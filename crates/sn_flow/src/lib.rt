@@ -10,7 +10,8 @@
 //! - `config`: what a gateway is told (`Config`), addresses (`Addr`), what is sent (`Send`).
 //! - `local`: what a gateway knows that is in no set: which address is which client, from which addresses a
 //!   will is awaited, when which client was heard of (`Dialogs`). `bindings`, `will_dialogs`, `timers` are its
-//!   three lists, and `changes` carries changes out.
+//!   three parts, and `changes` carries changes out. Contracts see lists; they are sets, whose entries are known by
+//!   their client or by their address (`by_client`, `by_address`), and `two_names` is what a binding is made of.
 //! - `draft`, `row`: what a row says (`Draft`, `Row`).
 //! - `numbering`, `plan`: from a draft to a plan (`Plan`).
 //! - `connection`, `accept`, `wills`, `topic_rows`, `others`: the rows; `bound` is what they share.
