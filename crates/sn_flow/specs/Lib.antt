@@ -1,3 +1,4 @@
+pub mod Alike
 pub mod Accept
 pub mod Advertising
 pub mod Asking

@@ -11,6 +11,7 @@ use super::config::Addr;
 use super::draft::Draft;
 use super::fault::StepFault;
 use super::local::{LocalChange, Timer};
+use super::two_names::TwoNames;
 use rep_model::{ClientView, Puts, Replica};
 use rep_ops::ClientId;
 use sn_session::Session;
@@ -29,7 +30,7 @@ pub fn bind_to(
 {
     draft.note(LocalChange::Bind {
         address,
-        client: client.copy(alloc)?,
+        client: TwoNames::of(alloc, client)?,
     })?;
     let timer = Timer {
         client: client.copy(alloc)?,

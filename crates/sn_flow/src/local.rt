@@ -3,12 +3,15 @@
 ghost use Rattle.std.specs.Prelude.{◌≡◌, length, IfOk, IfErr, OnOk};
 ghost use Rattle.std.specs.Option.{option_copied};
 
-use super::bindings::{address_of, client_at, keep_bindings};
+use super::bindings::Bindings;
+use super::by_address::DialogEntry;
 use super::changes::commit_all;
 use super::config::Addr;
 use super::fault::StepFault;
-use super::timers::{keep_timers, timer_of};
-use super::will_dialogs::{dialog_at, is_crowded};
+use super::timers::{Timers, keep_timers, timer_of};
+use super::two_names::TwoNames;
+use super::will_dialogs::{DialogSet, dialog_at, is_crowded};
+use indexmap::IndexSet;
 use octets::Sequence;
 use rep_model::Replica;
 use rep_ops::ClientId;
@@ -91,7 +94,7 @@ pub struct Timer {
 #[derive(Debug, Drop)]
 pub enum LocalChange {
     /// From now on the address and the client belong together, and neither to another.
-    Bind { address: Addr, client: ClientId },
+    Bind { address: Addr, client: TwoNames },
     /// The client has no address any more. Its timer stays.
     Unbind { client: ClientId },
     /// The timer of its client is this one.
@@ -117,25 +120,25 @@ pub enum LocalChange {
 /// the gateway stops.
 #[derive(Debug, Drop)]
 pub struct Dialogs {
-    bindings: Vec<Binding>,
-    dialogs: Vec<WillDialog>,
-    timers: Vec<Timer>,
+    bindings: Bindings,
+    dialogs: DialogSet,
+    timers: Timers,
     advertised: Option<u64>,
 }
 
 impl Model for Dialogs {
     ghost use Rattle.sn_flow.specs.Locals.{Roomy};
-    ghost use Rattle.std.specs.Prelude.{◌-◌};
-    ghost use Rattle.std.specs.Vec.{vec_len, vec_capacity};
+    ghost use Rattle.indexmap.specs.IndexSet.{spare};
 
     ghost Value = { Roomy };
 
     ghost view = { λ d. record {
-      local = record { bindings = d.bindings.items; dialogs = d.dialogs.items; timers = d.timers.items; advertised = d.advertised };
+      local = record { bindings = d.bindings.bindings; dialogs = d.dialogs.keys; timers = d.timers.keys; advertised = d.advertised };
       room = record {
-        bindings = vec_capacity d.bindings - vec_len d.bindings;
-        dialogs = vec_capacity d.dialogs - vec_len d.dialogs;
-        timers = vec_capacity d.timers - vec_len d.timers;
+        by_address = d.bindings.by_address;
+        by_client = d.bindings.by_client;
+        dialogs = spare d.dialogs;
+        timers = spare d.timers;
       };
     } };
 }
@@ -152,9 +155,9 @@ impl Dialogs {
         ensures { result.local ≡ no_local }
     {
         Dialogs {
-            bindings: Vec::new(alloc),
-            dialogs: Vec::new(alloc),
-            timers: Vec::new(alloc),
+            bindings: Bindings::empty(alloc),
+            dialogs: IndexSet::new(alloc),
+            timers: IndexSet::new(alloc),
             advertised: None,
         }
     }
@@ -187,7 +190,7 @@ impl Dialogs {
     pub fn keep_owned<R: Replica>(&mut self, gateway: u8, replica: &R)
         ensures { self.new.local ≡ owned gateway (seen_of (R.kept replica.now)) self.old.local }
     {
-        keep_bindings(&mut self.bindings, gateway, replica);
+        self.bindings.keep(gateway, replica);
         keep_timers(&mut self.timers, gateway, replica);
     }
 
@@ -195,25 +198,25 @@ impl Dialogs {
     pub fn client_at(&self, address: Addr) -> Option<&ClientId>
         ensures { option_copied result ≡ client_of address self.now.local.bindings }
     {
-        client_at(self.bindings.as_slice(), address)
+        self.bindings.client_at(address)
     }
 
     /// The address of a client.
     pub fn address_of(&self, client: &ClientId) -> Option<Addr>
         ensures { result ≡ address_of_client client.now self.now.local.bindings }
     {
-        address_of(self.bindings.as_slice(), client)
+        self.bindings.address_of(client)
     }
 
     /// The timer of a client.
     pub fn timer_of(&self, client: &ClientId) -> Option<&Timer>
         ensures { option_copied result ≡ timer_of_client client.now self.now.local.timers }
     {
-        timer_of(self.timers.as_slice(), client)
+        timer_of(&self.timers, client)
     }
 
     /// The will dialogs.
-    pub fn dialogs(&self) -> &[WillDialog]
+    pub fn dialogs(&self) -> &[DialogEntry]
         ensures { result.now ≡ self.now.local.dialogs }
     {
         self.dialogs.as_slice()
@@ -230,13 +233,13 @@ impl Dialogs {
     pub fn dialog_at(&self, address: Addr) -> Option<&WillDialog>
         ensures { option_copied result ≡ dialog_of address self.now.local.dialogs }
     {
-        dialog_at(self.dialogs.as_slice(), address)
+        dialog_at(&self.dialogs, address)
     }
 
     /// Whether 1,024 other addresses have a will dialog, so that there is no room for one more.
     pub(crate) fn is_crowded(&self, address: Addr) -> bool
         ensures { result ≡ has_no_room address self.now.local.dialogs }
     {
-        is_crowded(self.dialogs.as_slice(), address)
+        is_crowded(&self.dialogs, address)
     }
 }
