@@ -9,4 +9,3 @@ pub mod Calm
 pub mod Plans
 pub mod Steady
 pub mod Whole
-pub mod Telling
