@@ -49,7 +49,7 @@ async function playToTheEnd(story) {
   must(count() === `${steps} of ${steps}`, `${story}: it stopped at ${count()}`);
   must(find("play").textContent === "Play", `${story}: it goes on at the end`);
   must(find("line").textContent === player.transcript.steps.at(-1).command.text, `${story}: another line is told`);
-  const end = { equal: equal(), words: find("equal").textContent, tiles: document.querySelectorAll(".tile:not(.absent)").length };
+  const end = { equal: equal(), words: find("equal").textContent, tiles: document.querySelectorAll("#gateways .tile:not(.absent)").length };
   key("ArrowLeft");
   must(count() === `${steps - 1} of ${steps}`, `${story}: no step back`);
   key("ArrowRight");
@@ -72,7 +72,7 @@ function openOwnTranscript() {
   must(document.querySelector(".halted") !== null, "a gateway is not halted");
   player.goTo(6);
   must(document.querySelector(".halted") === null, "a gateway stays halted");
-  must(document.querySelectorAll(".tile").length === 2, "a refused delta is not read back");
+  must(document.querySelectorAll("#gateways .tile").length === 2, "a refused delta is not read back");
   find("own-output").value += "quiet\\n";
   find("own-open").click();
   must(find("fault").textContent !== "", "an output that does not fit is not refused");
@@ -163,7 +163,7 @@ def check(folder: str, page: str, rows: list[dict[str, str]]) -> tuple[dict, lis
     with open(copy, "w", encoding="utf-8") as file:
         file.write(page.replace("<head>", "<head>" + WATCH, 1).replace("</body>", data + DRIVER + "</body>", 1))
     shown = browse(folder, "--virtual-time-budget=300000", "--dump-dom", f"file://{copy}")
-    found = re.search(r'<pre id="checked"[^>]*>(.*?)</pre>', shown, re.S)
+    found = re.search(r'<pre[^>]* id="checked"[^>]*>(.*?)</pre>', shown, re.S)
     if not found:
         return {}, ["the page did not come to its end"]
     checked = json.loads(html.unescape(found.group(1)))
