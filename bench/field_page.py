@@ -5,8 +5,8 @@ Usage: bench/field_page.py [--shots FOLDER]
 
 The stories in the page must be those of examples/, word for word, with the output that the rows of crates/gw_rows have for these scripts.
 Then a copy of the page plays both stories to their end by its own buttons, steps back and on by keys, opens a transcript of a reader's,
-refuses one that does not fit, and reads every row of gw_rows that is not a long one: where it says that two gateways have equal sets,
-what they show must be the same. Status 0 only where all of that holds and no error is seen. With --shots pictures are taken too.
+refuses one that does not fit, one that is too long and one that fits in too many ways, and reads every row of gw_rows: where it says
+that two gateways have equal sets, what they show must be the same. Status 0 only where all of that holds and no error is seen. With --shots pictures are taken too.
 """
 import argparse
 import html
@@ -21,7 +21,6 @@ import tempfile
 TOP = os.path.dirname(os.path.dirname(os.path.abspath(__file__)))
 PAGE = os.path.join(TOP, "docs", "field.html")
 ROW_OF = {"takeover": "takeover", "catchup": "a-gateway-was-away"}
-LONGEST_ROW = 20_000
 SHOTS = [("takeover", 13, (1280, 1000)), ("takeover", 22, (1280, 1000)), ("catchup", 12, (1280, 1000)), ("catchup", 22, (1280, 1000)),
          ("takeover", 13, (390, 1300)), ("catchup", 22, (390, 1300))]
 
@@ -78,6 +77,22 @@ function openOwnTranscript() {
   must(find("fault").textContent !== "", "an output that does not fit is not refused");
 }
 
+function refuse(script, output, words) {
+  find("own-script").value = script;
+  find("own-output").value = output;
+  find("own-open").click();
+  must(find("fault").textContent.includes(words), `not refused as it should be (${words}): ${find("fault").textContent}`);
+}
+
+function refuseWhatTakesTooLong() {
+  const ticks = (number) => "gateway 1\n" + "tick 1 1\n".repeat(number);
+  refuse(ticks(2000), "quiet\n".repeat(2000), "not played here");
+  refuse(ticks(1000), "to 7 0217\n".repeat(2500), "too many ways");
+  refuse("\n".repeat(2000000), "", "not played here");
+  refuse("gateway 1\ntake 1 9\n", "quiet\n", "names what is not there");
+  refuse("tick 1 1\n", "quiet\n", "names what is not there");
+}
+
 function readRows() {
   const told = { rows: 0, shows: 0, read: 0, pairs: 0 };
   for (const { name, script, output } of rows) {
@@ -108,6 +123,7 @@ function readRows() {
   try {
     for (const story of STORIES) told[story] = await playToTheEnd(story);
     openOwnTranscript();
+    refuseWhatTakesTooLong();
     told.rows = readRows();
   } catch (error) {
     faults.push(error.stack);
@@ -125,11 +141,11 @@ def rows_of(name: str) -> dict[str, str]:
 
 
 def rows_that_end_well() -> list[dict[str, str]]:
-    """Scripts that were not refused, without the long ones, with what they printed."""
+    """Scripts that were not refused, with what they printed."""
     scripts, outputs = rows_of("stdin"), rows_of("stdout")
     ended = "status 0\n"
     return [{"name": name, "script": script, "output": outputs[name].removesuffix(ended)} for name, script in scripts.items()
-            if outputs[name].endswith(ended) and len(script) <= LONGEST_ROW]
+            if outputs[name].endswith(ended)]
 
 
 def story_faults(page: str, rows: list[dict[str, str]]) -> list[str]:
