@@ -88,12 +88,12 @@ function refuse(script, output, words) {
 }
 
 function refuseWhatTakesTooLong() {
-  const ticks = (number) => "gateway 1\n" + "tick 1 1\n".repeat(number);
-  refuse(ticks(2000), "quiet\n".repeat(2000), "not played here");
-  refuse(ticks(1000), "to 7 0217\n".repeat(2500), "too many ways");
-  refuse("\n".repeat(2000000), "", "not played here");
-  refuse("gateway 1\ntake 1 9\n", "quiet\n", "names what is not there");
-  refuse("tick 1 1\n", "quiet\n", "names what is not there");
+  const ticks = (number) => "gateway 1\\n" + "tick 1 1\\n".repeat(number);
+  refuse(ticks(2000), "quiet\\n".repeat(2000), "not played here");
+  refuse(ticks(1000), "to 7 0217\\n".repeat(2500), "too many ways");
+  refuse("\\n".repeat(2000000), "", "not played here");
+  refuse("gateway 1\\ntake 1 9\\n", "quiet\\n", "names what is not there");
+  refuse("tick 1 1\\n", "quiet\\n", "names what is not there");
 }
 
 function readRows() {
