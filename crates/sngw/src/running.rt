@@ -172,13 +172,7 @@ where
 
 /// Where a gateway was opened anew, how it stands is printed as at the start, and the links are closed: it may have read what it never
 /// told, and over a new link the other end asks for that.
-fn begin_anew<T, R, D, S>(
-    rt: &T,
-    alloc: Global,
-    node: &Node<R, D>,
-    pool: &Pool<S>,
-    tended: Tended,
-)
+fn begin_anew<T, R, D, S>(rt: &T, alloc: Global, node: &Node<R, D>, pool: &Pool<S>, tended: Tended)
 where
     T: Wait + Print,
     R: Replica,
