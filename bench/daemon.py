@@ -377,11 +377,11 @@ def part_loopback(account: Account, program: str, folder: str, _) -> None:
 # ---- linked gateways
 
 
-def ring(program: str, folder: str, count: int) -> list:
-    """Gateways of which each dials the next."""
+def ring(program: str, folder: str, count: int, **more: str) -> list:
+    """Gateways of which each dials the next, with more settings."""
     ports = free_ports(2 * count)
     pairs = list(zip(ports[::2], ports[1::2]))
-    return [Gateway(program, folder, place + 1, pairs[place], peers=f"[{at_port(pairs[(place + 1) % count][1])}]")
+    return [Gateway(program, folder, place + 1, pairs[place], peers=f"[{at_port(pairs[(place + 1) % count][1])}]", **more)
             for place in range(count)]
 
 
@@ -428,8 +428,26 @@ def catch_up(gateways: list) -> str:
         return f"it had what it lacked {moved * 1000:.0f} ms after its first answer"
 
 
-def with_ring(program: str, folder: str, count: int, trial) -> str:
-    gateways = ring(program, folder, count)
+def tells_all(gateways: list, messages: int) -> str:
+    """Whatever is published at the first comes to the second, although a shift is over as soon as it has begun."""
+    with Client(b"s-short", gateways[0]) as sleeper, Client(b"p-short", gateways[0]) as publisher:
+        sleeper.connect()
+        sleeper.ask(subscribe(b"sh", 1, 0x22), b"\x08\x13")
+        sleeper.sleep()
+        gateways[1].await_octets(b"s-short")
+        publisher.connect(clean=True)
+        sent = [b"<%06d>" % message for message in range(messages)]
+        for message, body in enumerate(sent):
+            puback(publisher, b"sh", body, message + 1)
+    time.sleep(2)
+    held = gateways[1].held()
+    missing = [body for body in sent if body not in held]
+    expect(not missing, f"gateway 2 was not told of {len(missing)} of {messages} messages, as {missing[:3]}")
+    return f"{messages} messages over {len(gateways[0].shifts())} shifts"
+
+
+def with_ring(program: str, folder: str, count: int, trial, **more: str) -> str:
+    gateways = ring(program, folder, count, **more)
     try:
         for gateway in gateways:
             gateway.start()
@@ -440,10 +458,10 @@ def with_ring(program: str, folder: str, count: int, trial) -> str:
 
 
 def part_links(account: Account, program: str, folder: str, _) -> None:
-    def trial_in(name: str, count: int, trial) -> str:
+    def trial_in(name: str, count: int, trial, **more: str) -> str:
         place = os.path.join(folder, name)
         os.mkdir(place)
-        return with_ring(program, place, count, trial)
+        return with_ring(program, place, count, trial, **more)
 
     account.check("two gateways: sleep at 1, publish at 2, kill 2, wake at 1",
                   lambda: trial_in("two", 2, lambda g: take_over(g, g[1], g[0], b"two")))
@@ -452,6 +470,9 @@ def part_links(account: Account, program: str, folder: str, _) -> None:
     account.check("three gateways: sleep at 1, publish at 2, kill 2, wake at 3",
                   lambda: trial_in("three", 3, lambda g: take_over(g, g[1], g[2], b"three")))
     account.check("three gateways: 3 is away, publish at 2, start 3, wake at 3", lambda: trial_in("away", 3, catch_up))
+    for steps in ("1", "2"):
+        account.check(f"two gateways: shifts of {steps} calls, and each delta is told",
+                      lambda: trial_in(f"short-{steps}", 2, lambda g: tells_all(g, 150), steps=steps))
 
 
 # ---- kills

@@ -213,6 +213,11 @@ class Gateway:
         if self.process:
             self.process.wait(30)
 
+    def limit_room(self, room: int) -> None:
+        """The disk of the process that runs is full: a file of its has so much room at most. It must have been started with a limit."""
+        resource.prlimit(self.process.pid, resource.RLIMIT_FSIZE, (room, resource.RLIM_INFINITY))
+        self.room = room
+
     def make_room(self) -> None:
         """The disk is not full any more."""
         resource.prlimit(self.process.pid, resource.RLIMIT_FSIZE, (resource.RLIM_INFINITY, resource.RLIM_INFINITY))
@@ -345,15 +350,19 @@ class Client:
                      f"within {seconds:.0f} seconds")
 
     def take(self, octets: bytes, seen: set, messages: list) -> None:
-        """A message or a topic that the gateway sends."""
+        """A message, a topic or a PUBREL that the gateway sends."""
         kind, body = opened(octets)
         if kind == 0x0A:
             self.send(frame(0x0B, body[:4] + b"\x00"))
+        if kind == 0x10:
+            self.send(frame(0x0E, body[:2]))
         if kind != 0x0C:
             return
         flags, field, message = body[0], body[1:3], int.from_bytes(body[3:5], "big")
         if flags & 0x60 == 0x20:
             self.send(published(field, message))
+        if flags & 0x60 == 0x40:
+            self.send(frame(0x0F, number(message)))
         if flags & 0x60 == 0 or message not in seen:
             messages.append(body[5:])
         seen.add(message)

@@ -12,72 +12,17 @@
  * Messages wait for sleepers, of which each has APIECE. What is not answered within half a second is repeated. Of a run one line is
  * printed: names, each with its number behind it; times are in microseconds.
  */
-#define _GNU_SOURCE
-#include "plain.h"
-#include <arpa/inet.h>
-#include <errno.h>
-#include <fcntl.h>
-#include <poll.h>
-#include <signal.h>
+#include "wire.h"
 #include <sys/epoll.h>
 #include <sys/prctl.h>
-#include <sys/socket.h>
 #include <sys/stat.h>
-#include <time.h>
-#include <unistd.h>
 
 #define AGAIN 0.5
 #define PATIENCE 40 /* how often a request is repeated */
 #define MOST_CLIENTS 256
 #define GAPS 5
 
-enum { CONNECT = 0x04, CONNACK = 0x05, PUBLISH = 0x0c, PUBACK = 0x0d, SUBSCRIBE = 0x12, SUBACK = 0x13 };
-enum { PINGREQ = 0x16, PINGRESP = 0x17, DISCONNECT = 0x18 };
-
-static double now(void)
-{
-    struct timespec at;
-    clock_gettime(CLOCK_MONOTONIC, &at);
-    return at.tv_sec + at.tv_nsec / 1e9;
-}
-
-static void failed(const char *what)
-{
-    fprintf(stderr, "wire: %s: %s\n", what, strerror(errno));
-    exit(1);
-}
-
-static struct sockaddr_in address(long port)
-{
-    struct sockaddr_in made = { .sin_family = AF_INET, .sin_port = htons((uint16_t)port), .sin_addr.s_addr = htonl(INADDR_LOOPBACK) };
-    return made;
-}
-
-static int opened(int kind, long port, int (*with)(int, const struct sockaddr *, socklen_t), const char *what)
-{
-    struct sockaddr_in at = address(port);
-    int made = socket(AF_INET, kind, 0);
-    if (made < 0 || with(made, (struct sockaddr *)&at, sizeof at)) failed(what);
-    return made;
-}
-
-static long port_of(int fd)
-{
-    struct sockaddr_in at;
-    socklen_t size = sizeof at;
-    if (getsockname(fd, (struct sockaddr *)&at, &size)) failed("the port of a socket");
-    return ntohs(at.sin_port);
-}
-
 /* ---- datagrams */
-
-static size_t message(uint8_t *at, uint8_t kind, const void *body, size_t len)
-{
-    at[0] = (uint8_t)(len + 2);
-    at[1] = kind;
-    memcpy(at + 2, body, len);
-    return len + 2;
-}
 
 static size_t connect_frame(uint8_t *at, const char *name)
 {
@@ -415,19 +360,6 @@ static void flood(long port, double rate, double seconds, long apiece)
 }
 
 /* ---- memory */
-
-static long memory_of(long process)
-{
-    char path[64], line[256];
-    long found = -1;
-    snprintf(path, sizeof path, "/proc/%ld/status", process);
-    FILE *file = fopen(path, "r");
-    if (!file) failed(path);
-    while (fgets(line, sizeof line, file)) sscanf(line, "VmRSS: %ld", &found);
-    fclose(file);
-    if (found < 0) stop("wire: the system does not tell VmRSS");
-    return found;
-}
 
 /* A client that is there takes so many messages and acknowledges each. It asks by PINGREQ, which a delivery follows. */
 static void take(int fd, long wanted)

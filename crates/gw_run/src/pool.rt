@@ -12,6 +12,8 @@ pub const MOST_ACCEPTED: usize = 8;
 struct Links<S: Drop> {
     /// Those that wait for a seat.
     waiting: Vec<Link<S>>,
+    /// Those that have talked to the end of the shift.
+    talked: Vec<Link<S>>,
     /// For each peer of the settings, whether a link that was dialled is open.
     dialled: Vec<bool>,
     /// How many that were accepted are open.
@@ -37,6 +39,7 @@ impl<S: Drop> Pool<S> {
         Some(Pool {
             links: Mutex::new(Links {
                 waiting: Vec::new(alloc),
+                talked: Vec::new(alloc),
                 dialled,
                 accepted: 0,
             }),
@@ -70,22 +73,42 @@ impl<S: Drop> Pool<S> {
         }
     }
 
+    /// A shift begins: each link that talked to the end of the last one waits for a seat again.
+    pub fn begin_shift<T: Wait>(&self, rt: &T) {
+        let talked = self.links.lock(rt).talked.len();
+        for _ in 0..talked {
+            self.seek_seat(rt);
+        }
+    }
+
+    /// A link that has talked waits for a seat again. Where memory ran out it is closed.
+    fn seek_seat<T: Wait>(&self, rt: &T) {
+        let mut links = self.links.lock(rt);
+        if let Some(link) = links.talked.pop() {
+            let origin = link.origin;
+            if links.waiting.push(link).is_err() {
+                note(&mut links, origin, false);
+            }
+        }
+    }
+
     /// A link that waits for a seat, if there is one.
     pub(crate) fn take<T: Wait>(&self, rt: &T) -> Option<Link<S>> {
         self.links.lock(rt).waiting.pop()
     }
 
-    /// A link waits for the next shift. Where memory ran out it is closed.
+    /// A link has talked to the end of the shift, and has no seat before the next one. Where memory ran out it is closed.
     pub(crate) fn give_back<T: Wait>(&self, rt: &T, link: Link<S>) {
         let mut links = self.links.lock(rt);
         let origin = link.origin;
-        if links.waiting.push(link).is_err() {
+        if links.talked.push(link).is_err() {
             note(&mut links, origin, false);
         }
     }
 
-    /// Closes each link that waits for a seat. The other ends dial again, or are dialled, and say anew what they have.
+    /// Closes each link that has no seat. The other ends dial again, or are dialled, and say anew what they have.
     pub fn close_all<T: Wait>(&self, rt: &T) {
+        self.begin_shift(rt);
         let waiting = self.links.lock(rt).waiting.len();
         for _ in 0..waiting {
             if let Some(link) = self.take(rt) {

@@ -30,7 +30,8 @@ pub struct Seat {
     pub end: Option<End>,
 }
 
-/// Lets links talk at a seat until the shift is over. Those that are still open then wait for the next one.
+/// Lets links talk at a seat until the shift is over. Those that are still open then wait for the next one. A link that waits for a seat
+/// when the shift is over gets one all the same: it has to tell what the gateway made in the shift.
 pub fn sit<T: Wait + Clock, R: Replica, D: Disk + Drop, S: Read + Write + Drop>(
     rt: &T,
     alloc: Global,
@@ -79,10 +80,10 @@ fn sit_with<T: Wait + Clock, R: Replica, D: Disk + Drop, S: Read + Write + Drop>
     let mut pass = pass;
     for _ in rt.forever() {
         let phase = stage.phase(rt);
-        if phase == Phase::Quiet {
-            return (pass, None);
-        }
         let Some(mut link) = pool.take(rt) else {
+            if phase == Phase::Quiet {
+                return (pass, None);
+            }
             stage.wait(rt, phase, A_LOOK);
             continue;
         };

@@ -68,6 +68,7 @@ where
         return Err(Stop::Memory);
     };
     let stage = Stage::new();
+    pool.begin_shift(rt);
     work_all(rt, alloc, settings, &shift, &mut crew, socket, pool, &stage)?;
     close(alloc, shift, crew)
 }
