@@ -1,5 +1,8 @@
 -- What the clock adds to its pass.
-use Rattle.std.proofs.Common.{◌≡◌, ℕ, Bool, true, false, Option, Some, None, Result, Ok, Err, refl, sym, inl, inr, subst, true≢false}
+use Rattle.std.proofs.Common.{◌≡◌, ◌∙◌, ℕ, Bool, true, false, Option, Some, None, Result, Ok, Err, refl, sym, inl, inr, subst, true≢false, IfOk, IfErr, MatchResult}
+use Rattle.std.specs.Option.{is_some}
+use Rattle.std.specs.declared.sync.Arc.{Arc}
+use Rattle.std.specs.declared.alloc.Global.{Global}
 use Rattle.gw_node.specs.declared.step.Step.{Step}
 use Rattle.gw_node.specs.declared.step.Step.TheVariants as steps
 use Rattle.gw_node.specs.declared.out.Out.{Out}
@@ -7,7 +10,7 @@ use Rattle.gw_node.specs.declared.fault.NodeFault.{NodeFault}
 use Rattle.gw_node.specs.declared.fault.NodeFault.TheVariants as node_faults
 use Rattle.gw_node.specs.declared.refusal.Refusal.{Refusal}
 use Rattle.gw_node.specs.declared.refusal.Refusal.TheVariants as refusals
-use Rattle.gw_node.specs.Parts.{told}
+use Rattle.gw_node.specs.Parts.{told, said}
 use Rattle.gw_shift.specs.Calls.{Held, Holder}
 use Rattle.gw_shift.specs.Calling.{Made, NotMade}
 use Rattle.gw_shift.specs.declared.fault.CallFault.{CallFault}
@@ -61,3 +64,40 @@ halted_is (node_faults.Journal fault) is = absurd (true≢false (sym is))
 pub finds_halted : (before : Holder) (step : Step) (moment : ℕ) (fault : NodeFault) (number : ℕ) (after : Holder) → step ≡ steps.Tick moment → says_halted (Err (told fault)) ≡ true → Made before step (Err (told fault)) number after → FindsHalted before after
 finds_halted before step moment fault number after is halted made =
     (moment, number, subst (λ (refusal : Refusal). Made before (steps.Tick moment) (Err refusal) number after) (halted_is fault halted) (subst (λ (s : Step). Made before s (Err (told fault)) number after) is made))
+
+-- the same where an answer of these calls is known
+
+-- a call could not be made
+pub clock_uncalled : {A : Type 0} (before after : Holder) (answered : Result A End) (end : End) → answered ≡ Err end → IfErr answered (λ (e : End). CannotCall e × (after ≡ before)) → AddsOfClock before (Some end) after
+clock_uncalled {A} before after answered end is why =
+    let known : CannotCall end × (after ≡ before) = subst (λ (r : Result A End). IfErr r (λ (e : End). CannotCall e × (after ≡ before))) is why in
+    clock_cannot before after end known.0 known.1
+
+-- ticks that ended nothing, and behind them those of a call that gave something
+pub clock_gave : {A : Type 0} (a b c : Holder) (ticked : Result A End) (gave : A) → ticked ≡ Ok gave → AddsOfClock a None b → MatchResult ticked (λ (_ : A). AddsOfClock b None c) (λ (e : End). AddsOfClock b (Some e) c) → AddsOfClock a None c
+clock_gave {A} a b c ticked gave is x y =
+    clock_later a b c None x (subst (λ (r : Result A End). MatchResult r (λ (_ : A). AddsOfClock b None c) (λ (e : End). AddsOfClock b (Some e) c)) is y)
+
+-- and behind them those of a call that ended it
+pub clock_ended : {A : Type 0} (a b c : Holder) (ticked : Result A End) (end : End) → ticked ≡ Err end → AddsOfClock a None b → MatchResult ticked (λ (_ : A). AddsOfClock b None c) (λ (e : End). AddsOfClock b (Some e) c) → AddsOfClock a (Some end) c
+clock_ended {A} a b c ticked end is x y =
+    clock_later a b c (Some end) x (subst (λ (r : Result A End). MatchResult r (λ (_ : A). AddsOfClock b None c) (λ (e : End). AddsOfClock b (Some e) c)) is y)
+
+-- ticks that ended nothing, and behind them such as end nothing
+pub clock_goes_on : (a b c : Holder) (end : Option End) → is_some end ≡ false → AddsOfClock a None b → AddsOfClock b end c → AddsOfClock a None c
+clock_goes_on a b c None is x y = clock_later a b c None x y
+clock_goes_on a b c (Some end) is x y = absurd (true≢false is)
+
+-- a tick that was refused since the gateway is halted
+pub finds_refused : (before : Holder) (step : Step) (moment : ℕ) (answered : Result (Result (Arc Out Global) NodeFault) End) (answer : Result (Arc Out Global) NodeFault) (fault : NodeFault) (after : Holder) → answered ≡ Ok answer → answer ≡ Err fault → step ≡ steps.Tick moment → says_halted (Err (told fault)) ≡ true → IfOk answered (λ (answer : Result (Arc Out Global) NodeFault). (number : ℕ) × Made before step (said answer) number after) → FindsHalted before after
+finds_refused before step moment answered answer fault after is refuses ticks halted made =
+    let whole : answered ≡ Ok (Err fault) = subst (λ (a : Result (Arc Out Global) NodeFault). answered ≡ Ok a) refuses is in
+    let known : (number : ℕ) × Made before step (Err (told fault)) number after = subst (λ (r : Result (Result (Arc Out Global) NodeFault) End). IfOk r (λ (answer : Result (Arc Out Global) NodeFault). (number : ℕ) × Made before step (said answer) number after)) whole made in
+    finds_halted before step moment fault known.0 after ticks halted known.1
+
+-- a tick that was refused for want of memory
+pub starved_refused : (before : Holder) (step : Step) (moment : ℕ) (answered : Result (Result (Arc Out Global) NodeFault) End) (answer : Result (Arc Out Global) NodeFault) (fault : NodeFault) (after : Holder) (end : End) → answered ≡ Ok answer → answer ≡ Err fault → step ≡ steps.Tick moment → says_halted (Err (told fault)) ≡ false → end ≡ ends.Memory → IfOk answered (λ (answer : Result (Arc Out Global) NodeFault). (number : ℕ) × Made before step (said answer) number after) → AddsOfClock before (Some end) after
+starved_refused before step moment answered answer fault after end is refuses ticks live memory made =
+    let whole : answered ≡ Ok (Err fault) = subst (λ (a : Result (Arc Out Global) NodeFault). answered ≡ Ok a) refuses is in
+    let known : (number : ℕ) × Made before step (Err (told fault)) number after = subst (λ (r : Result (Result (Arc Out Global) NodeFault) End). IfOk r (λ (answer : Result (Arc Out Global) NodeFault). (number : ℕ) × Made before step (said answer) number after)) whole made in
+    clock_starved before moment (Err (told fault)) known.0 after end live (subst (λ (s : Step). Made before s (Err (told fault)) known.0 after) ticks known.1) memory
