@@ -10,7 +10,8 @@ The parts, all where none is named:
   links     two and three gateways, linked in a ring; one is killed, another hands the messages over
   kills     the daemon is killed N times (100) amid publications; what was acknowledged is there in the end
   shifts    N requests (600) over shifts of 16 calls are all answered
-  compact   the journal shrinks when a shift is over; kills amid that; a disk is full, and the daemon goes on once there is room
+  compact   the journal shrinks when a shift is over; kills amid that; a write fails, and the clock opens the gateway anew in its shift; a
+            disk is full, and the daemon goes on once there is room
   hostile   N datagrams (20,000) and N streams of a link (500) that were made up: the daemon answers, and grows by MIB (512) at most
 
 A start may take N seconds (30). All goes on at 127.0.0.1, at ports that the system gives, in a folder that is gone afterwards. Status 0 only
@@ -19,6 +20,7 @@ where nothing failed.
 import argparse
 import os
 import random
+import re
 import select
 import signal
 import socket
@@ -743,16 +745,62 @@ def offer_until(client: Client, field: bytes, sent: dict, wanted_said: str, coun
         heard += sent[body] == wanted_said
 
 
+def all_kept(gateway: Gateway, sleeper: Client, sent: dict) -> str:
+    """The daemon is killed and starts again: what it acknowledged is there, once, and nothing that nobody sent."""
+    gateway.alive()
+    gateway.kill()
+    gateway.start()
+    got = sleeper.wake(60)
+    kept = {body for body, said in sent.items() if said == "kept"}
+    missing = kept - set(got)
+    expect(not missing, f"{len(missing)} acknowledged messages are missing, as {sorted(missing)[:3]}")
+    expect(set(got) <= set(sent) and len(got) == len(set(got)), "messages came twice, or such as nobody sent")
+    expect(gateway.told() == "", f"it told {gateway.told()!r}")
+    return f"{len(sent)} sent, {len(kept)} acknowledged, {len(got)} got"
+
+
+def fall_asleep(sleeper: Client, publisher: Client, topic: bytes) -> None:
+    """A client subscribes and sleeps, and a publisher is connected."""
+    sleeper.connect()
+    sleeper.ask(subscribe(topic, 1, 0x22), b"\x08\x13")
+    sleeper.sleep()
+    publisher.connect(clean=True)
+
+
+def opens_in_its_shift(gateways: list) -> str:
+    """One write of the first fails, and then there is room. The clock finds it halted; its next call of the shift opens it anew. In the
+    first shift that can be seen: how the gateway stands is printed before the shift's line, and not behind it. Links go on."""
+    gateway, other = gateways
+    gateway.room = 6_000
+    for each in gateways:
+        each.start()
+    sent = {}
+    with Client(b"waits", gateway) as sleeper, Client(b"publisher", gateway) as publisher:
+        fall_asleep(sleeper, publisher, b"in")
+        offer_until(publisher, b"in", sent, "refused", 1, 60)
+        gateway.make_room()
+        until(gateway.shifts, 20, "the shift in which a write failed was not closed")
+        time.sleep(0.5)
+        printed = gateway.printed()
+        found = re.fullmatch(r"gateway 1 records 0 clients 0\ngateway 1 records (\d+) clients 2\nshift 1 steps (\d+)\n", printed)
+        expect(found is not None, f"it printed {printed!r}")
+        # The starter's SEARCHGW, four calls of the two clients, the publications, a tick, the opening.
+        calls = len(sent) + 7
+        expect(int(found[2]) >= calls, f"the shift had {found[2]} calls, and not {calls} at least")
+        offer_until(publisher, b"in", sent, "kept", 20, 60)
+        for body in [body for body, said in sent.items() if said == "kept"]:
+            other.await_octets(body)
+        said = all_kept(gateway, sleeper, sent)
+    return f"{said}; a shift of {found[2]} calls, {found[1]} records read in it"
+
+
 def fills_up(gateway: Gateway) -> str:
     """There is room for so much. The daemon goes on without it, and keeps messages again once there is more."""
     gateway.room = 6_000
     gateway.start()
     sent = {}
     with Client(b"waits", gateway) as sleeper, Client(b"publisher", gateway) as publisher:
-        sleeper.connect()
-        sleeper.ask(subscribe(b"fu", 1, 0x22), b"\x08\x13")
-        sleeper.sleep()
-        publisher.connect(clean=True)
+        fall_asleep(sleeper, publisher, b"fu")
         offer_until(publisher, b"fu", sent, "refused", 5, 60)
         gateway.alive()
         opened_before = len(gateway.openings())
@@ -761,16 +809,10 @@ def fills_up(gateway: Gateway) -> str:
         expect(full <= 6_000, f"a file has {full} octets")
         gateway.make_room()
         offer_until(publisher, b"fu", sent, "kept", 20, 60)
-        gateway.alive()
-        gateway.kill()
-        gateway.start()
-        got = sleeper.wake(60)
-    kept = {body for body, said in sent.items() if said == "kept"}
-    missing = kept - set(got)
-    expect(not missing, f"{len(missing)} acknowledged messages are missing, as {sorted(missing)[:3]}")
-    expect(set(got) <= set(sent) and len(got) == len(set(got)), "messages came twice, or such as nobody sent")
-    expect(gateway.told() == "", f"it told {gateway.told()!r}")
-    return f"{len(sent)} sent, {len(kept)} acknowledged, {len(got)} got; opened {opened_before} times without room"
+        numbers = [shift for shift, _ in gateway.shifts()]
+        expect(numbers == list(range(1, len(numbers) + 1)), f"the shifts that were closed are {numbers}")
+        said = all_kept(gateway, sleeper, sent)
+    return f"{said}; opened {opened_before} times without room"
 
 
 def part_compact(account: Account, program: str, folder: str, options) -> None:
@@ -780,6 +822,11 @@ def part_compact(account: Account, program: str, folder: str, options) -> None:
     with Gateway(program, folder, 2, steps="16") as gateway:
         account.check(f"{kills} kills amid publications, with a compaction behind every 16 calls",
                       lambda: kill_again_and_again(gateway, kills, random.Random(options.seed), True))
+    place = os.path.join(folder, "in-its-shift")
+    os.mkdir(place)
+    first, second = ring(program, place, 2)
+    with first, second:
+        account.check("a write fails, and the clock opens the gateway anew in its shift", lambda: opens_in_its_shift([first, second]))
     with Gateway(program, folder, 3, steps="64") as gateway:
         account.check("a disk is full, and has room again", lambda: fills_up(gateway))
 

@@ -8,9 +8,13 @@ use Rattle.gw_shift.specs.Calls.{Held, Holder}
 abbrev pub with_calls : Holder → List Held → Holder
 with_calls pass more = record { place = pass.place; opening = pass.opening; calls = pass.calls ++ more }
 
--- the pass holds what it held and then calls of one kind, and nothing else
+-- the pass holds what it held and then such calls, and nothing else
+abbrev pub AddsEach : (Held → Type 0) → Holder → Holder → Type 0
+AddsEach IsSuch before after = (more : List Held) × (after ≡ with_calls before more) × All IsSuch more
+
+-- the same of calls of one kind
 abbrev pub Adds : (Step → Bool) → Holder → Holder → Type 0
-Adds is before after = (more : List Held) × (after ≡ with_calls before more) × All (λ (held : Held). is held.step ≡ true) more
+Adds is before after = AddsEach (λ (held : Held). is held.step ≡ true) before after
 
 -- the clock's
 abbrev pub is_tick : Step → Bool

@@ -1,13 +1,16 @@
 //! Calls of a shift, with a pass that comes back.
 
-ghost use Rattle.std.specs.Prelude.{◌≡◌, Bool, true, Err};
+ghost use Rattle.std.specs.Prelude.{◌≡◌, ℕ, Bool, true, IfOk, IfErr, Err};
 ghost use Rattle.std.specs.Arc.{arc_value};
+ghost use Rattle.gw_node.specs.Parts.{said, told};
 ghost use Rattle.gw_node.specs.declared.step.Step.{Step as AnyStep};
+ghost use Rattle.gw_shift.specs.Calling.{Made};
 ghost use Rattle.gw_run.specs.Adding.{Adds};
+ghost use Rattle.gw_run.specs.Clock.{says_halted, reached_by, CannotCall};
 ghost use Rattle.gw_run.specs.declared.calling.End.TheVariants as ends;
 
 use crate::stage::Stage;
-use gw_node::{NodeFault, Out, Step};
+use gw_node::{Answer, NodeFault, Step};
 use gw_shift::{CallFault, Pass, Shift};
 use jr_journal::Disk;
 use rep_model::Replica;
@@ -30,12 +33,15 @@ pub enum End {
     /// The pass has seen more calls than the shift has.
     #[error("a pass has seen more calls than the shift has")]
     Behind,
-    /// The gateway is halted: a write of its journal has failed.
-    #[error("the gateway is halted: a write of its journal has failed")]
+    /// The gateway is halted, since a write of its journal has failed, and refused to be opened anew.
+    #[error("the gateway is halted, and refused to be opened anew")]
     Halted,
+    /// The gateway was halted, and was opened anew.
+    #[error("the gateway was halted, and was opened anew")]
+    Reopened,
 }
 
-/// Makes a call. Where the gateway refuses there is no answer: what it was asked is dropped.
+/// Makes a call. Says what the gateway answered, or why the call did not reach it.
 pub(crate) fn call<T: Wait, R: Replica, D: Disk + Drop>(
     rt: &T,
     alloc: Global,
@@ -43,36 +49,46 @@ pub(crate) fn call<T: Wait, R: Replica, D: Disk + Drop>(
     pass: Pass,
     step: Arc<Step>,
     stage: &Stage,
-) -> (Pass, Result<Option<Arc<Out>>, End>)
+) -> (Pass, Result<Answer, End>)
+    ensures made { IfOk result.1 (λ answer. (number : ℕ) × Made pass (arc_value step) (said answer) number result.0) }
+    ensures none { IfErr result.1 (λ end. CannotCall end × (result.0 ≡ pass)) }
     ensures adds { (is : AnyStep → Bool) → is (arc_value step) ≡ true → Adds is pass result.0 }
-    ensures full { result.1 ≡ Err ends.Full → result.0 ≡ pass }
 {
     stage.note_call();
     match shift.call(rt, alloc, pass, step) {
-        Ok((pass, out, _)) => (pass, Ok(Some(out))),
-        Err((pass, fault)) => (pass, refused(fault)),
+        Ok((pass, out, _)) => (pass, Ok(Ok(out))),
+        Err((pass, fault)) => match reached(fault) {
+            Ok(refusal) => (pass, Ok(Err(refusal))),
+            Err(end) => (pass, Err(end)),
+        },
     }
 }
 
-/// What a refused call means.
-fn refused(fault: CallFault) -> Result<Option<Arc<Out>>, End>
-    ensures { result ≡ Err ends.Full → fault ≡ CallFault.ShiftFull }
+/// What a refused call means: the gateway's refusal, or why the call did not reach it.
+fn reached(fault: CallFault) -> Result<NodeFault, End>
+    ensures { result ≡ reached_by fault }
 {
     match fault {
         CallFault::ShiftFull => Err(End::Full),
         CallFault::Behind { .. } => Err(End::Behind),
         CallFault::Memory => Err(End::Memory),
-        CallFault::Node { number: _, fault } => dropped(fault),
+        CallFault::Node { number: _, fault } => Ok(fault),
     }
 }
 
-/// What a refusal of the gateway means: only want of memory and a halted gateway end anything.
-fn dropped(fault: NodeFault) -> Result<Option<Arc<Out>>, End>
-    ensures { result ≡ Err ends.Full → ⊥ }
+/// What a refusal of the gateway means for what it was asked: that is dropped. Only want of memory ends anything.
+pub(crate) fn dropped(fault: &NodeFault) -> Result<(), End>
+    ensures { IfErr result (λ end. end ≡ ends.Memory) }
 {
     match fault {
         NodeFault::Memory => Err(End::Memory),
-        NodeFault::Halted => Err(End::Halted),
-        _ => Ok(None),
+        _ => Ok(()),
     }
+}
+
+/// Whether the gateway refused since it is halted.
+pub(crate) fn is_halted(fault: &NodeFault) -> bool
+    ensures { result ≡ says_halted (Err (told fault.now)) }
+{
+    matches!(fault, NodeFault::Halted)
 }

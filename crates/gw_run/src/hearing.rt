@@ -4,7 +4,7 @@ ghost use Rattle.std.specs.Prelude.{◌≡◌, true};
 ghost use Rattle.std.specs.Arc.{arc_value};
 ghost use Rattle.gw_run.specs.Adding.{Adds, is_of_link};
 
-use crate::calling::{End, call};
+use crate::calling::{End, call, dropped};
 use crate::link::{Heard, Link};
 use crate::saying::say_answer;
 use crate::stage::Stage;
@@ -86,8 +86,8 @@ fn heard(alloc: Global, message: LinkMessage) -> Result<Option<Heard>, End> {
     }
 }
 
-/// Hears what has come: takes deltas, answers digests. What the gateway refuses is dropped; where the shift has had all its calls
-/// the rest waits for the next one.
+/// Hears what has come: takes deltas, answers digests. What the gateway refuses is dropped, also where it is halted; where the shift
+/// has had all its calls the rest waits for the next one.
 #[tactic(auto, using(crate::proofs::Adding::adds_more, crate::proofs::Adding::adds_none))]
 pub(crate) fn hear_all<T: Wait, R: Replica, D: Disk + Drop, S: Write + Drop>(
     rt: &T,
@@ -133,7 +133,7 @@ fn hear<T: Wait, R: Replica, D: Disk + Drop, S: Write>(
     let (pass, answered) = call(rt, alloc, shift, pass, step, stage);
     match answered {
         Err(end) => (pass, Err(end)),
-        Ok(None) => (pass, Ok(())),
-        Ok(Some(out)) => (pass, say_answer(alloc, stream, out.answer.as_slice())),
+        Ok(Err(fault)) => (pass, dropped(&fault)),
+        Ok(Ok(out)) => (pass, say_answer(alloc, stream, out.answer.as_slice())),
     }
 }

@@ -6,7 +6,7 @@
 //!
 //! - `stage`: how far a shift is, and how its threads wait (`Stage`, `Phase`).
 //! - `calling`: a call with a pass that comes back (`End`).
-//! - `ticking`: the ticks of a shift (`tick_all`).
+//! - `ticking`: the ticks of a shift, and the opening anew of a gateway that is halted (`tick_all`).
 //! - `link`: a link that is open (`Link`, `Origin`).
 //! - `saying`: what goes out over a link.
 //! - `hearing`: what has come over it.
@@ -14,7 +14,8 @@
 //! - `pool`: the links that wait for a seat (`Pool`).
 //! - `seat`: a seat for links, with its pass (`Seat`, `sit`).
 //!
-//! The definitions are in `specs/`: `Adding` (what a thread adds to its pass: calls of its own kind and nothing else).
+//! The definitions are in `specs/`: `Adding` (what a thread adds to its pass: calls of its own kind and nothing else), `Clock` (what the
+//! clock's thread adds, and why it ended).
 #![tactic(auto)]
 
 mod calling;

@@ -3,7 +3,7 @@
 ghost use Rattle.std.specs.Prelude.{◌≡◌};
 ghost use Rattle.gw_run.specs.Adding.{Adds, is_of_link};
 
-use crate::calling::{End, call};
+use crate::calling::{End, call, dropped};
 use crate::link::Link;
 use crate::stage::Stage;
 use gw_net::{LinkMessage, LinkOutFault, link_out};
@@ -96,7 +96,11 @@ pub(crate) fn greet<T: Wait, R: Replica, D: Disk + Drop, S: Write + Drop>(
     let (pass, answered) = call(rt, alloc, shift, pass, step, stage);
     match answered {
         Err(end) => (pass, Err(end)),
-        Ok(out) => (pass, say_greeting(alloc, link, gateway, out)),
+        Ok(Ok(out)) => (pass, say_greeting(alloc, link, gateway, Some(out))),
+        Ok(Err(fault)) => match dropped(&fault) {
+            Ok(()) => (pass, say_greeting(alloc, link, gateway, None)),
+            Err(end) => (pass, Err(end)),
+        },
     }
 }
 

@@ -93,7 +93,7 @@ fn sit_with<T: Wait + Clock, R: Replica, D: Disk + Drop, S: Read + Write + Drop>
         match end {
             End::Full => pool.give_back(rt, link),
             End::Lost => pool.lose(rt, link),
-            End::Memory | End::Behind | End::Halted => {
+            End::Memory | End::Behind | End::Halted | End::Reopened => {
                 pool.lose(rt, link);
                 stage.close(rt);
                 return (pass, Some(end));

@@ -1,9 +1,9 @@
 //! The ticks of a shift.
 
-ghost use Rattle.std.specs.Prelude.{◌≡◌};
-ghost use Rattle.gw_run.specs.Adding.{Adds, is_tick};
+ghost use Rattle.std.specs.Prelude.{◌≡◌, Some, None, MatchResult};
+ghost use Rattle.gw_run.specs.Clock.{AddsOfClock, OpensAs};
 
-use crate::calling::{End, call};
+use crate::calling::{End, call, dropped, is_halted};
 use crate::pool::Pool;
 use crate::stage::{Phase, Stage};
 use gw_node::{Out, Step};
@@ -24,8 +24,12 @@ const A_LOOK: u64 = 100;
 /// Ticks in each second while the shift is serving: until a tick gives nothing, and no oftener than `MOST_TICKS`. What a tick has to
 /// send is sent at once. A second in which it has ticked in an earlier shift is left out.
 ///
-/// The pass comes back with ticks and nothing else. It says why it ended, where that is not the shift's end.
-#[tactic(auto, using(crate::proofs::Adding::adds_more, crate::proofs::Adding::adds_none))]
+/// A tick that finds the gateway halted is the last one: the next call opens the gateway anew, and the shift is closed, however that
+/// ends.
+///
+/// The pass comes back with these calls and nothing else. It says why it ended, where that is not the shift's end: `Reopened` where
+/// the gateway was opened anew, `Halted` where that was refused; `Full`, `Behind` or `Memory` where a call could not be made.
+#[tactic(auto, using(crate::proofs::Clock::clock_later, crate::proofs::Clock::clock_none))]
 pub fn tick_all<T: Wait + Clock, R: Replica, D: Disk + Drop, P: Post, S: Drop>(
     rt: &T,
     alloc: Global,
@@ -35,18 +39,18 @@ pub fn tick_all<T: Wait + Clock, R: Replica, D: Disk + Drop, P: Post, S: Drop>(
     post: &P,
     pool: &Pool<S>,
 ) -> (Pass, Option<End>)
-    ensures { Adds is_tick pass result.0 }
+    ensures { AddsOfClock pass result.1 result.0 }
 {
     let mut pass = pass;
     for _ in rt.forever() {
         if stage.phase(rt) != Phase::Serving {
             return (pass, None);
         }
-        let (after, ticked) = tick_in_turn(rt, alloc, shift, pass, stage, post, pool);
+        let (after, end) = tick_in_turn(rt, alloc, shift, pass, stage, post, pool);
         pass = after;
-        if let Err(end) = ticked {
+        if end.is_some() {
             stage.close(rt);
-            return (pass, Some(end));
+            return (pass, end);
         }
         stage.wait(rt, Phase::Serving, A_LOOK);
     }
@@ -54,7 +58,7 @@ pub fn tick_all<T: Wait + Clock, R: Replica, D: Disk + Drop, P: Post, S: Drop>(
 }
 
 /// Ticks where the clock has not ticked in this second.
-#[tactic(auto, using(crate::proofs::Adding::adds_none))]
+#[tactic(auto, using(crate::proofs::Clock::clock_none))]
 fn tick_in_turn<T: Wait + Clock, R: Replica, D: Disk + Drop, P: Post, S: Drop>(
     rt: &T,
     alloc: Global,
@@ -63,17 +67,17 @@ fn tick_in_turn<T: Wait + Clock, R: Replica, D: Disk + Drop, P: Post, S: Drop>(
     stage: &Stage,
     post: &P,
     pool: &Pool<S>,
-) -> (Pass, Result<(), End>)
-    ensures { Adds is_tick pass result.0 }
+) -> (Pass, Option<End>)
+    ensures { AddsOfClock pass result.1 result.0 }
 {
     if !pool.may_tick(moment(rt)) {
-        return (pass, Ok(()));
+        return (pass, None);
     }
     tick_out(rt, alloc, shift, pass, stage, post)
 }
 
 /// Ticks until a tick gives nothing.
-#[tactic(auto, using(crate::proofs::Adding::adds_more, crate::proofs::Adding::adds_none))]
+#[tactic(auto, using(crate::proofs::Clock::clock_later, crate::proofs::Clock::clock_none))]
 fn tick_out<T: Wait + Clock, R: Replica, D: Disk + Drop, P: Post>(
     rt: &T,
     alloc: Global,
@@ -81,8 +85,8 @@ fn tick_out<T: Wait + Clock, R: Replica, D: Disk + Drop, P: Post>(
     pass: Pass,
     stage: &Stage,
     post: &P,
-) -> (Pass, Result<(), End>)
-    ensures { Adds is_tick pass result.0 }
+) -> (Pass, Option<End>)
+    ensures { AddsOfClock pass result.1 result.0 }
 {
     let mut pass = pass;
     for _ in 0..MOST_TICKS {
@@ -90,14 +94,14 @@ fn tick_out<T: Wait + Clock, R: Replica, D: Disk + Drop, P: Post>(
         pass = after;
         match ticked {
             Ok(true) => {}
-            Ok(false) => return (pass, Ok(())),
-            Err(end) => return (pass, Err(end)),
+            Ok(false) => return (pass, None),
+            Err(end) => return (pass, Some(end)),
         }
     }
-    (pass, Ok(()))
+    (pass, None)
 }
 
-/// Ticks once, and sends what that gave. Says whether it gave anything.
+/// Ticks once, and sends what that gave. Says whether it gave anything. Where the gateway is halted, the next call opens it anew.
 fn tick_once<T: Wait + Clock, R: Replica, D: Disk + Drop, P: Post>(
     rt: &T,
     alloc: Global,
@@ -106,7 +110,7 @@ fn tick_once<T: Wait + Clock, R: Replica, D: Disk + Drop, P: Post>(
     stage: &Stage,
     post: &P,
 ) -> (Pass, Result<bool, End>)
-    ensures { Adds is_tick pass result.0 }
+    ensures { MatchResult result.1 (λ gave. AddsOfClock pass None result.0) (λ end. AddsOfClock pass (Some end) result.0) }
 {
     let Ok(step) = Arc::new(alloc, Step::Tick { now: moment(rt) }) else {
         return (pass, Err(End::Memory));
@@ -114,11 +118,39 @@ fn tick_once<T: Wait + Clock, R: Replica, D: Disk + Drop, P: Post>(
     let (pass, answered) = call(rt, alloc, shift, pass, step, stage);
     match answered {
         Err(end) => (pass, Err(end)),
-        Ok(None) => (pass, Ok(false)),
-        Ok(Some(out)) => {
+        Ok(Ok(out)) => {
             send_all(post, &out);
             (pass, Ok(gives(&out)))
         }
+        Ok(Err(fault)) if is_halted(&fault) => {
+            let (pass, end) = open_anew(rt, alloc, shift, pass, stage);
+            (pass, Err(end))
+        }
+        Ok(Err(fault)) => match dropped(&fault) {
+            Ok(()) => (pass, Ok(false)),
+            Err(end) => (pass, Err(end)),
+        },
+    }
+}
+
+/// Opens the gateway anew, and says how that ended.
+fn open_anew<T: Wait, R: Replica, D: Disk + Drop>(
+    rt: &T,
+    alloc: Global,
+    shift: &Shift<R, D>,
+    pass: Pass,
+    stage: &Stage,
+) -> (Pass, End)
+    ensures { OpensAs pass result.1 result.0 }
+{
+    let Ok(step) = Arc::new(alloc, Step::Reopen) else {
+        return (pass, End::Memory);
+    };
+    let (pass, answered) = call(rt, alloc, shift, pass, step, stage);
+    match answered {
+        Ok(Ok(_)) => (pass, End::Reopened),
+        Ok(Err(_)) => (pass, End::Halted),
+        Err(end) => (pass, end),
     }
 }
 

@@ -2,8 +2,9 @@
 //!
 //! It reads its settings, opens the gateway on its journal, and then works shift by shift: in each, threads serve datagrams, the
 //! clock ticks, and the links to other gateways talk. When a shift is over the history of its calls and what its threads hold of it
-//! are compared, the gateway is tended, and the next one begins. Tending opens a gateway anew in place whose disk has failed, and writes its
-//! journal anew without what no longer counts. It may be stopped at any moment: what it answered for is on its disk.
+//! are compared, the gateway is tended, and the next one begins. A gateway whose disk has failed is opened anew in place, by the clock in the
+//! shift or by tending behind it, which also writes its journal anew without what no longer counts. The program may be stopped at any
+//! moment: what it answered for is on its disk.
 //!
 //! - `words`: the words of the command line.
 //! - `reading`: the settings file.

@@ -2,7 +2,7 @@
 
 use crate::doors::{Door, doors_of, keep_all};
 use crate::stop::Stop;
-use crate::working::work;
+use crate::working::{Worked, work};
 use gw_main::options::Settings;
 use gw_main::{Tended, number_of, tend};
 use gw_node::Node;
@@ -114,7 +114,8 @@ where
     worked
 }
 
-/// The shifts, each with a line when it is over. Behind each the gateway is tended.
+/// The shifts, each with a line when it is over. Where the gateway was opened anew in a shift, that is told before its line; behind it the
+/// gateway is tended.
 fn work_all<T, R, D>(
     rt: &T,
     alloc: Global,
@@ -134,7 +135,12 @@ where
         let Some(node) = place.lock(rt).take() else {
             return Ok(());
         };
-        let (mut node, steps) = work(rt, alloc, settings, node, socket, pool)?;
+        let Worked {
+            mut node,
+            steps,
+            tended,
+        } = work(rt, alloc, settings, node, socket, pool)?;
+        begin_anew(rt, alloc, &node, pool, tended);
         let _ = println!(rt; "shift {} steps {}", number + 1, steps);
         tend_behind(rt, alloc, &mut node, pool)?;
         *place.lock(rt) = Some(node);
@@ -142,8 +148,7 @@ where
     Ok(())
 }
 
-/// Tends the gateway behind a shift. Where it was opened anew, how it stands is printed as at the start, and the links are closed: it
-/// may have read what it never told, and over a new link the other end asks for that.
+/// Tends the gateway behind a shift.
 fn tend_behind<T, R, D, S>(
     rt: &T,
     alloc: Global,
@@ -157,13 +162,26 @@ where
     S: Drop,
 {
     match tend(alloc, node) {
-        Ok(Tended::Kept) => Ok(()),
-        Ok(Tended::Reopened) => {
-            pool.close_all(rt);
-            tell(rt, alloc, node);
+        Ok(tended) => {
+            begin_anew(rt, alloc, node, pool, tended);
             Ok(())
         }
         Err(fault) => Err(Stop::Reopening(number_of(&fault))),
+    }
+}
+
+/// Where a gateway was opened anew, how it stands is printed as at the start, and the links are closed: it may have read what it never
+/// told, and over a new link the other end asks for that.
+fn begin_anew<T, R, D, S>(rt: &T, alloc: Global, node: &Node<R, D>, pool: &Pool<S>, tended: Tended)
+where
+    T: Wait + Print,
+    R: Replica,
+    D: Disk + Drop,
+    S: Drop,
+{
+    if tended == Tended::Reopened {
+        pool.close_all(rt);
+        tell(rt, alloc, node);
     }
 }
 

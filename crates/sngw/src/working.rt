@@ -4,6 +4,7 @@ ghost use Rattle.std.specs.Prelude.{◌<◌, ◌≤◌};
 
 use crate::stop::Stop;
 use crate::watched::Watched;
+use gw_main::Tended;
 use gw_main::options::Settings;
 use gw_node::Node;
 use gw_run::{End, MOST_ACCEPTED, Phase, Pool, Seat, Stage, sit, tick_all};
@@ -30,7 +31,18 @@ struct Crew {
     linking: Vec<Option<Seat>>,
 }
 
-/// Works one shift: the gateway comes back, with how many calls were made.
+/// A shift that was closed.
+#[derive(Drop)]
+pub struct Worked<R: Replica, D: Disk> {
+    /// The gateway.
+    pub node: Node<R, D>,
+    /// How many calls were made.
+    pub steps: usize,
+    /// Whether one of them opened it anew.
+    pub tended: Tended,
+}
+
+/// Works one shift, and the gateway comes back.
 pub(crate) fn work<T, R, D>(
     rt: &T,
     alloc: Global,
@@ -38,7 +50,7 @@ pub(crate) fn work<T, R, D>(
     node: Node<R, D>,
     socket: &mut Socket,
     pool: &Pool<TcpStream>,
-) -> Result<(Node<R, D>, usize), Stop>
+) -> Result<Worked<R, D>, Stop>
 where
     T: Threads + Wait + Sync + Clock,
     R: Replica + Send,
@@ -285,11 +297,12 @@ where
 }
 
 /// Ends the shift, and compares its history with what its threads hold.
-fn close<R, D>(alloc: Global, shift: Shift<R, D>, crew: Crew) -> Result<(Node<R, D>, usize), Stop>
+fn close<R, D>(alloc: Global, shift: Shift<R, D>, crew: Crew) -> Result<Worked<R, D>, Stop>
 where
     R: Replica,
     D: Disk + Drop,
 {
+    let tended = tended_in(crew.ticking.as_slice());
     let mut passes = crew.serving;
     gather(&mut passes, crew.ticking)?;
     gather(&mut passes, crew.linking)?;
@@ -297,19 +310,39 @@ where
     match shift.end().close(passes) {
         Ok(Closed { node, history }) => {
             let steps = history.len();
-            Ok((node, steps))
+            Ok(Worked {
+                node,
+                steps,
+                tended,
+            })
         }
         Err(_) => Err(Stop::History),
     }
 }
 
-/// Takes the passes from their seats, unless one was left for a cause that ends the program. That the gateway is halted is none: it is
-/// opened anew behind the shift.
+/// What became of the gateway in the shift: the clock opens anew one that is halted.
+fn tended_in(ticking: &[Option<Seat>]) -> Tended {
+    for slot in ticking {
+        if let Some(seat) = slot {
+            if seat.end == Some(End::Reopened) {
+                return Tended::Reopened;
+            }
+        }
+    }
+    Tended::Kept
+}
+
+/// Takes the passes from their seats, unless one was left for a cause that ends the program. That the gateway is halted, and refused to be
+/// opened anew, is none: that is tried once more behind the shift.
 fn gather(passes: &mut Vec<Pass>, seats: Vec<Option<Seat>>) -> Result<(), Stop> {
     for slot in seats {
         if let Some(seat) = slot {
             match seat.end {
-                None | Some(End::Full) | Some(End::Lost) | Some(End::Halted) => {}
+                None
+                | Some(End::Full)
+                | Some(End::Lost)
+                | Some(End::Halted)
+                | Some(End::Reopened) => {}
                 Some(End::Memory) => return Err(Stop::Memory),
                 Some(End::Behind) => return Err(Stop::History),
             }

@@ -1,5 +1,6 @@
-use Rattle.gw_run.specs.Adding.{Adds, is_tick}
+use Rattle.std.proofs.Common.{None}
+use Rattle.gw_run.specs.Clock.{AddsOfClock}
 use Rattle.gw_run.proofs.ticking.tick_out.Given as goal
 
 abbrev pub invariant-loop : goal.invariant-loop
-invariant-loop g l = Adds is_tick l.fn.pass l.pass
+invariant-loop g l = AddsOfClock l.fn.pass None l.pass

@@ -1,0 +1,75 @@
+-- What the clock's thread adds to its pass, and why it ended.
+use Rattle.std.specs.Prelude.{◌≡◌, ◌⊎◌, ℕ, Bool, true, false, Option, Some, None, Result, Ok, Err}
+use Rattle.gw_node.specs.declared.step.Step.TheVariants as steps
+use Rattle.gw_node.specs.declared.out.Out.{Out}
+use Rattle.gw_node.specs.declared.fault.NodeFault.{NodeFault}
+use Rattle.gw_node.specs.declared.refusal.Refusal.{Refusal}
+use Rattle.gw_node.specs.declared.refusal.Refusal.TheVariants as refusals
+use Rattle.gw_shift.specs.Calls.{Held, Holder}
+use Rattle.gw_shift.specs.Calling.{Made}
+use Rattle.gw_shift.specs.declared.fault.CallFault.{CallFault}
+use Rattle.gw_shift.specs.declared.fault.CallFault.TheVariants as faults
+use Rattle.gw_run.specs.Adding.{AddsEach, is_tick}
+use Rattle.gw_run.specs.declared.calling.End.{End}
+use Rattle.gw_run.specs.declared.calling.End.TheVariants as ends
+
+-- what a refused call means: the gateway's refusal, or why the call did not reach it
+abbrev pub reached_by : CallFault → Result NodeFault End
+reached_by faults.ShiftFull = Err ends.Full
+reached_by (faults.Behind held) = Err ends.Behind
+reached_by faults.Memory = Err ends.Memory
+reached_by (faults.Node number fault) = Ok fault
+
+-- why a call may not reach the gateway
+abbrev pub CannotCall : End → Type 0
+CannotCall ends.Lost = ⊥
+CannotCall ends.Full = Unit {0}
+CannotCall ends.Memory = Unit {0}
+CannotCall ends.Behind = Unit {0}
+CannotCall ends.Halted = ⊥
+CannotCall ends.Reopened = ⊥
+
+-- the gateway refused since it is halted
+abbrev pub says_halted : Result Out Refusal → Bool
+says_halted (Ok out) = false
+says_halted (Err (refusals.Frame fault)) = false
+says_halted (Err refusals.Halted) = true
+says_halted (Err (refusals.Disk out)) = false
+says_halted (Err (refusals.Conflict client)) = false
+says_halted (Err refusals.Full) = false
+says_halted (Err refusals.Exhausted) = false
+says_halted (Err refusals.Memory) = false
+says_halted (Err (refusals.Journal fault)) = false
+
+-- a tick that did not find the gateway halted
+abbrev pub IsLiveTick : Held → Type 0
+IsLiveTick held = (is_tick held.step ≡ true) × (says_halted held.answer ≡ false)
+
+-- one more call of the pass: a tick, which found the gateway halted
+abbrev pub FindsHalted : Holder → Holder → Type 0
+FindsHalted before after = (moment number : ℕ) × Made before (steps.Tick moment) (Err refusals.Halted) number after
+
+-- one more call of the pass: the gateway is to be opened anew, and answers so
+abbrev pub Reopens : Holder → Result Out Refusal → Holder → Type 0
+Reopens before answer after = (number : ℕ) × Made before steps.Reopen answer number after
+
+-- How a gateway that was found halted was opened anew. It was, or refused that; or the call could not be made.
+abbrev pub OpensAs : Holder → End → Holder → Type 0
+OpensAs before ends.Reopened after = (out : Out) × Reopens before (Ok out) after
+OpensAs before ends.Halted after = (refusal : Refusal) × Reopens before (Err refusal) after
+OpensAs before ends.Full after = after ≡ before
+OpensAs before ends.Memory after = after ≡ before
+OpensAs before ends.Behind after = after ≡ before
+OpensAs before ends.Lost after = ⊥
+
+-- What stands behind the ticks that did not find the gateway halted, by why the clock ended: nothing; or one that did, and then the
+-- call by which the gateway was opened anew.
+abbrev pub EndsAs : Holder → Option End → Holder → Type 0
+EndsAs before None after = after ≡ before
+EndsAs before (Some end) after =
+    (CannotCall end × (after ≡ before))
+    ⊎ ((found : Holder) × FindsHalted before found × OpensAs found end after)
+
+-- The pass holds what it held and then ticks, none of which found the gateway halted; then it ends so; and it holds nothing else.
+abbrev pub AddsOfClock : Holder → Option End → Holder → Type 0
+AddsOfClock before end after = (ticked : Holder) × AddsEach IsLiveTick before ticked × EndsAs ticked end after
