@@ -10,6 +10,7 @@
 //! | `gateway NUMBER` | the settings are those four that a gateway must be told |
 //! | `settings` | what they are, or why they are refused |
 //! | `begin` | a gateway is opened on the disk in memory of the one before it, or on an empty one: what is printed, and the status |
+//! | `fail` | the next write of its journal stops after five octets |
 //! | `files OCTETS` | a gateway is opened on the two files of the settings, is given a datagram, and is closed |
 //!
 //! | The next serving; without these, two workers, 4,096 calls, and a post and a wire that do not fail | |

@@ -4,7 +4,7 @@ use crate::outside::Note;
 use crate::serving::{Gateway, Outcome, Over};
 use crate::stop::Stop;
 use crate::wire::Coming;
-use gw_node::{Answer, Step};
+use gw_node::{Answer, NodeFault, Step};
 use gw_serve::Taken;
 use gw_shift::Entry;
 use sn_flow::{Addr, Send as Sending};
@@ -126,7 +126,20 @@ pub(crate) fn print_answer(
 ) -> Result<(), AllocError> {
     match answer {
         Ok(out) => print_sends(alloc, text, out.sends.as_slice()),
-        Err(fault) => write!(text, ", refused: {fault}"),
+        Err(fault) => {
+            let why = fault_word(fault);
+            write!(text, ", refused {why}")
+        }
+    }
+}
+
+/// Why a gateway refused.
+fn fault_word(fault: &NodeFault) -> &'static str {
+    match fault {
+        NodeFault::Frame { .. } => "frame",
+        NodeFault::Disk { .. } => "disk",
+        NodeFault::Halted => "halted",
+        _ => "otherwise",
     }
 }
 
@@ -151,9 +164,11 @@ pub(crate) fn print_notes(
     coming: &[Coming],
     notes: &[Note],
 ) -> Result<(), AllocError> {
-    for (place, come) in coming.iter().enumerate() {
+    let mut number = 0u64;
+    for come in coming {
         if let Coming::Datagram { host, .. } = come {
-            print_notes_of(alloc, text, place as u64 + 1, *host, notes)?;
+            number = number.saturating_add(1);
+            print_notes_of(alloc, text, number, *host, notes)?;
         }
     }
     let count = notes.len();

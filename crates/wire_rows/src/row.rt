@@ -76,6 +76,7 @@ where
         ["gateway", number] => name(&mut row.toml, number),
         ["settings"] => show(alloc, text, row.toml.as_str()),
         ["begin"] => play_begin(alloc, text, row),
+        ["fail"] => fail(row),
         ["files", octets] => {
             let octets = digits(alloc, octets)?;
             files(rt, alloc, text, row.toml.as_str(), octets.as_slice())
@@ -144,6 +145,17 @@ fn play_begin(alloc: Global, text: &mut String, row: &mut Row) -> Result<(), Sto
     };
     row.node = begin_on(alloc, text, row.toml.as_str(), disk)?;
     Ok(())
+}
+
+/// `fail`: the next write of the open gateway's journal stops after five octets.
+fn fail(row: &mut Row) -> Result<(), Stop> {
+    match &mut row.node {
+        Some(node) => {
+            node.fail_next(5, false);
+            Ok(())
+        }
+        None => Err(Stop::Line),
+    }
 }
 
 /// The open gateway, in a shift of its own.
