@@ -45,12 +45,12 @@ pub(crate) fn begin(alloc: Global) -> Row {
     Row {
         toml: String::new(alloc),
         node: None,
-        plan: plan(alloc),
+        plan: default_plan(alloc),
     }
 }
 
 /// Two workers, 4,096 calls, and a turn of the reader for each thing that comes.
-fn plan(alloc: Global) -> Plan {
+fn default_plan(alloc: Global) -> Plan {
     Plan {
         workers: 2,
         steps: 4_096,
@@ -173,7 +173,7 @@ fn play_serve<T: Threads + Wait + Sync>(
     text: &mut String,
     row: &mut Row,
 ) -> Result<(), Stop> {
-    let plan = mem::replace(&mut row.plan, plan(alloc));
+    let plan = mem::replace(&mut row.plan, default_plan(alloc));
     let (shift, passes) = opened(alloc, row, &plan)?;
     let outside = Outside::new(rt, alloc, plan.fails, plan.hold);
     let outcome = serve_told(rt, alloc, &shift, passes, &plan, &outside);
@@ -228,7 +228,7 @@ fn play_loopback<T: Threads + Wait + Sync + Clock + Net>(
     first: &str,
     second: &str,
 ) -> Result<(), Stop> {
-    let plan = mem::replace(&mut row.plan, plan(alloc));
+    let plan = mem::replace(&mut row.plan, default_plan(alloc));
     let first = digits(alloc, first)?;
     let second = digits(alloc, second)?;
     let questions = Questions {

@@ -89,11 +89,11 @@ where
     G: Gate + Sync,
 {
     if passes.is_empty() {
-        return outcome(passes, Vec::new(alloc), Vec::new(alloc), None);
+        return ended_with(passes, Vec::new(alloc), Vec::new(alloc), None);
     }
     match serve(rt, alloc, shift, passes, wire, post, gate, turns) {
-        Ok(served) => outcome(served.passes, served.taken, served.left, None),
-        Err(fault) => outcome(
+        Ok(served) => ended_with(served.passes, served.taken, served.left, None),
+        Err(fault) => ended_with(
             fault.passes,
             Vec::new(alloc),
             Vec::new(alloc),
@@ -103,7 +103,12 @@ where
 }
 
 /// An outcome of these parts.
-fn outcome(passes: Vec<Pass>, taken: Vec<Taken>, left: Vec<u64>, cause: Option<Cause>) -> Outcome {
+fn ended_with(
+    passes: Vec<Pass>,
+    taken: Vec<Taken>,
+    left: Vec<u64>,
+    cause: Option<Cause>,
+) -> Outcome {
     Outcome {
         passes,
         taken,
