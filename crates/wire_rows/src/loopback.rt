@@ -17,7 +17,7 @@ use std::thread::Threads;
 use std::time::Clock;
 
 /// How often an asker looks for its answer.
-const LOOKS: u64 = 1_000_000;
+const LOOKS: u64 = 10_000_000;
 
 /// How many turns serving has, each of 100 milliseconds at most.
 const TURNS: u64 = 600;
@@ -51,10 +51,10 @@ pub(crate) fn over_sockets<T: Threads + Wait + Sync + Clock + Net>(
     passes: Vec<Pass>,
     questions: &Questions<'_>,
 ) -> Result<Outcome, Stop> {
-    let (Ok(mut socket), Ok(client)) = (
-        Socket::bind(rt, alloc, HOME),
-        UdpSocket::bind(rt, address(HOME)),
-    ) else {
+    let Ok(mut socket) = Socket::bind(rt, alloc, HOME) else {
+        return Err(Stop::Line);
+    };
+    let Ok(client) = UdpSocket::bind(rt, address(HOME)) else {
         return Err(Stop::Line);
     };
     let asker = Asker {

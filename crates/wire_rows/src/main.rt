@@ -18,7 +18,7 @@
 //! | `workers COUNT`, `steps COUNT` | how many passes the shift has, 1 to 8; how many calls, 1 to 4,096 |
 //! | `turns COUNT` | how many turns the reader has beside one for each thing that comes |
 //! | `post fails` | no reply is sent |
-//! | `hold FIRST SECOND` | the replies to the datagram of the first number wait until those of the second are out, but not longer than a million turns |
+//! | `hold FIRST SECOND` | the replies to the datagram of the first number wait until those of the second are out, but not longer than ten million turns |
 //! | `datagram HOST MOMENT OCTETS` | a datagram comes, from port 1 of a host |
 //! | `failure` | a receive fails |
 //!

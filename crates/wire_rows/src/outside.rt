@@ -9,7 +9,7 @@ use std::sync::{Mutex, Wait};
 use std::thread;
 
 /// How often a reply that is held looks whether it may go.
-const TURNS: u64 = 1_000_000;
+const TURNS: u64 = 10_000_000;
 
 /// One thing that was asked of the outside.
 #[derive(Debug, Drop)]

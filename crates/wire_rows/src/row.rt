@@ -9,6 +9,7 @@ use crate::serving::{Gateway, Outcome, Shared, close, serve_all, shift_of};
 use crate::stop::Stop;
 use crate::wire::{Coming, Told};
 use gw_shift::Pass;
+use gw_wire::{Gate, Post};
 use jr_journal::MemoryDisk;
 use std::alloc::Global;
 use std::fs::{File, Files};
@@ -188,14 +189,18 @@ fn play_serve<T: Threads + Wait + Sync>(
 }
 
 /// Serves what comes, with a turn for each thing and those that are asked for.
-fn serve_told<T: Threads + Wait + Sync>(
+fn serve_told<T, O>(
     rt: &T,
     alloc: Global,
     shift: &Shared,
     passes: Vec<Pass>,
     plan: &Plan,
-    outside: &Outside<'_, T>,
-) -> Outcome {
+    outside: &O,
+) -> Outcome
+where
+    T: Threads + Wait + Sync,
+    O: Post + Gate + Sync,
+{
     let turns = plan.turns.saturating_add(plan.coming.len() as u64);
     let mut wire = Told::new(plan.coming.as_slice());
     serve_all(rt, alloc, shift, passes, &mut wire, outside, outside, turns)
