@@ -67,12 +67,10 @@ fn print_numbers(
 
 /// The call of a datagram.
 fn taken_of(all: &[Taken], number: u64) -> Option<Taken> {
-    let mut left = all;
-    'all: while let Some((first, rest)) = left.split_first() {
-        if first.datagram == number {
-            return Some(*first);
+    for taken in all {
+        if taken.datagram == number {
+            return Some(*taken);
         }
-        left = rest;
     }
     None
 }
