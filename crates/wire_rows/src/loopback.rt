@@ -1,0 +1,139 @@
+//! A datagram over UDP sockets of this machine.
+
+use crate::printing::shown;
+use crate::serving::{Outcome, Shared, serve_all};
+use crate::stop::Stop;
+use gw_shift::{Pass, Shift};
+use gw_wire::{OpenGate, Post, Socket, Wire, address};
+use jr_journal::Disk;
+use mio::net::UdpSocket;
+use rep_model::Replica;
+use sn_flow::Addr;
+use std::alloc::Global;
+use std::net::{Net, SocketAddr};
+use std::sync::Wait;
+use std::thread;
+use std::thread::Threads;
+use std::time::Clock;
+
+/// How often an asker looks for its answer.
+const LOOKS: u64 = 10_000_000;
+
+/// How many turns serving has, each of 100 milliseconds at most.
+const TURNS: u64 = 600;
+
+/// A free port of this machine.
+const HOME: Addr = Addr {
+    host: 0x7f00_0001,
+    port: 0,
+};
+
+/// What is asked: a first datagram, and another one once it is answered.
+#[derive(Drop)]
+pub(crate) struct Questions<'a> {
+    pub(crate) first: &'a [u8],
+    pub(crate) second: &'a [u8],
+}
+
+/// The socket of somebody who asks, and the address of the gateway.
+#[derive(Drop)]
+struct Asker {
+    socket: UdpSocket,
+    at: SocketAddr,
+}
+
+/// Asks, prints the first answer, and tells how serving ended.
+pub(crate) fn over_sockets<T: Threads + Wait + Sync + Clock + Net>(
+    rt: &T,
+    alloc: Global,
+    text: &mut String,
+    shift: &Shared,
+    passes: Vec<Pass>,
+    questions: &Questions<'_>,
+) -> Result<Outcome, Stop> {
+    let Ok(mut socket) = Socket::bind(rt, alloc, HOME) else {
+        return Err(Stop::Line);
+    };
+    let Ok(client) = UdpSocket::bind(rt, address(HOME)) else {
+        return Err(Stop::Line);
+    };
+    let asker = Asker {
+        socket: client,
+        at: socket.local,
+    };
+    let (mut ears, mouth) = socket.sides(rt);
+    let (answer, outcome) = side_by_side(
+        rt, alloc, shift, passes, &mut ears, &mouth, &asker, questions,
+    );
+    print_answer(alloc, text, answer)?;
+    Ok(outcome)
+}
+
+/// What was answered, if anything.
+fn print_answer(alloc: Global, text: &mut String, answer: Option<Vec<u8>>) -> Result<(), Stop> {
+    match answer {
+        Some(octets) => {
+            let octets = shown(alloc, octets.as_slice())?;
+            Ok(writeln!(text, "answered {octets}")?)
+        }
+        None => Ok(text.push_str("not answered\n")?),
+    }
+}
+
+/// One thread asks, others serve.
+fn side_by_side<T, R, D, W, P>(
+    rt: &T,
+    alloc: Global,
+    shift: &Shift<R, D>,
+    passes: Vec<Pass>,
+    wire: &mut W,
+    post: &P,
+    asker: &Asker,
+    questions: &Questions<'_>,
+) -> (Option<Vec<u8>>, Outcome)
+where
+    T: Threads + Wait + Sync,
+    R: Replica + Send,
+    R::Staged: Send,
+    D: Disk + Drop + Send,
+    W: Wire,
+    P: Post + Sync,
+{
+    let first = questions.first;
+    let second = questions.second;
+    let socket = &asker.socket;
+    let at = asker.at;
+    thread::join(
+        rt,
+        || -> Option<Vec<u8>> { ask_both(alloc, socket, at, first, second) },
+        || -> Outcome { serve_all(rt, alloc, shift, passes, wire, post, &OpenGate, TURNS) },
+    )
+}
+
+/// Sends both, the second behind the answer to the first, which is handed back.
+fn ask_both(
+    alloc: Global,
+    socket: &UdpSocket,
+    at: SocketAddr,
+    first: &[u8],
+    second: &[u8],
+) -> Option<Vec<u8>> {
+    let answer = ask(alloc, socket, at, first);
+    let _ = socket.send_to(second, at);
+    answer
+}
+
+/// Sends a datagram, and waits for the next that comes.
+fn ask(alloc: Global, socket: &UdpSocket, at: SocketAddr, bytes: &[u8]) -> Option<Vec<u8>> {
+    if socket.send_to(bytes, at).is_err() {
+        return None;
+    }
+    let mut got = [0u8; 64];
+    for _ in 0..LOOKS {
+        match socket.recv_from(&mut got) {
+            Ok((size, _)) => return Vec::from_slice(alloc, got.get(..size)?).ok(),
+            Err(_) => thread::yield_now(),
+        }
+    }
+    None
+}

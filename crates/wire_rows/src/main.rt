@@ -1,0 +1,117 @@
+//! Worked rows of serving, of a socket, of settings and of files: what no clause says.
+//!
+//! Standard input holds rows, each behind a line `== NAME`; empty lines and those that begin with `#` are skipped. The program
+//! prints each name, and below it what the lines of the row give; of a line that is none of these, `no such line` and the line.
+//! Numbers are decimal, octets are hexadecimal digits in one word.
+//!
+//! | Settings, and a gateway that is opened as they say | |
+//! |---|---|
+//! | `toml TEXT` | the text is one more line of the settings |
+//! | `gateway NUMBER` | the settings are those four that a gateway must be told |
+//! | `settings` | what they are, or why they are refused |
+//! | `begin` | a gateway is opened on the disk in memory of the one before it, or on an empty one: what is printed, and the status |
+//! | `fail` | the next write of its journal stops after five octets |
+//! | `files OCTETS` | a gateway is opened on the two files of the settings, is given a datagram, and is closed |
+//!
+//! | The next serving; without these, two workers, 4,096 calls, and a post and a wire that do not fail | |
+//! |---|---|
+//! | `workers COUNT`, `steps COUNT` | how many passes the shift has, 1 to 8; how many calls, 1 to 4,096 |
+//! | `turns COUNT` | how many turns the reader has beside one for each thing that comes |
+//! | `post fails` | no reply is sent |
+//! | `hold FIRST SECOND` | the replies to the datagram of the first number wait until those of the second are out, but not longer than ten million turns |
+//! | `datagram HOST MOMENT OCTETS` | a datagram comes, from port 1 of a host |
+//! | `failure` | a receive fails |
+//!
+//! | Serving, in a shift of the gateway that is open, which goes on behind it | |
+//! |---|---|
+//! | `serve` | serves what comes |
+//! | `loopback FIRST SECOND` | serves a socket of this machine, to which somebody sends the first datagram and, behind its answer, the second |
+//!
+//! Of serving is printed how it ended, with how many passes; for each datagram what was asked of the outside, in its order, and how many
+//! things in all; what became of it, as its call stands in the history (where serving ended early, the history); how many calls the
+//! closed shift has; and the clients that the gateway knows. None of that depends on which thread was first.
+//!
+//! - `row`: what the lines of a row have brought about (`Row`), and the play of one more.
+//! - `fields`: numbers and octets of a line.
+//! - `options`: settings, and gateways that are opened.
+//! - `wire`, `outside`: a wire that brings what the row says; a post and a gate that note what they are asked.
+//! - `serving`: a shift is opened, served and closed.
+//! - `loopback`: the same over sockets.
+//! - `printing`: what is printed of that.
+//! - `stop`: why a line is not played.
+#![tactic(auto)]
+
+mod fields;
+mod loopback;
+mod options;
+mod outside;
+mod printing;
+mod row;
+mod serving;
+mod stop;
+mod wire;
+
+use crate::row::{Row, add, begin, play};
+use crate::stop::Stop;
+use anyhow::Result;
+use std::alloc::Global;
+use std::fs::{File, Files};
+use std::io::{self, Write};
+use std::net::Net;
+use std::sync::Wait;
+use std::thread::Threads;
+use std::time::Clock;
+
+fn main(rt: HostRuntime) -> Result<()> {
+    let alloc = rt.alloc();
+    let mut row = begin(alloc);
+    let mut printed = String::new(alloc);
+    for line in rt.lines(alloc) {
+        answer(&rt, alloc, &mut printed, &mut row, line?.as_str())?;
+    }
+    io::writer(&rt).write_all(printed.as_bytes())?;
+    Ok(())
+}
+
+/// Plays a line; one that is none of the language is told.
+fn answer<T>(
+    rt: &T,
+    alloc: Global,
+    text: &mut String,
+    row: &mut Row,
+    line: &str,
+) -> Result<(), Stop>
+where
+    T: Threads + Wait + Sync + Clock + Net + Files<File = File>,
+{
+    if line.is_empty() || line.starts_with('#') {
+        return Ok(());
+    }
+    if let Some(name) = line.strip_prefix("== ") {
+        *row = begin(alloc);
+        return Ok(writeln!(text, "== {name}")?);
+    }
+    if let Some(more) = line.strip_prefix("toml ") {
+        return add(row, more);
+    }
+    match play_line(rt, alloc, text, row, line) {
+        Ok(()) => Ok(()),
+        Err(Stop::Line) => Ok(writeln!(text, "no such line: {line}")?),
+        Err(Stop::Memory) => Err(Stop::Memory),
+    }
+}
+
+/// Plays a line of words.
+fn play_line<T>(
+    rt: &T,
+    alloc: Global,
+    text: &mut String,
+    row: &mut Row,
+    line: &str,
+) -> Result<(), Stop>
+where
+    T: Threads + Wait + Sync + Clock + Net + Files<File = File>,
+{
+    let words: Vec<&str> = line.split(' ').collect(alloc)?;
+    play(rt, alloc, text, row, words.as_slice())
+}

@@ -1,0 +1,145 @@
+//! The settings of the row, and gateways that are opened as they say.
+
+use crate::printing::print_answer;
+use crate::serving::Gateway;
+use crate::stop::Stop;
+use file_disk::FileDisk;
+use gw_main::options::Settings;
+use gw_main::{SettingsFault, begin, settings};
+use gw_node::Node;
+use gw_wire::address;
+use jr_journal::{Disk, MemoryDisk};
+use rep_plain::Plain;
+use sn_flow::Addr;
+use std::alloc::{AllocError, Global};
+use std::fs::{File, Files};
+
+/// The settings of a text, or nothing where they are refused, which is printed.
+fn read(alloc: Global, text: &mut String, toml: &str) -> Result<Option<Settings>, Stop> {
+    match settings(alloc, toml) {
+        Ok(read) => Ok(Some(read)),
+        Err(SettingsFault::Memory) => Err(Stop::Memory),
+        Err(fault) => {
+            writeln!(text, "settings {fault}")?;
+            Ok(None)
+        }
+    }
+}
+
+/// `settings`: what they are.
+pub(crate) fn show(alloc: Global, text: &mut String, toml: &str) -> Result<(), Stop> {
+    let Some(read) = read(alloc, text, toml)? else {
+        return Ok(());
+    };
+    print_needed(text, &read)?;
+    print_others(text, &read)?;
+    Ok(())
+}
+
+/// The settings that must be there.
+fn print_needed(text: &mut String, read: &Settings) -> Result<(), AllocError> {
+    let (gateway, journal) = (read.gateway, read.journal.as_str());
+    write!(text, "gateway {gateway} journal {journal}")?;
+    print_address(text, "listen", read.listen)?;
+    print_address(text, "link", read.link)?;
+    text.push('\n')
+}
+
+/// An address behind a word.
+fn print_address(text: &mut String, word: &str, at: Addr) -> Result<(), AllocError> {
+    let at = address(at);
+    write!(text, " {word} {at}")
+}
+
+/// The settings that have a default.
+fn print_others(text: &mut String, read: &Settings) -> Result<(), AllocError> {
+    let (workers, steps, advertise) = (read.workers, read.steps, read.advertise);
+    write!(
+        text,
+        "workers {workers} steps {steps} advertise {advertise}"
+    )?;
+    for at in read.field.as_slice() {
+        print_address(text, "field", *at)?;
+    }
+    for at in read.peers.as_slice() {
+        print_address(text, "peer", *at)?;
+    }
+    let predefined = read.predefined.entries().len();
+    writeln!(text, " predefined {predefined}")
+}
+
+/// `begin`: opens a gateway on a disk in memory.
+pub(crate) fn begin_on(
+    alloc: Global,
+    text: &mut String,
+    toml: &str,
+    disk: MemoryDisk,
+) -> Result<Option<Gateway>, Stop> {
+    match read(alloc, text, toml)? {
+        Some(read) => begun(alloc, text, &read, disk),
+        None => Ok(None),
+    }
+}
+
+/// A gateway as the settings say, with what is printed of it.
+fn begun<D: Disk + Drop>(
+    alloc: Global,
+    text: &mut String,
+    read: &Settings,
+    disk: D,
+) -> Result<Option<Node<Plain, D>>, Stop> {
+    let mut out = Vec::new(alloc);
+    let mut err = Vec::new(alloc);
+    let node = begin::<Plain, D, Vec<u8>, Vec<u8>>(alloc, read, disk, &mut out, &mut err);
+    print_octets(text, out)?;
+    print_octets(text, err)?;
+    match node {
+        Ok(node) => Ok(Some(node)),
+        Err(status) => {
+            writeln!(text, "status {status}")?;
+            Ok(None)
+        }
+    }
+}
+
+/// Text that was printed.
+fn print_octets(text: &mut String, octets: Vec<u8>) -> Result<(), Stop> {
+    match String::from_utf8(octets) {
+        Ok(printed) => Ok(text.push_str(printed.as_str())?),
+        Err(_) => Err(Stop::Line),
+    }
+}
+
+/// `files OCTETS`: opens a gateway on the two files that the settings name, gives it a datagram from port 1 of host 7, and closes it.
+pub(crate) fn files<T: Files<File = File>>(
+    rt: &T,
+    alloc: Global,
+    text: &mut String,
+    toml: &str,
+    bytes: &[u8],
+) -> Result<(), Stop> {
+    let Some(read) = read(alloc, text, toml)? else {
+        return Ok(());
+    };
+    match FileDisk::at(rt, alloc, read.journal.as_str()) {
+        Ok(disk) => asked(alloc, text, &read, disk, bytes),
+        Err(fault) => Ok(writeln!(text, "{fault}")?),
+    }
+}
+
+/// A gateway on a disk is opened, and asked once.
+fn asked<D: Disk + Drop>(
+    alloc: Global,
+    text: &mut String,
+    read: &Settings,
+    disk: D,
+    bytes: &[u8],
+) -> Result<(), Stop> {
+    let Some(mut node) = begun(alloc, text, read, disk)? else {
+        return Ok(());
+    };
+    let answer = node.frame(alloc, Addr { host: 7, port: 1 }, bytes, 0);
+    text.push_str("answered")?;
+    print_answer(alloc, text, &answer)?;
+    Ok(text.push('\n')?)
+}

@@ -1,0 +1,252 @@
+//! A row: what its lines have brought about so far, and the play of one more.
+
+use crate::fields::{digits, host, number};
+use crate::loopback::{Questions, over_sockets};
+use crate::options::{begin_on, files, show};
+use crate::outside::{Hold, Outside};
+use crate::printing::{print_calls, print_notes, print_outcome, print_over};
+use crate::serving::{Gateway, Outcome, Shared, close, serve_all, shift_of};
+use crate::stop::Stop;
+use crate::wire::{Coming, Told};
+use gw_shift::Pass;
+use gw_wire::{Gate, Post};
+use jr_journal::MemoryDisk;
+use std::alloc::Global;
+use std::fs::{File, Files};
+use std::mem;
+use std::net::Net;
+use std::sync::Wait;
+use std::thread::Threads;
+use std::time::Clock;
+
+/// What the lines of a row have brought about.
+#[derive(Drop)]
+pub(crate) struct Row {
+    /// The text of the settings.
+    toml: String,
+    /// The gateway, where one is open.
+    node: Option<Gateway>,
+    plan: Plan,
+}
+
+/// What the next serving is given.
+#[derive(Drop)]
+struct Plan {
+    workers: u64,
+    steps: u64,
+    turns: u64,
+    /// Each send fails.
+    fails: bool,
+    hold: Option<Hold>,
+    coming: Vec<Coming>,
+}
+
+/// A row without a line.
+pub(crate) fn begin(alloc: Global) -> Row {
+    Row {
+        toml: String::new(alloc),
+        node: None,
+        plan: default_plan(alloc),
+    }
+}
+
+/// Two workers, 4,096 calls, and a turn of the reader for each thing that comes.
+fn default_plan(alloc: Global) -> Plan {
+    Plan {
+        workers: 2,
+        steps: 4_096,
+        turns: 0,
+        fails: false,
+        hold: None,
+        coming: Vec::new(alloc),
+    }
+}
+
+/// Plays a line.
+pub(crate) fn play<T>(
+    rt: &T,
+    alloc: Global,
+    text: &mut String,
+    row: &mut Row,
+    words: &[&str],
+) -> Result<(), Stop>
+where
+    T: Threads + Wait + Sync + Clock + Net + Files<File = File>,
+{
+    match words {
+        ["gateway", number] => name(&mut row.toml, number),
+        ["settings"] => show(alloc, text, row.toml.as_str()),
+        ["begin"] => play_begin(alloc, text, row),
+        ["fail"] => fail(row),
+        ["files", octets] => {
+            let octets = digits(alloc, octets)?;
+            files(rt, alloc, text, row.toml.as_str(), octets.as_slice())
+        }
+        ["serve"] => play_serve(rt, alloc, text, row),
+        ["loopback", first, second] => play_loopback(rt, alloc, text, row, first, second),
+        _ => play_plan(alloc, &mut row.plan, words),
+    }
+}
+
+/// A line of the settings' text.
+pub(crate) fn add(row: &mut Row, line: &str) -> Result<(), Stop> {
+    row.toml.push_str(line)?;
+    Ok(row.toml.push('\n')?)
+}
+
+/// `gateway NUMBER`: the settings are what a gateway must be told.
+fn name(toml: &mut String, number: &str) -> Result<(), Stop> {
+    toml.clear();
+    writeln!(toml, "gateway = {number}")?;
+    toml.push_str("listen = \"127.0.0.1:1884\"\n")?;
+    toml.push_str("link = \"127.0.0.1:1885\"\n")?;
+    Ok(toml.push_str("journal = \"j\"\n")?)
+}
+
+/// Lines that say what the next serving is given.
+fn play_plan(alloc: Global, plan: &mut Plan, words: &[&str]) -> Result<(), Stop> {
+    match words {
+        ["workers", count] => plan.workers = number(count)?,
+        ["steps", count] => plan.steps = number(count)?,
+        ["turns", count] => plan.turns = number(count)?,
+        ["post", "fails"] => plan.fails = true,
+        ["hold", first, second] => plan.hold = Some(hold(first, second)?),
+        ["failure"] => plan.coming.push(Coming::Failure)?,
+        ["datagram", from, moment, octets] => {
+            let come = datagram(alloc, from, moment, octets)?;
+            plan.coming.push(come)?;
+        }
+        _ => return Err(Stop::Line),
+    }
+    Ok(())
+}
+
+/// Which replies are held.
+fn hold(first: &str, second: &str) -> Result<Hold, Stop> {
+    Ok(Hold {
+        first: number(first)?,
+        second: number(second)?,
+    })
+}
+
+/// A datagram that comes.
+fn datagram(alloc: Global, from: &str, moment: &str, octets: &str) -> Result<Coming, Stop> {
+    Ok(Coming::Datagram {
+        host: host(from)?,
+        moment: number(moment)?,
+        bytes: digits(alloc, octets)?,
+    })
+}
+
+/// `begin`: the gateway is opened on the disk of the one that was open, or on an empty one.
+fn play_begin(alloc: Global, text: &mut String, row: &mut Row) -> Result<(), Stop> {
+    let disk = match row.node.take() {
+        Some(node) => node.into_disk(),
+        None => MemoryDisk::new(alloc),
+    };
+    row.node = begin_on(alloc, text, row.toml.as_str(), disk)?;
+    Ok(())
+}
+
+/// `fail`: the next write of the open gateway's journal stops after five octets.
+fn fail(row: &mut Row) -> Result<(), Stop> {
+    match &mut row.node {
+        Some(node) => {
+            node.fail_next(5, false);
+            Ok(())
+        }
+        None => Err(Stop::Line),
+    }
+}
+
+/// The open gateway, in a shift of its own.
+fn opened(alloc: Global, row: &mut Row, plan: &Plan) -> Result<(Shared, Vec<Pass>), Stop> {
+    match row.node.take() {
+        Some(node) => shift_of(alloc, node, plan.workers, plan.steps),
+        None => Err(Stop::Line),
+    }
+}
+
+/// `serve`: serves what comes.
+fn play_serve<T: Threads + Wait + Sync>(
+    rt: &T,
+    alloc: Global,
+    text: &mut String,
+    row: &mut Row,
+) -> Result<(), Stop> {
+    let plan = mem::replace(&mut row.plan, default_plan(alloc));
+    let (shift, passes) = opened(alloc, row, &plan)?;
+    let outside = Outside::new(rt, alloc, plan.fails, plan.hold);
+    let outcome = serve_told(rt, alloc, &shift, passes, &plan, &outside);
+    print_outcome(text, &outcome)?;
+    print_notes(
+        alloc,
+        text,
+        plan.coming.as_slice(),
+        outside.into_notes().as_slice(),
+    )?;
+    finish(alloc, text, row, shift, outcome, plan.coming.len())
+}
+
+/// Serves what comes, with a turn for each thing and those that are asked for.
+fn serve_told<T, O>(
+    rt: &T,
+    alloc: Global,
+    shift: &Shared,
+    passes: Vec<Pass>,
+    plan: &Plan,
+    outside: &O,
+) -> Outcome
+where
+    T: Threads + Wait + Sync,
+    O: Post + Gate + Sync,
+{
+    let turns = plan.turns.saturating_add(plan.coming.len() as u64);
+    let mut wire = Told::new(plan.coming.as_slice());
+    serve_all(rt, alloc, shift, passes, &mut wire, outside, outside, turns)
+}
+
+/// Closes a shift, and prints what became of the datagrams.
+fn finish(
+    alloc: Global,
+    text: &mut String,
+    row: &mut Row,
+    shift: Shared,
+    outcome: Outcome,
+    count: usize,
+) -> Result<(), Stop> {
+    let mut outcome = outcome;
+    let passes = mem::replace(&mut outcome.passes, Vec::new(alloc));
+    let over = close(shift, passes);
+    print_calls(alloc, text, &outcome, over.history.as_slice(), count)?;
+    print_over(alloc, text, &over)?;
+    row.node = Some(over.node);
+    Ok(())
+}
+
+/// `loopback FIRST SECOND`: serves what comes over a socket: a datagram, and behind its answer another one.
+fn play_loopback<T: Threads + Wait + Sync + Clock + Net>(
+    rt: &T,
+    alloc: Global,
+    text: &mut String,
+    row: &mut Row,
+    first: &str,
+    second: &str,
+) -> Result<(), Stop> {
+    let plan = mem::replace(&mut row.plan, default_plan(alloc));
+    let first = digits(alloc, first)?;
+    let second = digits(alloc, second)?;
+    let questions = Questions {
+        first: first.as_slice(),
+        second: second.as_slice(),
+    };
+    let (shift, passes) = opened(alloc, row, &plan)?;
+    let outcome = over_sockets(rt, alloc, text, &shift, passes, &questions)?;
+    print_outcome(text, &outcome)?;
+    let (taken, left) = (outcome.taken.len(), outcome.left.len());
+    writeln!(text, "taken {taken}, left {left}")?;
+    let over = close(shift, outcome.passes);
+    print_over(alloc, text, &over)?;
+    row.node = Some(over.node);
+    Ok(())
+}

@@ -1,0 +1,134 @@
+//! A shift of the row's gateway is opened, served and closed.
+
+ghost use Rattle.std.specs.Prelude.{◌<◌, ◌≤◌};
+
+use crate::stop::Stop;
+use gw_node::Node;
+use gw_serve::{Cause, Taken, serve};
+use gw_shift::{CloseFault, Entry, Pass, Shift};
+use gw_wire::{Gate, Post, Wire};
+use jr_journal::{Disk, MemoryDisk};
+use rep_model::Replica;
+use rep_plain::Plain;
+use std::alloc::Global;
+use std::sync::Wait;
+use std::thread::Threads;
+
+/// The row's gateway.
+pub(crate) type Gateway = Node<Plain, MemoryDisk>;
+
+/// A shift of it.
+pub(crate) type Shared = Shift<Plain, MemoryDisk>;
+
+/// What serving handed back.
+#[derive(Drop)]
+pub(crate) struct Outcome {
+    pub(crate) passes: Vec<Pass>,
+    /// The datagrams that became calls. None are told where it ended early.
+    pub(crate) taken: Vec<Taken>,
+    /// The numbers of the others.
+    pub(crate) left: Vec<u64>,
+    /// Why it ended early.
+    pub(crate) cause: Option<Cause>,
+}
+
+/// A shift that is over.
+#[derive(Drop)]
+pub(crate) struct Over {
+    pub(crate) node: Gateway,
+    pub(crate) history: Vec<Entry>,
+    /// Why it is not closed.
+    pub(crate) fault: Option<CloseFault>,
+}
+
+/// A shift of a gateway for so many workers and so many calls.
+pub(crate) fn shift_of(
+    alloc: Global,
+    node: Gateway,
+    workers: u64,
+    steps: u64,
+) -> Result<(Shared, Vec<Pass>), Stop> {
+    match Shift::open(alloc, node, passes_of(workers), steps_of(steps)) {
+        Ok(opened) => Ok(opened),
+        Err(_) => Err(Stop::Memory),
+    }
+}
+
+/// How many passes a shift has.
+fn passes_of(workers: u64) -> usize
+    ensures { 0 < result }
+{
+    workers.clamp(1, 8) as usize
+}
+
+/// How many calls a shift has.
+fn steps_of(steps: u64) -> u64
+    ensures { (0 < result) × (result ≤ 4096) }
+{
+    steps.clamp(1, 4_096)
+}
+
+/// Serves, and tells how that ended.
+pub(crate) fn serve_all<T, R, D, W, P, G>(
+    rt: &T,
+    alloc: Global,
+    shift: &Shift<R, D>,
+    passes: Vec<Pass>,
+    wire: &mut W,
+    post: &P,
+    gate: &G,
+    turns: u64,
+) -> Outcome
+where
+    T: Threads + Wait + Sync,
+    R: Replica + Send,
+    R::Staged: Send,
+    D: Disk + Drop + Send,
+    W: Wire,
+    P: Post + Sync,
+    G: Gate + Sync,
+{
+    if passes.is_empty() {
+        return ended_with(passes, Vec::new(alloc), Vec::new(alloc), None);
+    }
+    match serve(rt, alloc, shift, passes, wire, post, gate, turns) {
+        Ok(served) => ended_with(served.passes, served.taken, served.left, None),
+        Err(fault) => ended_with(
+            fault.passes,
+            Vec::new(alloc),
+            Vec::new(alloc),
+            Some(fault.cause),
+        ),
+    }
+}
+
+/// An outcome of these parts.
+fn ended_with(
+    passes: Vec<Pass>,
+    taken: Vec<Taken>,
+    left: Vec<u64>,
+    cause: Option<Cause>,
+) -> Outcome {
+    Outcome {
+        passes,
+        taken,
+        left,
+        cause,
+    }
+}
+
+/// Ends a shift, and closes it with these passes.
+pub(crate) fn close(shift: Shared, passes: Vec<Pass>) -> Over {
+    match shift.end().close(passes) {
+        Ok(closed) => Over {
+            node: closed.node,
+            history: closed.history,
+            fault: None,
+        },
+        Err((ended, _passes, fault)) => Over {
+            node: ended.node,
+            history: ended.history,
+            fault: Some(fault),
+        },
+    }
+}

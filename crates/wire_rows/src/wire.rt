@@ -1,0 +1,80 @@
+//! A wire that brings what the row says.
+
+ghost use Rattle.std.specs.Prelude.{◌≤◌, length, IfSome};
+
+use gw_wire::{Arrival, Wire, WireFault};
+use jr_journal::Failures;
+use sn_flow::Addr;
+use std::thread;
+
+/// What a receive brings.
+#[derive(Debug, Drop)]
+pub(crate) enum Coming {
+    /// A datagram, from port 1 of a host.
+    Datagram {
+        /// The host.
+        host: u32,
+        /// When it comes.
+        moment: u64,
+        /// Its octets.
+        bytes: Vec<u8>,
+    },
+    /// It fails.
+    Failure,
+}
+
+/// A wire that brings these things one after the other, and then nothing.
+#[derive(Drop)]
+pub(crate) struct Told<'a> {
+    coming: &'a [Coming],
+    failures: Failures,
+}
+
+impl<'a> Told<'a> {
+    /// A wire that brings these things.
+    pub(crate) fn new(coming: &'a [Coming]) -> Told<'a> {
+        Told {
+            coming,
+            failures: Failures::none(),
+        }
+    }
+}
+
+impl<'a> Wire for Told<'a> {
+    ghost failures = { λ wire. wire.failures.count };
+
+    fn recv(&mut self, buffer: &mut [u8]) -> Result<Option<Arrival>, WireFault> {
+        let Some((first, rest)) = self.coming.split_first() else {
+            thread::yield_now();
+            return Ok(None);
+        };
+        self.coming = rest;
+        match first {
+            Coming::Datagram {
+                host,
+                moment,
+                bytes,
+            } => Ok(arrived(*host, *moment, bytes.as_slice(), buffer)),
+            Coming::Failure => {
+                self.failures = Failures::next(&self.failures);
+                Err(WireFault)
+            }
+        }
+    }
+}
+
+/// A datagram, put into the front of a buffer. Nothing where it is too long.
+fn arrived(host: u32, moment: u64, bytes: &[u8], buffer: &mut [u8]) -> Option<Arrival>
+    ensures { IfSome result (λ arrival. arrival.size ≤ length buffer.new) }
+{
+    let size = bytes.len();
+    if size > buffer.len() {
+        return None;
+    }
+    buffer[..size].copy_from_slice(bytes);
+    Some(Arrival {
+        from: Addr { host, port: 1 },
+        size,
+        moment,
+    })
+}
