@@ -44,8 +44,8 @@ PARTS = [
      "In these fields a disk fails where an event arranges it, in the next write or in the sync behind that, and nowhere else: not in "
      "an opening. Gateways may be stopped and opened again between any two events. `run` may always stop for want of memory. What one "
      "step does is named here and defined in part 4, and what a datagram spells in part 6.",
-     ["gw_world::run", "field_laws::steady_field", "field_laws::consistent_field", "field_laws::made_once", "field_laws::settled_field",
-      "field_laws::one_run", "field_laws::answered_field", "field_laws::own_full", "field_laws::takes_at_zero"],
+     ["gw_world::run", "gw_world::steady_field", "gw_world::consistent_field", "gw_world::made_once", "gw_world::settled_field",
+      "gw_world::one_run", "gw_world::answered_field", "field_laws::own_full", "field_laws::takes_at_zero"],
      []),
     ("The step table",
      "What a gateway does with each frame of MQTT-SN 1.2, and when time goes by: what it sends, what it writes and what it notes. "

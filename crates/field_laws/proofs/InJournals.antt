@@ -29,13 +29,13 @@ use Rattle.gw_world.specs.Field.{Field, new_field, IsAt, changed, After, Run, ga
 use Rattle.gw_world.specs.Events.{made_of}
 use Rattle.gw_world.specs.Steps.{OwnStep}
 use Rattle.gw_world.specs.Whole.{everything, made_by, MayMake}
-use Rattle.field_laws.proofs.Catching.{Later, run-later, later-now}
+use Rattle.gw_world.proofs.Catching.{Later, run-later, later-now}
 use Rattle.gw_world.proofs.Consistency.{WholeField, after-sound, field-sound, run-sound}
 use Rattle.gw_world.proofs.Failures.{after-due}
 use Rattle.gw_world.proofs.Numbers.{set-there as set-at}
-use Rattle.field_laws.proofs.Settling.{set-there, parts-within}
+use Rattle.gw_world.proofs.Settling.{set-there, parts-within}
 use Rattle.gw_world.proofs.Steadiness.{Still, Stepped, own-moves, own-told}
-use Rattle.field_laws.proofs.Telling.{after-makes}
+use Rattle.gw_world.proofs.Telling.{after-makes}
 
 -- ---- what stands in a set adds nothing to it
 

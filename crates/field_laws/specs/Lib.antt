@@ -1,3 +1,2 @@
 pub mod OwnPlans
 pub mod Takes
-pub mod Telling

@@ -12,4 +12,12 @@ pub mod Whole
 pub mod Answering
 pub mod Failures
 pub mod Consistency
+pub mod Writing
+pub mod Settling
 pub mod Splits
+pub mod Rooms
+pub mod Determined
+pub mod Replaying
+pub mod Stops
+pub mod Telling
+pub mod Catching

@@ -9,3 +9,4 @@ pub mod Calm
 pub mod Plans
 pub mod Steady
 pub mod Whole
+pub mod Telling

@@ -12,16 +12,20 @@
 //! - `world`: the result of a run (`World`), or why there is none (`WorldFault`).
 //! - `field`: one event at one gateway, or between two.
 //! - `running`: the run.
-//!
-//! What holds of every run, and that nothing but the events fixes a run, are laws of the crate `field_laws`.
+//! - `laws`: what holds of every run.
+//! - `again`: nothing but the events fixes a run.
 #![tactic(auto)]
 
+mod again;
 mod event;
 mod field;
+mod laws;
 mod running;
 mod world;
 
+pub use again::one_run;
 pub use event::{Answer, Event};
 pub use gw_node::{NodeFault, Out};
+pub use laws::{answered_field, consistent_field, made_once, settled_field, steady_field};
 pub use running::run;
 pub use world::{World, WorldFault};
