@@ -38,7 +38,7 @@ use Rattle.sn_flow.specs.Others.{other}
 use Rattle.sn_flow.specs.Own.{IsOfDraft, AreFresh, AddsNone}
 use Rattle.sn_flow.specs.Plans.{Seen, seen_of, plan_of, plan_of_puts, plan_without}
 use Rattle.sn_flow.specs.Rows.{row_of, plan_for, plan_of_row}
-use Rattle.sn_flow.specs.WillDialogs.{is_elsewhere, dialogs_elsewhere, asked as with_dialog, dialog_change, dialogs_after}
+use Rattle.sn_flow.specs.WillDialogs.{is_elsewhere, dialogs_elsewhere, dialog_change, dialogs_after}
 use Rattle.sn_flow.proofs.Flushness.{flush-start, flush-taken}
 use Rattle.sn_flow.proofs.Freshness.{plan-fresh}
 use Rattle.sn_flow.proofs.Lists.{and_then-some, map-some, all-append}
@@ -223,14 +223,6 @@ elsewhere-asked : (a : Addr) (ds : List WillDialog) → AreAsked ds → AreAsked
 elsewhere-asked a [] all = tt
 elsewhere-asked a (d ∷ ds) all = if_all (is_elsewhere a d) d (dialogs_elsewhere a ds) all.0 (elsewhere-asked a ds all.1)
 
-with_dialog-asked : (dialog : WillDialog) → IsTrue (is_asked dialog.awaited) → (ds : List WillDialog) → AreAsked ds → AreAsked (with_dialog dialog ds)
-with_dialog-asked dialog h [] all = (h, tt)
-with_dialog-asked dialog h (d ∷ ds) all =
-    elim (same_address d.request.address dialog.request.address) as (λ b. AreAsked (if b then dialog ∷ ds else d ∷ with_dialog dialog ds)) [
-      | true ↦ (h, all.1)
-      | false ↦ (all.0, with_dialog-asked dialog h ds all.1)
-    ]
-
 change-asked : (ds : List WillDialog) (change : LocalChange) → AreAsked ds → IsMove change → AreAsked (dialog_change ds change)
 change-asked ds (Bind a c) all h = all
 change-asked ds (Unbind c) all h = all
@@ -240,7 +232,7 @@ change-asked ds (Sent c now) all h = all
 change-asked ds (Resent c now) all h = all
 change-asked ds (Retried c now) all h = all
 change-asked ds (Ask dialog) all h =
-    with_dialog-asked dialog h ds all
+    all-append (λ (d : WillDialog). IsTrue (is_asked d.awaited)) (dialogs_elsewhere dialog.request.address ds) (dialog ∷ []) (elsewhere-asked dialog.request.address ds all) (h, tt)
 change-asked ds (EndDialog a) all h = elsewhere-asked a ds all
 change-asked ds (Advertised now) all h = all
 

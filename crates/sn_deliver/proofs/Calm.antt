@@ -13,7 +13,8 @@ use Rattle.sn_flow.specs.declared.config.Addr.{Addr}
 use Rattle.sn_flow.specs.declared.local.Timer.{Timer}
 use Rattle.sn_flow.specs.declared.local.LocalChange.{LocalChange}
 use Rattle.sn_flow.specs.Others.{is_up}
-use Rattle.sn_flow.specs.Timers.{timed, timer_of, started, sent_at, resent_at, retried_at, timer_change, timers_after}
+use Rattle.sn_flow.specs.Timers.{is_of_another, timed, timer_of, started, sent_at, resent_at, retried_at, timer_change, timers_after}
+use Rattle.sn_flow.proofs.Alone.{all-kept}
 use Rattle.sn_flow.proofs.Entries.{same_client-itself}
 use Rattle.sn_deliver.specs.declared.due.Due.TheVariants.{Loss, Retry, Delivery}
 use Rattle.sn_deliver.specs.Exchanges.{open_exchange, is_served, is_awake}
@@ -52,14 +53,18 @@ awake_up Lost e = e
 
 -- ---- timers
 
+pub false_of : (b : Bool) → not b ≡ true → b ≡ false
+false_of true e = absurd (true≢false (sym e))
+false_of false e = refl
+
+pub timed_passed : (t : Timer) (kept : List Timer) → AllByRecursion (λ k. is_of_another t.client k ≡ true) kept → timer_of t.client (kept ++ t ∷ []) ≡ Some t
+timed_passed t [] h = ap (λ b. if b then Some t else None) (same_client-itself t.client)
+timed_passed t (k ∷ kept) h =
+    ap (λ b. if b then Some k else timer_of t.client (kept ++ t ∷ [])) (false_of (same_client k.client t.client) h.0) ∙ timed_passed t kept h.1
+
 -- a timer that is set is found
 pub timed_found : (t : Timer) (timers : List Timer) → timer_of t.client (timed t timers) ≡ Some t
-timed_found t [] = ap (λ b. if b then Some t else None) (same_client-itself t.client)
-timed_found t (other ∷ rest) =
-    elim (same_client other.client t.client) as (λ b. same_client other.client t.client ≡ b → timer_of t.client (if b then t ∷ rest else other ∷ timed t rest) ≡ Some t) [
-      | true ↦ λ _. ap (λ b. if b then Some t else timer_of t.client rest) (same_client-itself t.client)
-      | false ↦ λ e. ap (λ b. if b then Some other else timer_of t.client (timed t rest)) e ∙ timed_found t rest
-    ] refl
+timed_found t timers = timed_passed t (filter (is_of_another t.client) timers) (all-kept (is_of_another t.client) timers)
 
 pub sent_found : (c : List ℕ) (now : ℕ) (timers : List Timer) (o : Option Timer) → timer_of c (timed (sent_at c now o) timers) ≡ Some (sent_at c now o)
 sent_found c now timers None = timed_found (sent_at c now None) timers

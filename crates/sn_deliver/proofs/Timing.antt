@@ -13,7 +13,7 @@ use Rattle.sn_flow.specs.declared.local.Timer.{Timer}
 use Rattle.sn_flow.specs.declared.local.LocalChange.{LocalChange}
 use Rattle.sn_flow.specs.declared.local.LocalChange.TheVariants.{Heard, Sent, Resent, Retried, EndDialog}
 use Rattle.sn_flow.specs.Bindings.{binding_change, bindings_after}
-use Rattle.sn_flow.specs.Timers.{timed, timer_of, started, heard_at, sent_at, resent_at, retried_at, timers_after}
+use Rattle.sn_flow.specs.Timers.{is_of_another, timed, timer_of, started, heard_at, sent_at, resent_at, retried_at, timers_after}
 use Rattle.sn_flow.specs.Advertising.{advertised_change, advertised_after}
 use Rattle.sn_flow.specs.Locals.{Local}
 use Rattle.sn_flow.proofs.Entries.{same_client-itself, same_client-apart}
@@ -29,14 +29,17 @@ module _ (x : List ℕ) (t : Timer) (other : ¬ (x ≡ t.client)) where
   passed : (k : Timer) (rest : Option Timer) → k.client ≡ t.client → rest ≡ (if same_client k.client x then Some k else rest)
   passed k rest e = ap (λ b. if b then Some k else rest) (sym (ap (λ d. same_client d x) e ∙ same_client-apart t.client x (λ is. other (sym is))))
 
-  pub others_timed : (timers : List Timer) → timer_of x (timed t timers) ≡ timer_of x timers
-  others_timed [] = ap (λ b. if b then Some t else None) (same_client-apart t.client x (λ is. other (sym is)))
-  others_timed (k ∷ timers) =
+  others_kept : (timers : List Timer) → timer_of x (filter (is_of_another t.client) timers ++ t ∷ []) ≡ timer_of x timers
+  others_kept [] = ap (λ b. if b then Some t else None) (same_client-apart t.client x (λ is. other (sym is)))
+  others_kept (k ∷ timers) =
       elim (same_client k.client t.client) as (λ b. same_client k.client t.client ≡ b
-      → timer_of x (if b then t ∷ timers else k ∷ timed t timers) ≡ (if same_client k.client x then Some k else timer_of x timers)) [
-        | true ↦ λ e. ap (λ b. if b then Some t else timer_of x timers) (same_client-apart t.client x (λ is. other (sym is))) ∙ passed k (timer_of x timers) (same_client-true k.client t.client e)
-        | false ↦ λ _. ap (λ o. if same_client k.client x then Some k else o) (others_timed timers)
+      → timer_of x (cond (not b) (k ∷ filter (is_of_another t.client) timers) (filter (is_of_another t.client) timers) ++ t ∷ []) ≡ (if same_client k.client x then Some k else timer_of x timers)) [
+        | true ↦ λ e. others_kept timers ∙ passed k (timer_of x timers) (same_client-true k.client t.client e)
+        | false ↦ λ _. ap (λ o. if same_client k.client x then Some k else o) (others_kept timers)
       ] refl
+
+  pub others_timed : (timers : List Timer) → timer_of x (timed t timers) ≡ timer_of x timers
+  others_timed timers = others_kept timers
 
 module _ (x c : List ℕ) (now : ℕ) (other : ¬ (x ≡ c)) (timers : List Timer) where
   heard_others : (o : Option Timer) → timer_of x (timed (heard_at c now o) timers) ≡ timer_of x timers

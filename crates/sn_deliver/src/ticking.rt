@@ -12,8 +12,8 @@ use super::recipients::puts_of_will;
 use rep_model::{ClientView, Replica};
 use rep_ops::ClientId;
 use sn_flow::{
-    Addr, Config, DialogEntry, Dialogs, Draft, Follow, LocalChange, NewPut, Plan, Row, StepFault,
-    WillDialog, is_up, plan_of, plan_without, session_or,
+    Addr, Config, Dialogs, Draft, Follow, LocalChange, NewPut, Plan, Row, StepFault, WillDialog,
+    is_up, plan_of, plan_without, session_or,
 };
 use sn_frame::Frame;
 use sn_session::{Presence, Session, SessionOp, Will};
@@ -36,12 +36,12 @@ fn end_dialog(draft: &mut Draft, now: u64, dialog: &WillDialog) -> Result<(), St
 }
 
 /// And then none of these dialogs that is a minute old.
-fn end_dialogs(draft: &mut Draft, now: u64, dialogs: &[DialogEntry]) -> Result<(), StepFault>
+fn end_dialogs(draft: &mut Draft, now: u64, dialogs: &[WillDialog]) -> Result<(), StepFault>
     ensures ok { OnOk result (draft.new ≡ dialogs_ended now dialogs.now draft.old) }
     ensures err { IfErr result (λ fault. fault ≡ StepFault.Memory) }
 {
-    for entry in dialogs {
-        end_dialog(draft, now, entry.dialog())?;
+    for dialog in dialogs {
+        end_dialog(draft, now, dialog)?;
     }
     Ok(())
 }

@@ -1,5 +1,5 @@
 -- Which address is which client.
-use Rattle.std.specs.Prelude.{ℕ, ◌+◌, ◌≤◌, ◌==◌, Bool, false, ◌&&◌, not, if◌then◌else◌, List, [], ◌∷◌, ◌++◌, filter, fold, Option, Some, None}
+use Rattle.std.specs.Prelude.{ℕ, ◌==◌, Bool, false, ◌&&◌, not, if◌then◌else◌, List, [], ◌∷◌, ◌++◌, filter, fold, Option, Some, None}
 use Rattle.rep_ops.specs.declared.op.Stamp.{Stamp}
 use Rattle.rep_ops.specs.Sets.{same_client}
 use Rattle.sn_flow.specs.declared.config.Addr.{Addr}
@@ -11,25 +11,13 @@ use Rattle.sn_flow.specs.Plans.{Seen}
 abbrev pub same_address : Addr → Addr → Bool
 same_address a b = (a.host == b.host) && (a.port == b.port)
 
-abbrev pub is_at : Addr → Binding → Bool
-is_at a binding = same_address binding.address a
-
-abbrev pub is_of : List ℕ → Binding → Bool
-is_of c binding = same_client binding.client c
-
-abbrev pub is_elsewhere : Addr → Binding → Bool
-is_elsewhere a binding = not (is_at a binding)
-
 -- whether a binding has neither the address nor the client
 abbrev pub is_apart : Addr → List ℕ → Binding → Bool
 is_apart a c binding = not (same_address binding.address a) && not (same_client binding.client c)
 
-abbrev pub binding : Addr → List ℕ → Binding
-binding a c = record { address = a; client = c }
-
 -- a new binding replaces all others of its address and of its client
 abbrev pub bound : Addr → List ℕ → List Binding → List Binding
-bound a c bindings = filter (is_apart a c) bindings ++ binding a c ∷ []
+bound a c bindings = filter (is_apart a c) bindings ++ record { address = a; client = c } ∷ []
 
 abbrev pub is_of_other : List ℕ → Binding → Bool
 is_of_other c binding = not (same_client binding.client c)
@@ -78,13 +66,3 @@ has_owned g seen binding = is_owned g seen binding.client
 -- the bindings of the clients that the gateway owns
 abbrev pub owned_bindings : ℕ → Seen → List Binding → List Binding
 owned_bindings g seen bindings = filter (has_owned g seen) bindings
-
--- the bindings, and for how many more there is room in the set by address and in the set by client
-pub record RoomyBindings : Type 0 where
-  pub bindings : List Binding
-  pub by_address : ℕ
-  pub by_client : ℕ
-
--- at most n places of the room are used
-abbrev pub KeepsRoomFor : ℕ → RoomyBindings → RoomyBindings → Type 0
-KeepsRoomFor n old new = (old.by_address ≤ new.by_address + n) × (old.by_client ≤ new.by_client + n)

@@ -1,4 +1,3 @@
-pub mod Alike
 pub mod Accept
 pub mod Advertising
 pub mod Asking

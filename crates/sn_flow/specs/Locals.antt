@@ -42,10 +42,9 @@ owned g seen local =
       advertised = local.advertised;
     }
 
--- for how many more entries of each list there is room; bindings are found by address and by client, in a set each
+-- for how many more entries of each list there is room
 pub record Room : Type 0 where
-  pub by_address : ℕ
-  pub by_client : ℕ
+  pub bindings : ℕ
   pub dialogs : ℕ
   pub timers : ℕ
 
@@ -56,4 +55,4 @@ pub record Roomy : Type 0 where
 
 -- there is room for n changes: each adds at most one entry to a list
 abbrev pub IsRoomFor : ℕ → Room → Type 0
-IsRoomFor n room = (n ≤ room.by_address) × (n ≤ room.by_client) × (n ≤ room.dialogs) × (n ≤ room.timers)
+IsRoomFor n room = (n ≤ room.bindings) × (n ≤ room.dialogs) × (n ≤ room.timers)

@@ -1,5 +1,5 @@
 -- When a client was last heard of, and when a frame of its open exchange was last sent, how often again.
-use Rattle.std.specs.Prelude.{ℕ, ◌+◌, ◌==◌, Bool, if◌then◌else◌, List, [], ◌∷◌, filter, fold, Option, Some, None}
+use Rattle.std.specs.Prelude.{ℕ, ◌+◌, ◌==◌, Bool, not, if◌then◌else◌, List, [], ◌∷◌, ◌++◌, filter, fold, Option, Some, None}
 use Rattle.rep_ops.specs.Sets.{same_client}
 use Rattle.sn_flow.specs.declared.local.Timer.{Timer}
 use Rattle.sn_flow.specs.declared.local.LocalChange.{LocalChange}
@@ -7,10 +7,12 @@ use Rattle.sn_flow.specs.declared.local.LocalChange.TheVariants.{Bind, Unbind, T
 use Rattle.sn_flow.specs.Plans.{Seen}
 use Rattle.sn_flow.specs.Bindings.{is_owned}
 
--- a timer takes the place of the one of its client; the first one of a client goes last
+abbrev pub is_of_another : List ℕ → Timer → Bool
+is_of_another c timer = not (same_client timer.client c)
+
+-- a timer replaces any other of its client
 abbrev pub timed : Timer → List Timer → List Timer
-timed timer [] = timer ∷ []
-timed timer (other ∷ rest) = if same_client other.client timer.client then timer ∷ rest else other ∷ timed timer rest
+timed timer timers = filter (is_of_another timer.client) timers ++ timer ∷ []
 
 -- the timer of a client
 abbrev pub timer_of : List ℕ → List Timer → Option Timer

@@ -1,5 +1,5 @@
 -- From which addresses a will is awaited: a CONNECT with a will is a dialog of several frames (MQTT-SN 1.2 section 6.2).
-use Rattle.std.specs.Prelude.{Bool, not, if◌then◌else◌, nat_le, List, [], ◌∷◌, filter, fold, length, Option, Some, None}
+use Rattle.std.specs.Prelude.{Bool, not, if◌then◌else◌, nat_le, List, [], ◌∷◌, ◌++◌, filter, fold, length, Option, Some, None}
 use Rattle.sn_flow.specs.declared.config.Addr.{Addr}
 use Rattle.sn_flow.specs.declared.local.WillDialog.{WillDialog}
 use Rattle.sn_flow.specs.declared.local.LocalChange.{LocalChange}
@@ -13,11 +13,9 @@ is_elsewhere a dialog = not (same_address dialog.request.address a)
 abbrev pub dialogs_elsewhere : Addr → List WillDialog → List WillDialog
 dialogs_elsewhere a dialogs = filter (is_elsewhere a) dialogs
 
--- a dialog takes the place of the one of its address; the first one of an address goes last
+-- a dialog replaces any other of its address
 abbrev pub asked : WillDialog → List WillDialog → List WillDialog
-asked dialog [] = dialog ∷ []
-asked dialog (other ∷ rest) =
-    if same_address other.request.address dialog.request.address then dialog ∷ rest else other ∷ asked dialog rest
+asked dialog dialogs = dialogs_elsewhere dialog.request.address dialogs ++ dialog ∷ []
 
 abbrev pub dialog_change : List WillDialog → LocalChange → List WillDialog
 dialog_change dialogs (Bind a c) = dialogs

@@ -11,7 +11,6 @@ use super::config::Addr;
 use super::draft::Draft;
 use super::fault::StepFault;
 use super::local::{LocalChange, Timer};
-use super::two_names::TwoNames;
 use rep_model::{ClientView, Puts, Replica};
 use rep_ops::ClientId;
 use sn_session::Session;
@@ -30,7 +29,7 @@ pub fn bind_to(
 {
     draft.note(LocalChange::Bind {
         address,
-        client: TwoNames::of(alloc, client)?,
+        client: client.copy(alloc)?,
     })?;
     let timer = Timer {
         client: client.copy(alloc)?,

@@ -1,40 +1,42 @@
 //! The changes of the local state, carried out.
 
-ghost use Rattle.std.specs.Prelude.{◌≡◌, ◌+◌, ◌<◌, ◌≤◌, length};
-ghost use Rattle.indexmap.specs.IndexSet.{spare};
-ghost use Rattle.sn_flow.specs.Bindings.{binding_change, bindings_after, KeepsRoomFor};
+ghost use Rattle.std.specs.Prelude.{◌≡◌, ◌+◌, ◌≤◌, length, vec_len};
+ghost use Rattle.std.specs.Vec.{vec_capacity};
+ghost use Rattle.sn_flow.specs.Bindings.{binding_change, bindings_after};
 ghost use Rattle.sn_flow.specs.WillDialogs.{dialog_change, dialogs_after};
 ghost use Rattle.sn_flow.specs.Timers.{timer_change, timers_after};
 ghost use Rattle.sn_flow.specs.Advertising.{advertised_change, advertised_after};
 
-use super::bindings::Bindings;
-use super::local::LocalChange;
-use super::timers::{Timers, hear, send_again, send_anew, set_timer, try_again};
-use super::will_dialogs::{DialogSet, ask, end_dialog};
+use super::bindings::{bind, unbind};
+use super::local::{Binding, LocalChange, Timer, WillDialog};
+use super::timers::{hear, send_again, send_anew, set_timer, try_again};
+use super::will_dialogs::{ask, end_dialog};
 
-/// Carries out one change. There is room for one more entry in each set.
+/// Carries out one change. There is room for one more entry in each list.
 fn commit_one(
-    bindings: &mut Bindings,
-    dialogs: &mut DialogSet,
-    timers: &mut Timers,
+    bindings: &mut Vec<Binding>,
+    dialogs: &mut Vec<WillDialog>,
+    timers: &mut Vec<Timer>,
     advertised: &mut Option<u64>,
     change: LocalChange,
 )
-    requires by_address { 0 < bindings.old.by_address }
-    requires by_client { 0 < bindings.old.by_client }
-    requires dialogs { 0 < spare dialogs.old }
-    requires timers { 0 < spare timers.old }
-    ensures bindings { bindings.new.bindings ≡ binding_change bindings.old.bindings change }
-    ensures dialogs { dialogs.new.keys ≡ dialog_change dialogs.old.keys change }
-    ensures timers { timers.new.keys ≡ timer_change timers.old.keys change }
+    requires bindings { vec_len bindings.old + 1 ≤ vec_capacity bindings.old }
+    requires dialogs { vec_len dialogs.old + 1 ≤ vec_capacity dialogs.old }
+    requires timers { vec_len timers.old + 1 ≤ vec_capacity timers.old }
+    ensures bindings { bindings.new.items ≡ binding_change bindings.old.items change }
+    ensures dialogs { dialogs.new.items ≡ dialog_change dialogs.old.items change }
+    ensures timers { timers.new.items ≡ timer_change timers.old.items change }
     ensures advertised { advertised.new ≡ advertised_change advertised.old change }
-    ensures bindings_room { KeepsRoomFor 1 bindings.old bindings.new }
-    ensures dialogs_room { spare dialogs.old ≤ spare dialogs.new + 1 }
-    ensures timers_room { spare timers.old ≤ spare timers.new + 1 }
+    ensures bindings_capacity { vec_capacity bindings.old ≤ vec_capacity bindings.new }
+    ensures dialogs_capacity { vec_capacity dialogs.old ≤ vec_capacity dialogs.new }
+    ensures timers_capacity { vec_capacity timers.old ≤ vec_capacity timers.new }
+    ensures bindings_len { vec_len bindings.new ≤ vec_len bindings.old + 1 }
+    ensures dialogs_len { vec_len dialogs.new ≤ vec_len dialogs.old + 1 }
+    ensures timers_len { vec_len timers.new ≤ vec_len timers.old + 1 }
 {
     match change {
-        LocalChange::Bind { address, client } => bindings.bind(address, client),
-        LocalChange::Unbind { client } => bindings.unbind(&client),
+        LocalChange::Bind { address, client } => bind(bindings, address, client),
+        LocalChange::Unbind { client } => unbind(bindings, &client),
         LocalChange::Time { timer } => set_timer(timers, timer),
         LocalChange::Heard { client, moment } => hear(timers, client, moment),
         LocalChange::Sent { client, moment } => send_anew(timers, client, moment),
@@ -46,21 +48,20 @@ fn commit_one(
     }
 }
 
-/// Carries out the changes, one after the other. There is room for as many more entries in each set.
-pub(crate) fn commit_all(
-    bindings: &mut Bindings,
-    dialogs: &mut DialogSet,
-    timers: &mut Timers,
+/// Carries out the changes, one after the other. There is room for as many more entries in each list.
+pub fn commit_all(
+    bindings: &mut Vec<Binding>,
+    dialogs: &mut Vec<WillDialog>,
+    timers: &mut Vec<Timer>,
     advertised: &mut Option<u64>,
     changes: Vec<LocalChange>,
 )
-    requires by_address { length changes.items ≤ bindings.old.by_address }
-    requires by_client { length changes.items ≤ bindings.old.by_client }
-    requires dialogs { length changes.items ≤ spare dialogs.old }
-    requires timers { length changes.items ≤ spare timers.old }
-    ensures bindings { bindings.new.bindings ≡ bindings_after bindings.old.bindings changes.items }
-    ensures dialogs { dialogs.new.keys ≡ dialogs_after dialogs.old.keys changes.items }
-    ensures timers { timers.new.keys ≡ timers_after timers.old.keys changes.items }
+    requires bindings { vec_len bindings.old + length changes.items ≤ vec_capacity bindings.old }
+    requires dialogs { vec_len dialogs.old + length changes.items ≤ vec_capacity dialogs.old }
+    requires timers { vec_len timers.old + length changes.items ≤ vec_capacity timers.old }
+    ensures bindings { bindings.new.items ≡ bindings_after bindings.old.items changes.items }
+    ensures dialogs { dialogs.new.items ≡ dialogs_after dialogs.old.items changes.items }
+    ensures timers { timers.new.items ≡ timers_after timers.old.items changes.items }
     ensures advertised { advertised.new ≡ advertised_after advertised.old changes.items }
 {
     for change in changes {

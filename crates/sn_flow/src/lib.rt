@@ -10,8 +10,7 @@
 //! - `config`: what a gateway is told (`Config`), addresses (`Addr`), what is sent (`Send`).
 //! - `local`: what a gateway knows that is in no set: which address is which client, from which addresses a
 //!   will is awaited, when which client was heard of (`Dialogs`). `bindings`, `will_dialogs`, `timers` are its
-//!   three parts, and `changes` carries changes out. Contracts see lists; they are sets, whose entries are known by
-//!   their client or by their address (`by_client`, `by_address`), and `two_names` is what a binding is made of.
+//!   three lists, and `changes` carries changes out.
 //! - `draft`, `row`: what a row says (`Draft`, `Row`).
 //! - `numbering`, `plan`: from a draft to a plan (`Plan`).
 //! - `connection`, `accept`, `wills`, `topic_rows`, `others`: the rows; `bound` is what they share.
@@ -24,8 +23,6 @@ mod accept;
 mod asking;
 mod bindings;
 mod bound;
-mod by_address;
-mod by_client;
 mod changes;
 mod codes;
 mod config;
@@ -43,7 +40,6 @@ mod row;
 mod subscription;
 mod timers;
 mod topic_rows;
-mod two_names;
 mod will_dialogs;
 mod will_update;
 mod wills;
@@ -52,7 +48,6 @@ pub use accept::GivenWill;
 pub use asking::{name_asked, qos_asked};
 pub use bindings::is_owned;
 pub use bound::{bind_to, hear_of, session_or, unseen, view_or};
-pub use by_address::DialogEntry;
 pub use config::{Addr, Config, Send};
 pub use connection::{connect, disconnect};
 pub use draft::{Draft, NewPut};
@@ -70,5 +65,4 @@ pub use request_laws::{
 };
 pub use row::{Follow, Row, heard_row, plan_of_row, quiet, stray, turn_away};
 pub use topic_rows::{register, subscribe, unsubscribe};
-pub use two_names::TwoNames;
 pub use wills::{will_msg, will_msg_update, will_topic, will_topic_update};

@@ -3,15 +3,12 @@
 ghost use Rattle.std.specs.Prelude.{◌≡◌, length, IfOk, IfErr, OnOk};
 ghost use Rattle.std.specs.Option.{option_copied};
 
-use super::bindings::Bindings;
-use super::by_address::DialogEntry;
+use super::bindings::{address_of, client_at, keep_bindings};
 use super::changes::commit_all;
 use super::config::Addr;
 use super::fault::StepFault;
-use super::timers::{Timers, keep_timers, timer_of};
-use super::two_names::TwoNames;
-use super::will_dialogs::{DialogSet, dialog_at, is_crowded};
-use indexmap::IndexSet;
+use super::timers::{keep_timers, timer_of};
+use super::will_dialogs::{dialog_at, is_crowded};
 use octets::Sequence;
 use rep_model::Replica;
 use rep_ops::ClientId;
@@ -94,7 +91,7 @@ pub struct Timer {
 #[derive(Debug, Drop)]
 pub enum LocalChange {
     /// From now on the address and the client belong together, and neither to another.
-    Bind { address: Addr, client: TwoNames },
+    Bind { address: Addr, client: ClientId },
     /// The client has no address any more. Its timer stays.
     Unbind { client: ClientId },
     /// The timer of its client is this one.
@@ -120,25 +117,25 @@ pub enum LocalChange {
 /// the gateway stops.
 #[derive(Debug, Drop)]
 pub struct Dialogs {
-    bindings: Bindings,
-    dialogs: DialogSet,
-    timers: Timers,
+    bindings: Vec<Binding>,
+    dialogs: Vec<WillDialog>,
+    timers: Vec<Timer>,
     advertised: Option<u64>,
 }
 
 impl Model for Dialogs {
     ghost use Rattle.sn_flow.specs.Locals.{Roomy};
-    ghost use Rattle.indexmap.specs.IndexSet.{spare};
+    ghost use Rattle.std.specs.Prelude.{◌-◌};
+    ghost use Rattle.std.specs.Vec.{vec_len, vec_capacity};
 
     ghost Value = { Roomy };
 
     ghost view = { λ d. record {
-      local = record { bindings = d.bindings.bindings; dialogs = d.dialogs.keys; timers = d.timers.keys; advertised = d.advertised };
+      local = record { bindings = d.bindings.items; dialogs = d.dialogs.items; timers = d.timers.items; advertised = d.advertised };
       room = record {
-        by_address = d.bindings.by_address;
-        by_client = d.bindings.by_client;
-        dialogs = spare d.dialogs;
-        timers = spare d.timers;
+        bindings = vec_capacity d.bindings - vec_len d.bindings;
+        dialogs = vec_capacity d.dialogs - vec_len d.dialogs;
+        timers = vec_capacity d.timers - vec_len d.timers;
       };
     } };
 }
@@ -155,9 +152,9 @@ impl Dialogs {
         ensures { result.local ≡ no_local }
     {
         Dialogs {
-            bindings: Bindings::empty(alloc),
-            dialogs: IndexSet::new(alloc),
-            timers: IndexSet::new(alloc),
+            bindings: Vec::new(alloc),
+            dialogs: Vec::new(alloc),
+            timers: Vec::new(alloc),
             advertised: None,
         }
     }
@@ -190,7 +187,7 @@ impl Dialogs {
     pub fn keep_owned<R: Replica>(&mut self, gateway: u8, replica: &R)
         ensures { self.new.local ≡ owned gateway (seen_of (R.kept replica.now)) self.old.local }
     {
-        self.bindings.keep(gateway, replica);
+        keep_bindings(&mut self.bindings, gateway, replica);
         keep_timers(&mut self.timers, gateway, replica);
     }
 
@@ -198,25 +195,25 @@ impl Dialogs {
     pub fn client_at(&self, address: Addr) -> Option<&ClientId>
         ensures { option_copied result ≡ client_of address self.now.local.bindings }
     {
-        self.bindings.client_at(address)
+        client_at(self.bindings.as_slice(), address)
     }
 
     /// The address of a client.
     pub fn address_of(&self, client: &ClientId) -> Option<Addr>
         ensures { result ≡ address_of_client client.now self.now.local.bindings }
     {
-        self.bindings.address_of(client)
+        address_of(self.bindings.as_slice(), client)
     }
 
     /// The timer of a client.
     pub fn timer_of(&self, client: &ClientId) -> Option<&Timer>
         ensures { option_copied result ≡ timer_of_client client.now self.now.local.timers }
     {
-        timer_of(&self.timers, client)
+        timer_of(self.timers.as_slice(), client)
     }
 
     /// The will dialogs.
-    pub fn dialogs(&self) -> &[DialogEntry]
+    pub fn dialogs(&self) -> &[WillDialog]
         ensures { result.now ≡ self.now.local.dialogs }
     {
         self.dialogs.as_slice()
@@ -233,13 +230,13 @@ impl Dialogs {
     pub fn dialog_at(&self, address: Addr) -> Option<&WillDialog>
         ensures { option_copied result ≡ dialog_of address self.now.local.dialogs }
     {
-        dialog_at(&self.dialogs, address)
+        dialog_at(self.dialogs.as_slice(), address)
     }
 
     /// Whether 1,024 other addresses have a will dialog, so that there is no room for one more.
     pub(crate) fn is_crowded(&self, address: Addr) -> bool
         ensures { result ≡ has_no_room address self.now.local.dialogs }
     {
-        is_crowded(&self.dialogs, address)
+        is_crowded(self.dialogs.as_slice(), address)
     }
 }

@@ -1,41 +1,53 @@
-//! The timers and their changes.
+//! The list of timers and its changes.
 
-ghost use Rattle.std.specs.Prelude.{◌≡◌, ◌+◌, ◌<◌, ◌≤◌};
+ghost use Rattle.std.specs.Prelude.{◌≡◌, ◌+◌, ◌≤◌, filter, vec_len};
 ghost use Rattle.std.specs.Option.{option_copied};
-ghost use Rattle.indexmap.specs.IndexSet.{spare};
-ghost use Rattle.sn_flow.specs.Timers.{timed, timer_of as timer_of_client, heard_at as heard_timer, heard, one_try_more as try_more, sent_at as sent_timer, resent_at as resent_timer, retried_at as retried_timer, sent_anew, sent_again, tried_again, times_owned as times_owned_client, owned_timers};
+ghost use Rattle.std.specs.Vec.{vec_capacity};
+ghost use Rattle.sn_flow.specs.Timers.{is_of_another as is_of_other, timed, timer_of as timer_of_client, heard_at as heard_timer, heard, one_try_more as try_more, sent_at as sent_timer, resent_at as resent_timer, retried_at as retried_timer, sent_anew, sent_again, tried_again, times_owned as times_owned_client, owned_timers};
 ghost use Rattle.sn_flow.specs.Plans.{seen_of};
 
 use super::bindings::is_owned;
-use super::by_client::TimerEntry;
 use super::local::Timer;
-use indexmap::IndexSet;
 use rep_model::Replica;
 use rep_ops::ClientId;
 
-/// The timers, found by their clients.
-pub(crate) type Timers = IndexSet<TimerEntry>;
+/// Whether a timer is of another client.
+fn is_of_another(client: &ClientId, timer: &Timer) -> bool
+    ensures { result ≡ is_of_other client.now timer.now }
+{
+    timer.client != *client
+}
+
+/// Drops the timer of the client.
+fn forget(timers: &mut Vec<Timer>, client: &ClientId)
+    ensures items { timers.new.items ≡ filter (is_of_other client.now) timers.old.items }
+    ensures capacity { vec_capacity timers.new ≡ vec_capacity timers.old }
+    ensures len { vec_len timers.new ≤ vec_len timers.old }
+{
+    timers.retain(|timer| is_of_another(client, timer));
+}
 
 /// The timer of its client is this one. There is room for one more.
-pub(crate) fn set_timer(timers: &mut Timers, timer: Timer)
-    requires { 0 < spare timers.old }
-    ensures items { timers.new.keys ≡ timed timer timers.old.keys }
-    ensures room { spare timers.old ≤ spare timers.new + 1 }
+pub fn set_timer(timers: &mut Vec<Timer>, timer: Timer)
+    requires { vec_len timers.old + 1 ≤ vec_capacity timers.old }
+    ensures items { timers.new.items ≡ timed timer timers.old.items }
+    ensures capacity { vec_capacity timers.old ≤ vec_capacity timers.new }
+    ensures len { vec_len timers.new ≤ vec_len timers.old + 1 }
 {
-    match timers.replace(TimerEntry::new(timer)) {
-        Ok(_) => {}
-        Err(_) => unreachable!(),
-    }
+    forget(timers, &timer.client);
+    timers.push(timer).unwrap();
 }
 
 /// The timer of a client.
-pub(crate) fn timer_of<'a>(timers: &'a Timers, client: &ClientId) -> Option<&'a Timer>
-    ensures { option_copied result ≡ timer_of_client client.now timers.now.keys }
+pub fn timer_of<'a>(timers: &'a [Timer], client: &ClientId) -> Option<&'a Timer>
+    ensures { option_copied result ≡ timer_of_client client.now timers.now }
 {
-    match timers.get(client.bytes()) {
-        Some(entry) => Some(entry.timer()),
-        None => None,
+    for timer in timers {
+        if timer.client == *client {
+            return Some(timer);
+        }
     }
+    None
 }
 
 /// The timer of a client that is heard of at this moment.
@@ -59,12 +71,13 @@ fn heard_at(client: ClientId, moment: u64, before: Option<&Timer>) -> Timer
 }
 
 /// The client was heard of at this moment. There is room for one more timer.
-pub(crate) fn hear(timers: &mut Timers, client: ClientId, moment: u64)
-    requires { 0 < spare timers.old }
-    ensures items { timers.new.keys ≡ heard client moment timers.old.keys }
-    ensures room { spare timers.old ≤ spare timers.new + 1 }
+pub fn hear(timers: &mut Vec<Timer>, client: ClientId, moment: u64)
+    requires { vec_len timers.old + 1 ≤ vec_capacity timers.old }
+    ensures items { timers.new.items ≡ heard client moment timers.old.items }
+    ensures capacity { vec_capacity timers.old ≤ vec_capacity timers.new }
+    ensures len { vec_len timers.new ≤ vec_len timers.old + 1 }
 {
-    let before = timer_of(timers, &client);
+    let before = timer_of(timers.as_slice(), &client);
     let timer = heard_at(client, moment, before);
     set_timer(timers, timer);
 }
@@ -90,12 +103,13 @@ fn sent_at(client: ClientId, moment: u64, before: Option<&Timer>) -> Timer
 }
 
 /// The first frame of a new exchange was sent to the client at this moment. There is room for one more timer.
-pub(crate) fn send_anew(timers: &mut Timers, client: ClientId, moment: u64)
-    requires { 0 < spare timers.old }
-    ensures items { timers.new.keys ≡ sent_anew client moment timers.old.keys }
-    ensures room { spare timers.old ≤ spare timers.new + 1 }
+pub fn send_anew(timers: &mut Vec<Timer>, client: ClientId, moment: u64)
+    requires { vec_len timers.old + 1 ≤ vec_capacity timers.old }
+    ensures items { timers.new.items ≡ sent_anew client moment timers.old.items }
+    ensures capacity { vec_capacity timers.old ≤ vec_capacity timers.new }
+    ensures len { vec_len timers.new ≤ vec_len timers.old + 1 }
 {
-    let before = timer_of(timers, &client);
+    let before = timer_of(timers.as_slice(), &client);
     let timer = sent_at(client, moment, before);
     set_timer(timers, timer);
 }
@@ -121,12 +135,13 @@ fn resent_at(client: ClientId, moment: u64, before: Option<&Timer>) -> Timer
 }
 
 /// A frame of the open exchange was sent to the client again at this moment. There is room for one more timer.
-pub(crate) fn send_again(timers: &mut Timers, client: ClientId, moment: u64)
-    requires { 0 < spare timers.old }
-    ensures items { timers.new.keys ≡ sent_again client moment timers.old.keys }
-    ensures room { spare timers.old ≤ spare timers.new + 1 }
+pub fn send_again(timers: &mut Vec<Timer>, client: ClientId, moment: u64)
+    requires { vec_len timers.old + 1 ≤ vec_capacity timers.old }
+    ensures items { timers.new.items ≡ sent_again client moment timers.old.items }
+    ensures capacity { vec_capacity timers.old ≤ vec_capacity timers.new }
+    ensures len { vec_len timers.new ≤ vec_len timers.old + 1 }
 {
-    let before = timer_of(timers, &client);
+    let before = timer_of(timers.as_slice(), &client);
     let timer = resent_at(client, moment, before);
     set_timer(timers, timer);
 }
@@ -159,26 +174,27 @@ fn retried_at(client: ClientId, moment: u64, before: Option<&Timer>) -> Timer
 }
 
 /// There was one more try at this moment. There is room for one more timer.
-pub(crate) fn try_again(timers: &mut Timers, client: ClientId, moment: u64)
-    requires { 0 < spare timers.old }
-    ensures items { timers.new.keys ≡ tried_again client moment timers.old.keys }
-    ensures room { spare timers.old ≤ spare timers.new + 1 }
+pub fn try_again(timers: &mut Vec<Timer>, client: ClientId, moment: u64)
+    requires { vec_len timers.old + 1 ≤ vec_capacity timers.old }
+    ensures items { timers.new.items ≡ tried_again client moment timers.old.items }
+    ensures capacity { vec_capacity timers.old ≤ vec_capacity timers.new }
+    ensures len { vec_len timers.new ≤ vec_len timers.old + 1 }
 {
-    let before = timer_of(timers, &client);
+    let before = timer_of(timers.as_slice(), &client);
     let timer = retried_at(client, moment, before);
     set_timer(timers, timer);
 }
 
 /// Whether the gateway owns the client of a timer.
-fn times_owned<R: Replica>(gateway: u8, replica: &R, entry: &TimerEntry) -> bool
-    ensures { result ≡ times_owned_client gateway (seen_of (R.kept replica.now)) entry.now }
+fn times_owned<R: Replica>(gateway: u8, replica: &R, timer: &Timer) -> bool
+    ensures { result ≡ times_owned_client gateway (seen_of (R.kept replica.now)) timer.now }
 {
-    is_owned(gateway, replica, &entry.timer().client)
+    is_owned(gateway, replica, &timer.client)
 }
 
 /// Drops the timers of clients that the gateway does not own.
-pub(crate) fn keep_timers<R: Replica>(timers: &mut Timers, gateway: u8, replica: &R)
-    ensures { timers.new.keys ≡ owned_timers gateway (seen_of (R.kept replica.now)) timers.old.keys }
+pub fn keep_timers<R: Replica>(timers: &mut Vec<Timer>, gateway: u8, replica: &R)
+    ensures { timers.new.items ≡ owned_timers gateway (seen_of (R.kept replica.now)) timers.old.items }
 {
-    timers.retain(|entry| times_owned(gateway, replica, entry));
+    timers.retain(|timer| times_owned(gateway, replica, timer));
 }

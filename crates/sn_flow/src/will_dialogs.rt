@@ -1,68 +1,71 @@
-//! The will dialogs and their changes.
+//! The list of will dialogs and its changes.
 
-ghost use Rattle.std.specs.Prelude.{◌≡◌, ◌+◌, ◌<◌, ◌≤◌, length};
+ghost use Rattle.std.specs.Prelude.{◌≡◌, ◌+◌, ◌≤◌, length, vec_len};
 ghost use Rattle.std.specs.Option.{option_copied};
-ghost use Rattle.indexmap.specs.IndexSet.{spare};
-ghost use Rattle.sn_flow.specs.WillDialogs.{dialogs_elsewhere, asked, dialog_at as dialog_of_address, is_crowded as is_crowded_at};
+ghost use Rattle.std.specs.Vec.{vec_capacity};
+ghost use Rattle.sn_flow.specs.WillDialogs.{is_elsewhere as is_from_elsewhere, dialogs_elsewhere, asked, dialog_at as dialog_of_address, is_crowded as is_crowded_at};
 
-use super::by_address::DialogEntry;
 use super::config::Addr;
 use super::local::WillDialog;
-use indexmap::IndexSet;
 
 /// How many addresses can be in a will dialog.
 const MAX_DIALOGS: usize = 1024;
 
-/// The will dialogs, found by their addresses.
-pub(crate) type DialogSet = IndexSet<DialogEntry>;
+/// Whether a dialog is of another address.
+fn is_elsewhere(address: Addr, dialog: &WillDialog) -> bool
+    ensures { result ≡ is_from_elsewhere address dialog.now }
+{
+    dialog.request.address != address
+}
 
 /// The address has no dialog any more.
-pub(crate) fn end_dialog(dialogs: &mut DialogSet, address: Addr)
-    ensures items { dialogs.new.keys ≡ dialogs_elsewhere address dialogs.old.keys }
-    ensures room { spare dialogs.old ≤ spare dialogs.new }
+pub fn end_dialog(dialogs: &mut Vec<WillDialog>, address: Addr)
+    ensures items { dialogs.new.items ≡ dialogs_elsewhere address dialogs.old.items }
+    ensures capacity { vec_capacity dialogs.new ≡ vec_capacity dialogs.old }
+    ensures len { vec_len dialogs.new ≤ vec_len dialogs.old }
 {
-    // `len` is called for its clause that no address has two dialogs.
-    let _count = dialogs.len();
-    dialogs.shift_remove(address);
+    dialogs.retain(|dialog| is_elsewhere(address, dialog));
 }
 
 /// The dialog of its address is this one. There is room for one more.
-pub(crate) fn ask(dialogs: &mut DialogSet, dialog: WillDialog)
-    requires { 0 < spare dialogs.old }
-    ensures items { dialogs.new.keys ≡ asked dialog dialogs.old.keys }
-    ensures room { spare dialogs.old ≤ spare dialogs.new + 1 }
+pub fn ask(dialogs: &mut Vec<WillDialog>, dialog: WillDialog)
+    requires { vec_len dialogs.old + 1 ≤ vec_capacity dialogs.old }
+    ensures items { dialogs.new.items ≡ asked dialog dialogs.old.items }
+    ensures capacity { vec_capacity dialogs.old ≤ vec_capacity dialogs.new }
+    ensures len { vec_len dialogs.new ≤ vec_len dialogs.old + 1 }
 {
-    match dialogs.replace(DialogEntry::new(dialog)) {
-        Ok(_) => {}
-        Err(_) => unreachable!(),
-    }
+    end_dialog(dialogs, dialog.request.address);
+    dialogs.push(dialog).unwrap();
 }
 
 /// The dialog of an address.
-pub(crate) fn dialog_at(dialogs: &DialogSet, address: Addr) -> Option<&WillDialog>
-    ensures { option_copied result ≡ dialog_of_address address dialogs.now.keys }
+pub fn dialog_at(dialogs: &[WillDialog], address: Addr) -> Option<&WillDialog>
+    ensures { option_copied result ≡ dialog_of_address address dialogs.now }
 {
-    match dialogs.get(address) {
-        Some(entry) => Some(entry.dialog()),
-        None => None,
+    for dialog in dialogs {
+        if dialog.request.address == address {
+            return Some(dialog);
+        }
     }
+    None
 }
 
 /// How many dialogs are of other addresses.
-fn count_elsewhere(dialogs: &DialogSet, address: Addr) -> usize
-    ensures { result ≡ length (dialogs_elsewhere address dialogs.now.keys) }
+fn count_elsewhere(dialogs: &[WillDialog], address: Addr) -> usize
+    ensures { result ≡ length (dialogs_elsewhere address dialogs.now) }
 {
-    let count = dialogs.len();
-    if dialogs.contains(address) {
-        count - 1
-    } else {
-        count
+    let mut count: usize = 0;
+    for dialog in dialogs {
+        if is_elsewhere(address, dialog) {
+            count += 1;
+        }
     }
+    count
 }
 
 /// Whether 1,024 other addresses have a dialog, so that there is no room for one more.
-pub(crate) fn is_crowded(dialogs: &DialogSet, address: Addr) -> bool
-    ensures { result ≡ is_crowded_at address dialogs.now.keys }
+pub fn is_crowded(dialogs: &[WillDialog], address: Addr) -> bool
+    ensures { result ≡ is_crowded_at address dialogs.now }
 {
     count_elsewhere(dialogs, address) >= MAX_DIALOGS
 }

@@ -1,10 +1,9 @@
 -- What a crash left stands for a set, so the opening goes well.
 use Rattle.std.proofs.Common.{Some, true, sym, ap, subst, ◌≡◌, ◌∙◌, false}
-use Rattle.std.specs.Prelude.{IsTrue, length}
+use Rattle.std.specs.Prelude.{IsTrue}
 use Rattle.jr_journal.specs.Disk.{Image, image, after_crash}
 use Rattle.jr_journal.specs.Faults.{is_fresh}
 use Rattle.jr_journal.specs.Memory.{MemoryState}
-use Rattle.jr_journal.specs.Records.{records}
 use Rattle.gw_node.specs.Parts.{state_of, told}
 use Rattle.gw_world.proofs.Calmness.{restarts_so, calm_again, only_memory, crash_left, still_quiet}
 use Rattle.gw_world.proofs.field.open_again.Goals as goal
@@ -51,9 +50,3 @@ returns-else-starved-clause-calm g c =
       known = c.in-Ok.ensures.known tt;
       planned = c.in-Ok.ensures.quiet tt (still_quiet _ _ _ outlook c.requires.calm.quiet begun) (sym c.starved.ensures ∙ c.if-starved.false) ∙ outlook;
     })
-
-pub returns-else-starved-clause-records : goal.returns-else-starved-clause-records
-returns-else-starved-clause-records g c =
-    let found = ap (λ (d : MemoryState). image d.slots) c.crash.ensures ∙ crash_left c.args.left c.into_parts-config.result.1
-    ∙ ap (λ (d : MemoryState). after_crash c.args.left c.args.left d.slots) c.into_parts-config.ensures.disk in
-    c.in-Ok.ensures.records tt ∙ (λ i. length (records (c.into_parts-config.ensures.config i).gateway (found i)))

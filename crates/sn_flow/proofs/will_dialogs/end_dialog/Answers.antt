@@ -1,7 +1,8 @@
--- No address has two dialogs, so that without the one there is none.
-use Rattle.std.proofs.Common.{◌∙◌}
-use Rattle.sn_flow.proofs.Sets.{dialogs_left}
+use Rattle.std.proofs.Common.{rules}
+use Rattle.std.proofs.lemmas.Fn.{filter_same}
+use Rattle.sn_flow.specs.WillDialogs.{is_elsewhere}
 use Rattle.sn_flow.proofs.will_dialogs.end_dialog.Goals as goal
 
 pub returns-clause-items : goal.returns-clause-items
-returns-clause-items c = c.shift_remove.ensures.keys ∙ dialogs_left c.args.address c.args.dialogs.now.keys c.len-count.ensures.unique
+returns-clause-items c =
+    filter_same _ (is_elsewhere c.args.address) _ (λ dialog kept after called. search rules) _ _ c.retain.ensures.filtered
