@@ -27,7 +27,7 @@ PARTS = [
      "the client.",
      "Nothing here says that a message ever reaches a client: that needs a client that answers, and time.",
      ["rep_model::leaves_only", "rep_model::pending_laws", "rep_model::Replica::kept", "rep_model::Replica::view_of",
-      "sn_flow::only_acknowledged", "sn_flow::messages_wait", "sn_deliver::every_step"],
+      "sn_flow::only_acknowledged", "sn_flow::messages_wait", "step_laws::every_step"],
      []),
     ("Sets join in any order",
      "Gateways that exchange what they have end with equal sets, in whatever order and however often it comes, as long as the sets "

@@ -1,18 +1,4 @@
-mod Behind
-pub mod Beginning
-mod Calm
-mod Clients
-mod Counting
 pub mod Drafting
-mod Ending
-mod Examples
 pub mod Following
 pub mod Keeping
-mod Locally
-mod Lowering
-mod Pending
-mod Receiving
-mod Remaining
-pub mod Settling
-mod Stepping
-mod Timing
+pub mod Receiving

@@ -11,5 +11,4 @@ pub mod Resending
 pub mod Serving
 pub mod Steps
 pub mod Ticking
-pub mod Ticks
 pub mod Waking

@@ -9,7 +9,8 @@
 //! - `serve`: publications and answers as rows; `follow`: what follows a row, and its plan.
 //! - `table`: the row of each frame (`step`).
 //! - `due`, `ticking`: what time asks for (`tick`).
-//! - `laws`: what holds of all of them.
+//!
+//! What holds of all of them are the laws of the crate `step_laws`.
 #![tactic(auto)]
 
 mod acknowledging;
@@ -18,7 +19,6 @@ mod due;
 mod exchange;
 mod follow;
 mod form;
-mod laws;
 mod meaning;
 mod peer;
 mod publishing;
@@ -35,10 +35,6 @@ pub use due::Due;
 pub use exchange::{is_awake, is_done, is_left, is_served, open_exchange, put_left, so_far};
 pub use follow::deliver_next;
 pub use form::{Form, form_again, form_of, publication};
-pub use laws::{
-    delivery_keeps, every_step, one_exchange, puts_once, resent_with_dup, tick_is_quiet,
-    tick_settles, ticks_end,
-};
 pub use meaning::{Meant, publication_meant};
 pub use peer::Peer;
 pub use publishing::{publish, publish_unconnected, pubrel};

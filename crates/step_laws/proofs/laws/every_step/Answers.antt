@@ -1,4 +1,4 @@
-use Rattle.sn_deliver.proofs.laws.every_step.Goals as goal
+use Rattle.step_laws.proofs.laws.every_step.Goals as goal
 use Rattle.sn_deliver.proofs.Drafting.{step-drafted, tick-drafted}
 
 pub returns : goal.returns

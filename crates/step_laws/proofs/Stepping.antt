@@ -44,17 +44,17 @@ use Rattle.sn_deliver.specs.Due.{due_session, due_with}
 use Rattle.sn_deliver.specs.Ticking.{will_puts, lost}
 use Rattle.sn_deliver.specs.Following.{peer_at}
 use Rattle.sn_deliver.specs.Laws.{due_after, due_draft}
-use Rattle.sn_deliver.proofs.Behind.{plan-left, plan-others}
-use Rattle.sn_deliver.proofs.Calm.{either_none}
-use Rattle.sn_deliver.proofs.Clients.{IsForNamed, plan-clients}
-use Rattle.sn_deliver.proofs.Counting.{IsAmong, among-contains}
+use Rattle.step_laws.proofs.Behind.{plan-left, plan-others}
+use Rattle.step_laws.proofs.Calm.{either_none}
+use Rattle.step_laws.proofs.Clients.{IsForNamed, plan-clients}
+use Rattle.step_laws.proofs.Counting.{IsAmong, among-contains}
 use Rattle.sn_deliver.proofs.Drafting.{filter_all, followed_by_puts}
-use Rattle.sn_deliver.proofs.Locally.{IsClean, IsAnother, delivery-kept, retry-kept}
-use Rattle.sn_deliver.proofs.Lowering.{IsDue, is-due, due-same, is_up_in, is_due_in, work, lost-lowers, done-lowers, view-behind, clients-behind}
-use Rattle.sn_deliver.proofs.Pending.{pending-apart}
-use Rattle.sn_deliver.proofs.Remaining.{left-none}
-use Rattle.sn_deliver.proofs.Settling.{tick-settles}
-use Rattle.sn_deliver.proofs.Timing.{AreKept, due-alike, still_told}
+use Rattle.step_laws.proofs.Locally.{IsClean, IsAnother, delivery-kept, retry-kept}
+use Rattle.step_laws.proofs.Lowering.{IsDue, is-due, due-same, is_up_in, is_due_in, work, lost-lowers, done-lowers, view-behind, clients-behind}
+use Rattle.step_laws.proofs.Pending.{pending-apart}
+use Rattle.step_laws.proofs.Remaining.{left-none}
+use Rattle.step_laws.proofs.Settling.{tick-settles}
+use Rattle.step_laws.proofs.Timing.{AreKept, due-alike, still_told}
 
 -- the local changes of a plan are those of its draft
 plan-local : (g : ℕ) (c : List ℕ) (seen : Seen) (d : Drafted) (plan : Plan) → plan_of g c seen d ≡ Some plan → plan.local ≡ d.local

@@ -31,7 +31,7 @@ use Rattle.sn_deliver.specs.Resending.{register_by, register_again, publish_by, 
 use Rattle.sn_deliver.specs.Following.{peer_at}
 use Rattle.sn_deliver.specs.Due.{elapsed}
 use Rattle.sn_deliver.specs.Ticking.{dialog_ended, needs_timer, timer_begun, cleaned}
-use Rattle.sn_deliver.proofs.Timing.{AreKept, kept-ended, kept-heard, kept-sent, kept-resent, kept-retried}
+use Rattle.step_laws.proofs.Timing.{AreKept, kept-ended, kept-heard, kept-sent, kept-resent, kept-retried}
 
 -- ---- what follows a row
 

@@ -20,7 +20,7 @@ use Rattle.sn_flow.proofs.Rows.{s1, seven, bound_seven, first_take}
 use Rattle.sn_deliver.specs.Following.{deliver_next}
 use Rattle.sn_deliver.specs.Serving.{publish_in, ack_in}
 use Rattle.sn_deliver.specs.Ticking.{tick}
-use Rattle.sn_deliver.specs.Ticks.{Ticked, AreTicks, busy, does_something, set_behind, local_behind}
+use Rattle.step_laws.specs.Ticks.{Ticked, AreTicks, busy, does_something, set_behind, local_behind}
 
 -- a session operation of the client under stamp 1.1
 abbrev at : ℕ → SessionOp → Op

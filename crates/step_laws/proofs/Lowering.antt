@@ -24,9 +24,9 @@ use Rattle.sn_deliver.specs.declared.due.Due.TheVariants.{Loss}
 use Rattle.sn_deliver.specs.Exchanges.{open_exchange, is_served}
 use Rattle.sn_deliver.specs.Due.{is_silent, is_overdue, due_by, due_at, due_session, due_view, due_with, or_later, first_due}
 use Rattle.sn_deliver.specs.Ticking.{may_advertise}
-use Rattle.sn_deliver.proofs.Calm.{first_of, none_some}
-use Rattle.sn_deliver.proofs.Counting.{count, IsAmong, count-most, count-fewer, count-whole, less_up, less_due, less_time, no_more, all_left_to_do}
-use Rattle.sn_deliver.proofs.Timing.{Alike, due-alike}
+use Rattle.step_laws.proofs.Calm.{first_of, none_some}
+use Rattle.step_laws.proofs.Counting.{count, IsAmong, count-most, count-fewer, count-whole, less_up, less_due, less_time, no_more, all_left_to_do}
+use Rattle.step_laws.proofs.Timing.{Alike, due-alike}
 
 -- ---- with which clients something is due
 

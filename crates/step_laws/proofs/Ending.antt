@@ -27,15 +27,15 @@ use Rattle.sn_deliver.specs.declared.due.Due.{Due}
 use Rattle.sn_deliver.specs.declared.due.Due.TheVariants.{Loss, Retry, Delivery}
 use Rattle.sn_deliver.specs.Due.{due_view, due_with, or_later, first_due}
 use Rattle.sn_deliver.specs.Ticking.{cleaned, may_advertise, advertised_to, advertised, plan_due, plan_if_due, tick}
-use Rattle.sn_deliver.specs.Ticks.{Ticked, AreTicks, busy, does_something, set_behind, local_behind}
-use Rattle.sn_deliver.proofs.Calm.{some_none, and_false, one_more}
-use Rattle.sn_deliver.proofs.Counting.{IsAmong, contains-among, count, count-fewer}
+use Rattle.step_laws.specs.Ticks.{Ticked, AreTicks, busy, does_something, set_behind, local_behind}
+use Rattle.step_laws.proofs.Calm.{some_none, and_false, one_more}
+use Rattle.step_laws.proofs.Counting.{IsAmong, contains-among, count, count-fewer}
 use Rattle.sn_deliver.proofs.Drafting.{tick-drafted}
 use Rattle.sn_deliver.proofs.Keeping.{fold_keeps}
-use Rattle.sn_deliver.proofs.Locally.{IsClean, cleaned-clean}
-use Rattle.sn_deliver.proofs.Lowering.{due-same, first-found, first-same, is_up_in, is_due_in, work, work-whole, times, told-lowers, rests-lowers, view-behind, clients-behind}
-use Rattle.sn_deliver.proofs.Stepping.{due-lowers}
-use Rattle.sn_deliver.proofs.Timing.{Alike, still_bound}
+use Rattle.step_laws.proofs.Locally.{IsClean, cleaned-clean}
+use Rattle.step_laws.proofs.Lowering.{due-same, first-found, first-same, is_up_in, is_due_in, work, work-whole, times, told-lowers, rests-lowers, view-behind, clients-behind}
+use Rattle.step_laws.proofs.Stepping.{due-lowers}
+use Rattle.step_laws.proofs.Timing.{Alike, still_bound}
 
 -- ---- a tick without operations
 

@@ -21,7 +21,7 @@ use Rattle.sn_deliver.specs.declared.due.Due.TheVariants.{Loss}
 use Rattle.sn_deliver.specs.Exchanges.{open_exchange, is_served}
 use Rattle.sn_deliver.specs.Due.{patience, is_overdue, due_by, due_at, due_session}
 use Rattle.sn_flow.specs.Others.{is_up}
-use Rattle.sn_deliver.proofs.Calm.{some_none, timed_found, one_more, rests, not_yet, and_false}
+use Rattle.step_laws.proofs.Calm.{some_none, timed_found, one_more, rests, not_yet, and_false}
 
 -- ---- timers of others
 

@@ -19,7 +19,7 @@ use Rattle.sn_flow.specs.Names.{name_of}
 use Rattle.sn_flow.proofs.Given.{fits}
 use Rattle.sn_deliver.specs.Exchanges.{same_name, is_done, is_left, left, put_named, put_left, message_of, is_open_in, if_open, open_exchange}
 use Rattle.sn_deliver.specs.Laws.{AreApart}
-use Rattle.sn_deliver.proofs.Calm.{none_some}
+use Rattle.step_laws.proofs.Calm.{none_some}
 
 -- ---- what is left
 

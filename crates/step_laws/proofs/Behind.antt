@@ -19,7 +19,7 @@ use Rattle.sn_flow.proofs.Planned.{Parts, planned-parts}
 use Rattle.sn_flow.proofs.Names.{IsWritten, start-written}
 use Rattle.sn_flow.proofs.Leaving.{acked-plan}
 use Rattle.sn_deliver.specs.Exchanges.{same_name, is_done, left}
-use Rattle.sn_deliver.proofs.Pending.{pending-by, pending-left}
+use Rattle.step_laws.proofs.Pending.{pending-by, pending-left}
 
 -- ---- acknowledgements
 

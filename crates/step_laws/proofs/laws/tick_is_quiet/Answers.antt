@@ -1,5 +1,5 @@
 use Rattle.sn_deliver.proofs.Keeping.{tick-quiet}
-use Rattle.sn_deliver.proofs.laws.tick_is_quiet.Goals as goal
+use Rattle.step_laws.proofs.laws.tick_is_quiet.Goals as goal
 
 pub returns : goal.returns
 returns c = tick-quiet

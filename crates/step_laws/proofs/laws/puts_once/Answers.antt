@@ -1,5 +1,5 @@
 use Rattle.sn_deliver.proofs.Keeping.{puts-once}
-use Rattle.sn_deliver.proofs.laws.puts_once.Goals as goal
+use Rattle.step_laws.proofs.laws.puts_once.Goals as goal
 
 pub returns : goal.returns
 returns c = puts-once

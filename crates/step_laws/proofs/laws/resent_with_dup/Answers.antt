@@ -1,5 +1,5 @@
 use Rattle.sn_deliver.proofs.Keeping.{resent-with-dup}
-use Rattle.sn_deliver.proofs.laws.resent_with_dup.Goals as goal
+use Rattle.step_laws.proofs.laws.resent_with_dup.Goals as goal
 
 pub returns : goal.returns
 returns c = resent-with-dup

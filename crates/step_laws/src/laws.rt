@@ -14,7 +14,7 @@ ghost use Rattle.sn_flow.specs.Flush.{AreFlush};
 ghost use Rattle.sn_deliver.specs.Due.{due_with};
 ghost use Rattle.sn_deliver.specs.Steps.{step};
 ghost use Rattle.sn_deliver.specs.Ticking.{tick};
-ghost use Rattle.sn_deliver.specs.Ticks.{Ticked, AreTicks, busy, does_something, set_behind, local_behind};
+ghost use Rattle.step_laws.specs.Ticks.{Ticked, AreTicks, busy, does_something, set_behind, local_behind};
 ghost use Rattle.sn_deliver.specs.Laws.{DeliveryKeeps, OneExchange, PutsOnce, ResentWithDup, TickIsQuiet, TickSettles};
 
 /// Delivery loses no message: it acknowledges none but those that it sends at quality of service 0, and those for whose topic

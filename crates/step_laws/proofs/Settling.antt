@@ -39,8 +39,8 @@ use Rattle.sn_deliver.specs.Resending.{given_up, register_by, publish_by, resend
 use Rattle.sn_deliver.specs.Due.{elapsed, is_overdue, due_exchange, due_by, due_at, due_session}
 use Rattle.sn_deliver.specs.Ticking.{lost}
 use Rattle.sn_deliver.specs.Laws.{AreApart, due_after, due_draft, TickSettles}
-use Rattle.sn_deliver.proofs.Calm.{first_of, second_of, none_some, sent_found, resent_found, retried_found, one_more, sent_rests, resent_rests, sent_calm, resent_calm, retried_calm, calm_alike, calm_asleep, by_unserved, by_rest, by_empty, ends}
-use Rattle.sn_deliver.proofs.Remaining.{left-none, next_left, opens, closed, named_set, registered}
+use Rattle.step_laws.proofs.Calm.{first_of, second_of, none_some, sent_found, resent_found, retried_found, one_more, sent_rests, resent_rests, sent_calm, resent_calm, retried_calm, calm_alike, calm_asleep, by_unserved, by_rest, by_empty, ends}
+use Rattle.step_laws.proofs.Remaining.{left-none, next_left, opens, closed, named_set, registered}
 
 -- ---- Delivery
 
