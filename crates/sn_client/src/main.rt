@@ -52,7 +52,7 @@ fn status<R: Env + Net + Clock + Print + Eprint + AllocGlobal>(rt: &R) -> u8 {
             let _ = eprintln!(rt; "sn_client: {fault}");
             match &fault {
                 Fault::Frame(_) => NO_COMMAND,
-                Fault::Io(_) | Fault::Memory => FAILED,
+                Fault::Io(_) | Fault::Port { .. } | Fault::Memory => FAILED,
             }
         }
     }

@@ -31,6 +31,9 @@ pub(crate) enum Fault {
     /// The socket, the clock or the output failed.
     #[error("{0}")]
     Io(io::Error),
+    /// The client's port cannot be had.
+    #[error("port {port}: {error}; one run of a client at a time, or another --port")]
+    Port { port: u16, error: io::Error },
     /// What was asked for fits no frame.
     #[error("{0}")]
     Frame(EncodeFault),
@@ -87,7 +90,15 @@ pub(crate) fn converse<R: Net + Clock + Print + AllocGlobal>(
     rt: &R,
     settings: &Settings<'_>,
 ) -> Result<Outcome, Fault> {
-    let wire = Wire::open(rt, settings.port, settings.gateway)?;
+    let wire = match Wire::open(rt, settings.port, settings.gateway) {
+        Ok(wire) => wire,
+        Err(error) => {
+            return Err(Fault::Port {
+                port: settings.port,
+                error,
+            });
+        }
+    };
     let (client, gateway, port) = (settings.client, settings.gateway, wire.port()?);
     println!(rt; "-- client {client:?} at port {port}, gateway {gateway}")?;
     let talk = begin(rt.alloc(), client, &CONNECT, message_id(rt)?)?;
@@ -127,9 +138,20 @@ impl Run {
         }
         let outcome = self.talk.conclude(self.pace.came);
         if outcome == Outcome::Unanswered {
-            println!(rt; "-- nothing came that answers it")?;
+            let why = self.silence();
+            println!(rt; "-- {why}")?;
         }
         Ok(outcome)
+    }
+
+    /// What is said where the exchange has no answer.
+    fn silence(&self) -> &'static str {
+        match self.talk.awaited {
+            Awaited::Anything => "nothing came",
+            _ if self.pace.came =>
+                "what came is no answer to this; the gateway may have done it or not",
+            _ => "no answer came; is a gateway there? It may have done it or not",
+        }
     }
 
     /// Sends the pending frame, where it is due.

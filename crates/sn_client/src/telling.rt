@@ -1,5 +1,6 @@
 //! Frames in words.
 
+use octets::read_u16;
 use sn_frame::{Flags, Frame, Qos, TopicIdType};
 use std::fmt;
 use std::str::from_utf8;
@@ -23,6 +24,10 @@ struct Code(u8);
 /// Flags of a publication, subscription or will.
 #[derive(Clone, Copy)]
 struct Level(Flags);
+
+/// What the topic field of a SUBSCRIBE or an UNSUBSCRIBE has.
+#[derive(Clone, Copy)]
+struct Wanted<'a>(TopicIdType, &'a [u8]);
 
 /// What the topic field of a PUBLISH has.
 #[derive(Clone, Copy)]
@@ -89,6 +94,18 @@ impl fmt::Display for TopicField {
                 write!(f, "topic {name}")
             }
             TopicIdType::Reserved => write!(f, "a topic of no type, {number}"),
+        }
+    }
+}
+
+impl fmt::Display for Wanted<'_> {
+    fn fmt<W: fmt::Write>(&self, f: &mut fmt::Formatter<W>) -> fmt::Result {
+        match (self.0, read_u16(self.1)) {
+            (TopicIdType::Predefined, Some((id, []))) => write!(f, "predefined topic id {id}"),
+            _ => {
+                let name = Text(self.1);
+                write!(f, "{name}")
+            }
         }
     }
 }
@@ -190,7 +207,7 @@ fn topics<W: fmt::Write>(f: &mut fmt::Formatter<W>, frame: &Frame) -> fmt::Resul
             msg_id,
             topic,
         } => {
-            let topic = Text(topic.as_slice());
+            let topic = Wanted(flags.kind(), topic.as_slice());
             let level = Level(*flags);
             write!(f, "SUBSCRIBE to {topic}, {level}, message id {msg_id}")
         }
@@ -207,8 +224,12 @@ fn topics<W: fmt::Write>(f: &mut fmt::Formatter<W>, frame: &Frame) -> fmt::Resul
                 "SUBACK: {code}, {level}, topic id {topic_id}, message id {msg_id}"
             )
         }
-        Frame::Unsubscribe { msg_id, topic, .. } => {
-            let topic = Text(topic.as_slice());
+        Frame::Unsubscribe {
+            flags,
+            msg_id,
+            topic,
+        } => {
+            let topic = Wanted(flags.kind(), topic.as_slice());
             write!(f, "UNSUBSCRIBE from {topic}, message id {msg_id}")
         }
         Frame::UnsubAck { msg_id } => write!(f, "UNSUBACK, message id {msg_id}"),

@@ -145,7 +145,9 @@ fn gateway(matches: &ArgMatches<'_>) -> Result<SocketAddr, Unread> {
     };
     match word.parse::<SocketAddr>() {
         Ok(gateway) => Ok(gateway),
-        Err(_) => Err(Unread::Word("--gateway is no address as 127.0.0.1:18841")),
+        Err(_) => Err(Unread::Word(
+            "--gateway is no address with a port, as 127.0.0.1:18841; names of hosts are not taken",
+        )),
     }
 }
 
