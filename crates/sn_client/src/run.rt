@@ -148,9 +148,8 @@ impl Run {
     fn silence(&self) -> &'static str {
         match self.talk.awaited {
             Awaited::Anything => "nothing came",
-            _ if self.pace.came =>
-                "what came is no answer to this; the gateway may have done it or not",
-            _ => "no answer came; is a gateway there? It may have done it or not",
+            _ if self.pace.came => "what came is no answer: nothing says whether this was done",
+            _ => "no answer came: nothing says whether a gateway has heard this",
         }
     }
 
