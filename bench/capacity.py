@@ -18,9 +18,10 @@ import time
 
 sys.dont_write_bytecode = True
 from compaction import HEADER, SEAL, put, record, take
-from gateway import Client, Gateway, frame, publish, published, register, search, subscribe, until
+from gateway import (CONNECTED, FOREVER, GONE, Client, Gateway, connect, frame, leave, publish, published, register, search, subscribe)
 
 TOPIC = b"field/7/soil"
+PATIENCE = 120  # seconds that an answer may take: while a shift turns nobody is served
 HEAD = 14  # octets of a header with its seal: four of a mark, the gateway, eight of the generation, the seal
 
 
@@ -34,9 +35,8 @@ def settle(gateway: Gateway, client: Client) -> tuple:
     """Lets two shifts run out; then octets of the journal, and VmRSS in octets."""
     wanted = len(gateway.shifts()) + 2
     answer = frame(0x02, bytes([gateway.number]))
-    end = time.monotonic() + 300
-    while len(gateway.shifts()) < wanted and time.monotonic() < end:
-        client.ask(search(), answer, 60)
+    while len(gateway.shifts()) < wanted:
+        client.ask(search(), answer, PATIENCE)
     time.sleep(0.2)
     return length(gateway), gateway.memory() * 1024
 
@@ -52,15 +52,14 @@ def sleepers(gateway: Gateway, count: int) -> list:
     names = [f"sensor-{number:04}".encode() for number in range(count)]
     for name in names:
         with Client(name, gateway) as sensor:
-            sensor.connect(clean=True)
-            sensor.ask(subscribe(TOPIC), b"\x08\x13")
-            sensor.sleep()
+            for octets, answer in ((connect(name, 0, True), CONNECTED), (subscribe(TOPIC), b"\x08\x13"), (leave(FOREVER), GONE)):
+                sensor.ask(octets, answer, PATIENCE)
     return names
 
 
 def publish_all(publisher: Client, field: bytes, count: int, size: int, first: int) -> None:
     for number in range(first, first + count):
-        publisher.ask(publish(field, b"m" * size, number, 0x20), published(field, number), 120, 5)
+        publisher.ask(publish(field, b"m" * size, number, 0x20), published(field, number), PATIENCE, 5)
 
 
 def live(program: str, folder: str, clients: int, messages: int, steps: int) -> None:
@@ -68,8 +67,8 @@ def live(program: str, folder: str, clients: int, messages: int, steps: int) -> 
         gateway.start()
         with Client(b"publisher", gateway) as publisher:
             print(f"{'':42} {'journal':>12} {'VmRSS KiB':>12} {'each':>10} {'each, RSS':>10}")
-            publisher.connect(clean=True)
-            field = publisher.ask(register(TOPIC, 1), b"\x07\x0b")[2:4]
+            publisher.ask(connect(b"publisher", 0, True), CONNECTED, PATIENCE)
+            field = publisher.ask(register(TOPIC, 1), b"\x07\x0b", PATIENCE)[2:4]
             empty = settle(gateway, publisher)
             told("no sensor", 0, empty, empty)
             sleepers(gateway, clients)
@@ -112,7 +111,7 @@ def main() -> int:
         parser.add_argument(name, type=int, default=usual)
     given = parser.parse_args()
     program = os.path.abspath(given.program)
-    Gateway.within = 120
+    Gateway.within = PATIENCE
     with tempfile.TemporaryDirectory(prefix="capacity-") as folder:
         live(program, folder, given.clients, given.messages, given.steps)
     with tempfile.TemporaryDirectory(prefix="capacity-") as folder:

@@ -1,11 +1,12 @@
 #!/usr/bin/env python3
 """Plays a take-over at three linked gateways, and tells it line by line: a gateway is killed, and no message is lost.
 
-Usage: bench/field.py PROGRAM
+Usage: bench/field.py PROGRAM [FOLDER]
 
-The settings are those of examples/field; their ports must be free. The journals lie in a folder that is gone afterwards. Status 0 only
-where each message came, and within a minute.
+The settings are those of examples/field; their ports must be free. The journals lie in FOLDER, which is made and must not be there before, or
+else in a folder that is gone afterwards. Status 0 only where each message came, and within a minute.
 """
+import contextlib
 import os
 import signal
 import sys
@@ -84,14 +85,26 @@ def stop(*_) -> None:
     sys.exit("stopped")
 
 
+@contextlib.contextmanager
+def folder_of(named: list):
+    """The folder that is named, made and left as it is then, or one that is gone afterwards."""
+    if named:
+        os.mkdir(named[0])
+        yield os.path.abspath(named[0])
+    else:
+        with tempfile.TemporaryDirectory(prefix="field-") as folder:
+            yield folder
+
+
 def main() -> int:
-    if len(sys.argv) != 2 or not os.access(sys.argv[1], os.X_OK):
+    if len(sys.argv) not in (2, 3) or not os.access(sys.argv[1], os.X_OK) or any(map(os.path.exists, sys.argv[2:])):
         print(__doc__, file=sys.stderr)
         return 1
     signal.signal(signal.SIGTERM, stop)
     signal.signal(signal.SIGALRM, late)
     signal.alarm(MINUTE)
-    with tempfile.TemporaryDirectory(prefix="field-") as folder:
+    Client.again = 5.0
+    with folder_of(sys.argv[2:]) as folder:
         gateways = [gateway_of(os.path.abspath(sys.argv[1]), folder, name) for name in ("one", "two", "three")]
         try:
             story(*gateways)

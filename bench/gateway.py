@@ -279,7 +279,10 @@ class Gateway:
 
 
 class Client:
-    """A client at an address of its own. What is not answered is repeated."""
+    """A client at an address of its own. What is not answered is repeated. A repeated frame that is late counts anew when it comes: a CONNECT
+    that was answered and comes again behind a DISCONNECT wakes a client that sleeps. On a machine that is slow `again` must be long."""
+
+    again = AGAIN
 
     def __init__(self, name: bytes, gateway: Gateway):
         self.name, self.gateway, self.repeats = name, gateway, 0
@@ -312,12 +315,12 @@ class Client:
         except BlockingIOError:
             pass
 
-    def ask(self, octets: bytes, wanted: bytes, seconds: float = 15, every: float = AGAIN) -> bytes:
+    def ask(self, octets: bytes, wanted: bytes, seconds: float = 15, every: float = 0) -> bytes:
         """Sends until the answer comes that begins so; other datagrams are passed over, and told where none comes."""
         end, others = time.monotonic() + seconds, []
         while time.monotonic() < end:
             self.send(octets)
-            again = time.monotonic() + every
+            again = time.monotonic() + (every or self.again)
             while time.monotonic() < again:
                 answer = self.receive(again - time.monotonic())
                 if answer is not None and answer.startswith(wanted):
@@ -340,7 +343,7 @@ class Client:
         end, seen, messages = time.monotonic() + seconds, set(), []
         self.send(ping(self.name))
         while time.monotonic() < end:
-            octets = self.receive(AGAIN)
+            octets = self.receive(self.again)
             if octets is None:
                 self.send(ping(self.name))
                 self.repeats += 1
