@@ -40,9 +40,17 @@ trust:
 edits:
 	@.ci/edits $(CRATES)
 
+# Proves and builds a program, and runs it without arguments, whatever it says to that. Where nothing is built, the end of what rt said is shown.
+define build
+	@command -v rt >/dev/null || { echo "$(1) is not built, and the Rattle kit's command rt, which proves and builds it, is not here"; exit 1; }
+	@echo "Proving $(1) and all that it stands on: $(2) on four processors, the first time."
+	@mkdir -p crates/$(1)/out
+	@cd crates/$(1) && rt run </dev/null >out/build.log 2>&1; test -x out/$(1) || \
+	    { tail -n 20 out/build.log; echo "$(1) is not built; all that was said is in crates/$(1)/out/build.log"; exit 1; }
+endef
+
 crates/sngw/out/sngw:
-	@echo "Proving sngw and all that it stands on: half an hour on four processors, the first time."
-	@cd crates/sngw && rt run >/dev/null 2>&1; test -x out/sngw
+	$(call build,sngw,half an hour)
 
 daemon: crates/sngw/out/sngw
 	@python3 bench/daemon.py crates/sngw/out/sngw
@@ -50,17 +58,14 @@ daemon: crates/sngw/out/sngw
 field: crates/sngw/out/sngw
 	@python3 bench/field.py crates/sngw/out/sngw
 
-# Without arguments the client ends with status 4, and jr_look with status 1.
 crates/sn_client/out/sn_client:
-	@echo "Proving sn_client and all that it stands on: some minutes on four processors, the first time."
-	@cd crates/sn_client && rt run >/dev/null 2>&1; test -x out/sn_client
+	$(call build,sn_client,some minutes)
 
 client: crates/sn_client/out/sn_client
 	@echo "crates/sn_client/out/sn_client is built; docs/TRY.md tells what to do with it"
 
 crates/jr_look/out/jr_look:
-	@echo "Proving jr_look and all that it stands on: some twenty minutes on four processors, the first time."
-	@cd crates/jr_look && rt run >/dev/null 2>&1; test -x out/jr_look
+	$(call build,jr_look,some twenty minutes)
 
 look: crates/jr_look/out/jr_look
 	@echo "crates/jr_look/out/jr_look is built"
