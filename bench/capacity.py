@@ -21,7 +21,8 @@ from compaction import HEADER, SEAL, put, record, take
 from gateway import (CONNECTED, FOREVER, GONE, Client, Gateway, connect, frame, leave, publish, published, register, search, subscribe)
 
 TOPIC = b"field/7/soil"
-PATIENCE = 120  # seconds that an answer may take: while a shift turns nobody is served
+PATIENCE = 300  # seconds that an answer may take: while a shift turns nobody is served
+AGAIN = 30.0  # seconds after which a frame is sent again: one that is only late would put its message twice
 HEAD = 14  # octets of a header with its seal: four of a mark, the gateway, eight of the generation, the seal
 
 
@@ -59,7 +60,7 @@ def sleepers(gateway: Gateway, count: int) -> list:
 
 def publish_all(publisher: Client, field: bytes, count: int, size: int, first: int) -> None:
     for number in range(first, first + count):
-        publisher.ask(publish(field, b"m" * size, number, 0x20), published(field, number), PATIENCE, 5)
+        publisher.ask(publish(field, b"m" * size, number, 0x20), published(field, number), PATIENCE)
 
 
 def live(program: str, folder: str, clients: int, messages: int, steps: int) -> None:
@@ -111,7 +112,7 @@ def main() -> int:
         parser.add_argument(name, type=int, default=usual)
     given = parser.parse_args()
     program = os.path.abspath(given.program)
-    Gateway.within = PATIENCE
+    Gateway.within, Client.again = PATIENCE, AGAIN
     with tempfile.TemporaryDirectory(prefix="capacity-") as folder:
         live(program, folder, given.clients, given.messages, given.steps)
     with tempfile.TemporaryDirectory(prefix="capacity-") as folder:
