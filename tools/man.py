@@ -13,8 +13,8 @@ TOP = os.path.dirname(os.path.dirname(os.path.abspath(__file__)))
 # Each page: its section, what it is in a line, and its parts: a document, and the headings that are taken from it, or all of it.
 PAGES = {
     "sngw": (8, "a gateway of MQTT-SN 1.2 that is also the broker", [
-        ("OPERATE.md", ["Command line", "Settings", "What it prints", "Stopping it", "Disks", "A number is used once",
-                        "When a disk fails", "What is not protected"])]),
+        ("OPERATE.md", ["Command line", "Settings", "What it prints", "When something is wrong", "Stopping it", "Disks",
+                        "A number is used once", "When a disk fails", "What is not protected", "Reporting a fault"])]),
     "sn_client": (1, "a client of MQTT-SN 1.2 for a person at a terminal", [("TRY.md", None)]),
     "gw_sim": (1, "plays scripts at simulated MQTT-SN gateways", [("SIMULATOR.md", None)]),
     "jr_look": (8, "shows what a start would read of a gateway's journal", [("OPERATE.md", ["Reading a journal"])]),
@@ -58,13 +58,21 @@ def cells(line):
     return [cell.strip().replace("\\|", "|") for cell in re.split(r"(?<!\\)\|", line.strip().strip("|"))]
 
 
+def joined(parts):
+    """One text: a part behind a whole sentence needs no mark in front of it."""
+    made = ""
+    for part in parts:
+        made += (" " if made.endswith((".", "?", "!")) else "; ") + part if made else part
+    return made
+
+
 def table(lines):
     """Rows as terms: the first cell, and behind it the others by their headings."""
     heads, made = cells(lines[0]), []
     for line in lines[2:]:
         row = cells(line)
         rest = [f"{head}: {cell}" if len(row) > 2 and head else cell for head, cell in zip(heads[1:], row[1:]) if cell]
-        made += [".TP", inline(row[0]), inline("; ".join(rest)) or "\\&"]
+        made += [".TP", inline(row[0]), inline(joined(rest)) or "\\&"]
     return made
 
 
