@@ -1,7 +1,6 @@
 //! Flags, what they say of a topic, and return codes.
 
 use crate::shown::Text;
-use octets::read_u16;
 use sn_frame::{Flags, Qos, TopicIdType};
 use std::fmt;
 
@@ -92,8 +91,11 @@ impl fmt::Display for TopicField {
 impl fmt::Display for TopicOctets<'_> {
     fn fmt<W: fmt::Write>(&self, f: &mut fmt::Formatter<W>) -> fmt::Result {
         let name = Text(self.1);
-        match (self.0, read_u16(self.1)) {
-            (TopicIdType::Predefined, Some((number, _))) => write!(f, "TopicId {number}"),
+        match (self.0, self.1) {
+            (TopicIdType::Predefined, [high, low]) => {
+                let number = u16::from_be_bytes([*high, *low]);
+                write!(f, "TopicId {number}")
+            }
             _ => write!(f, "TopicName {name}"),
         }
     }
