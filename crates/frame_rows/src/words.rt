@@ -110,7 +110,7 @@ fn will_fields<W: fmt::Write>(f: &mut fmt::Formatter<W>, frame: &Frame) -> fmt::
     }
 }
 
-/// The fields of messages of topics.
+/// The fields of messages of topic ids, and of answers with one.
 fn topic_fields<W: fmt::Write>(f: &mut fmt::Formatter<W>, frame: &Frame) -> fmt::Result {
     match frame {
         Frame::Register {
@@ -134,6 +134,13 @@ fn topic_fields<W: fmt::Write>(f: &mut fmt::Formatter<W>, frame: &Frame) -> fmt:
             let code = Code(*code);
             write!(f, " TopicId {topic_id}, MsgId {msg_id}, {code}")
         }
+        other => subscription_fields(f, other),
+    }
+}
+
+/// The fields of messages of subscriptions.
+fn subscription_fields<W: fmt::Write>(f: &mut fmt::Formatter<W>, frame: &Frame) -> fmt::Result {
+    match frame {
         Frame::Subscribe {
             flags,
             msg_id,
