@@ -169,28 +169,23 @@ fn both_forms(alloc: Global, kind: u8, body: &[u8]) -> Result<String, Stop> {
 }
 
 /// Prints an answer that is another than the one before it; the answer.
-fn changed(
-    alloc: Global,
-    text: &mut String,
-    before: String,
-    place: &str,
-    said: String,
-) -> Result<String, Stop> {
+fn changed(text: &mut String, before: String, place: &str, said: String) -> Result<String, Stop> {
     if before.as_str() != said.as_str() {
         let words = said.as_str();
         writeln!(text, "from {place}: {words}")?;
     }
-    String::from_str(alloc, said.as_str()).map_err(Stop::from)
+    Ok(said)
 }
 
 /// `types OCTETS ..`: what this body is behind each octet in the place of MsgType.
 pub(crate) fn types(alloc: Global, text: &mut String, fields: &[&str]) -> Result<(), Stop> {
-    let body = octets(alloc, fields)?;
+    let given = octets(alloc, fields)?;
+    let body = given.as_slice();
     let mut last = String::new(alloc);
     for kind in 0..=255u8 {
-        let said = both_forms(alloc, kind, &body)?;
+        let said = both_forms(alloc, kind, body)?;
         let place = format!(in alloc; "{kind:02x}")?;
-        last = changed(alloc, text, last, place.as_str(), said)?;
+        last = changed(text, last, place.as_str(), said)?;
     }
     Ok(())
 }
@@ -200,28 +195,30 @@ pub(crate) fn bodies(alloc: Global, text: &mut String, fields: &[&str]) -> Resul
     let [kind, rest @ ..] = fields else {
         return Err(Stop::Line);
     };
-    let given = field_octets(alloc, kind)?;
-    let [kind] = given.as_slice() else {
+    let kind = field_octets(alloc, kind)?;
+    let [kind] = kind.as_slice() else {
         return Err(Stop::Line);
     };
-    let body = octets(alloc, rest)?;
+    let given = octets(alloc, rest)?;
+    let body = given.as_slice();
     let mut last = String::new(alloc);
     for end in 0..=body.len() {
         let said = both_forms(alloc, *kind, &body[..end])?;
         let place = format!(in alloc; "{end}")?;
-        last = changed(alloc, text, last, place.as_str(), said)?;
+        last = changed(text, last, place.as_str(), said)?;
     }
     Ok(())
 }
 
 /// `beginnings OCTETS ..`: what each beginning of a datagram is, and the whole.
 pub(crate) fn beginnings(alloc: Global, text: &mut String, fields: &[&str]) -> Result<(), Stop> {
-    let datagram = octets(alloc, fields)?;
+    let given = octets(alloc, fields)?;
+    let datagram = given.as_slice();
     let mut last = String::new(alloc);
     for end in 0..=datagram.len() {
         let said = brief(alloc, &datagram[..end])?;
         let place = format!(in alloc; "{end}")?;
-        last = changed(alloc, text, last, place.as_str(), said)?;
+        last = changed(text, last, place.as_str(), said)?;
     }
     Ok(())
 }
