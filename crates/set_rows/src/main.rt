@@ -13,7 +13,13 @@
 //! | The session, and operations, which wait to be used | |
 //! |---|---|
 //! | `session WHERE clean SECONDS`, or `kept` | a session without anything else; WHERE is `active`, `asleep`, `awake`, `disconnected` or `lost` |
-//! | `apply CHANGE` | it changes |
+//! | `apply CHANGE` | it changes, or a table is full |
+//! | `applies FIRST LAST CHANGE` | it changes so under each number from the first to the last, which stands in the place of each `%` that ends a word |
+//! | `tell` | the session and all that it has |
+//! | `sizes` | how many entries its tables have, and the least topic id that is not in use |
+//! | `id NAME`, `topic ID` | the least topic id of a name; the name of a topic id; and whether the client knows it |
+//! | `filter FILTER`, `asked NAME` | the quality of service of a filter; the greatest that is asked for a topic |
+//! | `heard ID` | whether a message of this id was received |
 //! | `op CLIENT EPOCH.GATEWAY COUNTER CHANGE` | a change of a client's session |
 //! | `ops CLIENT EPOCH.GATEWAY FIRST LAST CHANGE` | the same change under each counter from the first to the last |
 //! | `put CLIENT ORIGIN.NUMBER TOPIC QOS BODY` | a message for a client |
@@ -72,7 +78,7 @@
 //!
 //! - `row`: what the lines of a row have brought about (`Row`), and the play of one more.
 //! - `fields`, `names`, `operations`, `changes`: lines that are read.
-//! - `deltas`, `replicas`, `journals`, `attempts`, `retries`: lines that are played.
+//! - `sessions`, `deltas`, `replicas`, `journals`, `attempts`, `retries`: lines that are played.
 //! - `words`, `printing`, `runs`: what is printed.
 //! - `stop`: why a line is not played.
 #![tactic(auto)]
@@ -89,6 +95,7 @@ mod replicas;
 mod retries;
 mod row;
 mod runs;
+mod sessions;
 mod stop;
 mod words;
 

@@ -1,36 +1,14 @@
-//! Lines that describe a session or add operations.
+//! Lines that add operations.
 
-use crate::changes::{change, presence};
+use crate::changes::change;
 use crate::fields::{
-    body, client, count, is_first, message_number, number, octet, small_number, stamp, topic,
+    body, client, count, message_number, number, octet, small_number, stamp, topic,
 };
 use crate::stop::Stop;
 use octets::Octets;
 use rep_ops::{ClientId, Op, OpsFault, Put, Stamp};
-use sn_session::{Session, SessionFault};
+use sn_session::Session;
 use std::alloc::Global;
-
-/// `session WHERE clean SECONDS` or `kept`: a session without anything else.
-pub(crate) fn described(alloc: Global, fields: &[&str]) -> Result<Session, Stop> {
-    let [place, kind, seconds] = fields else {
-        return Err(Stop::Line);
-    };
-    let mut session = Session::empty(alloc);
-    session.presence = presence(place)?;
-    session.clean = is_first(kind, "clean", "kept")?;
-    session.duration = small_number(seconds)?;
-    Ok(session)
-}
-
-/// `apply CHANGE`: the session changes.
-pub(crate) fn apply(alloc: Global, session: &mut Session, fields: &[&str]) -> Result<(), Stop> {
-    let made = change(alloc, session, fields)?;
-    match session.apply(alloc, &made) {
-        Ok(()) => Ok(()),
-        Err(SessionFault::Memory) => Err(Stop::Memory),
-        Err(SessionFault::Full) => Err(Stop::Line),
-    }
-}
 
 /// `op CLIENT EPOCH.GATEWAY COUNTER CHANGE`: a change of a session.
 pub(crate) fn session_op(alloc: Global, session: &Session, fields: &[&str]) -> Result<Op, Stop> {

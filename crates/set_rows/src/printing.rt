@@ -157,7 +157,11 @@ fn print_exchange(
 }
 
 /// The lines of a session.
-fn print_session(alloc: Global, text: &mut String, session: &Session) -> Result<(), AllocError> {
+pub(crate) fn print_session(
+    alloc: Global,
+    text: &mut String,
+    session: &Session,
+) -> Result<(), AllocError> {
     let place = presence_word(session.presence);
     let kind = kind_word(session.clean);
     let seconds = session.duration;

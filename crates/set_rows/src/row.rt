@@ -3,12 +3,10 @@
 use crate::attempts::{appends, compactions, openings};
 use crate::journals::Store;
 use crate::names::Names;
-use crate::operations::{
-    ack_op, ack_ops, apply, described, put_op, put_ops, session_op, session_ops,
-};
+use crate::operations::{ack_op, ack_ops, put_op, put_ops, session_op, session_ops};
 use crate::retries::retries;
 use crate::stop::Stop;
-use crate::{deltas, journals, names, replicas};
+use crate::{deltas, journals, names, replicas, sessions};
 use rep_ops::Op;
 use rep_plain::Plain;
 use sn_session::Session;
@@ -18,7 +16,7 @@ use std::mem;
 /// What the lines of a row have brought about.
 #[derive(Drop)]
 pub(crate) struct Row {
-    /// The session that `take` holds.
+    /// The session that changes, and that `take` holds.
     session: Session,
     /// The operations that no line has used.
     ops: Vec<Op>,
@@ -50,7 +48,12 @@ pub(crate) fn play(
         return Err(Stop::Line);
     };
     match *first {
-        "session" | "apply" => play_session(alloc, &mut row.session, first, rest),
+        "session" | "apply" | "applies" => {
+            play_session(alloc, text, &mut row.session, first, rest)
+        }
+        "tell" | "sizes" | "id" | "topic" | "filter" | "asked" | "heard" => {
+            ask_session(alloc, text, &row.session, first, rest)
+        }
         "op" | "ops" | "put" | "puts" | "ack" | "acks" => {
             play_operation(alloc, &row.session, &mut row.ops, first, rest)
         }
@@ -75,19 +78,40 @@ pub(crate) fn play(
     }
 }
 
-/// Lines that describe a session.
+/// Lines that describe a session or change it.
 fn play_session(
     alloc: Global,
+    text: &mut String,
     session: &mut Session,
     first: &str,
     rest: &[&str],
 ) -> Result<(), Stop> {
     match first {
         "session" => {
-            *session = described(alloc, rest)?;
+            *session = sessions::described(alloc, rest)?;
             Ok(())
         }
-        _ => apply(alloc, session, rest),
+        "apply" => sessions::apply(alloc, text, session, rest),
+        _ => sessions::applies(alloc, text, session, rest),
+    }
+}
+
+/// Lines that ask a session.
+fn ask_session(
+    alloc: Global,
+    text: &mut String,
+    session: &Session,
+    first: &str,
+    rest: &[&str],
+) -> Result<(), Stop> {
+    match first {
+        "tell" => sessions::tell(alloc, text, session),
+        "sizes" => sessions::sizes(text, session),
+        "id" => sessions::id(alloc, text, session, rest),
+        "topic" => sessions::topic_of(alloc, text, session, rest),
+        "filter" => sessions::qos_of(alloc, text, session, rest),
+        "asked" => sessions::asked_qos(alloc, text, session, rest),
+        _ => sessions::heard(text, session, rest),
     }
 }
 

@@ -1,0 +1,134 @@
+//! Lines about topic names, filters and predefined ids.
+
+use crate::fields::{field_octets, octets, small_number};
+use crate::shown::Text;
+use crate::stop::{Stop, refused_topic};
+use sn_topic::{Filter, Predefined, TopicName, matches};
+use std::alloc::Global;
+
+/// `name OCTETS ..`: a topic name, as a copy of it tells it.
+pub(crate) fn name(alloc: Global, text: &mut String, fields: &[&str]) -> Result<(), Stop> {
+    match TopicName::new(alloc, &octets(alloc, fields)?) {
+        Ok(name) => {
+            let copy = name.copy(alloc)?;
+            let shown = Text(copy.bytes());
+            Ok(writeln!(text, "name {shown}")?)
+        }
+        Err(fault) => refused_topic(text, fault),
+    }
+}
+
+/// `filter OCTETS ..`: a filter, as a copy of it tells it.
+pub(crate) fn filter(alloc: Global, text: &mut String, fields: &[&str]) -> Result<(), Stop> {
+    match Filter::new(alloc, &octets(alloc, fields)?) {
+        Ok(filter) => {
+            let copy = filter.copy(alloc)?;
+            let wildcard = wildcard_word(&copy);
+            let shown = Text(copy.bytes());
+            Ok(writeln!(text, "filter {shown}, {wildcard}")?)
+        }
+        Err(fault) => refused_topic(text, fault),
+    }
+}
+
+/// Which wildcards a filter has.
+fn wildcard_word(filter: &Filter) -> &'static str {
+    match (filter.has_wildcard(), filter.begins_with_wildcard()) {
+        (false, false) => "no wildcard",
+        (true, false) => "a wildcard",
+        (true, true) => "a wildcard at its beginning",
+        (false, true) => "no wildcard, and one at its beginning",
+    }
+}
+
+/// `match FILTER NAME`: whether a filter asks for a name.
+pub(crate) fn asked(alloc: Global, text: &mut String, fields: &[&str]) -> Result<(), Stop> {
+    let [asked, given] = fields else {
+        return Err(Stop::Line);
+    };
+    let filter = Filter::new(alloc, &field_octets(alloc, asked)?)?;
+    let name = TopicName::new(alloc, &field_octets(alloc, given)?)?;
+    let answer = if matches(&filter, &name) {
+        "asks for"
+    } else {
+        "does not ask for"
+    };
+    let (filter, name) = (Text(filter.bytes()), Text(name.bytes()));
+    Ok(writeln!(text, "{filter} {answer} {name}")?)
+}
+
+/// A table without an entry.
+pub(crate) fn no_table(alloc: Global) -> Result<Predefined, Stop> {
+    Ok(Predefined::new(alloc, Vec::new(alloc))?)
+}
+
+/// `table ID NAME ..`: these are the predefined ids from here on, if they may be.
+pub(crate) fn table(
+    alloc: Global,
+    text: &mut String,
+    kept: &mut Predefined,
+    fields: &[&str],
+) -> Result<(), Stop> {
+    let mut entries = Vec::new(alloc);
+    for pair in fields.chunks(2) {
+        entries.push(entry(alloc, pair)?)?;
+    }
+    match Predefined::new(alloc, entries) {
+        Ok(table) => {
+            *kept = table.copy(alloc)?;
+            print_table(text, kept)
+        }
+        Err(fault) => refused_topic(text, fault),
+    }
+}
+
+/// An id and its name.
+fn entry(alloc: Global, fields: &[&str]) -> Result<(u16, TopicName), Stop> {
+    let [id, name] = fields else {
+        return Err(Stop::Line);
+    };
+    let id = small_number(id)?;
+    let name = TopicName::new(alloc, &field_octets(alloc, name)?)?;
+    Ok((id, name))
+}
+
+/// The entries of a table.
+fn print_table(text: &mut String, table: &Predefined) -> Result<(), Stop> {
+    let count = table.entries().len();
+    writeln!(text, "predefined ids: {count}")?;
+    for (id, name) in table.entries() {
+        let name = Text(name.bytes());
+        writeln!(text, "  {id} {name}")?;
+    }
+    Ok(())
+}
+
+/// `id NAME`: the least predefined id of a name.
+pub(crate) fn id(
+    alloc: Global,
+    text: &mut String,
+    table: &Predefined,
+    fields: &[&str],
+) -> Result<(), Stop> {
+    let name = TopicName::new(alloc, &octets(alloc, fields)?)?;
+    let shown = Text(name.bytes());
+    match table.id(&name) {
+        Some(id) => Ok(writeln!(text, "{shown} has id {id}")?),
+        None => Ok(writeln!(text, "{shown} has no id")?),
+    }
+}
+
+/// `of ID`: the name of a predefined id.
+pub(crate) fn name_of(text: &mut String, table: &Predefined, fields: &[&str]) -> Result<(), Stop> {
+    let [id] = fields else {
+        return Err(Stop::Line);
+    };
+    let id = small_number(id)?;
+    match table.name(id) {
+        Some(name) => {
+            let name = Text(name.bytes());
+            Ok(writeln!(text, "{id} is {name}")?)
+        }
+        None => Ok(writeln!(text, "{id} has no name")?),
+    }
+}

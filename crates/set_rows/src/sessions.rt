@@ -1,0 +1,178 @@
+//! Lines that describe a session, change it and ask it.
+
+use crate::changes::{change, presence};
+use crate::fields::{fields as words_of, filter, is_first, small_number, topic};
+use crate::printing::print_session;
+use crate::stop::Stop;
+use crate::words::{known_word, word};
+use sn_session::{Session, SessionFault};
+use std::alloc::Global;
+
+/// Where the number of a change stands that is made under each of several.
+const NUMBER: char = '%';
+
+/// `session WHERE clean SECONDS` or `kept`: a session without anything else.
+pub(crate) fn described(alloc: Global, fields: &[&str]) -> Result<Session, Stop> {
+    let [place, kind, seconds] = fields else {
+        return Err(Stop::Line);
+    };
+    let mut session = Session::empty(alloc);
+    session.presence = presence(place)?;
+    session.clean = is_first(kind, "clean", "kept")?;
+    session.duration = small_number(seconds)?;
+    Ok(session)
+}
+
+/// `apply CHANGE`: the session changes.
+pub(crate) fn apply(
+    alloc: Global,
+    text: &mut String,
+    session: &mut Session,
+    fields: &[&str],
+) -> Result<(), Stop> {
+    let made = change(alloc, session, fields)?;
+    match session.apply(alloc, &made) {
+        Ok(()) => Ok(()),
+        Err(SessionFault::Memory) => Err(Stop::Memory),
+        Err(SessionFault::Full) => Ok(text.push_str("refused full\n")?),
+    }
+}
+
+/// `applies FIRST LAST CHANGE`: it changes so under each number from the first to the last.
+pub(crate) fn applies(
+    alloc: Global,
+    text: &mut String,
+    session: &mut Session,
+    fields: &[&str],
+) -> Result<(), Stop> {
+    let [first, last, rest @ ..] = fields else {
+        return Err(Stop::Line);
+    };
+    let (first, last) = (small_number(first)?, small_number(last)?);
+    for number in first..=last {
+        let line = numbered(alloc, rest, number)?;
+        let words = words_of(alloc, line.as_str())?;
+        apply(alloc, text, session, &words)?;
+    }
+    Ok(())
+}
+
+/// The words of a line, with a number behind each word that ends in its sign.
+fn numbered(alloc: Global, fields: &[&str], number: u16) -> Result<String, Stop> {
+    let mut line = String::new(alloc);
+    for field in fields {
+        if !line.is_empty() {
+            line.push(' ')?;
+        }
+        match field.strip_suffix(NUMBER) {
+            Some(word) => write!(line, "{word}{number}")?,
+            None => line.push_str(field)?,
+        }
+    }
+    Ok(line)
+}
+
+/// `tell`: the session and all that it has.
+pub(crate) fn tell(alloc: Global, text: &mut String, session: &Session) -> Result<(), Stop> {
+    Ok(print_session(alloc, text, session)?)
+}
+
+/// `sizes`: how many entries its tables have, and the least topic id that is not in use.
+pub(crate) fn sizes(text: &mut String, session: &Session) -> Result<(), Stop> {
+    let (topics, filters) = (session.topics.len(), session.subscriptions.len());
+    let received = session.received.len();
+    write!(
+        text,
+        "topics {topics}, filters {filters}, received {received}, "
+    )?;
+    match session.free_id() {
+        Some(id) => Ok(writeln!(text, "free id {id}")?),
+        None => Ok(text.push_str("no free id\n")?),
+    }
+}
+
+/// `id NAME`: the least topic id of a name, and whether the client knows it.
+pub(crate) fn id(
+    alloc: Global,
+    text: &mut String,
+    session: &Session,
+    fields: &[&str],
+) -> Result<(), Stop> {
+    let [asked] = fields else {
+        return Err(Stop::Line);
+    };
+    let name = topic(alloc, asked)?;
+    match (session.topic_id(&name), session.topic_named(&name)) {
+        (Some(id), Some(entry)) => {
+            let known = known_word(entry.known);
+            Ok(writeln!(text, "{asked} has id {id} {known}")?)
+        }
+        (None, None) => Ok(writeln!(text, "{asked} has no id")?),
+        _ => Ok(writeln!(text, "{asked} has an id and none")?),
+    }
+}
+
+/// `topic ID`: the name of a topic id.
+pub(crate) fn topic_of(
+    alloc: Global,
+    text: &mut String,
+    session: &Session,
+    fields: &[&str],
+) -> Result<(), Stop> {
+    let [id] = fields else {
+        return Err(Stop::Line);
+    };
+    let id = small_number(id)?;
+    match session.topic_of(id) {
+        Some(entry) => {
+            let name = word(alloc, entry.name.bytes())?;
+            let known = known_word(entry.known);
+            Ok(writeln!(text, "{id} is {name} {known}")?)
+        }
+        None => Ok(writeln!(text, "{id} has no name")?),
+    }
+}
+
+/// `filter FILTER`: the quality of service of a filter.
+pub(crate) fn qos_of(
+    alloc: Global,
+    text: &mut String,
+    session: &Session,
+    fields: &[&str],
+) -> Result<(), Stop> {
+    let [asked] = fields else {
+        return Err(Stop::Line);
+    };
+    match session.subscription(&filter(alloc, asked)?) {
+        Some(qos) => Ok(writeln!(text, "filter {asked} at {qos}")?),
+        None => Ok(writeln!(text, "no filter {asked}")?),
+    }
+}
+
+/// `asked NAME`: the greatest quality of service that is asked for a topic.
+pub(crate) fn asked_qos(
+    alloc: Global,
+    text: &mut String,
+    session: &Session,
+    fields: &[&str],
+) -> Result<(), Stop> {
+    let [name] = fields else {
+        return Err(Stop::Line);
+    };
+    match session.subscribed_qos(&topic(alloc, name)?) {
+        Some(qos) => Ok(writeln!(text, "{name} is asked for at {qos}")?),
+        None => Ok(writeln!(text, "{name} is not asked for")?),
+    }
+}
+
+/// `heard ID`: whether a message of this id was received.
+pub(crate) fn heard(text: &mut String, session: &Session, fields: &[&str]) -> Result<(), Stop> {
+    let [id] = fields else {
+        return Err(Stop::Line);
+    };
+    let id = small_number(id)?;
+    if session.is_received(id) {
+        return Ok(writeln!(text, "{id} was received")?);
+    }
+    Ok(writeln!(text, "{id} was not received")?)
+}
