@@ -440,11 +440,78 @@ def tells_all(gateways: list, messages: int) -> str:
         sent = [b"<%06d>" % message for message in range(messages)]
         for message, body in enumerate(sent):
             puback(publisher, b"sh", body, message + 1)
-    time.sleep(2)
+    gateways[1].await_octets(sent[-1], 60)
+    gateways[1].settle(60)
     held = gateways[1].held()
     missing = [body for body in sent if body not in held]
     expect(not missing, f"gateway 2 was not told of {len(missing)} of {messages} messages, as {missing[:3]}")
     return f"{messages} messages over {len(gateways[0].shifts())} shifts"
+
+
+LONG = 4_000  # octets of a message of which many are to be lacking
+EACH = 250  # messages that wait for a sleeper
+
+
+def fill(gateway: Gateway, sleepers: int) -> list:
+    """So many sleepers, each with messages that wait: their bodies."""
+    kept = []
+    for place in range(sleepers):
+        name = b"%d-%d" % (gateway.number, place)
+        field = b"%c%d" % (ord("a") + place // 10, place % 10)
+        with Client(b"s-" + name, gateway) as sleeper, Client(b"p-" + name, gateway) as publisher:
+            sleeper.connect()
+            sleeper.ask(subscribe(field, 1, 0x22), b"\x08\x13")
+            sleeper.sleep()
+            publisher.connect(clean=True)
+            for message in range(1, EACH + 1):
+                body = b"<%s-%06d>" % (name, message)
+                puback(publisher, field, body.ljust(LONG, b"."), message)
+                kept.append(body)
+    return kept
+
+
+def lack_much(program: str, folder: str, sleepers: int) -> str:
+    """Two gateways, of which each lacks more of the other's than sockets hold, are linked: then both have all."""
+    gateways = ring(program, folder, 2)
+    try:
+        kept = []
+        for gateway in gateways:
+            gateway.start()
+            kept.append(fill(gateway, sleepers))
+            gateway.kill()
+        octets = [len(gateway.held()) for gateway in gateways]
+        began = time.monotonic()
+        for gateway in gateways:
+            gateway.start()
+        for gateway, bodies in zip(gateways, reversed(kept)):
+            gateway.await_octets(bodies[-1], 120)
+            gateway.settle(120)
+            held = gateway.held()
+            missing = [body for body in bodies if body not in held]
+            expect(not missing, f"gateway {gateway.number} was not told of {len(missing)} of {len(bodies)} messages, as {missing[:3]}")
+        return f"journals of {octets[0]} and {octets[1]} octets, {time.monotonic() - began:.1f} seconds"
+    finally:
+        for gateway in gateways:
+            gateway.kill()
+
+
+def comes_past_the_silent(program: str, folder: str) -> str:
+    """Eight who dial and say nothing have each place for links that are accepted: they are given up, and a gateway that dials gets one."""
+    ports = free_ports(4)
+    with Gateway(program, folder, 2, (ports[2], ports[3])) as called, \
+            Gateway(program, folder, 1, (ports[0], ports[1]), peers=f"[{at_port(ports[3])}]") as caller:
+        called.start()
+        silent = [socket.create_connection((HOST, called.link), 5) for _ in range(8)]
+        try:
+            time.sleep(1)
+            caller.start()
+            with Client(b"s-silent", caller) as client:
+                client.connect()
+            took = called.await_octets(b"s-silent", 60)
+        finally:
+            for link in silent:
+                link.close()
+        return f"{took:.1f} seconds"
 
 
 def with_ring(program: str, folder: str, count: int, trial, **more: str) -> str:
@@ -474,6 +541,19 @@ def part_links(account: Account, program: str, folder: str, _) -> None:
     for steps in ("1", "2"):
         account.check(f"two gateways: shifts of {steps} calls, and each delta is told",
                       lambda: trial_in(f"short-{steps}", 2, lambda g: tells_all(g, 150), steps=steps))
+
+    def lack_in(sleepers: int) -> str:
+        place = os.path.join(folder, "lacking")
+        os.mkdir(place)
+        return lack_much(program, place, sleepers)
+
+    def silent_in() -> str:
+        place = os.path.join(folder, "silent")
+        os.mkdir(place)
+        return comes_past_the_silent(program, place)
+
+    account.check("a gateway dials where eight have dialled and say nothing", silent_in)
+    account.check("two gateways that each lack twenty megabytes of the other's", lambda: lack_in(20))
 
 
 # ---- kills
@@ -648,6 +728,44 @@ def shifts_turn(gateway: Gateway, requests: int) -> str:
     return f"{said}; {len(closed)} shifts, {full} of 16 calls"
 
 
+def delivers_soon(gateway: Gateway, subscribers: int) -> str:
+    """A message comes to each of many who are there, although a shift has few calls and a tick serves one of them."""
+    clients = [Client(b"soon-%03d" % place, gateway) for place in range(subscribers)]
+    try:
+        for client in clients:
+            client.connect()
+            client.ask(subscribe(b"sn", 1, 0x22), b"\x08\x13")
+        with Client(b"p-soon", gateway) as publisher:
+            publisher.connect(clean=True)
+            began = time.monotonic()
+            puback(publisher, b"sn", b"soon", 1)
+        missing = [client.name for client in clients if client.hear(30) != [b"soon"]]
+        took = time.monotonic() - began
+        expect(not missing, f"{len(missing)} of {subscribers} did not get it, as {missing[:3]}")
+        expect(took < 5, f"the last one got it after {took:.1f} seconds")
+        return f"{subscribers} subscribers within {took:.1f} seconds"
+    finally:
+        for client in clients:
+            client.socket.close()
+
+
+def turns_when_full(gateway: Gateway, datagrams: int) -> str:
+    """What is dropped in a flood takes no call: a shift that is over has had all its calls."""
+    with Client(b"flood", gateway) as client:
+        client.socket.setblocking(False)
+        for _ in range(datagrams):
+            try:
+                client.send(search())
+            except BlockingIOError:
+                pass
+        time.sleep(1)
+        closed = gateway.shifts()
+        expect(closed, "no shift was over")
+        few = [steps for _, steps in closed if steps < 4_000]
+        expect(not few, f"of {len(closed)} shifts {len(few)} had fewer calls, as {few[:5]}")
+        return f"{datagrams} datagrams, {sum(steps for _, steps in closed)} calls in {len(closed)} shifts"
+
+
 def ends_by_itself(program: str, folder: str) -> None:
     """Three shifts, and the program ends with status 0."""
     with Gateway(program, folder, 3, steps="16") as gateway:
@@ -669,6 +787,10 @@ def part_shifts(account: Account, program: str, folder: str, options) -> None:
         account.check("shifts of 16 calls turn", lambda: shifts_turn(gateway, options.requests))
     with Gateway(program, folder, 2, steps="1", workers="8") as gateway:
         account.check("shifts of 1 call, 8 workers", lambda: gateway.start() and ask_all(gateway, max(8, options.requests // 10)))
+    with Gateway(program, folder, 4, steps="16") as gateway:
+        account.check("shifts of 16 calls, a message to 100 who are there", lambda: gateway.start() and delivers_soon(gateway, 100))
+    with Gateway(program, folder, 5) as gateway:
+        account.check("a flood ends no shift before it is full", lambda: gateway.start() and turns_when_full(gateway, 200_000))
     account.check("the program ends behind three shifts", lambda: ends_by_itself(program, folder))
 
 

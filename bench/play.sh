@@ -1,5 +1,6 @@
 #!/bin/sh
-# Builds gw_sim, plays a script of bench/script.py, and prints events per second.
+# Builds gw_sim, plays a script of bench/script.py, and prints events per second; then those of bench/sessions.py, publications.py and
+# takeover.py, and what single steps cost, with goals (steps.py).
 #
 # Usage: bench/play.sh [EVENTS] [GATEWAYS] [CLIENTS]
 set -eu
@@ -23,3 +24,4 @@ awk -v n="$events" -v a="$start" -v b="$end" 'BEGIN { printf "%.3f s, %.0f event
 python3 "$top/bench/sessions.py" "$program"
 python3 "$top/bench/publications.py" "$program"
 python3 "$top/bench/takeover.py" "$program"
+python3 "$top/bench/steps.py" "$program"

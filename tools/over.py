@@ -1,22 +1,26 @@
 """Checks one crate over libraries that are built already, in seconds to minutes, where `rt check` would prove all below it first.
 
 Usage: over.py libs ROOT [CRATE ..]      builds the libraries of a clone that are not there, lowest first, four at a time
+       over.py build ROOT CRATE ..        builds these libraries anew, one after the other, by all lanes
        over.py check ROOT CRATE [FLAG ..] checks a crate; what it proved is kept, and a second check is quick
        over.py edit ROOT CRATE [EDIT ..]  tries edits that must fail, those named or all of must-fail/, over a copy of what was kept
+       over.py program ROOT CRATE ..      proves and builds programs, as out/NAME, and tests, as out/NAME_tests, and runs them as the gate would
 
 A library is looked for in ROOT/crates/NAME/out/rlib, and then in the clones that the variable OVER names (paths, `:` between
-them). Flags are those of `rattle check`: `--only crate::module`, `--allow-holes`, `--jobs 4`. This is for work in between: what
+them); so `libs` builds none that stands there, and `build` does. LANES says how many run side by side (4). Flags are those of `rattle check`: `--only crate::module`, `--allow-holes`, `--jobs 4`. This is for work in between: what
 counts is `make test`, which takes nothing from here.
 """
+import concurrent.futures
 import os
 import shutil
 import subprocess
 import sys
 import tempfile
 import threading
+import time
 
 KIT = "/opt/rattle"
-LANES = 4
+LANES = int(os.environ.get("LANES", "4"))
 
 
 def read_crates(root):
@@ -69,11 +73,11 @@ def words(root, crates, command, name, jobs):
     return [*found, "--antt-project", project, "--logic-built", f"{KIT}/logic_built", "--links", f"{name}=", "--jobs", jobs]
 
 
-def build(root, crates, name):
-    """Builds a library, and tells how that went."""
+def build(root, crates, name, jobs):
+    """Builds a library by so many jobs, and tells how that went."""
     folder = f"{root}/crates/{name}"
     os.makedirs(f"{folder}/out/rlib", exist_ok=True)
-    command = words(root, crates, "build", name, "1")
+    command = words(root, crates, "build", name, str(jobs))
     with open(f"{folder}/out/over.log", "w") as log:
         out = [*command, "--statements", "-o", f"{folder}/out/rlib/{name}.rlib"]
         status = subprocess.run(out, cwd=folder, stdout=log, stderr=subprocess.STDOUT).returncode
@@ -88,8 +92,8 @@ def libs(root, names):
     left = [it for it in crates if it in wanted and file_of(root, it) == "src/lib.rt" and not library(root, it)]
     running, turn = set(), threading.Condition()
 
-    def work(name):
-        build(root, crates, name)
+    def work(name, jobs):
+        build(root, crates, name, jobs)
         with turn:
             running.discard(name)
             turn.notify()
@@ -97,14 +101,68 @@ def libs(root, names):
     with turn:
         while left or running:
             ready = [it for it in left if all(library(root, deeper) for deeper in below(crates, it))]
+            # a build gets the processors that no other build waits for
+            jobs = max(1, LANES // max(1, len(ready) + len(running)))
             for name in ready[:LANES - len(running)]:
                 left.remove(name)
                 running.add(name)
-                threading.Thread(target=work, args=(name,)).start()
+                threading.Thread(target=work, args=(name, jobs)).start()
             if not running:
                 return f"these have no library below them: {' '.join(left)}" if left else 0
             turn.wait()
     return 0
+
+
+def made(root, crates, name, tests):
+    """Proves a program, or a crate's tests, builds it by LLVM, and runs it as `rt ci` would; tells how that went."""
+    folder, program = f"{root}/crates/{name}", f"out/{name}{'_tests' if tests else ''}"
+    os.makedirs(f"{folder}/out", exist_ok=True)
+    toolchain = ["--toolchain", f"{KIT}/toolchain"]
+    build = [*words(root, crates, "build", name, "1"), *(["--test"] if tests else []), *toolchain, "--backend", "llvm", "-o", f"{program}.o"]
+    link = [f"{KIT}/bin/rattle-link", "--target", "x86_64-unknown-linux-gnu", *toolchain, "-o", program, f"{program}.o"]
+    link += [f"{KIT}/c/libos_c.a", f"{KIT}/c/liblibc_c.a"]
+    log = f"{folder}/{program}.log"
+    with open(log, "w") as out:
+        for command in (build, link):
+            if subprocess.run(command, cwd=folder, stdout=out, stderr=subprocess.STDOUT).returncode:
+                return f"not built, see {log}"
+    if tests:
+        ran = subprocess.run([f"{KIT}/bin/rattle-test", "--seconds", "60", program], cwd=folder, capture_output=True)
+        with open(log, "ab") as out:
+            out.write(ran.stdout + ran.stderr)
+        return "tests passed" if ran.returncode == 0 else f"tests failed, see {log}"
+    return "built; " + runs(folder, program)
+
+
+def runs(folder, program):
+    """Runs a program on its stdin, args and data, and compares what it prints with stdout and status."""
+    read = lambda it: open(f"{folder}/{it}", "rb").read() if os.path.exists(f"{folder}/{it}") else b""
+    with tempfile.TemporaryDirectory() as room:
+        if os.path.isdir(f"{folder}/data"):
+            shutil.copytree(f"{folder}/data", room, dirs_exist_ok=True)
+        ran = subprocess.run([f"{folder}/{program}", *read("args").decode().splitlines()], cwd=room, input=read("stdin"), capture_output=True, timeout=120)
+    is_well = ran.stdout == read("stdout") and ran.returncode == int(read("status") or 0)
+    return "prints what it must" if is_well else f"prints something else, or ends with another status ({ran.returncode})"
+
+
+def programs(root, names):
+    """Builds and runs programs and tests, as many side by side as there are lanes."""
+    crates = read_crates(root)
+    tasks = []
+    for name in names or crates:
+        if file_of(root, name) == "src/main.rt":
+            tasks.append((name, False))
+        if any("#[test]" in open(os.path.join(at, it)).read() for at, _, files in os.walk(f"{root}/crates/{name}/src") for it in files):
+            tasks.append((name, True))
+
+    def work(task):
+        began = time.monotonic()
+        said = made(root, crates, *task)
+        print(f"{task[0]}{' (tests)' if task[1] else ''}: {said}, {time.monotonic() - began:.0f} seconds", flush=True)
+        return "see " in said or "else" in said
+
+    with concurrent.futures.ThreadPoolExecutor(LANES) as pool:
+        return int(any(list(pool.map(work, tasks))))
 
 
 def check(root, name, flags):
@@ -158,12 +216,19 @@ def edit(root, name, names):
 
 
 def main(given):
-    if len(given) < 2 or given[0] not in ("libs", "check", "edit"):
+    if len(given) < 2 or given[0] not in ("libs", "build", "check", "edit", "program"):
         return __doc__
     what, root, *rest = given
     root = os.path.abspath(root)
     if what == "libs":
         return libs(root, rest)
+    if what == "build":
+        crates = read_crates(root)
+        for name in rest:
+            build(root, crates, name, LANES)
+        return 0
+    if what == "program":
+        return programs(root, rest)
     if not rest:
         return __doc__
     return check(root, rest[0], rest[1:]) if what == "check" else edit(root, rest[0], rest[1:])

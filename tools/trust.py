@@ -54,7 +54,7 @@ PARTS = [
      "always answer that memory ran out.",
      ["sn_deliver::step", "sn_deliver::tick", "sn_flow::connect", "sn_flow::disconnect", "sn_flow::will_topic", "sn_flow::will_msg",
       "sn_flow::will_topic_update", "sn_flow::will_msg_update", "sn_flow::register", "sn_flow::subscribe", "sn_flow::unsubscribe",
-      "sn_flow::other", "plan_laws::every_plan"],
+      "sn_flow::other", "plan_laws::every_plan", "plan_laws::bound_up"],
      ["sn_deliver/Steps/step", "sn_deliver/Ticking/tick", "sn_flow/Locals/after_all", "sn_flow/Locals/owned"]),
     ("The disk",
      "What a gateway makes or takes is written and synced before it is answered. After every crash its journal gives what counts as "

@@ -1,4 +1,5 @@
 mod Examples
 pub mod OwnPlans
+pub mod BoundRuns
 pub mod Takes
 pub mod InJournals

@@ -43,7 +43,7 @@ abbrev AreWell : List Gateway → Type 0
 AreWell gs = (j : ℕ) (gateway : Gateway) → slice_get gs j ≡ Some gateway → Well gateway
 
 -- after the gateway at i became next, each is next or as it was
-set-cases : (i j : ℕ) (gs : List Gateway) (next gateway : Gateway) → slice_get (set gs i next) j ≡ Some gateway → (gateway ≡ next) ⊎ (slice_get gs j ≡ Some gateway)
+pub set-cases : (i j : ℕ) (gs : List Gateway) (next gateway : Gateway) → slice_get (set gs i next) j ≡ Some gateway → (gateway ≡ next) ⊎ (slice_get gs j ≡ Some gateway)
 set-cases i j [] next gateway e = absurd (none-some gateway e)
 set-cases zero zero (g ∷ gs) next gateway e = inl (sym (same_Some next gateway e))
 set-cases zero (suc j) (g ∷ gs) next gateway e = inr e

@@ -1,15 +1,20 @@
 //! The laws. Each function does nothing; its contract is a law, proved for all runs.
 
-ghost use Rattle.std.specs.Prelude.{◌≡◌, ◌⊎◌, [], ◌++◌, ℕ, Bool, List, slice_get, Some, Err, Contains};
+ghost use Rattle.std.specs.Prelude.{◌≡◌, ◌⊎◌, [], ◌++◌, ℕ, Bool, true, List, slice_get, Some, Err, Contains};
 ghost use Rattle.std.specs.List.{AllByRecursion};
+ghost use Rattle.sn_session.specs.declared.session.Session.{Session};
 ghost use Rattle.sn_session.specs.declared.change.SessionOp.{SessionOp};
 ghost use Rattle.rep_ops.specs.declared.op.Stamp.{Stamp};
 ghost use Rattle.rep_ops.specs.declared.op.Op.{Op};
 ghost use Rattle.rep_ops.specs.declared.op.Op.TheVariants.{Session as OfSession};
 ghost use Rattle.rep_ops.specs.Making.{AreApart};
 ghost use Rattle.rep_ops.specs.Sets.{operation_at, Same};
+ghost use Rattle.sn_flow.specs.declared.config.Addr.{Addr};
 ghost use Rattle.sn_flow.specs.declared.config.Config.{Config};
 ghost use Rattle.sn_flow.specs.declared.plan.Plan.{Plan};
+ghost use Rattle.sn_flow.specs.Bindings.{client_at};
+ghost use Rattle.sn_flow.specs.Others.{is_up};
+ghost use Rattle.plan_laws.specs.BoundUp.{IsUp};
 ghost use Rattle.plan_laws.specs.KeepsWell.{KeepsWell};
 ghost use Rattle.gw_node.specs.Occasions.{Occasion};
 ghost use Rattle.gw_node.specs.declared.refusal.Refusal.TheVariants as refusals;
@@ -22,6 +27,7 @@ ghost use Rattle.gw_node.specs.Taking.{ops_of, StandsFor};
 ghost use Rattle.jr_journal.specs.Disk.{Image};
 ghost use Rattle.jr_journal.specs.Records.{records};
 ghost use Rattle.rep_model.specs.Keep.{keep};
+ghost use Rattle.rep_model.specs.Views.{view};
 ghost use Rattle.gw_world.specs.Whole.{made_by};
 ghost use Rattle.gw_world.specs.Steps.{IsPlan, IsTooMuch, OwnStep};
 ghost use Rattle.field_laws.specs.OwnPlans.{AreNumbered, IsTooLong};
@@ -52,6 +58,21 @@ pub fn own_full()
         → OwnStep gateway occasion now (Err refusals.Full) new made
         → (plan : Plan) × IsPlan gateway occasion now (Some plan)
         × (IsTooMuch gateway plan refusals.Full ⊎ IsTooLong plan) }
+{}
+
+/// In every run, whatever comes to a gateway: it owns each client that is bound at it, and that client is
+/// Active, Asleep or Awake. So a frame from a bound address finds a session, and a client that is up.
+pub fn bound_clients()
+    ensures up { (configs : List Config) (events : List Event) (answers : List Answer)
+        (field : Field) (number i : ℕ) (gateway : Gateway)
+        → Run (new_field configs) events answers field → IsAt field number i gateway
+        → IsUp number gateway.taken gateway.local }
+    ensures found { (configs : List Config) (events : List Event) (answers : List Answer)
+        (field : Field) (number i : ℕ) (gateway : Gateway) (a : Addr) (c : List ℕ)
+        → Run (new_field configs) events answers field → IsAt field number i gateway
+        → client_at a gateway.local.bindings ≡ Some c
+        → (s : Session) × ((view c gateway.taken).session ≡ Some s)
+        × (is_up s.presence ≡ true) }
 {}
 
 /// In every run counter 0 stands exactly at the operations that take a session: in each delta of the

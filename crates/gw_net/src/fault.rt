@@ -1,6 +1,7 @@
 //! Why a link is given up, and why a message was not written.
 
 ghost use Rattle.std.specs.Prelude.{◌≡◌};
+ghost use Rattle.gw_net.specs.Faults.{fault_number};
 ghost use Rattle.gw_net.specs.declared.fault.LinkFault.TheVariants.{Memory};
 ghost use Rattle.gw_net.specs.declared.fault.LinkOutFault.TheVariants.{Memory as OutMemory};
 
@@ -26,6 +27,21 @@ pub enum LinkFault {
     /// Fault 5: an earlier piece had a fault.
     #[error("the link has failed before")]
     Failed,
+}
+
+impl LinkFault {
+    /// Its number, from 1 to 5.
+    pub fn number(&self) -> u8
+        ensures { result ≡ fault_number self.now }
+    {
+        match self {
+            LinkFault::TooLong => 1,
+            LinkFault::Kind => 2,
+            LinkFault::Body => 3,
+            LinkFault::Memory => 4,
+            LinkFault::Failed => 5,
+        }
+    }
 }
 
 impl From<AllocError> for LinkFault {

@@ -70,6 +70,17 @@ told faults.Exhausted = refusals.Exhausted
 told (faults.Journal fault) = refusals.Journal fault
 told faults.Memory = refusals.Memory
 
+-- the number by which programs tell a refusal, with an `N` in front of it
+abbrev pub refusal_number : Refusal → ℕ
+refusal_number (refusals.Frame fault) = 1
+refusal_number refusals.Halted = 2
+refusal_number (refusals.Disk excuse) = 3
+refusal_number (refusals.Conflict client) = 4
+refusal_number refusals.Full = 5
+refusal_number refusals.Exhausted = 6
+refusal_number refusals.Memory = 7
+refusal_number (refusals.Journal fault) = 8
+
 abbrev pub said : Result (Arc Out Global) NodeFault → Result Out Refusal
 said (Ok out) = Ok (arc_value out)
 said (Err fault) = Err (told fault)

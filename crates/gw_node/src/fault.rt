@@ -1,5 +1,8 @@
 //! Why a node refuses.
 
+ghost use Rattle.std.specs.Prelude.{◌≡◌};
+ghost use Rattle.gw_node.specs.Parts.{told, refusal_number};
+
 use super::out::Out;
 use jr_journal::JournalFault;
 use rep_ops::ClientId;
@@ -42,4 +45,22 @@ pub enum NodeFault {
     /// Fault 8: the slots are no journal of this gateway; where the journal is compacted, its generation is the last there is.
     #[error("the journal cannot be opened: {fault}")]
     Journal { fault: JournalFault },
+}
+
+impl NodeFault {
+    /// The number by which programs tell it, from 1 to 8: 3 is told as `N3`.
+    pub fn number(&self) -> u8
+        ensures { result ≡ refusal_number (told self.now) }
+    {
+        match self {
+            NodeFault::Frame { .. } => 1,
+            NodeFault::Halted => 2,
+            NodeFault::Disk { .. } => 3,
+            NodeFault::Conflict { .. } => 4,
+            NodeFault::Full => 5,
+            NodeFault::Exhausted => 6,
+            NodeFault::Memory => 7,
+            NodeFault::Journal { .. } => 8,
+        }
+    }
 }

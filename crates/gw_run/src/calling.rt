@@ -41,7 +41,8 @@ pub enum End {
     Reopened,
 }
 
-/// Makes a call. Says what the gateway answered, or why the call did not reach it.
+/// Makes a call, once it is claimed. Says what the gateway answered, or why the call did not reach it.
+#[tactic(auto, using(crate::proofs::Adding::adds_none))]
 pub(crate) fn call<T: Wait, R: Replica, D: Disk + Drop>(
     rt: &T,
     alloc: Global,
@@ -54,7 +55,9 @@ pub(crate) fn call<T: Wait, R: Replica, D: Disk + Drop>(
     ensures none { IfErr result.1 (λ end. CannotCall end × (result.0 ≡ pass)) }
     ensures adds { (is : AnyStep → Bool) → is (arc_value step) ≡ true → Adds is pass result.0 }
 {
-    stage.note_call();
+    if !stage.claim() {
+        return (pass, Err(End::Full));
+    }
     match shift.call(rt, alloc, pass, step) {
         Ok((pass, out, _)) => (pass, Ok(Ok(out))),
         Err((pass, fault)) => match reached(fault) {

@@ -6,6 +6,7 @@ ghost use Rattle.gw_run.specs.Adding.{Adds, is_of_link};
 
 use crate::calling::{End, call, dropped};
 use crate::link::{Heard, Link};
+use crate::outgoing::is_nothing;
 use crate::saying::say_answer;
 use crate::stage::Stage;
 use gw_net::{LinkFault, LinkMessage};
@@ -14,9 +15,21 @@ use gw_shift::{Pass, Shift};
 use jr_journal::Disk;
 use rep_model::Replica;
 use std::alloc::Global;
-use std::collections::VecDeque;
-use std::io::{Error, ErrorKind, Read, Write};
+use std::io::Read;
 use std::sync::{Arc, Wait};
+
+/// How often a read may find nothing before the other end has said its number: some ten seconds.
+const MOST_SILENCE: u32 = 1_000;
+
+/// What a message says.
+enum Said {
+    /// The other end's number.
+    Number,
+    /// What it has: it asks for what it lacks.
+    Asks(Heard),
+    /// Operations.
+    Tells(Heard),
+}
 
 /// Reads what has come, where anything does within the stream's time.
 pub(crate) fn listen<S: Read + Drop>(
@@ -27,20 +40,21 @@ pub(crate) fn listen<S: Read + Drop>(
     match link.stream.read(piece) {
         Ok(0) => Err(End::Lost),
         Ok(size) => take_in(alloc, link, &piece[..size]),
-        Err(error) => {
-            if is_nothing(&error) {
-                Ok(())
-            } else {
-                Err(End::Lost)
-            }
-        }
+        Err(error) if is_nothing(&error) => wait_on(link),
+        Err(_) => Err(End::Lost),
     }
 }
 
-/// Whether a read found nothing in its time.
-fn is_nothing(error: &Error) -> bool {
-    let kind = error.kind();
-    kind == ErrorKind::WouldBlock || kind == ErrorKind::TimedOut || kind == ErrorKind::Interrupted
+/// Nothing came. An end that does not say its number for too long is given up: it keeps another from its place.
+fn wait_on<S: Drop>(link: &mut Link<S>) -> Result<(), End> {
+    if link.is_known {
+        return Ok(());
+    }
+    link.silence = link.silence.saturating_add(1);
+    if link.silence > MOST_SILENCE {
+        return Err(End::Lost);
+    }
+    Ok(())
 }
 
 /// Takes a piece of the stream. What is no message ends the link, once what came before it was heard.
@@ -50,46 +64,50 @@ fn take_in<S: Drop>(alloc: Global, link: &mut Link<S>, piece: &[u8]) -> Result<(
         Err(_) => Err(End::Lost),
         Ok(fed) => {
             link.failed = fed.fault.is_some();
-            wait_all(alloc, &mut link.waiting, fed.messages)
+            wait_all(alloc, link, fed.messages)
         }
     }
 }
 
-/// Puts messages behind those that wait.
-fn wait_all(
+/// Puts deltas behind those that wait. A digest takes the place of one that was not answered yet.
+fn wait_all<S: Drop>(
     alloc: Global,
-    waiting: &mut VecDeque<Heard>,
+    link: &mut Link<S>,
     messages: Vec<LinkMessage>,
 ) -> Result<(), End> {
     for message in messages {
-        if let Some(heard) = heard(alloc, message)? {
-            if waiting.push_back(heard).is_err() {
-                return Err(End::Memory);
+        match heard(alloc, message)? {
+            Said::Number => link.is_known = true,
+            Said::Asks(asked) => link.asked = Some(asked),
+            Said::Tells(told) => {
+                if link.waiting.push_back(told).is_err() {
+                    return Err(End::Memory);
+                }
             }
         }
     }
     Ok(())
 }
 
-/// The call that a message asks for. A number asks for none.
-fn heard(alloc: Global, message: LinkMessage) -> Result<Option<Heard>, End> {
+/// What a message says, as the call that it asks for. A number asks for none.
+fn heard(alloc: Global, message: LinkMessage) -> Result<Said, End> {
     match message {
-        LinkMessage::Hello(_) => Ok(None),
+        LinkMessage::Hello(_) => Ok(Said::Number),
         LinkMessage::Digest(digest) => match Arc::new(alloc, Step::Answer { digest }) {
-            Ok(step) => Ok(Some(Heard { step })),
+            Ok(step) => Ok(Said::Asks(Heard { step })),
             Err(_) => Err(End::Memory),
         },
         LinkMessage::Delta(delta) => match Arc::new(alloc, Step::Take { delta }) {
-            Ok(step) => Ok(Some(Heard { step })),
+            Ok(step) => Ok(Said::Tells(Heard { step })),
             Err(_) => Err(End::Memory),
         },
     }
 }
 
-/// Hears what has come: takes deltas, answers digests. What the gateway refuses is dropped, also where it is halted; where the shift
-/// has had all its calls the rest waits for the next one.
+/// Takes the deltas that came. What the gateway refuses is dropped, also where it is halted; where the shift has had all its calls the rest
+/// waits for the next one.
 #[tactic(auto, using(crate::proofs::Adding::adds_more, crate::proofs::Adding::adds_none))]
-pub(crate) fn hear_all<T: Wait, R: Replica, D: Disk + Drop, S: Write + Drop>(
+pub(crate) fn hear_all<T: Wait, R: Replica, D: Disk + Drop, S: Drop>(
     rt: &T,
     alloc: Global,
     shift: &Shift<R, D>,
@@ -107,7 +125,7 @@ pub(crate) fn hear_all<T: Wait, R: Replica, D: Disk + Drop, S: Write + Drop>(
         let Ok(step) = first.step.clone() else {
             return (pass, Err(End::Memory));
         };
-        let (after, heard) = hear(rt, alloc, shift, pass, &mut link.stream, step, stage);
+        let (after, heard) = hear(rt, alloc, shift, pass, link, step, stage);
         pass = after;
         if let Err(end) = heard {
             return (pass, Err(end));
@@ -117,13 +135,42 @@ pub(crate) fn hear_all<T: Wait, R: Replica, D: Disk + Drop, S: Write + Drop>(
     unreachable!()
 }
 
-/// Hears one message.
-fn hear<T: Wait, R: Replica, D: Disk + Drop, S: Write>(
+/// Answers the digest that came, once what was said so far went out, and once a shift: who asks and does not listen, or asks and
+/// asks, is not answered without end.
+pub(crate) fn answer<T: Wait, R: Replica, D: Disk + Drop, S: Drop>(
     rt: &T,
     alloc: Global,
     shift: &Shift<R, D>,
     pass: Pass,
-    stream: &mut S,
+    link: &mut Link<S>,
+    stage: &Stage,
+) -> (Pass, Result<(), End>)
+    ensures { Adds is_of_link pass result.0 }
+{
+    if link.answered || !link.is_told() {
+        return (pass, Ok(()));
+    }
+    let Some(asked) = link.asked.as_ref() else {
+        return (pass, Ok(()));
+    };
+    let Ok(step) = asked.step.clone() else {
+        return (pass, Err(End::Memory));
+    };
+    let (pass, heard) = hear(rt, alloc, shift, pass, link, step, stage);
+    if heard.is_ok() {
+        link.asked = None;
+        link.answered = true;
+    }
+    (pass, heard)
+}
+
+/// Hears one message.
+fn hear<T: Wait, R: Replica, D: Disk + Drop, S: Drop>(
+    rt: &T,
+    alloc: Global,
+    shift: &Shift<R, D>,
+    pass: Pass,
+    link: &mut Link<S>,
     step: Arc<Step>,
     stage: &Stage,
 ) -> (Pass, Result<(), End>)
@@ -134,6 +181,6 @@ fn hear<T: Wait, R: Replica, D: Disk + Drop, S: Write>(
     match answered {
         Err(end) => (pass, Err(end)),
         Ok(Err(fault)) => (pass, dropped(&fault)),
-        Ok(Ok(out)) => (pass, say_answer(alloc, stream, out.answer.as_slice())),
+        Ok(Ok(out)) => (pass, say_answer(alloc, link, out.answer.as_slice())),
     }
 }

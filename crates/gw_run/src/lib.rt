@@ -8,7 +8,8 @@
 //! - `calling`: a call with a pass that comes back (`End`).
 //! - `ticking`: the ticks of a shift, and the opening anew of a gateway that is halted (`tick_all`).
 //! - `link`: a link that is open (`Link`, `Origin`).
-//! - `saying`: what goes out over a link.
+//! - `saying`: what is said over a link.
+//! - `outgoing`: how that goes out, while what comes is read.
 //! - `hearing`: what has come over it.
 //! - `talking`: a link during a shift.
 //! - `pool`: the links that wait for a seat (`Pool`).
@@ -21,6 +22,7 @@
 mod calling;
 mod hearing;
 mod link;
+mod outgoing;
 mod pool;
 mod saying;
 mod seat;

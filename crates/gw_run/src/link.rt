@@ -33,10 +33,26 @@ pub struct Link<S: Drop> {
     pub(crate) origin: Origin,
     /// The octets of a message that is not whole.
     pub(crate) incoming: LinkIn,
-    /// What came and was not heard yet, in its order.
+    /// The deltas that came and were not heard yet, in their order.
     pub(crate) waiting: VecDeque<Heard>,
+    /// The last digest that came and was not answered yet.
+    pub(crate) asked: Option<Heard>,
+    /// A digest was answered in this shift.
+    pub(crate) answered: bool,
+    /// The other end has said its number.
+    pub(crate) is_known: bool,
+    /// How often a read found nothing before that.
+    pub(crate) silence: u32,
     /// What came behind it is no message.
     pub(crate) failed: bool,
+    /// What is to go out, a message each.
+    pub(crate) outgoing: VecDeque<Vec<u8>>,
+    /// How many octets they have.
+    pub(crate) behind: usize,
+    /// How many octets of the first of them went out.
+    pub(crate) written: usize,
+    /// How often in turn the stream took none.
+    pub(crate) stalls: u32,
     /// This end has said its number and its digest.
     pub(crate) greeted: bool,
     /// The number of the last call of the shift whose delta was told.
@@ -51,14 +67,28 @@ impl<S: Drop> Link<S> {
             origin,
             incoming: LinkIn::new(),
             waiting: VecDeque::new(alloc),
+            asked: None,
+            answered: false,
+            is_known: false,
+            silence: 0,
             failed: false,
+            outgoing: VecDeque::new(alloc),
+            behind: 0,
+            written: 0,
+            stalls: 0,
             greeted: false,
             told: 0,
         }
     }
 
+    /// Whether all that was said went out.
+    pub(crate) fn is_told(&self) -> bool {
+        self.outgoing.is_empty()
+    }
+
     /// A new shift numbers its calls from 1; what the last one made was told.
     pub(crate) fn begin_shift(&mut self) {
         self.told = 0;
+        self.answered = false;
     }
 }

@@ -52,6 +52,11 @@ impl<S: Drop> Pool<S> {
         self.ticked.swap(second, Ordering::SeqCst) != second
     }
 
+    /// The clock has not done in this second what it had to: it may tick once more.
+    pub(crate) fn tick_again(&self) {
+        self.ticked.store(0, Ordering::SeqCst);
+    }
+
     /// Whether one more link of this origin may be open.
     pub fn may_open<T: Wait>(&self, rt: &T, origin: Origin) -> bool {
         let links = self.links.lock(rt);

@@ -5,8 +5,9 @@ ghost use Rattle.gw_run.specs.Adding.{Adds, is_of_link};
 
 use crate::calling::{End, call, dropped};
 use crate::link::Link;
+use crate::outgoing::{is_behind, say};
 use crate::stage::Stage;
-use gw_net::{LinkMessage, LinkOutFault, link_out};
+use gw_net::LinkMessage;
 use gw_node::{Out, Step};
 use gw_shift::{CallFault, Pass, Shift};
 use jr_journal::Disk;
@@ -14,27 +15,17 @@ use rep_digest::Digest;
 use rep_model::Replica;
 use rep_ops::Delta;
 use std::alloc::Global;
-use std::io::Write;
 use std::sync::{Arc, Wait};
 
 /// How many deltas are asked of the shift at once.
 const AT_ONCE: usize = 64;
 
-/// Says a message. A stream that does not take it is lost.
-fn sent(outcome: Result<(), LinkOutFault>) -> Result<(), End> {
-    match outcome {
-        Ok(()) => Ok(()),
-        Err(LinkOutFault::Memory) => Err(End::Memory),
-        Err(LinkOutFault::Write { .. }) => Err(End::Lost),
-    }
-}
-
 /// Says the number of this gateway.
-fn say_hello<S: Write>(alloc: Global, stream: &mut S, gateway: u8) -> Result<(), End> {
+fn say_hello<S: Drop>(alloc: Global, link: &mut Link<S>, gateway: u8) -> Result<(), End> {
     if gateway == 0 {
         return Err(End::Lost);
     }
-    sent(link_out(alloc, stream, &LinkMessage::Hello(gateway)))
+    say(alloc, link, &LinkMessage::Hello(gateway))
 }
 
 /// An equal digest, by its octets.
@@ -50,33 +41,28 @@ fn equal(alloc: Global, digest: &Digest) -> Result<Digest, End> {
 }
 
 /// Says a digest.
-fn say_digest<S: Write>(alloc: Global, stream: &mut S, digest: &Digest) -> Result<(), End> {
+fn say_digest<S: Drop>(alloc: Global, link: &mut Link<S>, digest: &Digest) -> Result<(), End> {
     let digest = equal(alloc, digest)?;
-    sent(link_out(alloc, stream, &LinkMessage::Digest(digest)))
-}
-
-/// Says a delta.
-fn say_delta<S: Write>(alloc: Global, stream: &mut S, delta: Delta) -> Result<(), End> {
-    sent(link_out(alloc, stream, &LinkMessage::Delta(delta)))
+    say(alloc, link, &LinkMessage::Digest(digest))
 }
 
 /// Says what the other end lacks.
-pub(crate) fn say_answer<S: Write>(
+pub(crate) fn say_answer<S: Drop>(
     alloc: Global,
-    stream: &mut S,
+    link: &mut Link<S>,
     deltas: &[Delta],
 ) -> Result<(), End> {
     for delta in deltas {
         let Ok(delta) = delta.copy(alloc) else {
             return Err(End::Memory);
         };
-        say_delta(alloc, stream, delta)?;
+        say(alloc, link, &LinkMessage::Delta(delta))?;
     }
     Ok(())
 }
 
 /// Says the number of this gateway and what it has, once.
-pub(crate) fn greet<T: Wait, R: Replica, D: Disk + Drop, S: Write + Drop>(
+pub(crate) fn greet<T: Wait, R: Replica, D: Disk + Drop, S: Drop>(
     rt: &T,
     alloc: Global,
     shift: &Shift<R, D>,
@@ -105,24 +91,24 @@ pub(crate) fn greet<T: Wait, R: Replica, D: Disk + Drop, S: Write + Drop>(
 }
 
 /// The same once the digest is known; a gateway whose digest would be too large says its number alone.
-fn say_greeting<S: Write + Drop>(
+fn say_greeting<S: Drop>(
     alloc: Global,
     link: &mut Link<S>,
     gateway: u8,
     out: Option<Arc<Out>>,
 ) -> Result<(), End> {
     link.greeted = true;
-    say_hello(alloc, &mut link.stream, gateway)?;
+    say_hello(alloc, link, gateway)?;
     if let Some(out) = out {
         if let Some(digest) = out.digest.as_ref() {
-            say_digest(alloc, &mut link.stream, digest)?;
+            say_digest(alloc, link, digest)?;
         }
     }
     Ok(())
 }
 
 /// Tells of each delta that the gateway made in this shift and that was not told of.
-pub(crate) fn tell_all<T: Wait, R: Replica, D: Disk + Drop, S: Write + Drop>(
+pub(crate) fn tell_all<T: Wait, R: Replica, D: Disk + Drop, S: Drop>(
     rt: &T,
     alloc: Global,
     shift: &Shift<R, D>,
@@ -144,13 +130,16 @@ pub(crate) fn tell_all<T: Wait, R: Replica, D: Disk + Drop, S: Write + Drop>(
 }
 
 /// Tells of these deltas, which calls of these numbers made.
-fn tell_some<S: Write + Drop>(
+fn tell_some<S: Drop>(
     alloc: Global,
     link: &mut Link<S>,
     made: Vec<(u64, Delta)>,
 ) -> Result<(), End> {
     for (number, delta) in made {
-        say_delta(alloc, &mut link.stream, delta)?;
+        if is_behind(link) {
+            return Err(End::Lost);
+        }
+        say(alloc, link, &LinkMessage::Delta(delta))?;
         link.told = number;
     }
     Ok(())

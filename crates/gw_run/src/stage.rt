@@ -15,32 +15,41 @@ pub enum Phase {
     Quiet,
 }
 
-/// Tells the threads of a shift how far it is, lets them wait for that, and counts the calls that no datagram asked for.
+/// Tells the threads of a shift how far it is, lets them wait for that, and gives out its calls: who makes one has claimed it before.
 #[derive(Drop)]
 pub struct Stage {
     phase: Mutex<Phase>,
     changed: Condvar,
-    calls: AtomicU64,
+    /// How many calls the shift has.
+    steps: u64,
+    /// How often one was asked for.
+    claims: AtomicU64,
 }
 
 impl Stage {
-    /// The begin of a shift.
-    pub fn new() -> Stage {
+    /// The begin of a shift of so many calls, of which so many are claimed.
+    pub fn new(steps: u64, claimed: u64) -> Stage {
         Stage {
             phase: Mutex::new(Phase::Serving),
             changed: Condvar::new(),
-            calls: AtomicU64::new(0),
+            steps,
+            claims: AtomicU64::new(claimed),
         }
     }
 
-    /// Notes a call that no datagram asked for.
-    pub(crate) fn note_call(&self) {
-        let _ = self.calls.fetch_add(1, Ordering::SeqCst);
+    /// Claims one of the shift's calls. Says whether one was left.
+    pub fn claim(&self) -> bool {
+        self.claims.fetch_add(1, Ordering::SeqCst) < self.steps
     }
 
-    /// How many such calls were noted.
-    pub fn calls(&self) -> u64 {
-        self.calls.load(Ordering::SeqCst)
+    /// Gives back a claim that was not used.
+    pub fn give_back(&self) {
+        let _ = self.claims.fetch_sub(1, Ordering::SeqCst);
+    }
+
+    /// Whether all of the shift's calls are claimed.
+    pub fn is_full(&self) -> bool {
+        self.claims.load(Ordering::SeqCst) >= self.steps
     }
 
     /// How far it is now.

@@ -22,7 +22,7 @@ pub const MOST_TICKS: u64 = 1_024;
 const A_LOOK: u64 = 100;
 
 /// Ticks in each second while the shift is serving: until a tick gives nothing, and no oftener than `MOST_TICKS`. What a tick has to
-/// send is sent at once. A second in which it has ticked in an earlier shift is left out.
+/// send is sent at once. A second in which it has ticked in an earlier shift is left out, unless that shift had no call left for it.
 ///
 /// A tick that finds the gateway halted is the last one: the next call opens the gateway anew, and the shift is closed, however that
 /// ends.
@@ -73,7 +73,11 @@ fn tick_in_turn<T: Wait + Clock, R: Replica, D: Disk + Drop, P: Post, S: Drop>(
     if !pool.may_tick(moment(rt)) {
         return (pass, None);
     }
-    tick_out(rt, alloc, shift, pass, stage, post)
+    let (pass, end) = tick_out(rt, alloc, shift, pass, stage, post);
+    if end == Some(End::Full) {
+        pool.tick_again();
+    }
+    (pass, end)
 }
 
 /// Ticks until a tick gives nothing.

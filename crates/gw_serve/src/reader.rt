@@ -60,6 +60,8 @@ pub fn read_all<R: Wait, W: Wire>(
                 if sender.try_send_as::<Sends, R>(rt, ticket, datagram).is_ok() {
                     count += 1;
                     bell.ring(rt);
+                } else {
+                    wire.unheard();
                 }
             }
         }

@@ -26,7 +26,7 @@ pub struct Unsent;
 
 /// Where datagrams come from. One thread has it.
 pub trait Wire {
-    ghost use Rattle.std.specs.Prelude.{◌≤◌, ℕ, length, IfOk, IfSome};
+    ghost use Rattle.std.specs.Prelude.{◌≡◌, ◌≤◌, ℕ, length, IfOk, IfSome};
     ghost use Rattle.jr_journal.specs.Disk.{HasCause};
 
     /// How many receives have failed.
@@ -36,6 +36,10 @@ pub trait Wire {
     fn recv(&mut self, buffer: &mut [u8]) -> Result<Option<Arrival>, WireFault>
         ensures cause { HasCause (failures self.old) (failures self.new) result }
         ensures size { IfOk result (λ came. IfSome came (λ arrival. arrival.size ≤ length buffer.new)) };
+
+    /// The last datagram was dropped: more waited than there was room for.
+    fn unheard(&mut self)
+        ensures { failures self.new ≡ failures self.old };
 }
 
 /// Where replies go. Threads share it.

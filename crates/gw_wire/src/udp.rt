@@ -1,6 +1,6 @@
 //! One UDP socket, from which one thread reads and through which any thread sends.
 
-ghost use Rattle.std.specs.Prelude.{◌≡◌, IfOk};
+ghost use Rattle.std.specs.Prelude.{◌≡◌, ◌≤◌, length, IfOk, IfSome};
 ghost use Rattle.gw_wire.specs.Addresses.{IsAddress, addr_of};
 
 use super::ends::{Arrival, Post, Unsent, Wire, WireFault};
@@ -14,8 +14,8 @@ use std::io::ErrorKind;
 use std::net::{Ipv4Addr, Net, SocketAddr, SocketAddrV4};
 use std::time::{Clock, Duration, SystemTime};
 
-/// How many milliseconds a receive waits for a datagram.
-const A_WHILE: u64 = 100;
+/// How many milliseconds a receive waits for a datagram. As long a shift that has had all its calls may go on.
+const A_WHILE: u64 = 10;
 
 /// A UDP socket with what tells that it is readable.
 #[derive(Drop)]
@@ -130,6 +130,27 @@ impl<'a, C: Clock> Ears<'a, C> {
             .poll(self.events, Some(Duration::from_millis(A_WHILE)))?;
         self.look(buffer)
     }
+
+    /// A datagram that is there already, in the front of the buffer, if there is one. That a look failed is told by the next receive.
+    pub fn waiting(&self, buffer: &mut [u8]) -> Option<Arrival>
+        ensures { IfSome result (λ arrival. arrival.size ≤ length buffer.new) }
+    {
+        match self.look(buffer) {
+            Ok(Some((size, from))) => self.arrived(buffer.len(), size, from),
+            _ => None,
+        }
+    }
+
+    /// A datagram of so many octets that has come now, where the buffer has room for it.
+    fn arrived(&self, room: usize, size: usize, from: Addr) -> Option<Arrival>
+        ensures { IfSome result (λ arrival. arrival.size ≤ room) }
+    {
+        if size > room {
+            return None;
+        }
+        let moment = moment(self.clock);
+        Some(Arrival { from, size, moment })
+    }
 }
 
 /// The system clock's seconds since 1970.
@@ -149,19 +170,15 @@ impl<'a, C: Clock> Wire for Ears<'a, C> {
     fn recv(&mut self, buffer: &mut [u8]) -> Result<Option<Arrival>, WireFault> {
         match self.wait(buffer) {
             Ok(None) => Ok(None),
-            Ok(Some((size, from))) => {
-                if size > buffer.len() {
-                    return Ok(None);
-                }
-                let moment = moment(self.clock);
-                Ok(Some(Arrival { from, size, moment }))
-            }
+            Ok(Some((size, from))) => Ok(self.arrived(buffer.len(), size, from)),
             Err(_) => {
                 self.failures = Failures::next(&self.failures);
                 Err(WireFault)
             }
         }
     }
+
+    fn unheard(&mut self) {}
 }
 
 impl<'a> Post for Mouth<'a> {

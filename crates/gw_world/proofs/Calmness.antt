@@ -150,6 +150,14 @@ no_records gateway = refl
 pub empty_records : (gateway : ℕ) (i : Image) → i ≡ record { first = []; second = [] } → records gateway i ≡ []
 empty_records gateway i e = ap (λ (j : Image). records gateway j) e ∙ no_records gateway
 
+no_fault : (gateway : ℕ) → fault_of gateway (record { first = []; second = [] }) ≡ None
+unfolding slot_content
+no_fault gateway = refl
+
+-- and its slots are a journal
+pub empty_sound : (gateway : ℕ) (i : Image) → i ≡ record { first = []; second = [] } → fault_of gateway i ≡ None
+empty_sound gateway i e = ap (λ (j : Image). fault_of gateway j) e ∙ no_fault gateway
+
 nothing_within : Within [] []
 nothing_within = record { operations_in = λ c name x e. e; puts_in = λ c name x e. e; acknowledgements_in = λ c name e. e }
 
@@ -168,6 +176,12 @@ stands_empty gateway i empty sound =
       roomy = subst (λ (ds : List (List Op)). (k : ℕ) → first_passed (all_of (take k ds)) ≡ None) none none_roomy;
       proper = subst (λ (ds : List (List Op)). IsConsistent (ops_of ds)) none tt;
     }
+
+-- nothing but want of memory refuses an opening on an empty disk
+pub only_memory_new : (config : Config) (i : Image) (refusal : Refusal) → i ≡ record { first = []; second = [] }
+    → IsOpenFault config.gateway i refusal → (IsDiskFault refusal → ⊥) → refusal ≡ refusals.Memory
+only_memory_new config i refusal empty why disk =
+    wants_memory config.gateway [] [] i refusal (stands_empty config.gateway i empty (empty_sound config.gateway i empty)) why disk
 
 module _ {D : Type 0} {G : Ghosts D} where
   -- ---- from a node to its gateway, and back

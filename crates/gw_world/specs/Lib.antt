@@ -1,3 +1,4 @@
+pub mod Faults
 pub mod Drives
 pub mod Gateways
 pub mod Steps

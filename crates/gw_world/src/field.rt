@@ -208,7 +208,7 @@ pub fn fail_at<R: Replica>(
 }
 
 /// What is said where an opening was refused for want of memory.
-fn want_of_memory(fault: &NodeFault) -> WorldFault
+pub(crate) fn want_of_memory(fault: &NodeFault) -> WorldFault
     requires { told fault.now ≡ refusals.Memory }
     ensures { result ≡ WorldFault.Memory }
 {

@@ -15,6 +15,7 @@ ghost use Rattle.rep_ops.specs.declared.op.Op.{Op};
 use super::event::{Answer, Event};
 use super::field::{
     ask, compact_at, fail_at, frame_at, place_of, restart_at, show_at, take_at, tick_at,
+    want_of_memory,
 };
 use super::world::{World, WorldFault};
 use gw_node::{Node, NodeFault, Out};
@@ -310,19 +311,28 @@ fn play_event<R: Replica>(
 }
 
 /// A gateway that has taken nothing, with its journal on an empty disk.
+///
+/// The disk stands for no operations and no failure is arranged on it, so nothing refuses the opening but want of memory.
 fn new_node<R: Replica>(alloc: Global, config: &Config) -> Result<Node<R, MemoryDisk>, WorldFault>
     ensures ok { IfOk result (λ node. keeping R.kept node ≡ new_gateway config.now) }
     ensures lasts { IfOk result (λ node. Lasts [] [] (keeping R.kept node)) }
     ensures calm { IfOk result (λ node. IsCalm (state_of R.kept node)) }
     ensures err { IfErr result (λ fault. fault ≡ WorldFault.Memory) }
 {
-    let Ok(node) = Node::open(alloc, config.copy(alloc)?, MemoryDisk::new(alloc)) else {
-        return Err(WorldFault::Memory);
-    };
-    if node.starved() {
-        return Err(WorldFault::Memory);
+    match Node::open(alloc, config.copy(alloc)?, MemoryDisk::new(alloc)) {
+        Ok(node) => {
+            if node.starved() {
+                return Err(WorldFault::Memory);
+            }
+            Ok(node)
+        }
+        Err((disk, fault)) => {
+            if disk.starved() {
+                return Err(WorldFault::Memory);
+            }
+            Err(want_of_memory(&fault))
+        }
     }
-    Ok(node)
 }
 
 /// The gateways of these configs, each of which has taken nothing.

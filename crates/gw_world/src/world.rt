@@ -1,6 +1,7 @@
 //! The result of a run.
 
 ghost use Rattle.std.specs.Prelude.{◌≡◌};
+ghost use Rattle.gw_world.specs.Faults.{fault_number};
 ghost use Rattle.gw_world.specs.declared.world.WorldFault.TheVariants.{Memory};
 
 use super::event::Answer;
@@ -34,6 +35,19 @@ pub enum WorldFault {
     /// Fault 3: memory ran out.
     #[error("out of memory")]
     Memory,
+}
+
+impl WorldFault {
+    /// Its number, from 1 to 3.
+    pub fn number(&self) -> u8
+        ensures { result ≡ fault_number self.now }
+    {
+        match self {
+            WorldFault::NoGateway { .. } => 1,
+            WorldFault::NoDelta { .. } => 2,
+            WorldFault::Memory => 3,
+        }
+    }
 }
 
 impl From<AllocError> for WorldFault {

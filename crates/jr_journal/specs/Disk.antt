@@ -100,3 +100,13 @@ is_calm (Some (Some FailSync)) = false
 abbrev pub GoesAs : {T E : Type 0} → Option (Option Plan) → Result T E → Option (Option Plan) → Type 0
 GoesAs None result after = Unit {0}
 GoesAs (Some plan) result after = IsOk result × (after ≡ Some plan)
+
+-- whatever became of the call, what is known to be arranged still is
+abbrev pub StaysArranged : Option (Option Plan) → Option (Option Plan) → Type 0
+StaysArranged None after = Unit {0}
+StaysArranged (Some plan) after = after ≡ Some plan
+
+-- memory was refused in the call: it failed, nothing went out, and what is arranged still is
+abbrev pub IsWanting : {T E : Type 0} → Result T E → Slots → Slots → Option (Option Plan) → Option (Option Plan)
+    → Type 0
+IsWanting result old new before after = IsErr result × (new ≡ old) × (after ≡ before)

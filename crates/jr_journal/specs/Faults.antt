@@ -52,3 +52,11 @@ IsFault fault Halted = fault ≡ Some Halted
 abbrev pub is_none : Option JournalFault → Bool
 is_none None = true
 is_none (Some fault) = false
+
+-- the number by which programs tell a fault, with a `J` in front of it
+abbrev pub fault_number : JournalFault → ℕ
+fault_number Disk = 1
+fault_number Foreign = 2
+fault_number (BadRecord slot at) = 3
+fault_number Memory = 4
+fault_number Halted = 5

@@ -1,6 +1,7 @@
 //! Why a journal refuses.
 
 ghost use Rattle.std.specs.Prelude.{◌≡◌};
+ghost use Rattle.jr_journal.specs.Faults.{fault_number};
 ghost use Rattle.jr_journal.specs.declared.fault.JournalFault.TheVariants.{Memory};
 
 use crate::disk::Slot;
@@ -25,6 +26,21 @@ pub enum JournalFault {
     /// Fault 5: a write has failed since the journal was opened.
     #[error("the journal is halted")]
     Halted,
+}
+
+impl JournalFault {
+    /// The number by which programs tell it, from 1 to 5: 3 is told as `J3`.
+    pub fn number(&self) -> u8
+        ensures { result ≡ fault_number self.now }
+    {
+        match self {
+            JournalFault::Disk => 1,
+            JournalFault::Foreign => 2,
+            JournalFault::BadRecord { .. } => 3,
+            JournalFault::Memory => 4,
+            JournalFault::Halted => 5,
+        }
+    }
 }
 
 impl From<AllocError> for JournalFault {

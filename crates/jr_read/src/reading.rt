@@ -117,7 +117,8 @@ fn open(alloc: Global, disk: MemoryDisk, gateway: u8) -> Result<Opened, JournalF
                     generation,
                     whole,
                 }),
-                Err(_) => Err(JournalFault::Memory),
+                // On a disk in memory this cannot fail.
+                Err(_) => unreachable!(),
             }
         }
         Err((_, fault)) => Err(told(fault)),

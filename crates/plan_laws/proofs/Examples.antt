@@ -1,10 +1,14 @@
--- Worked rows: topics of wills that a dialog may have been given, and the operation that a first CONNECT makes.
+-- Worked rows: topics of wills that a dialog may have been given, and the operation that a first CONNECT makes; who is up behind it.
 use Rattle.std.proofs.Common.{◌≡◌, ℕ, true, false, List, [], ◌∷◌, refl}
 use Rattle.sn_session.specs.declared.will.WillTopic.{WillTopic}
 use Rattle.sn_flow.specs.declared.local.Awaited.TheVariants.{Topic, Message}
 use Rattle.rep_ops.specs.declared.op.Op.TheVariants.{Session as OfSession, Ack}
 use Rattle.rep_ops.specs.WellMade.{is_well_made}
+use Rattle.rep_model.specs.Views.{view, gapless}
 use Rattle.sn_session.specs.declared.change.SessionOp.TheVariants.{Take}
+use Rattle.sn_flow.specs.Bindings.{is_owned}
+use Rattle.sn_flow.specs.Others.{can_wake}
+use Rattle.sn_flow.specs.Plans.{seen_of}
 use Rattle.sn_flow.proofs.Rows.{s1, session_of_s1, first_take}
 use Rattle.plan_laws.specs.KeepsWell.{is_asked}
 
@@ -34,3 +38,17 @@ miscounted = refl
 -- an acknowledgement of message 0 could not
 no_message : is_well_made (Ack s1 1 0 0) ≡ false
 no_message = refl
+
+-- behind that Take the client is gateway 1's, and up; it is not gateway 2's, and where there is no Take it is not up
+owned_first : is_owned 1 (seen_of (first_take ∷ [])) s1 ≡ true
+owned_first = refl
+
+owned_elsewhere : is_owned 2 (seen_of (first_take ∷ [])) s1 ≡ false
+owned_elsewhere = refl
+
+up_first : can_wake (view s1 (first_take ∷ [])).session ≡ true
+unfolding gapless
+up_first = refl
+
+nobody_up : can_wake (view s1 []).session ≡ false
+nobody_up = refl

@@ -7,3 +7,6 @@ pub mod Following
 pub mod Rows
 pub mod Serving
 pub mod Steps
+pub mod BoundDrafts
+pub mod BoundRows
+pub mod BoundBehind

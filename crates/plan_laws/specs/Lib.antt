@@ -1,1 +1,2 @@
+pub mod BoundUp
 pub mod KeepsWell

@@ -1,21 +1,24 @@
 -- When nothing is due with a client: what was just sent, a client that is heard of, one that is lost or sleeps.
-use Rattle.std.proofs.Common.{◌≡◌, ◌<◌, ℕ, ◌-◌, Bool, true, false, ◌&&◌, ◌||◌, not, if◌then◌else◌, nat_lt, nat_le, List, [], ◌∷◌, ◌++◌, filter, Option, Some, None, refl, sym, ap, ◌∙◌, true≢false, arith}
-use Rattle.std.specs.List.{AllByRecursion}
+use Rattle.std.proofs.Common.{◌≡◌, ◌<◌, ℕ, ◌-◌, Bool, true, false, ◌&&◌, ◌||◌, if◌then◌else◌, nat_lt, nat_le, List, [], ◌∷◌, ◌++◌, Option, Some, None, refl, sym, ap, ◌∙◌, arith}
+use Rattle.std.specs.declared.cmp.Ordering.TheVariants.{Less, Equal, Greater}
+use Rattle.std.specs.Ordering.{is_eq, ordering_reverse}
 use Rattle.std.proofs.lemmas.Bool.Decides.{nat_tests}
 use Rattle.std.proofs.lemmas.List.Sums.{fold-append}
+use Rattle.sn_session.specs.Tables.{by_order}
 use Rattle.sn_session.specs.declared.presence.Presence.{Presence}
 use Rattle.sn_session.specs.declared.presence.Presence.TheVariants.{Active, Asleep, Awake, Disconnected, Lost}
 use Rattle.sn_session.specs.declared.outbound.Outbound.{Outbound as Exchange}
 use Rattle.sn_session.specs.declared.session.Session.{Session}
 use Rattle.rep_ops.specs.declared.op.Put.{Put}
 use Rattle.rep_ops.specs.Sets.{same_client}
+use Rattle.rep_model.proofs.Readers.{client_total}
 use Rattle.sn_flow.specs.declared.config.Addr.{Addr}
 use Rattle.sn_flow.specs.declared.local.Timer.{Timer}
 use Rattle.sn_flow.specs.declared.local.LocalChange.{LocalChange}
 use Rattle.sn_flow.specs.Others.{is_up}
-use Rattle.sn_flow.specs.Timers.{is_of_another, timed, timer_of, started, sent_at, resent_at, retried_at, timer_change, timers_after}
-use Rattle.sn_flow.proofs.Alone.{all-kept}
+use Rattle.sn_flow.specs.Timers.{timer_cmp, timed, timer_of, started, sent_at, resent_at, retried_at, timer_change, timers_after}
 use Rattle.sn_flow.proofs.Entries.{same_client-itself}
+use Rattle.sn_flow.proofs.TimerPlaces.{same_by_order}
 use Rattle.sn_deliver.specs.declared.due.Due.TheVariants.{Loss, Retry, Delivery}
 use Rattle.sn_deliver.specs.Exchanges.{open_exchange, is_served, is_awake}
 use Rattle.sn_deliver.specs.Due.{patience, is_silent, is_overdue, due_exchange, due_by, due_at, due_session}
@@ -53,18 +56,19 @@ awake_up Lost e = e
 
 -- ---- timers
 
-pub false_of : (b : Bool) → not b ≡ true → b ≡ false
-false_of true e = absurd (true≢false (sym e))
-false_of false e = refl
-
-pub timed_passed : (t : Timer) (kept : List Timer) → AllByRecursion (λ k. is_of_another t.client k ≡ true) kept → timer_of t.client (kept ++ t ∷ []) ≡ Some t
-timed_passed t [] h = ap (λ b. if b then Some t else None) (same_client-itself t.client)
-timed_passed t (k ∷ kept) h =
-    ap (λ b. if b then Some k else timer_of t.client (kept ++ t ∷ [])) (false_of (same_client k.client t.client) h.0) ∙ timed_passed t kept h.1
+-- a timer above another is of another client
+above_apart : (t k : Timer) → timer_cmp t k ≡ Greater → same_client k.client t.client ≡ false
+above_apart t k e = same_by_order k.client t.client ∙ ap is_eq (client_total.antisymm k.client t.client ∙ ap ordering_reverse e)
 
 -- a timer that is set is found
 pub timed_found : (t : Timer) (timers : List Timer) → timer_of t.client (timed t timers) ≡ Some t
-timed_found t timers = timed_passed t (filter (is_of_another t.client) timers) (all-kept (is_of_another t.client) timers)
+timed_found t [] = ap (λ b. if b then Some t else None) (same_client-itself t.client)
+timed_found t (k ∷ timers) =
+    elim (timer_cmp t k) as (λ o. timer_cmp t k ≡ o → timer_of t.client (by_order o (t ∷ k ∷ timers) (t ∷ timers) (k ∷ timed t timers)) ≡ Some t) [
+      | Less ↦ λ _. ap (λ b. if b then Some t else timer_of t.client (k ∷ timers)) (same_client-itself t.client)
+      | Equal ↦ λ _. ap (λ b. if b then Some t else timer_of t.client timers) (same_client-itself t.client)
+      | Greater ↦ λ e. ap (λ b. if b then Some k else timer_of t.client (timed t timers)) (above_apart t k e) ∙ timed_found t timers
+    ] refl
 
 pub sent_found : (c : List ℕ) (now : ℕ) (timers : List Timer) (o : Option Timer) → timer_of c (timed (sent_at c now o) timers) ≡ Some (sent_at c now o)
 sent_found c now timers None = timed_found (sent_at c now None) timers

@@ -13,6 +13,7 @@ mod Lowering
 mod Pending
 mod Receiving
 mod Remaining
+mod Resting
 pub mod Settling
 mod Stepping
 mod Timing

@@ -1,7 +1,10 @@
 -- What a tick does to the local state: the bindings stay, and the timers of other clients say what they said.
-use Rattle.std.proofs.Common.{◌≡◌, ℕ, ◌⊎◌, ◌-◌, Bool, true, false, ◌&&◌, not, if◌then◌else◌, cond, nat_le, nat_lt, List, [], ◌∷◌, ◌++◌, filter, Option, Some, None, refl, sym, ap, ◌∙◌, subst, true≢false, inl, inr}
+use Rattle.std.proofs.Common.{◌≡◌, ℕ, ◌⊎◌, ◌-◌, Bool, true, false, ◌&&◌, if◌then◌else◌, nat_le, nat_lt, List, [], ◌∷◌, ◌++◌, Option, Some, None, refl, sym, ap, ◌∙◌, subst, true≢false, inl, inr}
+use Rattle.std.specs.declared.cmp.Ordering.TheVariants.{Less, Equal, Greater}
+use Rattle.std.specs.Ordering.{is_eq}
 use Rattle.std.proofs.lemmas.List.Sums.{fold-append}
 use Rattle.std.proofs.lemmas.Option.{same_Some}
+use Rattle.sn_session.specs.Tables.{by_order}
 use Rattle.sn_session.specs.declared.outbound.Outbound.{Outbound as Exchange}
 use Rattle.sn_session.specs.declared.session.Session.{Session}
 use Rattle.rep_ops.specs.declared.op.Put.{Put}
@@ -13,10 +16,11 @@ use Rattle.sn_flow.specs.declared.local.Timer.{Timer}
 use Rattle.sn_flow.specs.declared.local.LocalChange.{LocalChange}
 use Rattle.sn_flow.specs.declared.local.LocalChange.TheVariants.{Heard, Sent, Resent, Retried, EndDialog}
 use Rattle.sn_flow.specs.Bindings.{binding_change, bindings_after}
-use Rattle.sn_flow.specs.Timers.{is_of_another, timed, timer_of, started, heard_at, sent_at, resent_at, retried_at, timers_after}
+use Rattle.sn_flow.specs.Timers.{timer_cmp, timed, timer_of, started, heard_at, sent_at, resent_at, retried_at, timers_after}
 use Rattle.sn_flow.specs.Advertising.{advertised_change, advertised_after}
 use Rattle.sn_flow.specs.Locals.{Local}
 use Rattle.sn_flow.proofs.Entries.{same_client-itself, same_client-apart}
+use Rattle.sn_flow.proofs.TimerPlaces.{same_by_order}
 use Rattle.sn_deliver.specs.declared.due.Due.TheVariants.{Loss}
 use Rattle.sn_deliver.specs.Exchanges.{open_exchange, is_served}
 use Rattle.sn_deliver.specs.Due.{patience, is_overdue, due_by, due_at, due_session}
@@ -29,17 +33,20 @@ module _ (x : List ℕ) (t : Timer) (other : ¬ (x ≡ t.client)) where
   passed : (k : Timer) (rest : Option Timer) → k.client ≡ t.client → rest ≡ (if same_client k.client x then Some k else rest)
   passed k rest e = ap (λ b. if b then Some k else rest) (sym (ap (λ d. same_client d x) e ∙ same_client-apart t.client x (λ is. other (sym is))))
 
-  others_kept : (timers : List Timer) → timer_of x (filter (is_of_another t.client) timers ++ t ∷ []) ≡ timer_of x timers
-  others_kept [] = ap (λ b. if b then Some t else None) (same_client-apart t.client x (λ is. other (sym is)))
-  others_kept (k ∷ timers) =
-      elim (same_client k.client t.client) as (λ b. same_client k.client t.client ≡ b
-      → timer_of x (cond (not b) (k ∷ filter (is_of_another t.client) timers) (filter (is_of_another t.client) timers) ++ t ∷ []) ≡ (if same_client k.client x then Some k else timer_of x timers)) [
-        | true ↦ λ e. others_kept timers ∙ passed k (timer_of x timers) (same_client-true k.client t.client e)
-        | false ↦ λ _. ap (λ o. if same_client k.client x then Some k else o) (others_kept timers)
-      ] refl
+  apart : same_client t.client x ≡ false
+  apart = same_client-apart t.client x (λ is. other (sym is))
+
+  alike : (k : Timer) → timer_cmp t k ≡ Equal → k.client ≡ t.client
+  alike k e = sym (same_client-true t.client k.client (same_by_order t.client k.client ∙ ap is_eq e))
 
   pub others_timed : (timers : List Timer) → timer_of x (timed t timers) ≡ timer_of x timers
-  others_timed timers = others_kept timers
+  others_timed [] = ap (λ b. if b then Some t else None) apart
+  others_timed (k ∷ timers) =
+      elim (timer_cmp t k) as (λ o. timer_cmp t k ≡ o → timer_of x (by_order o (t ∷ k ∷ timers) (t ∷ timers) (k ∷ timed t timers)) ≡ (if same_client k.client x then Some k else timer_of x timers)) [
+        | Less ↦ λ _. ap (λ b. if b then Some t else timer_of x (k ∷ timers)) apart
+        | Equal ↦ λ e. ap (λ b. if b then Some t else timer_of x timers) apart ∙ passed k (timer_of x timers) (alike k e)
+        | Greater ↦ λ _. ap (λ o. if same_client k.client x then Some k else o) (others_timed timers)
+      ] refl
 
 module _ (x c : List ℕ) (now : ℕ) (other : ¬ (x ≡ c)) (timers : List Timer) where
   heard_others : (o : Option Timer) → timer_of x (timed (heard_at c now o) timers) ≡ timer_of x timers

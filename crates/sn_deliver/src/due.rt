@@ -1,7 +1,8 @@
 //! What time asks for: which client is due, and for what (MQTT-SN 1.2 sections 6.11, 6.13 and 6.14).
 
-ghost use Rattle.std.specs.Prelude.{◌≡◌, ◌≤◌, IfOk};
+ghost use Rattle.std.specs.Prelude.{◌≡◌, ◌≤◌, Option, None, IfOk, IsTrue};
 ghost use Rattle.std.specs.Option.{option_copied};
+ghost use Rattle.sn_flow.specs.declared.config.Addr.{Addr as Address};
 ghost use Rattle.sn_flow.specs.Plans.{seen_of};
 ghost use Rattle.sn_flow.specs.Bindings.{is_stamp_of as is_stamp_of_gateway};
 ghost use Rattle.sn_deliver.specs.Due.{elapsed as time_elapsed, patience as patience_for, is_silent as is_silent_client, is_overdue as is_client_overdue, due_again as due_once_more, due_exchange as due_of_exchange, due_delivery as delivery_due, due_by as due_by_exchange, due_at as due_at_address, due_session as due_of_session, due_view as due_of_view, due_with as due_of_client, first_due as first_client_due};
@@ -167,7 +168,15 @@ pub fn is_stamp_of(gateway: u8, stamp: Option<Stamp>) -> bool
     }
 }
 
-/// What is due with a client of this view.
+/// Whether nothing is due with a client of this session, wherever it may be.
+fn is_at_rest(now: u64, pending: &[Put], timer: Option<&Timer>, session: &Option<Session>) -> bool
+    ensures { IsTrue result → (a : Option Address) → due_of_session now pending.now (option_copied timer.entry) a session.now ≡ None }
+{
+    let anywhere = Addr { host: 0, port: 0 };
+    due_session(now, pending, timer, Some(anywhere), session).is_none()
+}
+
+/// What is due with a client of this view. Its address is looked up only where something may be due.
 fn due_view(
     gateway: u8,
     dialogs: &Dialogs,
@@ -181,8 +190,12 @@ fn due_view(
         return None;
     }
     let timer = dialogs.timer_of(client);
+    let pending = view.pending.as_slice();
+    if is_at_rest(now, pending, timer, &view.session) {
+        return None;
+    }
     let address = dialogs.address_of(client);
-    due_session(now, view.pending.as_slice(), timer, address, &view.session)
+    due_session(now, pending, timer, address, &view.session)
 }
 
 /// What is due with a client that the gateway owns.

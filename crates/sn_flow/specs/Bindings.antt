@@ -1,5 +1,9 @@
 -- Which address is which client.
-use Rattle.std.specs.Prelude.{ℕ, ◌==◌, Bool, false, ◌&&◌, not, if◌then◌else◌, List, [], ◌∷◌, ◌++◌, filter, fold, Option, Some, None}
+use Rattle.std.specs.Prelude.{ℕ, ◌==◌, Bool, false, ◌&&◌, not, if◌then◌else◌, List, [], ◌∷◌, filter, fold, Option, Some, None, IsTrue}
+use Rattle.std.specs.declared.cmp.Ordering.{Ordering}
+use Rattle.std.specs.List.{IsDistinct}
+use Rattle.std.specs.Ordering.{nat_cmp, ordering_then}
+use Rattle.sn_session.specs.Tables.{is_ascending, with_entry}
 use Rattle.rep_ops.specs.declared.op.Stamp.{Stamp}
 use Rattle.rep_ops.specs.Sets.{same_client}
 use Rattle.sn_flow.specs.declared.config.Addr.{Addr}
@@ -11,13 +15,30 @@ use Rattle.sn_flow.specs.Plans.{Seen}
 abbrev pub same_address : Addr → Addr → Bool
 same_address a b = (a.host == b.host) && (a.port == b.port)
 
+-- addresses are ordered by host, then port
+abbrev pub address_cmp : Addr → Addr → Ordering
+address_cmp a b = ordering_then (nat_cmp a.host b.host) (nat_cmp a.port b.port)
+
+-- bindings are ordered by address
+abbrev pub binding_cmp : Binding → Binding → Ordering
+binding_cmp b d = address_cmp b.address d.address
+
+-- whether two bindings are of one client
+abbrev pub of_one_client : Binding → Binding → Bool
+of_one_client b d = same_client b.client d.client
+
+-- the bindings of a gateway: they ascend by address, so no address has two, and no client has two
+abbrev pub AreBindings : List Binding → Type 0
+AreBindings bindings = IsTrue (is_ascending binding_cmp bindings) × IsDistinct of_one_client bindings
+
 -- whether a binding has neither the address nor the client
 abbrev pub is_apart : Addr → List ℕ → Binding → Bool
 is_apart a c binding = not (same_address binding.address a) && not (same_client binding.client c)
 
--- a new binding replaces all others of its address and of its client
+-- a new binding, in the place of its address, replaces all others of its address and of its client
 abbrev pub bound : Addr → List ℕ → List Binding → List Binding
-bound a c bindings = filter (is_apart a c) bindings ++ record { address = a; client = c } ∷ []
+bound a c bindings =
+    with_entry binding_cmp (record { address = a; client = c }) (filter (is_apart a c) bindings)
 
 abbrev pub is_of_other : List ℕ → Binding → Bool
 is_of_other c binding = not (same_client binding.client c)

@@ -1,5 +1,8 @@
 -- When a client was last heard of, and when a frame of its open exchange was last sent, how often again.
-use Rattle.std.specs.Prelude.{ℕ, ◌+◌, ◌==◌, Bool, not, if◌then◌else◌, List, [], ◌∷◌, ◌++◌, filter, fold, Option, Some, None}
+use Rattle.std.specs.Prelude.{ℕ, ◌+◌, ◌==◌, Bool, IsTrue, if◌then◌else◌, List, [], ◌∷◌, filter, fold, Option, Some, None}
+use Rattle.std.specs.declared.cmp.Ordering.{Ordering}
+use Rattle.sn_session.specs.Tables.{is_ascending, with_entry}
+use Rattle.rep_ops.specs.Orders.{client_cmp}
 use Rattle.rep_ops.specs.Sets.{same_client}
 use Rattle.sn_flow.specs.declared.local.Timer.{Timer}
 use Rattle.sn_flow.specs.declared.local.LocalChange.{LocalChange}
@@ -7,12 +10,17 @@ use Rattle.sn_flow.specs.declared.local.LocalChange.TheVariants.{Bind, Unbind, T
 use Rattle.sn_flow.specs.Plans.{Seen}
 use Rattle.sn_flow.specs.Bindings.{is_owned}
 
-abbrev pub is_of_another : List ℕ → Timer → Bool
-is_of_another c timer = not (same_client timer.client c)
+-- timers are in the order of their clients
+abbrev pub timer_cmp : Timer → Timer → Ordering
+timer_cmp a b = client_cmp a.client b.client
 
--- a timer replaces any other of its client
+-- the timers strictly ascend by client
+abbrev pub AreTimers : List Timer → Type 0
+AreTimers timers = IsTrue (is_ascending timer_cmp timers)
+
+-- a timer at the place of its client, where it replaces any other of its client
 abbrev pub timed : Timer → List Timer → List Timer
-timed timer timers = filter (is_of_another timer.client) timers ++ timer ∷ []
+timed timer timers = with_entry timer_cmp timer timers
 
 -- the timer of a client
 abbrev pub timer_of : List ℕ → List Timer → Option Timer

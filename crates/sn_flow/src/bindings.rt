@@ -1,8 +1,11 @@
-//! The list of bindings and its changes.
+//! The list of bindings and its changes. It ascends by address, so that the client of an address is
+//! found by binary search.
 
-ghost use Rattle.std.specs.Prelude.{◌≡◌, ◌+◌, ◌≤◌, filter, vec_len};
+ghost use Rattle.std.specs.Prelude.{◌≡◌, ◌+◌, ◌≤◌, true, filter, vec_len};
 ghost use Rattle.std.specs.Option.{option_copied};
 ghost use Rattle.std.specs.Vec.{vec_capacity};
+ghost use Rattle.sn_session.specs.Tables.{IsPlace, with_entry};
+ghost use Rattle.sn_flow.specs.Bindings.{AreBindings, address_cmp, binding_cmp};
 ghost use Rattle.sn_flow.specs.Bindings.{client_at as client_of_address, address_of as address_of_client, bound, unbound, is_apart as is_apart_from, is_of_other as is_of_another, is_owned as is_owned_at, has_owned as has_owned_client, owned_bindings};
 ghost use Rattle.sn_flow.specs.Plans.{seen_of};
 
@@ -27,7 +30,9 @@ fn is_of_other(client: &ClientId, binding: &Binding) -> bool
 
 /// Drops the bindings of the address and of the client.
 fn release(bindings: &mut Vec<Binding>, address: Addr, client: &ClientId)
+    requires { AreBindings bindings.old.items }
     ensures items { bindings.new.items ≡ filter (is_apart_from address client.now) bindings.old.items }
+    ensures ascend { AreBindings bindings.new.items }
     ensures capacity { vec_capacity bindings.new ≡ vec_capacity bindings.old }
     ensures len { vec_len bindings.new ≤ vec_len bindings.old }
 {
@@ -36,37 +41,77 @@ fn release(bindings: &mut Vec<Binding>, address: Addr, client: &ClientId)
 
 /// The client has no address any more.
 pub fn unbind(bindings: &mut Vec<Binding>, client: &ClientId)
+    requires { AreBindings bindings.old.items }
     ensures items { bindings.new.items ≡ unbound client.now bindings.old.items }
+    ensures ascend { AreBindings bindings.new.items }
     ensures capacity { vec_capacity bindings.new ≡ vec_capacity bindings.old }
     ensures len { vec_len bindings.new ≤ vec_len bindings.old }
 {
     bindings.retain(|binding| is_of_other(client, binding));
 }
 
-/// The address and the client belong together now, and neither to another. There is room for one more.
-pub fn bind(bindings: &mut Vec<Binding>, address: Addr, client: ClientId)
-    requires { vec_len bindings.old + 1 ≤ vec_capacity bindings.old }
-    ensures items { bindings.new.items ≡ bound address client bindings.old.items }
+/// Where the binding of an address is, or where it would go. The time is logarithmic.
+fn place(bindings: &[Binding], address: Addr) -> Result<usize, usize>
+    requires { AreBindings bindings.now }
+    ensures { IsPlace (λ b. address_cmp b.address address) bindings.now result }
+{
+    bindings.binary_search_by(|binding| binding.address.cmp(&address))
+}
+
+/// Puts a binding in its place. There is room for one more.
+fn put(bindings: &mut Vec<Binding>, binding: Binding)
+    requires ascend { AreBindings bindings.old.items }
+    requires room { vec_len bindings.old + 1 ≤ vec_capacity bindings.old }
+    ensures items { bindings.new.items ≡ with_entry binding_cmp binding bindings.old.items }
     ensures capacity { vec_capacity bindings.old ≤ vec_capacity bindings.new }
     ensures len { vec_len bindings.new ≤ vec_len bindings.old + 1 }
 {
-    release(bindings, address, &client);
-    bindings.push(Binding { address, client }).unwrap();
+    match place(bindings.as_slice(), binding.address) {
+        Ok(at) => bindings[at] = binding,
+        Err(at) => bindings.insert(at, binding).unwrap(),
+    }
 }
 
-/// The client of an address.
+/// Whether the address has this client already: then to bind them changes nothing.
+fn is_bound(bindings: &[Binding], address: Addr, client: &ClientId) -> bool
+    requires { AreBindings bindings.now }
+    ensures { result ≡ true → bound address client.now bindings.now ≡ bindings.now }
+{
+    match place(bindings, address) {
+        Ok(at) => bindings[at].client == *client,
+        Err(_) => false,
+    }
+}
+
+/// The address and the client belong together now, and neither to another. There is room for one more.
+/// Where they belong together already, the time is logarithmic.
+pub fn bind(bindings: &mut Vec<Binding>, address: Addr, client: ClientId)
+    requires ascend { AreBindings bindings.old.items }
+    requires room { vec_len bindings.old + 1 ≤ vec_capacity bindings.old }
+    ensures items { bindings.new.items ≡ bound address client bindings.old.items }
+    ensures ascend { AreBindings bindings.new.items }
+    ensures capacity { vec_capacity bindings.old ≤ vec_capacity bindings.new }
+    ensures len { vec_len bindings.new ≤ vec_len bindings.old + 1 }
+{
+    if is_bound(bindings.as_slice(), address, &client) {
+        return;
+    }
+    release(bindings, address, &client);
+    put(bindings, Binding { address, client });
+}
+
+/// The client of an address. The time is logarithmic.
 pub fn client_at(bindings: &[Binding], address: Addr) -> Option<&ClientId>
+    requires { AreBindings bindings.now }
     ensures { option_copied result ≡ client_of_address address bindings.now }
 {
-    for binding in bindings {
-        if binding.address == address {
-            return Some(&binding.client);
-        }
+    match place(bindings, address) {
+        Ok(at) => Some(&bindings[at].client),
+        Err(_) => None,
     }
-    None
 }
 
-/// The address of a client.
+/// The address of a client. The bindings are in no order of clients, so this walks them.
 pub fn address_of(bindings: &[Binding], client: &ClientId) -> Option<Addr>
     ensures { result ≡ address_of_client client.now bindings.now }
 {
@@ -100,7 +145,9 @@ fn has_owned<R: Replica>(gateway: u8, replica: &R, binding: &Binding) -> bool
 
 /// Drops the bindings of clients that the gateway does not own.
 pub fn keep_bindings<R: Replica>(bindings: &mut Vec<Binding>, gateway: u8, replica: &R)
-    ensures { bindings.new.items ≡ owned_bindings gateway (seen_of (R.kept replica.now)) bindings.old.items }
+    requires { AreBindings bindings.old.items }
+    ensures items { bindings.new.items ≡ owned_bindings gateway (seen_of (R.kept replica.now)) bindings.old.items }
+    ensures ascend { AreBindings bindings.new.items }
 {
     bindings.retain(|binding| has_owned(gateway, replica, binding));
 }

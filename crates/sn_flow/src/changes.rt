@@ -2,9 +2,9 @@
 
 ghost use Rattle.std.specs.Prelude.{◌≡◌, ◌+◌, ◌≤◌, length, vec_len};
 ghost use Rattle.std.specs.Vec.{vec_capacity};
-ghost use Rattle.sn_flow.specs.Bindings.{binding_change, bindings_after};
+ghost use Rattle.sn_flow.specs.Bindings.{AreBindings, binding_change, bindings_after};
 ghost use Rattle.sn_flow.specs.WillDialogs.{dialog_change, dialogs_after};
-ghost use Rattle.sn_flow.specs.Timers.{timer_change, timers_after};
+ghost use Rattle.sn_flow.specs.Timers.{AreTimers, timer_change, timers_after};
 ghost use Rattle.sn_flow.specs.Advertising.{advertised_change, advertised_after};
 
 use super::bindings::{bind, unbind};
@@ -20,12 +20,16 @@ fn commit_one(
     advertised: &mut Option<u64>,
     change: LocalChange,
 )
+    requires bindings_ascend { AreBindings bindings.old.items }
     requires bindings { vec_len bindings.old + 1 ≤ vec_capacity bindings.old }
     requires dialogs { vec_len dialogs.old + 1 ≤ vec_capacity dialogs.old }
     requires timers { vec_len timers.old + 1 ≤ vec_capacity timers.old }
+    requires timers_order { AreTimers timers.old.items }
+    ensures bindings_ascend { AreBindings bindings.new.items }
     ensures bindings { bindings.new.items ≡ binding_change bindings.old.items change }
     ensures dialogs { dialogs.new.items ≡ dialog_change dialogs.old.items change }
     ensures timers { timers.new.items ≡ timer_change timers.old.items change }
+    ensures timers_order { AreTimers timers.new.items }
     ensures advertised { advertised.new ≡ advertised_change advertised.old change }
     ensures bindings_capacity { vec_capacity bindings.old ≤ vec_capacity bindings.new }
     ensures dialogs_capacity { vec_capacity dialogs.old ≤ vec_capacity dialogs.new }
@@ -56,12 +60,16 @@ pub fn commit_all(
     advertised: &mut Option<u64>,
     changes: Vec<LocalChange>,
 )
+    requires bindings_ascend { AreBindings bindings.old.items }
     requires bindings { vec_len bindings.old + length changes.items ≤ vec_capacity bindings.old }
     requires dialogs { vec_len dialogs.old + length changes.items ≤ vec_capacity dialogs.old }
     requires timers { vec_len timers.old + length changes.items ≤ vec_capacity timers.old }
+    requires timers_order { AreTimers timers.old.items }
+    ensures bindings_ascend { AreBindings bindings.new.items }
     ensures bindings { bindings.new.items ≡ bindings_after bindings.old.items changes.items }
     ensures dialogs { dialogs.new.items ≡ dialogs_after dialogs.old.items changes.items }
     ensures timers { timers.new.items ≡ timers_after timers.old.items changes.items }
+    ensures timers_order { AreTimers timers.new.items }
     ensures advertised { advertised.new ≡ advertised_after advertised.old changes.items }
 {
     for change in changes {

@@ -5,8 +5,8 @@ use octets::{Octets, Sequence};
 use sn_topic::Predefined;
 use std::alloc::Global;
 
-/// An address of the transport below: a host and a port.
-#[derive(Clone, Copy, Debug, PartialEq, Eq)]
+/// An address of the transport below: a host and a port. Addresses are ordered by host, then port.
+#[derive(Clone, Copy, Debug, PartialEq, Eq, PartialOrd, Ord)]
 pub struct Addr {
     /// The IPv4 address, its first octet the highest.
     pub host: u32,

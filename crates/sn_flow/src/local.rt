@@ -114,7 +114,7 @@ pub enum LocalChange {
 
 /// The local state of a gateway: which address is which client, from which addresses a will is awaited,
 /// when which client was heard of, and when the gateway advertised itself. It begins empty, and is gone when
-/// the gateway stops.
+/// the gateway stops. The bindings ascend by address, and no client has two; the timers ascend by client.
 #[derive(Debug, Drop)]
 pub struct Dialogs {
     bindings: Vec<Binding>,
@@ -124,7 +124,9 @@ pub struct Dialogs {
 }
 
 impl Model for Dialogs {
+    ghost use Rattle.sn_flow.specs.Bindings.{AreBindings};
     ghost use Rattle.sn_flow.specs.Locals.{Roomy};
+    ghost use Rattle.sn_flow.specs.Timers.{AreTimers};
     ghost use Rattle.std.specs.Prelude.{◌-◌};
     ghost use Rattle.std.specs.Vec.{vec_len, vec_capacity};
 
@@ -138,6 +140,8 @@ impl Model for Dialogs {
         timers = vec_capacity d.timers - vec_len d.timers;
       };
     } };
+
+    ghost invariant = { λ d. AreBindings d.bindings.items × AreTimers d.timers.items };
 }
 
 impl Dialogs {
@@ -191,21 +195,21 @@ impl Dialogs {
         keep_timers(&mut self.timers, gateway, replica);
     }
 
-    /// The client of an address.
+    /// The client of an address. The time is logarithmic.
     pub fn client_at(&self, address: Addr) -> Option<&ClientId>
         ensures { option_copied result ≡ client_of address self.now.local.bindings }
     {
         client_at(self.bindings.as_slice(), address)
     }
 
-    /// The address of a client.
+    /// The address of a client. This walks the bindings: they are in no order of clients.
     pub fn address_of(&self, client: &ClientId) -> Option<Addr>
         ensures { result ≡ address_of_client client.now self.now.local.bindings }
     {
         address_of(self.bindings.as_slice(), client)
     }
 
-    /// The timer of a client.
+    /// The timer of a client. The time is logarithmic.
     pub fn timer_of(&self, client: &ClientId) -> Option<&Timer>
         ensures { option_copied result ≡ timer_of_client client.now self.now.local.timers }
     {

@@ -1,9 +1,11 @@
 //! The list of timers and its changes.
 
-ghost use Rattle.std.specs.Prelude.{◌≡◌, ◌+◌, ◌≤◌, filter, vec_len};
+ghost use Rattle.std.specs.Prelude.{◌≡◌, ◌+◌, ◌≤◌, vec_len};
 ghost use Rattle.std.specs.Option.{option_copied};
 ghost use Rattle.std.specs.Vec.{vec_capacity};
-ghost use Rattle.sn_flow.specs.Timers.{is_of_another as is_of_other, timed, timer_of as timer_of_client, heard_at as heard_timer, heard, one_try_more as try_more, sent_at as sent_timer, resent_at as resent_timer, retried_at as retried_timer, sent_anew, sent_again, tried_again, times_owned as times_owned_client, owned_timers};
+ghost use Rattle.sn_session.specs.Tables.{IsPlace};
+ghost use Rattle.rep_ops.specs.Orders.{client_cmp};
+ghost use Rattle.sn_flow.specs.Timers.{AreTimers, timed, timer_of as timer_of_client, heard_at as heard_timer, heard, one_try_more as try_more, sent_at as sent_timer, resent_at as resent_timer, retried_at as retried_timer, sent_anew, sent_again, tried_again, times_owned as times_owned_client, owned_timers};
 ghost use Rattle.sn_flow.specs.Plans.{seen_of};
 
 use super::bindings::is_owned;
@@ -11,43 +13,38 @@ use super::local::Timer;
 use rep_model::Replica;
 use rep_ops::ClientId;
 
-/// Whether a timer is of another client.
-fn is_of_another(client: &ClientId, timer: &Timer) -> bool
-    ensures { result ≡ is_of_other client.now timer.now }
+/// Where the timer of a client is, or where it would go. The time is logarithmic.
+fn place(timers: &[Timer], client: &ClientId) -> Result<usize, usize>
+    requires { AreTimers timers.now }
+    ensures { IsPlace (λ timer. client_cmp timer.client client.now) timers.now result }
 {
-    timer.client != *client
-}
-
-/// Drops the timer of the client.
-fn forget(timers: &mut Vec<Timer>, client: &ClientId)
-    ensures items { timers.new.items ≡ filter (is_of_other client.now) timers.old.items }
-    ensures capacity { vec_capacity timers.new ≡ vec_capacity timers.old }
-    ensures len { vec_len timers.new ≤ vec_len timers.old }
-{
-    timers.retain(|timer| is_of_another(client, timer));
+    timers.binary_search_by(|timer| timer.client.cmp(client))
 }
 
 /// The timer of its client is this one. There is room for one more.
 pub fn set_timer(timers: &mut Vec<Timer>, timer: Timer)
-    requires { vec_len timers.old + 1 ≤ vec_capacity timers.old }
+    requires room { vec_len timers.old + 1 ≤ vec_capacity timers.old }
+    requires order { AreTimers timers.old.items }
     ensures items { timers.new.items ≡ timed timer timers.old.items }
+    ensures order { AreTimers timers.new.items }
     ensures capacity { vec_capacity timers.old ≤ vec_capacity timers.new }
     ensures len { vec_len timers.new ≤ vec_len timers.old + 1 }
 {
-    forget(timers, &timer.client);
-    timers.push(timer).unwrap();
+    match place(timers.as_slice(), &timer.client) {
+        Ok(at) => timers[at] = timer,
+        Err(at) => timers.insert(at, timer).unwrap(),
+    }
 }
 
-/// The timer of a client.
+/// The timer of a client. The time is logarithmic.
 pub fn timer_of<'a>(timers: &'a [Timer], client: &ClientId) -> Option<&'a Timer>
+    requires { AreTimers timers.now }
     ensures { option_copied result ≡ timer_of_client client.now timers.now }
 {
-    for timer in timers {
-        if timer.client == *client {
-            return Some(timer);
-        }
+    match place(timers, client) {
+        Ok(at) => Some(&timers[at]),
+        Err(_) => None,
     }
-    None
 }
 
 /// The timer of a client that is heard of at this moment.
@@ -72,8 +69,10 @@ fn heard_at(client: ClientId, moment: u64, before: Option<&Timer>) -> Timer
 
 /// The client was heard of at this moment. There is room for one more timer.
 pub fn hear(timers: &mut Vec<Timer>, client: ClientId, moment: u64)
-    requires { vec_len timers.old + 1 ≤ vec_capacity timers.old }
+    requires room { vec_len timers.old + 1 ≤ vec_capacity timers.old }
+    requires order { AreTimers timers.old.items }
     ensures items { timers.new.items ≡ heard client moment timers.old.items }
+    ensures order { AreTimers timers.new.items }
     ensures capacity { vec_capacity timers.old ≤ vec_capacity timers.new }
     ensures len { vec_len timers.new ≤ vec_len timers.old + 1 }
 {
@@ -104,8 +103,10 @@ fn sent_at(client: ClientId, moment: u64, before: Option<&Timer>) -> Timer
 
 /// The first frame of a new exchange was sent to the client at this moment. There is room for one more timer.
 pub fn send_anew(timers: &mut Vec<Timer>, client: ClientId, moment: u64)
-    requires { vec_len timers.old + 1 ≤ vec_capacity timers.old }
+    requires room { vec_len timers.old + 1 ≤ vec_capacity timers.old }
+    requires order { AreTimers timers.old.items }
     ensures items { timers.new.items ≡ sent_anew client moment timers.old.items }
+    ensures order { AreTimers timers.new.items }
     ensures capacity { vec_capacity timers.old ≤ vec_capacity timers.new }
     ensures len { vec_len timers.new ≤ vec_len timers.old + 1 }
 {
@@ -136,8 +137,10 @@ fn resent_at(client: ClientId, moment: u64, before: Option<&Timer>) -> Timer
 
 /// A frame of the open exchange was sent to the client again at this moment. There is room for one more timer.
 pub fn send_again(timers: &mut Vec<Timer>, client: ClientId, moment: u64)
-    requires { vec_len timers.old + 1 ≤ vec_capacity timers.old }
+    requires room { vec_len timers.old + 1 ≤ vec_capacity timers.old }
+    requires order { AreTimers timers.old.items }
     ensures items { timers.new.items ≡ sent_again client moment timers.old.items }
+    ensures order { AreTimers timers.new.items }
     ensures capacity { vec_capacity timers.old ≤ vec_capacity timers.new }
     ensures len { vec_len timers.new ≤ vec_len timers.old + 1 }
 {
@@ -175,8 +178,10 @@ fn retried_at(client: ClientId, moment: u64, before: Option<&Timer>) -> Timer
 
 /// There was one more try at this moment. There is room for one more timer.
 pub fn try_again(timers: &mut Vec<Timer>, client: ClientId, moment: u64)
-    requires { vec_len timers.old + 1 ≤ vec_capacity timers.old }
+    requires room { vec_len timers.old + 1 ≤ vec_capacity timers.old }
+    requires order { AreTimers timers.old.items }
     ensures items { timers.new.items ≡ tried_again client moment timers.old.items }
+    ensures order { AreTimers timers.new.items }
     ensures capacity { vec_capacity timers.old ≤ vec_capacity timers.new }
     ensures len { vec_len timers.new ≤ vec_len timers.old + 1 }
 {
@@ -194,7 +199,9 @@ fn times_owned<R: Replica>(gateway: u8, replica: &R, timer: &Timer) -> bool
 
 /// Drops the timers of clients that the gateway does not own.
 pub fn keep_timers<R: Replica>(timers: &mut Vec<Timer>, gateway: u8, replica: &R)
-    ensures { timers.new.items ≡ owned_timers gateway (seen_of (R.kept replica.now)) timers.old.items }
+    requires { AreTimers timers.old.items }
+    ensures items { timers.new.items ≡ owned_timers gateway (seen_of (R.kept replica.now)) timers.old.items }
+    ensures order { AreTimers timers.new.items }
 {
     timers.retain(|timer| times_owned(gateway, replica, timer));
 }

@@ -13,9 +13,11 @@
 //! - `doors`: how links are made: peers are dialled, others are accepted.
 //! - `working`: the threads of one shift.
 //! - `watched`: the wire, which ends with the shift.
+//! - `late`: a datagram that came when its shift had no call left for it.
 #![tactic(auto)]
 
 mod doors;
+mod late;
 mod reading;
 mod running;
 mod stop;

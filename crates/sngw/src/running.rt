@@ -1,6 +1,7 @@
 //! Shifts one after the other.
 
 use crate::doors::{Door, doors_of, keep_all};
+use crate::late::{Inlet, Late};
 use crate::stop::Stop;
 use crate::working::{Worked, work};
 use gw_main::options::Settings;
@@ -32,7 +33,7 @@ where
     R::Staged: Send,
     D: Disk + Drop + Send,
 {
-    let Ok(mut socket) = Socket::bind(rt, alloc, settings.listen) else {
+    let Ok(socket) = Socket::bind(rt, alloc, settings.listen) else {
         return Err(Stop::Socket);
     };
     let Ok(listener) = TcpListener::bind(rt, address(settings.link)) else {
@@ -47,14 +48,18 @@ where
     let Some(mut doors) = doors_of(alloc, settings) else {
         return Err(Stop::Memory);
     };
+    let Some(late) = Late::none(alloc) else {
+        return Err(Stop::Memory);
+    };
+    let mut inlet = Inlet { socket, late };
     let place = Mutex::new(Some(node));
-    let over = Stage::new();
+    let over = Stage::new(0, 0);
     run_beside(
         rt,
         alloc,
         settings,
         &place,
-        &mut socket,
+        &mut inlet,
         shifts,
         doors.as_mut_slice(),
         &listener,
@@ -69,7 +74,7 @@ fn run_beside<T, R, D>(
     alloc: Global,
     settings: &Settings,
     place: &Mutex<Option<Node<R, D>>>,
-    socket: &mut Socket,
+    inlet: &mut Inlet,
     shifts: u64,
     doors: &mut [Door],
     listener: &TcpListener,
@@ -86,7 +91,7 @@ where
         keep_all(rt, alloc, doors, listener, pool, over);
     };
     let mut shifting = || -> Result<(), Stop> {
-        work_through(rt, alloc, settings, place, socket, pool, shifts, over)
+        work_through(rt, alloc, settings, place, inlet, pool, shifts, over)
     };
     let ((), worked) = thread::join_mut(rt, &mut keeping, &mut shifting);
     worked
@@ -98,7 +103,7 @@ fn work_through<T, R, D>(
     alloc: Global,
     settings: &Settings,
     place: &Mutex<Option<Node<R, D>>>,
-    socket: &mut Socket,
+    inlet: &mut Inlet,
     pool: &Pool<TcpStream>,
     shifts: u64,
     over: &Stage,
@@ -109,7 +114,7 @@ where
     R::Staged: Send,
     D: Disk + Drop + Send,
 {
-    let worked = work_all(rt, alloc, settings, place, socket, pool, shifts);
+    let worked = work_all(rt, alloc, settings, place, inlet, pool, shifts);
     over.go_to(rt, Phase::Quiet);
     worked
 }
@@ -121,7 +126,7 @@ fn work_all<T, R, D>(
     alloc: Global,
     settings: &Settings,
     place: &Mutex<Option<Node<R, D>>>,
-    socket: &mut Socket,
+    inlet: &mut Inlet,
     pool: &Pool<TcpStream>,
     shifts: u64,
 ) -> Result<(), Stop>
@@ -139,7 +144,7 @@ where
             mut node,
             steps,
             tended,
-        } = work(rt, alloc, settings, node, socket, pool)?;
+        } = work(rt, alloc, settings, node, inlet, pool, number)?;
         begin_anew(rt, alloc, &node, pool, tended);
         let _ = println!(rt; "shift {} steps {}", number + 1, steps);
         tend_behind(rt, alloc, &mut node, pool)?;

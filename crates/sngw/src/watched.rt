@@ -1,21 +1,25 @@
 //! The wire, which ends with the shift.
 
+ghost use Rattle.std.specs.Prelude.{◌≡◌};
+
+use crate::late::Late;
 use gw_run::{Phase, Stage};
 use gw_wire::{Arrival, Wire, WireFault};
 use jr_journal::Failures;
 use std::sync::Wait;
 
-/// A wire that fails when its shift is to close, and closes it when as many datagrams came as there is room for: what comes behind them
-/// waits in the socket for the next shift. The shift may also be full while no datagram comes.
+/// A wire that fails when its shift is to close, and closes it when all its calls are claimed. What comes is a call's, which is claimed
+/// for it and given back where it is dropped; what comes when none is left is the first datagram of the next shift, and what comes behind that
+/// waits in the socket.
 #[derive(Drop)]
 pub struct Watched<'a, T: Wait, W: Wire> {
     rt: &'a T,
     wire: &'a mut W,
     stage: &'a Stage,
-    /// How many calls the shift has.
-    steps: u64,
-    /// How many datagrams came.
-    came: u64,
+    /// The datagram that came too late for its shift.
+    late: &'a mut Late,
+    /// Whether a call is claimed for it.
+    is_claimed: bool,
     /// How many receives have failed.
     pub failures: Failures,
 }
@@ -26,16 +30,28 @@ impl<'a, T: Wait, W: Wire> Watched<'a, T, W> {
         rt: &'a T,
         wire: &'a mut W,
         stage: &'a Stage,
-        steps: u64,
+        late: &'a mut Late,
+        is_claimed: bool,
     ) -> Watched<'a, T, W> {
         Watched {
             rt,
             wire,
             stage,
-            steps,
-            came: 0,
+            late,
+            is_claimed,
             failures: Failures::none(),
         }
+    }
+
+    /// Whether there is a call for the datagram that came late.
+    fn has_call(&mut self) -> bool
+        ensures { self.new.failures ≡ self.old.failures }
+    {
+        if self.is_claimed {
+            self.is_claimed = false;
+            return true;
+        }
+        self.stage.claim()
     }
 }
 
@@ -43,7 +59,10 @@ impl<'a, T: Wait, W: Wire> Wire for Watched<'a, T, W> {
     ghost failures = { λ w. w.failures.count };
 
     fn recv(&mut self, buffer: &mut [u8]) -> Result<Option<Arrival>, WireFault> {
-        if self.came.saturating_add(self.stage.calls()) >= self.steps {
+        if self.late.is_there() && self.has_call() {
+            return Ok(self.late.give(buffer));
+        }
+        if self.stage.is_full() {
             self.stage.close(self.rt);
         }
         if self.stage.phase(self.rt) != Phase::Serving {
@@ -51,16 +70,24 @@ impl<'a, T: Wait, W: Wire> Wire for Watched<'a, T, W> {
             return Err(WireFault);
         }
         match self.wire.recv(buffer) {
-            Ok(found) => {
-                if found.is_some() {
-                    self.came = self.came.saturating_add(1);
+            Ok(None) => Ok(None),
+            Ok(Some(arrival)) => {
+                if self.stage.claim() {
+                    return Ok(Some(arrival));
                 }
-                Ok(found)
+                self.late.keep(arrival, buffer);
+                self.stage.close(self.rt);
+                self.failures = Failures::next(&self.failures);
+                Err(WireFault)
             }
             Err(_) => {
                 self.failures = Failures::next(&self.failures);
                 Err(WireFault)
             }
         }
+    }
+
+    fn unheard(&mut self) {
+        self.stage.give_back();
     }
 }

@@ -2,6 +2,7 @@
 
 ghost use Rattle.std.specs.Prelude.{◌<◌, ◌≤◌};
 
+use crate::late::Inlet;
 use crate::stop::Stop;
 use crate::watched::Watched;
 use gw_main::Tended;
@@ -10,7 +11,7 @@ use gw_node::Node;
 use gw_run::{End, MOST_ACCEPTED, Phase, Pool, Seat, Stage, sit, tick_all};
 use gw_serve::{Cause, serve};
 use gw_shift::{Closed, Pass, Shift};
-use gw_wire::{Mouth, OpenGate, Socket, Wire};
+use gw_wire::{Mouth, OpenGate, Wire};
 use jr_journal::Disk;
 use rep_model::Replica;
 use std::alloc::Global;
@@ -42,14 +43,16 @@ pub struct Worked<R: Replica, D: Disk> {
     pub tended: Tended,
 }
 
-/// Works one shift, and the gateway comes back.
+/// Works the shift of this number, and the gateway comes back. A datagram that came late, or is there already, has a call before clock and
+/// links ask for any; where a shift has one call alone, in every other shift, so that nobody is kept from it.
 pub(crate) fn work<T, R, D>(
     rt: &T,
     alloc: Global,
     settings: &Settings,
     node: Node<R, D>,
-    socket: &mut Socket,
+    inlet: &mut Inlet,
     pool: &Pool<TcpStream>,
+    number: u64,
 ) -> Result<Worked<R, D>, Stop>
 where
     T: Threads + Wait + Sync + Clock,
@@ -67,10 +70,20 @@ where
     let Some(mut crew) = crew_of(alloc, passes, workers) else {
         return Err(Stop::Memory);
     };
-    let stage = Stage::new();
+    let is_claimed = (steps > 1 || number % 2 == 0) && has_first(rt, inlet);
+    let stage = Stage::new(steps, u64::from(is_claimed));
     pool.begin_shift(rt);
-    work_all(rt, alloc, settings, &shift, &mut crew, socket, pool, &stage)?;
+    work_all(
+        rt, alloc, settings, &shift, &mut crew, inlet, is_claimed, pool, &stage,
+    )?;
     close(alloc, shift, crew)
+}
+
+/// Whether a datagram came late, or is there already.
+fn has_first<T: Clock>(rt: &T, inlet: &mut Inlet) -> bool {
+    let (ears, _) = inlet.socket.sides(rt);
+    inlet.late.look(&ears);
+    inlet.late.is_there()
 }
 
 /// How many calls a shift has.
@@ -107,7 +120,8 @@ fn work_all<T, R, D>(
     settings: &Settings,
     shift: &Shift<R, D>,
     crew: &mut Crew,
-    socket: &mut Socket,
+    inlet: &mut Inlet,
+    is_claimed: bool,
     pool: &Pool<TcpStream>,
     stage: &Stage,
 ) -> Result<(), Stop>
@@ -137,7 +151,7 @@ where
     let mut working = || -> Result<(), Stop> {
         let seats = ticking.as_mut_slice();
         let served = serve_and_tick(
-            rt, alloc, settings, shift, serving, seats, socket, pool, stage,
+            rt, alloc, shift, serving, seats, inlet, is_claimed, pool, stage,
         );
         stage.go_to(rt, Phase::Quiet);
         served
@@ -177,11 +191,11 @@ where
 fn serve_and_tick<T, R, D>(
     rt: &T,
     alloc: Global,
-    settings: &Settings,
     shift: &Shift<R, D>,
     passes: &mut Vec<Pass>,
     seats: &mut [Option<Seat>],
-    socket: &mut Socket,
+    inlet: &mut Inlet,
+    is_claimed: bool,
     pool: &Pool<TcpStream>,
     stage: &Stage,
 ) -> Result<(), Stop>
@@ -191,8 +205,9 @@ where
     R::Staged: Send,
     D: Disk + Drop + Send,
 {
+    let Inlet { socket, late } = inlet;
     let (mut ears, mouth) = socket.sides(rt);
-    let mut watched = Watched::new(rt, &mut ears, stage, steps_of(settings));
+    let mut watched = Watched::new(rt, &mut ears, stage, late, is_claimed);
     serve_beside(
         rt,
         alloc,

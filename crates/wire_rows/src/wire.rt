@@ -61,6 +61,8 @@ impl<'a> Wire for Told<'a> {
             }
         }
     }
+
+    fn unheard(&mut self) {}
 }
 
 /// A datagram, put into the front of a buffer. Nothing where it is too long.

@@ -3,13 +3,19 @@ use Rattle.std.proofs.Common.{Some, sym, ap, ◌∙◌}
 use Rattle.sn_flow.specs.declared.config.Config.{Config}
 use Rattle.jr_journal.specs.Disk.{image}
 use Rattle.jr_journal.specs.Memory.{MemoryState}
-use Rattle.gw_node.specs.Parts.{state_of}
+use Rattle.gw_node.specs.Parts.{state_of, told}
 use Rattle.gw_world.specs.Gateways.{new_gateway}
-use Rattle.gw_world.proofs.Calmness.{opened_new, lasts_new, calm_new, unplanned, empty_records}
+use Rattle.gw_world.proofs.Calmness.{opened_new, lasts_new, calm_new, unplanned, empty_records, only_memory_new}
 use Rattle.gw_world.proofs.running.new_node.Goals as goal
 
-pub returns-clause-ok : goal.returns-clause-ok
-returns-clause-ok g c =
+pub want_of_memory-requires : goal.want_of_memory-requires
+want_of_memory-requires g c =
+    only_memory_new c.in_ok-copy.field-0 _ (told c.in-Err.fault) (ap (λ (d : MemoryState). image d.slots) c.new.ensures)
+    (c.in-Err.ensures.fault tt)
+    (c.in-Err.ensures.blameless tt (unplanned _ _ c.new.ensures) (sym c.starved-in-Err.ensures ∙ c.if-starved-2.false)).0
+
+pub returns-else-starved-clause-ok : goal.returns-else-starved-clause-ok
+returns-else-starved-clause-ok g c =
     let empty = ap (λ (d : MemoryState). image d.slots) c.new.ensures in
     opened_new (state_of g.R.Replica.kept c.in-Ok.node) c.in_ok-copy.field-0 _ empty
     (record {
@@ -23,8 +29,8 @@ returns-clause-ok g c =
     (c.in-Ok.ensures.none tt (empty_records c.in_ok-copy.field-0.gateway _ empty))
     ∙ ap (λ (config : Config). new_gateway config) c.in_ok-copy.ensures.ok
 
-pub returns-clause-lasts : goal.returns-clause-lasts
-returns-clause-lasts g c =
+pub returns-else-starved-clause-lasts : goal.returns-else-starved-clause-lasts
+returns-else-starved-clause-lasts g c =
     let empty = ap (λ (d : MemoryState). image d.slots) c.new.ensures in
     lasts_new (state_of g.R.Replica.kept c.in-Ok.node) c.in_ok-copy.field-0 _ tt empty (c.in-Ok.ensures.found tt)
     (record {
@@ -36,8 +42,8 @@ returns-clause-lasts g c =
       planned = c.in-Ok.ensures.quiet tt (unplanned _ _ c.new.ensures) (sym c.starved.ensures ∙ c.if-starved.false) ∙ ap (λ (d : MemoryState). Some d.plan) c.new.ensures;
     })
 
-pub returns-clause-calm : goal.returns-clause-calm
-returns-clause-calm g c =
+pub returns-else-starved-clause-calm : goal.returns-else-starved-clause-calm
+returns-else-starved-clause-calm g c =
     let empty = ap (λ (d : MemoryState). image d.slots) c.new.ensures in
     calm_new (state_of g.R.Replica.kept c.in-Ok.node) c.in_ok-copy.field-0 _ empty (c.in-Ok.ensures.found tt) (sym c.starved.ensures ∙ c.if-starved.false)
     (record {

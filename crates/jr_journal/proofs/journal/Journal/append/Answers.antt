@@ -1,8 +1,7 @@
-use Rattle.std.proofs.Common.{◌≡◌, ◌∙◌, length}
+use Rattle.std.proofs.Common.{◌≡◌, ◌∙◌, sym, length}
 use Rattle.jr_journal.specs.Disk.{at, replaced, appended}
 use Rattle.std.proofs.Common.{take}
 use Rattle.jr_journal.proofs.Appending.{on_ok, on_err, err_written, torn_after, all_out, synced_is, settles_after, durable_after, done_as}
-use Rattle.jr_journal.proofs.Calm.{not_starved}
 use Rattle.jr_journal.specs.Records.{written}
 use Rattle.jr_journal.proofs.journal.Journal.append.Goals as goal
 
@@ -54,8 +53,8 @@ returns-clause-known g c = λ honest fed.
     let old = g.D.Disk.slots s.disk in
     let middle = g.D.Disk.slots c.append.new.self in
     let new = g.D.Disk.slots c.sync.new.self in
-    let early = not_starved (g.D.Disk.starved c.append.new.self) (g.D.Disk.starved c.sync.new.self) c.sync.ensures.starved fed in
+    let early = sym c.sync.ensures.starved ∙ fed in
     done_as (g.D.Disk.outlook s.disk) (g.D.Disk.outlook c.append.new.self) (g.D.Disk.outlook c.sync.new.self) old new s.slot (written c.args.delta.now) (length c.deref.result.now) c.append.result c.sync.result
-    c.if-is_err.ensures.value c.if-is_err-2.ensures.value (c.append.ensures.outlook early) (c.sync.ensures.outlook fed)
+    c.if-is_err.ensures.value c.if-is_err-2.ensures.value (c.append.ensures.outlook early) c.sync.ensures.outlook
     (synced_is s.slot old middle new c.args.delta.now c.deref.result.now (c.deref.ensures.value ∙ c.in_ok-bytes.ensures.ok)
     (on_ok c.append.result c.if-is_err.ensures.value (c.append.ensures.ok honest)) (on_ok c.sync.result c.if-is_err-2.ensures.value (c.sync.ensures.ok honest)))

@@ -1,0 +1,279 @@
+#!/usr/bin/env python3
+"""What single steps of a gateway cost: ratios, each measured in one run of this program, with the goal beside it.
+
+Usage: bench/steps.py PROGRAM [--clients N] [--waiting N] [--past N] [--sleepers N] [--records N] [--seconds S] [--only WORD]
+       (gw_sim; 1024, 1024, 20000, 1000, 20000 and 0.3 where nothing is said; WORD is one of idle, waits, past, tick, spread, opening)
+
+A script that builds up is played without and with the events that are measured, in turn, three times; the best times count, and what
+building up takes is taken off. As many events are played as take S seconds, where they change nothing that they depend on. Processor
+time is counted, and not the time that passes. A figure has the reading of its line and the printing of its answer in it: what these
+take is about what a SEARCHGW takes, which is told first.
+"""
+import argparse
+import resource
+import subprocess
+import sys
+import tempfile
+
+sys.dont_write_bytecode = True
+from sessions import frame
+
+# the ports of who publishes and of the first client; how often an event is repeated at most
+PUBLISHER, FIRST = 60000, 1
+MOST = 200000
+
+
+def at(port: int, now: int, octets: str) -> str:
+    return f"frame 1 {port} {now} {octets}"
+
+
+def name_of(client: int) -> bytes:
+    return b"sensor-%05d" % client
+
+
+def connect(client: int, port: int) -> str:
+    """CONNECT without a duration, so that nothing is due (MQTT-SN 1.2 section 5.4.4)."""
+    return at(port, 0, frame(0x04, bytes([0x00, 0x01, 0, 0]) + name_of(client)))
+
+
+def subscribe(port: int, topic: bytes, qos: int) -> str:
+    """SUBSCRIBE by a short name (section 5.4.15)."""
+    return at(port, 0, frame(0x12, bytes([qos << 5 | 2, 0, 1]) + topic))
+
+
+def publish(port: int, topic: bytes, qos: int, message: int) -> str:
+    """PUBLISH by a short name, with a message of 16 octets (section 5.4.12)."""
+    return at(port, 1, frame(0x0C, bytes([qos << 5 | 2]) + topic + (message % 65535 + 1).to_bytes(2, "big") + b"sixteen octets !"))
+
+
+def puback(port: int, topic: bytes, message: int) -> str:
+    return at(port, 1, frame(0x0D, topic + (message % 65535 + 1).to_bytes(2, "big") + bytes(1)))
+
+
+SLEEP = frame(0x18, bytes([0xFF, 0xFF]))
+PING = frame(0x16, b"")
+SEARCH = frame(0x01, bytes(1))
+
+
+def idle(clients: int) -> list:
+    return [connect(client, FIRST + client) for client in range(clients)]
+
+
+def sleeper(client: int, topic: bytes) -> list:
+    """A client that subscribes at quality of service 1 and falls asleep for good."""
+    port = FIRST + client
+    return [connect(client, port), subscribe(port, topic, 1), at(port, 0, SLEEP)]
+
+
+def topic_of(number: int) -> bytes:
+    return b"%02d" % number
+
+
+def publisher(client: int) -> list:
+    return [connect(client, PUBLISHER)]
+
+
+def text(*parts: list) -> str:
+    return "\n".join(["gateway 1"] + [line for part in parts for line in part]) + "\n"
+
+
+def run(program: str, script: str) -> tuple:
+    """The processor time of one run, and the last line that was printed."""
+    before = resource.getrusage(resource.RUSAGE_CHILDREN)
+    with tempfile.TemporaryFile("w+") as lines:
+        lines.write(script)
+        lines.seek(0)
+        done = subprocess.run([program], stdin=lines, stdout=subprocess.PIPE, text=True, check=True)
+    after = resource.getrusage(resource.RUSAGE_CHILDREN)
+    assert "refused" not in done.stdout, done.stdout[:200]
+    used = after.ru_utime + after.ru_stime - before.ru_utime - before.ru_stime
+    return used, done.stdout.rstrip("\n").rsplit("\n", 1)[-1]
+
+
+class Case:
+    """What builds up, the events behind it, and how the last line begins that they print."""
+
+    def __init__(self, setup: list, events: list, last: str) -> None:
+        self.setup, self.events, self.last = setup, events, last
+
+    def times(self, program: str) -> tuple:
+        """Seconds without the events and with them."""
+        without, _ = run(program, text(self.setup))
+        used, last = run(program, text(self.setup, self.events))
+        assert last.startswith(self.last), f"{self.events[-1]}: {last} and not {self.last}"
+        return without, used
+
+
+class Bench:
+    def __init__(self, program: str, least: float) -> None:
+        self.program, self.least = program, least
+
+    def fixed(self, cases: list) -> list:
+        """Microseconds of an event of each case: the best of three runs, in turn."""
+        rounds = [[case.times(self.program) for case in cases] for _ in range(3)]
+        best = [[min(each) for each in zip(*times)] for times in zip(*rounds)]
+        return [1e6 * (used - without) / len(case.events) for (without, used), case in zip(best, cases)]
+
+    def many(self, setup: list, event: str, last: str) -> Case:
+        """The event as often as takes long enough."""
+        count = 1
+        while True:
+            case = Case(setup, [event] * count, last)
+            without, used = case.times(self.program)
+            took = used - without
+            if took >= self.least or count >= MOST:
+                return case
+            growth = self.least / took * 1.2 if took > self.least / 20 else 16
+            count = min(int(count * growth) + 1, MOST)
+
+    def repeated(self, setups: list, event: str, last: str) -> list:
+        """The same of one event that may be repeated, behind each of these."""
+        return self.fixed([self.many(setup, event, last) for setup in setups])
+
+
+LOST = "lost in what else the machine does"
+
+
+def rate(what: str, micros: float, count: int, unit: str) -> None:
+    """How many a second, where there is no goal."""
+    took = f"{micros / 1000:.2f} ms, {count / micros * 1e6:,.0f} {unit} per second (no goal)" if micros > 0 else LOST
+    print(f"  {what}: {took}", flush=True)
+
+
+def told(what: str, few: str, many: str, micros: list, goal: float, free: float = 0.0) -> None:
+    """A ratio and its goal; what takes fewer microseconds than `free` meets it, too."""
+    words = f"  {what}: {few} {micros[0]:.2f} us, {many} {micros[1]:.2f} us"
+    wanted = f"goal {goal}" + (f" or under {free:g} us" if free else "")
+    if min(micros) <= 0:
+        print(f"{words}, {wanted}: {LOST}", flush=True)
+        return
+    ratio = micros[1] / micros[0]
+    print(f"{words}, ratio {ratio:.2f}, {wanted}: {'met' if ratio <= goal or micros[1] < free else 'MISSED'}", flush=True)
+
+
+def sleepers(count: int) -> list:
+    """So many clients that sleep, each with a topic of its own, and who publishes."""
+    return [line for client in range(count) for line in sleeper(client, topic_of(client))] + publisher(count)
+
+
+def to_each(count: int, apiece: int) -> list:
+    """So many messages to each sleeper, one by one."""
+    return [publish(PUBLISHER, topic_of(client), 1, message) for message in range(apiece) for client in range(count)]
+
+
+def others(setup: list, taken: int, clients: int) -> list:
+    """Idle clients behind these, so that there are so many in all."""
+    return setup + [connect(client, FIRST + client) for client in range(taken, clients)]
+
+
+def ponged(port: int) -> str:
+    return f"to {port} 0217"
+
+
+NOBODY = b"zz"
+
+
+def accepted(port: int) -> str:
+    """PUBACK with code 0 (section 5.4.13), of the first message to the topic that nobody subscribes to."""
+    return f"to {port} " + frame(0x0D, NOBODY + bytes([0, 1, 0]))
+
+
+def bench_idle(bench: Bench, asked: argparse.Namespace) -> None:
+    few, many = "at 10 clients", f"at {asked.clients:,}"
+    both = [idle(10), idle(asked.clients)]
+    told("PINGREQ", few, many, bench.repeated(both, at(FIRST, 1, PING), ponged(FIRST)), 1.5)
+    told("PUBLISH at 1 that nobody subscribes to", few, many, bench.repeated(both, publish(FIRST, NOBODY, 1, 0), accepted(FIRST)), 1.5)
+    cases = [Case(others(sleepers(9), 10, clients), to_each(9, 100), "delta ") for clients in (10, asked.clients)]
+    told("PUBLISH at 1 to one sleeper", few, many, bench.fixed(cases), 1.5)
+
+
+def bench_waits(bench: Bench, asked: argparse.Namespace) -> None:
+    few, many = "with none waiting", f"with {asked.waiting:,}"
+    one = sleepers(1)
+    both = [one, one + to_each(1, asked.waiting)]
+    told("PINGREQ of another client", few, many, bench.repeated(both, at(PUBLISHER, 2, PING), ponged(PUBLISHER)), 2)
+    nobody = publish(PUBLISHER, NOBODY, 1, 0)
+    told("PUBLISH of another client that nobody subscribes to", few, many, bench.repeated(both, nobody, accepted(PUBLISHER)), 2)
+    changes = [subscribe(FIRST, NOBODY, number % 2) for number in range(400)]
+    told("SUBSCRIBE of the client itself", few, many, bench.fixed([Case(setup, changes, "delta ") for setup in both]), 2)
+    nine, more = sleepers(9), 100
+    behind = [nine, nine + to_each(9, max(asked.waiting - more, 0))]
+    told("PUBLISH to the client, up to that many", few, many, bench.fixed([Case(setup, to_each(9, more), "delta ") for setup in behind]), 2)
+
+
+def handed_over(first: int, count: int) -> list:
+    """Messages of a client to itself, each acknowledged. The second brings the first, and each PUBACK the next."""
+    lines = []
+    for message in range(first, first + count):
+        lines += [publish(FIRST, b"ab", 1, message)]
+        lines += [puback(FIRST, b"ab", message - 1)] if message else []
+    return lines
+
+
+def bench_past(bench: Bench, asked: argparse.Namespace) -> None:
+    few, many = "behind none", f"behind {asked.past:,}"
+    begun = [connect(0, FIRST), subscribe(FIRST, b"ab", 1)]
+    both = [begun, begun + handed_over(0, asked.past) + [puback(FIRST, b"ab", asked.past - 1)]]
+    told("PINGREQ", few, many, bench.repeated(both, at(FIRST, 1, PING), ponged(FIRST)), 1.1)
+    told("PUBLISH at 1 that nobody subscribes to", few, many, bench.repeated(both, publish(FIRST, NOBODY, 1, 0), accepted(FIRST)), 1.1)
+    count = max(asked.past // 4, 1)
+    cases = [Case(begun + handed_over(0, first), handed_over(first, count), "delta ") for first in (2, asked.past)]
+    told("PUBLISH at 1 to oneself, and PUBACK", few, many, bench.fixed(cases), 1.1)
+
+
+def bench_tick(bench: Bench, asked: argparse.Namespace) -> None:
+    both = [idle(10), idle(asked.clients)]
+    told("a tick with nothing due", "at 10 clients", f"at {asked.clients:,}", bench.repeated(both, "tick 1 1", "quiet"), 1.5, 1.0)
+
+
+def bench_spread(bench: Bench, asked: argparse.Namespace) -> None:
+    count = asked.sleepers
+    setup = [line for client in range(count) for line in sleeper(client, b"ab")] + publisher(count)
+    micros = bench.fixed([Case(setup, [publish(PUBLISHER, b"ab", 1, message) for message in range(16)], "delta ")])[0]
+    rate(f"a PUBLISH at 1 to {count:,} sleepers", micros, count, "messages")
+
+
+def opened(bench: Bench, what: str, setup: list) -> None:
+    micros = bench.repeated([setup], "restart 1 all", f"records {len(setup)}")[0]
+    rate(f"a journal of {len(setup):,} records, {what}", micros, len(setup), "records")
+
+
+def bench_opening(bench: Bench, asked: argparse.Namespace) -> None:
+    clients, most = 100, 160
+    opened(bench, f"CONNECT of {clients} clients", [connect(turn % clients, FIRST + turn % clients) for turn in range(asked.records)])
+    apiece = min(max(asked.records // clients - 3, 1), most)
+    opened(bench, f"{apiece} messages that wait for each of {clients} clients", sleepers(clients) + to_each(clients, apiece))
+    past = [connect(0, FIRST), subscribe(FIRST, b"ab", 1)] + handed_over(0, asked.records // 2)
+    opened(bench, "messages of a client that were acknowledged", past)
+
+
+PARTS = [
+    ("idle", "a client's step at a gateway with many idle clients", bench_idle),
+    ("waits", "a step with many messages that wait for a client", bench_waits),
+    ("past", "a step behind messages that a client was handed and acknowledged", bench_past),
+    ("tick", "time goes by", bench_tick),
+    ("spread", "a publication to many", bench_spread),
+    ("opening", "a gateway is opened again", bench_opening),
+]
+
+
+def main() -> int:
+    words = argparse.ArgumentParser(usage=__doc__)
+    words.add_argument("program")
+    for name, number in (("--clients", 1024), ("--waiting", 1024), ("--past", 20000), ("--sleepers", 1000), ("--records", 20000)):
+        words.add_argument(name, type=int, default=number)
+    words.add_argument("--seconds", type=float, default=0.3)
+    words.add_argument("--only", choices=[word for word, _, _ in PARTS])
+    asked = words.parse_args()
+    bench = Bench(asked.program, asked.seconds)
+    micros = bench.repeated([idle(10)], at(FIRST, 1, SEARCH), f"to {FIRST} 030201")[0]
+    print(f"single steps of a gateway; a SEARCHGW takes {micros:.2f} us with its line and its answer", flush=True)
+    for word, what, part in PARTS:
+        if asked.only in (None, word):
+            print(what, flush=True)
+            part(bench, asked)
+    return 0
+
+
+if __name__ == "__main__":
+    sys.exit(main())

@@ -1,0 +1,18 @@
+-- Why a call has no answer, and why a shift is not closed, by number.
+use Rattle.std.specs.Prelude.{ℕ}
+use Rattle.gw_shift.specs.declared.fault.CallFault.{CallFault}
+use Rattle.gw_shift.specs.declared.fault.CallFault.TheVariants as calls
+use Rattle.gw_shift.specs.declared.fault.CloseFault.{CloseFault}
+use Rattle.gw_shift.specs.declared.fault.CloseFault.TheVariants as closes
+
+-- the number of a call's fault
+abbrev pub call_number : CallFault → ℕ
+call_number calls.ShiftFull = 1
+call_number (calls.Behind held) = 2
+call_number (calls.Node number fault) = 3
+call_number calls.Memory = 6
+
+-- the number of a closing's fault
+abbrev pub close_number : CloseFault → ℕ
+close_number (closes.Missing steps held) = 4
+close_number (closes.Stranger number) = 5

@@ -1,0 +1,10 @@
+-- Why a run has no result, by number.
+use Rattle.std.specs.Prelude.{ℕ}
+use Rattle.gw_world.specs.declared.world.WorldFault.{WorldFault}
+use Rattle.gw_world.specs.declared.world.WorldFault.TheVariants.{NoGateway, NoDelta, Memory}
+
+-- the number of a fault
+abbrev pub fault_number : WorldFault → ℕ
+fault_number (NoGateway event) = 1
+fault_number (NoDelta event) = 2
+fault_number Memory = 3

@@ -1,0 +1,81 @@
+//! A datagram that came when its shift had no call left for it.
+
+ghost use Rattle.std.specs.Prelude.{◌≡◌, ◌≤◌, length, true, IfSome};
+
+use gw_wire::{Arrival, Ears, Socket};
+use std::alloc::Global;
+use std::time::Clock;
+
+/// How many octets a datagram has at most.
+const LARGEST: usize = 65_536;
+
+/// Where datagrams come from: the socket, and before it the one that came too late for its shift.
+#[derive(Drop)]
+pub struct Inlet {
+    /// The socket.
+    pub socket: Socket,
+    /// What came too late.
+    pub late: Late,
+}
+
+/// A datagram that came when its shift had no call left for it: it is the first one of the next shift.
+#[derive(Drop)]
+pub struct Late {
+    arrival: Option<Arrival>,
+    bytes: Vec<u8>,
+}
+
+impl Late {
+    /// Nothing came late. `None` where memory ran out.
+    pub(crate) fn none(alloc: Global) -> Option<Late> {
+        match Vec::from_elem(alloc, 0u8, LARGEST) {
+            Ok(bytes) => Some(Late {
+                arrival: None,
+                bytes,
+            }),
+            Err(_) => None,
+        }
+    }
+
+    /// Whether a datagram came late.
+    pub(crate) fn is_there(&self) -> bool {
+        self.arrival.is_some()
+    }
+
+    /// Where none came late, one that is there already counts as such: a shift begins with it.
+    pub(crate) fn look<C: Clock>(&mut self, ears: &Ears<'_, C>) {
+        if self.arrival.is_none() {
+            self.arrival = ears.waiting(self.bytes.as_mut_slice());
+        }
+    }
+
+    /// This one came late. It stands in the front of the buffer.
+    pub(crate) fn keep(&mut self, arrival: Arrival, buffer: &[u8]) {
+        if copy_front(self.bytes.as_mut_slice(), buffer, arrival.size) {
+            self.arrival = Some(arrival);
+        }
+    }
+
+    /// Gives the one that came late, in the front of the buffer. It is late no more.
+    pub(crate) fn give(&mut self, buffer: &mut [u8]) -> Option<Arrival>
+        ensures { IfSome result (λ arrival. arrival.size ≤ length buffer.new) }
+    {
+        let arrival = self.arrival.take()?;
+        if copy_front(buffer, self.bytes.as_slice(), arrival.size) {
+            return Some(arrival);
+        }
+        None
+    }
+}
+
+/// Copies so many octets from front to front, where both have as many. Says whether they do.
+fn copy_front(to: &mut [u8], from: &[u8], size: usize) -> bool
+    ensures same { length to.new ≡ length to.old }
+    ensures room { result ≡ true → size ≤ length to.new }
+{
+    if size > to.len() || size > from.len() {
+        return false;
+    }
+    to[..size].copy_from_slice(&from[..size]);
+    true
+}
