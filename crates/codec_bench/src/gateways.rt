@@ -104,5 +104,5 @@ fn body(alloc: Global, seed: u16) -> Result<Octets, OpsFault> {
     for _ in 0..BODY {
         octets.push(numbers.octet() ^ (seed % 256) as u8)?;
     }
-    Ok(Octets::new(octets))
+    Ok(Octets::new(octets)?)
 }

@@ -114,7 +114,7 @@ fn body(alloc: Global, numbers: &mut Numbers) -> Result<Octets, AllocError> {
     for _ in 0..BODY {
         octets.push(numbers.octet())?;
     }
-    Ok(Octets::new(octets))
+    Octets::new(octets)
 }
 
 /// Five acknowledgements from a first one on.

@@ -54,7 +54,7 @@ pub(crate) fn with(
     let Some(frame) = kept else {
         return Err(Stop::Line);
     };
-    let other = replaced(frame, Octets::new(octets(alloc, fields)?))?;
+    let other = replaced(frame, Octets::new(octets(alloc, fields)?)?)?;
     print_frame(alloc, text, &other)
 }
 

@@ -14,9 +14,9 @@ pub fn bytes(alloc: Global, text: &[u8]) -> Result<Option<Octets>, AllocError>
 {
     match text {
         [] => Ok(None),
-        [b'-'] => Ok(Some(Octets::new(Vec::new(alloc)))),
+        [b'-'] => Ok(Some(Octets::new(Vec::new(alloc))?)),
         _ => match hex::decode(alloc, text) {
-            Ok(decoded) => Ok(Some(Octets::new(decoded))),
+            Ok(decoded) => Ok(Some(Octets::new(decoded)?)),
             Err(FromHexError::OutOfMemory) => Err(AllocError),
             Err(_) => Ok(None),
         },

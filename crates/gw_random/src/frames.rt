@@ -22,7 +22,7 @@ const SILENCE: [u16; 4] = [0, 5, 60, 600];
 pub(crate) fn octets_of(alloc: Global, frame: &Frame) -> Result<Octets, AllocError> {
     let mut octets = Vec::new(alloc);
     match encode(alloc, frame, &mut octets) {
-        Ok(()) => Ok(Octets::new(octets)),
+        Ok(()) => Octets::new(octets),
         Err(_) => Err(AllocError),
     }
 }
@@ -72,7 +72,7 @@ fn message(alloc: Global, draw: &mut Draw) -> Result<Octets, AllocError> {
             .push(draw.octet_below(255))
             .map_err(AllocError::from)?;
     }
-    Ok(Octets::new(octets))
+    Octets::new(octets)
 }
 
 /// The bits of a quality of service of 0 to 2.
@@ -133,7 +133,7 @@ fn topic_asked(alloc: Global, draw: &mut Draw) -> Result<(Flags, Octets), AllocE
 fn id_octets(alloc: Global) -> Result<Octets, AllocError> {
     let mut octets = Vec::new(alloc);
     append_u16(&mut octets, PREDEFINED_ID)?;
-    Ok(Octets::new(octets))
+    Octets::new(octets)
 }
 
 /// SUBSCRIBE.
@@ -218,7 +218,7 @@ fn will_update(alloc: Global, draw: &mut Draw) -> Result<Frame, AllocError> {
 pub(crate) fn ping(alloc: Global, draw: &mut Draw, client: u8) -> Result<Frame, AllocError> {
     if draw.is_once_in(4) {
         return Ok(Frame::PingReq {
-            client: Octets::new(Vec::new(alloc)),
+            client: Octets::new(Vec::new(alloc))?,
         });
     }
     Ok(Frame::PingReq {

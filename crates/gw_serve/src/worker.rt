@@ -220,9 +220,12 @@ fn handle<T: Wait, R: Replica, D: Disk + Drop, P: Post, G: Gate>(
         bytes,
         moment,
     } = datagram;
+    let Ok(bytes) = Octets::new(bytes) else {
+        return (pass, Handled::Failed(Trouble::Memory));
+    };
     let frame = Step::Frame {
         from,
-        bytes: Octets::new(bytes),
+        bytes,
         now: moment,
     };
     let Ok(step) = Arc::new(alloc, frame) else {

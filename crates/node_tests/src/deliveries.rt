@@ -49,6 +49,14 @@ fn no_predefined(rt: &impl Abort, alloc: Global) -> Predefined {
     }
 }
 
+/// The empty octet string.
+fn no_octets(rt: &impl Abort, alloc: Global) -> Octets {
+    match Octets::new(Vec::new(alloc)) {
+        Ok(octets) => octets,
+        Err(_) => panic!(rt; "out of memory"),
+    }
+}
+
 /// The frames that a draft sends, one behind the other.
 fn sent(rt: &impl Abort, alloc: Global, draft: Draft) -> Vec<u8> {
     let plan = sn_flow::plan_without(alloc, draft);
@@ -170,7 +178,7 @@ fn a_topic_field_has_a_meaning_or_a_code(rt: HostRuntime) {
     let alloc = rt.alloc();
     let predefined = no_predefined(&rt, alloc);
     let session = Session::empty(alloc);
-    let body = Octets::new(Vec::new(alloc));
+    let body = no_octets(&rt, alloc);
     for (bits, topic, code) in [
         (0, 9, 2),
         (1, 9, 2),

@@ -5,32 +5,37 @@ ghost use Rattle.std.specs.Prelude.{◌≡◌, ℕ, List, length, IfOk, IsTrue, 
 use std::alloc::{AllocError, Global};
 use std::cmp::Ordering;
 use std::marker::Model;
+use std::sync::ArcSlice;
 
-/// An octet string. Contracts see it as the list of its octets.
+/// An octet string, which copies share: a copy takes no memory and moves no octet. Contracts see it as the list of its octets.
 #[derive(Debug, Drop)]
 pub struct Octets {
-    items: Vec<u8>,
+    items: ArcSlice<u8>,
 }
 
 impl Model for Octets {
+    ghost use Rattle.std.specs.Prelude.{List, ℕ};
+    ghost use Rattle.std.specs.Arc.{arc_slice_items};
+
     ghost Value = { List ℕ };
 
-    ghost view = { λ o. o.items.items };
+    ghost view = { λ o. arc_slice_items o.items };
 }
 
 impl Octets {
     /// The octet string of these octets.
-    pub fn new(items: Vec<u8>) -> Octets
-        ensures { result ≡ items.items }
+    pub fn new(octets: Vec<u8>) -> Result<Octets, AllocError>
+        ensures { IfOk result (λ made. made ≡ octets.items) }
     {
-        Octets { items }
+        let items = ArcSlice::from_vec(octets)?;
+        Ok(Octets { items })
     }
 
     /// A copy of these octets.
     pub fn from_slice(alloc: Global, octets: &[u8]) -> Result<Octets, AllocError>
         ensures { IfOk result (λ made. made ≡ octets.now) }
     {
-        Ok(Octets::new(Vec::from_slice(alloc, octets)?))
+        Octets::new(Vec::from_slice(alloc, octets)?)
     }
 
     /// The octets.
@@ -54,11 +59,12 @@ impl Octets {
         self.items.is_empty()
     }
 
-    /// An equal octet string.
-    pub fn copy(&self, alloc: Global) -> Result<Octets, AllocError>
+    /// An equal octet string, which shares the octets.
+    pub fn copy(&self, _alloc: Global) -> Result<Octets, AllocError>
         ensures { IfOk result (λ made. made ≡ self.now) }
     {
-        Octets::from_slice(alloc, self.as_slice())
+        let items = self.items.clone()?;
+        Ok(Octets { items })
     }
 }
 

@@ -207,7 +207,7 @@ fn field(alloc: Global, topic: Topic<'_>) -> Result<Octets, AllocError> {
         Topic::Short(number) | Topic::Predefined(number) => {
             let mut octets = Vec::new(alloc);
             append_u16(&mut octets, number)?;
-            Ok(Octets::new(octets))
+            Octets::new(octets)
         }
     }
 }

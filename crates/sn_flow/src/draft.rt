@@ -156,10 +156,8 @@ impl Draft {
         if encode(alloc, frame, &mut bytes).is_err() {
             return Err(StepFault::Memory);
         }
-        self.sends.push(Send {
-            to,
-            bytes: Octets::new(bytes),
-        })?;
+        let bytes = Octets::new(bytes)?;
+        self.sends.push(Send { to, bytes })?;
         Ok(())
     }
 

@@ -21,7 +21,7 @@ fn searched(alloc: Global, config: &Config, to: Addr) -> Result<Row, StepFault>
     ensures ok { IfOk result (λ row. row ≡ searched_row config.now.gateway to) }
     ensures err { IfErr result (λ fault. fault ≡ StepFault.Memory) }
 {
-    let address = Octets::new(Vec::new(alloc));
+    let address = Octets::new(Vec::new(alloc))?;
     let answer = Frame::GwInfo {
         gateway: config.gateway,
         address,

@@ -83,7 +83,7 @@ pub fn set_topic(
                 topic,
                 qos: asked.qos,
                 retain: asked.retain,
-                message: Octets::new(Vec::new(alloc)),
+                message: Octets::new(Vec::new(alloc))?,
             });
         }
         Some(will) => {
