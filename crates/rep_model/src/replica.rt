@@ -1,6 +1,6 @@
 //! What every replica of a set of operations promises.
 
-ghost use Rattle.std.specs.Prelude.{◌≡◌, ℕ, ◌++◌, List, [], false, true, IfOk, OnOk, IfErr, MatchOption};
+ghost use Rattle.std.specs.Prelude.{◌≡◌, ℕ, ◌+◌, ◌++◌, ◌∷◌, List, [], drop, false, true, IfOk, OnOk, IfErr, MatchOption};
 ghost use Rattle.rep_ops.specs.declared.op.Op.{Op};
 ghost use Rattle.rep_model.specs.Views.{view, clients, is_named};
 ghost use Rattle.rep_model.specs.Fresh.{next_epoch, next_seq};
@@ -58,6 +58,14 @@ pub trait Replica: Drop {
     fn clients(&self, alloc: Global) -> Result<Vec<ClientId>, TakeFault>
         ensures ok { IfOk result (λ all. all.items ≡ clients (kept self.now)) }
         ensures err { IfErr result (λ fault. fault ≡ Memory) };
+
+    /// The client at a place among those that operations name, which stand in ascending order from place 0 on, with its
+    /// view; nothing behind the last.
+    fn client_at(&self, place: usize) -> Option<(&ClientId, &ClientView)>
+        ensures { MatchOption result
+            (drop place (clients (kept self.now)) ≡ [])
+            (λ found. (drop place (clients (kept self.now)) ≡ found.0.now ∷ drop (place + 1) (clients (kept self.now)))
+            × (found.1.now ≡ view found.0.now (kept self.now))) };
 
     /// The epoch of the client's next Take; nothing after the last.
     fn next_epoch(&self, client: &ClientId) -> Option<u64>

@@ -12,3 +12,4 @@ pub mod Growing
 pub mod Moves
 pub mod Prepared
 pub mod Kept
+pub mod Walks

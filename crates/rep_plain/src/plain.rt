@@ -8,7 +8,7 @@ use super::held::held;
 use super::news::news;
 use super::reading::{greatest_epoch, greatest_seq};
 use super::room::{make_room, move_in};
-use super::table::{Table, count_new, named_clients, own_ops, passed};
+use super::table::{Table, count_new, named_at, named_clients, own_ops, passed};
 use rep_model::{ClientView, Replica, TakeFault};
 use rep_ops::{ClientId, Delta};
 use std::alloc::Global;
@@ -107,6 +107,11 @@ impl Replica for Plain {
 
     fn clients(&self, alloc: Global) -> Result<Vec<ClientId>, TakeFault> {
         Ok(named_clients(alloc, &self.table)?)
+    }
+
+    fn client_at(&self, place: usize) -> Option<(&ClientId, &ClientView)> {
+        let (client, entry) = named_at(&self.table, place)?;
+        Some((client, &entry.seen))
     }
 
     fn next_epoch(&self, client: &ClientId) -> Option<u64> {

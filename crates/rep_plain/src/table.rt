@@ -1,8 +1,8 @@
 //! The table of clients.
 
-ghost use Rattle.std.specs.Prelude.{◌≡◌, ◌+◌, List, ℕ, ◌≤◌, not, count_by, T, IfOk};
+ghost use Rattle.std.specs.Prelude.{◌≡◌, ◌+◌, ◌∷◌, [], List, ℕ, ◌≤◌, not, count_by, drop, T, IfOk, IfSome, MatchOption, Some};
 ghost use Rattle.std.specs.List.{list_any, AllByRecursion};
-ghost use Rattle.std.specs.FinMap.{is_sorted};
+ghost use Rattle.std.specs.FinMap.{find, is_sorted};
 ghost use Rattle.rep_ops.specs.Orders.{client_cmp};
 ghost use Rattle.rep_plain.specs.Rows.{own, flat, has_any, count_new, named_rows};
 ghost use Rattle.rep_plain.specs.Tables.{rows_of, passed_by, too_many_pending, too_many_parked, too_many_exceptions};
@@ -100,4 +100,27 @@ pub(crate) fn named_clients(alloc: Global, table: &Table) -> Result<Vec<ClientId
         }
     }
     Ok(clients)
+}
+
+/// The client at a place among those that have operations, which are in ascending order, with what is held of it. Each
+/// call walks from the first client on.
+pub(crate) fn named_at(table: &Table, place: usize) -> Option<(&ClientId, &Entry)>
+    requires { T (is_sorted client_cmp table.now.entries) }
+    ensures at { MatchOption result
+        (drop place (named_rows (rows_of table.now.entries)) ≡ [])
+        (λ found. drop place (named_rows (rows_of table.now.entries))
+        ≡ found.0.now ∷ drop (place + 1) (named_rows (rows_of table.now.entries))) }
+    ensures found { IfSome result (λ found.
+        find client_cmp found.0.now table.now.entries ≡ Some found.1.now) }
+{
+    let mut left = place;
+    for (client, entry) in table {
+        if !entry.ops.as_slice().is_empty() {
+            if left == 0 {
+                return Some((client, entry));
+            }
+            left -= 1;
+        }
+    }
+    None
 }

@@ -1,0 +1,30 @@
+use Rattle.std.proofs.Common.{◌≡◌, ◌+◌, ◌∷◌, [], drop, Some, sym, ap, ◌∙◌}
+use Rattle.std.specs.FinMap.{find}
+use Rattle.rep_ops.specs.Orders.{client_cmp}
+use Rattle.rep_model.specs.Views.{clients, view}
+use Rattle.rep_plain.specs.Rows.{flat, named_rows}
+use Rattle.rep_plain.specs.Tables.{rows_of}
+use Rattle.rep_plain.proofs.Flat.{clients_flat}
+use Rattle.rep_plain.proofs.Found.{table_rows}
+use Rattle.rep_plain.proofs.Maps.{lookup_is_find}
+use Rattle.rep_plain.proofs.Moves.{seen_found}
+use Rattle.rep_plain.proofs.plain.PlainReplica.client_at.Goals as goal
+
+pub named_at-requires : goal.named_at-requires
+named_at-requires c = c.self.invariant.sorted
+
+pub returns-in_err-client : goal.returns-in_err-client
+returns-in_err-client c =
+    let es = c.self.inside.table.entries in
+    let named = sym (ap (λ rows. clients (flat rows)) c.self.view_is) ∙ clients_flat (rows_of es) (table_rows es c.self.inside.named c.self.invariant) in
+    rw c.from_residual.ensures (ap (drop c.args.place) named ∙ c.in_err-client.ensures.at)
+
+pub returns : goal.returns
+returns c =
+    let es = c.self.inside.table.entries in
+    let client = c.in_ok-client.client.now in
+    let entry = c.in_ok-client.entry.now in
+    let named = sym (ap (λ rows. clients (flat rows)) c.self.view_is) ∙ clients_flat (rows_of es) (table_rows es c.self.inside.named c.self.invariant) in (
+      ap (drop c.args.place) named ∙ c.in_ok-client.ensures.at ∙ ap (λ cs. client ∷ drop (c.args.place + 1) cs) (sym named),
+      seen_found client es c.self.inside.named entry c.self.invariant (sym (lookup_is_find client_cmp client es ∙ c.in_ok-client.ensures.found)) ∙ ap (λ rows. view client (flat rows)) c.self.view_is,
+    )
