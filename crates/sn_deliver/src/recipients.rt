@@ -1,9 +1,10 @@
 //! Who gets a publication, and at which quality of service (MQTT-SN 1.2 section 6.10).
 
 ghost use Rattle.std.specs.Prelude.{◌≡◌, filter, IfOk, IfErr};
+ghost use Rattle.std.specs.Option.{option_map};
 ghost use Rattle.sn_flow.specs.Plans.{seen_of};
 ghost use Rattle.rep_model.specs.Views.{view};
-ghost use Rattle.sn_deliver.specs.Recipients.{admitted as qos_admitted, qos_at as qos_at_asked, qos_in as qos_in_session, qos_for as qos_for_view, put_for as put_for_client, puts_among as puts_among_clients, puts_for as puts_for_all, is_another as is_another_client, puts_of_will as puts_of_this_will};
+ghost use Rattle.sn_deliver.specs.Recipients.{admitted as qos_admitted, qos_at as qos_at_asked, qos_in as qos_in_session, qos_for as qos_for_view, message_for, put_for as put_for_client, puts_among as puts_among_clients, puts_for as puts_for_all, is_another as is_another_client, puts_of_will as puts_of_this_will};
 
 use octets::Octets;
 use rep_model::{ClientView, Replica};
@@ -54,14 +55,51 @@ fn qos_for(topic: &TopicName, qos: u8, view: &ClientView) -> Option<u8>
     }
 }
 
-/// The quality of service at which this client gets the publication.
-fn qos_of<R: Replica>(replica: &R, topic: &TopicName, qos: u8, client: &ClientId) -> Option<u8>
-    ensures { result ≡ qos_for_view topic.now qos (view client.now (R.kept replica.now)) }
+/// The message for a client of this view, where it is a recipient.
+fn put_at(
+    alloc: Global,
+    topic: &TopicName,
+    qos: u8,
+    body: &Octets,
+    client: &ClientId,
+    view: &ClientView,
+) -> Result<Option<NewPut>, StepFault>
+    ensures ok { IfOk result (λ put. put ≡ option_map (message_for topic.now body.now client.now) (qos_for_view topic.now qos view.now)) }
+    ensures err { IfErr result (λ fault. fault ≡ StepFault.Memory) }
 {
-    match replica.view_of(client) {
-        None => None,
-        Some(view) => qos_for(topic, qos, view),
+    match qos_for(topic, qos, view) {
+        None => Ok(None),
+        Some(qos) => Ok(Some(NewPut {
+            client: client.copy(alloc)?,
+            topic: topic.copy(alloc)?,
+            qos,
+            body: body.copy(alloc)?,
+        })),
     }
+}
+
+/// A message for each recipient of the publication, in the order of the clients.
+pub fn puts_for<R: Replica>(
+    alloc: Global,
+    replica: &R,
+    topic: &TopicName,
+    qos: u8,
+    body: &Octets,
+) -> Result<Vec<NewPut>, StepFault>
+    ensures ok { IfOk result (λ puts. puts.items ≡ puts_for_all (seen_of (R.kept replica.now)) topic.now qos body.now) }
+    ensures err { IfErr result (λ fault. fault ≡ StepFault.Memory) }
+{
+    let mut puts = Vec::new(alloc);
+    for place in 0..usize::MAX {
+        let Some((client, view)) = replica.client_at(place) else {
+            return Ok(puts);
+        };
+        if let Some(put) = put_at(alloc, topic, qos, body, client, view)? {
+            puts.push(put)?;
+        }
+    }
+    // no memory holds so many clients
+    Err(StepFault::Memory)
 }
 
 /// The message for a client, where it is a recipient.
@@ -71,19 +109,14 @@ fn put_for<R: Replica>(
     topic: &TopicName,
     qos: u8,
     body: &Octets,
-    client: ClientId,
+    client: &ClientId,
 ) -> Result<Option<NewPut>, StepFault>
-    ensures ok { IfOk result (λ put. put ≡ put_for_client (seen_of (R.kept replica.now)) topic.now qos body.now client) }
+    ensures ok { IfOk result (λ put. put ≡ put_for_client (seen_of (R.kept replica.now)) topic.now qos body.now client.now) }
     ensures err { IfErr result (λ fault. fault ≡ StepFault.Memory) }
 {
-    match qos_of(replica, topic, qos, &client) {
+    match replica.view_of(client) {
         None => Ok(None),
-        Some(qos) => Ok(Some(NewPut {
-            client,
-            topic: topic.copy(alloc)?,
-            qos,
-            body: body.copy(alloc)?,
-        })),
+        Some(view) => put_at(alloc, topic, qos, body, client, view),
     }
 }
 
@@ -101,26 +134,11 @@ fn puts_among<R: Replica>(
 {
     let mut puts = Vec::new(alloc);
     for client in clients {
-        if let Some(put) = put_for(alloc, replica, topic, qos, body, client)? {
+        if let Some(put) = put_for(alloc, replica, topic, qos, body, &client)? {
             puts.push(put)?;
         }
     }
     Ok(puts)
-}
-
-/// A message for each recipient of the publication, in the order of the clients.
-pub fn puts_for<R: Replica>(
-    alloc: Global,
-    replica: &R,
-    topic: &TopicName,
-    qos: u8,
-    body: &Octets,
-) -> Result<Vec<NewPut>, StepFault>
-    ensures ok { IfOk result (λ puts. puts.items ≡ puts_for_all (seen_of (R.kept replica.now)) topic.now qos body.now) }
-    ensures err { IfErr result (λ fault. fault ≡ StepFault.Memory) }
-{
-    let clients = replica.clients(alloc)?;
-    puts_among(alloc, replica, clients, topic, qos, body)
 }
 
 /// Whether it is another client.
