@@ -64,7 +64,9 @@ fn put_at(
     client: &ClientId,
     view: &ClientView,
 ) -> Result<Option<NewPut>, StepFault>
-    ensures ok { IfOk result (λ put. put ≡ option_map (message_for topic.now body.now client.now) (qos_for_view topic.now qos view.now)) }
+    ensures ok { IfOk result (λ put.
+        put ≡ option_map (message_for topic.now body.now client.now)
+        (qos_for_view topic.now qos view.now)) }
     ensures err { IfErr result (λ fault. fault ≡ StepFault.Memory) }
 {
     match qos_for(topic, qos, view) {

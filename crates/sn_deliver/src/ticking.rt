@@ -1,10 +1,12 @@
 //! Tick: what a gateway does as time goes by (MQTT-SN 1.2 sections 6.1, 6.3, 6.11 and 6.13).
 
-ghost use Rattle.std.specs.Prelude.{◌≡◌, Some, fold, IfOk, IfErr, OnOk};
-ghost use Rattle.rep_model.specs.Views.{view, clients as clients_of};
+ghost use Rattle.std.specs.Prelude.{◌≡◌, if◌then◌else◌, Some, fold, IfOk, IfErr, OnOk};
+ghost use Rattle.rep_model.specs.Views.{clients as clients_of};
+ghost use Rattle.sn_flow.specs.declared.local.LocalChange.TheVariants.{Heard};
+ghost use Rattle.sn_flow.specs.Drafts.{moved};
 ghost use Rattle.sn_flow.specs.Others.{can_wake};
 ghost use Rattle.sn_flow.specs.Plans.{Gives, seen_of};
-ghost use Rattle.sn_deliver.specs.Ticking.{dialog_ended, dialogs_ended, needs_timer as is_in_need, timer_begun, timers_begun, cleaned as cleaned_draft, is_long_ago as is_moment_long_ago, may_advertise as is_to_advertise, advertised_to, advertised as advertised_draft, will_puts as puts_of_the_will, lost as lost_draft, retried as retried_row, plan_due as plan_of_due, plan_if_due as plan_of_due_if, one_thing as plan_of_one, tick as tick_plan};
+ghost use Rattle.sn_deliver.specs.Ticking.{dialog_ended, dialogs_ended, needs_timer as is_in_need, timers_begun, cleaned as cleaned_draft, is_long_ago as is_moment_long_ago, may_advertise as is_to_advertise, advertised_to, advertised as advertised_draft, will_puts as puts_of_the_will, lost as lost_draft, retried as retried_row, plan_due as plan_of_due, plan_if_due as plan_of_due_if, one_thing as plan_of_one, tick as tick_plan};
 
 use super::due::{Due, elapsed, first_due, is_stamp_of};
 use super::follow::deliver_next;
@@ -65,30 +67,22 @@ fn needs_timer(gateway: u8, dialogs: &Dialogs, client: &ClientId, view: &ClientV
         && dialogs.timer_of(client).is_none()
 }
 
-/// Whether a client needs a timer.
-fn is_timerless<R: Replica>(gateway: u8, replica: &R, dialogs: &Dialogs, client: &ClientId) -> bool
-    ensures { result ≡ is_in_need gateway dialogs.now.local.timers client.now (view client.now (R.kept replica.now)) }
-{
-    match replica.view_of(client) {
-        None => false,
-        Some(view) => needs_timer(gateway, dialogs, client, view),
-    }
-}
-
-/// And then a timer for the client, where it needs one.
-fn begin_timer<R: Replica>(
+/// And then a timer for a client of this view, where it needs one.
+fn begin_timer(
     alloc: Global,
     draft: &mut Draft,
     gateway: u8,
-    replica: &R,
     dialogs: &Dialogs,
     now: u64,
     client: &ClientId,
+    view: &ClientView,
 ) -> Result<(), StepFault>
-    ensures ok { OnOk result (draft.new ≡ timer_begun gateway (seen_of (R.kept replica.now)) dialogs.now.local.timers now draft.old client.now) }
+    ensures ok { OnOk result (draft.new
+        ≡ (if is_in_need gateway dialogs.now.local.timers client.now view.now
+        then moved (Heard client.now now) draft.old else draft.old)) }
     ensures err { IfErr result (λ fault. fault ≡ StepFault.Memory) }
 {
-    if is_timerless(gateway, replica, dialogs, client) {
+    if needs_timer(gateway, dialogs, client, view) {
         draft.note(LocalChange::Heard {
             client: client.copy(alloc)?,
             moment: now,
@@ -97,7 +91,7 @@ fn begin_timer<R: Replica>(
     Ok(())
 }
 
-/// And then a timer for each of these clients that needs one.
+/// And then a timer for each client that needs one.
 fn begin_timers<R: Replica>(
     alloc: Global,
     draft: &mut Draft,
@@ -105,15 +99,20 @@ fn begin_timers<R: Replica>(
     replica: &R,
     dialogs: &Dialogs,
     now: u64,
-    clients: &[ClientId],
 ) -> Result<(), StepFault>
-    ensures ok { OnOk result (draft.new ≡ timers_begun gateway (seen_of (R.kept replica.now)) dialogs.now.local.timers now clients.now draft.old) }
+    ensures ok { OnOk result (draft.new
+        ≡ timers_begun gateway (seen_of (R.kept replica.now)) dialogs.now.local.timers now
+        (clients_of (R.kept replica.now)) draft.old) }
     ensures err { IfErr result (λ fault. fault ≡ StepFault.Memory) }
 {
-    for client in clients {
-        begin_timer(alloc, draft, gateway, replica, dialogs, now, client)?;
+    for place in 0..usize::MAX {
+        let Some((client, view)) = replica.client_at(place) else {
+            return Ok(());
+        };
+        begin_timer(alloc, draft, gateway, dialogs, now, client, view)?;
     }
-    Ok(())
+    // no memory holds so many clients
+    Err(StepFault::Memory)
 }
 
 /// What every tick does first.
@@ -123,15 +122,13 @@ fn cleaned<R: Replica>(
     replica: &R,
     dialogs: &Dialogs,
     now: u64,
-    clients: &[ClientId],
 ) -> Result<Draft, StepFault>
-    requires { clients.now ≡ clients_of (R.kept replica.now) }
     ensures ok { IfOk result (λ draft. draft ≡ cleaned_draft gateway (seen_of (R.kept replica.now)) dialogs.now.local now) }
     ensures err { IfErr result (λ fault. fault ≡ StepFault.Memory) }
 {
     let mut draft = Draft::new(alloc);
     end_dialogs(&mut draft, now, dialogs.dialogs())?;
-    begin_timers(alloc, &mut draft, gateway, replica, dialogs, now, clients)?;
+    begin_timers(alloc, &mut draft, gateway, replica, dialogs, now)?;
     Ok(draft)
 }
 
@@ -337,10 +334,8 @@ fn one_thing<R: Replica>(
     replica: &R,
     dialogs: &Dialogs,
     now: u64,
-    clients: Vec<ClientId>,
     draft: Draft,
 ) -> Result<Plan, StepFault>
-    requires { clients.items ≡ clients_of (R.kept replica.now) }
     ensures { Gives result (plan_of_one config.now.gateway config.now.advertise config.now.field config.now.predefined (seen_of (R.kept replica.now)) dialogs.now.local now draft) }
 {
     let field = config.field.as_slice();
@@ -348,7 +343,7 @@ fn one_thing<R: Replica>(
         let draft = advertised(alloc, config.gateway, config.advertise, field, now, draft)?;
         return Ok(plan_without(alloc, draft));
     }
-    let found = first_due(config.gateway, replica, dialogs, now, clients);
+    let found = first_due(alloc, config.gateway, replica, dialogs, now)?;
     plan_if_due(alloc, config, replica, now, draft, found)
 }
 
@@ -364,14 +359,6 @@ pub fn tick<R: Replica>(
 ) -> Result<Plan, StepFault>
     ensures { Gives result (tick_plan config.now.gateway config.now.advertise config.now.field config.now.predefined (seen_of (R.kept replica.now)) dialogs.now.local now) }
 {
-    let clients = replica.clients(alloc)?;
-    let draft = cleaned(
-        alloc,
-        config.gateway,
-        replica,
-        dialogs,
-        now,
-        clients.as_slice(),
-    )?;
-    one_thing(alloc, config, replica, dialogs, now, clients, draft)
+    let draft = cleaned(alloc, config.gateway, replica, dialogs, now)?;
+    one_thing(alloc, config, replica, dialogs, now, draft)
 }
