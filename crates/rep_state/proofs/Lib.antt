@@ -20,4 +20,5 @@ pub mod Placing
 pub mod Reading
 pub mod Working
 pub mod Walking
+pub mod Indexed
 pub mod Contradicting

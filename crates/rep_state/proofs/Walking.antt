@@ -1,60 +1,34 @@
 -- The clients of the table in order.
-use Rattle.std.proofs.Common.{◌≡◌, ℕ, true, false, cond, List, [], ◌∷◌, ◌++◌, map, filter, Some, T, refl, sym, ap, ◌∙◌, subst, Less, Equal, Greater, Vec, Global}
+use Rattle.std.proofs.Common.{◌≡◌, ℕ, ◌+◌, ◌≤◌, zero, suc, Bool, true, false, cond, List, [], ◌∷◌, ◌++◌, map, filter, length, drop, Some, None, Option, IfSome, MatchOption, Bor, T, refl, sym, ap, ◌∙◌, subst, arith}
+use Rattle.std.proofs.lemmas.List.{drop-drop, drop-map}
 use Rattle.std.specs.List.{AllByRecursion}
 use Rattle.std.specs.Map.{keys_of}
-use Rattle.std.specs.BTreeMap.{insert_entry}
-use Rattle.std.specs.FinMap.{find, put, is_sorted}
-use Rattle.std.specs.FinMap.Entries.{by_order}
+use Rattle.std.specs.FinMap.{find, is_sorted}
 use Rattle.rep_ops.specs.declared.op.Op.{Op}
 use Rattle.rep_ops.specs.Orders.{client_cmp}
-use Rattle.rep_model.proofs.Lookup.{is_sorted-in_order}
 use Rattle.rep_model.proofs.Readers.{client_total}
-use Rattle.rep_plain.specs.Rows.{flat, own, or_nothing, has_any, named_rows}
+use Rattle.rep_plain.specs.Rows.{flat, own, or_nothing, has_any, count_named, named_rows}
 use Rattle.rep_plain.proofs.Counting.{all_found}
-use Rattle.rep_plain.proofs.Maps.{insert_is_put}
 use Rattle.rep_state.specs.declared.entry.Entry.{Entry}
-use Rattle.rep_state.specs.Tables.{plain_of, by_client, rows_of, names_in, own_of_all}
+use Rattle.rep_state.specs.Entries.{row_of}
+use Rattle.rep_state.specs.Tables.{rows_of, own_of_all}
 use Rattle.rep_state.proofs.Rows.{sorted_rows}
 
--- one name more in front
-pub name_more : (k : Vec ℕ Global) (e : Entry) (es : List (Vec ℕ Global × Entry)) (old new : List (List ℕ × (Unit {0}))) → old ≡ names_in es → new ≡ insert_entry client_cmp old k.items tt → new ≡ names_in ((k, e) ∷ es)
-name_more k e es old new is more = more ∙ insert_is_put client_cmp k.items tt old ∙ ap (put client_cmp k.items tt) is
-
-keys_put : {X Y : Type 0} (c : List ℕ) (x : X) (y : Y) (es : List (List ℕ × X)) (fs : List (List ℕ × Y)) → keys_of es ≡ keys_of fs → keys_of (put client_cmp c x es) ≡ keys_of (put client_cmp c y fs)
-keys_put c x y es fs h = keys_of_put c x es ∙ ap (put_key c) h ∙ sym (keys_of_put c y fs)
-  where
-    put_key : List ℕ → List (List ℕ) → List (List ℕ)
-    put_key c [] = c ∷ []
-    put_key c (k ∷ ks) = by_order (client_cmp c k) (c ∷ k ∷ ks) (k ∷ ks) (k ∷ put_key c ks)
-
-    keys_of_put : {X : Type 0} (c : List ℕ) (x : X) (es : List (List ℕ × X)) → keys_of (put client_cmp c x es) ≡ put_key c (keys_of es)
-    keys_of_put c x [] = refl
-    keys_of_put c x (e ∷ es) = elim (client_cmp c e.0) as (λ r. keys_of (by_order r ((c, x) ∷ e ∷ es) ((e.0, x) ∷ es) (e ∷ put client_cmp c x es)) ≡ by_order r (c ∷ e.0 ∷ keys_of es) (e.0 ∷ keys_of es) (e.0 ∷ put_key c (keys_of es))) [
-      | Less ↦ refl
-      | Equal ↦ refl
-      | Greater ↦ ap (λ rest. e.0 ∷ rest) (keys_of_put c x es)
-    ]
-
--- the names are those of the entries in order
-pub names_are : (es : List (Vec ℕ Global × Entry)) → keys_of (names_in es) ≡ keys_of (by_client es)
-names_are [] = refl
-names_are (e ∷ es) = keys_put e.0.items tt e.1 (names_in es) (by_client es) (names_are es)
-
-keys_rows : (es : List (List ℕ × Entry)) → keys_of (rows_of es) ≡ keys_of es
+pub keys_rows : (es : List (List ℕ × Entry)) → keys_of (rows_of es) ≡ keys_of es
 keys_rows [] = refl
 keys_rows (e ∷ es) = ap (λ rest. e.0 ∷ rest) (keys_rows es)
 
-sorted_table : (es : List (Vec ℕ Global × Entry)) → T (is_sorted client_cmp (rows_of (by_client es)))
-sorted_table es = subst T (sym (sorted_rows (by_client es))) (is_sorted-in_order client_cmp client_total (plain_of es))
+sorted_table : (es : List (List ℕ × Entry)) → T (is_sorted client_cmp es) → T (is_sorted client_cmp (rows_of es))
+sorted_table es h = subst T (sym (sorted_rows es)) h
 
 walked : (rows all : List (List ℕ × List Op)) → AllByRecursion (λ row. find client_cmp row.0 all ≡ Some row.1) rows → own_of_all (keys_of rows) all ≡ flat rows
 walked [] all h = refl
 walked (row ∷ rows) all h = λ i. or_nothing (h.0 i) ++ walked rows all h.1 i
 
-pub walked_all : (es : List (Vec ℕ Global × Entry)) → own_of_all (keys_of (by_client es)) (rows_of (by_client es)) ≡ flat (rows_of (by_client es))
-walked_all es =
-    let rows = rows_of (by_client es) in
-    ap (λ cs. own_of_all cs rows) (sym (keys_rows (by_client es))) ∙ walked rows rows (all_found client_cmp client_total rows (sorted_table es))
+pub walked_all : (es : List (List ℕ × Entry)) → T (is_sorted client_cmp es) → own_of_all (keys_of es) (rows_of es) ≡ flat (rows_of es)
+walked_all es h =
+    let rows = rows_of es in
+    ap (λ cs. own_of_all cs rows) (sym (keys_rows es)) ∙ walked rows rows (all_found client_cmp client_total rows (sorted_table es h))
 
 kept_named : (rows all : List (List ℕ × List Op)) → AllByRecursion (λ row. find client_cmp row.0 all ≡ Some row.1) rows → filter (λ c. has_any (own c all)) (keys_of rows) ≡ named_rows rows
 kept_named [] all h = refl
@@ -66,7 +40,66 @@ kept_named (row ∷ rows) all h =
       | false ↦ rest
     ]
 
-pub named_all : (es : List (Vec ℕ Global × Entry)) → filter (λ c. has_any (own c (rows_of (by_client es)))) (keys_of (by_client es)) ≡ named_rows (rows_of (by_client es))
-named_all es =
-    let rows = rows_of (by_client es) in
-    ap (filter (λ c. has_any (own c rows))) (sym (keys_rows (by_client es))) ∙ kept_named rows rows (all_found client_cmp client_total rows (sorted_table es))
+pub named_all : (es : List (List ℕ × Entry)) → T (is_sorted client_cmp es) → filter (λ c. has_any (own c (rows_of es))) (keys_of es) ≡ named_rows (rows_of es)
+named_all es h =
+    let rows = rows_of es in
+    ap (filter (λ c. has_any (own c rows))) (sym (keys_rows es)) ∙ kept_named rows rows (all_found client_cmp client_total rows (sorted_table es h))
+
+-- ---- where all have operations
+
+few_named : (rows : List (List ℕ × List Op)) → count_named rows ≤ length rows
+few_named [] = omega arith
+few_named (row ∷ rows) =
+    let rest = few_named rows in
+    elim (has_any row.1) as (λ b. length (cond b (row ∷ filter (λ row. has_any row.1) rows) (filter (λ row. has_any row.1) rows)) ≤ suc (length rows)) [
+      | true ↦ omega (arith, rest)
+      | false ↦ omega (arith, rest)
+    ]
+
+all_have : (rows : List (List ℕ × List Op)) → length rows ≤ count_named rows → filter (λ row. has_any row.1) rows ≡ rows
+all_have [] h = refl
+all_have (row ∷ rows) h =
+    elim (has_any row.1) as (λ b. suc (length rows) ≤ length (cond b (row ∷ filter (λ row. has_any row.1) rows) (filter (λ row. has_any row.1) rows)) → cond b (row ∷ filter (λ row. has_any row.1) rows) (filter (λ row. has_any row.1) rows) ≡ row ∷ rows) [
+      | true ↦ λ le. ap (λ rest. row ∷ rest) (all_have rows (omega (arith, le)))
+      | false ↦ λ le. absurd (let few = few_named rows in omega (arith, le, few))
+    ] h
+
+-- as many have operations as have a place: all of them
+pub all_named : (es : List (List ℕ × Entry)) → length es ≤ count_named (rows_of es) → named_rows (rows_of es) ≡ keys_of es
+all_named es h = ap (map (λ (row : List ℕ × List Op). row.0)) (all_have (rows_of es) (subst (λ n. n ≤ count_named (rows_of es)) (sym (same_length es)) h)) ∙ keys_rows es
+  where
+    same_length : (es : List (List ℕ × Entry)) → length (rows_of es) ≡ length es
+    same_length [] = refl
+    same_length (e ∷ es) = ap suc (same_length es)
+
+-- ---- places
+
+all_drop : {A : Type 0} (P : A → Type 0) (n : ℕ) (xs : List A) → AllByRecursion P xs → AllByRecursion P (drop n xs)
+all_drop P zero xs h = h
+all_drop P (suc n) [] h = h
+all_drop P (suc n) (x ∷ xs) h = all_drop P n xs h.1
+
+-- the client at a place is found by its name
+pub found_at : (es rest : List (List ℕ × Entry)) (n : ℕ) (c : List ℕ) (e : Entry) → T (is_sorted client_cmp es) → drop n es ≡ (c, e) ∷ rest → find client_cmp c es ≡ Some e
+found_at es rest n c e sorted is =
+    (subst (AllByRecursion (λ (x : List ℕ × Entry). find client_cmp x.0 es ≡ Some x.1)) is (all_drop (λ (x : List ℕ × Entry). find client_cmp x.0 es ≡ Some x.1) n es (all_found client_cmp client_total es sorted))).0
+
+-- the names from a place on
+pub names_from : (n : ℕ) (es : List (List ℕ × Entry)) → drop n (keys_of es) ≡ keys_of (drop n es)
+names_from n es = drop-map (λ (e : List ℕ × Entry). e.0) n es
+
+-- ---- a place among all is one among those that have operations, where all have some
+
+pub named_place : (es : List (List ℕ × Entry)) (n : ℕ) (o : Option (Bor (List ℕ) × Bor Entry)) → length es ≤ count_named (rows_of es)
+    → MatchOption o (drop n es ≡ []) (λ found. drop n es ≡ (found.0.now, found.1.now) ∷ drop (n + 1) es)
+    → MatchOption o (drop n (named_rows (rows_of es)) ≡ []) (λ found. drop n (named_rows (rows_of es)) ≡ found.0.now ∷ drop (n + 1) (named_rows (rows_of es)))
+named_place es n None all h = ap (drop n) (all_named es all) ∙ names_from n es ∙ ap keys_of h
+named_place es n (Some found) all h =
+    ap (drop n) (all_named es all) ∙ names_from n es ∙ ap keys_of h
+    ∙ ap (λ cs. found.0.now ∷ cs) (sym (ap (drop (n + 1)) (all_named es all) ∙ names_from (n + 1) es))
+
+pub found_place : (es : List (List ℕ × Entry)) (n : ℕ) (o : Option (Bor (List ℕ) × Bor Entry)) → T (is_sorted client_cmp es)
+    → MatchOption o (drop n es ≡ []) (λ found. drop n es ≡ (found.0.now, found.1.now) ∷ drop (n + 1) es)
+    → IfSome o (λ found. find client_cmp found.0.now es ≡ Some found.1.now)
+found_place es n None sorted h = tt
+found_place es n (Some found) sorted h = found_at es (drop (n + 1) es) n found.0.now found.1.now sorted h

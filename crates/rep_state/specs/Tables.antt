@@ -1,7 +1,9 @@
 -- The table of clients.
-use Rattle.std.specs.Prelude.{◌≡◌, ℕ, ◌≤◌, List, [], ◌∷◌, ◌++◌, map, length, T, IsSome, Option, nat_lt, Bool, Vec}
+use Rattle.std.specs.Prelude.{◌≡◌, ℕ, ◌≤◌, List, [], ◌∷◌, ◌++◌, map, length, T, IsSome, Option, Some, nat_lt, Bool, Vec, slice_get}
 use Rattle.std.specs.Global.{Global}
 use Rattle.std.specs.List.{AllByRecursion, list_any}
+use Rattle.std.specs.Map.{keys_of}
+use Rattle.std.specs.declared.cmp.Ordering.{Ordering}
 use Rattle.std.specs.FinMap.{find, is_sorted}
 use Rattle.rep_ops.specs.declared.op.Op.{Op}
 use Rattle.rep_ops.specs.Orders.{client_cmp}
@@ -10,6 +12,7 @@ use Rattle.rep_model.specs.Views.{in_order}
 use Rattle.rep_plain.specs.Rows.{flat, own, count_named}
 use Rattle.rep_plain.specs.Tables.{passed_of}
 use Rattle.rep_state.specs.declared.entry.Entry.{Entry}
+use Rattle.rep_state.specs.declared.places.Place.{Place}
 use Rattle.rep_state.specs.Entries.{row_of, IsEntry}
 
 -- the clients with their entries, in the order of the clients and not of the table
@@ -19,9 +22,21 @@ plain_of entries = map (λ e. (e.0.items, e.1)) entries
 abbrev pub by_client : List (Vec ℕ Global × Entry) → List (List ℕ × Entry)
 by_client entries = in_order client_cmp (plain_of entries)
 
--- the names of the clients in order
-abbrev pub names_in : List (Vec ℕ Global × Entry) → List (List ℕ × (Unit {0}))
-names_in entries = in_order client_cmp (map (λ e. (e.0.items, tt)) entries)
+-- the names of the clients in the order in which they came
+abbrev pub arrivals : List (Vec ℕ Global × Entry) → List (List ℕ)
+arrivals entries = map (λ e. e.0.items) entries
+
+-- places are in the order of their names
+abbrev pub place_cmp : Place → Place → Ordering
+place_cmp a b = client_cmp a.name b.name
+
+abbrev pub names_at : List Place → List (List ℕ)
+names_at places = map (λ p. p.name) places
+
+-- a place for each client, in order, with the index of its entry
+pub record ArePlaces (entries : List (Vec ℕ Global × Entry)) (places : List Place) : Type 0 where
+  pub names : names_at places ≡ keys_of (by_client entries)
+  pub each : AllByRecursion (λ p. slice_get (arrivals entries) p.index ≡ Some p.name) places
 
 -- the operations that are kept of each client
 abbrev pub rows_of : List (List ℕ × Entry) → List (List ℕ × List Op)

@@ -1,72 +1,40 @@
 //! All clients in order, and what is kept of them.
 
-ghost use Rattle.std.specs.Prelude.{◌≡◌, ◌+◌, ◌<◌, ◌++◌, ◌∷◌, [], IfOk, OnOk, ℕ, length, drop, filter};
-ghost use Rattle.std.specs.BTreeMap.{keys};
-ghost use Rattle.std.specs.Map.{keys_of};
+ghost use Rattle.std.specs.Prelude.{◌≡◌, ◌+◌, ◌++◌, ◌∷◌, [], IfOk, OnOk, IfSome, MatchOption, Some, ℕ, drop, filter};
+ghost use Rattle.std.specs.FinMap.{find};
+ghost use Rattle.rep_ops.specs.Orders.{client_cmp};
 ghost use Rattle.rep_ops.specs.declared.op.Op.TheVariants.{Session as OfSession, Put as OfPut};
 ghost use Rattle.rep_model.specs.Held.{IsHeld};
-ghost use Rattle.rep_plain.specs.Rows.{flat, own, has_any, named_rows};
+ghost use Rattle.rep_plain.specs.Rows.{flat, own, has_any, count_named, named_rows};
 ghost use Rattle.rep_state.specs.Entries.{row_of};
 ghost use Rattle.rep_state.specs.Kept.{of_log, of_mail};
-ghost use Rattle.rep_state.specs.Tables.{by_client, rows_of, names_in, own_of_all, IsTable};
+ghost use Rattle.rep_state.specs.Tables.{by_client, rows_of, own_of_all, IsTable, ArePlaces};
 
 use super::entry::Entry;
 use super::fault::NoMemory;
+use super::places::{Place, client_at, names};
 use super::table::{Table, entry_of, has_operations};
 use rep_ops::{ClientId, Delta, Op, Put, Stamp, deltas_of};
 use sn_session::SessionOp;
 use std::alloc::Global;
 use std::collections::BTreeMap;
 
-/// The clients in ascending order, with those that have an empty place.
-fn all_clients(alloc: Global, table: &Table) -> Result<Vec<ClientId>, NoMemory>
-    ensures { IfOk result (λ clients. clients.items ≡ keys_of (by_client table.now.entries)) }
-{
-    let mut names = BTreeMap::new(alloc);
-    let mut i = table.len();
-    while i > 0 {
-        i -= 1;
-        enter_name(alloc, &mut names, table, i)?;
-    }
-    into_clients(alloc, names)
-}
-
-/// Enters the name of the client at a place in front of those behind it.
-fn enter_name(
+/// The clients that have operations, in ascending order, where so many have some.
+pub(crate) fn named_clients(
     alloc: Global,
-    names: &mut BTreeMap<ClientId, ()>,
     table: &Table,
-    place: usize,
-) -> Result<(), NoMemory>
-    requires { place < length table.now.entries }
-    ensures { names.old.entries ≡ names_in (drop (place + 1) table.now.entries)
-        → OnOk result (names.new.entries ≡ names_in (drop place table.now.entries)) }
-{
-    match table.get_index(place) {
-        Some((client, _)) => {
-            let client = ClientId::new(alloc, client.as_slice())?;
-            names.insert(client, ())?;
-            Ok(())
-        }
-        None => Ok(()),
-    }
-}
-
-/// The clients in order.
-fn into_clients(alloc: Global, names: BTreeMap<ClientId, ()>) -> Result<Vec<ClientId>, NoMemory>
-    ensures { IfOk result (λ clients. clients.items ≡ keys names) }
-{
-    let clients = names.into_keys().collect(alloc)?;
-    Ok(clients)
-}
-
-/// The clients that have operations, in ascending order.
-pub(crate) fn named_clients(alloc: Global, table: &Table) -> Result<Vec<ClientId>, NoMemory>
+    places: &[Place],
+    named: usize,
+) -> Result<Vec<ClientId>, NoMemory>
+    requires places { ArePlaces table.now.entries places.now }
+    requires named { named ≡ count_named (rows_of (by_client table.now.entries)) }
     ensures { IfOk result (λ clients.
         clients.items ≡ named_rows (rows_of (by_client table.now.entries))) }
 {
-    let mut clients = all_clients(alloc, table)?;
-    keep_named(&mut clients, table);
+    let mut clients = names(alloc, places)?;
+    if named < places.len() {
+        keep_named(&mut clients, table);
+    }
     Ok(clients)
 }
 
@@ -78,22 +46,76 @@ fn keep_named(clients: &mut Vec<ClientId>, table: &Table)
     clients.retain(|client| has_operations(table, client.bytes()));
 }
 
+/// The client at a place among those that have operations, in ascending order, with its entry, where so many have some. Where
+/// all of them have, nothing is looked for.
+pub(crate) fn named_at<'a>(
+    table: &'a Table,
+    places: &'a [Place],
+    named: usize,
+    at: usize,
+) -> Option<(&'a ClientId, &'a Entry)>
+    requires places { ArePlaces table.now.entries places.now }
+    requires named { named ≡ count_named (rows_of (by_client table.now.entries)) }
+    ensures at { MatchOption result
+        (drop at (named_rows (rows_of (by_client table.now.entries))) ≡ [])
+        (λ found. drop at (named_rows (rows_of (by_client table.now.entries)))
+        ≡ found.0.now ∷ drop (at + 1) (named_rows (rows_of (by_client table.now.entries)))) }
+    ensures found { IfSome result (λ found.
+        find client_cmp found.0.now (by_client table.now.entries) ≡ Some found.1.now) }
+{
+    if named < places.len() {
+        return walk_to(table, places, at);
+    }
+    client_at(table, places, at)
+}
+
+/// The client at a place among those that have operations, in ascending order, with its entry. Each call walks from the first
+/// client on.
+fn walk_to<'a>(
+    table: &'a Table,
+    places: &'a [Place],
+    at: usize,
+) -> Option<(&'a ClientId, &'a Entry)>
+    requires { ArePlaces table.now.entries places.now }
+    ensures at { MatchOption result
+        (drop at (named_rows (rows_of (by_client table.now.entries))) ≡ [])
+        (λ found. drop at (named_rows (rows_of (by_client table.now.entries)))
+        ≡ found.0.now ∷ drop (at + 1) (named_rows (rows_of (by_client table.now.entries)))) }
+    ensures found { IfSome result (λ found.
+        find client_cmp found.0.now (by_client table.now.entries) ≡ Some found.1.now) }
+{
+    let mut left = at;
+    for i in 0..places.len() {
+        if let Some((client, entry)) = client_at(table, places, i) {
+            if entry.has_operations() {
+                if left == 0 {
+                    return Some((client, entry));
+                }
+                left -= 1;
+            }
+        }
+    }
+    None
+}
+
 /// What is kept, as deltas.
-pub(crate) fn held(alloc: Global, table: &Table) -> Result<Vec<Delta>, NoMemory>
-    requires { (n : ℕ) × IsTable (by_client table.now.entries) n }
+pub(crate) fn held(alloc: Global, table: &Table, places: &[Place]) -> Result<Vec<Delta>, NoMemory>
+    requires places { ArePlaces table.now.entries places.now }
+    requires table { (n : ℕ) × IsTable (by_client table.now.entries) n }
     ensures { IfOk result (λ deltas.
         IsHeld (flat (rows_of (by_client table.now.entries))) deltas.items) }
 {
-    let kept = kept_ops(alloc, table)?;
+    let kept = kept_ops(alloc, table, places)?;
     Ok(deltas_of(alloc, kept)?)
 }
 
 /// What is kept, client by client.
-fn kept_ops(alloc: Global, table: &Table) -> Result<Vec<Op>, NoMemory>
+fn kept_ops(alloc: Global, table: &Table, places: &[Place]) -> Result<Vec<Op>, NoMemory>
+    requires { ArePlaces table.now.entries places.now }
     ensures { IfOk result (λ kept. kept.items ≡ flat (rows_of (by_client table.now.entries))) }
 {
     let mut kept = Vec::new(alloc);
-    let clients = all_clients(alloc, table)?;
+    let clients = names(alloc, places)?;
     push_all(alloc, &mut kept, table, clients.as_slice())?;
     Ok(kept)
 }

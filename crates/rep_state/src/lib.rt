@@ -12,7 +12,8 @@
 //! entries into their places, for which no memory is needed.
 //!
 //! - `replica`: the replica and what it promises (`Folded`, `Staged`).
-//! - `table`, `room`: the table of clients, the limits, places and the move of fresh entries.
+//! - `table`, `room`: the table of clients, the limits, room for fresh entries and their move.
+//! - `places`: the clients in order.
 //! - `agreeing`: whether a delta contradicts what is kept.
 //! - `grouping`: what a delta changes of each client that it names.
 //! - `numbers`, `held`: the last numbers of a client; all clients in order, and what is kept of them.
@@ -38,6 +39,7 @@ mod grouping;
 mod held;
 mod log;
 mod numbers;
+mod places;
 mod replica;
 mod room;
 mod settling;

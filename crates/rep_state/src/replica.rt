@@ -5,8 +5,9 @@ ghost use Rattle.std.specs.Prelude.{◌≡◌};
 use super::agreeing::check;
 use super::entry::Entry;
 use super::grouping::{grown, worked_out};
-use super::held::{held, named_clients};
+use super::held::{held, named_at, named_clients};
 use super::numbers::{last_epoch, last_seq};
+use super::places::Place;
 use super::room::{make_room, move_in};
 use super::table::{Table, count_new, entry_of, passed};
 use indexmap::IndexMap;
@@ -20,6 +21,8 @@ use std::marker::Model;
 pub struct Folded {
     /// The clients. An empty place is seen by no query.
     table: Table,
+    /// Their names in ascending order, each with the index of its entry.
+    places: Vec<Place>,
     /// How many clients have operations.
     named: usize,
 }
@@ -30,11 +33,12 @@ impl Model for Folded {
 
     ghost Value = { List (List ℕ × List Op) };
 
-    ghost use Rattle.rep_state.specs.Tables.{by_client, rows_of, IsTable};
+    ghost use Rattle.rep_state.specs.Tables.{by_client, rows_of, IsTable, ArePlaces};
 
     ghost view = { λ p. rows_of (by_client p.table.entries) };
 
-    ghost invariant = { λ p. IsTable (by_client p.table.entries) p.named };
+    ghost invariant = { λ p. IsTable (by_client p.table.entries) p.named
+        × ArePlaces p.table.entries p.places.items };
 }
 
 /// A delta that fits: what is kept of the clients that it names once it is taken.
@@ -75,6 +79,7 @@ impl Replica for Folded {
     fn empty(alloc: Global) -> Result<Folded, TakeFault> {
         Ok(Folded {
             table: IndexMap::new(alloc),
+            places: Vec::new(alloc),
             named: 0,
         })
     }
@@ -88,7 +93,7 @@ impl Replica for Folded {
         if let Some(limit) = passed(named, fresh.as_slice()) {
             return Err(TakeFault::Full { limit });
         }
-        make_room(alloc, &mut self.table, fresh.as_slice())?;
+        make_room(alloc, &mut self.table, &mut self.places, fresh.as_slice())?;
         Ok(Staged { fresh, named })
     }
 
@@ -107,7 +112,13 @@ impl Replica for Folded {
     }
 
     fn clients(&self, alloc: Global) -> Result<Vec<ClientId>, TakeFault> {
-        Ok(named_clients(alloc, &self.table)?)
+        Ok(named_clients(alloc, &self.table, self.places.as_slice(), self.named)?)
+    }
+
+    fn client_at(&self, place: usize) -> Option<(&ClientId, &ClientView)> {
+        let places = self.places.as_slice();
+        let (client, entry) = named_at(&self.table, places, self.named, place)?;
+        Some((client, &entry.seen))
     }
 
     fn next_epoch(&self, client: &ClientId) -> Option<u64> {
@@ -119,6 +130,6 @@ impl Replica for Folded {
     }
 
     fn held(&self, alloc: Global) -> Result<Vec<Delta>, TakeFault> {
-        Ok(held(alloc, &self.table)?)
+        Ok(held(alloc, &self.table, self.places.as_slice())?)
     }
 }

@@ -19,4 +19,13 @@ loop-row-preserved c =
     let h = c.in_ok-add_place.ensures.roomier in
     let there = subst (λ k. IsSome (find client_cmp k (rows_of new))) c.as_slice.ensures.value c.in_ok-add_place.ensures.there in
     let is = ap (λ xs. rows_of (plain_of xs)) (take_more fresh c.loop-row.row-index row c.loop-row-test.true ∙ ap (λ r. done ++ r ∷ []) (sym c.row-item.is)) ∙ ap rows_of (plain_last done row) ∙ rows_last (plain_of done) (name, row.1) in
-    (roomier_then c.loop-row.invariant.0 h, subst (HaveRoom (rows_of new)) (sym is) (room_more old new (rows_of (plain_of done)) (name, row_of name row.1) h c.loop-row.invariant.1 there))
+    (roomier_then c.loop-row.invariant.0 h, subst (HaveRoom (rows_of new)) (sym is) (room_more old new (rows_of (plain_of done)) (name, row_of name row.1) h c.loop-row.invariant.1 there), c.in_ok-add_place.ensures.places)
+
+pub add_place-requires : goal.add_place-requires
+add_place-requires c = c.loop-row.invariant.2
+
+pub returns-in_err-add_place-clause-roomier : goal.returns-in_err-add_place-clause-roomier
+returns-in_err-add_place-clause-roomier c = roomier_then c.loop-row.invariant.0 c.in_err-add_place.ensures.roomier
+
+pub returns-clause-places : goal.returns-clause-places
+returns-clause-places c = c.loop-row.invariant.2

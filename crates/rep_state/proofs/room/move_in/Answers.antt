@@ -16,8 +16,9 @@ loop-client-preserved c =
     let fs = plain_of c.loop-client.fresh.items in
     let rest = plain_of c.pop.new.self.items in
     let all = ap plain_of c.in-Some.ensures.items ∙ plain_last c.pop.new.self.items (c.in-Some.client, c.in-Some.entry) in
-    let is = c.replace.ensures in (
+    let is = c.replace.ensures.put in (
       move_last es new fs rest c.in-Some.client.items c.in-Some.entry all is ∙ c.loop-client.invariant.0,
       room_left es new fs rest c.in-Some.client.items c.in-Some.entry all is c.loop-client.invariant.1,
       λ h. movable_left es new fs rest c.in-Some.client.items c.in-Some.entry all is (c.loop-client.invariant.2 h),
+      λ places h. c.replace.ensures.places places (c.loop-client.invariant.3 places h),
     )

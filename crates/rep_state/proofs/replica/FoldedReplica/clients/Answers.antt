@@ -9,4 +9,4 @@ use Rattle.rep_state.proofs.replica.FoldedReplica.clients.Goals as goal
 pub returns-clause-ok : goal.returns-clause-ok
 returns-clause-ok c =
     let es = by_client c.self.inside.table.entries in
-    c.in_ok-named_clients.ensures ∙ sym (clients_flat (rows_of es) (table_rows es c.self.inside.named c.self.invariant)) ∙ ap (λ rows. clients (flat rows)) c.self.view_is
+    c.in_ok-named_clients.ensures ∙ sym (clients_flat (rows_of es) (table_rows es c.self.inside.named c.self.invariant.0)) ∙ ap (λ rows. clients (flat rows)) c.self.view_is

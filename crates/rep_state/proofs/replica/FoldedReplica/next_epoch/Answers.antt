@@ -13,6 +13,6 @@ returns c =
     let client = c.args.client.now in
     let es = by_client c.self.inside.table.entries in
     let rows = rows_of es in
-    let are = table_rows es c.self.inside.named c.self.invariant in
+    let are = table_rows es c.self.inside.named c.self.invariant.0 in
     next_one c.last_epoch.result c.checked_add.result c.checked_add.ensures
     ∙ ap one_more (c.last_epoch.ensures ∙ ap (λ S. greatest_epoch client S) (sym (of_flat client rows are)) ∙ sym (greatest_epoch_own client (flat rows)) ∙ ap (λ rows. greatest_epoch client (flat rows)) c.self.view_is)

@@ -13,6 +13,6 @@ returns c =
     let client = c.args.client.now in
     let es = by_client c.self.inside.table.entries in
     let rows = rows_of es in
-    let are = table_rows es c.self.inside.named c.self.invariant in
+    let are = table_rows es c.self.inside.named c.self.invariant.0 in
     next_one c.last_seq.result c.checked_add.result c.checked_add.ensures
     ∙ ap one_more (c.last_seq.ensures ∙ ap (λ S. largest (seq_of client c.args.gateway) S) (sym (of_flat client rows are)) ∙ sym (greatest_seq_own client (flat rows) c.args.gateway) ∙ ap (λ rows. largest (seq_of client c.args.gateway) (flat rows)) c.self.view_is)

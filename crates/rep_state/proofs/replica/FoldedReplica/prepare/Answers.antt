@@ -13,13 +13,13 @@ use Rattle.rep_state.proofs.Fitting.{kept_after, first_passed_both, counted_afte
 use Rattle.rep_state.proofs.replica.FoldedReplica.prepare.Goals as goal
 
 pub check-requires : goal.check-requires
-check-requires c = table_rows (by_client c.self.inside.table.entries) c.self.inside.named c.self.invariant
+check-requires c = table_rows (by_client c.self.inside.table.entries) c.self.inside.named c.self.invariant.0
 
 pub returns-in-Some-clause-fault : goal.returns-in-Some-clause-fault
 returns-in-Some-clause-fault c =
     let es = by_client c.self.inside.table.entries in
     let n = c.self.inside.named in
-    let t = c.self.invariant in
+    let t = c.self.invariant.0 in
     let D = c.args.delta.now in
     let fs = plain_of c.in_ok-fresh.fresh.items in
     let groups = c.in_ok-groups.groups.entries in
@@ -42,7 +42,7 @@ pub invariant_of-result : goal.invariant_of-result
 invariant_of-result c =
     let es = by_client c.self.inside.table.entries in
     let n = c.self.inside.named in
-    let t = c.self.invariant in
+    let t = c.self.invariant.0 in
     let D = c.args.delta.now in
     let fs = plain_of c.in_ok-fresh.fresh.items in
     let groups = c.in_ok-groups.groups.entries in
@@ -64,7 +64,7 @@ pub returns-clause-fits : goal.returns-clause-fits
 returns-clause-fits c =
     let es = by_client c.self.inside.table.entries in
     let n = c.self.inside.named in
-    let t = c.self.invariant in
+    let t = c.self.invariant.0 in
     let D = c.args.delta.now in
     let fs = plain_of c.in_ok-fresh.fresh.items in
     let groups = c.in_ok-groups.groups.entries in
@@ -87,7 +87,7 @@ pub returns-clause-ready : goal.returns-clause-ready
 returns-clause-ready c =
     let es = by_client c.self.inside.table.entries in
     let n = c.self.inside.named in
-    let t = c.self.invariant in
+    let t = c.self.invariant.0 in
     let D = c.args.delta.now in
     let fs = plain_of c.in_ok-fresh.fresh.items in
     let groups = c.in_ok-groups.groups.entries in
@@ -111,7 +111,7 @@ pub returns-clause-taken : goal.returns-clause-taken
 returns-clause-taken c =
     let es = by_client c.self.inside.table.entries in
     let n = c.self.inside.named in
-    let t = c.self.invariant in
+    let t = c.self.invariant.0 in
     let D = c.args.delta.now in
     let fs = plain_of c.in_ok-fresh.fresh.items in
     let groups = c.in_ok-groups.groups.entries in

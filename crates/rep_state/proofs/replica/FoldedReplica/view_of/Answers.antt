@@ -17,7 +17,7 @@ pub returns-in_err-entry : goal.returns-in_err-entry
 returns-in_err-entry c =
     let client = c.args.client.now in
     let es = by_client c.self.inside.table.entries in
-    let are = table_rows es c.self.inside.named c.self.invariant in
+    let are = table_rows es c.self.inside.named c.self.invariant.0 in
     let found = c.in_err-entry.ensures ∙ ap (λ k. find client_cmp k es) c.bytes.ensures.octets in
     rw c.from_residual.ensures (sym (ap (λ rows. is_named client (flat rows)) c.self.view_is) ∙ named_flat client (rows_of es) are ∙ ap has_any (sym (own_found client es None found)))
 
@@ -25,7 +25,7 @@ pub returns-then-not-has_operations : goal.returns-then-not-has_operations
 returns-then-not-has_operations c =
     let client = c.args.client.now in
     let es = by_client c.self.inside.table.entries in
-    let are = table_rows es c.self.inside.named c.self.invariant in
+    let are = table_rows es c.self.inside.named c.self.invariant.0 in
     let found = c.in_ok-entry.ensures ∙ ap (λ k. find client_cmp k es) c.bytes.ensures.octets in
     sym (ap (λ rows. is_named client (flat rows)) c.self.view_is) ∙ named_flat client (rows_of es) are ∙ ap has_any (sym (own_found client es (Some c.in_ok-entry.entry.now) found)) ∙ sym (c.has_operations.ensures client) ∙ c.if-not-has_operations.true
 
@@ -34,9 +34,9 @@ returns c =
     let client = c.args.client.now in
     let es = by_client c.self.inside.table.entries in
     let entry = c.in_ok-entry.entry.now in
-    let are = table_rows es c.self.inside.named c.self.invariant in
+    let are = table_rows es c.self.inside.named c.self.invariant.0 in
     let found = c.in_ok-entry.ensures ∙ ap (λ k. find client_cmp k es) c.bytes.ensures.octets in
-    let kept = found_holds client_cmp client_exact IsKept client entry es c.self.invariant.each (sym found) in (
+    let kept = found_holds client_cmp client_exact IsKept client entry es c.self.invariant.0.each (sym found) in (
       sym (ap (λ rows. is_named client (flat rows)) c.self.view_is) ∙ named_flat client (rows_of es) are ∙ ap has_any (sym (own_found client es (Some entry) found)) ∙ sym (c.has_operations.ensures client) ∙ c.if-not-has_operations.false,
       seen_row client entry kept.entry_is ∙ ap (view client) (own_found client es (Some entry) found)
           ∙ sym (view_own client (flat (rows_of es)) ∙ ap (view client) (of_flat client (rows_of es) are))

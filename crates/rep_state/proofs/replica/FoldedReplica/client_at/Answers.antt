@@ -1,0 +1,34 @@
+use Rattle.std.proofs.Common.{◌≡◌, ◌+◌, ◌∷◌, [], drop, Some, sym, ap, ◌∙◌}
+use Rattle.rep_model.specs.Views.{clients, view}
+use Rattle.rep_model.proofs.Readers.{client_exact}
+use Rattle.rep_ops.specs.Orders.{client_cmp}
+use Rattle.rep_plain.specs.Rows.{flat, named_rows}
+use Rattle.rep_plain.proofs.Flat.{clients_flat, of_flat}
+use Rattle.rep_plain.proofs.Single.{view_own}
+use Rattle.rep_state.specs.Tables.{by_client, rows_of, IsKept}
+use Rattle.rep_state.proofs.Entering.{seen_row}
+use Rattle.rep_state.proofs.Owning.{found_holds}
+use Rattle.rep_state.proofs.Reading.{own_found}
+use Rattle.rep_state.proofs.Rows.{table_rows}
+use Rattle.rep_state.proofs.replica.FoldedReplica.client_at.Goals as goal
+
+pub returns-in_err-client : goal.returns-in_err-client
+returns-in_err-client c =
+    let es = by_client c.self.inside.table.entries in
+    let named = sym (ap (λ rows. clients (flat rows)) c.self.view_is) ∙ clients_flat (rows_of es) (table_rows es c.self.inside.named c.self.invariant.0) in
+    rw c.from_residual.ensures (ap (drop c.args.place) named ∙ c.in_err-client.ensures.at)
+
+pub returns : goal.returns
+returns c =
+    let es = by_client c.self.inside.table.entries in
+    let client = c.in_ok-client.client.now in
+    let entry = c.in_ok-client.entry.now in
+    let are = table_rows es c.self.inside.named c.self.invariant.0 in
+    let named = sym (ap (λ rows. clients (flat rows)) c.self.view_is) ∙ clients_flat (rows_of es) are in
+    let found = c.in_ok-client.ensures.found in
+    let kept = found_holds client_cmp client_exact IsKept client entry es c.self.invariant.0.each found in (
+      ap (drop c.args.place) named ∙ c.in_ok-client.ensures.at ∙ ap (λ cs. client ∷ drop (c.args.place + 1) cs) (sym named),
+      seen_row client entry kept.entry_is ∙ ap (view client) (own_found client es (Some entry) (sym found))
+          ∙ sym (view_own client (flat (rows_of es)) ∙ ap (view client) (of_flat client (rows_of es) are))
+          ∙ ap (λ rows. view client (flat rows)) c.self.view_is,
+    )
