@@ -21,4 +21,5 @@ pub mod Reading
 pub mod Working
 pub mod Walking
 pub mod Indexed
+pub mod Greatest
 pub mod Contradicting

@@ -1,7 +1,7 @@
 //! The acknowledged messages of a client. Those that are acknowledged in order are one range, however many
 //! they are: a first range that begins at 1 ends at the watermark, and the others are the exceptions above it.
 
-ghost use Rattle.std.specs.Prelude.{◌≡◌, ◌+◌, ◌≤◌, ◌==◌, ◌++◌, ◌∷◌, [], map, not, length, ℕ, List, ◌||◌, IfOk, OnOk, nat_lt, nat_le, if◌then◌else◌, max, sum_by};
+ghost use Rattle.std.specs.Prelude.{◌≡◌, ◌+◌, ◌≤◌, ◌<◌, ◌==◌, ◌++◌, ◌∷◌, [], map, not, length, ℕ, List, ◌||◌, IfOk, OnOk, nat_lt, nat_le, if◌then◌else◌, max, sum_by};
 ghost use Rattle.std.specs.List.{list_any};
 ghost use Rattle.std.specs.BTreeMap.{values};
 ghost use Rattle.rep_ops.specs.declared.op.Op.TheVariants.{Ack};
@@ -113,10 +113,20 @@ impl Acks {
         ensures { result ≡ capped (above_gaps self.now 255) }
     {
         let mut count = 0u64;
-        for below in 0..255u8 {
+        for below in 0..self.last_origin() {
             count = above_gap(self.numbers(below + 1)).saturating_add(count);
         }
         count
+    }
+
+    /// The greatest origin with acknowledgements, or 0.
+    fn last_origin(&self) -> u8
+        ensures { (origin : ℕ) → result < origin → ranges_at origin self.now ≡ [] }
+    {
+        match self.origins.last_key_value() {
+            Some((origin, _)) => *origin,
+            None => 0,
+        }
     }
 }
 
