@@ -36,11 +36,16 @@ impl Bell {
         }
     }
 
-    /// Wakes one that waits.
+    /// Wakes one that waits. The lock is free by then: who wakes takes it first.
     pub(crate) fn ring<R: Wait>(&self, rt: &R) {
+        self.count(rt);
+        self.rung.notify_one();
+    }
+
+    /// One ring more.
+    fn count<R: Wait>(&self, rt: &R) {
         let mut rings = self.rings.lock(rt);
         rings.count = rings.count.wrapping_add(1);
-        self.rung.notify_one();
     }
 
     /// Wakes all, for good.
