@@ -1,8 +1,7 @@
-use Rattle.std.proofs.Common.{◌≡◌, ◌+◌, ◌∷◌, [], drop, Some, sym, ap, ◌∙◌}
-use Rattle.std.specs.FinMap.{find}
+use Rattle.std.proofs.Common.{◌+◌, ◌∷◌, drop, sym, ap, ◌∙◌}
 use Rattle.rep_ops.specs.Orders.{client_cmp}
 use Rattle.rep_model.specs.Views.{clients, view}
-use Rattle.rep_plain.specs.Rows.{flat, named_rows}
+use Rattle.rep_plain.specs.Rows.{flat}
 use Rattle.rep_plain.specs.Tables.{rows_of}
 use Rattle.rep_plain.proofs.Flat.{clients_flat}
 use Rattle.rep_plain.proofs.Found.{table_rows}
