@@ -1,6 +1,6 @@
 -- The clients of the table in order.
-use Rattle.std.proofs.Common.{◌≡◌, ℕ, ◌+◌, ◌≤◌, zero, suc, Bool, true, false, cond, List, [], ◌∷◌, ◌++◌, map, filter, length, drop, Some, None, Option, IfSome, MatchOption, Bor, T, refl, sym, ap, ◌∙◌, subst, arith}
-use Rattle.std.proofs.lemmas.List.{drop-drop, drop-map}
+use Rattle.std.proofs.Common.{◌≡◌, ℕ, ◌+◌, ◌≤◌, zero, suc, true, false, cond, List, [], ◌∷◌, ◌++◌, map, filter, length, drop, Some, None, Option, IfSome, MatchOption, Bor, T, refl, sym, ap, ◌∙◌, subst, arith}
+use Rattle.std.proofs.lemmas.List.{drop-map}
 use Rattle.std.specs.List.{AllByRecursion}
 use Rattle.std.specs.Map.{keys_of}
 use Rattle.std.specs.FinMap.{find, is_sorted}
@@ -10,7 +10,6 @@ use Rattle.rep_model.proofs.Readers.{client_total}
 use Rattle.rep_plain.specs.Rows.{flat, own, or_nothing, has_any, count_named, named_rows}
 use Rattle.rep_plain.proofs.Counting.{all_found}
 use Rattle.rep_state.specs.declared.entry.Entry.{Entry}
-use Rattle.rep_state.specs.Entries.{row_of}
 use Rattle.rep_state.specs.Tables.{rows_of, own_of_all}
 use Rattle.rep_state.proofs.Rows.{sorted_rows}
 

@@ -1,11 +1,7 @@
-use Rattle.std.proofs.Common.{◌≡◌, ◌+◌, ◌≤◌, ◌∷◌, [], List, ℕ, length, drop, Some, None, Option, sym, ap, subst, ◌∙◌, arith}
-use Rattle.std.specs.Map.{keys_of}
-use Rattle.std.specs.FinMap.{find}
-use Rattle.rep_ops.specs.Orders.{client_cmp}
-use Rattle.rep_plain.specs.Rows.{count_named, named_rows}
-use Rattle.rep_state.specs.Tables.{by_client, rows_of}
+use Rattle.std.proofs.Common.{arith}
+use Rattle.rep_state.specs.Tables.{by_client}
 use Rattle.rep_state.proofs.Indexed.{in_order, as_many}
-use Rattle.rep_state.proofs.Walking.{all_named, named_place, found_place}
+use Rattle.rep_state.proofs.Walking.{named_place, found_place}
 use Rattle.rep_state.proofs.held.named_at.Goals as goal
 
 pub returns-clause-at : goal.returns-clause-at
