@@ -261,9 +261,24 @@ def try_memory(account: Account, texts: Texts) -> None:
     os.remove(path + ".0")
 
 
+def try_closed_streams(account: Account, texts: Texts) -> None:
+    """What a program prints to a stream that was closed when it began does not stand in its journal."""
+    def trial(closed: str) -> None:
+        path = os.path.join(texts.folder, "closed" + "".join(letter for letter in closed if letter.isdigit()))
+        settings = texts.file(settings_text({**texts.good, "journal": f'"{path}"'}).encode())
+        ended = subprocess.run(["sh", "-c", f'exec "$0" "$@" {closed}', texts.program, "--config", settings, "--shifts", "0"],
+                               cwd=texts.folder, timeout=30, stdin=subprocess.DEVNULL, stdout=subprocess.DEVNULL, stderr=subprocess.DEVNULL)
+        expect(ended.returncode == 0, f"status {ended.returncode}")
+        got = run(texts.program, ["--config", settings, "--shifts", "0"], texts.folder)
+        wanted(got, 0, "", "gateway 1 records 0 clients 0\n")
+
+    for words, closed in (("standard output", ">&-"), ("standard error", "2>&-"), ("all three", "<&- >&- 2>&-")):
+        account.check(f"a start with {words} closed leaves a journal that opens", lambda: trial(closed))
+
+
 def part_messages(account: Account, program: str, folder: str, _) -> None:
     texts = Texts(program, folder)
-    for trial in (try_arguments, try_files, try_keys, try_good_settings, try_journals, try_sockets, try_memory):
+    for trial in (try_arguments, try_files, try_keys, try_good_settings, try_journals, try_sockets, try_memory, try_closed_streams):
         trial(account, texts)
 
 

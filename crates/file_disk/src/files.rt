@@ -13,8 +13,16 @@ use std::fs::{File, Files};
 pub struct FileDisk {
     first: File,
     second: File,
+    doubts: Doubts,
     /// How many calls have failed. Contracts alone see it.
     pub failures: Failures,
+}
+
+/// Of which slots a sync has failed since they were empty.
+#[derive(Clone, Copy, Debug)]
+struct Doubts {
+    first: bool,
+    second: bool,
 }
 
 impl FileDisk {
@@ -35,6 +43,10 @@ impl FileDisk {
         Ok(FileDisk {
             first,
             second,
+            doubts: Doubts {
+                first: false,
+                second: false,
+            },
             failures: Failures::none(),
         })
     }
@@ -43,6 +55,24 @@ impl FileDisk {
         match slot {
             Slot::First => &self.first,
             Slot::Second => &self.second,
+        }
+    }
+
+    /// Whether a sync of the slot failed. The system tells that once, and would tell a second sync of the same octets as done.
+    fn is_doubtful(&self, slot: Slot) -> bool {
+        match slot {
+            Slot::First => self.doubts.first,
+            Slot::Second => self.doubts.second,
+        }
+    }
+
+    /// From now on a sync of the slot is believed, or is not.
+    fn doubt(&mut self, slot: Slot, doubtful: bool)
+        ensures { self.new.failures.count ≡ self.old.failures.count }
+    {
+        match slot {
+            Slot::First => self.doubts.first = doubtful,
+            Slot::Second => self.doubts.second = doubtful,
         }
     }
 
@@ -96,19 +126,28 @@ impl Disk for FileDisk {
     }
 
     fn sync(&mut self, slot: Slot) -> Result<(), DiskFault> {
-        if self.file(slot).sync_data().is_ok() {
+        if !self.is_doubtful(slot) && self.file(slot).sync_data().is_ok() {
             return Ok(());
         }
+        self.doubt(slot, true);
         self.fail();
         Err(DiskFault)
     }
 
     fn cut(&mut self, slot: Slot, len: usize) -> Result<(), DiskFault> {
-        let file = self.file(slot);
-        if file.set_len(len as u64).is_ok() && file.sync_all().is_ok() {
+        let cut = set_length(self.file(slot), len);
+        // of what was cut to nothing nothing is left to doubt
+        let doubtful = !cut || (len > 0 && self.is_doubtful(slot));
+        self.doubt(slot, doubtful);
+        if !doubtful {
             return Ok(());
         }
         self.fail();
         Err(DiskFault)
     }
+}
+
+/// Whether the file was cut to this length, and synced.
+fn set_length(file: &File, len: usize) -> bool {
+    file.set_len(len as u64).is_ok() && file.sync_all().is_ok()
 }

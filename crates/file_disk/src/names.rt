@@ -2,7 +2,11 @@
 
 use std::alloc::Global;
 use std::fs::{File, Files};
+use std::os::fd::AsRawFd;
 use thiserror::Error;
+
+/// The number of the last standard stream.
+const LAST_STANDARD: i32 = 2;
 
 /// Why the two files could not be had.
 #[derive(Clone, Copy, Debug, PartialEq, Eq, Error)]
@@ -30,7 +34,19 @@ pub(crate) fn open_slot<R: Files<File = File>>(
         .append(true)
         .create(true)
         .open(rt, name.as_str());
-    opened.map_err(|_| FileDiskFault::Files)
+    match opened {
+        Ok(file) => apart(file),
+        Err(_) => Err(FileDiskFault::Files),
+    }
+}
+
+/// The file under a number of its own, above those of the standard streams. Where one of these was closed when the program
+/// began, the file that is opened next has its number, and what the program prints would stand in the journal.
+fn apart(file: File) -> Result<File, FileDiskFault> {
+    if file.as_raw_fd() > LAST_STANDARD {
+        return Ok(file);
+    }
+    file.try_clone().map_err(|_| FileDiskFault::Files)
 }
 
 /// Makes the names of new files durable: the folder is synced.

@@ -125,6 +125,9 @@ fn keep_last(octets: &mut Vec<u8>, left: usize)
     ensures { octets.new.items ≡ drop (length octets.old.items - left) octets.old.items }
 {
     let used = octets.len() - left;
+    if used == 0 {
+        return;
+    }
     octets.as_mut_slice().copy_within(used.., 0);
     octets.truncate(left);
 }

@@ -28,8 +28,10 @@ const LAST_WRITES: u32 = 2;
 
 /// What a stream did with octets.
 enum Outcome {
-    /// It took so many.
+    /// It took all that it was given, so many.
     Took(usize),
+    /// It took so many of them.
+    Less(usize),
     /// It took none in its time.
     Nothing,
     /// It takes no more.
@@ -67,7 +69,8 @@ pub(crate) fn is_behind<S: Drop>(link: &Link<S>) -> bool {
     link.behind > MOST_BEHIND
 }
 
-/// Lets go out what the stream takes in some writes, fewer at a shift's end. Where it took nothing for too long the link is lost.
+/// Lets go out what the stream takes in some writes, fewer at a shift's end. A stream that took less than it was given has no more room, and is not waited for.
+/// Where it took nothing for too long the link is lost.
 pub(crate) fn pump<S: Write + Drop>(link: &mut Link<S>, phase: Phase) -> Result<(), End> {
     let most = if phase == Phase::Quiet {
         LAST_WRITES
@@ -82,6 +85,11 @@ pub(crate) fn pump<S: Write + Drop>(link: &mut Link<S>, phase: Phase) -> Result<
             Outcome::Took(size) => {
                 link.stalls = 0;
                 go_on(link, size);
+            }
+            Outcome::Less(size) => {
+                link.stalls = 0;
+                go_on(link, size);
+                return Ok(());
             }
             Outcome::Nothing => return stall(link),
             Outcome::Closed => return Err(End::Lost),
@@ -98,6 +106,7 @@ fn write_once<S: Write>(stream: &mut S, octets: &[u8], written: usize) -> Outcom
     let end = octets.len().min(written.saturating_add(AT_ONCE));
     match stream.write(&octets[written..end]) {
         Ok(0) => Outcome::Closed,
+        Ok(size) if size < end - written => Outcome::Less(size),
         Ok(size) => Outcome::Took(size),
         Err(error) => {
             if is_nothing(&error) {

@@ -104,6 +104,10 @@ fn tell<T: Wait, R: Replica, D: Disk + Drop, S: Write + Drop>(
     link: &mut Link<S>,
     phase: Phase,
 ) -> Result<(), End> {
+    // a link begins with its greeting; the answer to the peer's digest has what was made before
+    if !link.greeted {
+        return Ok(());
+    }
     if link.is_told() || phase == Phase::Quiet {
         tell_all(rt, alloc, shift, pass, link)?;
     }

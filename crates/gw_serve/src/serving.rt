@@ -183,18 +183,15 @@ where
     }
 }
 
-/// The cause of the reader, or else that of the workers.
+/// The cause of the workers, or else that of the reader, which is the ordinary end of a shift as well.
 fn first_cause(reader: Option<Cause>, worker: Option<Trouble>) -> Option<Cause>
     ensures none { result ≡ None → worker ≡ None }
     ensures wire { result ≡ Some causes.Wire → reader ≡ Some causes.Wire }
 {
-    match reader {
-        Some(cause) => Some(cause),
-        None => match worker {
-            Some(Trouble::Memory) => Some(Cause::Memory),
-            Some(Trouble::Behind) => Some(Cause::Behind),
-            None => None,
-        },
+    match worker {
+        Some(Trouble::Memory) => Some(Cause::Memory),
+        Some(Trouble::Behind) => Some(Cause::Behind),
+        None => reader,
     }
 }
 
