@@ -21,7 +21,7 @@ use Rattle.jr_journal.specs.Parts.{disk_of, gateway_of, slot_of, generation_of, 
 use Rattle.gw_node.specs.declared.out.Out.{Out}
 use Rattle.gw_node.specs.declared.refusal.Refusal.{Refusal}
 use Rattle.gw_node.specs.declared.refusal.Refusal.TheVariants as refusals
-use Rattle.gw_node.specs.declared.node.Node.{Node}
+use Rattle.gw_node.specs.declared.state.Node.{Node}
 use Rattle.gw_node.specs.Parts.{State, state_of, only_sends}
 use Rattle.gw_node.specs.Writing.{refusal_of}
 use Rattle.gw_node.specs.Plans.{IsMisfit}

@@ -10,7 +10,7 @@ use Rattle.sn_flow.specs.Locals.{Local}
 use Rattle.jr_journal.specs.declared.disk.Disk.{Ghosts}
 use Rattle.jr_journal.specs.declared.journal.Journal.{Journal}
 use Rattle.jr_journal.specs.Parts.{disk_of as disk_under, gateway_of, slot_of, generation_of, is_halted as is_stopped}
-use Rattle.gw_node.specs.declared.node.Node.{Node}
+use Rattle.gw_node.specs.declared.state.Node.{Node}
 use Rattle.gw_node.specs.declared.out.Out.{Out}
 use Rattle.gw_node.specs.declared.fault.NodeFault.{NodeFault}
 use Rattle.gw_node.specs.declared.fault.NodeFault.TheVariants as faults

@@ -10,7 +10,7 @@ ghost use Rattle.gw_node.specs.Handling.{RefilledAs};
 ghost use Rattle.gw_node.specs.declared.refusal.Refusal.TheVariants as refusals;
 
 use super::carrying::refused;
-use super::node::Node;
+use super::state::Node;
 use super::opening::take_all;
 use super::out::Out;
 use super::refusal::Refusal;
@@ -95,6 +95,7 @@ fn refill<R: Replica, D: Disk + Drop>(
     let mut replica = replica;
     match take_all(alloc, &mut replica, deltas.as_slice()) {
         Ok(()) => {
+            node.idle = None;
             node.replica = replica;
             node.dialogs = Dialogs::empty(alloc);
             node.records = deltas.len() as u64;

@@ -1,6 +1,6 @@
 //! What the calls of a node do, up to the answer.
 
-ghost use Rattle.std.specs.Prelude.{◌≡◌, Some, [], IfOk, IfErr};
+ghost use Rattle.std.specs.Prelude.{◌≡◌, Some, [], IfOk, IfErr, IsTrue};
 ghost use Rattle.rep_digest.specs.Spelling.{IsWithinLimit};
 ghost use Rattle.sn_frame.specs.Bodies.{IsMessage, IsValue};
 ghost use Rattle.sn_frame.specs.Grammar.{Spells};
@@ -8,13 +8,13 @@ ghost use Rattle.gw_node.specs.Occasions.{Datagram, Clock};
 ghost use Rattle.gw_node.specs.Excuses.{excuses as defined_excuses};
 ghost use Rattle.gw_node.specs.Parts.{state_of, only_sends};
 ghost use Rattle.gw_node.specs.Calls.{OwnCall, shows, DigestCall, AnswerCall, StepCall};
-ghost use Rattle.gw_node.specs.Handling.{IsNoFrameBy, IsNoPlan, planned_for, ticked, CarriedOut, Answers};
+ghost use Rattle.gw_node.specs.Handling.{IsNoFrameBy, IsNoPlan, planned_for, ticked, CarriedOut, Answers, IsIdleAt};
 ghost use Rattle.gw_node.specs.declared.refusal.Refusal.TheVariants as refusals;
 
 use super::anew::{handle_compact, handle_reopen};
 use super::carrying::{carry_out, note, take_in};
 use super::excuse::excuses;
-use super::node::Node;
+use super::state::Node;
 use super::out::Out;
 use super::refusal::Refusal;
 use super::shares::Shares;
@@ -24,7 +24,7 @@ use octets::Sequence;
 use rep_digest::{Digest, answer, digest_of};
 use rep_model::Replica;
 use rep_ops::{ClientId, OpsFault};
-use sn_deliver::{step as plan_step, tick as plan_tick};
+use sn_deliver::{is_idle, step as plan_step, tick as plan_tick};
 use sn_flow::{Addr, Plan, StepFault};
 use sn_frame::{Frame, FrameFault, decode};
 use std::alloc::Global;
@@ -156,6 +156,28 @@ pub(crate) fn handle_frame<R: Replica, D: Disk + Drop>(
     }
 }
 
+/// How many seconds ahead it is found out that ticks have nothing to do.
+const AHEAD: u64 = 10;
+
+/// Whether it is known that a tick of this moment has nothing to do. Where it was not known it is found out for some seconds
+/// ahead, so that the next ticks need not look, unless something changes.
+fn is_idle_at<R: Replica, D: Disk>(node: &mut Node<R, D>, now: u64) -> bool
+    ensures same { state_of R.kept node.new ≡ state_of R.kept node.old }
+    ensures idle { IsTrue result → IsIdleAt (state_of R.kept node.old) now }
+{
+    if let Some(until) = node.idle {
+        if now <= until {
+            return true;
+        }
+    }
+    let ahead = now.saturating_add(AHEAD);
+    if !is_idle(&node.config, &node.replica, &node.dialogs, ahead) {
+        return false;
+    }
+    node.idle = Some(ahead);
+    true
+}
+
 /// Time goes by: a moment.
 pub(crate) fn handle_tick<R: Replica, D: Disk + Drop>(
     alloc: Global,
@@ -166,6 +188,12 @@ pub(crate) fn handle_tick<R: Replica, D: Disk + Drop>(
 {
     if node.journal.is_halted() {
         return Err(Refusal::Halted);
+    }
+    if is_idle_at(node, now) {
+        return Ok(Shares::new(
+            alloc,
+            Out::of_sends(alloc, Sequence::empty(alloc)),
+        )?);
     }
     match plan_of_tick(alloc, node, now) {
         Ok(plan) => carry_for_tick(alloc, node, plan),

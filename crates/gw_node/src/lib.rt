@@ -5,7 +5,7 @@
 //! call is refused, the replica and the local state are as before, and the node is halted: it refuses every such call until
 //! it is opened again, from what its disk holds. A journal does not grow for ever: it is compacted to what the replica keeps.
 //!
-//! - `node`: a gateway (`Node`) and its calls.
+//! - `state`, `node`: a gateway (`Node`), and its calls.
 //! - `opening`: a gateway is opened, and takes what its journal holds.
 //! - `handling`: what the calls do, up to the answer.
 //! - `carrying`: a plan is carried out, a delta is taken: room, delta, journal, replica, local state, in this order.
@@ -36,13 +36,14 @@ mod refusal;
 mod same;
 mod same_out;
 mod shares;
+mod state;
 mod step;
 
 pub use fault::NodeFault;
 pub use laws::opening_laws;
-pub use node::Node;
 pub use out::Out;
 pub use refusal::Answer;
 pub use rep_same::same_deltas;
 pub use same::{same_answer, same_step};
+pub use state::Node;
 pub use step::Step;

@@ -1,4 +1,4 @@
-//! One gateway.
+//! The calls of a gateway.
 
 ghost use Rattle.std.specs.Prelude.{◌≡◌, ◌≤◌, ◌<◌, ◌++◌, List, [], None, true, false, length, IfOk, IfErr, OnOk, IsTrue, MatchResult};
 ghost use Rattle.rep_ops.specs.declared.op.Op.{Op};
@@ -27,23 +27,14 @@ use super::handling::{
 };
 use super::opening::{not_opened, nothing, start};
 use super::refusal::{Answer, one, three};
+use super::state::Node;
 use super::step::Step;
 use jr_journal::{Disk, Journal, MemoryDisk};
 use rep_digest::Digest;
 use rep_model::Replica;
 use rep_ops::{ClientId, Delta};
-use sn_flow::{Addr, Config, Dialogs};
+use sn_flow::{Addr, Config};
 use std::alloc::Global;
-
-/// A gateway: what it was told, what it keeps of what it has taken, which address is which client, and its journal.
-#[derive(Drop)]
-pub struct Node<R: Replica, D: Disk> {
-    pub(crate) config: Config,
-    pub(crate) replica: R,
-    pub(crate) dialogs: Dialogs,
-    pub(crate) journal: Journal<D>,
-    pub(crate) records: u64,
-}
 
 impl<R: Replica, D: Disk + Drop> Node<R, D> {
     /// Opens a gateway on the disk of its journal, and takes what the journal holds; nothing of that is written again. The

@@ -12,7 +12,7 @@ ghost use Rattle.gw_node.specs.Opening.{FitInTurn, DoNotFit};
 
 use super::carrying::prepare;
 use super::fault::NodeFault;
-use super::node::Node;
+use super::state::Node;
 use super::out::Out;
 use super::refusal::Refusal;
 use jr_journal::{Disk, Journal, JournalFault};
@@ -71,6 +71,7 @@ pub(crate) fn start<R: Replica, D: Disk + Drop>(
             dialogs: Dialogs::empty(alloc),
             journal,
             records: deltas.len() as u64,
+            idle: None,
         }),
         Err(refusal) => Err((journal.into_disk(), refusal.into_one())),
     }

@@ -11,7 +11,7 @@ use Rattle.jr_journal.specs.Parts.{disk_of, gateway_of, slot_of}
 use Rattle.gw_node.specs.declared.out.Out.{Out}
 use Rattle.gw_node.specs.declared.refusal.Refusal.{Refusal}
 use Rattle.gw_node.specs.declared.refusal.Refusal.TheVariants as refusals
-use Rattle.gw_node.specs.declared.node.Node.{Node}
+use Rattle.gw_node.specs.declared.state.Node.{Node}
 use Rattle.gw_node.specs.Parts.{State, state_of, is_halted}
 use Rattle.gw_world.specs.Drives.{Drive}
 use Rattle.gw_world.specs.Gateways.{Gateway}
