@@ -1,5 +1,5 @@
 -- From what the parts of a call come to, to the call.
-use Rattle.std.proofs.Common.{◌≡◌, ◌≢◌, ℕ, ◌==◌, false, List, [], ◌∷◌, ◌++◌, length, Some, Result, Ok, Err, refl, ap, inl, inr}
+use Rattle.std.proofs.Common.{◌≡◌, ◌≢◌, ℕ, ◌==◌, false, List, [], ◌∷◌, ◌++◌, length, Option, Some, Result, Ok, Err, refl, sym, ap, ◌∙◌, subst, inl, inr}
 use Rattle.rep_ops.specs.declared.op.Op.{Op}
 use Rattle.rep_ops.specs.Deltas.{IsDelta}
 use Rattle.rep_ops.specs.Making.{AreApart, IsDeltaOf}
@@ -19,12 +19,15 @@ use Rattle.gw_node.specs.declared.out.Out.{Out}
 use Rattle.gw_node.specs.declared.refusal.Refusal.{Refusal}
 use Rattle.gw_node.specs.declared.refusal.Refusal.TheVariants as refusals
 use Rattle.gw_node.specs.Occasions.{Datagram, Clock}
-use Rattle.gw_node.specs.Parts.{State, is_halted, IsUnchanged, only_sends}
+use Rattle.gw_node.specs.Parts.{State, is_halted, IsUnchanged, IsUntouched, only_sends}
 use Rattle.gw_node.specs.Writing.{IsWritten, WrittenAs, WrittenIfAny, refusal_of}
 use Rattle.gw_node.specs.Excuses.{excuses}
 use Rattle.gw_node.specs.Plans.{IsMisfit, Makes}
-use Rattle.gw_node.specs.Calls.{OwnCall, TakeCall, IsNoted}
-use Rattle.gw_node.specs.Handling.{HaveNoDelta, planned_for, ticked, CarriedOut, Answers}
+use Rattle.sn_flow.specs.Drafts.{nothing}
+use Rattle.sn_flow.specs.Plans.{seen_of, plan_without}
+use Rattle.sn_deliver.proofs.Idle.{idle_tick}
+use Rattle.gw_node.specs.Calls.{OwnCall, TakeCall, IsNoted, IsDone}
+use Rattle.gw_node.specs.Handling.{HaveNoDelta, planned_for, ticked, CarriedOut, Answers, IsIdleAt}
 
 module _ {D : Type 0} {G : Ghosts D} where
   -- a delta with operations is written
@@ -109,3 +112,19 @@ module _ {D : Type 0} {G : Ghosts D} where
   tick_answered old new now plan (Err (refusals.Disk excuse)) runs is_plan h = (runs, (plan, is_plan, ap (λ out. out.sends) h.0, h.1))
   tick_answered old new now plan (Err refusals.Memory) runs is_plan h = h
   tick_answered old new now plan (Err (refusals.Journal fault)) runs is_plan h = absurd h
+
+  -- a tick that has nothing to do
+  pub rested : (old new : State G) (now : ℕ) (out : Out) → is_halted old ≡ false → new ≡ old → IsIdleAt old now → out ≡ only_sends [] → OwnCall old Clock now (Ok out) new
+  rested old new now out runs same idle is =
+      (runs, (plan_without nothing, idle_tick old.config.gateway old.config.advertise old.config.field old.config.predefined (seen_of old.kept) old.local now idle, done))
+    where
+      done : IsDone old (plan_without nothing) out new
+      done = record {
+        config = ap (λ (s : State G). s.config) same;
+        records = ap (λ (s : State G). s.records) same;
+        local = ap (λ (s : State G). s.local) same;
+        apart = tt;
+        made = subst (λ (made : Option (List Op)). Makes [] made old new) (sym (ap (λ (out : Out). out.made) is))
+            (ap (λ (s : State G). s.kept) same, subst (λ (s : State G). IsUntouched old.journal s.journal) (sym same) (record { gateway = refl; slot = refl; generation = refl; halted = refl; disk = refl }));
+        answer = is ∙ ap (λ (made : Option (List Op)). record (only_sends []) { made = made }) (sym (ap (λ (out : Out). out.made) is));
+      }

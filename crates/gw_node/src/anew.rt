@@ -10,11 +10,11 @@ ghost use Rattle.gw_node.specs.Handling.{RefilledAs};
 ghost use Rattle.gw_node.specs.declared.refusal.Refusal.TheVariants as refusals;
 
 use super::carrying::refused;
-use super::state::Node;
 use super::opening::take_all;
 use super::out::Out;
 use super::refusal::Refusal;
 use super::shares::Shares;
+use super::state::Node;
 use jr_journal::{Disk, Journal, JournalFault};
 use octets::Sequence;
 use rep_model::Replica;

@@ -14,10 +14,10 @@ ghost use Rattle.gw_node.specs.Calls.{TakeCall, IsDone};
 ghost use Rattle.gw_node.specs.Handling.{HaveNoDelta, CarriedOut};
 ghost use Rattle.gw_node.specs.declared.refusal.Refusal.TheVariants as refusals;
 
-use super::state::Node;
 use super::out::Out;
 use super::refusal::Refusal;
 use super::shares::{Names, Shares};
+use super::state::Node;
 use jr_journal::{Disk, Journal, JournalFault};
 use octets::Sequence;
 use rep_model::{Replica, TakeFault};

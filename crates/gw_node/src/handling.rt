@@ -14,10 +14,10 @@ ghost use Rattle.gw_node.specs.declared.refusal.Refusal.TheVariants as refusals;
 use super::anew::{handle_compact, handle_reopen};
 use super::carrying::{carry_out, note, take_in};
 use super::excuse::excuses;
-use super::state::Node;
 use super::out::Out;
 use super::refusal::Refusal;
 use super::shares::Shares;
+use super::state::Node;
 use super::step::Step;
 use jr_journal::Disk;
 use octets::Sequence;
@@ -190,10 +190,7 @@ pub(crate) fn handle_tick<R: Replica, D: Disk + Drop>(
         return Err(Refusal::Halted);
     }
     if is_idle_at(node, now) {
-        return Ok(Shares::new(
-            alloc,
-            Out::of_sends(alloc, Sequence::empty(alloc)),
-        )?);
+        return Ok(Shares::new(alloc, Out::of_sends(alloc, Sequence::empty(alloc)))?);
     }
     match plan_of_tick(alloc, node, now) {
         Ok(plan) => carry_for_tick(alloc, node, plan),

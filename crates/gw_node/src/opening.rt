@@ -12,9 +12,9 @@ ghost use Rattle.gw_node.specs.Opening.{FitInTurn, DoNotFit};
 
 use super::carrying::prepare;
 use super::fault::NodeFault;
-use super::state::Node;
 use super::out::Out;
 use super::refusal::Refusal;
+use super::state::Node;
 use jr_journal::{Disk, Journal, JournalFault};
 use octets::Sequence;
 use rep_model::Replica;
