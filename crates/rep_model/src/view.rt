@@ -37,6 +37,13 @@ impl Puts {
         self.items.as_slice()
     }
 
+    /// The messages, in their order, to be moved.
+    pub fn into_items(self) -> Vec<Put>
+        ensures { result.items ≡ self }
+    {
+        self.items
+    }
+
     /// How many messages there are.
     pub fn len(&self) -> usize
         ensures { result ≡ length self.now }

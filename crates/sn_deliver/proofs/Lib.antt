@@ -7,6 +7,7 @@ pub mod Drafting
 mod Ending
 mod Examples
 pub mod Following
+pub mod Idle
 pub mod Keeping
 mod Locally
 mod Lowering

@@ -7,6 +7,7 @@ pub mod Forms
 pub mod Laws
 pub mod Publishing
 pub mod Recipients
+pub mod Rest
 pub mod Resending
 pub mod Serving
 pub mod Steps

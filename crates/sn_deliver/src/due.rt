@@ -179,7 +179,7 @@ fn is_at_rest(now: u64, pending: &[Put], timer: Option<&Timer>, session: &Option
 }
 
 /// What is due with a client of this view. Its address is looked up only where something may be due.
-fn due_view(
+pub(crate) fn due_view(
     gateway: u8,
     dialogs: &Dialogs,
     now: u64,

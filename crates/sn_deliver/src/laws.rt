@@ -1,6 +1,6 @@
 //! Laws of publications and of time. Each function does nothing; its contract is a law, proved for all sessions and messages.
 
-ghost use Rattle.std.specs.Prelude.{◌≡◌, ◌≤◌, ℕ, ◌+◌, ◌*◌, false, List, length, None, Some};
+ghost use Rattle.std.specs.Prelude.{◌≡◌, ◌≤◌, ℕ, ◌+◌, ◌*◌, false, true, List, length, None, Some};
 ghost use Rattle.sn_topic.specs.Table.{Entries};
 ghost use Rattle.sn_frame.specs.declared.frame.Frame.{Frame};
 ghost use Rattle.rep_ops.specs.declared.op.Op.{Op};
@@ -8,10 +8,12 @@ ghost use Rattle.rep_model.specs.Views.{clients};
 ghost use Rattle.sn_flow.specs.declared.config.Addr.{Addr};
 ghost use Rattle.sn_flow.specs.declared.plan.Plan.{Plan};
 ghost use Rattle.sn_flow.specs.Locals.{Local, after_all};
-ghost use Rattle.sn_flow.specs.Plans.{seen_of};
+ghost use Rattle.sn_flow.specs.Plans.{Seen, seen_of, plan_without};
+ghost use Rattle.sn_flow.specs.Drafts.{nothing};
 ghost use Rattle.sn_flow.specs.Own.{IsOfDraft};
 ghost use Rattle.sn_flow.specs.Flush.{AreFlush};
 ghost use Rattle.sn_deliver.specs.Due.{due_with};
+ghost use Rattle.sn_deliver.specs.Rest.{is_idle};
 ghost use Rattle.sn_deliver.specs.Steps.{step};
 ghost use Rattle.sn_deliver.specs.Ticking.{tick};
 ghost use Rattle.sn_deliver.specs.Ticks.{Ticked, AreTicks, busy, does_something, set_behind, local_behind};
@@ -43,6 +45,13 @@ pub fn resent_with_dup()
 /// A tick that finds nothing due makes no operation and sends no frame.
 pub fn tick_is_quiet()
     ensures { TickIsQuiet }
+{}
+
+/// A tick that has nothing to do makes, notes and sends nothing; and where a tick of a moment has nothing to do, none of a
+/// moment before it has, as long as nothing changes.
+pub fn idle_lasts()
+    ensures nothing { (g advertise : ℕ) (field : List Addr) (predefined : Entries) (seen : Seen) (local : Local) (now : ℕ) → is_idle g advertise field seen local now ≡ true → tick g advertise field predefined seen local now ≡ Some (plan_without nothing) }
+    ensures before { (g advertise : ℕ) (field : List Addr) (seen : Seen) (local : Local) (earlier now : ℕ) → earlier ≤ now → is_idle g advertise field seen local now ≡ true → is_idle g advertise field seen local earlier ≡ true }
 {}
 
 /// What is due with a client is settled when a tick has done it: nothing is due with that client any more at the same moment.

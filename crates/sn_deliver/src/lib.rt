@@ -8,7 +8,7 @@
 //! - `waking`: a client comes back from sleep, here or from another gateway.
 //! - `serve`: publications and answers as rows; `follow`: what follows a row, and its plan.
 //! - `table`: the row of each frame (`step`).
-//! - `due`, `ticking`: what time asks for (`tick`).
+//! - `due`, `ticking`: what time asks for (`tick`); `rest`: whether that is anything.
 //! - `laws`: what holds of all of them.
 #![tactic(auto)]
 
@@ -24,6 +24,7 @@ mod peer;
 mod publishing;
 mod recipients;
 mod resend;
+mod rest;
 mod serve;
 mod table;
 mod ticking;
@@ -36,14 +37,15 @@ pub use exchange::{is_awake, is_done, is_left, is_served, open_exchange, put_lef
 pub use follow::deliver_next;
 pub use form::{Form, form_again, form_of, publication};
 pub use laws::{
-    delivery_keeps, every_step, one_exchange, puts_once, resent_with_dup, tick_is_quiet,
-    tick_settles, ticks_end,
+    delivery_keeps, every_step, idle_lasts, one_exchange, puts_once, resent_with_dup,
+    tick_is_quiet, tick_settles, ticks_end,
 };
 pub use meaning::{Meant, publication_meant};
 pub use peer::Peer;
 pub use publishing::{publish, publish_unconnected, pubrel};
 pub use recipients::{puts_for, puts_of_will};
 pub use resend::then_resend;
+pub use rest::is_idle;
 pub use serve::{ack_in, publish_in, pubrel_in};
 pub use table::step;
 pub use ticking::tick;

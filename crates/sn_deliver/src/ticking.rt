@@ -22,7 +22,7 @@ use sn_session::{Presence, Session, SessionOp, Will};
 use std::alloc::Global;
 
 /// How many seconds a will dialog lasts.
-const DIALOG_SECONDS: u64 = 60;
+pub(crate) const DIALOG_SECONDS: u64 = 60;
 
 /// And then no dialog at this address, where its CONNECT is a minute ago.
 fn end_dialog(draft: &mut Draft, now: u64, dialog: &WillDialog) -> Result<(), StepFault>
@@ -59,7 +59,12 @@ fn is_there(session: &Option<Session>) -> bool
 }
 
 /// Whether a client of this view needs a timer.
-fn needs_timer(gateway: u8, dialogs: &Dialogs, client: &ClientId, view: &ClientView) -> bool
+pub(crate) fn needs_timer(
+    gateway: u8,
+    dialogs: &Dialogs,
+    client: &ClientId,
+    view: &ClientView,
+) -> bool
     ensures { result ≡ is_in_need gateway dialogs.now.local.timers client.now view.now }
 {
     is_stamp_of(gateway, view.stamp)
@@ -143,7 +148,7 @@ fn is_long_ago(advertise: u16, now: u64, last: Option<u64>) -> bool
 }
 
 /// Whether the gateway is to advertise itself.
-fn may_advertise(advertise: u16, field: &[Addr], now: u64, last: Option<u64>) -> bool
+pub(crate) fn may_advertise(advertise: u16, field: &[Addr], now: u64, last: Option<u64>) -> bool
     ensures { result ≡ is_to_advertise advertise field.now now last }
 {
     0 < advertise && 0 < field.len() && is_long_ago(advertise, now, last)
