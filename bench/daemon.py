@@ -529,6 +529,22 @@ def comes_past_the_silent(program: str, folder: str) -> str:
         return f"{took:.1f} seconds"
 
 
+def says_again(program: str, folder: str) -> str:
+    """A link on which nothing comes hears the gateway's number once more within some forty seconds, so that an end that is gone is noticed."""
+    ports = free_ports(2)
+    with Gateway(program, folder, 7, (ports[0], ports[1])) as gateway:
+        gateway.start()
+        with socket.create_connection((HOST, gateway.link), 5) as link:
+            link.sendall(message_of(1, b"\xc8"))
+            hello, got, began = message_of(1, bytes([7])), b"", time.monotonic()
+            link.settimeout(45)
+            while got.count(hello) < 2:
+                more = link.recv(4096)
+                expect(more, "the link was closed")
+                got += more
+        return f"{time.monotonic() - began:.1f} seconds"
+
+
 def with_ring(program: str, folder: str, count: int, trial, **more: str) -> str:
     gateways = ring(program, folder, count, **more)
     try:
@@ -567,7 +583,13 @@ def part_links(account: Account, program: str, folder: str, _) -> None:
         os.mkdir(place)
         return comes_past_the_silent(program, place)
 
+    def again_in() -> str:
+        place = os.path.join(folder, "again")
+        os.mkdir(place)
+        return says_again(program, place)
+
     account.check("a gateway dials where eight have dialled and say nothing", silent_in)
+    account.check("a quiet link hears the gateway's number again", again_in)
     account.check("two gateways that each lack twenty megabytes of the other's", lambda: lack_in(20))
 
 

@@ -47,11 +47,8 @@ pub(crate) fn listen<S: Read + Drop>(
 
 /// Nothing came. An end that does not say its number for too long is given up: it keeps another from its place.
 fn wait_on<S: Drop>(link: &mut Link<S>) -> Result<(), End> {
-    if link.is_known {
-        return Ok(());
-    }
     link.silence = link.silence.saturating_add(1);
-    if link.silence > MOST_SILENCE {
+    if !link.is_known && link.silence > MOST_SILENCE {
         return Err(End::Lost);
     }
     Ok(())

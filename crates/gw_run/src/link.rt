@@ -41,7 +41,7 @@ pub struct Link<S: Drop> {
     pub(crate) answered: bool,
     /// The other end has said its number.
     pub(crate) is_known: bool,
-    /// How often a read found nothing before that.
+    /// How often a read found nothing: before that, and since this end has last said its number.
     pub(crate) silence: u32,
     /// What came behind it is no message.
     pub(crate) failed: bool,

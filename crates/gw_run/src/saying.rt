@@ -20,6 +20,10 @@ use std::sync::{Arc, Wait};
 /// How many deltas are asked of the shift at once.
 const AT_ONCE: usize = 64;
 
+/// How often a read finds nothing, ten milliseconds each, before this end says its number again: some thirty seconds. Where the other end is gone, and
+/// nobody was told so, the system tells it behind such a message, and the link is made anew.
+const MOST_QUIET: u32 = 3_000;
+
 /// Says the number of this gateway.
 fn say_hello<S: Drop>(alloc: Global, link: &mut Link<S>, gateway: u8) -> Result<(), End> {
     if gateway == 0 {
@@ -61,7 +65,16 @@ pub(crate) fn say_answer<S: Drop>(
     Ok(())
 }
 
-/// Says the number of this gateway and what it has, once.
+/// Says the number of this gateway once more, where nothing came for long.
+fn say_again<S: Drop>(alloc: Global, link: &mut Link<S>, gateway: u8) -> Result<(), End> {
+    if link.silence < MOST_QUIET || !link.is_told() {
+        return Ok(());
+    }
+    link.silence = 0;
+    say_hello(alloc, link, gateway)
+}
+
+/// Says the number of this gateway and what it has, once; and its number again where nothing came for long.
 pub(crate) fn greet<T: Wait, R: Replica, D: Disk + Drop, S: Drop>(
     rt: &T,
     alloc: Global,
@@ -74,7 +87,7 @@ pub(crate) fn greet<T: Wait, R: Replica, D: Disk + Drop, S: Drop>(
     ensures { Adds is_of_link pass result.0 }
 {
     if link.greeted {
-        return (pass, Ok(()));
+        return (pass, say_again(alloc, link, gateway));
     }
     let Ok(step) = Arc::new(alloc, Step::Digest) else {
         return (pass, Err(End::Memory));
