@@ -263,8 +263,8 @@ def try_memory(account: Account, texts: Texts) -> None:
 
 def try_closed_streams(account: Account, texts: Texts) -> None:
     """What a program prints to a stream that was closed when it began does not stand in its journal."""
-    def trial(closed: str) -> None:
-        path = os.path.join(texts.folder, "closed" + "".join(letter for letter in closed if letter.isdigit()))
+    def trial(words: str, closed: str) -> None:
+        path = os.path.join(texts.folder, "closed-" + words.replace(" ", "-"))
         settings = texts.file(settings_text({**texts.good, "journal": f'"{path}"'}).encode())
         ended = subprocess.run(["sh", "-c", f'exec "$0" "$@" {closed}', texts.program, "--config", settings, "--shifts", "0"],
                                cwd=texts.folder, timeout=30, stdin=subprocess.DEVNULL, stdout=subprocess.DEVNULL, stderr=subprocess.DEVNULL)
@@ -273,12 +273,25 @@ def try_closed_streams(account: Account, texts: Texts) -> None:
         wanted(got, 0, "", "gateway 1 records 0 clients 0\n")
 
     for words, closed in (("standard output", ">&-"), ("standard error", "2>&-"), ("all three", "<&- >&- 2>&-")):
-        account.check(f"a start with {words} closed leaves a journal that opens", lambda: trial(closed))
+        account.check(f"a start with {words} closed leaves a journal that opens", lambda: trial(words, closed))
+
+
+def try_lock(account: Account, texts: Texts) -> None:
+    """A second program is kept from the journal of one that runs, and finds it free when that has been killed."""
+    def trial() -> None:
+        with Gateway(texts.program, texts.folder, 9, free_ports(2)) as gateway:
+            gateway.start()
+            settings = texts.file(settings_text({**texts.good, "gateway": "9", "journal": f'"{gateway.journal}"'}).encode())
+            wanted(run(texts.program, ["--config", settings, "--shifts", "0"], texts.folder), 2, "sngw: journal J1\n")
+            gateway.kill()
+            wanted(run(texts.program, ["--config", settings, "--shifts", "0"], texts.folder), 0, "", "gateway 9 records 0 clients 0\n")
+
+    account.check("a journal that a running gateway writes is not opened", trial)
 
 
 def part_messages(account: Account, program: str, folder: str, _) -> None:
     texts = Texts(program, folder)
-    for trial in (try_arguments, try_files, try_keys, try_good_settings, try_journals, try_sockets, try_memory, try_closed_streams):
+    for trial in (try_arguments, try_files, try_keys, try_good_settings, try_journals, try_sockets, try_memory, try_closed_streams, try_lock):
         trial(account, texts)
 
 

@@ -1,6 +1,6 @@
 //! Two files as a disk.
 
-ghost use Rattle.std.specs.Prelude.{◌≡◌, ◌+◌, IfOk};
+ghost use Rattle.std.specs.Prelude.{◌≡◌, ◌+◌, ◌≤◌, IfOk};
 
 use super::names::{FileDiskFault, open_slot, sync_folder};
 use super::transfer::{read_whole, write_front};
@@ -13,16 +13,27 @@ use std::fs::{File, Files};
 pub struct FileDisk {
     first: File,
     second: File,
-    doubts: Doubts,
+    trust: Trusts,
     /// How many calls have failed. Contracts alone see it.
     pub failures: Failures,
 }
 
-/// Of which slots a sync has failed since they were empty.
+/// What is known of the octets of a slot.
+#[derive(Clone, Copy, Debug, PartialEq, Eq)]
+enum Trust {
+    /// No sync of them has failed.
+    Sound,
+    /// It was cut to nothing, and none of what came behind that was synced yet.
+    Fresh,
+    /// A sync of them failed. The system tells that once, and would tell a second sync of the same octets as done.
+    Doubtful,
+}
+
+/// What is known of each slot.
 #[derive(Clone, Copy, Debug)]
-struct Doubts {
-    first: bool,
-    second: bool,
+struct Trusts {
+    first: Trust,
+    second: Trust,
 }
 
 impl FileDisk {
@@ -43,9 +54,9 @@ impl FileDisk {
         Ok(FileDisk {
             first,
             second,
-            doubts: Doubts {
-                first: false,
-                second: false,
+            trust: Trusts {
+                first: Trust::Sound,
+                second: Trust::Sound,
             },
             failures: Failures::none(),
         })
@@ -58,22 +69,30 @@ impl FileDisk {
         }
     }
 
-    /// Whether a sync of the slot failed. The system tells that once, and would tell a second sync of the same octets as done.
-    fn is_doubtful(&self, slot: Slot) -> bool {
+    fn trust(&self, slot: Slot) -> Trust {
         match slot {
-            Slot::First => self.doubts.first,
-            Slot::Second => self.doubts.second,
+            Slot::First => self.trust.first,
+            Slot::Second => self.trust.second,
         }
     }
 
-    /// From now on a sync of the slot is believed, or is not.
-    fn doubt(&mut self, slot: Slot, doubtful: bool)
+    /// From now on this is known of the slot.
+    fn set_trust(&mut self, slot: Slot, trust: Trust)
         ensures { self.new.failures.count ≡ self.old.failures.count }
     {
         match slot {
-            Slot::First => self.doubts.first = doubtful,
-            Slot::Second => self.doubts.second = doubtful,
+            Slot::First => self.trust.first = trust,
+            Slot::Second => self.trust.second = trust,
         }
+    }
+
+    /// What is known of a slot behind a sync that failed. Of one that was cut to nothing, and not synced since, nothing is owed to anybody: it is cut to
+    /// nothing once more, and then nothing is left to doubt.
+    fn trust_behind_failure(&self, slot: Slot) -> Trust {
+        if self.trust(slot) == Trust::Fresh && set_length(self.file(slot), 0) {
+            return Trust::Fresh;
+        }
+        Trust::Doubtful
     }
 
     /// One more failure.
@@ -121,29 +140,58 @@ impl Disk for FileDisk {
         if written == bytes.len() {
             return Ok(());
         }
+        let left = take_back(self.file(slot), written);
         self.fail();
-        Err(Short { written })
+        Err(Short { written: left })
     }
 
     fn sync(&mut self, slot: Slot) -> Result<(), DiskFault> {
-        if !self.is_doubtful(slot) && self.file(slot).sync_data().is_ok() {
+        if self.trust(slot) != Trust::Doubtful && self.file(slot).sync_data().is_ok() {
+            self.set_trust(slot, Trust::Sound);
             return Ok(());
         }
-        self.doubt(slot, true);
+        let trust = self.trust_behind_failure(slot);
+        self.set_trust(slot, trust);
         self.fail();
         Err(DiskFault)
     }
 
     fn cut(&mut self, slot: Slot, len: usize) -> Result<(), DiskFault> {
         let cut = set_length(self.file(slot), len);
-        // of what was cut to nothing nothing is left to doubt
-        let doubtful = !cut || (len > 0 && self.is_doubtful(slot));
-        self.doubt(slot, doubtful);
-        if !doubtful {
+        let trust = trust_behind_cut(self.trust(slot), cut, len);
+        self.set_trust(slot, trust);
+        if trust != Trust::Doubtful {
             return Ok(());
         }
         self.fail();
         Err(DiskFault)
+    }
+}
+
+/// What is known of a slot behind a cut to so many octets. Of what was cut to nothing nothing is left to doubt.
+fn trust_behind_cut(before: Trust, cut: bool, len: usize) -> Trust {
+    if !cut {
+        return Trust::Doubtful;
+    }
+    if len == 0 {
+        return Trust::Fresh;
+    }
+    before
+}
+
+/// Takes the last octets, which are so many, away again: a full disk is not to be full of what did not go out whole. How many of them are left.
+fn take_back(file: &File, written: usize) -> usize
+    ensures { result ≤ written }
+{
+    if written == 0 {
+        return 0;
+    }
+    let Ok(found) = file.metadata() else {
+        return written;
+    };
+    match found.len().checked_sub(written as u64) {
+        Some(len) if file.set_len(len).is_ok() => 0,
+        _ => written,
     }
 }
 

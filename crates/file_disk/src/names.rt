@@ -1,7 +1,7 @@
 //! The names of the two files, and how they are opened.
 
 use std::alloc::Global;
-use std::fs::{File, Files};
+use std::fs::{File, Files, TryLockError};
 use std::os::fd::AsRawFd;
 use thiserror::Error;
 
@@ -11,7 +11,7 @@ const LAST_STANDARD: i32 = 2;
 /// Why the two files could not be had.
 #[derive(Clone, Copy, Debug, PartialEq, Eq, Error)]
 pub enum FileDiskFault {
-    /// A file cannot be opened or made.
+    /// A file cannot be opened or made, or another program has it open as its journal.
     #[error("the files of the journal cannot be opened")]
     Files,
     /// Memory ran out.
@@ -35,8 +35,20 @@ pub(crate) fn open_slot<R: Files<File = File>>(
         .create(true)
         .open(rt, name.as_str());
     match opened {
-        Ok(file) => apart(file),
-        Err(_) => Err(FileDiskFault::Files),
+        Ok(file) if is_mine(&file) => apart(file),
+        _ => Err(FileDiskFault::Files),
+    }
+}
+
+/// Whether no other program has the file open as its journal: from now on this one has. Where the file system knows no locks nobody is kept
+/// away.
+fn is_mine(file: &File) -> bool {
+    let Err(why) = file.try_lock() else {
+        return true;
+    };
+    match &why {
+        TryLockError::WouldBlock => false,
+        TryLockError::Error(_) => true,
     }
 }
 

@@ -24,7 +24,7 @@ const MOST_SILENCE: u32 = 1_000;
 /// What a message says.
 enum Said {
     /// The other end's number.
-    Number,
+    Number(u8),
     /// What it has: it asks for what it lacks.
     Asks(Heard),
     /// Operations.
@@ -48,7 +48,7 @@ pub(crate) fn listen<S: Read + Drop>(
 /// Nothing came. An end that does not say its number for too long is given up: it keeps another from its place.
 fn wait_on<S: Drop>(link: &mut Link<S>) -> Result<(), End> {
     link.silence = link.silence.saturating_add(1);
-    if !link.is_known && link.silence > MOST_SILENCE {
+    if link.other.is_none() && link.silence > MOST_SILENCE {
         return Err(End::Lost);
     }
     Ok(())
@@ -74,7 +74,7 @@ fn wait_all<S: Drop>(
 ) -> Result<(), End> {
     for message in messages {
         match heard(alloc, message)? {
-            Said::Number => link.is_known = true,
+            Said::Number(number) => link.other = Some(number),
             Said::Asks(asked) => link.asked = Some(asked),
             Said::Tells(told) => {
                 if link.waiting.push_back(told).is_err() {
@@ -89,7 +89,7 @@ fn wait_all<S: Drop>(
 /// What a message says, as the call that it asks for. A number asks for none.
 fn heard(alloc: Global, message: LinkMessage) -> Result<Said, End> {
     match message {
-        LinkMessage::Hello(_) => Ok(Said::Number),
+        LinkMessage::Hello(number) => Ok(Said::Number(number)),
         LinkMessage::Digest(digest) => match Arc::new(alloc, Step::Answer { digest }) {
             Ok(step) => Ok(Said::Asks(Heard { step })),
             Err(_) => Err(End::Memory),

@@ -39,8 +39,8 @@ pub struct Link<S: Drop> {
     pub(crate) asked: Option<Heard>,
     /// A digest was answered in this shift.
     pub(crate) answered: bool,
-    /// The other end has said its number.
-    pub(crate) is_known: bool,
+    /// The number of the other end, where it has said it.
+    pub(crate) other: Option<u8>,
     /// How often a read found nothing: before that, and since this end has last said its number.
     pub(crate) silence: u32,
     /// What came behind it is no message.
@@ -69,7 +69,7 @@ impl<S: Drop> Link<S> {
             waiting: VecDeque::new(alloc),
             asked: None,
             answered: false,
-            is_known: false,
+            other: None,
             silence: 0,
             failed: false,
             outgoing: VecDeque::new(alloc),

@@ -52,6 +52,12 @@ impl<S: Drop> Pool<S> {
         self.ticked.swap(second, Ordering::SeqCst) != second
     }
 
+    /// Whether the clock has ticked before, and not for more than so many seconds.
+    pub(crate) fn is_late(&self, second: u64, seconds: u64) -> bool {
+        let ticked = self.ticked.load(Ordering::SeqCst);
+        ticked != 0 && second > ticked.saturating_add(seconds)
+    }
+
     /// The clock has not done in this second what it had to: it may tick once more.
     pub(crate) fn tick_again(&self) {
         self.ticked.store(0, Ordering::SeqCst);

@@ -74,7 +74,8 @@ fn say_again<S: Drop>(alloc: Global, link: &mut Link<S>, gateway: u8) -> Result<
     say_hello(alloc, link, gateway)
 }
 
-/// Says the number of this gateway and what it has, once; and its number again where nothing came for long.
+/// Says the number of this gateway and what it has, once; and its number again where nothing came for long. A link whose other end has
+/// the number of this gateway is at an end: it is this gateway itself, or one that may not be there.
 pub(crate) fn greet<T: Wait, R: Replica, D: Disk + Drop, S: Drop>(
     rt: &T,
     alloc: Global,
@@ -86,6 +87,9 @@ pub(crate) fn greet<T: Wait, R: Replica, D: Disk + Drop, S: Drop>(
 ) -> (Pass, Result<(), End>)
     ensures { Adds is_of_link pass result.0 }
 {
+    if link.other == Some(gateway) {
+        return (pass, Err(End::Lost));
+    }
     if link.greeted {
         return (pass, say_again(alloc, link, gateway));
     }

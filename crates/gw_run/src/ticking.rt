@@ -21,6 +21,9 @@ pub const MOST_TICKS: u64 = 1_024;
 /// How many milliseconds pass before the clock is looked at again.
 const A_LOOK: u64 = 100;
 
+/// How many seconds pass between two ticks at most, where nothing stood still.
+const A_BREATH: u64 = 2;
+
 /// Ticks in each second while the shift is serving: until a tick gives nothing, and no oftener than `MOST_TICKS`. What a tick has to
 /// send is sent at once. A second in which it has ticked in an earlier shift is left out, unless that shift had no call left for it.
 ///
@@ -70,6 +73,7 @@ fn tick_in_turn<T: Wait + Clock, R: Replica, D: Disk + Drop, P: Post, S: Drop>(
 ) -> (Pass, Option<End>)
     ensures { AddsOfClock pass result.1 result.0 }
 {
+    let_in_first(rt, stage, pool);
     if !pool.may_tick(moment(rt)) {
         return (pass, None);
     }
@@ -78,6 +82,14 @@ fn tick_in_turn<T: Wait + Clock, R: Replica, D: Disk + Drop, P: Post, S: Drop>(
         pool.tick_again();
     }
     (pass, end)
+}
+
+/// Waits for a moment where the machine, or the gateway at a shift's end, stood still for seconds. What clients have sent meanwhile is read first: else a
+/// client would be taken for lost whose message is there.
+fn let_in_first<T: Wait + Clock, S: Drop>(rt: &T, stage: &Stage, pool: &Pool<S>) {
+    if pool.is_late(moment(rt), A_BREATH) {
+        stage.wait(rt, Phase::Serving, A_LOOK);
+    }
 }
 
 /// Ticks until a tick gives nothing.
