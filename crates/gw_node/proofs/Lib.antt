@@ -8,3 +8,4 @@ pub mod Taken
 pub mod Started
 pub mod Reopened
 pub mod Failing
+mod Resting

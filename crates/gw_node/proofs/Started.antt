@@ -8,6 +8,7 @@ use Rattle.rep_model.specs.Taking.{Fits}
 use Rattle.rep_model.proofs.Joins.{counts-join}
 use Rattle.sn_flow.specs.declared.config.Config.{Config}
 use Rattle.sn_flow.specs.Locals.{no_local}
+use Rattle.rep_model.specs.declared.replica.Replica.{Ghosts as Promises}
 use Rattle.jr_journal.specs.declared.disk.Disk.{Ghosts}
 use Rattle.jr_journal.specs.declared.fault.JournalFault.{JournalFault}
 use Rattle.jr_journal.specs.declared.fault.JournalFault.TheVariants as faults
@@ -145,27 +146,27 @@ module _ {D : Type 0} {G : Ghosts D} where
 
   -- ---- the answer of an opening
 
-  pub takes_kept : {R Z E : Type 0} (kept : R → List Op) (r : Result (Node R D Z G) E) (deltas : List (List Op))
+  pub takes_kept : {R Z E : Type 0} {P : Promises R Z} (kept : R → List Op) (r : Result (Node R D Z P G) E) (deltas : List (List Op))
       → IfOk r (λ node. Keeps (ops_of deltas) (state_of kept node).kept) → IfOk r (λ node. CountsAs (ops_of deltas) (state_of kept node).kept)
   takes_kept kept (Ok node) deltas h = h.counts
   takes_kept kept (Err e) deltas h = tt
 
-  pub opened_takes : {R Z E : Type 0} (kept : R → List Op) (r : Result (Node R D Z G) E) (gateway : ℕ) (old : Slots) (deltas : List (List Op)) → deltas ≡ records gateway (image old)
+  pub opened_takes : {R Z E : Type 0} {P : Promises R Z} (kept : R → List Op) (r : Result (Node R D Z P G) E) (gateway : ℕ) (old : Slots) (deltas : List (List Op)) → deltas ≡ records gateway (image old)
       → IfOk r (λ node. CountsAs (ops_of deltas) (state_of kept node).kept) → IfOk r (λ node. CountsAs (ops_of (records gateway (image old))) (state_of kept node).kept)
   opened_takes kept (Ok node) gateway old deltas is h = subst (λ (ds : List (List Op)). CountsAs (ops_of ds) (state_of kept node).kept) is h
   opened_takes kept (Err e) gateway old deltas is h = tt
 
-  pub opened_keeps : {R Z E : Type 0} (kept : R → List Op) (r : Result (Node R D Z G) E) (gateway : ℕ) (old : Slots) (deltas : List (List Op)) → deltas ≡ records gateway (image old)
+  pub opened_keeps : {R Z E : Type 0} {P : Promises R Z} (kept : R → List Op) (r : Result (Node R D Z P G) E) (gateway : ℕ) (old : Slots) (deltas : List (List Op)) → deltas ≡ records gateway (image old)
       → IfOk r (λ node. Keeps (ops_of deltas) (state_of kept node).kept) → IfOk r (λ node. Keeps (ops_of (records gateway (image old))) (state_of kept node).kept)
   opened_keeps kept (Ok node) gateway old deltas is h = subst (λ (ds : List (List Op)). Keeps (ops_of ds) (state_of kept node).kept) is h
   opened_keeps kept (Err e) gateway old deltas is h = tt
 
-  pub opened_none : {R Z E : Type 0} (kept : R → List Op) (r : Result (Node R D Z G) E) (gateway : ℕ) (old : Slots) (deltas : List (List Op)) → deltas ≡ records gateway (image old)
+  pub opened_none : {R Z E : Type 0} {P : Promises R Z} (kept : R → List Op) (r : Result (Node R D Z P G) E) (gateway : ℕ) (old : Slots) (deltas : List (List Op)) → deltas ≡ records gateway (image old)
       → IfOk r (λ node. deltas ≡ [] → (state_of kept node).kept ≡ []) → IfOk r (λ node. records gateway (image old) ≡ [] → (state_of kept node).kept ≡ [])
   opened_none kept (Ok node) gateway old deltas is h = λ none. h (is ∙ none)
   opened_none kept (Err e) gateway old deltas is h = tt
 
-  pub opened_again : {R Z E : Type 0} (kept : R → List Op) (r : Result (Node R D Z G) E) (journal : Journal D G) (gateway : ℕ) (old : Slots) (deltas : List (List Op))
+  pub opened_again : {R Z E : Type 0} {P : Promises R Z} (kept : R → List Op) (r : Result (Node R D Z P G) E) (journal : Journal D G) (gateway : ℕ) (old : Slots) (deltas : List (List Op))
       → gateway_of journal ≡ gateway → deltas ≡ records gateway (image old) → Leaves gateway (G.slots (disk_of journal)) deltas
       → IfOk r (λ node. (state_of kept node).journal ≡ journal) → IfOk r (λ node. Keeps (ops_of deltas) (state_of kept node).kept)
       → IfOk r (λ node. (S refused : List Op) → StandsFor gateway S refused (image old) → HasTaken (S ++ ops_of (records gateway (image old))) [] (state_of kept node))
@@ -176,7 +177,7 @@ module _ {D : Type 0} {G : Ghosts D} where
       (subst (λ (ds : List (List Op)). StandFor S refused ds) (sym is) (records_stand gateway S refused (image old) h)))
   opened_again kept (Err e) journal gateway old deltas same is leaves journal_is keeps = tt
 
-  pub opened_back : {R Z E : Type 0} (kept : R → List Op) (r : Result (Node R D Z G) E) (journal : Journal D G) (gateway : ℕ) (old : Slots) (deltas : List (List Op))
+  pub opened_back : {R Z E : Type 0} {P : Promises R Z} (kept : R → List Op) (r : Result (Node R D Z P G) E) (journal : Journal D G) (gateway : ℕ) (old : Slots) (deltas : List (List Op))
       → gateway_of journal ≡ gateway → deltas ≡ records gateway (image old) → Leaves gateway (G.slots (disk_of journal)) deltas
       → IfOk r (λ node. (state_of kept node).journal ≡ journal) → IfOk r (λ node. Keeps (ops_of deltas) (state_of kept node).kept)
       → IfOk r (λ node. (S : List Op) → StandsFor gateway S [] (image old) → HasTaken S [] (state_of kept node))
@@ -186,7 +187,7 @@ module _ {D : Type 0} {G : Ghosts D} where
       (subst (λ (ds : List (List Op)). StandFor S [] ds) (sym is) (records_stand gateway S [] (image old) h))
   opened_back kept (Err e) journal gateway old deltas same is leaves journal_is keeps = tt
 
-  pub opened_place : {R Z E : Type 0} (kept : R → List Op) (r : Result (Node R D Z G) E) (journal : Journal D G) (gateway : ℕ) (i : Image)
+  pub opened_place : {R Z E : Type 0} {P : Promises R Z} (kept : R → List Op) (r : Result (Node R D Z P G) E) (journal : Journal D G) (gateway : ℕ) (i : Image)
       → slot_of journal ≡ slot_read gateway i → generation_of journal ≡ generation_read gateway i
       → IfOk r (λ node. (state_of kept node).journal ≡ journal) → IfOk r (λ node. GoesOnIn (state_of kept node) gateway i)
   opened_place kept (Ok node) journal gateway i slot generation journal_is =

@@ -10,6 +10,7 @@ use Rattle.sn_flow.specs.declared.plan.Plan.{Plan}
 use Rattle.sn_flow.specs.Plans.{seen_of}
 use Rattle.sn_flow.specs.Locals.{no_local}
 use Rattle.sn_deliver.specs.Steps.{step}
+use Rattle.sn_deliver.specs.Rest.{is_idle}
 use Rattle.sn_deliver.specs.Ticking.{tick}
 use Rattle.jr_journal.specs.declared.disk.Disk.{Ghosts}
 use Rattle.jr_journal.specs.Parts.{disk_of, gateway_of}
@@ -40,6 +41,10 @@ planned_for old from frame now = step old.config.gateway old.config.predefined (
 
 abbrev pub ticked : {D : Type 0} {G : Ghosts D} → State G → ℕ → Option Plan
 ticked old now = tick old.config.gateway old.config.advertise old.config.field old.config.predefined (seen_of old.kept) old.local now
+
+-- a tick of this moment has nothing to do
+abbrev pub IsIdleAt : {D : Type 0} {G : Ghosts D} → State G → ℕ → Type 0
+IsIdleAt old now = is_idle old.config.gateway old.config.advertise old.config.field (seen_of old.kept) old.local now ≡ true
 
 -- there is none
 abbrev pub IsNoPlan : Option Plan → Refusal → Type 0

@@ -11,3 +11,4 @@ pub mod Carrying
 pub mod Opening
 pub mod Failures
 pub mod Arranging
+pub mod Resting

@@ -4,6 +4,7 @@ use Rattle.std.specs.Arc.{arc_value}
 use Rattle.std.specs.declared.sync.Arc.{Arc}
 use Rattle.std.specs.declared.alloc.Global.{Global}
 use Rattle.rep_ops.specs.declared.op.Op.{Op}
+use Rattle.rep_model.specs.declared.replica.Replica.{Ghosts as Promises}
 use Rattle.sn_flow.specs.declared.config.Config.{Config}
 use Rattle.sn_flow.specs.declared.config.Send.{Send}
 use Rattle.sn_flow.specs.Locals.{Local}
@@ -26,15 +27,15 @@ pub record State {D : Type 0} (G : Ghosts D) : Type 0 where
   pub journal : Journal D G
   pub records : ℕ
 
-abbrev pub state_of : {R Z D : Type 0} {G : Ghosts D} → (R → List Op) → Node R D Z G → State G
+abbrev pub state_of : {R Z D : Type 0} {P : Promises R Z} {G : Ghosts D} → (R → List Op) → Node R D Z P G → State G
 state_of kept node = record { config = node.config; kept = kept node.replica; local = node.dialogs.local; journal = node.journal; records = node.records }
 
 -- how many records it read when it was last opened
-abbrev pub records_of : {R Z D : Type 0} {G : Ghosts D} → Node R D Z G → ℕ
+abbrev pub records_of : {R Z D : Type 0} {P : Promises R Z} {G : Ghosts D} → Node R D Z P G → ℕ
 records_of node = node.records
 
 -- the disk that its journal is on
-abbrev pub disk_of : {R Z D : Type 0} {G : Ghosts D} → Node R D Z G → D
+abbrev pub disk_of : {R Z D : Type 0} {P : Promises R Z} {G : Ghosts D} → Node R D Z P G → D
 disk_of node = disk_under node.journal
 
 -- whether a write of its journal has failed since it was opened

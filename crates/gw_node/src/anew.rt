@@ -95,6 +95,7 @@ fn refill<R: Replica, D: Disk + Drop>(
     let mut replica = replica;
     match take_all(alloc, &mut replica, deltas.as_slice()) {
         Ok(()) => {
+            node.idle = None;
             node.replica = replica;
             node.dialogs = Dialogs::empty(alloc);
             node.records = deltas.len() as u64;

@@ -130,6 +130,7 @@ pub(crate) fn note<R: Replica, D: Disk + Drop>(
         sends,
         local,
     } = plan;
+    node.idle = None;
     node.dialogs.prepare(local.as_slice())?;
     let answer = Shares::new(alloc, Out::of_sends(alloc, sends))?;
     node.dialogs.commit(local);
@@ -149,6 +150,7 @@ pub(crate) fn carry_out<R: Replica, D: Disk + Drop>(
     ensures { CarriedOut (state_of R.kept node.old) plan excuse result (state_of R.kept node.new) }
 {
     let Plan { ops, sends, local } = plan;
+    node.idle = None;
     node.dialogs.prepare(local.as_slice())?;
     let delta = match delta_of(alloc, ops.into_vec()) {
         Ok(delta) => delta,
@@ -178,6 +180,7 @@ pub(crate) fn take_in<R: Replica, D: Disk + Drop>(
     if node.journal.is_halted() {
         return Err(Refusal::Halted);
     }
+    node.idle = None;
     let ready = prepare(alloc, &mut node.replica, delta)?;
     let nothing = Shares::new(alloc, Out::of_sends(alloc, Sequence::empty(alloc)))?;
     let answer = Shares::new(alloc, Out::of_sends(alloc, Sequence::empty(alloc)))?;

@@ -1,14 +1,14 @@
 //! What the calls of a node do, up to the answer.
 
-ghost use Rattle.std.specs.Prelude.{◌≡◌, Some, [], IfOk, IfErr};
+ghost use Rattle.std.specs.Prelude.{◌≡◌, Some, [], false, IfOk, IfErr, IsTrue};
 ghost use Rattle.rep_digest.specs.Spelling.{IsWithinLimit};
 ghost use Rattle.sn_frame.specs.Bodies.{IsMessage, IsValue};
 ghost use Rattle.sn_frame.specs.Grammar.{Spells};
 ghost use Rattle.gw_node.specs.Occasions.{Datagram, Clock};
 ghost use Rattle.gw_node.specs.Excuses.{excuses as defined_excuses};
-ghost use Rattle.gw_node.specs.Parts.{state_of, only_sends};
+ghost use Rattle.gw_node.specs.Parts.{state_of, is_halted as is_stopped, only_sends};
 ghost use Rattle.gw_node.specs.Calls.{OwnCall, shows, DigestCall, AnswerCall, StepCall};
-ghost use Rattle.gw_node.specs.Handling.{IsNoFrameBy, IsNoPlan, planned_for, ticked, CarriedOut, Answers};
+ghost use Rattle.gw_node.specs.Handling.{IsNoFrameBy, IsNoPlan, planned_for, ticked, CarriedOut, Answers, IsIdleAt};
 ghost use Rattle.gw_node.specs.declared.refusal.Refusal.TheVariants as refusals;
 
 use super::anew::{handle_compact, handle_reopen};
@@ -24,7 +24,7 @@ use octets::Sequence;
 use rep_digest::{Digest, answer, digest_of};
 use rep_model::Replica;
 use rep_ops::{ClientId, OpsFault};
-use sn_deliver::{step as plan_step, tick as plan_tick};
+use sn_deliver::{is_idle, step as plan_step, tick as plan_tick};
 use sn_flow::{Addr, Plan, StepFault};
 use sn_frame::{Frame, FrameFault, decode};
 use std::alloc::Global;
@@ -156,6 +156,51 @@ pub(crate) fn handle_frame<R: Replica, D: Disk + Drop>(
     }
 }
 
+/// How many seconds ahead it is found out that ticks have nothing to do.
+const AHEAD: u64 = 10;
+
+/// Whether it is known that a tick of this moment has nothing to do. Where it was not known it is looked for some seconds
+/// ahead, so that the ticks until then need not look, as long as nothing changes.
+fn is_idle_at<R: Replica, D: Disk>(node: &mut Node<R, D>, now: u64) -> bool
+    ensures same { state_of R.kept node.new ≡ state_of R.kept node.old }
+    ensures idle { IsTrue result → IsIdleAt (state_of R.kept node.old) now }
+{
+    if let Some(until) = node.idle {
+        if now <= until {
+            return true;
+        }
+    }
+    let ahead = now.saturating_add(AHEAD);
+    if !is_idle(&node.config, &node.replica, &node.dialogs, ahead) {
+        return false;
+    }
+    node.idle = Some(ahead);
+    true
+}
+
+/// What is answered where there is nothing to do: nothing is sent.
+fn rest(alloc: Global) -> Result<Shares, Refusal>
+    ensures ok { IfOk result (λ out. out ≡ only_sends []) }
+    ensures err { IfErr result (λ refusal. refusal ≡ refusals.Memory) }
+{
+    Ok(Shares::new(alloc, Out::of_sends(alloc, Sequence::empty(alloc)))?)
+}
+
+/// A tick of a moment that may have something to do.
+fn answer_tick<R: Replica, D: Disk + Drop>(
+    alloc: Global,
+    node: &mut Node<R, D>,
+    now: u64,
+) -> Result<Shares, Refusal>
+    requires { is_stopped (state_of R.kept node.old) ≡ false }
+    ensures { OwnCall (state_of R.kept node.old) Clock now result (state_of R.kept node.new) }
+{
+    match plan_of_tick(alloc, node, now) {
+        Ok(plan) => carry_for_tick(alloc, node, plan),
+        Err(refusal) => Err(refusal),
+    }
+}
+
 /// Time goes by: a moment.
 pub(crate) fn handle_tick<R: Replica, D: Disk + Drop>(
     alloc: Global,
@@ -167,10 +212,10 @@ pub(crate) fn handle_tick<R: Replica, D: Disk + Drop>(
     if node.journal.is_halted() {
         return Err(Refusal::Halted);
     }
-    match plan_of_tick(alloc, node, now) {
-        Ok(plan) => carry_for_tick(alloc, node, plan),
-        Err(refusal) => Err(refusal),
+    if is_idle_at(node, now) {
+        return rest(alloc);
     }
+    answer_tick(alloc, node, now)
 }
 
 /// Somebody asks for a client's view.

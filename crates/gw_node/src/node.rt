@@ -1,23 +1,7 @@
 //! One gateway.
 
-ghost use Rattle.std.specs.Prelude.{◌≡◌, ◌≤◌, ◌<◌, ◌++◌, List, [], None, true, false, length, IfOk, IfErr, OnOk, IsTrue, MatchResult};
-ghost use Rattle.rep_ops.specs.declared.op.Op.{Op};
-ghost use Rattle.rep_model.specs.Keep.{CountsAs};
-ghost use Rattle.rep_model.specs.Held.{IsHeld};
-ghost use Rattle.rep_model.specs.Views.{clients as clients_of};
-ghost use Rattle.jr_journal.specs.Disk.{image};
-ghost use Rattle.jr_journal.specs.Records.{records};
-ghost use Rattle.jr_journal.specs.Faults.{is_fresh, fault_of};
-ghost use Rattle.jr_journal.specs.Opening.{recovered, is_quiet, LeavesNoMore};
-ghost use Rattle.gw_node.specs.declared.fault.NodeFault.TheVariants as faults;
-ghost use Rattle.gw_node.specs.Occasions.{Datagram, Clock};
-ghost use Rattle.gw_node.specs.Parts.{state_of, told, said, is_halted as is_stopped, disk_of, records_of};
-ghost use Rattle.gw_node.specs.Calls.{OwnCall, TakeCall, ViewCall, DigestCall, AnswerCall, CompactCall, StepCall};
-ghost use Rattle.gw_node.specs.Keeping.{Keeps};
-ghost use Rattle.gw_node.specs.Taking.{ops_of, StandsFor, HasTaken};
-ghost use Rattle.gw_node.specs.Opening.{IsStarted, FitInTurn, MayRefuse, IsDiskFault, IsOpenFault, LeavesSlots, GoesOnIn, ReopenCall};
-ghost use Rattle.gw_node.specs.Arranging.{Arranges};
-ghost use Rattle.gw_node.specs.Carrying.{CarriesOn, OwnCarriesOn, TakesNothing, ReopenCarriesOn, StepCarriesOn};
+ghost use Rattle.std.specs.Prelude.{◌≡◌, true};
+ghost use Rattle.gw_node.specs.Resting.{rests};
 
 use super::anew::{handle_compact, handle_reopen};
 use super::carrying::take_in;
@@ -43,9 +27,30 @@ pub struct Node<R: Replica, D: Disk> {
     pub(crate) dialogs: Dialogs,
     pub(crate) journal: Journal<D>,
     pub(crate) records: u64,
+    /// Until when ticks have nothing to do, where that was found out and nothing has changed since.
+    pub(crate) idle: Option<u64>,
+    ghost is_idle_until: { rests idle config (R.kept replica) dialogs.local ≡ true },
 }
 
 impl<R: Replica, D: Disk + Drop> Node<R, D> {
+    ghost use Rattle.std.specs.Prelude.{◌≡◌, ◌≤◌, ◌<◌, ◌++◌, List, [], None, true, false, length, IfOk, IfErr, OnOk, IsTrue, MatchResult};
+    ghost use Rattle.rep_ops.specs.declared.op.Op.{Op};
+    ghost use Rattle.rep_model.specs.Keep.{CountsAs};
+    ghost use Rattle.rep_model.specs.Held.{IsHeld};
+    ghost use Rattle.rep_model.specs.Views.{clients as clients_of};
+    ghost use Rattle.jr_journal.specs.Disk.{image};
+    ghost use Rattle.jr_journal.specs.Records.{records};
+    ghost use Rattle.jr_journal.specs.Faults.{is_fresh, fault_of};
+    ghost use Rattle.jr_journal.specs.Opening.{recovered, is_quiet, LeavesNoMore};
+    ghost use Rattle.gw_node.specs.declared.fault.NodeFault.TheVariants as faults;
+    ghost use Rattle.gw_node.specs.Occasions.{Datagram, Clock};
+    ghost use Rattle.gw_node.specs.Parts.{state_of, told, said, is_halted as is_stopped, disk_of, records_of};
+    ghost use Rattle.gw_node.specs.Calls.{OwnCall, TakeCall, ViewCall, DigestCall, AnswerCall, CompactCall, StepCall};
+    ghost use Rattle.gw_node.specs.Keeping.{Keeps};
+    ghost use Rattle.gw_node.specs.Taking.{ops_of, StandsFor, HasTaken};
+    ghost use Rattle.gw_node.specs.Opening.{IsStarted, FitInTurn, MayRefuse, IsDiskFault, IsOpenFault, LeavesSlots, GoesOnIn, ReopenCall};
+    ghost use Rattle.gw_node.specs.Carrying.{CarriesOn, OwnCarriesOn, TakesNothing, ReopenCarriesOn, StepCarriesOn};
+
     /// Opens a gateway on the disk of its journal, and takes what the journal holds; nothing of that is written again. The
     /// gateway begins without bindings, dialogs and timers.
     ///
@@ -270,6 +275,10 @@ impl<R: Replica, D: Disk + Drop> Node<R, D> {
 }
 
 impl<R: Replica> Node<R, MemoryDisk> {
+    ghost use Rattle.gw_node.specs.Parts.{state_of, disk_of};
+    ghost use Rattle.gw_node.specs.Arranging.{Arranges};
+    ghost use Rattle.gw_node.specs.Carrying.{TakesNothing};
+
     /// Whether memory was refused in the disk.
     pub fn starved(&self) -> bool
         ensures { result ≡ (disk_of self.now).starved }

@@ -71,6 +71,7 @@ pub(crate) fn start<R: Replica, D: Disk + Drop>(
             dialogs: Dialogs::empty(alloc),
             journal,
             records: deltas.len() as u64,
+            idle: None,
         }),
         Err(refusal) => Err((journal.into_disk(), refusal.into_one())),
     }

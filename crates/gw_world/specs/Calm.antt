@@ -1,6 +1,7 @@
 -- Nodes in a field.
 use Rattle.std.specs.Prelude.{◌≡◌, ℕ, Bool, true, false, IsTrue, List, [], Option, Some, None, Result, Ok, Err}
 use Rattle.rep_ops.specs.declared.op.Op.{Op}
+use Rattle.rep_model.specs.declared.replica.Replica.{Ghosts as Promises}
 use Rattle.jr_journal.specs.declared.disk.Disk.{Ghosts}
 use Rattle.jr_journal.specs.declared.disk.Plan.{Plan}
 use Rattle.jr_journal.specs.Memory.{MemoryState, failing}
@@ -46,7 +47,7 @@ drive_of {D} {G} state = record {
 abbrev pub held_of : {D : Type 0} {G : Ghosts D} → State G → Gateway
 held_of state = record { config = state.config; taken = state.kept; local = state.local; drive = drive_of state; refused = [] }
 
-abbrev pub keeping : {R Z D : Type 0} {G : Ghosts D} → (R → List Op) → Node R D Z G → Gateway
+abbrev pub keeping : {R Z D : Type 0} {P : Promises R Z} {G : Ghosts D} → (R → List Op) → Node R D Z P G → Gateway
 keeping kept node = held_of (state_of kept node)
 
 -- memory did not run out

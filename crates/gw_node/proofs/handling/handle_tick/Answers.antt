@@ -1,9 +1,23 @@
-use Rattle.std.proofs.Common.{rules}
-use Rattle.gw_node.specs.Parts.{state_of}
-use Rattle.gw_node.proofs.Calling.{tick_answered}
+-- A tick that has nothing to do, and one that may have.
+use Rattle.std.proofs.Common.{◌≡◌, false, refl, sym, ap, ◌∙◌, subst, rules}
+use Rattle.gw_node.specs.Occasions.{Clock}
+use Rattle.gw_node.specs.Parts.{State, state_of, is_halted}
+use Rattle.gw_node.specs.Calls.{OwnCall}
+use Rattle.gw_node.proofs.Resting.{rested}
 use Rattle.gw_node.proofs.handling.handle_tick.Goals as goal
 
-pub returns-in-Ok : goal.returns-in-Ok
-returns-in-Ok g c =
-    tick_answered (state_of g.R.Replica.kept c.args.node.now) (state_of g.R.Replica.kept c.carry_for_tick.new.node) c.args.now c.in-Ok.plan c.carry_for_tick.result (search rules)
-    c.in-Ok.ensures.ok c.carry_for_tick.ensures
+pub returns-then-is_idle_at : goal.returns-then-is_idle_at
+returns-then-is_idle_at g c =
+    let old = state_of g.R.Replica.kept c.args.node.now in
+    let runs : is_halted old ≡ false = search rules in
+    subst (λ (new : State g.D.Disk). OwnCall old Clock c.args.now c.rest.result new) (sym c.is_idle_at.ensures.same)
+    (rested old c.args.now c.rest.result runs (c.is_idle_at.ensures.idle c.if-is_idle_at.true) c.rest.ensures.ok c.rest.ensures.err)
+
+pub answer_tick-requires : goal.answer_tick-requires
+answer_tick-requires g c =
+    let runs : is_halted (state_of g.R.Replica.kept c.args.node.now) ≡ false = search rules in
+    ap (λ (state : State g.D.Disk). is_halted state) c.is_idle_at.ensures.same ∙ runs
+
+pub returns : goal.returns
+returns g c =
+    subst (λ (old : State g.D.Disk). OwnCall old Clock c.args.now c.answer_tick.result (state_of g.R.Replica.kept c.answer_tick.new.node)) c.is_idle_at.ensures.same c.answer_tick.ensures

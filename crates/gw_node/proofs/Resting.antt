@@ -1,0 +1,53 @@
+-- A tick that has nothing to do.
+use Rattle.std.proofs.Common.{◌≡◌, ℕ, ◌≤◌, false, true, List, [], Option, Some, None, Result, Ok, Err, IfOk, IfErr, refl, sym, ap, ◌∙◌, subst}
+use Rattle.rep_ops.specs.declared.op.Op.{Op}
+use Rattle.rep_ops.specs.Making.{AreApart}
+use Rattle.sn_flow.specs.declared.config.Config.{Config}
+use Rattle.sn_flow.specs.Drafts.{nothing}
+use Rattle.sn_flow.specs.Locals.{Local}
+use Rattle.sn_flow.specs.Plans.{seen_of, plan_without}
+use Rattle.sn_deliver.specs.Rest.{is_idle}
+use Rattle.sn_deliver.proofs.Idle.{idle_tick, idle_before}
+use Rattle.jr_journal.specs.declared.disk.Disk.{Ghosts}
+use Rattle.gw_node.specs.declared.out.Out.{Out}
+use Rattle.gw_node.specs.declared.refusal.Refusal.{Refusal}
+use Rattle.gw_node.specs.declared.refusal.Refusal.TheVariants as refusals
+use Rattle.gw_node.specs.Occasions.{Clock}
+use Rattle.gw_node.specs.Parts.{State, is_halted, IsUnchanged, IsUntouched, only_sends}
+use Rattle.gw_node.specs.Plans.{Makes}
+use Rattle.gw_node.specs.Calls.{OwnCall, IsDone}
+use Rattle.gw_node.specs.Handling.{IsIdleAt}
+use Rattle.gw_node.specs.Resting.{rests}
+
+-- what is remembered of a moment holds of each before it
+pub remembered : (idle : Option ℕ) (until now : ℕ) (config : Config) (kept : List Op) (local : Local) → idle ≡ Some until → now ≤ until → rests idle config kept local ≡ true
+    → is_idle config.gateway config.advertise config.field (seen_of kept) local now ≡ true
+remembered idle until now config kept local is before h =
+    idle_before now until before config.gateway config.advertise config.field (seen_of kept) local (subst (λ (known : Option ℕ). rests known config kept local ≡ true) is h)
+
+none_apart : AreApart []
+none_apart = record { well_made = tt; once = λ w. absurd cc }
+
+module _ {D : Type 0} {G : Ghosts D} where
+  untouched : (state : State G) → IsUntouched state.journal state.journal
+  untouched state = record { gateway = refl; slot = refl; generation = refl; halted = refl; disk = refl }
+
+  -- the plan without anything is carried out: nothing is sent, and nothing changes
+  done : (state : State G) (out : Out) → out ≡ only_sends [] → IsDone state (plan_without nothing) out state
+  done state out is = record {
+    config = refl;
+    records = refl;
+    local = refl;
+    apart = none_apart;
+    made = subst (λ (made : Option (List Op)). Makes [] made state state) (sym (ap (λ (out : Out). out.made) is)) (refl, untouched state);
+    answer = is ∙ ap (λ (made : Option (List Op)). record (only_sends []) { made = made }) (sym (ap (λ (out : Out). out.made) is));
+  }
+
+  -- a tick that has nothing to do is answered, or memory ran out
+  pub rested : (state : State G) (now : ℕ) (answer : Result Out Refusal) → is_halted state ≡ false → IsIdleAt state now
+      → IfOk answer (λ out. out ≡ only_sends []) → IfErr answer (λ refusal. refusal ≡ refusals.Memory) → OwnCall state Clock now answer state
+  rested state now (Ok out) runs idle is err =
+      (runs, (plan_without nothing, idle_tick state.config.gateway state.config.advertise state.config.field state.config.predefined (seen_of state.kept) state.local now idle, done state out is))
+  rested state now (Err refusal) runs idle is err =
+      subst (λ (refusal : Refusal). OwnCall state Clock now (Err refusal) state) (sym err)
+      (record { config = refl; kept = refl; local = refl; journal = untouched state; records = refl })
