@@ -1,0 +1,102 @@
+//! Lines that are calls of the gateway.
+
+use crate::fields::{client, number};
+use crate::gateways::address;
+use crate::names::{Names, octets};
+use crate::printing::print_answer;
+use crate::stop::Stop;
+use gw_node::{Answer, Node, Step};
+use jr_journal::MemoryDisk;
+use octets::Octets;
+use rep_model::Replica;
+use rep_ops::{Delta, OpsFault};
+use std::alloc::Global;
+
+/// The call that a line says.
+fn step(alloc: Global, names: &Names, words: &[&str]) -> Result<Step, Stop> {
+    match words {
+        ["frame", port, moment, rest @ ..] => frame(alloc, names, port, moment, rest),
+        ["take", rest @ ..] => Ok(Step::Take {
+            delta: delta(alloc, names, rest)?,
+        }),
+        ["tick", moment] => Ok(Step::Tick {
+            now: u64::from(number(moment)?),
+        }),
+        ["view", name] => Ok(Step::View {
+            client: client(alloc, name)?,
+        }),
+        ["compact"] => Ok(Step::Compact),
+        ["reopen"] => Ok(Step::Reopen),
+        _ => Err(Stop::Line),
+    }
+}
+
+/// A datagram comes.
+fn frame(
+    alloc: Global,
+    names: &Names,
+    port: &str,
+    moment: &str,
+    rest: &[&str],
+) -> Result<Step, Stop> {
+    let from = address(port)?;
+    let now = u64::from(number(moment)?);
+    let bytes = octets(alloc, names, rest)?;
+    Ok(Step::Frame {
+        from,
+        bytes: Octets::from_slice(alloc, &bytes)?,
+        now,
+    })
+}
+
+/// The delta that octets spell.
+pub(crate) fn delta(alloc: Global, names: &Names, fields: &[&str]) -> Result<Delta, Stop> {
+    let bytes = octets(alloc, names, fields)?;
+    match Delta::decode(alloc, &bytes) {
+        Ok(delta) => Ok(delta),
+        Err(OpsFault::Memory) => Err(Stop::Memory),
+        Err(_) => Err(Stop::Line),
+    }
+}
+
+/// A call of the gateway, and its answer.
+pub(crate) fn call_once<R: Replica>(
+    alloc: Global,
+    text: &mut String,
+    names: &Names,
+    node: &mut Node<R, MemoryDisk>,
+    words: &[&str],
+) -> Result<(), Stop> {
+    let step = step(alloc, names, words)?;
+    let answer = call(alloc, node, &step);
+    Ok(print_answer(alloc, text, &answer)?)
+}
+
+/// The call of the method that a call as a value stands for.
+fn call<R: Replica>(alloc: Global, node: &mut Node<R, MemoryDisk>, step: &Step) -> Answer {
+    match step {
+        Step::Frame { from, bytes, now } => node.frame(alloc, *from, bytes.as_slice(), *now),
+        Step::Take { delta } => node.take(alloc, delta),
+        Step::Tick { now } => node.tick(alloc, *now),
+        Step::View { client } => node.view(alloc, client),
+        Step::Digest => node.digest(alloc),
+        Step::Answer { digest } => node.answer(alloc, digest),
+        Step::Compact => node.compact(alloc),
+        Step::Reopen => node.reopen(alloc),
+    }
+}
+
+/// `thrice CALL`: a call as a value, with its answer three times.
+pub(crate) fn call_thrice<R: Replica>(
+    alloc: Global,
+    text: &mut String,
+    names: &Names,
+    node: &mut Node<R, MemoryDisk>,
+    words: &[&str],
+) -> Result<(), Stop> {
+    let step = step(alloc, names, words)?;
+    let (first, second, third) = node.step(alloc, &step);
+    print_answer(alloc, text, &first)?;
+    print_answer(alloc, text, &second)?;
+    Ok(print_answer(alloc, text, &third)?)
+}

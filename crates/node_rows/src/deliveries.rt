@@ -1,0 +1,142 @@
+//! Lines that draft what a client is sent.
+
+use crate::fields::client;
+use crate::gateways::no_predefined;
+use crate::names::{Names, octets};
+use crate::printing::{print_draft, shown};
+use crate::stop::Stop;
+use gw_node::Node;
+use jr_journal::MemoryDisk;
+use octets::Octets;
+use rep_model::{ClientView, Replica};
+use rep_ops::Put;
+use sn_deliver::{Meant, Peer, acknowledge, publication_meant, pubrel, then_deliver, then_resend};
+use sn_flow::{Addr, Draft};
+use sn_frame::{Flags, Frame, decode};
+use sn_session::Session;
+use std::alloc::Global;
+
+/// Plays a line about a client of the gateway.
+pub(crate) fn play<R: Replica>(
+    alloc: Global,
+    text: &mut String,
+    node: &Node<R, MemoryDisk>,
+    names: &Names,
+    first: &str,
+    rest: &[&str],
+) -> Result<(), Stop> {
+    let Some((name, rest)) = rest.split_first() else {
+        return Err(Stop::Line);
+    };
+    let peer = peer(alloc, name)?;
+    let bytes = octets(alloc, names, rest)?;
+    match node.view(alloc, &peer.client) {
+        Ok(out) => play_seen(alloc, text, &peer, &out.view, first, &bytes),
+        Err(_) => Err(Stop::Memory),
+    }
+}
+
+/// The client, at port 7 of host 0 and moment 3.
+fn peer(alloc: Global, name: &str) -> Result<Peer, Stop> {
+    Ok(Peer {
+        address: Addr { host: 0, port: 7 },
+        client: client(alloc, name)?,
+        moment: 3,
+    })
+}
+
+/// Plays a line about a client of this view, which is to have a session.
+fn play_seen(
+    alloc: Global,
+    text: &mut String,
+    peer: &Peer,
+    view: &Option<ClientView>,
+    first: &str,
+    bytes: &[u8],
+) -> Result<(), Stop> {
+    let Some(view) = view else {
+        return Err(Stop::Line);
+    };
+    let Some(session) = &view.session else {
+        return Err(Stop::Line);
+    };
+    let pending = view.pending.as_slice();
+    match first {
+        "meaning" => meaning(alloc, text, session, bytes),
+        "hear" => hear(alloc, text, peer, session, pending, bytes),
+        _ => send(alloc, text, peer, session, pending, first),
+    }
+}
+
+/// `deliver CLIENT` or `resend CLIENT`: what waits goes out, or what was sent goes out again.
+fn send(
+    alloc: Global,
+    text: &mut String,
+    peer: &Peer,
+    session: &Session,
+    pending: &[Put],
+    first: &str,
+) -> Result<(), Stop> {
+    let predefined = no_predefined(alloc)?;
+    let mut draft = Draft::new(alloc);
+    let done = match first {
+        "deliver" => then_deliver(alloc, &predefined, peer, session, pending, &mut draft),
+        _ => then_resend(alloc, &predefined, peer, session, pending, &mut draft),
+    };
+    match done {
+        Ok(()) => Ok(print_draft(alloc, text, draft)?),
+        Err(_) => Err(Stop::Memory),
+    }
+}
+
+/// `hear CLIENT OCTETS ..`: the client answers, or releases its own message, by this frame.
+fn hear(
+    alloc: Global,
+    text: &mut String,
+    peer: &Peer,
+    session: &Session,
+    pending: &[Put],
+    bytes: &[u8],
+) -> Result<(), Stop> {
+    let predefined = no_predefined(alloc)?;
+    let heard = match decode(alloc, bytes) {
+        Ok(Frame::PubRel { msg_id }) => pubrel(alloc, peer.address, session, msg_id),
+        Ok(frame) => acknowledge(alloc, &predefined, peer, session, pending, &frame),
+        Err(_) => return Err(Stop::Line),
+    };
+    match heard {
+        Ok(draft) => Ok(print_draft(alloc, text, draft)?),
+        Err(_) => Err(Stop::Memory),
+    }
+}
+
+/// `meaning CLIENT OCTETS ..`: what a publication is about with these flags and this topic field.
+fn meaning(alloc: Global, text: &mut String, session: &Session, bytes: &[u8]) -> Result<(), Stop> {
+    let [bits, high, low] = bytes else {
+        return Err(Stop::Line);
+    };
+    let (flags, topic) = (
+        Flags { bits: *bits },
+        u16::from(*high) * 256 + u16::from(*low),
+    );
+    let predefined = no_predefined(alloc)?;
+    let body = Octets::from_slice(alloc, &[])?;
+    match publication_meant(alloc, &predefined, session, flags, topic, &body) {
+        Ok(meant) => print_meant(alloc, text, &meant),
+        Err(_) => Err(Stop::Memory),
+    }
+}
+
+/// What a publication is about.
+fn print_meant(alloc: Global, text: &mut String, meant: &Meant) -> Result<(), Stop> {
+    match meant {
+        Meant::Topic(name) => {
+            let octets = shown(alloc, name.bytes())?;
+            Ok(writeln!(text, "topic {octets}")?)
+        }
+        Meant::Refused(code) => {
+            let code = *code;
+            Ok(writeln!(text, "code {code}")?)
+        }
+    }
+}

@@ -1,0 +1,168 @@
+//! Lines about digests, and about a link.
+
+use crate::calls::delta;
+use crate::fields::{gateway, number};
+use crate::names::{Names, octets};
+use crate::printing::{print_fault, print_message, shown};
+use crate::stop::Stop;
+use gw_net::{LinkFault, LinkIn, LinkMessage, LinkOutFault, link_out};
+use rep_digest::Digest;
+use rep_ops::OpsFault;
+use std::alloc::Global;
+use std::io::{self, Write};
+
+/// A writer that takes so many octets, and then fails.
+#[derive(Drop)]
+struct Full {
+    room: usize,
+}
+
+impl Write for Full {
+    fn write(&mut self, buf: &[u8]) -> io::Result<usize> {
+        let count = buf.len().min(self.room);
+        if count == 0 {
+            return Err(io::Error::from(io::ErrorKind::Other));
+        }
+        self.room -= count;
+        Ok(count)
+    }
+
+    fn flush(&mut self) -> io::Result<()> {
+        Ok(())
+    }
+}
+
+/// `digest OCTETS ..`: of how many clients they spell a digest.
+pub(crate) fn digest(
+    alloc: Global,
+    text: &mut String,
+    names: &Names,
+    fields: &[&str],
+) -> Result<(), Stop> {
+    let bytes = octets(alloc, names, fields)?;
+    read_digest(alloc, text, &bytes)
+}
+
+/// `beginnings OCTETS ..`: the same of each beginning of them but the whole.
+pub(crate) fn beginnings(
+    alloc: Global,
+    text: &mut String,
+    names: &Names,
+    fields: &[&str],
+) -> Result<(), Stop> {
+    let bytes = octets(alloc, names, fields)?;
+    for end in 0..bytes.len() {
+        write!(text, "{end}: ")?;
+        read_digest(alloc, text, &bytes[..end])?;
+    }
+    Ok(())
+}
+
+/// The digest that octets spell.
+fn read_digest(alloc: Global, text: &mut String, bytes: &[u8]) -> Result<(), Stop> {
+    match Digest::decode(alloc, bytes) {
+        Ok(digest) => {
+            let count = digest.entries().len();
+            Ok(writeln!(text, "digest of {count}")?)
+        }
+        Err(OpsFault::Memory) => Err(Stop::Memory),
+        Err(fault) => Ok(writeln!(text, "refused: {fault}")?),
+    }
+}
+
+/// The message that fields say.
+fn message(alloc: Global, names: &Names, fields: &[&str]) -> Result<LinkMessage, Stop> {
+    match fields {
+        ["hello", name] => Ok(LinkMessage::Hello(gateway(name)?)),
+        ["delta", rest @ ..] => Ok(LinkMessage::Delta(delta(alloc, names, rest)?)),
+        ["digest", rest @ ..] => {
+            let bytes = octets(alloc, names, rest)?;
+            match Digest::decode(alloc, &bytes) {
+                Ok(digest) => Ok(LinkMessage::Digest(digest)),
+                Err(_) => Err(Stop::Line),
+            }
+        }
+        _ => Err(Stop::Line),
+    }
+}
+
+/// A message goes out; nothing for a hello of gateway 0, which nobody may say.
+fn go_out<W: Write>(
+    alloc: Global,
+    writer: &mut W,
+    message: &LinkMessage,
+) -> Option<Result<(), LinkOutFault>> {
+    match message {
+        LinkMessage::Hello(0) => None,
+        LinkMessage::Hello(_) => Some(link_out(alloc, writer, message)),
+        LinkMessage::Digest(_) => Some(link_out(alloc, writer, message)),
+        LinkMessage::Delta(_) => Some(link_out(alloc, writer, message)),
+    }
+}
+
+/// `say MESSAGE`: it goes out behind what went out before.
+pub(crate) fn say(
+    alloc: Global,
+    text: &mut String,
+    names: &Names,
+    said: &mut Vec<u8>,
+    fields: &[&str],
+) -> Result<(), Stop> {
+    let message = message(alloc, names, fields)?;
+    match go_out(alloc, said, &message) {
+        None => Err(Stop::Line),
+        Some(Ok(())) => {
+            let octets = shown(alloc, said)?;
+            Ok(writeln!(text, "went out {octets}")?)
+        }
+        Some(Err(_)) => Err(Stop::Memory),
+    }
+}
+
+/// `within COUNT MESSAGE`: it goes to a writer that fails behind so many octets.
+pub(crate) fn within(
+    alloc: Global,
+    text: &mut String,
+    names: &Names,
+    fields: &[&str],
+) -> Result<(), Stop> {
+    let Some((far, rest)) = fields.split_first() else {
+        return Err(Stop::Line);
+    };
+    let room = usize::from(number(far)?);
+    let message = message(alloc, names, rest)?;
+    match go_out(alloc, &mut Full { room }, &message) {
+        None => Err(Stop::Line),
+        Some(Ok(())) => Ok(text.push_str("went out\n")?),
+        Some(Err(fault)) => Ok(writeln!(text, "refused: {fault}")?),
+    }
+}
+
+/// `feed OCTETS ..`: a piece comes in.
+pub(crate) fn feed(
+    alloc: Global,
+    text: &mut String,
+    names: &Names,
+    link: &mut LinkIn,
+    fields: &[&str],
+) -> Result<(), Stop> {
+    let bytes = octets(alloc, names, fields)?;
+    match link.feed(alloc, &bytes) {
+        Ok(fed) => {
+            print_fed(alloc, text, fed.messages.as_slice())?;
+            print_fault(text, fed.fault)
+        }
+        Err(LinkFault::Memory) => Err(Stop::Memory),
+        Err(fault) => Ok(writeln!(text, "refused: {fault}")?),
+    }
+}
+
+/// The messages that are whole now.
+fn print_fed(alloc: Global, text: &mut String, messages: &[LinkMessage]) -> Result<(), Stop> {
+    let count = messages.len();
+    writeln!(text, "messages {count}")?;
+    for message in messages {
+        print_message(alloc, text, message)?;
+    }
+    Ok(())
+}

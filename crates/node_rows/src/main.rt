@@ -1,0 +1,128 @@
+//! Worked rows of gateways with their journals, of deliveries and of links: what no clause says, as that calls succeed, and octets
+//! written out by hand.
+//!
+//! A contract lets a call answer want of memory in place of almost anything; a row does not. Standard input holds rows, each
+//! behind a line `== NAME`; empty lines and those that begin with `#` are skipped. Each row begins with nothing: no gateway, an empty
+//! disk, a link on which nothing was said. The program prints each name, and below it what the lines of the row give; of a line that is
+//! none of these, `no such line` and the line.
+//!
+//! A line is words with one space between them. Numbers are decimal, and below 65,536. The name of a client is a word, and stands for the
+//! octets of the word; behind `0x` it is the octets themselves. OCTETS are words: hexadecimal digits in as many as is pleasant, names of
+//! octets, and `-` for none.
+//!
+//! | Names, which stay from row to row | |
+//! |---|---|
+//! | `name NAME OCTETS ..` | after this line, which may stand anywhere, the name is these octets |
+//! | `repeat COUNT OCTETS ..` | these stand behind the octets of the latest name so many times; `%` is the number of the time, from 0 on, in two octets |
+//!
+//! | A gateway on the row's disk; the first three lines close the one that is open | |
+//! |---|---|
+//! | `open GATEWAY` | a gateway of this number is opened: the records that it read |
+//! | `open GATEWAY SECONDS PORT` | the same of one that advertises itself so often, to a port of host 0 |
+//! | `fail COUNT`, `fail sync` | the next append stops behind so many octets; or it goes out and its sync fails |
+//! | `slots` | the octets of both slots |
+//! | `state` | the records of its opening, whether it has halted, and how many clients it knows |
+//!
+//! | Calls of the gateway, each with its answer | |
+//! |---|---|
+//! | `frame PORT MOMENT OCTETS ..` | a datagram comes from a port of host 0 |
+//! | `take OCTETS ..` | the delta that they spell comes |
+//! | `tick MOMENT` | time goes by |
+//! | `view CLIENT` | somebody asks for a client's view |
+//! | `compact`, `reopen` | the journal is written anew; the gateway is opened again in place |
+//! | `thrice CALL` | one of these as a value, with the answer three times |
+//!
+//! Of an answer are printed the datagrams; the number of operations that were made; of a view its stamp, the duration of the session and
+//! how many messages wait. A refusal is printed by its number, as `N3`, with the answer that it brings.
+//!
+//! | Deliveries to a client, of which the gateway has a session, at port 7 of host 0 and moment 3; what is drafted is not carried out | |
+//! |---|---|
+//! | `deliver CLIENT`, `resend CLIENT` | what waits goes out; what was sent goes out again |
+//! | `hear CLIENT OCTETS ..` | the client answers a publication, or releases its own, by this frame |
+//! | `meaning CLIENT OCTETS ..` | what a publication is about with these flags, an octet, and this topic field, two octets: the topic, or a return code |
+//!
+//! Of a draft are printed how many changes of the session there are, the messages that are acknowledged, and the datagrams.
+//!
+//! | Digests, and a link | |
+//! |---|---|
+//! | `digest OCTETS ..` | of how many clients they spell a digest |
+//! | `beginnings OCTETS ..` | the same of each beginning of them but the whole |
+//! | `say hello GATEWAY`, `say digest OCTETS ..`, `say delta OCTETS ..` | a message goes out: all that went out in this row |
+//! | `within COUNT hello GATEWAY`, .. | a message goes to a writer that fails behind so many octets |
+//! | `feed OCTETS ..` | a piece comes in: the messages that are whole now, and the fault behind them |
+//!
+//! - `row`: what the lines of a row have brought about (`Row`), and the play of one more.
+//! - `fields`, `names`: lines that are read.
+//! - `gateways`, `calls`, `deliveries`, `links`: lines that are played.
+//! - `printing`: what is printed.
+//! - `stop`: why a line is not played.
+#![tactic(auto)]
+
+mod calls;
+mod deliveries;
+mod fields;
+mod gateways;
+mod links;
+mod names;
+mod printing;
+mod row;
+mod stop;
+
+use crate::names::Names;
+use crate::row::{Row, begin, play};
+use crate::stop::Stop;
+use anyhow::Result;
+use rep_model::Replica;
+use rep_plain::Plain;
+use std::alloc::Global;
+use std::io::{self, Write};
+
+fn main(rt: HostRuntime) -> Result<()> {
+    let alloc = rt.alloc();
+    let mut row: Row<Plain> = begin(alloc);
+    let mut names = names::none(alloc);
+    let mut printed = String::new(alloc);
+    for line in rt.lines(alloc) {
+        answer(alloc, &mut printed, &mut row, &mut names, line?.as_str())?;
+    }
+    io::writer(&rt).write_all(printed.as_bytes())?;
+    Ok(())
+}
+
+/// Plays a line; one that is none of the language is told.
+fn answer<R: Replica>(
+    alloc: Global,
+    text: &mut String,
+    row: &mut Row<R>,
+    names: &mut Names,
+    line: &str,
+) -> Result<(), Stop> {
+    if line.is_empty() || line.starts_with('#') {
+        return Ok(());
+    }
+    if let Some(name) = line.strip_prefix("== ") {
+        *row = begin(alloc);
+        return Ok(writeln!(text, "== {name}")?);
+    }
+    match play_line(alloc, text, row, names, line) {
+        Ok(()) => Ok(()),
+        Err(Stop::Line) => Ok(writeln!(text, "no such line: {line}")?),
+        Err(Stop::Memory) => Err(Stop::Memory),
+    }
+}
+
+/// Plays a line that is about names, or a row's.
+fn play_line<R: Replica>(
+    alloc: Global,
+    text: &mut String,
+    row: &mut Row<R>,
+    names: &mut Names,
+    line: &str,
+) -> Result<(), Stop> {
+    let words: Vec<&str> = line.split(' ').collect(alloc)?;
+    match words.as_slice() {
+        ["name", rest @ ..] => names::add(alloc, names, rest),
+        ["repeat", rest @ ..] => names::repeat(alloc, names, rest),
+        words => play(alloc, text, row, names, words),
+    }
+}
