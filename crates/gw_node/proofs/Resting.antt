@@ -1,5 +1,5 @@
 -- A tick that has nothing to do.
-use Rattle.std.proofs.Common.{◌≡◌, ℕ, ◌≤◌, false, true, List, [], Option, Some, Result, Ok, Err, IfOk, IfErr, refl, sym, ap, ◌∙◌, subst}
+use Rattle.std.proofs.Common.{◌≡◌, ℕ, ◌≤◌, false, true, List, [], Option, Some, None, Result, Ok, Err, IfOk, IfErr, refl, sym, ap, ◌∙◌, subst}
 use Rattle.rep_ops.specs.declared.op.Op.{Op}
 use Rattle.rep_ops.specs.Making.{AreApart}
 use Rattle.sn_flow.specs.declared.config.Config.{Config}
@@ -13,7 +13,7 @@ use Rattle.gw_node.specs.declared.out.Out.{Out}
 use Rattle.gw_node.specs.declared.refusal.Refusal.{Refusal}
 use Rattle.gw_node.specs.declared.refusal.Refusal.TheVariants as refusals
 use Rattle.gw_node.specs.Occasions.{Clock}
-use Rattle.gw_node.specs.Parts.{State, is_halted, IsUntouched, only_sends}
+use Rattle.gw_node.specs.Parts.{State, is_halted, IsUnchanged, IsUntouched, only_sends}
 use Rattle.gw_node.specs.Plans.{Makes}
 use Rattle.gw_node.specs.Calls.{OwnCall, IsDone}
 use Rattle.gw_node.specs.Handling.{IsIdleAt}

@@ -1,5 +1,5 @@
 -- A tick that has nothing to do, and one that may have.
-use Rattle.std.proofs.Common.{◌≡◌, false, sym, ap, ◌∙◌, subst, rules}
+use Rattle.std.proofs.Common.{◌≡◌, false, refl, sym, ap, ◌∙◌, subst, rules}
 use Rattle.gw_node.specs.Occasions.{Clock}
 use Rattle.gw_node.specs.Parts.{State, state_of, is_halted}
 use Rattle.gw_node.specs.Calls.{OwnCall}
