@@ -135,22 +135,6 @@ epoch_row c e = ap (λ es. largest (λ (name : Stamp × ℕ). name.0.epoch) (nam
 
 -- ---- lists of entries
 
-pub any_plain : (test : List ℕ × Entry → Bool) (xs : List (Vec ℕ Global × Entry)) → list_any (λ (x : Vec ℕ Global × Entry). test (x.0.items, x.1)) xs ≡ list_any test (map (λ e. (e.0.items, e.1)) xs)
-any_plain test [] = refl
-any_plain test (x ∷ xs) = ap (λ b. test (x.0.items, x.1) || b) (any_plain test xs)
-
-unnamed_length : (test : List ℕ → Bool) (xs : List (Vec ℕ Global × Entry)) → length (filter (λ (x : Vec ℕ Global × Entry). test x.0.items) xs) ≡ length (filter (λ (row : List ℕ × List Op). test row.0) (rows_of (plain_of xs)))
-unnamed_length test [] = refl
-unnamed_length test (x ∷ xs) = elim (test x.0.items) as (λ b. length (cond b (x ∷ filter (λ (x : Vec ℕ Global × Entry). test x.0.items) xs) (filter (λ (x : Vec ℕ Global × Entry). test x.0.items) xs)) ≡ length (cond b ((x.0.items, row_of x.0.items x.1) ∷ filter (λ (row : List ℕ × List Op). test row.0) (rows_of (plain_of xs))) (filter (λ (row : List ℕ × List Op). test row.0) (rows_of (plain_of xs))))) [
-  | true ↦ ap suc (unnamed_length test xs)
-  | false ↦ unnamed_length test xs
-]
-
-pub count_rows : (test : List ℕ → Bool) (xs : List (Vec ℕ Global × Entry)) → count_by (λ (x : Vec ℕ Global × Entry). test x.0.items) xs ≡ count_by (λ (row : List ℕ × List Op). test row.0) (rows_of (plain_of xs))
-count_rows test xs = sym (length-filter (λ (x : Vec ℕ Global × Entry). test x.0.items) xs) ∙ unnamed_length test xs ∙ length-filter (λ (row : List ℕ × List Op). test row.0) (rows_of (plain_of xs))
-
--- ---- the entry that a look-up finds
-
 pub own_found : (c : List ℕ) (es : List (List ℕ × Entry)) (o : Option Entry) → o ≡ find client_cmp c es → or_nothing (option_map (row_of c) o) ≡ own c (rows_of es)
 own_found c es o h = ap (λ o. or_nothing (option_map (row_of c) o)) h ∙ sym (ap or_nothing (find_rows c es))
 
