@@ -21,7 +21,6 @@ use Rattle.sn_session.proofs.Places.{with_at, with_gap}
 use Rattle.rep_state.specs.declared.entry.Entry.{Entry}
 use Rattle.rep_state.specs.declared.places.Place.{Place}
 use Rattle.rep_state.specs.Tables.{plain_of, by_client, arrivals, place_cmp, names_at, ArePlaces}
-use Rattle.rep_state.proofs.Rows.{found_by_client}
 
 pub same_some : {A : Type 0} (x y : A) → Some x ≡ Some y → x ≡ y
 same_some x y e = ap (λ o. unwrap_or o x) e

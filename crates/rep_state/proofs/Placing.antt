@@ -1,7 +1,6 @@
 -- Places in the table, and moves into them.
-use Rattle.std.proofs.Common.{◌≡◌, ℕ, true, false, cond, List, [], ◌∷◌, ◌++◌, length, Option, Some, None, is_some, IsSome, T, refl, sym, ap, ◌∙◌, subst, arith, Less, Equal, Greater, is_eq, true≢false, Vec, Global}
+use Rattle.std.proofs.Common.{◌≡◌, ℕ, true, false, cond, List, [], ◌∷◌, ◌++◌, length, Option, Some, None, is_some, IsSome, T, refl, sym, ap, ◌∙◌, subst, arith, Less, Equal, Greater, is_eq, true≢false}
 use Rattle.std.specs.Option.{option_map}
-use Rattle.std.specs.List.{AllByRecursion}
 use Rattle.std.specs.Ordering.{eq_by_cmp}
 use Rattle.std.specs.Cmp.{tied_itself}
 use Rattle.std.specs.FinMap.{find, put, is_sorted}
@@ -10,14 +9,12 @@ use Rattle.rep_ops.specs.declared.op.Op.{Op}
 use Rattle.rep_ops.specs.Orders.{client_cmp}
 use Rattle.rep_model.specs.Limits.{parked, exceptions}
 use Rattle.rep_model.proofs.Readers.{client_total, client_exact}
-use Rattle.rep_model.proofs.Joins.{all-both, all-weaker}
 use Rattle.rep_plain.specs.Rows.{flat, own, or_nothing, moved, has_any, count_named}
 use Rattle.rep_plain.specs.Steps.{capped}
-use Rattle.rep_plain.specs.Tables.{HaveRoom}
 use Rattle.rep_plain.proofs.Flat.{all_put, count_put, moved_last, one_if}
 use Rattle.rep_state.specs.declared.entry.Entry.{Entry}
 use Rattle.rep_state.specs.Entries.{row_of, IsEntry}
-use Rattle.rep_state.specs.Tables.{plain_of, rows_of, IsKept, AreKept, IsRoomier}
+use Rattle.rep_state.specs.Tables.{rows_of, IsKept, AreKept, IsRoomier}
 use Rattle.rep_state.proofs.Rows.{find_rows, rows_put, table_rows}
 
 pub roomier_itself : (es : List (List ℕ × Entry)) → IsRoomier es es

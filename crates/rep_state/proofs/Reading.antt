@@ -1,5 +1,5 @@
 -- What is read off the entry of a client.
-use Rattle.std.proofs.Common.{◌≡◌, ℕ, ◌+◌, max, Bool, true, false, not, cond, ◌==◌, ◌&&◌, ◌||◌, if◌then◌else◌, List, [], ◌∷◌, ◌++◌, map, filter, suc, length, count_by, Option, Some, T, refl, sym, ap, ◌∙◌, subst, arith, le-leb, eqb-true, nat_cmp, Vec, Global}
+use Rattle.std.proofs.Common.{◌≡◌, ℕ, ◌+◌, max, Bool, true, false, not, cond, ◌==◌, ◌&&◌, ◌||◌, if◌then◌else◌, List, [], ◌∷◌, ◌++◌, map, length, Option, Some, T, refl, sym, ap, ◌∙◌, subst, arith, le-leb, eqb-true, nat_cmp, Vec, Global}
 use Rattle.std.specs.List.{list_any, AllByRecursion}
 use Rattle.std.specs.Option.{option_map}
 use Rattle.std.specs.Cmp.{unsigned_tied}
@@ -17,11 +17,10 @@ use Rattle.rep_model.specs.Fresh.{largest, seq_of, greatest_epoch}
 use Rattle.rep_model.specs.Ranges.{AreApartFrom}
 use Rattle.rep_model.specs.Views.{names}
 use Rattle.std.specs.Ordering.{is_eq}
-use Rattle.std.proofs.lemmas.List.Sums.{length-filter}
 use Rattle.rep_ops.specs.Orders.{put_cmp}
 use Rattle.rep_plain.specs.Rows.{own, or_nothing, has_any}
 use Rattle.rep_state.proofs.Rows.{find_rows}
-use Rattle.rep_state.specs.Tables.{plain_of, rows_of}
+use Rattle.rep_state.specs.Tables.{rows_of}
 use Rattle.rep_plain.proofs.Flat.{find_below}
 use Rattle.rep_state.specs.declared.entry.Entry.{Entry}
 use Rattle.rep_state.specs.Mail.{Range, name_of, put_named}

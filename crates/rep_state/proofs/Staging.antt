@@ -1,33 +1,31 @@
 -- What is staged of each client, and the entries that it makes.
-use Rattle.std.proofs.Common.{◌≡◌, ℕ, suc, ◌+◌, ◌==◌, ◌≤◌, true≢false, Bool, true, false, not, cond, ◌&&◌, ◌||◌, nat_lt, List, [], ◌∷◌, ◌++◌, map, filter, length, count_by, Option, Some, None, is_some, IsSome, IsTrue, T, refl, sym, ap, ◌∙◌, subst, arith, Ordering, Less, Equal, Greater, Vec, Global}
+use Rattle.std.proofs.Common.{◌≡◌, ℕ, suc, ◌+◌, ◌==◌, ◌≤◌, eqb-true, Bool, true, false, cond, ◌&&◌, ◌||◌, nat_lt, List, [], ◌∷◌, ◌++◌, filter, length, count_by, Option, Some, None, is_some, IsSome, IsTrue, T, refl, sym, ap, ◌∙◌, subst, arith, Ordering, Less, Equal, Greater, Vec, Global}
 use Rattle.std.specs.List.{AllByRecursion, list_any}
 use Rattle.std.specs.Option.{option_map}
 use Rattle.std.specs.Ordering.{is_lt, is_eq, eq_by_cmp}
 use Rattle.std.specs.FinMap.{find, put, is_sorted}
 use Rattle.std.specs.FinMap.Entries.{below_all, find-put}
+use Rattle.std.proofs.lemmas.List.{length-append}
 use Rattle.std.proofs.lemmas.List.Elements.{filter-append}
 use Rattle.std.proofs.lemmas.List.Sums.{length-filter}
 use Rattle.rep_ops.specs.declared.op.Put.{Put}
 use Rattle.rep_ops.specs.declared.op.Op.{Op}
 use Rattle.rep_ops.specs.Orders.{client_cmp}
-use Rattle.rep_ops.specs.Sets.{puts}
 use Rattle.rep_ops.specs.WellMade.{is_put}
-use Rattle.rep_model.proofs.Joins.{all-weaker}
 use Rattle.rep_model.proofs.Readers.{client_total, client_exact}
-use Rattle.rep_model.specs.Limits.{exceptions}
-use Rattle.rep_plain.specs.Rows.{own, or_nothing, has_any, moved, count_new}
+use Rattle.rep_plain.specs.Rows.{own, or_nothing, moved}
 use Rattle.rep_plain.specs.Steps.{capped}
 use Rattle.rep_plain.specs.Tables.{passed_of}
 use Rattle.rep_plain.proofs.Flat.{all_put}
 use Rattle.rep_plain.proofs.Prepared.{all_filter}
 use Rattle.rep_state.specs.declared.entry.Entry.{Entry}
 use Rattle.rep_state.specs.declared.change.Change.{Change}
-use Rattle.rep_state.specs.Mail.{Rising, NoneCovered, is_left, front_before, rest_from, weave}
+use Rattle.rep_state.specs.Mail.{Rising, is_left, front_before, rest_from, weave}
 use Rattle.rep_state.specs.Origins.{ranges_in}
 use Rattle.rep_state.specs.Entries.{AreMade, IsEntry, messages, row_of}
 use Rattle.rep_state.specs.Groups.{waiting_of, or_no_message}
 use Rattle.rep_state.specs.Tables.{rows_of, IsKept, AreKept, IsRoomier, passed_by, too_many_pending, too_many_parked, too_many_exceptions}
-use Rattle.rep_state.specs.Staging.{left_after, applied, staged_of, future, IsChange, IsFit, plan_of, plans, waiting_in, planned, planned_row, IsReady, AreReady, AreMovable, HaveRoom, IsWorkedOut, AreWorkedOut, AreStaged}
+use Rattle.rep_state.specs.Staging.{left_after, applied, staged_of, future, IsChange, IsFit, plan_of, plans, waiting_in, planned, IsReady, AreReady, AreMovable, HaveRoom, AreWorkedOut, AreStaged}
 use Rattle.rep_state.proofs.Client.{kept_puts}
 use Rattle.rep_state.proofs.Rising.{front_rest, rising_weave, weave_all, values_named}
 use Rattle.rep_state.proofs.Changes.{none_covered}
@@ -39,15 +37,17 @@ use Rattle.rep_state.proofs.Placing.{move_last}
 -- ---- how many are left
 
 long_both : {A : Type 0} (xs ys : List A) → length (xs ++ ys) ≡ length xs + length ys
-long_both [] ys = omega arith
-long_both (x ∷ xs) ys = let rest = long_both xs ys in omega (arith, rest)
+long_both xs ys = length-append xs ys
+
+none_before : (n : ℕ) → n ≡ 0 + n
+none_before n = omega arith
 
 module _ (test : Put → Bool) where
   left_both : (xs ys : List Put) → length (filter test (xs ++ ys)) ≡ length (filter test xs) + length (filter test ys)
   left_both xs ys = ap length (filter-append test xs ys) ∙ long_both (filter test xs) (filter test ys)
 
   pub weave_count : (ps ns : List Put) → length (filter test (weave ps ns)) ≡ length (filter test ps) + length (filter test ns)
-  weave_count [] ns = omega arith
+  weave_count [] ns = none_before (length (filter test ns))
   weave_count (p ∷ ps) ns =
       let rest = weave_count ps (rest_from p ns) in
       let new = sym (left_both (front_before p ns) (rest_from p ns)) ∙ ap (λ xs. length (filter test xs)) (front_rest p ns) in
@@ -58,15 +58,18 @@ module _ (test : Put → Bool) where
       ]
 
 pub weave_long : (ps ns : List Put) → length (weave ps ns) ≡ length ps + length ns
-weave_long [] ns = omega arith
+weave_long [] ns = none_before (length ns)
 weave_long (p ∷ ps) ns =
     let rest = weave_long ps (rest_from p ns) in
     let new = sym (long_both (front_before p ns) (rest_from p ns)) ∙ ap length (front_rest p ns) in
     long_both (front_before p ns) (p ∷ weave ps (rest_from p ns)) ∙ omega (arith, rest, new)
 
+no_zero : (n : ℕ) → suc n ≡ 0 → ⊥
+no_zero n h = omega (arith, h)
+
 pub empty_woven : (ps ns : List Put) → (length ns == 0) ≡ true → ps ≡ weave ps ns
 empty_woven ps [] e = sym (weave_none ps)
-empty_woven ps (n ∷ ns) e = absurd (true≢false (sym e))
+empty_woven ps (n ∷ ns) e = absurd (no_zero (length ns) (eqb-true (suc (length ns)) 0 e))
 
 -- ---- the entry that a change makes
 

@@ -1,5 +1,5 @@
 -- What is staged of each client that a delta names.
-use Rattle.std.specs.Prelude.{◌≡◌, ℕ, ◌+◌, ◌==◌, ◌≤◌, Bool, true, false, List, map, filter, length, vec_capacity, count_by, Option, is_some, IsSome, T, Vec, []}
+use Rattle.std.specs.Prelude.{◌≡◌, ℕ, ◌+◌, ◌==◌, ◌≤◌, Bool, true, false, List, map, filter, length, vec_capacity, count_by, is_some, IsSome, T, Vec, []}
 use Rattle.std.specs.Global.{Global}
 use Rattle.std.specs.List.{AllByRecursion}
 use Rattle.std.specs.Map.{keys_of}

@@ -1,7 +1,6 @@
-use Rattle.std.proofs.Common.{◌≡◌, ◌++◌, ◌∷◌, [], refl, sym, ap, subst, ◌∙◌, List, ℕ, is_some}
+use Rattle.std.proofs.Common.{◌≡◌, refl, sym, ap, subst, ◌∙◌, List, ℕ, is_some}
 use Rattle.std.specs.FinMap.{find, put}
 use Rattle.rep_ops.specs.Orders.{client_cmp}
-use Rattle.rep_state.specs.declared.change.Change.{Change}
 use Rattle.rep_state.specs.Tables.{by_client}
 use Rattle.rep_state.specs.Groups.{waiting_of}
 use Rattle.rep_state.specs.Staging.{staged_of, applied, IsReady, plan_of}

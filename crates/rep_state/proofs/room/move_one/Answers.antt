@@ -1,9 +1,9 @@
-use Rattle.std.proofs.Common.{◌≡◌, true, is_some, None, true≢false, sym, ap, subst, ◌∙◌, List, ℕ}
+use Rattle.std.proofs.Common.{◌≡◌, is_some, None, true≢false, sym, ap, subst, ◌∙◌, List}
 use Rattle.std.specs.FinMap.{find, put}
 use Rattle.rep_ops.specs.Orders.{client_cmp}
 use Rattle.rep_ops.specs.declared.op.Put.{Put}
 use Rattle.rep_state.specs.Tables.{by_client}
-use Rattle.rep_state.specs.Groups.{waiting_of, or_no_message}
+use Rattle.rep_state.specs.Groups.{or_no_message}
 use Rattle.rep_state.specs.Staging.{applied, IsFit, plan_of}
 use Rattle.rep_state.proofs.Rows.{written_by_client, found_by_client}
 use Rattle.rep_state.proofs.Indexed.{places_written}

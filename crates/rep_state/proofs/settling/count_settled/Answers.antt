@@ -13,7 +13,7 @@ returns-then-not-told c =
     let ps = c.args.waiting.now in
     let ns = c.args.news.now in
     let all = ap length (left_all rs (weave ps ns) (h c.if-not-told.true)) ∙ weave_long ps ns in
-    subst (λ (n : ℕ). IfOk c.sum.result (λ count. count ≡ n)) ((λ i. c.len.ensures i + c.len-2.ensures i) ∙ sym all) c.sum.ensures
+    subst (λ (n : ℕ). IfOk c.sum.result (λ count. count ≡ n)) (sym all) c.sum.ensures
 
 pub returns : goal.returns
 returns c =
