@@ -23,7 +23,7 @@ use Rattle.rep_state.proofs.Passing.{AreFresh, first_passed_after}
 -- ---- the fresh entries, where their rows are those of the delta
 
 module _ (es : List (List ℕ × Entry)) (n : ℕ) (t : IsTable es n) (D : List Op) (fs : List (List ℕ × Entry)) (h : AreFresh fs) (rows : AreRowsOf es D (rows_of fs)) where
-  own_room : (room : List (List ℕ × Entry)) → IsRoomier es room → (c : List ℕ) → own c (rows_of room) ≡ own c (rows_of es)
+  pub own_room : (room : List (List ℕ × Entry)) → IsRoomier es room → (c : List ℕ) → own c (rows_of room) ≡ own c (rows_of es)
   own_room room r c = sym (of_flat c (rows_of room) (table_rows room n (r.table n t))) ∙ ap (of_client c) r.same ∙ of_flat c (rows_of es) (table_rows es n t)
 
   -- the set that is kept after the commit is what must be kept of all

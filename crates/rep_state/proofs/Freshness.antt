@@ -13,9 +13,9 @@ use Rattle.rep_model.specs.Views.{in_order}
 use Rattle.rep_model.proofs.Lookup.{or_else}
 use Rattle.rep_model.proofs.Readers.{put_total, put_exact}
 use Rattle.rep_plain.proofs.Flat.{all_put}
-use Rattle.rep_state.specs.Mail.{name_of, Above, Rising, named_puts, put_named, InOne, weave}
-use Rattle.rep_state.specs.Entries.{AreUnderNames, AreMade, messages}
-use Rattle.rep_state.proofs.Rising.{IsApart, AreApart}
+use Rattle.rep_state.specs.Mail.{Range, name_of, covers, Above, Rising, NoneCovered, named_puts, put_named, InOne, weave}
+use Rattle.rep_state.specs.Entries.{AreUnderNames, AreMade, NoneCoveredBelow, messages}
+use Rattle.rep_state.proofs.Rising.{IsApart, AreApart, weave_all}
 
 first : (a b : Bool) → T (a && b) → T a
 first true b p = tt
@@ -114,6 +114,18 @@ no_some : {X : Type 0} (o : Option X) → is_some o ≡ false → o ≡ None
 no_some None e = refl
 no_some (Some x) e = absurd (true≢false e)
 
+pub not_covered : (cov : Bool) (x y : Option Put) → ((cov || is_some x) || is_some y) ≡ false → cov ≡ false
+not_covered true x y e = absurd (true≢false e)
+not_covered false x y e = refl
+
+none_messages : (rs : List Range) (es : List ((ℕ × ℕ) × Put)) → NoneCoveredBelow rs es → NoneCovered rs (messages es)
+none_messages rs [] h = tt
+none_messages rs (e ∷ es) h = (h.0, none_messages rs es h.1)
+
+-- none that waits and none that is new is acknowledged
+pub none_woven : (rs : List Range) (ps : List Put) (es : List ((ℕ × ℕ) × Put)) → NoneCovered rs ps → NoneCoveredBelow rs es → NoneCovered rs (weave ps (messages es))
+none_woven rs ps es waits comes = weave_all (λ p. list_any (covers (name_of p)) rs ≡ false) ps (messages es) waits (none_messages rs es comes)
+
 pub not_there : (cov : Bool) (x y : Option Put) → ((cov || is_some x) || is_some y) ≡ false → (x ≡ None) × (y ≡ None)
 not_there true x y e = absurd (true≢false e)
 not_there false (Some p) y e = absurd (true≢false e)
@@ -128,6 +140,9 @@ module _ (ps : List Put) (es new : List ((ℕ × ℕ) × Put)) (p : Put) (under 
 
   pub made_more : IsTrue (is_put p) → AllByRecursion (λ (e : (ℕ × ℕ) × Put). IsTrue (is_put e.1)) es → AllByRecursion (λ (e : (ℕ × ℕ) × Put). IsTrue (is_put e.1)) new
   made_more own h = subst (AllByRecursion (λ (e : (ℕ × ℕ) × Put). IsTrue (is_put e.1))) (sym is) (all_put put_cmp put_exact (λ k v. IsTrue (is_put v)) (name_of p) p es own h)
+
+  pub none_more : (rs : List Range) → list_any (covers (name_of p)) rs ≡ false → NoneCoveredBelow rs es → NoneCoveredBelow rs new
+  none_more rs own h = subst (NoneCoveredBelow rs) (sym is) (all_put put_cmp put_exact (λ k v. list_any (covers (name_of v)) rs ≡ false) (name_of p) p es own h)
 
   pub found_more : (q : ℕ × ℕ) → put_named q (messages new) ≡ cond (eq_by_cmp put_cmp q (name_of p)) (Some p) (put_named q (messages es))
   found_more q = found_message q new under_more ∙ ap (find put_cmp q) is ∙ find-put put_cmp put_total q (name_of p) p es ∙ ap (cond (eq_by_cmp put_cmp q (name_of p)) (Some p)) (sym (found_message q es under))

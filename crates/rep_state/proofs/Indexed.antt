@@ -6,7 +6,7 @@ use Rattle.std.specs.Option.{option_map, unwrap_or}
 use Rattle.std.specs.Ordering.{is_lt, ordering_reverse}
 use Rattle.std.specs.Cmp.{IsTotalOrder, on_total}
 use Rattle.std.specs.List.{AllByRecursion, slice_get}
-use Rattle.std.specs.Map.{lookup, keys_of}
+use Rattle.std.specs.Map.{lookup, keys_of, set_value}
 use Rattle.std.specs.FinMap.{find, put, is_sorted}
 use Rattle.std.specs.FinMap.Entries.{below_all, by_order, length-put}
 use Rattle.std.specs.Prelude.{bytes_eq}
@@ -21,7 +21,6 @@ use Rattle.sn_session.proofs.Places.{with_at, with_gap}
 use Rattle.rep_state.specs.declared.entry.Entry.{Entry}
 use Rattle.rep_state.specs.declared.places.Place.{Place}
 use Rattle.rep_state.specs.Tables.{plain_of, by_client, arrivals, place_cmp, names_at, ArePlaces}
-use Rattle.rep_state.proofs.Rows.{found_by_client}
 
 pub same_some : {A : Type 0} (x y : A) → Some x ≡ Some y → x ≡ y
 same_some x y e = ap (λ o. unwrap_or o x) e
@@ -136,14 +135,6 @@ places_with es new places so k x p h none is at name index more =
 
 -- ---- an entry in its place
 
-came_before : (k : Vec ℕ Global) (x : Entry) (es : List (Vec ℕ Global × Entry)) → IsSome (lookup (λ (j : Vec ℕ Global). bytes_eq k.items j.items) es) → arrivals (insert_entry (λ (a b : Vec ℕ Global). bytes_eq a.items b.items) es k x) ≡ arrivals es
-came_before k x [] h = absurd (true≢false (sym h))
-came_before k x (e ∷ es) h =
-    elim (bytes_eq k.items e.0.items) as (λ b. IsSome (cond b (Some e.1) (lookup (λ (j : Vec ℕ Global). bytes_eq k.items j.items) es)) → arrivals (if b then (e.0, x) ∷ es else e ∷ insert_entry (λ (a b : Vec ℕ Global). bytes_eq a.items b.items) es k x) ≡ e.0.items ∷ arrivals es) [
-      | true ↦ λ _. refl
-      | false ↦ λ there. ap (λ rest. e.0.items ∷ rest) (came_before k x es there)
-    ] h
-
 both_parts : (a b : Bool) → T (a && b) → T b
 both_parts true b h = h
 both_parts false b h = absurd h
@@ -162,16 +153,23 @@ keys_there c x (e ∷ es) sorted h =
     longer : (n : ℕ) → suc (suc n) ≡ suc n → ⊥
     longer n h = omega (arith, h)
 
-pub places_kept : (es new : List (Vec ℕ Global × Entry)) (places : List Place) (k : Vec ℕ Global) (x : Entry)
+came_before_write : (test : Vec ℕ Global → Bool) (x : Entry) (es : List (Vec ℕ Global × Entry)) → arrivals (set_value test es x) ≡ arrivals es
+came_before_write test x [] = refl
+came_before_write test x (e ∷ es) = elim (test e.0) as (λ b. arrivals (cond b ((e.0, x) ∷ es) (e ∷ set_value test es x)) ≡ e.0.items ∷ arrivals es) [
+  | true ↦ refl
+  | false ↦ ap (λ rest. e.0.items ∷ rest) (came_before_write test x es)
+]
+
+pub places_written : (es new : List (Vec ℕ Global × Entry)) (places : List Place) (c : List ℕ) (x : Entry) (test : Vec ℕ Global → Bool)
     → ArePlaces es places
-    → IsSome (find client_cmp k.items (by_client es))
-    → new ≡ insert_entry (λ (a b : Vec ℕ Global). bytes_eq a.items b.items) es k x
-    → by_client new ≡ put client_cmp k.items x (by_client es)
+    → IsSome (find client_cmp c (by_client es))
+    → new ≡ set_value test es x
+    → by_client new ≡ put client_cmp c x (by_client es)
     → ArePlaces new places
-places_kept es new places k x h there is at =
-    let same : arrivals new ≡ arrivals es = ap arrivals is ∙ came_before k x es (ap is_some (found_by_client k.items es) ∙ there) in
+places_written es new places c x test h there is at =
+    let same : arrivals new ≡ arrivals es = ap arrivals is ∙ came_before_write test x es in
     record {
-      names = h.names ∙ sym (ap keys_of at ∙ keys_there k.items x (by_client es) (in_order es) there);
+      names = h.names ∙ sym (ap keys_of at ∙ keys_there c x (by_client es) (in_order es) there);
       each = subst (λ ks. AllByRecursion (λ (q : Place). slice_get ks q.index ≡ Some q.name) places) (sym same) h.each;
     }
 

@@ -17,6 +17,7 @@ pub mod Groups
 pub mod Fitting
 pub mod Empty
 pub mod Placing
+pub mod Staging
 pub mod Reading
 pub mod Working
 pub mod Walking

@@ -1,7 +1,6 @@
 -- Places in the table, and moves into them.
-use Rattle.std.proofs.Common.{◌≡◌, ℕ, true, false, cond, List, [], ◌∷◌, ◌++◌, length, Option, Some, None, is_some, IsSome, T, refl, sym, ap, ◌∙◌, subst, arith, Less, Equal, Greater, is_eq, true≢false, Vec, Global}
+use Rattle.std.proofs.Common.{◌≡◌, ℕ, true, false, cond, List, [], ◌∷◌, ◌++◌, length, Option, Some, None, is_some, IsSome, T, refl, sym, ap, ◌∙◌, subst, arith, Less, Equal, Greater, is_eq, true≢false}
 use Rattle.std.specs.Option.{option_map}
-use Rattle.std.specs.List.{AllByRecursion}
 use Rattle.std.specs.Ordering.{eq_by_cmp}
 use Rattle.std.specs.Cmp.{tied_itself}
 use Rattle.std.specs.FinMap.{find, put, is_sorted}
@@ -10,14 +9,12 @@ use Rattle.rep_ops.specs.declared.op.Op.{Op}
 use Rattle.rep_ops.specs.Orders.{client_cmp}
 use Rattle.rep_model.specs.Limits.{parked, exceptions}
 use Rattle.rep_model.proofs.Readers.{client_total, client_exact}
-use Rattle.rep_model.proofs.Joins.{all-both, all-weaker}
 use Rattle.rep_plain.specs.Rows.{flat, own, or_nothing, moved, has_any, count_named}
 use Rattle.rep_plain.specs.Steps.{capped}
-use Rattle.rep_plain.specs.Tables.{HaveRoom}
 use Rattle.rep_plain.proofs.Flat.{all_put, count_put, moved_last, one_if}
 use Rattle.rep_state.specs.declared.entry.Entry.{Entry}
 use Rattle.rep_state.specs.Entries.{row_of, IsEntry}
-use Rattle.rep_state.specs.Tables.{plain_of, rows_of, IsKept, AreKept, IsRoomier, AreMovable}
+use Rattle.rep_state.specs.Tables.{rows_of, IsKept, AreKept, IsRoomier}
 use Rattle.rep_state.proofs.Rows.{find_rows, rows_put, table_rows}
 
 pub roomier_itself : (es : List (List ℕ × Entry)) → IsRoomier es es
@@ -97,23 +94,11 @@ pub none_there : {X : Type 0} (o : Option X) → is_some o ≡ false → o ≡ N
 none_there None h = refl
 none_there (Some x) h = absurd (true≢false h)
 
--- room for one more
-pub room_more : (old new : List (List ℕ × Entry)) (done : List (List ℕ × List Op)) (row : List ℕ × List Op) → IsRoomier old new → HaveRoom (rows_of old) done → IsSome (find client_cmp row.0 (rows_of new)) → HaveRoom (rows_of new) (done ++ row ∷ [])
-room_more old new done row h room here = all-both (λ (row : List ℕ × List Op). IsSome (find client_cmp row.0 (rows_of new))) done (row ∷ []) (all-weaker (λ (row : List ℕ × List Op). IsSome (find client_cmp row.0 (rows_of old))) (λ (row : List ℕ × List Op). IsSome (find client_cmp row.0 (rows_of new))) (λ row s. h.found row.0 s) done room) (here, tt)
-
 -- ---- moves
-
-pub plain_last : (fs : List (Vec ℕ Global × Entry)) (f : Vec ℕ Global × Entry) → plain_of (fs ++ f ∷ []) ≡ plain_of fs ++ (f.0.items, f.1) ∷ []
-plain_last [] f = refl
-plain_last (x ∷ fs) f = ap (λ rest. (x.0.items, x.1) ∷ rest) (plain_last fs f)
 
 pub rows_last : (fs : List (List ℕ × Entry)) (f : List ℕ × Entry) → rows_of (fs ++ f ∷ []) ≡ rows_of fs ++ (f.0, row_of f.0 f.1) ∷ []
 rows_last [] f = refl
 rows_last (x ∷ fs) f = ap (λ rest. (x.0, row_of x.0 x.1) ∷ rest) (rows_last fs f)
-
-all_front : {A : Type 0} (P : A → Type 0) (xs : List A) (x : A) → AllByRecursion P (xs ++ x ∷ []) → AllByRecursion P xs × P x
-all_front P [] x h = (tt, h.0)
-all_front P (y ∷ xs) x h = let rest = all_front P xs x h.1 in ((h.0, rest.0), rest.1)
 
 -- the last of the fresh entries goes to its place
 pub move_last : (es new fs rest : List (List ℕ × Entry)) (c : List ℕ) (e : Entry) → fs ≡ rest ++ (c, e) ∷ [] → new ≡ put client_cmp c e es → moved (rows_of new) (rows_of rest) ≡ moved (rows_of es) (rows_of fs)
@@ -121,29 +106,3 @@ move_last es new fs rest c e all is =
     ap (λ es. moved (rows_of es) (rows_of rest)) is
     ∙ ap (λ rows. moved rows (rows_of rest)) (rows_put c e es)
     ∙ sym (ap (λ fs. moved (rows_of es) (rows_of fs)) all ∙ ap (moved (rows_of es)) (rows_last rest (c, e)) ∙ moved_last (rows_of es) (rows_of rest) (c, row_of c e))
-
-pub room_left : (es new fs rest : List (List ℕ × Entry)) (c : List ℕ) (e : Entry) → fs ≡ rest ++ (c, e) ∷ [] → new ≡ put client_cmp c e es → HaveRoom (rows_of es) (rows_of fs) → HaveRoom (rows_of new) (rows_of rest)
-room_left es new fs rest c e all is h =
-    let front = all_front (λ (row : List ℕ × List Op). IsSome (find client_cmp row.0 (rows_of es))) (rows_of rest) (c, row_of c e) (subst (HaveRoom (rows_of es)) (ap rows_of all ∙ rows_last rest (c, e)) h) in
-    let rows : rows_of new ≡ put client_cmp c (row_of c e) (rows_of es) = ap rows_of is ∙ rows_put c e es in
-    subst (λ rows. HaveRoom rows (rows_of rest)) (sym rows)
-    (all-weaker (λ (row : List ℕ × List Op). IsSome (find client_cmp row.0 (rows_of es))) (λ (row : List ℕ × List Op). IsSome (find client_cmp row.0 (put client_cmp c (row_of c e) (rows_of es)))) (λ row s. found_put row.0 c (row_of c e) (rows_of es) s) (rows_of rest) front.0)
-
--- the last of the fresh clients has a place
-pub room_last : (es fs rest : List (List ℕ × Entry)) (c : List ℕ) (e : Entry) → fs ≡ rest ++ (c, e) ∷ [] → HaveRoom (rows_of es) (rows_of fs) → IsSome (find client_cmp c es)
-room_last es fs rest c e all h =
-    let front = all_front (λ (row : List ℕ × List Op). IsSome (find client_cmp row.0 (rows_of es))) (rows_of rest) (c, row_of c e) (subst (HaveRoom (rows_of es)) (ap rows_of all ∙ rows_last rest (c, e)) h) in
-    mapped (find client_cmp c es) (subst (λ o. IsSome o) (find_rows c es) front.1)
-  where
-    mapped : (o : Option Entry) → IsSome (option_map (row_of c) o) → IsSome o
-    mapped None h = h
-    mapped (Some e) h = refl
-
-pub movable_left : (es new fs rest : List (List ℕ × Entry)) (c : List ℕ) (e : Entry) → fs ≡ rest ++ (c, e) ∷ [] → new ≡ put client_cmp c e es → AreMovable es fs → AreMovable new rest
-movable_left es new fs rest c e all at h =
-    let front = all_front (λ (f : List ℕ × Entry). IsKept f.0 f.1) rest (c, e) (subst AreKept all h.fresh_each) in
-    record {
-      sorted = subst (λ es. T (is_sorted client_cmp es)) (sym at) (is_sorted-put client_cmp client_total c e es h.sorted);
-      each = subst AreKept (sym at) (all_put client_cmp client_exact IsKept c e es front.1 h.each);
-      fresh_each = front.0;
-    }

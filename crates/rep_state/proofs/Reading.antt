@@ -1,5 +1,5 @@
 -- What is read off the entry of a client.
-use Rattle.std.proofs.Common.{◌≡◌, ℕ, ◌+◌, max, Bool, true, false, not, cond, ◌==◌, ◌&&◌, ◌||◌, if◌then◌else◌, List, [], ◌∷◌, ◌++◌, map, filter, suc, length, count_by, Option, Some, T, refl, sym, ap, ◌∙◌, subst, arith, le-leb, eqb-true, nat_cmp, Vec, Global}
+use Rattle.std.proofs.Common.{◌≡◌, ℕ, ◌+◌, max, Bool, true, false, not, cond, ◌==◌, ◌&&◌, ◌||◌, if◌then◌else◌, List, [], ◌∷◌, ◌++◌, map, length, Option, Some, T, refl, sym, ap, ◌∙◌, subst, arith, le-leb, eqb-true, nat_cmp, Vec, Global}
 use Rattle.std.specs.List.{list_any, AllByRecursion}
 use Rattle.std.specs.Option.{option_map}
 use Rattle.std.specs.Cmp.{unsigned_tied}
@@ -17,11 +17,10 @@ use Rattle.rep_model.specs.Fresh.{largest, seq_of, greatest_epoch}
 use Rattle.rep_model.specs.Ranges.{AreApartFrom}
 use Rattle.rep_model.specs.Views.{names}
 use Rattle.std.specs.Ordering.{is_eq}
-use Rattle.std.proofs.lemmas.List.Sums.{length-filter}
 use Rattle.rep_ops.specs.Orders.{put_cmp}
 use Rattle.rep_plain.specs.Rows.{own, or_nothing, has_any}
 use Rattle.rep_state.proofs.Rows.{find_rows}
-use Rattle.rep_state.specs.Tables.{plain_of, rows_of}
+use Rattle.rep_state.specs.Tables.{rows_of}
 use Rattle.rep_plain.proofs.Flat.{find_below}
 use Rattle.rep_state.specs.declared.entry.Entry.{Entry}
 use Rattle.rep_state.specs.Mail.{Range, name_of, put_named}
@@ -134,22 +133,6 @@ pub epoch_row : (c : List ℕ) (e : Entry) → greatest_epoch c (row_of c e) ≡
 epoch_row c e = ap (λ es. largest (λ (name : Stamp × ℕ). name.0.epoch) (names es)) (kept_operations c e.known.entries e.seen.pending (ranges_in e.acks)) ∙ names_keys e.known.entries
 
 -- ---- lists of entries
-
-pub any_plain : (test : List ℕ × Entry → Bool) (xs : List (Vec ℕ Global × Entry)) → list_any (λ (x : Vec ℕ Global × Entry). test (x.0.items, x.1)) xs ≡ list_any test (map (λ e. (e.0.items, e.1)) xs)
-any_plain test [] = refl
-any_plain test (x ∷ xs) = ap (λ b. test (x.0.items, x.1) || b) (any_plain test xs)
-
-unnamed_length : (test : List ℕ → Bool) (xs : List (Vec ℕ Global × Entry)) → length (filter (λ (x : Vec ℕ Global × Entry). test x.0.items) xs) ≡ length (filter (λ (row : List ℕ × List Op). test row.0) (rows_of (plain_of xs)))
-unnamed_length test [] = refl
-unnamed_length test (x ∷ xs) = elim (test x.0.items) as (λ b. length (cond b (x ∷ filter (λ (x : Vec ℕ Global × Entry). test x.0.items) xs) (filter (λ (x : Vec ℕ Global × Entry). test x.0.items) xs)) ≡ length (cond b ((x.0.items, row_of x.0.items x.1) ∷ filter (λ (row : List ℕ × List Op). test row.0) (rows_of (plain_of xs))) (filter (λ (row : List ℕ × List Op). test row.0) (rows_of (plain_of xs))))) [
-  | true ↦ ap suc (unnamed_length test xs)
-  | false ↦ unnamed_length test xs
-]
-
-pub count_rows : (test : List ℕ → Bool) (xs : List (Vec ℕ Global × Entry)) → count_by (λ (x : Vec ℕ Global × Entry). test x.0.items) xs ≡ count_by (λ (row : List ℕ × List Op). test row.0) (rows_of (plain_of xs))
-count_rows test xs = sym (length-filter (λ (x : Vec ℕ Global × Entry). test x.0.items) xs) ∙ unnamed_length test xs ∙ length-filter (λ (row : List ℕ × List Op). test row.0) (rows_of (plain_of xs))
-
--- ---- the entry that a look-up finds
 
 pub own_found : (c : List ℕ) (es : List (List ℕ × Entry)) (o : Option Entry) → o ≡ find client_cmp c es → or_nothing (option_map (row_of c) o) ≡ own c (rows_of es)
 own_found c es o h = ap (λ o. or_nothing (option_map (row_of c) o)) h ∙ sym (ap or_nothing (find_rows c es))

@@ -68,7 +68,7 @@ module _ (p : Put) where
   rising_join [] ys h below above k = (above, k)
   rising_join (x ∷ xs) ys h below above k = (all-both (IsLess x) xs (p ∷ ys) h.0 (below.0, above_trans x p ys below.0 above), rising_join xs ys h.1 below.1 above k)
 
-  front_rest : (ns : List Put) → front_before p ns ++ rest_from p ns ≡ ns
+  pub front_rest : (ns : List Put) → front_before p ns ++ rest_from p ns ≡ ns
   front_rest [] = refl
   front_rest (n ∷ ns) = elim (goes_before n p) as (λ b. (if b then n ∷ front_before p ns else []) ++ (if b then rest_from p ns else n ∷ ns) ≡ n ∷ ns) [ true ↦ ap (λ rest. n ∷ rest) (front_rest ns) | false ↦ refl ]
 

@@ -1,9 +1,9 @@
 -- A look-up in the table is one in its rows.
-use Rattle.std.proofs.Common.{◌≡◌, ℕ, Bool, true, false, cond, ◌&&◌, if◌then◌else◌, List, [], ◌∷◌, Option, Some, None, T, refl, sym, ap, ◌∙◌, subst, true≢false, Less, Equal, Greater, Vec, Global}
+use Rattle.std.proofs.Common.{◌≡◌, ℕ, Bool, true, false, cond, ◌&&◌, if◌then◌else◌, List, [], ◌∷◌, Option, Some, None, is_some, T, refl, sym, ap, ◌∙◌, subst, true≢false, Less, Equal, Greater, Vec, Global}
 use Rattle.std.specs.List.{AllByRecursion}
 use Rattle.std.specs.Option.{option_map}
 use Rattle.std.specs.Ordering.{is_lt, eq_by_cmp}
-use Rattle.std.specs.Map.{lookup}
+use Rattle.std.specs.Map.{lookup, set_value}
 use Rattle.std.specs.FinMap.{find, put, is_sorted}
 use Rattle.std.specs.FinMap.Entries.{below_all, by_order, find-put, is_sorted-put, same_entries}
 use Rattle.std.specs.Prelude.{bytes_eq}
@@ -115,3 +115,14 @@ lookup_plain c (e ∷ es) = ap (cond (bytes_eq c e.0.items) (Some e.1)) (lookup_
 -- a look-up finds the client's entry
 pub found_by_client : (c : List ℕ) (es : List (Vec ℕ Global × Entry)) → lookup (λ (k : Vec ℕ Global). bytes_eq c k.items) es ≡ find client_cmp c (by_client es)
 found_by_client c es = lookup_plain c es ∙ found_in_order c (plain_of es)
+
+-- a write in a client's place puts the entry there
+plain_written : (c : List ℕ) (x : Entry) (es : List (Vec ℕ Global × Entry)) → is_some (lookup (λ (k : Vec ℕ Global). bytes_eq c k.items) es) ≡ true → plain_of (set_value (λ (k : Vec ℕ Global). bytes_eq c k.items) es x) ≡ insert_entry bytes_eq (plain_of es) c x
+plain_written c x [] h = absurd (true≢false (sym h))
+plain_written c x (e ∷ es) h = elim (bytes_eq c e.0.items) as (λ b. is_some (cond b (Some e.1) (lookup (λ (k : Vec ℕ Global). bytes_eq c k.items) es)) ≡ true → plain_of (cond b ((e.0, x) ∷ es) (e ∷ set_value (λ (k : Vec ℕ Global). bytes_eq c k.items) es x)) ≡ (if b then (e.0.items, x) ∷ plain_of es else (e.0.items, e.1) ∷ insert_entry bytes_eq (plain_of es) c x)) [
+  | true ↦ λ _. refl
+  | false ↦ λ there. ap (λ rest. (e.0.items, e.1) ∷ rest) (plain_written c x es there)
+] h
+
+pub written_by_client : (c : List ℕ) (x : Entry) (es new : List (Vec ℕ Global × Entry)) → is_some (lookup (λ (k : Vec ℕ Global). bytes_eq c k.items) es) ≡ true → new ≡ set_value (λ (k : Vec ℕ Global). bytes_eq c k.items) es x → by_client new ≡ put client_cmp c x (by_client es)
+written_by_client c x es new there is = put_in_order c x (plain_of es) (plain_of new) (λ q. ap (λ es. lookup (bytes_eq q) (plain_of es)) is ∙ ap (lookup (bytes_eq q)) (plain_written c x es there) ∙ inserted c q x (plain_of es))

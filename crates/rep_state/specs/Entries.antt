@@ -1,6 +1,6 @@
 -- What the replica keeps of one client, and what a delta changes of it.
-use Rattle.std.specs.Prelude.{◌≡◌, ℕ, ◌&&◌, List, [], ◌∷◌, ◌++◌, map, filter, length, T, IsTrue}
-use Rattle.std.specs.List.{AllByRecursion}
+use Rattle.std.specs.Prelude.{◌≡◌, ℕ, false, ◌&&◌, List, [], ◌∷◌, ◌++◌, map, filter, length, T, IsTrue}
+use Rattle.std.specs.List.{AllByRecursion, list_any}
 use Rattle.std.specs.FinMap.{is_sorted}
 use Rattle.sn_session.specs.declared.change.SessionOp.{SessionOp}
 use Rattle.rep_ops.specs.declared.op.Stamp.{Stamp}
@@ -16,7 +16,7 @@ use Rattle.rep_plain.specs.Steps.{capped}
 use Rattle.rep_state.specs.declared.entry.Entry.{Entry}
 use Rattle.rep_state.specs.declared.fresh.Fresh.{Fresh}
 use Rattle.rep_state.specs.Logs.{IsFoldedOf, IsFolded}
-use Rattle.rep_state.specs.Mail.{name_of, Rising, NoneCovered, InOne, is_left, weave}
+use Rattle.rep_state.specs.Mail.{Range, covers, name_of, Rising, NoneCovered, InOne, is_left, weave}
 use Rattle.rep_state.specs.Origins.{ranges_in, AreOrigins}
 use Rattle.rep_state.specs.Kept.{kept_ops}
 
@@ -31,6 +31,10 @@ AreMade ps = AllByRecursion (λ (p : Put). IsTrue (is_put p)) ps
 -- each message stands under its name
 abbrev pub AreUnderNames : List ((ℕ × ℕ) × Put) → Type 0
 AreUnderNames es = AllByRecursion (λ (e : (ℕ × ℕ) × Put). e.0 ≡ name_of e.1) es
+
+-- none of the messages is acknowledged
+abbrev pub NoneCoveredBelow : List Range → List ((ℕ × ℕ) × Put) → Type 0
+NoneCoveredBelow ranges es = AllByRecursion (λ (e : (ℕ × ℕ) × Put). list_any (covers (name_of e.1)) ranges ≡ false) es
 
 abbrev pub messages : List ((ℕ × ℕ) × Put) → List Put
 messages es = map (λ e. e.1) es
@@ -61,7 +65,7 @@ abbrev pub fresh_row : List ℕ → List Put → Fresh → List Op
 fresh_row c waiting fresh = kept_ops c fresh.log.known.entries (waiting_after waiting fresh) (ranges_in fresh.acks)
 
 -- the log is folded; new messages stand under their names, and none of them waits already;
--- acknowledged ranges do not touch
+-- acknowledged ranges do not touch, and where none is new they have no message
 pub record IsFresh (waiting : List Put) (fresh : Fresh) : Type 0 where
   pub folded : IsFolded fresh.log
   pub ordered : T (is_sorted operation_cmp fresh.log.known.entries)
@@ -71,6 +75,8 @@ pub record IsFresh (waiting : List Put) (fresh : Fresh) : Type 0 where
   pub made : AllByRecursion (λ (e : (ℕ × ℕ) × Put). IsTrue (is_put e.1)) fresh.news.entries
   pub apart : (name : ℕ × ℕ) → InOne name waiting (messages fresh.news.entries)
   pub origins : AreOrigins fresh.acks
+  pub none_waits : fresh.told ≡ false → NoneCovered (ranges_in fresh.acks) waiting
+  pub none_comes : fresh.told ≡ false → NoneCoveredBelow (ranges_in fresh.acks) fresh.news.entries
 
 -- one operation more of the client: the change stays one, and what it keeps is what must be kept of what it kept and the operation
 abbrev pub IsStep : List ℕ → List Put → Fresh → Fresh → Op → Type 0

@@ -6,3 +6,4 @@ pub mod Entries
 pub mod Tables
 pub mod Groups
 pub mod Numbers
+pub mod Staging

@@ -74,12 +74,6 @@ pub record IsRoomier (old new : List (List ℕ × Entry)) : Type 0 where
   pub table : (count : ℕ) → IsTable old count → IsTable new count
   pub found : (c : List ℕ) → IsSome (find client_cmp c (rows_of old)) → IsSome (find client_cmp c (rows_of new))
 
--- the fresh entries can be moved into the table
-pub record AreMovable (es fresh : List (List ℕ × Entry)) : Type 0 where
-  pub sorted : T (is_sorted client_cmp es)
-  pub each : AreKept es
-  pub fresh_each : AreKept fresh
-
 abbrev pub too_many_pending : List ℕ × Entry → Bool
 too_many_pending e = nat_lt 16384 (length e.1.seen.pending)
 

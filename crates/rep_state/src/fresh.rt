@@ -1,10 +1,10 @@
 //! What a delta changes of one client, operation by operation.
 
-ghost use Rattle.std.specs.Prelude.{◌≡◌, ◌≤◌, ◌++◌, ◌∷◌, ◌||◌, [], ℕ, List, filter, T, IsTrue, Some, None, is_some, length, IfOk, OnOk};
+ghost use Rattle.std.specs.Prelude.{◌≡◌, ◌+◌, ◌==◌, ◌≤◌, ◌++◌, ◌∷◌, ◌||◌, [], ℕ, List, T, IsTrue, Some, None, false, is_some, length, count_by, vec_capacity, IfOk, OnOk};
 ghost use Rattle.std.specs.List.{list_any};
 ghost use Rattle.std.specs.Ordering.{is_eq};
 ghost use Rattle.std.specs.FinMap.{find};
-ghost use Rattle.std.specs.BTreeMap.{values};
+ghost use Rattle.std.specs.BTreeMap.{keys, values};
 ghost use Rattle.rep_ops.specs.declared.op.Put.{Put};
 ghost use Rattle.rep_ops.specs.declared.op.Op.TheVariants.{Session as OfSession, Put as OfPut, Ack};
 ghost use Rattle.rep_ops.specs.Orders.{put_cmp};
@@ -13,19 +13,21 @@ ghost use Rattle.rep_ops.specs.WellMade.{is_well_made};
 ghost use Rattle.rep_model.specs.Keep.{keep};
 ghost use Rattle.rep_plain.specs.Rows.{IsOwnOp};
 ghost use Rattle.rep_state.specs.Logs.{IsFolded};
-ghost use Rattle.rep_state.specs.Mail.{covers, name_of, put_named, Rising, NoneCovered, is_left, weave};
-ghost use Rattle.rep_state.specs.Origins.{ranges_in};
+ghost use Rattle.rep_state.specs.Mail.{covers, name_of, put_named};
+ghost use Rattle.rep_plain.specs.Steps.{capped, waits};
+ghost use Rattle.rep_state.specs.Origins.{ranges_in, above_gaps};
 
 use super::acks::Acks;
+use super::change::Change;
 use super::entry::{Entry, count_parked};
 use super::fault::NoMemory;
 use super::log::Log;
-use super::settling::settled;
+use super::settling::count_settled;
 use rep_model::{ClientView, Puts};
 use rep_ops::{Op, Put, Stamp};
 use sn_session::SessionOp;
 use std::alloc::Global;
-use std::collections::{BTreeMap, VecDeque};
+use std::collections::BTreeMap;
 
 /// What a delta changes of one client: the log and the acknowledgements as they will be, and the messages that are new.
 #[derive(Debug, Drop)]
@@ -33,10 +35,13 @@ pub struct Fresh {
     pub(crate) log: Log,
     pub(crate) news: BTreeMap<(u64, u8), Put>,
     pub(crate) acks: Acks,
+    /// Whether acknowledgements are new.
+    pub(crate) told: bool,
 }
 
 impl Fresh {
-    ghost use Rattle.rep_state.specs.Entries.{AreMade, IsEntry, row_of, IsFresh, fresh_row, messages, waiting_after, IsStep};
+    ghost use Rattle.rep_state.specs.Entries.{IsEntry, row_of, IsFresh, fresh_row, IsStep};
+    ghost use Rattle.rep_state.specs.Staging.{applied, left_after, plan_of, IsChange, IsFit};
 
     /// A client of whom nothing is changed yet.
     pub fn of(alloc: Global, entry: &Entry) -> Result<Fresh, NoMemory>
@@ -50,6 +55,7 @@ impl Fresh {
             log,
             news: BTreeMap::new(alloc),
             acks,
+            told: false,
         })
     }
 
@@ -109,6 +115,7 @@ impl Fresh {
             → OnOk result (IsStep c waiting self.old self.new (Ack c origin first last)) }
     {
         self.acks.add(alloc, origin, first, last)?;
+        self.told = true;
         Ok(())
     }
 
@@ -138,66 +145,80 @@ impl Fresh {
             || self.news.contains_key(&(put.seq, put.origin))
     }
 
-    /// The entry with the change, where these messages waited before.
-    pub fn into_entry(self, alloc: Global, waiting: &[Put]) -> Result<Entry, NoMemory>
-        ensures entry { (c : List ℕ) → IsFresh waiting.now self
-            → Rising waiting.now
-            → AreMade waiting.now
-            → IfOk result (IsEntry c) }
-        ensures row { (c : List ℕ) → IfOk result (λ entry. row_of c entry ≡ fresh_row c waiting.now self) }
+    /// What is staged, where these messages waited before.
+    pub fn into_change(self, alloc: Global, waiting: &[Put]) -> Result<Change, NoMemory>
+        ensures change { IsFresh waiting.now self → IfOk result IsChange }
+        ensures fit { IsFresh waiting.now self → IfOk result (λ change. IsFit waiting.now (plan_of change)) }
+        ensures counted { IsFresh waiting.now self
+            → IfOk result (λ change. change.pending ≡ length (left_after waiting.now change)) }
+        ensures row { (c : List ℕ) → IfOk result (λ change.
+            row_of c (applied waiting.now change) ≡ fresh_row c waiting.now self) }
     {
-        let Fresh { log, news, acks } = self;
-        let pending = settle(alloc, waiting, news, &acks)?;
-        let Log {
-            stamp,
-            prefix,
-            session,
-            known,
-        } = log;
-        let parked = count_parked(&known, stamp, prefix);
-        let exceptions = acks.exceptions();
-        let seen = ClientView {
-            stamp,
-            prefix,
-            session,
-            pending,
-        };
-        Ok(Entry {
-            seen,
-            known,
+        let Fresh {
+            log,
+            news,
             acks,
-            parked,
-            exceptions,
+            told,
+        } = self;
+        let news = into_puts(alloc, news)?;
+        let room = room_for(alloc, waiting, news.as_slice())?;
+        let pending = count_settled(waiting, news.as_slice(), told, &acks)?;
+        let entry = without_messages(alloc, log, acks);
+        Ok(Change {
+            entry,
+            news,
+            room,
+            told,
+            pending,
         })
     }
 }
 
-/// The messages that wait after the change.
-fn settle(
-    alloc: Global,
-    waiting: &[Put],
-    news: BTreeMap<(u64, u8), Put>,
-    acks: &Acks,
-) -> Result<Puts, NoMemory>
-    ensures { IfOk result (λ pending. pending
-        ≡ filter (is_left (ranges_in acks.now)) (weave waiting.now (values news))) }
+/// The entry of these session operations and acknowledgements.
+fn without_messages(alloc: Global, log: Log, acks: Acks) -> Entry
+    ensures seen { (result.seen.stamp ≡ log.stamp)
+        × (result.seen.prefix ≡ log.prefix)
+        × (result.seen.session ≡ log.session) }
+    ensures known { result.known.entries ≡ log.known.entries }
+    ensures acks { result.acks ≡ acks }
+    ensures parked { result.parked ≡ count_by (waits result.seen.stamp result.seen.prefix) (keys result.known) }
+    ensures exceptions { result.exceptions ≡ capped (above_gaps result.acks 255) }
 {
-    let waiting = copy_puts(alloc, waiting)?;
-    let news = into_puts(alloc, news)?;
-    let room = waiting.len().checked_add(news.len()).ok_or(NoMemory)?;
-    let room = Vec::with_capacity(alloc, room)?;
-    Ok(Puts::new(settled(room, waiting, VecDeque::from_vec(news), acks)))
+    let Log {
+        stamp,
+        prefix,
+        session,
+        known,
+    } = log;
+    let parked = count_parked(&known, stamp, prefix);
+    let exceptions = acks.exceptions();
+    let pending = Puts::new(Vec::new(alloc));
+    let seen = ClientView {
+        stamp,
+        prefix,
+        session,
+        pending,
+    };
+    Entry {
+        seen,
+        known,
+        acks,
+        parked,
+        exceptions,
+    }
 }
 
-/// Equal messages.
-fn copy_puts(alloc: Global, puts: &[Put]) -> Result<Vec<Put>, NoMemory>
-    ensures { IfOk result (λ made. made.items ≡ puts.now) }
+/// Room for the messages that wait and those that are new; none where none is new.
+fn room_for(alloc: Global, waiting: &[Put], news: &[Put]) -> Result<Vec<Put>, NoMemory>
+    ensures empty { IfOk result (λ room. room.items ≡ []) }
+    ensures room { IfOk result (λ room. (length news.now == 0) ≡ false
+        → length waiting.now + length news.now ≤ vec_capacity room) }
 {
-    let mut made = Vec::with_capacity(alloc, puts.len())?;
-    for put in puts {
-        made.push(put.copy(alloc)?)?;
+    if news.is_empty() {
+        return Ok(Vec::new(alloc));
     }
-    Ok(made)
+    let count = waiting.len().checked_add(news.len()).ok_or(NoMemory)?;
+    Ok(Vec::with_capacity(alloc, count)?)
 }
 
 /// The messages in the order of their names.

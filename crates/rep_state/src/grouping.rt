@@ -9,9 +9,11 @@ ghost use Rattle.rep_ops.specs.Orders.{client_cmp};
 ghost use Rattle.rep_ops.specs.WellMade.{is_well_made};
 ghost use Rattle.rep_plain.specs.Rows.{own};
 ghost use Rattle.rep_state.specs.Entries.{IsFresh, fresh_row};
-ghost use Rattle.rep_state.specs.Tables.{plain_of, by_client, rows_of, AreKept, AreWorkedOut};
+ghost use Rattle.rep_state.specs.Tables.{by_client, rows_of, AreKept};
+ghost use Rattle.rep_state.specs.Staging.{future, staged_of, AreWorkedOut};
 ghost use Rattle.rep_state.specs.Groups.{waiting_of, IsTaken, AreGroups, fresh_rows};
 
+use super::change::Change;
 use super::entry::Entry;
 use super::fault::NoMemory;
 use super::fresh::Fresh;
@@ -114,46 +116,46 @@ fn waiting<'a>(table: &'a Table, client: &ClientId) -> &'a [Put]
     }
 }
 
-/// What is kept of each client once its group is taken.
+/// What is staged of each client once its group is taken.
 pub(crate) fn worked_out(
     alloc: Global,
     table: &Table,
     groups: BTreeMap<ClientId, Fresh>,
-) -> Result<Vec<(Vec<u8>, Entry)>, NoMemory>
-    requires kept { AreKept (by_client table.now.entries) }
-    requires fresh { AllByRecursion
+) -> Result<Vec<(Vec<u8>, Change)>, NoMemory>
+    requires { AllByRecursion
         (λ g. IsFresh (waiting_of g.0 (by_client table.now.entries)) g.1) groups.entries }
-    ensures rows { IfOk result (λ fresh. rows_of (plain_of fresh.items)
+    ensures rows { IfOk result (λ changes.
+        rows_of (future (by_client table.now.entries) (staged_of changes.items))
         ≡ fresh_rows (by_client table.now.entries) groups.entries) }
-    ensures worked_out { IfOk result (λ fresh. AreWorkedOut (plain_of fresh.items)) }
+    ensures worked_out { IfOk result (λ changes.
+        AreWorkedOut (by_client table.now.entries) (staged_of changes.items)) }
 {
     let mut made = Vec::with_capacity(alloc, groups.len())?;
     for (client, fresh) in groups {
-        push_entry(alloc, table, &mut made, &client, fresh)?;
+        push_change(alloc, table, &mut made, &client, fresh)?;
     }
     Ok(made)
 }
 
-/// Puts what is kept of the client once its group is taken behind the others.
-fn push_entry(
+/// Puts what is staged of the client behind the others.
+fn push_change(
     alloc: Global,
     table: &Table,
-    made: &mut Vec<(Vec<u8>, Entry)>,
+    made: &mut Vec<(Vec<u8>, Change)>,
     client: &ClientId,
     fresh: Fresh,
 ) -> Result<(), NoMemory>
-    requires kept { AreKept (by_client table.now.entries) }
-    requires fresh { IsFresh (waiting_of client.now (by_client table.now.entries)) fresh }
-    ensures rows { OnOk result (rows_of (plain_of made.new.items)
-        ≡ rows_of (plain_of made.old.items) ++ (
+    requires { IsFresh (waiting_of client.now (by_client table.now.entries)) fresh }
+    ensures rows { OnOk result (rows_of (future (by_client table.now.entries) (staged_of made.new.items))
+        ≡ rows_of (future (by_client table.now.entries) (staged_of made.old.items)) ++ (
           client.now,
           fresh_row client.now (waiting_of client.now (by_client table.now.entries)) fresh,
         ) ∷ []) }
-    ensures worked_out { AreWorkedOut (plain_of made.old.items)
-        → OnOk result (AreWorkedOut (plain_of made.new.items)) }
+    ensures worked_out { AreWorkedOut (by_client table.now.entries) (staged_of made.old.items)
+        → OnOk result (AreWorkedOut (by_client table.now.entries) (staged_of made.new.items)) }
 {
-    let entry = fresh.into_entry(alloc, waiting(table, client))?;
+    let change = fresh.into_change(alloc, waiting(table, client))?;
     let key = copy_octets(alloc, client.bytes())?;
-    made.push((key, entry))?;
+    made.push((key, change))?;
     Ok(())
 }

@@ -32,6 +32,7 @@
 
 mod acks;
 mod agreeing;
+mod change;
 mod entry;
 mod fault;
 mod fresh;
@@ -47,6 +48,7 @@ mod table;
 mod weaving;
 
 pub use acks::Acks;
+pub use change::Change;
 pub use entry::Entry;
 pub use fault::NoMemory;
 pub use fresh::Fresh;

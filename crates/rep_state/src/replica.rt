@@ -3,7 +3,7 @@
 ghost use Rattle.std.specs.Prelude.{◌≡◌};
 
 use super::agreeing::check;
-use super::entry::Entry;
+use super::change::Change;
 use super::grouping::{grown, worked_out};
 use super::held::{held, named_at, named_clients};
 use super::numbers::{last_epoch, last_seq};
@@ -41,40 +41,39 @@ impl Model for Folded {
         × ArePlaces p.table.entries p.places.items };
 }
 
-/// A delta that fits: what is kept of the clients that it names once it is taken.
+/// A delta that fits: what becomes of the clients that it names once it is taken.
 #[derive(Debug, Drop)]
 pub struct Staged {
-    /// The entries, each under the octets of its client.
-    fresh: Vec<(Vec<u8>, Entry)>,
+    /// The changes, each under the octets of its client.
+    changes: Vec<(Vec<u8>, Change)>,
     /// How many clients have operations once they are in their places.
     named: usize,
 }
 
 impl Model for Staged {
     ghost use Rattle.std.specs.Prelude.{List, ℕ, ◌≤◌};
-    ghost use Rattle.rep_ops.specs.declared.op.Op.{Op};
+    ghost use Rattle.rep_state.specs.Staging.{Plan, plans, staged_of, AreStaged};
 
-    ghost Value = { List (List ℕ × List Op) × ℕ };
+    ghost Value = { List (List ℕ × Plan) × ℕ };
 
-    ghost use Rattle.rep_state.specs.Tables.{plain_of, rows_of, AreKept};
+    ghost view = { λ s. (plans (staged_of s.changes.items), s.named) };
 
-    ghost view = { λ s. (rows_of (plain_of s.fresh.items), s.named) };
-
-    ghost invariant = { λ s. AreKept (plain_of s.fresh.items) × (s.named ≤ 4096) };
+    ghost invariant = { λ s. AreStaged (staged_of s.changes.items) × (s.named ≤ 4096) };
 }
 
 impl Replica for Folded {
     ghost use Rattle.std.specs.Prelude.{◌≡◌};
     ghost use Rattle.rep_plain.specs.Rows.{flat, moved, count_named};
-    ghost use Rattle.rep_plain.specs.Tables.{HaveRoom};
+    ghost use Rattle.rep_state.specs.Staging.{planned, AreReady};
 
     type Staged = Staged;
 
     ghost kept = { λ rows. flat rows };
 
-    ghost after = { λ rows staged. flat (moved rows staged.0) };
+    ghost after = { λ rows staged. flat (moved rows (planned rows staged.0)) };
 
-    ghost ready = { λ rows staged. HaveRoom rows staged.0 × (staged.1 ≡ count_named (moved rows staged.0)) };
+    ghost ready = { λ rows staged. AreReady rows staged.0
+        × (staged.1 ≡ count_named (moved rows (planned rows staged.0))) };
 
     fn empty(alloc: Global) -> Result<Folded, TakeFault> {
         Ok(Folded {
@@ -88,18 +87,18 @@ impl Replica for Folded {
         let ops = delta.ops();
         check(alloc, &self.table, ops)?;
         let groups = grown(alloc, &self.table, ops)?;
-        let fresh = worked_out(alloc, &self.table, groups)?;
-        let named = self.named + count_new(&self.table, fresh.as_slice());
-        if let Some(limit) = passed(named, fresh.as_slice()) {
+        let changes = worked_out(alloc, &self.table, groups)?;
+        let named = self.named + count_new(&self.table, changes.as_slice());
+        if let Some(limit) = passed(named, changes.as_slice()) {
             return Err(TakeFault::Full { limit });
         }
-        make_room(alloc, &mut self.table, &mut self.places, fresh.as_slice())?;
-        Ok(Staged { fresh, named })
+        make_room(alloc, &mut self.table, &mut self.places, changes.as_slice())?;
+        Ok(Staged { changes, named })
     }
 
     fn commit(&mut self, staged: Staged) {
-        let Staged { fresh, named } = staged;
-        move_in(&mut self.table, fresh);
+        let Staged { changes, named } = staged;
+        move_in(&mut self.table, changes);
         self.named = named;
     }
 

@@ -1,13 +1,15 @@
-//! Places for fresh clients, and the move into them.
+//! Places for clients, and the move of what is staged into them.
 
-ghost use Rattle.std.specs.Prelude.{◌≡◌, IsSome, OnOk, [], List};
+ghost use Rattle.std.specs.Prelude.{◌≡◌, IsSome, is_some, OnOk, List};
 ghost use Rattle.std.specs.FinMap.{find, put};
 ghost use Rattle.rep_ops.specs.Orders.{client_cmp};
 ghost use Rattle.rep_plain.specs.Rows.{moved};
-ghost use Rattle.rep_plain.specs.Tables.{HaveRoom};
-ghost use Rattle.rep_state.specs.Tables.{plain_of, by_client, rows_of, IsRoomier, AreMovable, ArePlaces};
+ghost use Rattle.rep_state.specs.Tables.{by_client, rows_of, IsRoomier, AreKept, ArePlaces};
+ghost use Rattle.rep_state.specs.Groups.{waiting_of};
+ghost use Rattle.rep_state.specs.Staging.{applied, staged_of, future, plan_of, HaveRoom, IsChange, IsReady, AreMovable, AreStaged};
 ghost use Rattle.rep_state.specs.declared.places.Place.{Place as AtPlace};
 
+use super::change::{Change, put_into};
 use super::entry::Entry;
 use super::fault::NoMemory;
 use super::places::{Place, enter};
@@ -15,20 +17,19 @@ use super::table::{Table, copy_octets};
 use rep_ops::ClientId;
 use std::alloc::Global;
 
-/// Makes a place for each of the fresh clients. An empty place is seen by no query.
+/// Makes a place for each of the clients. An empty place is seen by no query.
 pub(crate) fn make_room(
     alloc: Global,
     table: &mut Table,
     places: &mut Vec<Place>,
-    fresh: &[(Vec<u8>, Entry)],
+    changes: &[(Vec<u8>, Change)],
 ) -> Result<(), NoMemory>
     requires { ArePlaces table.old.entries places.old.items }
     ensures places { ArePlaces table.new.entries places.new.items }
     ensures roomier { IsRoomier (by_client table.old.entries) (by_client table.new.entries) }
-    ensures room { OnOk result
-        (HaveRoom (rows_of (by_client table.new.entries)) (rows_of (plain_of fresh.now))) }
+    ensures room { OnOk result (HaveRoom (by_client table.new.entries) (staged_of changes.now)) }
 {
-    for row in fresh {
+    for row in changes {
         add_place(alloc, table, places, row.0.as_slice())?;
     }
     Ok(())
@@ -59,31 +60,39 @@ fn add_place(
     Ok(())
 }
 
-/// Moves the fresh entries into their places.
-pub(crate) fn move_in(table: &mut Table, mut fresh: Vec<(Vec<u8>, Entry)>)
-    requires { HaveRoom (rows_of (by_client table.old.entries)) (rows_of (plain_of fresh.items)) }
+/// Moves the changes into their places.
+pub(crate) fn move_in(table: &mut Table, mut changes: Vec<(Vec<u8>, Change)>)
+    requires staged { AreStaged (staged_of changes.items) }
+    requires movable { AreMovable (by_client table.old.entries) (staged_of changes.items) }
+    requires kept { AreKept (by_client table.old.entries) }
     ensures rows { rows_of (by_client table.new.entries)
-        ≡ moved (rows_of (by_client table.old.entries)) (rows_of (plain_of fresh.items)) }
-    ensures movable { AreMovable (by_client table.old.entries) (plain_of fresh.items)
-        → AreMovable (by_client table.new.entries) [] }
+        ≡ moved (rows_of (by_client table.old.entries))
+        (rows_of (future (by_client table.old.entries) (staged_of changes.items))) }
+    ensures kept { AreKept (by_client table.new.entries) }
     ensures places { (places : List AtPlace)
         → ArePlaces table.old.entries places → ArePlaces table.new.entries places }
 {
-    while let Some((client, entry)) = fresh.pop() {
-        replace(table, client, entry);
+    while let Some((client, change)) = changes.pop() {
+        move_one(table, client.as_slice(), change);
     }
 }
 
-/// Puts the entry into the client's place.
-fn replace(table: &mut Table, client: Vec<u8>, entry: Entry)
-    requires { IsSome (find client_cmp client.items (by_client table.old.entries)) }
+/// Puts the change in the client's place.
+fn move_one(table: &mut Table, client: &[u8], change: Change)
+    requires change { IsChange change }
+    requires ready { IsReady
+        (is_some (find client_cmp client.now (by_client table.old.entries)))
+        (waiting_of client.now (by_client table.old.entries))
+        (plan_of change) }
     ensures put { by_client table.new.entries
-        ≡ put client_cmp client.items entry (by_client table.old.entries) }
+        ≡ put client_cmp client.now
+        (applied (waiting_of client.now (by_client table.old.entries)) change)
+        (by_client table.old.entries) }
     ensures places { (places : List AtPlace)
         → ArePlaces table.old.entries places → ArePlaces table.new.entries places }
 {
-    match table.insert(client, entry) {
-        Ok(_) => {}
-        Err(_) => unreachable!(),
+    match table.get_mut(client) {
+        Some(place) => put_into(place, change),
+        None => unreachable!(),
     }
 }

@@ -1,11 +1,11 @@
 //! The messages that wait for a client after a change, for which no memory is taken.
 
-ghost use Rattle.std.specs.Prelude.{◌≡◌, ◌+◌, ◌≤◌, [], vec_len, vec_capacity, filter};
-ghost use Rattle.std.specs.VecDeque.{deque_len};
-ghost use Rattle.rep_state.specs.Mail.{weave, is_left};
+ghost use Rattle.std.specs.Prelude.{◌≡◌, ◌+◌, ◌==◌, ◌≤◌, [], false, vec_capacity, filter, length, count_by, IfOk};
+ghost use Rattle.rep_state.specs.Mail.{weave, is_left, NoneCovered};
 ghost use Rattle.rep_state.specs.Origins.{ranges_in};
 
 use super::acks::Acks;
+use super::fault::NoMemory;
 use super::weaving::merge;
 use rep_ops::Put;
 use std::collections::VecDeque;
@@ -24,18 +24,68 @@ fn drop_covered(all: &mut Vec<Put>, acks: &Acks)
     all.retain(|put| is_left(acks, put));
 }
 
-/// The messages that wait, and new ones, in the room of `room`, which is empty, without those that are acknowledged.
+/// The messages that wait, and new ones, in the room of `room`, which is empty. Where none is new nothing is moved.
+fn joined(room: Vec<Put>, waiting: Vec<Put>, news: Vec<Put>) -> Vec<Put>
+    requires empty { room.items ≡ [] }
+    requires room { (length news.items == 0) ≡ false
+        → length waiting.items + length news.items ≤ vec_capacity room }
+    ensures { result.items ≡ weave waiting.items news.items }
+{
+    if news.as_slice().is_empty() {
+        return waiting;
+    }
+    merge(room, VecDeque::from_vec(waiting), VecDeque::from_vec(news))
+}
+
+/// The messages that wait, and new ones, without those that are acknowledged, where `told` says whether any may be.
 pub(crate) fn settled(
     room: Vec<Put>,
     waiting: Vec<Put>,
-    news: VecDeque<Put>,
+    news: Vec<Put>,
+    told: bool,
     acks: &Acks,
 ) -> Vec<Put>
     requires empty { room.items ≡ [] }
-    requires room { vec_len room + (vec_len waiting + deque_len news) ≤ vec_capacity room }
+    requires room { (length news.items == 0) ≡ false
+        → length waiting.items + length news.items ≤ vec_capacity room }
+    requires untold { told ≡ false → NoneCovered (ranges_in acks.now) (weave waiting.items news.items) }
     ensures { result.items ≡ filter (is_left (ranges_in acks.now)) (weave waiting.items news.items) }
 {
-    let mut all = merge(room, VecDeque::from_vec(waiting), news);
-    drop_covered(&mut all, acks);
+    let mut all = joined(room, waiting, news);
+    if told {
+        drop_covered(&mut all, acks);
+    }
     all
+}
+
+/// How many of the messages are not acknowledged.
+fn count_left(puts: &[Put], acks: &Acks) -> usize
+    ensures { result ≡ count_by (is_left (ranges_in acks.now)) puts.now }
+{
+    puts.iter().filter(|put| is_left(acks, *put)).count()
+}
+
+/// How many messages will wait, where these wait and those are new, and `told` says whether any may be acknowledged.
+pub(crate) fn count_settled(
+    waiting: &[Put],
+    news: &[Put],
+    told: bool,
+    acks: &Acks,
+) -> Result<usize, NoMemory>
+    ensures { (told ≡ false → NoneCovered (ranges_in acks.now) (weave waiting.now news.now))
+        → IfOk result (λ count. count
+        ≡ length (filter (is_left (ranges_in acks.now)) (weave waiting.now news.now))) }
+{
+    if !told {
+        return sum(waiting.len(), news.len());
+    }
+    sum(count_left(waiting, acks), count_left(news, acks))
+}
+
+/// Both together.
+fn sum(a: usize, b: usize) -> Result<usize, NoMemory>
+    ensures { IfOk result (λ count. count ≡ a + b) }
+{
+    let count = a.checked_add(b).ok_or(NoMemory)?;
+    Ok(count)
 }

@@ -1,14 +1,15 @@
 //! The table of clients.
 
-ghost use Rattle.std.specs.Prelude.{◌≡◌, ◌+◌, IfOk, nat_lt, not, length, count_by};
+ghost use Rattle.std.specs.Prelude.{◌≡◌, ◌+◌, IfOk, nat_lt, not, count_by};
 ghost use Rattle.std.specs.Option.{option_copied};
 ghost use Rattle.std.specs.List.{list_any};
 ghost use Rattle.std.specs.FinMap.{find};
 ghost use Rattle.rep_ops.specs.Orders.{client_cmp};
-ghost use Rattle.rep_plain.specs.Rows.{own, has_any, count_new};
+ghost use Rattle.rep_plain.specs.Rows.{own, has_any};
 ghost use Rattle.rep_plain.specs.Tables.{passed_of};
-ghost use Rattle.rep_state.specs.Tables.{plain_of, by_client, rows_of, passed_by};
+ghost use Rattle.rep_state.specs.Tables.{by_client, rows_of};
 
+use super::change::Change;
 use super::entry::Entry;
 use super::fault::NoMemory;
 use indexmap::IndexMap;
@@ -56,13 +57,16 @@ pub(crate) fn copy_octets(alloc: Global, octets: &[u8]) -> Result<Vec<u8>, NoMem
     Ok(made)
 }
 
-/// The first limit that is passed once the fresh entries are in their places, where `count` clients are named then.
-pub(crate) fn passed(count: usize, fresh: &[(Vec<u8>, Entry)]) -> Option<Limit>
-    ensures { result ≡ passed_by count (plain_of fresh.now) }
+/// The first limit that is passed once the changes are in their places, where `count` clients are named then.
+pub(crate) fn passed(count: usize, changes: &[(Vec<u8>, Change)]) -> Option<Limit>
+    ensures { result ≡ passed_of count
+        (list_any (λ g. nat_lt 16384 g.1.pending) changes.now)
+        (list_any (λ g. nat_lt 4096 g.1.entry.parked) changes.now)
+        (list_any (λ g. nat_lt 16384 g.1.entry.exceptions) changes.now) }
 {
-    let pending = any_pending(fresh);
-    let parked = any_parked(fresh);
-    let exceptions = any_exceptions(fresh);
+    let pending = any_pending(changes);
+    let parked = any_parked(changes);
+    let exceptions = any_exceptions(changes);
     first_limit(count, pending, parked, exceptions)
 }
 
@@ -84,42 +88,34 @@ fn first_limit(count: usize, pending: bool, parked: bool, exceptions: bool) -> O
 }
 
 /// Whether too many messages wait for one of the clients.
-fn any_pending(fresh: &[(Vec<u8>, Entry)]) -> bool
-    ensures { result ≡ list_any (λ f. nat_lt 16384 (length f.1.seen.pending)) fresh.now }
+fn any_pending(changes: &[(Vec<u8>, Change)]) -> bool
+    ensures { result ≡ list_any (λ g. nat_lt 16384 g.1.pending) changes.now }
 {
-    fresh
-        .iter()
-        .any(|row| row.1.seen.pending.len() > MOST_PENDING)
+    changes.iter().any(|row| row.1.pending > MOST_PENDING)
 }
 
 /// Whether too many session operations of one of the clients wait.
-fn any_parked(fresh: &[(Vec<u8>, Entry)]) -> bool
-    ensures { result ≡ list_any (λ f. nat_lt 4096 f.1.parked) fresh.now }
+fn any_parked(changes: &[(Vec<u8>, Change)]) -> bool
+    ensures { result ≡ list_any (λ g. nat_lt 4096 g.1.entry.parked) changes.now }
 {
-    fresh.iter().any(|row| row.1.parked > MOST_PARKED)
+    changes.iter().any(|row| row.1.entry.parked > MOST_PARKED)
 }
 
 /// Whether one of the clients has too many exceptions.
-fn any_exceptions(fresh: &[(Vec<u8>, Entry)]) -> bool
-    ensures { result ≡ list_any (λ f. nat_lt 16384 f.1.exceptions) fresh.now }
+fn any_exceptions(changes: &[(Vec<u8>, Change)]) -> bool
+    ensures { result ≡ list_any (λ g. nat_lt 16384 g.1.entry.exceptions) changes.now }
 {
-    fresh.iter().any(|row| row.1.exceptions > MOST_EXCEPTIONS)
+    changes
+        .iter()
+        .any(|row| row.1.entry.exceptions > MOST_EXCEPTIONS)
 }
 
-/// How many of the fresh clients had no operations.
-pub(crate) fn count_new(table: &Table, fresh: &[(Vec<u8>, Entry)]) -> usize
-    ensures { result
-        ≡ count_new (rows_of (by_client table.now.entries)) (rows_of (plain_of fresh.now)) }
-{
-    count_unnamed(table, fresh)
-}
-
-/// How many of the entries are of clients that have no operations.
-fn count_unnamed(table: &Table, fresh: &[(Vec<u8>, Entry)]) -> usize
+/// How many of the clients had no operations.
+pub(crate) fn count_new(table: &Table, changes: &[(Vec<u8>, Change)]) -> usize
     ensures { result ≡ count_by
-        (λ f. not (has_any (own f.0.items (rows_of (by_client table.now.entries))))) fresh.now }
+        (λ g. not (has_any (own g.0.items (rows_of (by_client table.now.entries))))) changes.now }
 {
-    fresh
+    changes
         .iter()
         .filter(|row| !has_operations(table, row.0.as_slice()))
         .count()

@@ -2,24 +2,24 @@ use Rattle.std.proofs.Common.{◌++◌, ◌∷◌, [], take, IsSome, sym, ap, su
 use Rattle.std.proofs.lemmas.List.{take_more}
 use Rattle.std.specs.FinMap.{find}
 use Rattle.rep_ops.specs.Orders.{client_cmp}
-use Rattle.rep_plain.specs.Tables.{HaveRoom}
-use Rattle.rep_state.specs.Entries.{row_of}
-use Rattle.rep_state.specs.Tables.{plain_of, by_client, rows_of}
-use Rattle.rep_state.proofs.Placing.{roomier_then, room_more, rows_last, plain_last}
+use Rattle.rep_state.specs.Tables.{by_client, rows_of}
+use Rattle.rep_state.specs.Staging.{staged_of, HaveRoom}
+use Rattle.rep_state.proofs.Placing.{roomier_then}
+use Rattle.rep_state.proofs.Staging.{staged_last, room_more}
 use Rattle.rep_state.proofs.room.make_room.Goals as goal
 
 pub loop-row-preserved : goal.loop-row-preserved
 loop-row-preserved c =
     let old = by_client c.loop-row.table.entries in
     let new = by_client c.add_place.new.table.entries in
-    let fresh = c.args.fresh.now in
+    let changes = c.args.changes.now in
     let row = c.row-item.result in
     let name = row.0.items in
-    let done = take c.loop-row.row-index fresh in
+    let done = take c.loop-row.row-index changes in
     let h = c.in_ok-add_place.ensures.roomier in
     let there = subst (λ k. IsSome (find client_cmp k (rows_of new))) c.as_slice.ensures.value c.in_ok-add_place.ensures.there in
-    let is = ap (λ xs. rows_of (plain_of xs)) (take_more fresh c.loop-row.row-index row c.loop-row-test.true ∙ ap (λ r. done ++ r ∷ []) (sym c.row-item.is)) ∙ ap rows_of (plain_last done row) ∙ rows_last (plain_of done) (name, row.1) in
-    (roomier_then c.loop-row.invariant.0 h, subst (HaveRoom (rows_of new)) (sym is) (room_more old new (rows_of (plain_of done)) (name, row_of name row.1) h c.loop-row.invariant.1 there), c.in_ok-add_place.ensures.places)
+    let is = ap staged_of (take_more changes c.loop-row.row-index row c.loop-row-test.true ∙ ap (λ r. done ++ r ∷ []) (sym c.row-item.is)) ∙ staged_last done row in
+    (roomier_then c.loop-row.invariant.0 h, subst (HaveRoom new) (sym is) (room_more old new (staged_of done) (name, row.1) h c.loop-row.invariant.1 there), c.in_ok-add_place.ensures.places)
 
 pub add_place-requires : goal.add_place-requires
 add_place-requires c = c.loop-row.invariant.2

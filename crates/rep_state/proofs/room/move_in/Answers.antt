@@ -1,24 +1,51 @@
-use Rattle.std.proofs.Common.{ap, ◌∙◌}
-use Rattle.rep_state.specs.Tables.{plain_of, by_client}
-use Rattle.rep_state.proofs.Placing.{plain_last, move_last, room_left, room_last, movable_left}
+use Rattle.std.proofs.Common.{◌≡◌, refl, sym, ap, subst, ◌∙◌, List, ℕ, is_some}
+use Rattle.std.specs.FinMap.{find, put}
+use Rattle.rep_ops.specs.Orders.{client_cmp}
+use Rattle.rep_state.specs.Tables.{by_client}
+use Rattle.rep_state.specs.Groups.{waiting_of}
+use Rattle.rep_state.specs.Staging.{staged_of, applied, IsReady, plan_of}
+use Rattle.rep_state.proofs.Working.{waiting_is}
+use Rattle.rep_state.proofs.Staging.{staged_last, last_change, last_ready, rest_staged, rest_movable, rest_moved, rest_kept}
 use Rattle.rep_state.proofs.room.move_in.Goals as goal
 
-pub replace-requires : goal.replace-requires
-replace-requires c =
-    let rest = c.pop.new.self.items in
-    let all = ap plain_of c.in-Some.ensures.items ∙ plain_last rest (c.in-Some.client, c.in-Some.entry) in
-    room_last (by_client c.loop-client.table.entries) (plain_of c.loop-client.fresh.items) (plain_of rest) c.in-Some.client.items c.in-Some.entry all c.loop-client.invariant.1
+pub move_one-requires-clause-change : goal.move_one-requires-clause-change
+move_one-requires-clause-change c =
+    let es = by_client c.loop-client.table.entries in
+    let gs = staged_of c.loop-client.changes.items in
+    let rest = staged_of c.pop.new.self.items in
+    let client = c.in-Some.client.items in
+    let change = c.in-Some.change in
+    let all = ap staged_of c.in-Some.ensures.items ∙ staged_last c.pop.new.self.items (c.in-Some.client, change) in
+    last_change es (put client_cmp client (applied (waiting_of client es) change) es) gs rest client change all refl c.loop-client.invariant.1 c.loop-client.invariant.2
+
+pub move_one-requires-clause-ready : goal.move_one-requires-clause-ready
+move_one-requires-clause-ready c =
+    let es = by_client c.loop-client.table.entries in
+    let gs = staged_of c.loop-client.changes.items in
+    let rest = staged_of c.pop.new.self.items in
+    let client = c.in-Some.client.items in
+    let change = c.in-Some.change in
+    let all = ap staged_of c.in-Some.ensures.items ∙ staged_last c.pop.new.self.items (c.in-Some.client, change) in
+    let value = c.as_slice.ensures.value in
+    subst (λ (k : List ℕ). IsReady (is_some (find client_cmp k es)) (waiting_of k es) (plan_of change)) (sym value)
+    (last_ready es (put client_cmp client (applied (waiting_of client es) change) es) gs rest client change all refl c.loop-client.invariant.1 c.loop-client.invariant.2)
 
 pub loop-client-preserved : goal.loop-client-preserved
 loop-client-preserved c =
     let es = by_client c.loop-client.table.entries in
-    let new = by_client c.replace.new.table.entries in
-    let fs = plain_of c.loop-client.fresh.items in
-    let rest = plain_of c.pop.new.self.items in
-    let all = ap plain_of c.in-Some.ensures.items ∙ plain_last c.pop.new.self.items (c.in-Some.client, c.in-Some.entry) in
-    let is = c.replace.ensures.put in (
-      move_last es new fs rest c.in-Some.client.items c.in-Some.entry all is ∙ c.loop-client.invariant.0,
-      room_left es new fs rest c.in-Some.client.items c.in-Some.entry all is c.loop-client.invariant.1,
-      λ h. movable_left es new fs rest c.in-Some.client.items c.in-Some.entry all is (c.loop-client.invariant.2 h),
-      λ places h. c.replace.ensures.places places (c.loop-client.invariant.3 places h),
+    let new = by_client c.move_one.new.table.entries in
+    let gs = staged_of c.loop-client.changes.items in
+    let rest = staged_of c.pop.new.self.items in
+    let client = c.in-Some.client.items in
+    let change = c.in-Some.change in
+    let all = ap staged_of c.in-Some.ensures.items ∙ staged_last c.pop.new.self.items (c.in-Some.client, change) in
+    let is : new ≡ put client_cmp client (applied (waiting_of client es) change) es = c.move_one.ensures.put ∙ ap (λ (k : List ℕ). put client_cmp k (applied (waiting_of k es) change) es) c.as_slice.ensures.value in
+    let staged = c.loop-client.invariant.1 in
+    let movable = c.loop-client.invariant.2 in
+    let kept = c.loop-client.invariant.3 in (
+      rest_moved es new gs rest client change all is staged movable ∙ c.loop-client.invariant.0,
+      rest_staged es new gs rest client change all is staged movable,
+      rest_movable es new gs rest client change all is staged movable,
+      rest_kept es new gs rest client change all is staged movable (waiting_is client es kept) kept,
+      λ places h. c.move_one.ensures.places places (c.loop-client.invariant.4 places h),
     )

@@ -1,3 +1,4 @@
+use Rattle.std.proofs.Common.{true≢false}
 use Rattle.rep_state.specs.Mail.{weave}
 use Rattle.rep_state.specs.Origins.{ranges_in}
 use Rattle.rep_state.specs.Entries.{messages}
@@ -17,6 +18,8 @@ returns c =
         made = fresh.made;
         apart = fresh.apart;
         origins = c.in_ok-add.ensures.origins;
+        none_waits = λ e. absurd (true≢false e);
+        none_comes = λ e. absurd (true≢false e);
       },
       ack_more client f.log.known.entries f.log.stamp fresh.folded.visible fresh.folded.none_below (ranges_in f.acks) (ranges_in c.add.new.self) (weave waiting (messages f.news.entries)) (c.args.origin, (c.args.first, c.args.last)) c.in_ok-add.ensures.covers,
     )

@@ -11,7 +11,7 @@ use Rattle.rep_state.specs.Origins.{ranges_in}
 use Rattle.rep_state.specs.Entries.{messages}
 use Rattle.rep_state.proofs.Rising.{find_weave}
 use Rattle.rep_state.proofs.Changes.{put_skipped, put_more}
-use Rattle.rep_state.proofs.Freshness.{found_message, in_weave, not_there, under_more, sorted_more, made_more, found_more, apart_more}
+use Rattle.rep_state.proofs.Freshness.{found_message, in_weave, not_there, under_more, sorted_more, made_more, found_more, apart_more, none_more, not_covered}
 use Rattle.rep_state.proofs.fresh.Fresh.note_put.Goals as goal
 
 pub returns-then-has : goal.returns-then-has
@@ -52,6 +52,8 @@ returns c =
         made = made_more waiting es new p fresh.under fresh.apart none.0 is own fresh.made;
         apart = apart;
         origins = fresh.origins;
+        none_waits = fresh.none_waits;
+        none_comes = λ e. none_more waiting es new p fresh.under fresh.apart none.0 is rs (not_covered cov (put_named (name_of p) waiting) (find put_cmp (name_of p) es) known) (fresh.none_comes e);
       },
       put_more client f.log.known.entries f.log.stamp fresh.folded.visible fresh.folded.none_below p rs waiting (messages es) (messages new) fresh.apart apart
           (found_more waiting es new p fresh.under fresh.apart none.0 is) none.0 (found_message (name_of p) es fresh.under ∙ none.1),

@@ -58,6 +58,8 @@ returns c =
         made = fresh.made;
         apart = fresh.apart;
         origins = fresh.origins;
+        none_waits = fresh.none_waits;
+        none_comes = fresh.none_comes;
       },
       session_step client s k x es log.known.entries log.stamp (waiting_after waiting f) rs kept absent (none_covered rs (weave waiting (messages f.news.entries))),
     )

@@ -4,10 +4,10 @@ use Rattle.std.specs.FinMap.{is_sorted}
 use Rattle.rep_ops.specs.declared.op.Put.{Put}
 use Rattle.rep_ops.specs.Orders.{operation_cmp, put_cmp}
 use Rattle.rep_ops.specs.WellMade.{is_put}
-use Rattle.rep_state.specs.Mail.{InOne, is_left, weave}
+use Rattle.rep_state.specs.Mail.{NoneCovered, InOne, is_left, weave}
 use Rattle.rep_state.specs.Origins.{ranges_in, AreOrigins}
 use Rattle.rep_state.specs.Kept.{kept_ops}
-use Rattle.rep_state.specs.Entries.{AreChanges, AreUnderNames, messages}
+use Rattle.rep_state.specs.Entries.{AreChanges, AreUnderNames, NoneCoveredBelow, messages}
 use Rattle.rep_state.proofs.Freshness.{weave_none}
 use Rattle.rep_state.proofs.Counts.{folded_as, left_all}
 use Rattle.rep_state.proofs.fresh.Fresh.of.Goals as goal
@@ -29,6 +29,8 @@ returns-clause-fresh c =
       made = subst (AllByRecursion (λ (n : (ℕ × ℕ) × Put). IsTrue (is_put n.1))) (sym none) tt;
       apart = λ q. subst (λ (es : List ((ℕ × ℕ) × Put)). InOne q entry.seen.pending (messages es)) (sym none) (λ _. refl);
       origins = subst AreOrigins (sym c.in_ok-acks.ensures) e.origins;
+      none_waits = λ _. subst (λ acks. NoneCovered (ranges_in acks) entry.seen.pending) (sym c.in_ok-acks.ensures) e.none_covered;
+      none_comes = λ _. subst (NoneCoveredBelow (ranges_in c.in_ok-acks.acks)) (sym none) tt;
     }
 
 pub returns-clause-row : goal.returns-clause-row

@@ -1,15 +1,16 @@
-use Rattle.std.proofs.Common.{◌≡◌, ◌+◌, ◌++◌, Some, sym, ap, subst, ◌∙◌}
+use Rattle.std.proofs.Common.{◌≡◌, ◌+◌, ◌++◌, not, Some, sym, ap, subst, ◌∙◌}
 use Rattle.rep_model.specs.Taking.{AllAgree, Fits}
 use Rattle.rep_model.specs.Limits.{first_passed}
 use Rattle.rep_model.specs.Keep.{IsKeptOf}
-use Rattle.rep_plain.specs.Rows.{flat, moved, count_new}
-use Rattle.rep_plain.specs.Tables.{HaveRoom}
-use Rattle.rep_state.specs.Tables.{plain_of, by_client, rows_of, passed_by}
+use Rattle.rep_plain.specs.Rows.{flat, own, has_any, moved, count_named, count_new}
+use Rattle.rep_state.specs.Tables.{by_client, rows_of, passed_by}
 use Rattle.rep_state.specs.Groups.{AreGroups}
+use Rattle.rep_state.specs.Staging.{staged_of, future, plans, planned, HaveRoom, AreWorkedOut}
 use Rattle.rep_state.proofs.Rows.{table_rows}
 use Rattle.rep_state.proofs.Placing.{roomier_itself}
-use Rattle.rep_state.proofs.Working.{are_fresh, fresh_rows_of}
-use Rattle.rep_state.proofs.Fitting.{kept_after, first_passed_both, counted_after, fresh_fit}
+use Rattle.rep_state.proofs.Working.{waiting_is, are_fresh, fresh_rows_of}
+use Rattle.rep_state.proofs.Fitting.{own_room, kept_after, first_passed_both, counted_after, fresh_fit}
+use Rattle.rep_state.proofs.Staging.{planned_future, future_worked_out, passed_future, count_future, are_staged, are_ready}
 use Rattle.rep_state.proofs.replica.FoldedReplica.prepare.Goals as goal
 
 pub check-requires : goal.check-requires
@@ -21,20 +22,23 @@ returns-in-Some-clause-fault c =
     let n = c.self.inside.named in
     let t = c.self.invariant.0 in
     let D = c.args.delta.now in
-    let fs = plain_of c.in_ok-fresh.fresh.items in
+    let gs = staged_of c.in_ok-changes.changes.items in
+    let fs = future es gs in
     let groups = c.in_ok-groups.groups.entries in
     let K = flat (rows_of es) in
     let made = c.ops-ops.ensures.delta.well_made in
     let h : AreGroups es D groups = subst (λ D. AreGroups es D groups) c.ops-ops.ensures.ops c.in_ok-groups.ensures.groups in
     let sorted = c.in_ok-groups.ensures.sorted in
-    let is = c.in_ok-fresh.ensures.rows in
-    let worked = c.in_ok-fresh.ensures.worked_out in
+    let is = c.in_ok-changes.ensures.rows in
+    let out = c.in_ok-changes.ensures.worked_out in
+    let worked = future_worked_out es gs (λ q. waiting_is q es t.each) out in
     let fresh = are_fresh es n t D made fs groups h sorted is worked in
     let rows = fresh_rows_of es n t D made fs groups h sorted is worked in
-    let new = c.count_new.ensures ∙ ap (λ fs. count_new (rows_of es) (rows_of (plain_of fs))) c.as_slice.ensures.value in
+    let new = c.count_new.ensures ∙ count_future (λ q. not (has_any (own q (rows_of es)))) es c.as_slice.result.now ∙ ap (λ xs. count_new (rows_of es) (rows_of (future es (staged_of xs)))) c.as_slice.ensures.value in
     let m = n + c.count_new.result in
     let passed : passed_by m fs ≡ first_passed (K ++ D) = first_passed_both es n t D fs fresh rows m (ap (λ k. n + k) new) (roomier_itself es) in
-    let found = c.passed.ensures ∙ ap (λ fs. passed_by m (plain_of fs)) c.as_slice-2.ensures.value in
+    let out-2 = subst (λ xs. AreWorkedOut es (staged_of xs)) (sym c.as_slice-2.ensures.value) out in
+    let found = c.passed.ensures ∙ passed_future m es c.as_slice-2.result.now out-2 ∙ ap (λ xs. passed_by m (future es (staged_of xs))) c.as_slice-2.ensures.value in
     let agree : AllAgree K D = subst (AllAgree K) c.ops-ops.ensures.ops c.in_ok-check.ensures.agree in
     subst (λ K. AllAgree K D × (first_passed (K ++ D) ≡ Some c.in-Some.limit)) (ap flat c.self.view_is) (agree, sym passed ∙ sym found ∙ c.in-Some.is)
 
@@ -44,21 +48,25 @@ invariant_of-result c =
     let n = c.self.inside.named in
     let t = c.self.invariant.0 in
     let D = c.args.delta.now in
-    let fs = plain_of c.in_ok-fresh.fresh.items in
+    let gs = staged_of c.in_ok-changes.changes.items in
+    let fs = future es gs in
     let groups = c.in_ok-groups.groups.entries in
     let K = flat (rows_of es) in
     let made = c.ops-ops.ensures.delta.well_made in
     let h : AreGroups es D groups = subst (λ D. AreGroups es D groups) c.ops-ops.ensures.ops c.in_ok-groups.ensures.groups in
     let sorted = c.in_ok-groups.ensures.sorted in
-    let is = c.in_ok-fresh.ensures.rows in
-    let worked = c.in_ok-fresh.ensures.worked_out in
+    let is = c.in_ok-changes.ensures.rows in
+    let out = c.in_ok-changes.ensures.worked_out in
+    let worked = future_worked_out es gs (λ q. waiting_is q es t.each) out in
     let fresh = are_fresh es n t D made fs groups h sorted is worked in
     let rows = fresh_rows_of es n t D made fs groups h sorted is worked in
-    let new = c.count_new.ensures ∙ ap (λ fs. count_new (rows_of es) (rows_of (plain_of fs))) c.as_slice.ensures.value in
+    let new = c.count_new.ensures ∙ count_future (λ q. not (has_any (own q (rows_of es)))) es c.as_slice.result.now ∙ ap (λ xs. count_new (rows_of es) (rows_of (future es (staged_of xs)))) c.as_slice.ensures.value in
     let m = n + c.count_new.result in
     let passed : passed_by m fs ≡ first_passed (K ++ D) = first_passed_both es n t D fs fresh rows m (ap (λ k. n + k) new) (roomier_itself es) in
-    let found = c.passed.ensures ∙ ap (λ fs. passed_by m (plain_of fs)) c.as_slice-2.ensures.value in
-    fresh_fit m fs worked (sym found ∙ c.in_default.is)
+    let out-2 = subst (λ xs. AreWorkedOut es (staged_of xs)) (sym c.as_slice-2.ensures.value) out in
+    let found = c.passed.ensures ∙ passed_future m es c.as_slice-2.result.now out-2 ∙ ap (λ xs. passed_by m (future es (staged_of xs))) c.as_slice-2.ensures.value in
+    let fit = fresh_fit m fs worked (sym found ∙ c.in_default.is) in
+    (are_staged es gs out fresh.sorted fit.0, fit.1)
 
 pub returns-clause-fits : goal.returns-clause-fits
 returns-clause-fits c =
@@ -66,20 +74,23 @@ returns-clause-fits c =
     let n = c.self.inside.named in
     let t = c.self.invariant.0 in
     let D = c.args.delta.now in
-    let fs = plain_of c.in_ok-fresh.fresh.items in
+    let gs = staged_of c.in_ok-changes.changes.items in
+    let fs = future es gs in
     let groups = c.in_ok-groups.groups.entries in
     let K = flat (rows_of es) in
     let made = c.ops-ops.ensures.delta.well_made in
     let h : AreGroups es D groups = subst (λ D. AreGroups es D groups) c.ops-ops.ensures.ops c.in_ok-groups.ensures.groups in
     let sorted = c.in_ok-groups.ensures.sorted in
-    let is = c.in_ok-fresh.ensures.rows in
-    let worked = c.in_ok-fresh.ensures.worked_out in
+    let is = c.in_ok-changes.ensures.rows in
+    let out = c.in_ok-changes.ensures.worked_out in
+    let worked = future_worked_out es gs (λ q. waiting_is q es t.each) out in
     let fresh = are_fresh es n t D made fs groups h sorted is worked in
     let rows = fresh_rows_of es n t D made fs groups h sorted is worked in
-    let new = c.count_new.ensures ∙ ap (λ fs. count_new (rows_of es) (rows_of (plain_of fs))) c.as_slice.ensures.value in
+    let new = c.count_new.ensures ∙ count_future (λ q. not (has_any (own q (rows_of es)))) es c.as_slice.result.now ∙ ap (λ xs. count_new (rows_of es) (rows_of (future es (staged_of xs)))) c.as_slice.ensures.value in
     let m = n + c.count_new.result in
     let passed : passed_by m fs ≡ first_passed (K ++ D) = first_passed_both es n t D fs fresh rows m (ap (λ k. n + k) new) (roomier_itself es) in
-    let found = c.passed.ensures ∙ ap (λ fs. passed_by m (plain_of fs)) c.as_slice-2.ensures.value in
+    let out-2 = subst (λ xs. AreWorkedOut es (staged_of xs)) (sym c.as_slice-2.ensures.value) out in
+    let found = c.passed.ensures ∙ passed_future m es c.as_slice-2.result.now out-2 ∙ ap (λ xs. passed_by m (future es (staged_of xs))) c.as_slice-2.ensures.value in
     let agree : AllAgree K D = subst (AllAgree K) c.ops-ops.ensures.ops c.in_ok-check.ensures.agree in
     subst (λ K. Fits K D) (ap flat c.self.view_is) (record { agrees = agree; within = sym passed ∙ sym found ∙ c.in_default.is })
 
@@ -89,22 +100,30 @@ returns-clause-ready c =
     let n = c.self.inside.named in
     let t = c.self.invariant.0 in
     let D = c.args.delta.now in
-    let fs = plain_of c.in_ok-fresh.fresh.items in
+    let gs = staged_of c.in_ok-changes.changes.items in
+    let fs = future es gs in
     let groups = c.in_ok-groups.groups.entries in
     let K = flat (rows_of es) in
     let made = c.ops-ops.ensures.delta.well_made in
     let h : AreGroups es D groups = subst (λ D. AreGroups es D groups) c.ops-ops.ensures.ops c.in_ok-groups.ensures.groups in
     let sorted = c.in_ok-groups.ensures.sorted in
-    let is = c.in_ok-fresh.ensures.rows in
-    let worked = c.in_ok-fresh.ensures.worked_out in
+    let is = c.in_ok-changes.ensures.rows in
+    let out = c.in_ok-changes.ensures.worked_out in
+    let worked = future_worked_out es gs (λ q. waiting_is q es t.each) out in
     let fresh = are_fresh es n t D made fs groups h sorted is worked in
     let rows = fresh_rows_of es n t D made fs groups h sorted is worked in
-    let new = c.count_new.ensures ∙ ap (λ fs. count_new (rows_of es) (rows_of (plain_of fs))) c.as_slice.ensures.value in
+    let new = c.count_new.ensures ∙ count_future (λ q. not (has_any (own q (rows_of es)))) es c.as_slice.result.now ∙ ap (λ xs. count_new (rows_of es) (rows_of (future es (staged_of xs)))) c.as_slice.ensures.value in
     let m = n + c.count_new.result in
+    let passed : passed_by m fs ≡ first_passed (K ++ D) = first_passed_both es n t D fs fresh rows m (ap (λ k. n + k) new) (roomier_itself es) in
+    let out-2 = subst (λ xs. AreWorkedOut es (staged_of xs)) (sym c.as_slice-2.ensures.value) out in
+    let found = c.passed.ensures ∙ passed_future m es c.as_slice-2.result.now out-2 ∙ ap (λ xs. passed_by m (future es (staged_of xs))) c.as_slice-2.ensures.value in
+    let fit = fresh_fit m fs worked (sym found ∙ c.in_default.is) in
     let room = by_client c.make_room.new.table.entries in
-    let r = c.in_ok-make_room.ensures.roomier in (
-      subst (λ fs. HaveRoom (rows_of room) (rows_of (plain_of fs))) c.as_slice-3.ensures.value c.in_ok-make_room.ensures.room,
-      counted_after es n t D fs fresh rows room r m (ap (λ k. n + k) new),
+    let r = c.in_ok-make_room.ensures.roomier in
+    let same = own_room es n t D fs fresh rows room r in
+    let places = subst (λ xs. HaveRoom room (staged_of xs)) c.as_slice-3.ensures.value c.in_ok-make_room.ensures.room in (
+      are_ready es room gs same places out fit.0,
+      counted_after es n t D fs fresh rows room r m (ap (λ k. n + k) new) ∙ ap (λ rs. count_named (moved (rows_of room) rs)) (sym (planned_future (rows_of room) es same gs)),
     )
 
 pub returns-clause-taken : goal.returns-clause-taken
@@ -113,18 +132,22 @@ returns-clause-taken c =
     let n = c.self.inside.named in
     let t = c.self.invariant.0 in
     let D = c.args.delta.now in
-    let fs = plain_of c.in_ok-fresh.fresh.items in
+    let gs = staged_of c.in_ok-changes.changes.items in
+    let fs = future es gs in
     let groups = c.in_ok-groups.groups.entries in
     let K = flat (rows_of es) in
     let made = c.ops-ops.ensures.delta.well_made in
     let h : AreGroups es D groups = subst (λ D. AreGroups es D groups) c.ops-ops.ensures.ops c.in_ok-groups.ensures.groups in
     let sorted = c.in_ok-groups.ensures.sorted in
-    let is = c.in_ok-fresh.ensures.rows in
-    let worked = c.in_ok-fresh.ensures.worked_out in
+    let is = c.in_ok-changes.ensures.rows in
+    let out = c.in_ok-changes.ensures.worked_out in
+    let worked = future_worked_out es gs (λ q. waiting_is q es t.each) out in
     let fresh = are_fresh es n t D made fs groups h sorted is worked in
     let rows = fresh_rows_of es n t D made fs groups h sorted is worked in
-    let new = c.count_new.ensures ∙ ap (λ fs. count_new (rows_of es) (rows_of (plain_of fs))) c.as_slice.ensures.value in
+    let new = c.count_new.ensures ∙ count_future (λ q. not (has_any (own q (rows_of es)))) es c.as_slice.result.now ∙ ap (λ xs. count_new (rows_of es) (rows_of (future es (staged_of xs)))) c.as_slice.ensures.value in
     let m = n + c.count_new.result in
     let room = by_client c.make_room.new.table.entries in
     let r = c.in_ok-make_room.ensures.roomier in
-    subst (λ K. IsKeptOf (K ++ D) (flat (moved (rows_of room) (rows_of fs)))) (ap flat c.self.view_is) (kept_after es n t D fs fresh rows room r)
+    let is-planned = planned_future (rows_of room) es (own_room es n t D fs fresh rows room r) gs in
+    subst (λ K. IsKeptOf (K ++ D) (flat (moved (rows_of room) (planned (rows_of room) (plans gs))))) (ap flat c.self.view_is)
+    (subst (λ rs. IsKeptOf (K ++ D) (flat (moved (rows_of room) rs))) (sym is-planned) (kept_after es n t D fs fresh rows room r))

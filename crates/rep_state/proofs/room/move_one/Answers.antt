@@ -1,0 +1,46 @@
+use Rattle.std.proofs.Common.{◌≡◌, is_some, None, true≢false, sym, ap, subst, ◌∙◌, List}
+use Rattle.std.specs.FinMap.{find, put}
+use Rattle.rep_ops.specs.Orders.{client_cmp}
+use Rattle.rep_ops.specs.declared.op.Put.{Put}
+use Rattle.rep_state.specs.Tables.{by_client}
+use Rattle.rep_state.specs.Groups.{or_no_message}
+use Rattle.rep_state.specs.Staging.{applied, IsFit, plan_of}
+use Rattle.rep_state.proofs.Rows.{written_by_client, found_by_client}
+use Rattle.rep_state.proofs.Indexed.{places_written}
+use Rattle.rep_state.proofs.room.move_one.Goals as goal
+
+pub unreachable-requires : goal.unreachable-requires
+unreachable-requires c =
+    let client = c.args.client.now in
+    let old = c.args.table.now.entries in
+    let none : find client_cmp client (by_client old) ≡ None = sym (found_by_client client old) ∙ sym c.in-None.ensures.value in
+    true≢false (sym c.requires.ready.is_there ∙ ap is_some none)
+
+pub put_into-requires-clause-fit : goal.put_into-requires-clause-fit
+put_into-requires-clause-fit c =
+    let client = c.args.client.now in
+    let old = c.args.table.now.entries in
+    let found = sym (found_by_client client old) ∙ sym c.in-Some.ensures.value in
+    subst (λ (ps : List Put). IsFit ps (plan_of c.args.change)) (ap or_no_message found) c.requires.ready.fit
+
+pub returns-clause-put : goal.returns-clause-put
+returns-clause-put c =
+    let client = c.args.client.now in
+    let old = c.args.table.now.entries in
+    let e = c.put_into.new.place in
+    let wrote = c.get_mut.follows.holds e in
+    let found = sym (found_by_client client old) ∙ sym c.in-Some.ensures.value in
+    let there = ap is_some (found_by_client client old) ∙ c.requires.ready.is_there in
+    written_by_client client e old (c.get_mut.follows.lender e).entries there wrote.0
+    ∙ ap (λ x. put client_cmp client x (by_client old)) (c.put_into.ensures ∙ sym (ap (λ ps. applied ps c.args.change) (ap or_no_message found)))
+
+pub returns-clause-places : goal.returns-clause-places
+returns-clause-places c =
+    λ places h.
+    let client = c.args.client.now in
+    let old = c.args.table.now.entries in
+    let e = c.put_into.new.place in
+    let wrote = c.get_mut.follows.holds e in
+    let new = (c.get_mut.follows.lender e).entries in
+    let there = ap is_some (found_by_client client old) ∙ c.requires.ready.is_there in
+    places_written old new places client e _ h c.requires.ready.is_there wrote.0 (written_by_client client e old new there wrote.0)
