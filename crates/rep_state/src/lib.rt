@@ -8,8 +8,9 @@
 //! A delta is taken in two steps. `prepare` tests it against what is kept, before it changes anything; works out
 //! what it makes of each client that it names, operation by operation (`Fresh`), where each may be new, may wait,
 //! may be below the visible stamp or acknowledged already, and after each of them what is held is exactly what must
-//! be kept of all that came; counts what the limits speak of; and makes places for new clients. `commit` moves the
-//! entries into their places, for which no memory is needed.
+//! be kept of all that came; counts what the limits speak of; and makes places for new clients, and room for new
+//! messages. `commit` moves what was worked out into its places, and what waits there behind it (`Change`), for which no
+//! memory is needed.
 //!
 //! - `replica`: the replica and what it promises (`Folded`, `Staged`).
 //! - `table`, `room`: the table of clients, the limits, room for fresh entries and their move.
@@ -18,6 +19,7 @@
 //! - `grouping`: what a delta changes of each client that it names.
 //! - `numbers`, `held`: the last numbers of a client; all clients in order, and what is kept of them.
 //! - `entry`, `fresh`: what is kept of a client, and what a delta changes of it.
+//! - `change`: that as it is staged, and its move into its place.
 //! - `log`: the session operations of a client, with the visible stamp, the prefix and the session.
 //! - `acks`: acknowledged numbers.
 //! - `weaving`, `settling`: messages that wait, with new ones in their places, without the acknowledged ones.
@@ -25,9 +27,10 @@
 //!
 //! The definitions are in `specs/`: `Logs`, `Mail` and `Origins` (of session operations, messages and
 //! acknowledgements), `Kept` (all three as a list of operations), `Entries` (what holds of an entry, and of a
-//! change), `Tables` (of clients), `Groups` (the changes of a delta, client by client), `Numbers`. Lemmas that carry
-//! the step from one operation to the next are in `proofs/`: `Steps`, `One`, `Changes`; from a client to all of
-//! them: `Groups`, `Working`, `Passing`, `Fitting`; of places and moves: `Rows`, `Placing`, `Walking`.
+//! change), `Tables` (of clients), `Groups` (the changes of a delta, client by client), `Staging` (the same as they are
+//! staged), `Numbers`. Lemmas that carry the step from one operation to the next are in `proofs/`: `Steps`, `One`,
+//! `Changes`; from a client to all of them: `Groups`, `Working`, `Passing`, `Fitting`, `Staging`; of places and moves:
+//! `Rows`, `Placing`, `Walking`.
 #![tactic(auto)]
 
 mod acks;
