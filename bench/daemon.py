@@ -543,14 +543,14 @@ def comes_past_the_silent(program: str, folder: str) -> str:
 
 
 def says_again(program: str, folder: str) -> str:
-    """A link on which nothing comes hears the gateway's number once more within some forty seconds, so that an end that is gone is noticed."""
+    """A link on which nothing comes hears the gateway's number once more within a minute or two, so that an end that is gone is noticed."""
     ports = free_ports(2)
     with Gateway(program, folder, 7, (ports[0], ports[1])) as gateway:
         gateway.start()
         with socket.create_connection((HOST, gateway.link), 5) as link:
             link.sendall(message_of(1, b"\xc8"))
             hello, got, began = message_of(1, bytes([7])), b"", time.monotonic()
-            link.settimeout(45)
+            link.settimeout(120)
             while got.count(hello) < 2:
                 more = link.recv(4096)
                 expect(more, "the link was closed")
