@@ -6,3 +6,4 @@ pub mod Ranges
 pub mod Limits
 pub mod Roomy
 pub mod Taking
+pub mod Asking

@@ -6,10 +6,12 @@ ghost use Rattle.rep_model.specs.Views.{view, clients, is_named};
 ghost use Rattle.rep_model.specs.Fresh.{next_epoch, next_seq};
 ghost use Rattle.rep_model.specs.Keep.{IsKeptOf};
 ghost use Rattle.rep_model.specs.Held.{IsHeld};
+ghost use Rattle.rep_model.specs.Asking.{NoneAsks, IsCandidate};
 
 use super::fault::TakeFault;
 use super::view::ClientView;
 use rep_ops::{ClientId, Delta};
+use sn_topic::TopicName;
 use std::alloc::Global;
 
 /// A replica of a set of operations.
@@ -66,6 +68,18 @@ pub trait Replica: Drop {
             (drop place (clients (kept self.now)) ≡ [])
             (λ found. (drop place (clients (kept self.now)) ≡ found.0.now ∷ drop (place + 1) (clients (kept self.now)))
             × (found.1.now ≡ view found.0.now (kept self.now))) };
+
+    /// The next client, from a place on, that may be subscribed to the topic (MQTT-SN 1.2 section 6.10), with its view, and the
+    /// place behind it; nothing where nobody who is left is subscribed. Whoever is passed over is not. A replica need not pass
+    /// over everybody that it could: whom it finds is to be asked.
+    fn next_candidate(
+        &self,
+        topic: &TopicName,
+        place: usize,
+    ) -> Option<(usize, &ClientId, &ClientView)>
+        ensures { MatchOption result
+            (NoneAsks topic.now (kept self.now) (drop place (clients (kept self.now))))
+            (λ found. IsCandidate topic.now (kept self.now) place found.0 found.1.now found.2.now) };
 
     /// The epoch of the client's next Take; nothing after the last.
     fn next_epoch(&self, client: &ClientId) -> Option<u64>

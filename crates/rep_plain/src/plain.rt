@@ -11,6 +11,7 @@ use super::room::{make_room, move_in};
 use super::table::{Table, count_new, named_at, named_clients, own_ops, passed};
 use rep_model::{ClientView, Replica, TakeFault};
 use rep_ops::{ClientId, Delta};
+use sn_topic::TopicName;
 use std::alloc::Global;
 use std::collections::BTreeMap;
 use std::marker::Model;
@@ -112,6 +113,15 @@ impl Replica for Plain {
     fn client_at(&self, place: usize) -> Option<(&ClientId, &ClientView)> {
         let (client, entry) = named_at(&self.table, place)?;
         Some((client, &entry.seen))
+    }
+
+    fn next_candidate(
+        &self,
+        _topic: &TopicName,
+        place: usize,
+    ) -> Option<(usize, &ClientId, &ClientView)> {
+        let (client, entry) = named_at(&self.table, place)?;
+        Some((place + 1, client, &entry.seen))
     }
 
     fn next_epoch(&self, client: &ClientId) -> Option<u64> {

@@ -24,3 +24,4 @@ pub mod Walking
 pub mod Indexed
 pub mod Greatest
 pub mod Contradicting
+pub mod Asking

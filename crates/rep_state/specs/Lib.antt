@@ -4,6 +4,7 @@ pub mod Kept
 pub mod Origins
 pub mod Entries
 pub mod Tables
+pub mod Interests
 pub mod Groups
 pub mod Numbers
 pub mod Staging

@@ -1,6 +1,6 @@
 //! What the replica keeps of one client.
 
-ghost use Rattle.std.specs.Prelude.{◌≡◌, ◌||◌, ◌==◌, not, length, ℕ, List, [], count_by};
+ghost use Rattle.std.specs.Prelude.{◌≡◌, ◌||◌, ◌==◌, not, length, ℕ, List, [], None, count_by};
 ghost use Rattle.std.specs.BTreeMap.{keys};
 ghost use Rattle.rep_plain.specs.Rows.{has_any};
 ghost use Rattle.rep_plain.specs.Steps.{waits};
@@ -36,6 +36,7 @@ impl Entry {
         ensures entry { (c : List ℕ) → IsEntry c result }
         ensures row { (c : List ℕ) → row_of c result ≡ [] }
         ensures pending { result.seen.pending ≡ [] }
+        ensures session { result.seen.session ≡ None }
     {
         Entry {
             seen: ClientView {

@@ -1,6 +1,6 @@
 //! All clients in order, and what is kept of them.
 
-ghost use Rattle.std.specs.Prelude.{◌≡◌, ◌+◌, ◌++◌, ◌∷◌, [], IfOk, OnOk, IfSome, MatchOption, Some, ℕ, drop, filter};
+ghost use Rattle.std.specs.Prelude.{◌≡◌, ◌+◌, ◌++◌, ◌∷◌, ◌≤◌, [], IfOk, OnOk, IfSome, MatchOption, Some, ℕ, drop, filter};
 ghost use Rattle.std.specs.FinMap.{find};
 ghost use Rattle.rep_ops.specs.Orders.{client_cmp};
 ghost use Rattle.rep_ops.specs.declared.op.Op.TheVariants.{Session as OfSession, Put as OfPut};
@@ -9,13 +9,16 @@ ghost use Rattle.rep_plain.specs.Rows.{flat, own, has_any, count_named, named_ro
 ghost use Rattle.rep_state.specs.Entries.{row_of};
 ghost use Rattle.rep_state.specs.Kept.{of_log, of_mail};
 ghost use Rattle.rep_state.specs.Tables.{by_client, rows_of, own_of_all, IsTable, ArePlaces};
+ghost use Rattle.rep_state.specs.Interests.{AreMarked, AreSilent, IsNext};
 
 use super::entry::Entry;
 use super::fault::NoMemory;
-use super::places::{Place, client_at, names};
+use super::interest::mark_of;
+use super::places::{Place, client_at, names, next_marked};
 use super::table::{Table, entry_of, has_operations};
 use rep_ops::{ClientId, Delta, Op, Put, Stamp, deltas_of};
 use sn_session::SessionOp;
+use sn_topic::TopicName;
 use std::alloc::Global;
 use std::collections::BTreeMap;
 
@@ -96,6 +99,36 @@ fn walk_to<'a>(
         }
     }
     None
+}
+
+/// The next client from a place on, among those that have operations, where so many have some, that may ask for the topic, with its
+/// entry and the place behind it. Where all of them have operations, those that are passed over are told by their marks alone.
+pub(crate) fn next_asking<'a>(
+    table: &'a Table,
+    places: &'a [Place],
+    named: usize,
+    from: usize,
+    topic: &TopicName,
+) -> Option<(usize, &'a ClientId, &'a Entry)>
+    requires places { ArePlaces table.now.entries places.now }
+    requires marks { AreMarked (by_client table.now.entries) places.now }
+    requires named { named ≡ count_named (rows_of (by_client table.now.entries)) }
+    requires few { named ≤ 4096 }
+    ensures next { MatchOption result
+        (AreSilent topic.now (by_client table.now.entries)
+        (drop from (named_rows (rows_of (by_client table.now.entries)))))
+        (λ found. IsNext topic.now (by_client table.now.entries)
+        (named_rows (rows_of (by_client table.now.entries))) from found.0 found.1.now) }
+    ensures found { IfSome result (λ found.
+        find client_cmp found.1.now (by_client table.now.entries) ≡ Some found.2.now) }
+{
+    if named < places.len() {
+        let (client, entry) = walk_to(table, places, from)?;
+        return Some((from + 1, client, entry));
+    }
+    let at = next_marked(places, from, mark_of(topic.bytes()))?;
+    let (client, entry) = client_at(table, places, at)?;
+    Some((at + 1, client, entry))
 }
 
 /// What is kept, as deltas.

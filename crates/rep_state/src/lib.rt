@@ -14,7 +14,8 @@
 //!
 //! - `replica`: the replica and what it promises (`Folded`, `Staged`).
 //! - `table`, `room`: the table of clients, the limits, room for fresh entries and their move.
-//! - `places`: the clients in order.
+//! - `places`: the clients in order, each with the marks of what it asks for; the next that a publication may be for.
+//! - `interest`: which topics a client's filters may ask for, as a few marks.
 //! - `agreeing`: whether a delta contradicts what is kept.
 //! - `grouping`: what a delta changes of each client that it names.
 //! - `numbers`, `held`: the last numbers of a client; all clients in order, and what is kept of them.
@@ -41,6 +42,7 @@ mod fault;
 mod fresh;
 mod grouping;
 mod held;
+mod interest;
 mod log;
 mod numbers;
 mod places;

@@ -1,15 +1,18 @@
-//! The names of the clients in order, each with the index of its entry in the table.
+//! The names of the clients in order, each with the index of its entry in the table, and with the marks of the topics that it may
+//! ask for.
 //!
-//! A walk over all clients in order sorts nothing and looks for nothing.
+//! A walk over all clients in order sorts nothing and looks for nothing, and one for a publication looks at marks alone.
 
-ghost use Rattle.std.specs.Prelude.{◌≡◌, ◌+◌, ◌≤◌, ◌∷◌, [], IfOk, IsTrue, MatchOption, length, drop, vec_len, vec_capacity};
+ghost use Rattle.std.specs.Prelude.{◌≡◌, ◌+◌, ◌<◌, ◌≤◌, ◌∷◌, [], IfOk, IsTrue, MatchOption, length, map, drop, vec_len, vec_capacity};
 ghost use Rattle.std.specs.Map.{keys_of};
 ghost use Rattle.sn_session.specs.Tables.{is_ascending, with_entry, IsPlace};
 ghost use Rattle.rep_ops.specs.Orders.{client_cmp};
 ghost use Rattle.rep_state.specs.Tables.{by_client, place_cmp, names_at, ArePlaces};
+ghost use Rattle.rep_state.specs.Interests.{marked, NoneMarked, IsPassed};
 
 use super::entry::Entry;
 use super::fault::NoMemory;
+use super::interest::has_mark;
 use super::table::Table;
 use rep_ops::ClientId;
 use std::alloc::Global;
@@ -19,14 +22,16 @@ use std::alloc::Global;
 pub struct Place {
     pub(crate) name: ClientId,
     pub(crate) index: usize,
+    /// The marks of the topics that its filters may ask for.
+    pub(crate) marks: u64,
 }
 
 /// Where a name stands among places in order, or where it would go. The time is logarithmic.
-fn place_of(places: &[Place], name: &ClientId) -> Result<usize, usize>
+fn place_of(places: &[Place], name: &[u8]) -> Result<usize, usize>
     requires { IsTrue (is_ascending place_cmp places.now) }
     ensures { IsPlace (λ place. client_cmp place.name name.now) places.now result }
 {
-    places.binary_search_by(|place| place.name.cmp(name))
+    places.binary_search_by(|place| place.name.bytes().cmp(name))
 }
 
 /// Enters a place among others in order. There is room for it.
@@ -35,10 +40,35 @@ pub(crate) fn enter(places: &mut Vec<Place>, place: Place)
     requires order { IsTrue (is_ascending place_cmp places.old.items) }
     ensures { places.new.items ≡ with_entry place_cmp place places.old.items }
 {
-    match place_of(places.as_slice(), &place.name) {
+    match place_of(places.as_slice(), place.name.bytes()) {
         Ok(at) => places[at] = place,
         Err(at) => places.insert(at, place).unwrap(),
     }
+}
+
+/// Notes the marks of the topics that a client may ask for, where it has a place.
+pub(crate) fn mark_place(places: &mut Vec<Place>, client: &[u8], marks: u64)
+    requires { IsTrue (is_ascending place_cmp places.old.items) }
+    ensures { places.new.items ≡ map (marked client.now marks) places.old.items }
+{
+    if let Ok(at) = place_of(places.as_slice(), client) {
+        places[at].marks = marks;
+    }
+}
+
+/// The first place with this mark, from a place on.
+pub(crate) fn next_marked(places: &[Place], from: usize, mark: u64) -> Option<usize>
+    requires { mark < 64 }
+    ensures { MatchOption result
+        (NoneMarked mark (drop from places.now))
+        (λ at. (at < length places.now) × IsPassed mark places.now from at) }
+{
+    for at in from..places.len() {
+        if has_mark(places[at].marks, mark) {
+            return Some(at);
+        }
+    }
+    None
 }
 
 /// The names, in their order.

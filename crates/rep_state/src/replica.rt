@@ -5,7 +5,7 @@ ghost use Rattle.std.specs.Prelude.{◌≡◌};
 use super::agreeing::check;
 use super::change::Change;
 use super::grouping::{grown, worked_out};
-use super::held::{held, named_at, named_clients};
+use super::held::{held, named_at, named_clients, next_asking};
 use super::numbers::{last_epoch, last_seq};
 use super::places::Place;
 use super::room::{make_room, move_in};
@@ -13,6 +13,7 @@ use super::table::{Table, count_new, entry_of, passed};
 use indexmap::IndexMap;
 use rep_model::{ClientView, Replica, TakeFault};
 use rep_ops::{ClientId, Delta};
+use sn_topic::TopicName;
 use std::alloc::Global;
 use std::marker::Model;
 
@@ -21,7 +22,7 @@ use std::marker::Model;
 pub struct Folded {
     /// The clients. An empty place is seen by no query.
     table: Table,
-    /// Their names in ascending order, each with the index of its entry.
+    /// Their names in ascending order, each with the index of its entry and the marks of what it may ask for.
     places: Vec<Place>,
     /// How many clients have operations.
     named: usize,
@@ -34,11 +35,13 @@ impl Model for Folded {
     ghost Value = { List (List ℕ × List Op) };
 
     ghost use Rattle.rep_state.specs.Tables.{by_client, rows_of, IsTable, ArePlaces};
+    ghost use Rattle.rep_state.specs.Interests.{AreMarked};
 
     ghost view = { λ p. rows_of (by_client p.table.entries) };
 
     ghost invariant = { λ p. IsTable (by_client p.table.entries) p.named
-        × ArePlaces p.table.entries p.places.items };
+        × ArePlaces p.table.entries p.places.items
+        × AreMarked (by_client p.table.entries) p.places.items };
 }
 
 /// A delta that fits: what becomes of the clients that it names once it is taken.
@@ -98,7 +101,7 @@ impl Replica for Folded {
 
     fn commit(&mut self, staged: Staged) {
         let Staged { changes, named } = staged;
-        move_in(&mut self.table, changes);
+        move_in(&mut self.table, &mut self.places, changes);
         self.named = named;
     }
 
@@ -118,6 +121,16 @@ impl Replica for Folded {
         let places = self.places.as_slice();
         let (client, entry) = named_at(&self.table, places, self.named, place)?;
         Some((client, &entry.seen))
+    }
+
+    fn next_candidate(
+        &self,
+        topic: &TopicName,
+        place: usize,
+    ) -> Option<(usize, &ClientId, &ClientView)> {
+        let places = self.places.as_slice();
+        let (behind, client, entry) = next_asking(&self.table, places, self.named, place, topic)?;
+        Some((behind, client, &entry.seen))
     }
 
     fn next_epoch(&self, client: &ClientId) -> Option<u64> {

@@ -5,6 +5,7 @@ ghost use Rattle.std.specs.FinMap.{find, put};
 ghost use Rattle.rep_ops.specs.Orders.{client_cmp};
 ghost use Rattle.rep_plain.specs.Rows.{moved};
 ghost use Rattle.rep_state.specs.Tables.{by_client, rows_of, IsRoomier, AreKept, ArePlaces};
+ghost use Rattle.rep_state.specs.Interests.{AreMarked};
 ghost use Rattle.rep_state.specs.Groups.{waiting_of};
 ghost use Rattle.rep_state.specs.Staging.{applied, staged_of, future, plan_of, HaveRoom, IsChange, IsReady, AreMovable, AreStaged};
 ghost use Rattle.rep_state.specs.declared.places.Place.{Place as AtPlace};
@@ -12,7 +13,8 @@ ghost use Rattle.rep_state.specs.declared.places.Place.{Place as AtPlace};
 use super::change::{Change, put_into};
 use super::entry::Entry;
 use super::fault::NoMemory;
-use super::places::{Place, enter};
+use super::interest::marks_of;
+use super::places::{Place, enter, mark_place};
 use super::table::{Table, copy_octets};
 use rep_ops::ClientId;
 use std::alloc::Global;
@@ -24,8 +26,10 @@ pub(crate) fn make_room(
     places: &mut Vec<Place>,
     changes: &[(Vec<u8>, Change)],
 ) -> Result<(), NoMemory>
-    requires { ArePlaces table.old.entries places.old.items }
+    requires places { ArePlaces table.old.entries places.old.items }
+    requires marks { AreMarked (by_client table.old.entries) places.old.items }
     ensures places { ArePlaces table.new.entries places.new.items }
+    ensures marks { AreMarked (by_client table.new.entries) places.new.items }
     ensures roomier { IsRoomier (by_client table.old.entries) (by_client table.new.entries) }
     ensures room { OnOk result (HaveRoom (by_client table.new.entries) (staged_of changes.now)) }
 {
@@ -42,8 +46,10 @@ fn add_place(
     places: &mut Vec<Place>,
     client: &[u8],
 ) -> Result<(), NoMemory>
-    requires { ArePlaces table.old.entries places.old.items }
+    requires places { ArePlaces table.old.entries places.old.items }
+    requires marks { AreMarked (by_client table.old.entries) places.old.items }
     ensures places { ArePlaces table.new.entries places.new.items }
+    ensures marks { AreMarked (by_client table.new.entries) places.new.items }
     ensures roomier { IsRoomier (by_client table.old.entries) (by_client table.new.entries) }
     ensures there { OnOk result
         (IsSome (find client_cmp client.now (rows_of (by_client table.new.entries)))) }
@@ -56,24 +62,39 @@ fn add_place(
     places.reserve(1)?;
     let index = table.len();
     table.insert(key, Entry::empty(alloc))?;
-    enter(places, Place { name, index });
+    enter(
+        places,
+        Place {
+            name,
+            index,
+            marks: 0,
+        },
+    );
     Ok(())
 }
 
-/// Moves the changes into their places.
-pub(crate) fn move_in(table: &mut Table, mut changes: Vec<(Vec<u8>, Change)>)
+/// Moves the changes into their places, and notes what their clients may ask for.
+pub(crate) fn move_in(
+    table: &mut Table,
+    places: &mut Vec<Place>,
+    mut changes: Vec<(Vec<u8>, Change)>,
+)
     requires staged { AreStaged (staged_of changes.items) }
     requires movable { AreMovable (by_client table.old.entries) (staged_of changes.items) }
     requires kept { AreKept (by_client table.old.entries) }
+    requires places { ArePlaces table.old.entries places.old.items }
+    requires marks { AreMarked (by_client table.old.entries) places.old.items }
     ensures rows { rows_of (by_client table.new.entries)
         ≡ moved (rows_of (by_client table.old.entries))
         (rows_of (future (by_client table.old.entries) (staged_of changes.items))) }
     ensures kept { AreKept (by_client table.new.entries) }
-    ensures places { (places : List AtPlace)
-        → ArePlaces table.old.entries places → ArePlaces table.new.entries places }
+    ensures places { ArePlaces table.new.entries places.new.items }
+    ensures marks { AreMarked (by_client table.new.entries) places.new.items }
 {
     while let Some((client, change)) = changes.pop() {
+        let marks = marks_of(&change.entry.seen.session);
         move_one(table, client.as_slice(), change);
+        mark_place(places, client.as_slice(), marks);
     }
 }
 

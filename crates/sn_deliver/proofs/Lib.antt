@@ -11,6 +11,7 @@ pub mod Idle
 pub mod Keeping
 mod Locally
 mod Lowering
+mod Passing
 mod Pending
 mod Receiving
 mod Remaining

@@ -1,4 +1,5 @@
-//! Who gets a publication, and at which quality of service (MQTT-SN 1.2 section 6.10).
+//! Who gets a publication, and at which quality of service (MQTT-SN 1.2 section 6.10). A publication goes from candidate to
+//! candidate, and passes over clients that are not subscribed to its topic.
 
 ghost use Rattle.std.specs.Prelude.{◌≡◌, filter, IfOk, IfErr};
 ghost use Rattle.std.specs.Option.{option_map};
@@ -80,7 +81,8 @@ fn put_at(
     }
 }
 
-/// A message for each recipient of the publication, in the order of the clients.
+/// A message for each recipient of the publication, in the order of the clients. Only candidates are asked: whoever the
+/// replica passes over is not subscribed, and is no recipient.
 pub fn puts_for<R: Replica>(
     alloc: Global,
     replica: &R,
@@ -92,16 +94,14 @@ pub fn puts_for<R: Replica>(
     ensures err { IfErr result (λ fault. fault ≡ StepFault.Memory) }
 {
     let mut puts = Vec::new(alloc);
-    for place in 0..usize::MAX {
-        let Some((client, view)) = replica.client_at(place) else {
-            return Ok(puts);
-        };
+    let mut place = 0;
+    while let Some((behind, client, view)) = replica.next_candidate(topic, place) {
         if let Some(put) = put_at(alloc, topic, qos, body, client, view)? {
             puts.push(put)?;
         }
+        place = behind;
     }
-    // no memory holds so many clients
-    Err(StepFault::Memory)
+    Ok(puts)
 }
 
 /// The message for a client, where it is a recipient.

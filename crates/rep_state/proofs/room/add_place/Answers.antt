@@ -9,6 +9,7 @@ use Rattle.rep_state.specs.declared.places.Place.{Place}
 use Rattle.rep_state.proofs.Rows.{put_by_client, found_by_client}
 use Rattle.rep_state.proofs.Placing.{roomier_place, place_there, empty_kept, some_there, none_there}
 use Rattle.rep_state.proofs.Indexed.{places_pass, places_with}
+use Rattle.rep_state.proofs.Asking.{marked_with}
 use Rattle.rep_state.proofs.room.add_place.Goals as goal
 
 pub returns-then-contains_key-clause-there : goal.returns-then-contains_key-clause-there
@@ -19,7 +20,7 @@ returns-then-contains_key-clause-there c =
 
 pub enter-requires-clause-order : goal.enter-requires-clause-order
 enter-requires-clause-order c =
-    subst (λ places. is_ascending place_cmp places ≡ true) (sym c.in_ok-reserve.ensures.items) (places_pass c.args.table.now.entries c.args.places.now.items c.requires)
+    subst (λ places. is_ascending place_cmp places ≡ true) (sym c.in_ok-reserve.ensures.items) (places_pass c.args.table.now.entries c.args.places.now.items c.requires.places)
 
 pub returns-clause-places : goal.returns-clause-places
 returns-clause-places c =
@@ -28,12 +29,25 @@ returns-clause-places c =
     let new = c.insert.new.self.entries in
     let key = c.in_ok-key.key in
     let e = c.empty.result in
-    let p : Place = record { name = c.in_ok-name.name; index = c.len-index.result } in
+    let p : Place = record { name = c.in_ok-name.name; index = c.len-index.result; marks = 0 } in
     let is : by_client new ≡ put client_cmp key.items e (by_client old) = put_by_client key e old new c.in_ok-insert.ensures.entries in
     let absent = none_there (lookup (λ (j : Vec ℕ Global). bytes_eq client j.items) old) (sym c.contains_key.ensures ∙ c.if-contains_key.false) in
     let none = ap (λ k. lookup (λ (j : Vec ℕ Global). bytes_eq k j.items) old) c.in_ok-key.ensures ∙ absent in
-    places_with old new c.args.places.now.items c.enter.new.places.items key e p c.requires none c.in_ok-insert.ensures.entries is
+    places_with old new c.args.places.now.items c.enter.new.places.items key e p c.requires.places none c.in_ok-insert.ensures.entries is
     (c.in_ok-name.ensures.ok.0 ∙ sym c.in_ok-key.ensures) c.len-index.ensures.len
+    (c.enter.ensures ∙ ap (with_entry place_cmp p) c.in_ok-reserve.ensures.items)
+
+pub returns-clause-marks : goal.returns-clause-marks
+returns-clause-marks c =
+    let client = c.args.client.now in
+    let old = c.args.table.now.entries in
+    let new = c.insert.new.self.entries in
+    let e = c.empty.result in
+    let p : Place = record { name = c.in_ok-name.name; index = c.len-index.result; marks = 0 } in
+    let is : by_client new ≡ put client_cmp client e (by_client old) = put_by_client c.in_ok-key.key e old new c.in_ok-insert.ensures.entries ∙ ap (λ k. put client_cmp k e (by_client old)) c.in_ok-key.ensures in
+    let absent = none_there (find client_cmp client (by_client old)) (ap is_some (sym (found_by_client client old)) ∙ sym c.contains_key.ensures ∙ c.if-contains_key.false) in
+    marked_with (by_client old) (by_client new) c.args.places.now.items c.enter.new.places.items client e p c.requires.marks is c.empty.ensures.session
+    (ap (λ k. find client_cmp k (by_client old)) c.in_ok-name.ensures.ok.0 ∙ absent)
     (c.enter.ensures ∙ ap (with_entry place_cmp p) c.in_ok-reserve.ensures.items)
 
 pub returns-clause-roomier : goal.returns-clause-roomier

@@ -19,13 +19,19 @@ loop-row-preserved c =
     let h = c.in_ok-add_place.ensures.roomier in
     let there = subst (λ k. IsSome (find client_cmp k (rows_of new))) c.as_slice.ensures.value c.in_ok-add_place.ensures.there in
     let is = ap staged_of (take_more changes c.loop-row.row-index row c.loop-row-test.true ∙ ap (λ r. done ++ r ∷ []) (sym c.row-item.is)) ∙ staged_last done row in
-    (roomier_then c.loop-row.invariant.0 h, subst (HaveRoom new) (sym is) (room_more old new (staged_of done) (name, row.1) h c.loop-row.invariant.1 there), c.in_ok-add_place.ensures.places)
+    (roomier_then c.loop-row.invariant.0 h, subst (HaveRoom new) (sym is) (room_more old new (staged_of done) (name, row.1) h c.loop-row.invariant.1 there), c.in_ok-add_place.ensures.places, c.in_ok-add_place.ensures.marks)
 
-pub add_place-requires : goal.add_place-requires
-add_place-requires c = c.loop-row.invariant.2
+pub add_place-requires-clause-places : goal.add_place-requires-clause-places
+add_place-requires-clause-places c = c.loop-row.invariant.2
+
+pub add_place-requires-clause-marks : goal.add_place-requires-clause-marks
+add_place-requires-clause-marks c = c.loop-row.invariant.3
 
 pub returns-in_err-add_place-clause-roomier : goal.returns-in_err-add_place-clause-roomier
 returns-in_err-add_place-clause-roomier c = roomier_then c.loop-row.invariant.0 c.in_err-add_place.ensures.roomier
 
 pub returns-clause-places : goal.returns-clause-places
 returns-clause-places c = c.loop-row.invariant.2
+
+pub returns-clause-marks : goal.returns-clause-marks
+returns-clause-marks c = c.loop-row.invariant.3

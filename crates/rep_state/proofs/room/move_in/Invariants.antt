@@ -1,8 +1,8 @@
-use Rattle.std.proofs.Common.{◌≡◌, List, vec_len}
+use Rattle.std.proofs.Common.{◌≡◌, vec_len}
 use Rattle.rep_plain.specs.Rows.{moved}
 use Rattle.rep_state.specs.Tables.{by_client, rows_of, AreKept, ArePlaces}
 use Rattle.rep_state.specs.Staging.{staged_of, future, AreMovable, AreStaged}
-use Rattle.rep_state.specs.declared.places.Place.{Place}
+use Rattle.rep_state.specs.Interests.{AreMarked}
 use Rattle.rep_state.proofs.room.move_in.Given as goal
 
 abbrev pub invariant-loop-client : goal.invariant-loop-client
@@ -11,7 +11,8 @@ invariant-loop-client l =
     × AreStaged (staged_of l.changes.items)
     × AreMovable (by_client l.table.entries) (staged_of l.changes.items)
     × AreKept (by_client l.table.entries)
-    × ((places : List Place) → ArePlaces l.fn.table.entries places → ArePlaces l.table.entries places)
+    × ArePlaces l.table.entries l.places.items
+    × AreMarked (by_client l.table.entries) l.places.items
 
 abbrev pub decreases-loop-client : goal.decreases-loop-client
 decreases-loop-client l = vec_len l.changes

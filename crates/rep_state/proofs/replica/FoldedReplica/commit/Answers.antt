@@ -27,7 +27,8 @@ invariant_of-self c =
         counted = counted-2 ∙ ap count_named (sym now);
         few = c.staged.invariant.1;
       },
-      c.move_in.ensures.places c.self.inside.places.items c.self.invariant.1,
+      c.move_in.ensures.places,
+      c.move_in.ensures.marks,
     )
 
 pub returns : goal.returns
