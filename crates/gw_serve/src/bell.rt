@@ -1,17 +1,39 @@
 //! A bell by which the reader wakes workers that found the queue empty.
+//!
+//! A worker that finds it empty sleeps until the bell rings. To wake it costs more than the call of a small datagram, so a worker that has
+//! just worked first looks for a ring for some tens of microseconds: a client that waits for its answer sends its next datagram by
+//! then. One worker looks at a time, and a ring for which one looks wakes nobody.
+//!
+//! Each ring brings a worker to the queue behind it:
+//!
+//! - The count of rings and what is said beside it change under the lock alone.
+//! - A worker reads the count before it goes to the queue. It says that it looks, and it falls asleep, only where the count is still the same under
+//!   the lock. So a ring from before finds it awake, and it goes to the queue once more.
+//! - The first ring behind a worker's word that it looks takes that word back, under the lock, and wakes nobody. That worker does not
+//!   sleep: it sees the other count while it looks, or finds it under the lock before it would sleep. Either way it goes to the queue.
+//! - Any other ring wakes one who sleeps. Where nobody sleeps, all are awake and go to the queue before they sleep.
+//! - A worker whose look has ended takes its word back itself where the count is the same: no ring has come, so the word is its own.
 
+use std::hint::spin_loop;
+use std::sync::atomic::{AtomicU64, Ordering};
 use std::sync::{Condvar, Mutex, Wait};
+
+/// How often a worker looks for a ring before it sleeps. A look lasts some ten to fifty nanoseconds.
+const LOOKS: u32 = 1_000;
 
 #[derive(Drop)]
 struct Rings {
-    count: u64,
     closed: bool,
+    /// A worker looks, and nothing has rung since it said so.
+    watched: bool,
 }
 
 /// Counts the rings, and says when there will be no more.
 #[derive(Drop)]
 pub struct Bell {
     rings: Mutex<Rings>,
+    /// How often it has rung, and one more where it is closed. Who looks reads it without the lock.
+    count: AtomicU64,
     rung: Condvar,
 }
 
@@ -29,29 +51,36 @@ impl Bell {
     pub(crate) fn new() -> Bell {
         Bell {
             rings: Mutex::new(Rings {
-                count: 0,
                 closed: false,
+                watched: false,
             }),
+            count: AtomicU64::new(0),
             rung: Condvar::new(),
         }
     }
 
-    /// Wakes one that waits. The lock is free by then: who wakes takes it first.
+    /// Wakes one that waits, unless one looks. The lock is free by then: who wakes takes it first.
     pub(crate) fn ring<R: Wait>(&self, rt: &R) {
-        self.count(rt);
-        self.rung.notify_one();
+        if !self.is_watched(rt) {
+            self.rung.notify_one();
+        }
     }
 
-    /// One ring more.
-    fn count<R: Wait>(&self, rt: &R) {
+    /// One ring more. Says whether a worker has looked for it, which is said of no further ring.
+    fn is_watched<R: Wait>(&self, rt: &R) -> bool {
         let mut rings = self.rings.lock(rt);
-        rings.count = rings.count.wrapping_add(1);
+        let is_watched = rings.watched;
+        rings.watched = false;
+        self.count.fetch_add(1, Ordering::SeqCst);
+        is_watched
     }
 
     /// Wakes all, for good.
     pub(crate) fn close<R: Wait>(&self, rt: &R) {
         let mut rings = self.rings.lock(rt);
         rings.closed = true;
+        rings.watched = false;
+        self.count.fetch_add(1, Ordering::SeqCst);
         self.rung.notify_all();
     }
 
@@ -59,16 +88,50 @@ impl Bell {
     pub(crate) fn heard<R: Wait>(&self, rt: &R) -> Heard {
         let rings = self.rings.lock(rt);
         Heard {
-            count: rings.count,
+            count: self.count.load(Ordering::SeqCst),
             closed: rings.closed,
         }
     }
 
-    /// Waits for a ring since then.
-    pub(crate) fn wait_past<R: Wait>(&self, rt: &R, heard: Heard) {
-        let rings = self.rung.wait_while(rt, self.rings.lock(rt), |rings| {
-            rings.count == heard.count && !rings.closed
-        });
-        let _ = rings.count;
+    /// Waits for a ring since then. A worker that has just worked looks for one before it sleeps, unless another does.
+    pub(crate) fn wait_past<R: Wait>(&self, rt: &R, heard: Heard, has_worked: bool) {
+        let is_looking = has_worked && self.begin_look(rt, heard);
+        if is_looking && self.has_rung_soon(heard) {
+            return;
+        }
+        let mut rings = self.rings.lock(rt);
+        if is_looking && !self.has_rung(heard) {
+            rings.watched = false;
+        }
+        let rings = self
+            .rung
+            .wait_while(rt, rings, |_rings| !self.has_rung(heard));
+        let _ = rings.closed;
+    }
+
+    /// Says that a worker looks, where no other does and nothing has rung since then.
+    fn begin_look<R: Wait>(&self, rt: &R, heard: Heard) -> bool {
+        let mut rings = self.rings.lock(rt);
+        if rings.watched || self.has_rung(heard) {
+            return false;
+        }
+        rings.watched = true;
+        true
+    }
+
+    /// Whether it rings within a short while.
+    fn has_rung_soon(&self, heard: Heard) -> bool {
+        for _ in 0..LOOKS {
+            if self.has_rung(heard) {
+                return true;
+            }
+            spin_loop();
+        }
+        false
+    }
+
+    /// Whether it has rung, or was closed, since then.
+    fn has_rung(&self, heard: Heard) -> bool {
+        self.count.load(Ordering::SeqCst) != heard.count
     }
 }

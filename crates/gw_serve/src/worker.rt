@@ -138,6 +138,7 @@ fn take_all<T: Wait, R: Replica, D: Disk + Drop, P: Post, G: Gate>(
         mut left,
         fault: _,
     } = seat;
+    let mut has_worked = false;
     for _ in rt.forever() {
         if !has_room(&mut taken, &mut left) {
             return seat_of(pass, ticket, taken, left, Some(Trouble::Memory));
@@ -148,6 +149,7 @@ fn take_all<T: Wait, R: Replica, D: Disk + Drop, P: Post, G: Gate>(
                 let number = datagram.number;
                 let (after, handled) = handle(rt, alloc, shift, post, gate, pass, datagram);
                 pass = after;
+                has_worked = true;
                 match handled {
                     Handled::Stepped(step) => {
                         taken.push_reserved(Taken {
@@ -168,7 +170,8 @@ fn take_all<T: Wait, R: Replica, D: Disk + Drop, P: Post, G: Gate>(
                 if heard.closed {
                     return seat_of(pass, ticket, taken, left, None);
                 }
-                bell.wait_past(rt, heard);
+                bell.wait_past(rt, heard, has_worked);
+                has_worked = false;
             }
         }
     }

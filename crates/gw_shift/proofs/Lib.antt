@@ -3,3 +3,5 @@ pub mod Holding
 pub mod Handing
 pub mod Counting
 pub mod Strangers
+pub mod Apart
+pub mod Unused

@@ -2,7 +2,7 @@
 
 ghost use Rattle.std.specs.Prelude.{◌≡◌, ◌↔◌, ◌≤◌, ◌-◌, IsTrue, MatchOption, slice_get, length};
 ghost use Rattle.rep_ops.specs.declared.op.Op.{Op};
-ghost use Rattle.gw_shift.specs.Closing.{StandsIn, has_number, is_held, AreOwn, AreKnown, HaveOpening, IsStrangeIn, IsStrange, taken_by};
+ghost use Rattle.gw_shift.specs.Closing.{StandsIn, AllStand, EachStands, IsElsewhere, AreApart, has_number, is_held, AreOwn, AreKnown, HaveOpening, IsStrangeIn, IsStrange, taken_by};
 
 use super::entry::{Entry, HeldCall};
 use super::pass::Pass;
@@ -93,7 +93,7 @@ fn first_strange_call(
 }
 
 /// The same of several passes.
-pub(crate) fn first_stranger(history: &[Entry], passes: &[Pass]) -> Option<u64>
+fn first_in_turn(history: &[Entry], passes: &[Pass]) -> Option<u64>
     ensures { MatchOption result (AreKnown history.now passes.now) (IsStrange history.now passes.now) }
 {
     let mut left = passes;
@@ -104,6 +104,77 @@ pub(crate) fn first_stranger(history: &[Entry], passes: &[Pass]) -> Option<u64>
         left = rest;
     }
     None
+}
+
+/// Whether all calls of a pass stand in the history.
+fn all_stand(history: &[Entry], place: u64, calls: &[HeldCall]) -> bool
+    ensures { IsTrue result → AllStand history.now place calls.now }
+{
+    let mut left = calls;
+    'calls: while let Some((held, rest)) = left.split_first() {
+        if !stands_in(history, place, held) {
+            return false;
+        }
+        left = rest;
+    }
+    true
+}
+
+/// Whether all calls of all passes do.
+fn each_stands(history: &[Entry], passes: &[Pass]) -> bool
+    ensures { IsTrue result → EachStands history.now passes.now }
+{
+    let mut left = passes;
+    'passes: while let Some((pass, rest)) = left.split_first() {
+        if !all_stand(history, pass.place, pass.calls.as_slice()) {
+            return false;
+        }
+        left = rest;
+    }
+    true
+}
+
+/// Whether none of the passes has this place.
+fn is_elsewhere(place: u64, passes: &[Pass]) -> bool
+    ensures { IsTrue result → IsElsewhere place passes.now }
+{
+    let mut left = passes;
+    'passes: while let Some((pass, rest)) = left.split_first() {
+        if pass.place == place {
+            return false;
+        }
+        left = rest;
+    }
+    true
+}
+
+/// Whether no two of the passes have one place.
+fn are_apart(passes: &[Pass]) -> bool
+    ensures { IsTrue result → AreApart passes.now }
+{
+    let mut left = passes;
+    'passes: while let Some((pass, rest)) = left.split_first() {
+        if !is_elsewhere(pass.place, rest) {
+            return false;
+        }
+        left = rest;
+    }
+    true
+}
+
+/// The number of the first call of several passes that the history has not so, or that another of them holds. Passes of different places
+/// whose calls all stand in the history hold none in common, so that each call is looked at once. Only where that does not hold is each
+/// compared with those of the others.
+#[tactic(auto, using(crate::proofs::Apart::apart_known))]
+pub(crate) fn first_stranger(history: &[Entry], passes: &[Pass]) -> Option<u64>
+    ensures { MatchOption result (AreKnown history.now passes.now) (IsStrange history.now passes.now) }
+{
+    if are_apart(passes) {
+        if each_stands(history, passes) {
+            return None;
+        }
+    }
+    first_in_turn(history, passes)
 }
 
 /// How many calls the passes hold.

@@ -14,7 +14,7 @@
 //! - `gathering`: the deltas that calls made: shares of them are taken under the lock, copies outside.
 //! - `closing`: whether passes hold the calls of a history.
 //! - `fault`: why something is refused.
-//! - `laws`: passes that account for a history have no stranger among them.
+//! - `laws`: passes that account for a history have no stranger among them, and one that made no call may be left out.
 //!
 //! The definitions are in `specs/`: `Calls` (a call, and what contracts see of a pass), `Legal` (a legal history), `Passes` (what
 //! passes hold, and which deltas calls made), `Calling` (what a call leaves), `Closing` (when passes and history agree).
@@ -33,6 +33,6 @@ mod shift;
 pub use ended::{Closed, Ended};
 pub use entry::Entry;
 pub use fault::{CallFault, CloseFault, ShiftFault};
-pub use laws::strangers_are_not_known;
+pub use laws::{strangers_are_not_known, unused_passes_may_go};
 pub use pass::Pass;
 pub use shift::Shift;

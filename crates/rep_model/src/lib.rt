@@ -11,7 +11,8 @@
 //!
 //! The definitions are in `specs/`: `Views` (visible stamp, prefix, session, pending), `Fresh` (the next
 //! epoch and sequence number), `Keep` (what may not be forgotten), `Held` (that as deltas), `Ranges` (of
-//! acknowledgements), `Limits` (how much a replica holds), `Roomy` (deltas that fit one after the other).
+//! acknowledgements), `Limits` (how much a replica holds), `Roomy` (deltas that fit one after the other), `Asking` (whom a
+//! publication passes over).
 //! The lemmas that crates above cite are in `proofs/`: `Joins`, `Thin`, `Ranges`, `Named`, `Fresh`,
 //! `Limits`, `Agreeing`, `Occurring`, `Roomy`.
 #![tactic(auto)]

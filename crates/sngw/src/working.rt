@@ -311,17 +311,20 @@ where
     }
 }
 
-/// Ends the shift, and compares its history with what its threads hold.
+/// Ends the shift, and compares its history with what its threads hold. Passes that made no call are left out: nothing of the history is theirs, and
+/// to compare what each of them holds of the opening would take as long as for the others.
 fn close<R, D>(alloc: Global, shift: Shift<R, D>, crew: Crew) -> Result<Worked<R, D>, Stop>
 where
     R: Replica,
     D: Disk + Drop,
 {
     let tended = tended_in(crew.ticking.as_slice());
-    let mut passes = crew.serving;
+    let mut passes = Vec::new(alloc);
+    for pass in crew.serving {
+        keep(&mut passes, pass)?;
+    }
     gather(&mut passes, crew.ticking)?;
     gather(&mut passes, crew.linking)?;
-    let _ = alloc;
     match shift.end().close(passes) {
         Ok(Closed { node, history }) => {
             let steps = history.len();
@@ -361,10 +364,19 @@ fn gather(passes: &mut Vec<Pass>, seats: Vec<Option<Seat>>) -> Result<(), Stop> 
                 Some(End::Memory) => return Err(Stop::Memory),
                 Some(End::Behind) => return Err(Stop::History),
             }
-            if passes.push(seat.pass).is_err() {
-                return Err(Stop::Memory);
-            }
+            keep(passes, seat.pass)?;
         }
+    }
+    Ok(())
+}
+
+/// Puts a pass to those that are compared, unless it made no call.
+fn keep(passes: &mut Vec<Pass>, pass: Pass) -> Result<(), Stop> {
+    if pass.is_unused() {
+        return Ok(());
+    }
+    if passes.push(pass).is_err() {
+        return Err(Stop::Memory);
     }
     Ok(())
 }

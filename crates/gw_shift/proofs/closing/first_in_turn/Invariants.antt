@@ -1,6 +1,6 @@
 use Rattle.std.proofs.Common.{ℕ, length}
 use Rattle.gw_shift.specs.Closing.{AreKnown, IsStrange}
-use Rattle.gw_shift.proofs.closing.first_stranger.Given as goal
+use Rattle.gw_shift.proofs.closing.first_in_turn.Given as goal
 
 -- what is said of the passes that are left is said of all
 abbrev pub invariant-passes : goal.invariant-passes
