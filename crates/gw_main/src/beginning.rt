@@ -36,9 +36,13 @@ pub fn begin<R: Replica, D: Disk + Drop, O: Write, E: Write>(
     out: &mut O,
     err: &mut E,
 ) -> Result<Node<R, D>, u8>
-    ensures starts { IfOk result (λ node. IsStarted (config_of settings.now) (state_of R.kept node)) }
-    ensures records { D.honest → IfOk result (λ node. records_of node ≡ length (records settings.now.gateway (image (D.slots disk)))) }
-    ensures keeps { D.honest → IfOk result (λ node. Keeps (ops_of (records settings.now.gateway (image (D.slots disk)))) (state_of R.kept node).kept) }
+    ensures starts { IfOk result (λ node. IsStarted (config_of settings.now)
+        (state_of R.kept node)) }
+    ensures records { D.honest → IfOk result (λ node. records_of node
+        ≡ length (records settings.now.gateway (image (D.slots disk)))) }
+    ensures keeps { D.honest → IfOk result (λ node.
+        Keeps (ops_of (records settings.now.gateway (image (D.slots disk))))
+        (state_of R.kept node).kept) }
     ensures status { IfErr result (λ status. status ≡ 2) }
 {
     match open(alloc, settings, disk) {
@@ -65,10 +69,15 @@ fn open<R: Replica, D: Disk + Drop>(
     settings: &Settings,
     disk: D,
 ) -> Result<(Node<R, D>, usize), NodeFault>
-    ensures starts { IfOk result (λ opened. IsStarted (config_of settings.now) (state_of R.kept opened.0)) }
-    ensures records { D.honest → IfOk result (λ opened. records_of opened.0 ≡ length (records settings.now.gateway (image (D.slots disk)))) }
-    ensures keeps { D.honest → IfOk result (λ opened. Keeps (ops_of (records settings.now.gateway (image (D.slots disk)))) (state_of R.kept opened.0).kept) }
-    ensures clients { IfOk result (λ opened. opened.1 ≡ length (clients_of (state_of R.kept opened.0).kept)) }
+    ensures starts { IfOk result (λ opened. IsStarted (config_of settings.now)
+        (state_of R.kept opened.0)) }
+    ensures records { D.honest → IfOk result (λ opened. records_of opened.0
+        ≡ length (records settings.now.gateway (image (D.slots disk)))) }
+    ensures keeps { D.honest → IfOk result (λ opened.
+        Keeps (ops_of (records settings.now.gateway (image (D.slots disk))))
+        (state_of R.kept opened.0).kept) }
+    ensures clients { IfOk result (λ opened. opened.1
+        ≡ length (clients_of (state_of R.kept opened.0).kept)) }
     ensures may { IfErr result (λ fault. MayRefuse (told fault)) }
 {
     let config = config_of(alloc, settings)?;

@@ -14,7 +14,8 @@ use toml::{Table, Value};
 
 /// The value at a name.
 pub(crate) fn found<'a>(table: &'a Table, name: &str) -> Option<&'a Value>
-    ensures { option_map (λ value. view value.now) result ≡ get_member name.now (table_view table.now) }
+    ensures { option_map (λ value. view value.now) result ≡ get_member name.now
+        (table_view table.now) }
 {
     table.get(name)
 }
@@ -38,7 +39,8 @@ pub(crate) fn number_in(
     missing: Option<u64>,
 ) -> Option<u64>
     requires { IfSome missing (λ number. number ≤ high) }
-    ensures value { result ≡ number_in low high missing (option_map (λ value. view value.now) found.entry) }
+    ensures value { result ≡ number_in low high missing (option_map (λ value. view value.now)
+        found.entry) }
     ensures most { IfSome result (λ number. number ≤ high) }
 {
     match found {
@@ -59,9 +61,11 @@ pub(crate) fn number_at(
     missing: Option<u64>,
 ) -> Result<u64, SettingsFault>
     requires { IfSome missing (λ number. number ≤ high) }
-    ensures ok { IfOk result (λ number. number_in low high missing (at key (table_view table.now)) ≡ Some number) }
+    ensures ok { IfOk result (λ number. number_in low high missing (at key (table_view table.now))
+        ≡ Some number) }
     ensures most { IfOk result (λ number. number ≤ high) }
-    ensures err { IfErr result (IsBadAt (number_in low high missing (at key (table_view table.now))) key) }
+    ensures err { IfErr result (IsBadAt (number_in low high missing
+        (at key (table_view table.now))) key) }
 {
     match number_in(found(table, key.name()), low, high, missing) {
         None => Err(SettingsFault::Key(key)),
@@ -95,7 +99,8 @@ pub(crate) fn address_at(table: &Table, key: Key) -> Result<Addr, SettingsFault>
 
 /// The text at a key.
 pub(crate) fn text_at(alloc: Global, table: &Table, key: Key) -> Result<String, SettingsFault>
-    ensures ok { IfOk result (λ text. text_in (at key (table_view table.now)) ≡ Some (string_bytes text)) }
+    ensures ok { IfOk result (λ text. text_in (at key (table_view table.now))
+        ≡ Some (string_bytes text)) }
     ensures err { IfErr result (IsBadAt (text_in (at key (table_view table.now))) key) }
 {
     match found(table, key.name()) {

@@ -39,8 +39,10 @@ pub(crate) fn addresses_at(
     table: &Table,
     key: Key,
 ) -> Result<Vec<Addr>, SettingsFault>
-    ensures ok { IfOk result (λ all. list_in address_item (at key (table_view table.now)) ≡ Some all.items) }
-    ensures err { IfErr result (IsBadAt (list_in address_item (at key (table_view table.now))) key) }
+    ensures ok { IfOk result (λ all. list_in address_item (at key (table_view table.now))
+        ≡ Some all.items) }
+    ensures err { IfErr result (IsBadAt (list_in address_item
+        (at key (table_view table.now))) key) }
 {
     match found(table, key.name()) {
         None => Ok(Vec::new(alloc)),
@@ -69,7 +71,8 @@ fn named(alloc: Global, text: &[u8]) -> Result<Option<TopicName>, SettingsFault>
 
 /// The name of a topic.
 fn name_in(alloc: Global, found: Option<&Value>) -> Result<Option<TopicName>, SettingsFault>
-    ensures ok { IfOk result (λ name. name ≡ name_in (option_map (λ value. view value.now) found.entry)) }
+    ensures ok { IfOk result (λ name. name ≡ name_in (option_map (λ value. view value.now)
+        found.entry)) }
     ensures err { IfErr result (λ fault. fault ≡ SettingsFault.Memory) }
 {
     match found {
@@ -133,8 +136,10 @@ fn entries(alloc: Global, items: &[Value]) -> Result<Vec<(u16, TopicName)>, Sett
 
 /// The entries under the key of the predefined topic ids; none where it is not there.
 fn entries_at(alloc: Global, table: &Table) -> Result<Vec<(u16, TopicName)>, SettingsFault>
-    ensures ok { IfOk result (λ all. list_in entry_item (at keys.Predefined (table_view table.now)) ≡ Some all.items) }
-    ensures err { IfErr result (IsBadAt (list_in entry_item (at keys.Predefined (table_view table.now))) keys.Predefined) }
+    ensures ok { IfOk result (λ all. list_in entry_item (at keys.Predefined (table_view table.now))
+        ≡ Some all.items) }
+    ensures err { IfErr result (IsBadAt (list_in entry_item
+        (at keys.Predefined (table_view table.now))) keys.Predefined) }
 {
     match found(table, Key::Predefined.name()) {
         None => Ok(Vec::new(alloc)),

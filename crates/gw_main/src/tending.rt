@@ -32,7 +32,9 @@ pub fn tend<R: Replica, D: Disk + Drop>(
 ) -> Result<Tended, NodeFault>
     ensures runs { OnOk result (is_stopped (state_of R.kept node.new) ≡ false) }
     ensures halts { OnErr result (is_stopped (state_of R.kept node.new) ≡ true) }
-    ensures tended { MatchResult result (λ tended. IsTended (state_of R.kept node.old) tended (state_of R.kept node.new)) (λ fault. IsGivenUp (state_of R.kept node.old) (told fault) (state_of R.kept node.new)) }
+    ensures tended { MatchResult result (λ tended. IsTended (state_of R.kept node.old) tended
+        (state_of R.kept node.new)) (λ fault. IsGivenUp (state_of R.kept node.old) (told fault)
+        (state_of R.kept node.new)) }
     ensures taken { D.honest → TakesOn (state_of R.kept node.old) (state_of R.kept node.new) }
 {
     if !node.is_halted() {
@@ -51,9 +53,11 @@ fn open_anew<R: Replica, D: Disk + Drop>(
     node: &mut Node<R, D>,
 ) -> Result<(), NodeFault>
     ensures ok { OnOk result (OpensAnew (state_of R.kept node.old) (state_of R.kept node.new)) }
-    ensures err { IfErr result (λ fault. ReopenCall (state_of R.kept node.old) (Err (told fault)) (state_of R.kept node.new)) }
+    ensures err { IfErr result (λ fault. ReopenCall (state_of R.kept node.old) (Err (told fault))
+        (state_of R.kept node.new)) }
     ensures again { OnOk result (TakesAgain (state_of R.kept node.old) (state_of R.kept node.new)) }
-    ensures nothing { OnErr result (TakesNothing (state_of R.kept node.old) (state_of R.kept node.new)) }
+    ensures nothing { OnErr result (TakesNothing (state_of R.kept node.old)
+        (state_of R.kept node.new)) }
 {
     match node.reopen(alloc) {
         Ok(_) => Ok(()),
@@ -69,7 +73,9 @@ fn compact<R: Replica, D: Disk + Drop>(
     requires { is_stopped (state_of R.kept node.old) ≡ false }
     ensures runs { OnOk result (is_stopped (state_of R.kept node.new) ≡ false) }
     ensures halts { OnErr result (is_stopped (state_of R.kept node.new) ≡ true) }
-    ensures ends { MatchResult result (λ tended. EndsAs (state_of R.kept node.old) tended (state_of R.kept node.new)) (λ fault. EndsRefused (state_of R.kept node.old) (told fault) (state_of R.kept node.new)) }
+    ensures ends { MatchResult result (λ tended. EndsAs (state_of R.kept node.old) tended
+        (state_of R.kept node.new)) (λ fault. EndsRefused (state_of R.kept node.old) (told fault)
+        (state_of R.kept node.new)) }
     ensures taken { D.honest → TakesOn (state_of R.kept node.old) (state_of R.kept node.new) }
 {
     match node.compact(alloc) {

@@ -44,7 +44,8 @@ fn sized(alloc: Global, kind: u8, bytes: &[u8]) -> Result<Option<(LinkMessage, &
 
 /// The length, and the octets behind it; nothing where octets are wanting.
 fn size_at(bytes: &[u8]) -> Option<(u32, &[u8])>
-    ensures { MatchOption result (number_at w32 bytes.now ≡ Err OpsFault.Truncated) (λ read. number_at w32 bytes.now ≡ Ok (read.0, read.1.now)) }
+    ensures { MatchOption result (number_at w32 bytes.now ≡ Err OpsFault.Truncated)
+        (λ read. number_at w32 bytes.now ≡ Ok (read.0, read.1.now)) }
 {
     match read_u32(bytes) {
         None => None,

@@ -23,8 +23,10 @@ pub fn link_out<W: Write>(
     message: &LinkMessage,
 ) -> Result<(), LinkOutFault>
     requires { IsNumbered message.now }
-    ensures ok { OnOk result (Appends (W.contents writer.old) (W.contents writer.new) (spelling message.now)) }
-    ensures fault { IfErr result (IsCutShort (W.contents writer.old) (W.contents writer.new) (spelling message.now)) }
+    ensures ok { OnOk result (Appends (W.contents writer.old) (W.contents writer.new)
+        (spelling message.now)) }
+    ensures fault { IfErr result (IsCutShort (W.contents writer.old) (W.contents writer.new)
+        (spelling message.now)) }
 {
     is_short(message);
     let body = body(alloc, message)?;
@@ -85,7 +87,8 @@ fn head(alloc: Global, message: &LinkMessage, size: usize) -> Result<Vec<u8>, Li
 fn write_behind<W: Write>(writer: &mut W, octets: &[u8], before: usize) -> Result<(), LinkOutFault>
     requires { before + length octets.now < 2 ^ 64 }
     ensures ok { OnOk result (Appends (W.contents writer.old) (W.contents writer.new) octets.now) }
-    ensures fault { IfErr result (IsCutBehind before (W.contents writer.old) (W.contents writer.new) octets.now) }
+    ensures fault { IfErr result (IsCutBehind before (W.contents writer.old) (W.contents writer.new)
+        octets.now) }
 {
     let mut written = 0;
     while written < octets.len() {

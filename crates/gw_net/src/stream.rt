@@ -52,10 +52,12 @@ impl LinkIn {
     ///
     /// `Failed` after a fault; `Memory`, and the link is as it was.
     pub fn feed(&mut self, alloc: Global, piece: &[u8]) -> Result<Fed, LinkFault>
-        ensures ok { IfOk result (λ fed. IsFed self.old piece.now fed.messages.items fed.fault self.new) }
+        ensures ok { IfOk result (λ fed. IsFed self.old piece.now fed.messages.items
+            fed.fault self.new) }
         ensures unchanged { OnErr result (self.new ≡ self.old) }
         ensures failed { result ≡ Err LinkFault.Failed ↔ (self.old.failed ≡ true) }
-        ensures err { IfErr result (λ fault. (fault ≡ LinkFault.Failed) ⊎ (fault ≡ LinkFault.Memory)) }
+        ensures err { IfErr result (λ fault. (fault ≡ LinkFault.Failed)
+            ⊎ (fault ≡ LinkFault.Memory)) }
     {
         if self.failed {
             return Err(LinkFault::Failed);
@@ -75,7 +77,8 @@ impl LinkIn {
 
 /// Takes a piece behind the octets that wait, and the whole messages out of them. On an error what waits is as it was.
 fn take_piece(alloc: Global, waiting: &mut Vec<u8>, piece: &[u8]) -> Result<Fed, LinkFault>
-    ensures ok { IfOk result (λ fed. IsRead (waiting.old.items ++ piece.now) fed.messages.items fed.fault waiting.new.items) }
+    ensures ok { IfOk result (λ fed. IsRead (waiting.old.items ++ piece.now) fed.messages.items
+        fed.fault waiting.new.items) }
     ensures unchanged { OnErr result (waiting.new.items ≡ waiting.old.items) }
     ensures err { IfErr result (λ fault. fault ≡ LinkFault.Memory) }
 {
@@ -95,7 +98,9 @@ fn take_piece(alloc: Global, waiting: &mut Vec<u8>, piece: &[u8]) -> Result<Fed,
 
 /// The messages in front of the octets, what stands behind them, and how many octets are left.
 fn read_messages(alloc: Global, bytes: &[u8]) -> Result<(Fed, usize), LinkFault>
-    ensures ok { IfOk result (λ read. (read.1 ≤ length bytes.now) × IsRead bytes.now read.0.messages.items read.0.fault (drop (length bytes.now - read.1) bytes.now)) }
+    ensures ok { IfOk result (λ read. (read.1 ≤ length bytes.now)
+        × IsRead bytes.now read.0.messages.items read.0.fault
+        (drop (length bytes.now - read.1) bytes.now)) }
     ensures err { IfErr result (λ fault. fault ≡ LinkFault.Memory) }
 {
     let mut messages = Vec::new(alloc);

@@ -90,7 +90,8 @@ fn refill<R: Replica, D: Disk + Drop>(
     halted: bool,
 ) -> Result<(), Refusal>
     requires { R.kept replica ≡ [] }
-    ensures { RefilledAs (state_of R.kept node.old) deltas.items halted result (state_of R.kept node.new) }
+    ensures { RefilledAs (state_of R.kept node.old) deltas.items halted result
+        (state_of R.kept node.new) }
 {
     let mut replica = replica;
     match take_all(alloc, &mut replica, deltas.as_slice()) {

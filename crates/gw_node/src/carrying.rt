@@ -49,7 +49,8 @@ pub(crate) fn prepare<R: Replica>(
     ensures delta { IsDelta delta.now }
     ensures fits { OnOk result (Fits (R.kept replica.old) delta.now) }
     ensures ready { IfOk result (λ staged. R.ready replica.new staged) }
-    ensures taken { IfOk result (λ staged. IsKeptOf (R.kept replica.old ++ delta.now) (R.after replica.new staged)) }
+    ensures taken { IfOk result (λ staged. IsKeptOf (R.kept replica.old ++ delta.now)
+        (R.after replica.new staged)) }
     ensures misfit { IfErr result (λ refusal. IsMisfit (R.kept replica.old) delta.now refusal) }
 {
     let _ops = delta.ops();
@@ -122,8 +123,10 @@ pub(crate) fn note<R: Replica, D: Disk + Drop>(
     plan: Plan,
 ) -> Result<Shares, Refusal>
     requires { plan.ops ≡ [] }
-    ensures ok { IfOk result (λ out. IsDone (state_of R.kept node.old) plan out (state_of R.kept node.new)) }
-    ensures err { IfErr result (λ refusal. (refusal ≡ refusals.Memory) × IsUnchanged (state_of R.kept node.old) (state_of R.kept node.new)) }
+    ensures ok { IfOk result (λ out. IsDone (state_of R.kept node.old) plan out
+        (state_of R.kept node.new)) }
+    ensures err { IfErr result (λ refusal. (refusal ≡ refusals.Memory)
+        × IsUnchanged (state_of R.kept node.old) (state_of R.kept node.new)) }
 {
     let Plan {
         ops: _,

@@ -50,8 +50,10 @@ fn plan_for<R: Replica, D: Disk>(
     now: u64,
 ) -> Result<Plan, Refusal>
     requires { IsMessage frame.now }
-    ensures ok { IfOk result (λ plan. planned_for (state_of R.kept node.now) from frame.now now ≡ Some plan) }
-    ensures err { IfErr result (IsNoPlan (planned_for (state_of R.kept node.now) from frame.now now)) }
+    ensures ok { IfOk result (λ plan. planned_for (state_of R.kept node.now) from frame.now now
+        ≡ Some plan) }
+    ensures err { IfErr result (IsNoPlan (planned_for (state_of R.kept node.now) from
+        frame.now now)) }
 {
     match plan_step(
         alloc,
@@ -92,7 +94,8 @@ fn carry_for_frame<R: Replica, D: Disk + Drop>(
     frame: &Frame,
     plan: Plan,
 ) -> Result<Shares, Refusal>
-    ensures { CarriedOut (state_of R.kept node.old) plan (only_sends (defined_excuses from frame.now plan.sends)) result (state_of R.kept node.new) }
+    ensures { CarriedOut (state_of R.kept node.old) plan
+        (only_sends (defined_excuses from frame.now plan.sends)) result (state_of R.kept node.new) }
 {
     if plan.ops.is_empty() {
         return note(alloc, node, plan);
@@ -107,7 +110,8 @@ fn carry_for_tick<R: Replica, D: Disk + Drop>(
     node: &mut Node<R, D>,
     plan: Plan,
 ) -> Result<Shares, Refusal>
-    ensures { CarriedOut (state_of R.kept node.old) plan (only_sends []) result (state_of R.kept node.new) }
+    ensures { CarriedOut (state_of R.kept node.old) plan (only_sends []) result
+        (state_of R.kept node.new) }
 {
     if plan.ops.is_empty() {
         return note(alloc, node, plan);
@@ -129,7 +133,8 @@ fn answer_frame<R: Replica, D: Disk + Drop>(
     now: u64,
 ) -> Result<Shares, Refusal>
     requires { IsMessage frame.now }
-    ensures { Answers (state_of R.kept node.old) (planned_for (state_of R.kept node.old) from frame.now now) (defined_excuses from frame.now) result (state_of R.kept node.new) }
+    ensures { Answers (state_of R.kept node.old) (planned_for (state_of R.kept node.old) from
+        frame.now now) (defined_excuses from frame.now) result (state_of R.kept node.new) }
 {
     match plan_for(alloc, node, from, frame, now) {
         Ok(plan) => carry_for_frame(alloc, node, from, frame, plan),
@@ -145,7 +150,8 @@ pub(crate) fn handle_frame<R: Replica, D: Disk + Drop>(
     bytes: &[u8],
     now: u64,
 ) -> Result<Shares, Refusal>
-    ensures { OwnCall (state_of R.kept node.old) (Datagram from bytes.now) now result (state_of R.kept node.new) }
+    ensures { OwnCall (state_of R.kept node.old) (Datagram from bytes.now) now result
+        (state_of R.kept node.new) }
 {
     if node.is_halted() {
         return Err(Refusal::Halted);

@@ -62,36 +62,58 @@ impl<R: Replica, D: Disk + Drop> Node<R, D> {
     pub fn open(alloc: Global, config: Config, disk: D) -> Result<Node<R, D>, (D, NodeFault)>
         ensures starts { IfOk result (λ node. IsStarted config (state_of R.kept node)) }
         ensures may { IfErr result (λ refused. MayRefuse (told refused.1)) }
-        ensures counts { MatchResult result (λ node. D.failures disk ≤ D.failures (disk_of node)) (λ refused. D.failures disk ≤ D.failures refused.0) }
-        ensures cause { IfErr result (λ refused. IsDiskFault (told refused.1) → D.failures disk < D.failures refused.0) }
-        ensures starved { D.starved disk ≡ true → MatchResult result (λ node. D.starved (disk_of node) ≡ true) (λ refused. D.starved refused.0 ≡ true) }
+        ensures counts { MatchResult result (λ node. D.failures disk ≤ D.failures (disk_of node))
+            (λ refused. D.failures disk ≤ D.failures refused.0) }
+        ensures cause { IfErr result (λ refused. IsDiskFault (told refused.1)
+            → D.failures disk < D.failures refused.0) }
+        ensures starved { D.starved disk ≡ true
+            → MatchResult result (λ node. D.starved (disk_of node) ≡ true)
+            (λ refused. D.starved refused.0 ≡ true) }
         // It takes the records of the slots as they were found,
-        ensures records { D.honest → IfOk result (λ node. records_of node ≡ length (records config.gateway (image (D.slots disk)))) }
-        ensures takes { D.honest → IfOk result (λ node. CountsAs (ops_of (records config.gateway (image (D.slots disk)))) (state_of R.kept node).kept) }
+        ensures records { D.honest → IfOk result (λ node. records_of node
+            ≡ length (records config.gateway (image (D.slots disk)))) }
+        ensures takes { D.honest → IfOk result
+            (λ node. CountsAs (ops_of (records config.gateway (image (D.slots disk))))
+            (state_of R.kept node).kept) }
         // and keeps nothing that is not in them,
-        ensures keeps { D.honest → IfOk result (λ node. Keeps (ops_of (records config.gateway (image (D.slots disk)))) (state_of R.kept node).kept) }
-        ensures none { D.honest → IfOk result (λ node. records config.gateway (image (D.slots disk)) ≡ [] → (state_of R.kept node).kept ≡ []) }
+        ensures keeps { D.honest → IfOk result
+            (λ node. Keeps (ops_of (records config.gateway (image (D.slots disk))))
+            (state_of R.kept node).kept) }
+        ensures none { D.honest → IfOk result (λ node. records config.gateway (image (D.slots disk))
+            ≡ [] → (state_of R.kept node).kept ≡ []) }
         // each of which fits to those before it,
-        ensures fits { D.honest → OnOk result (FitInTurn [] (records config.gateway (image (D.slots disk)))) }
+        ensures fits { D.honest → OnOk result
+            (FitInTurn [] (records config.gateway (image (D.slots disk)))) }
         // beside whatever set it had taken before it stopped.
-        ensures restarts { D.honest → IfOk result (λ node. (S refused : List Op) → StandsFor config.gateway S refused (image (D.slots disk)) →
+        ensures restarts { D.honest → IfOk result (λ node. (S refused : List Op)
+            → StandsFor config.gateway S refused (image (D.slots disk)) →
             HasTaken (S ++ ops_of (records config.gateway (image (D.slots disk)))) [] (state_of R.kept node)) }
         // Where nothing was refused, that is the set itself.
-        ensures durable { D.honest → IfOk result (λ node. (S : List Op) → StandsFor config.gateway S [] (image (D.slots disk)) → HasTaken S [] (state_of R.kept node)) }
+        ensures durable { D.honest → IfOk result (λ node. (S : List Op)
+            → StandsFor config.gateway S [] (image (D.slots disk))
+            → HasTaken S [] (state_of R.kept node)) }
         // Its journal goes on in the slot that is read.
-        ensures place { D.honest → IfOk result (λ node. GoesOnIn (state_of R.kept node) config.gateway (image (D.slots disk))) }
-        ensures known { D.honest → IfOk result (λ node. D.slots (disk_of node) ≡ recovered config.gateway (image (D.slots disk))) }
+        ensures place { D.honest → IfOk result (λ node. GoesOnIn (state_of R.kept node)
+            config.gateway (image (D.slots disk))) }
+        ensures known { D.honest → IfOk result (λ node. D.slots (disk_of node) ≡ recovered
+            config.gateway (image (D.slots disk))) }
         // It is refused exactly where the format says so, or a record does not fit, or the disk failed, or memory ran out.
-        ensures found { D.honest → OnOk result (fault_of config.gateway (image (D.slots disk)) ≡ None) }
-        ensures fault { D.honest → IfErr result (λ refused. IsOpenFault config.gateway (image (D.slots disk)) (told refused.1)) }
+        ensures found { D.honest → OnOk result
+            (fault_of config.gateway (image (D.slots disk)) ≡ None) }
+        ensures fault { D.honest → IfErr result (λ refused. IsOpenFault config.gateway
+            (image (D.slots disk)) (told refused.1)) }
         // Refused for another cause than the disk, it leaves the slots as they were, synced, or as an opening leaves them.
-        ensures slots { D.honest → IfErr result (λ refused. LeavesSlots config.gateway (D.slots disk) (told refused.1) (D.slots refused.0)) }
+        ensures slots { D.honest → IfErr result (λ refused. LeavesSlots config.gateway
+            (D.slots disk) (told refused.1) (D.slots refused.0)) }
         // Whatever refused it, no crash leaves what it could not have left before.
-        ensures leaves { D.honest → IfErr result (λ refused. LeavesNoMore config.gateway (D.slots disk) (D.slots refused.0)) }
+        ensures leaves { D.honest → IfErr result (λ refused. LeavesNoMore config.gateway
+            (D.slots disk) (D.slots refused.0)) }
         // A failure that is arranged for an append stays arranged, unless a journal is begun.
-        ensures quiet { D.honest → IsTrue (is_quiet (D.outlook disk) (is_fresh (image (D.slots disk)))) →
+        ensures quiet { D.honest → IsTrue (is_quiet (D.outlook disk)
+            (is_fresh (image (D.slots disk)))) →
             IfOk result (λ node. D.starved (disk_of node) ≡ false → D.outlook (disk_of node) ≡ D.outlook disk) }
-        ensures blameless { D.honest → IsTrue (is_quiet (D.outlook disk) (is_fresh (image (D.slots disk)))) →
+        ensures blameless { D.honest → IsTrue
+            (is_quiet (D.outlook disk) (is_fresh (image (D.slots disk)))) →
             IfErr result (λ refused. D.starved refused.0 ≡ false → (IsDiskFault (told refused.1) → ⊥) × (D.outlook refused.0 ≡ D.outlook disk)) }
     {
         let Ok(replica) = R::empty(alloc) else {
@@ -119,8 +141,10 @@ impl<R: Replica, D: Disk + Drop> Node<R, D> {
     /// code 1, congestion (section 5.3.10), where the frame's answer has a return code. After each other fault nothing has
     /// changed.
     pub fn frame(&mut self, alloc: Global, from: Addr, bytes: &[u8], now: u64) -> Answer
-        ensures call { OwnCall (state_of R.kept self.old) (Datagram from bytes.now) now (said result) (state_of R.kept self.new) }
-        ensures taken { OwnCarriesOn (state_of R.kept self.old) (Datagram from bytes.now) now (said result) (state_of R.kept self.new) }
+        ensures call { OwnCall (state_of R.kept self.old) (Datagram from bytes.now) now
+            (said result) (state_of R.kept self.new) }
+        ensures taken { OwnCarriesOn (state_of R.kept self.old) (Datagram from bytes.now) now
+            (said result) (state_of R.kept self.new) }
     {
         one(handle_frame(alloc, self, from, bytes, now))
     }
@@ -134,8 +158,10 @@ impl<R: Replica, D: Disk + Drop> Node<R, D> {
     /// After `Disk` the node is halted, what it keeps and knows is as before, and nothing is to be sent. After each other
     /// fault nothing has changed.
     pub fn take(&mut self, alloc: Global, delta: &Delta) -> Answer
-        ensures call { TakeCall (state_of R.kept self.old) delta.now (said result) (state_of R.kept self.new) }
-        ensures taken { CarriesOn (state_of R.kept self.old) delta.now (said result) (state_of R.kept self.new) }
+        ensures call { TakeCall (state_of R.kept self.old) delta.now (said result)
+            (state_of R.kept self.new) }
+        ensures taken { CarriesOn (state_of R.kept self.old) delta.now (said result)
+            (state_of R.kept self.new) }
     {
         one(take_in(alloc, self, delta))
     }
@@ -146,8 +172,10 @@ impl<R: Replica, D: Disk + Drop> Node<R, D> {
     /// and so are the faults, of which `Frame` never comes. Nobody waits for the answer to a tick, so after `Disk` nothing
     /// is to be sent.
     pub fn tick(&mut self, alloc: Global, now: u64) -> Answer
-        ensures call { OwnCall (state_of R.kept self.old) Clock now (said result) (state_of R.kept self.new) }
-        ensures taken { OwnCarriesOn (state_of R.kept self.old) Clock now (said result) (state_of R.kept self.new) }
+        ensures call { OwnCall (state_of R.kept self.old) Clock now (said result)
+            (state_of R.kept self.new) }
+        ensures taken { OwnCarriesOn (state_of R.kept self.old) Clock now (said result)
+            (state_of R.kept self.new) }
     {
         one(handle_tick(alloc, self, now))
     }
@@ -155,7 +183,8 @@ impl<R: Replica, D: Disk + Drop> Node<R, D> {
     /// Somebody asks for a client's view: `view` of the answer, or none where nothing names the client. A halted node
     /// answers too. The only fault is `Memory`.
     pub fn view(&self, alloc: Global, client: &ClientId) -> Answer
-        ensures { ViewCall (state_of R.kept self.now) client.now (said result) (state_of R.kept self.now) }
+        ensures { ViewCall (state_of R.kept self.now) client.now (said result)
+            (state_of R.kept self.now) }
     {
         one(handle_view(alloc, self, client))
     }
@@ -172,7 +201,8 @@ impl<R: Replica, D: Disk + Drop> Node<R, D> {
     /// does not cover. With them that gateway has what it would have with all that this one has. A halted node answers too.
     /// The only fault is `Memory`.
     pub fn answer(&self, alloc: Global, digest: &Digest) -> Answer
-        ensures { AnswerCall (state_of R.kept self.now) digest.now (said result) (state_of R.kept self.now) }
+        ensures { AnswerCall (state_of R.kept self.now) digest.now (said result)
+            (state_of R.kept self.now) }
     {
         one(handle_answer(alloc, self, digest))
     }
@@ -185,7 +215,8 @@ impl<R: Replica, D: Disk + Drop> Node<R, D> {
     /// After `Disk` the node is halted, and a crash leaves the records from before, or what is kept. After each other fault nothing
     /// has changed.
     pub fn compact(&mut self, alloc: Global) -> Answer
-        ensures call { CompactCall (state_of R.kept self.old) (said result) (state_of R.kept self.new) }
+        ensures call { CompactCall (state_of R.kept self.old) (said result)
+            (state_of R.kept self.new) }
         ensures taken { TakesNothing (state_of R.kept self.old) (state_of R.kept self.new) }
     {
         one(handle_compact(alloc, self))
@@ -197,8 +228,10 @@ impl<R: Replica, D: Disk + Drop> Node<R, D> {
     /// The faults are those of `open`. After each of them the node keeps and knows what it did; it is halted, but after `Memory` it is
     /// halted or not as before.
     pub fn reopen(&mut self, alloc: Global) -> Answer
-        ensures call { ReopenCall (state_of R.kept self.old) (said result) (state_of R.kept self.new) }
-        ensures taken { ReopenCarriesOn (state_of R.kept self.old) (said result) (state_of R.kept self.new) }
+        ensures call { ReopenCall (state_of R.kept self.old) (said result)
+            (state_of R.kept self.new) }
+        ensures taken { ReopenCarriesOn (state_of R.kept self.old) (said result)
+            (state_of R.kept self.new) }
     {
         one(handle_reopen(alloc, self))
     }
@@ -206,8 +239,10 @@ impl<R: Replica, D: Disk + Drop> Node<R, D> {
     /// A call as a value. Its answer is given three times: the shares are taken before the journal is written, so that a call that was
     /// done can always be told.
     pub fn step(&mut self, alloc: Global, step: &Step) -> (Answer, Answer, Answer)
-        ensures call { StepCall (state_of R.kept self.old) step.now (said result.0) (state_of R.kept self.new) }
-        ensures taken { StepCarriesOn (state_of R.kept self.old) step.now (said result.0) (state_of R.kept self.new) }
+        ensures call { StepCall (state_of R.kept self.old) step.now (said result.0)
+            (state_of R.kept self.new) }
+        ensures taken { StepCarriesOn (state_of R.kept self.old) step.now (said result.0)
+            (state_of R.kept self.new) }
         ensures second { said result.1 ≡ said result.0 }
         ensures third { said result.2 ≡ said result.0 }
     {

@@ -10,7 +10,8 @@ use std::alloc::{AllocError, Global};
 /// The octets that hexadecimal digits of either case write, two for each octet; `-` writes none.
 /// Nothing where the text is neither, an empty one too.
 pub fn bytes(alloc: Global, text: &[u8]) -> Result<Option<Octets>, AllocError>
-    ensures { IfOk result (λ read. MatchOption read ((octets : List ℕ) → ¬ (IsHex text.now octets)) (IsHex text.now)) }
+    ensures { IfOk result (λ read. MatchOption read ((octets : List ℕ) → ¬ (IsHex text.now octets))
+        (IsHex text.now)) }
 {
     match text {
         [] => Ok(None),

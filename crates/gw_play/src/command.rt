@@ -62,7 +62,8 @@ impl Word {
 
     /// The word that is written so.
     pub fn of(text: &[u8]) -> Option<Word>
-        ensures { MatchOption result ((word : Word) → text_of word ≢ text.now) (λ word. text_of word ≡ text.now) }
+        ensures { MatchOption result ((word : Word) → text_of word ≢ text.now)
+            (λ word. text_of word ≡ text.now) }
     {
         match text {
             b"gateway" => Some(Word::Gateway),
@@ -82,7 +83,8 @@ impl Word {
 
 /// What stands before, between and behind the places of an octet.
 pub fn cut(alloc: Global, text: &[u8], at: u8) -> Result<Vec<&[u8]>, AllocError>
-    ensures { IfOk result (λ parts. map (λ part. part.now) parts.items ≡ slice_split (λ b. b == at) text.now) }
+    ensures { IfOk result (λ parts. map (λ part. part.now) parts.items ≡ slice_split
+        (λ b. b == at) text.now) }
 {
     text.split(|b| *b == at).collect(alloc)
 }
@@ -91,7 +93,8 @@ pub fn cut(alloc: Global, text: &[u8], at: u8) -> Result<Vec<&[u8]>, AllocError>
 pub fn read_command(alloc: Global, line: &[u8]) -> Result<Command, LineFault>
     ensures reads { Reads (Spells line.now) result }
     // What a line spells is read, unless memory runs out.
-    ensures only { (command : Command) → Spells line.now command → (result ≡ Ok command) ⊎ (result ≡ Err LineFault.Memory) }
+    ensures only { (command : Command) → Spells line.now command → (result ≡ Ok command)
+        ⊎ (result ≡ Err LineFault.Memory) }
 {
     let fields = cut(alloc, line, b' ')?;
     let Some((first, rest)) = fields.as_slice().split_first() else {
@@ -234,7 +237,8 @@ fn answer(fields: &[&[u8]]) -> Result<Command, LineFault>
 
 /// How the next write fails: after so many bytes, or in its sync.
 fn failure(text: &[u8]) -> Option<(u64, bool)>
-    ensures { MatchOption result ((bytes : ℕ) (sync : Bool) → ¬ (IsFailure text.now bytes sync)) (λ said. IsFailure text.now said.0 said.1) }
+    ensures { MatchOption result ((bytes : ℕ) (sync : Bool) → ¬ (IsFailure text.now bytes sync))
+        (λ said. IsFailure text.now said.0 said.1) }
 {
     if text == b"sync".as_slice() {
         return Some((0, true));

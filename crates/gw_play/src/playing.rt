@@ -23,7 +23,9 @@ pub fn play<S: Source, W: Write>(alloc: Global, source: &mut S, writer: &mut W) 
     ensures ended { result ≡ 0 → IsAtEnd (S.remaining source.new) }
     ensures status { result ≤ 1 }
     // What is written is what the gateways answered, and nothing else.
-    ensures printed { result ≡ 0 → IfSome (S.remaining source.old) (λ text. (answers : List Answer) × IsAnswered text answers × Appends (W.contents writer.old) (W.contents writer.new) (answers_text 0 answers)) }
+    ensures printed { result ≡ 0 → IfSome (S.remaining source.old) (λ text. (answers : List Answer)
+        × IsAnswered text answers × Appends (W.contents writer.old) (W.contents writer.new)
+        (answers_text 0 answers)) }
 {
     play_with::<Held, S, W>(alloc, source, writer)
 }
@@ -38,7 +40,9 @@ pub fn play_with<R: Replica, S: Source, W: Write>(
     ensures ended { result ≡ 0 → IsAtEnd (S.remaining source.new) }
     ensures status { result ≤ 1 }
     // What is written is what the gateways answered, and nothing else.
-    ensures printed { result ≡ 0 → IfSome (S.remaining source.old) (λ text. (answers : List Answer) × IsAnswered text answers × Appends (W.contents writer.old) (W.contents writer.new) (answers_text 0 answers)) }
+    ensures printed { result ≡ 0 → IfSome (S.remaining source.old) (λ text. (answers : List Answer)
+        × IsAnswered text answers × Appends (W.contents writer.old) (W.contents writer.new)
+        (answers_text 0 answers)) }
 {
     let text = match read_all(alloc, source) {
         Ok(text) => text,
@@ -70,7 +74,8 @@ fn outcome<R: Replica>(alloc: Global, text: &[u8]) -> Result<(String, u8), Alloc
 fn print<W: Write>(text: &str, writer: &mut W, status: u8) -> u8
     requires { status ≤ 1 }
     ensures status { (result ≡ status) ⊎ (result ≡ 1) }
-    ensures written { result ≡ 0 → Appends (W.contents writer.old) (W.contents writer.new) text.now }
+    ensures written { result ≡ 0 → Appends (W.contents writer.old)
+        (W.contents writer.new) text.now }
 {
     match write_text(text, writer) {
         Ok(()) => status,

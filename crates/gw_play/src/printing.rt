@@ -35,7 +35,8 @@ fn print_answer(
     answer: &Answer,
     before: usize,
 ) -> Result<usize, AllocError>
-    ensures text { OnOk result (string_bytes text.new ≡ string_bytes text.old ++ answer_text before answer.now) }
+    ensures text { OnOk result (string_bytes text.new ≡ string_bytes text.old ++ answer_text before
+        answer.now) }
     ensures deltas { IfOk result (λ after. after ≡ deltas_after before answer.now) }
 {
     match answer {
@@ -73,7 +74,8 @@ fn print_out(
     out: &Out,
     before: usize,
 ) -> Result<usize, AllocError>
-    ensures text { OnOk result (string_bytes text.new ≡ string_bytes text.old ++ out_text before out.now) }
+    ensures text { OnOk result (string_bytes text.new ≡ string_bytes text.old ++ out_text
+        before out.now) }
     ensures deltas { IfOk result (λ after. after ≡ before + length (joined out.now)) }
 {
     if out.sends.is_empty() && out.made.is_none() && out.answer.is_empty() {
@@ -87,7 +89,8 @@ fn print_out(
 
 /// The line of the delta that a step made. The result is how many deltas there are then.
 fn print_made(text: &mut String, made: &Option<Delta>, before: usize) -> Result<usize, AllocError>
-    ensures text { OnOk result (string_bytes text.new ≡ string_bytes text.old ++ delta_lines before (option_to_list made.now)) }
+    ensures text { OnOk result (string_bytes text.new ≡ string_bytes text.old ++ delta_lines before
+        (option_to_list made.now)) }
     ensures deltas { IfOk result (λ after. after ≡ before + length (option_to_list made.now)) }
 {
     match made {
@@ -98,7 +101,8 @@ fn print_made(text: &mut String, made: &Option<Delta>, before: usize) -> Result<
 
 /// A line for each delta that joined the list. The result is how many deltas there are then.
 fn print_deltas(text: &mut String, deltas: &[Delta], before: usize) -> Result<usize, AllocError>
-    ensures text { OnOk result (string_bytes text.new ≡ string_bytes text.old ++ delta_lines before deltas.now) }
+    ensures text { OnOk result (string_bytes text.new ≡ string_bytes text.old ++ delta_lines before
+        deltas.now) }
     ensures deltas { IfOk result (λ after. after ≡ before + length deltas.now) }
 {
     let mut after = before;
@@ -110,7 +114,8 @@ fn print_deltas(text: &mut String, deltas: &[Delta], before: usize) -> Result<us
 
 /// The line of one more delta. The result is its number.
 fn print_delta(text: &mut String, before: usize) -> Result<usize, AllocError>
-    ensures text { OnOk result (string_bytes text.new ≡ string_bytes text.old ++ delta_line (before + 1)) }
+    ensures text { OnOk result (string_bytes text.new ≡ string_bytes text.old ++ delta_line
+        (before + 1)) }
     ensures number { IfOk result (λ number. number ≡ before + 1) }
 {
     // So many deltas find no room.
@@ -123,7 +128,8 @@ fn print_delta(text: &mut String, before: usize) -> Result<usize, AllocError>
 
 /// A line for each datagram.
 fn print_sends(alloc: Global, text: &mut String, sends: &[Send]) -> Result<(), AllocError>
-    ensures { OnOk result (string_bytes text.new ≡ string_bytes text.old ++ flat_map send_line sends.now) }
+    ensures { OnOk result (string_bytes text.new ≡ string_bytes text.old ++ flat_map send_line
+        sends.now) }
 {
     for send in sends {
         print_send(alloc, text, send)?;
@@ -142,7 +148,8 @@ fn print_send(alloc: Global, text: &mut String, send: &Send) -> Result<(), Alloc
 
 /// The lines of a refusal.
 fn print_fault(alloc: Global, text: &mut String, fault: &NodeFault) -> Result<(), AllocError>
-    ensures { OnOk result (string_bytes text.new ≡ string_bytes text.old ++ refusal_text (told fault.now)) }
+    ensures { OnOk result (string_bytes text.new ≡ string_bytes text.old ++ refusal_text
+        (told fault.now)) }
 {
     match fault {
         NodeFault::Frame { fault } => {
@@ -200,7 +207,8 @@ fn print_client(
     client: &ClientId,
     view: &ClientView,
 ) -> Result<(), AllocError>
-    ensures { OnOk result (string_bytes text.new ≡ string_bytes text.old ++ client_line client.now view.now) }
+    ensures { OnOk result (string_bytes text.new ≡ string_bytes text.old ++ client_line
+        client.now view.now) }
 {
     let id = hexadecimal(alloc, client.bytes())?;
     match (&view.stamp, &view.session) {
@@ -216,7 +224,8 @@ fn print_client(
 
 /// The lines of a client's session, if it has one.
 fn print_session(alloc: Global, text: &mut String, view: &ClientView) -> Result<(), AllocError>
-    ensures { OnOk result (string_bytes text.new ≡ string_bytes text.old ++ session_lines view.now.stamp view.now.session) }
+    ensures { OnOk result (string_bytes text.new ≡ string_bytes text.old ++ session_lines
+        view.now.stamp view.now.session) }
 {
     match (&view.stamp, &view.session) {
         (Some(_), Some(session)) => print_tables(alloc, text, session),
@@ -265,7 +274,8 @@ fn presence_word(presence: Presence) -> &'static str
 
 /// A line for each message that waits.
 fn print_puts(alloc: Global, text: &mut String, puts: &[Put]) -> Result<(), AllocError>
-    ensures { OnOk result (string_bytes text.new ≡ string_bytes text.old ++ flat_map put_line puts.now) }
+    ensures { OnOk result (string_bytes text.new ≡ string_bytes text.old ++ flat_map
+        put_line puts.now) }
 {
     for put in puts {
         print_put(alloc, text, put)?;

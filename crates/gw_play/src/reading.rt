@@ -88,7 +88,8 @@ impl<R: Read> Source for Counted<R> {
 /// All of a script.
 pub fn read_all<S: Source>(alloc: Global, source: &mut S) -> Result<Vec<u8>, ReadFault>
     ensures reads { S.reads source.new ≤ S.reads source.old + 2 ^ 24 }
-    ensures all { IfOk result (λ text. IfSome (S.remaining source.old) (λ bytes. text.items ≡ bytes)) }
+    ensures all { IfOk result (λ text. IfSome (S.remaining source.old)
+        (λ bytes. text.items ≡ bytes)) }
     ensures ended { OnOk result (IsAtEnd (S.remaining source.new)) }
 {
     let mut text = Vec::new(alloc);

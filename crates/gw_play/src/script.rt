@@ -41,7 +41,8 @@ impl Script {
     /// Adds what a line says. On an error the script is as it was.
     pub fn extend(&mut self, alloc: Global, line: &[u8]) -> Result<(), LineFault>
         ensures ok { OnOk result (Extends self.old line.now self.new) }
-        ensures refused { result ≡ Err LineFault.NotACommand → (after : Script) → Extends self.old line.now after → ⊥ }
+        ensures refused { result ≡ Err LineFault.NotACommand → (after : Script)
+            → Extends self.old line.now after → ⊥ }
         ensures err { OnErr result (self.new ≡ self.old) }
     {
         if line.is_empty() {
@@ -54,7 +55,8 @@ impl Script {
     /// Adds a command. On an error the script is as it was.
     pub fn add(&mut self, alloc: Global, command: Command) -> Result<(), LineFault>
         ensures ok { OnOk result (Adds self.old command self.new) }
-        ensures refused { result ≡ Err LineFault.NotACommand → (after : Script) → Adds self.old command after → ⊥ }
+        ensures refused { result ≡ Err LineFault.NotACommand → (after : Script)
+            → Adds self.old command after → ⊥ }
         ensures err { OnErr result (self.new ≡ self.old) }
     {
         match command {
@@ -72,7 +74,8 @@ impl Script {
     /// Adds a gateway.
     fn add_gateway(&mut self, alloc: Global, number: u8) -> Result<(), LineFault>
         ensures ok { OnOk result (Adds self.old (Gateway number) self.new) }
-        ensures refused { result ≡ Err LineFault.NotACommand → (after : Script) → Adds self.old (Gateway number) after → ⊥ }
+        ensures refused { result ≡ Err LineFault.NotACommand → (after : Script)
+            → Adds self.old (Gateway number) after → ⊥ }
         ensures err { OnErr result (self.new ≡ self.old) }
     {
         if number == 0 || !self.events.is_empty() || self.has_gateway(number) {
@@ -97,7 +100,8 @@ impl Script {
         name: TopicName,
     ) -> Result<(), LineFault>
         ensures ok { OnOk result (Adds self.old (Predefine number id name) self.new) }
-        ensures refused { result ≡ Err LineFault.NotACommand → (after : Script) → Adds self.old (Predefine number id name) after → ⊥ }
+        ensures refused { result ≡ Err LineFault.NotACommand → (after : Script)
+            → Adds self.old (Predefine number id name) after → ⊥ }
         ensures err { OnErr result (self.new ≡ self.old) }
     {
         if !self.events.is_empty() {
@@ -132,8 +136,10 @@ fn place_of(configs: &[Config], number: u8) -> Option<usize>
 
 /// The config with one more predefined topic id.
 fn with_entry(alloc: Global, config: &Config, id: u16, name: TopicName) -> Result<Config, LineFault>
-    ensures ok { IfOk result (λ made. IsTrue (is_table (config.now.predefined ++ (id, name) ∷ [])) × (made ≡ record config.now { predefined = config.now.predefined ++ (id, name) ∷ [] })) }
-    ensures refused { result ≡ Err LineFault.NotACommand → IsFalse (is_table (config.now.predefined ++ (id, name) ∷ [])) }
+    ensures ok { IfOk result (λ made. IsTrue (is_table (config.now.predefined ++ (id, name) ∷ []))
+        × (made ≡ record config.now { predefined = config.now.predefined ++ (id, name) ∷ [] })) }
+    ensures refused { result ≡ Err LineFault.NotACommand
+        → IsFalse (is_table (config.now.predefined ++ (id, name) ∷ [])) }
 {
     let mut entries = copy_entries(alloc, config.predefined.entries())?;
     entries.push((id, name))?;

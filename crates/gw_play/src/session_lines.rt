@@ -9,7 +9,8 @@ use std::alloc::{AllocError, Global};
 
 /// The lines of a session's tables.
 pub fn print_tables(alloc: Global, text: &mut String, session: &Session) -> Result<(), AllocError>
-    ensures { OnOk result (string_bytes text.new ≡ string_bytes text.old ++ tables_text session.now) }
+    ensures { OnOk result (string_bytes text.new ≡ string_bytes text.old ++ tables_text
+        session.now) }
 {
     print_topics(alloc, text, session.topics.as_slice())?;
     print_subscriptions(alloc, text, session.subscriptions.as_slice())?;
@@ -20,7 +21,8 @@ pub fn print_tables(alloc: Global, text: &mut String, session: &Session) -> Resu
 
 /// A line for each topic id.
 fn print_topics(alloc: Global, text: &mut String, topics: &[TopicEntry]) -> Result<(), AllocError>
-    ensures { OnOk result (string_bytes text.new ≡ string_bytes text.old ++ flat_map topic_line topics.now) }
+    ensures { OnOk result (string_bytes text.new ≡ string_bytes text.old ++ flat_map topic_line
+        topics.now) }
 {
     for entry in topics {
         print_topic(alloc, text, entry)?;
@@ -51,7 +53,8 @@ fn print_subscriptions(
     text: &mut String,
     subscriptions: &[Subscription],
 ) -> Result<(), AllocError>
-    ensures { OnOk result (string_bytes text.new ≡ string_bytes text.old ++ flat_map subscription_line subscriptions.now) }
+    ensures { OnOk result (string_bytes text.new ≡ string_bytes text.old ++ flat_map
+        subscription_line subscriptions.now) }
 {
     for subscription in subscriptions {
         print_subscription(alloc, text, subscription)?;
@@ -65,7 +68,8 @@ fn print_subscription(
     text: &mut String,
     subscription: &Subscription,
 ) -> Result<(), AllocError>
-    ensures { OnOk result (string_bytes text.new ≡ string_bytes text.old ++ subscription_line subscription.now) }
+    ensures { OnOk result (string_bytes text.new ≡ string_bytes text.old ++ subscription_line
+        subscription.now) }
 {
     let filter = hexadecimal(alloc, subscription.filter.bytes())?;
     let qos = subscription.qos;
@@ -94,7 +98,8 @@ fn print_one_will(alloc: Global, text: &mut String, will: &Will) -> Result<(), A
 
 /// A line for each message id that was received.
 fn print_received(text: &mut String, ids: &[u16]) -> Result<(), AllocError>
-    ensures { OnOk result (string_bytes text.new ≡ string_bytes text.old ++ flat_map received_line ids.now) }
+    ensures { OnOk result (string_bytes text.new ≡ string_bytes text.old ++ flat_map
+        received_line ids.now) }
 {
     for id in ids {
         print_id(text, id)?;
@@ -112,7 +117,8 @@ fn print_id(text: &mut String, id: &u16) -> Result<(), AllocError>
 
 /// The line of an exchange, if there is one.
 fn print_outbound(text: &mut String, exchange: &Option<Outbound>) -> Result<(), AllocError>
-    ensures { OnOk result (string_bytes text.new ≡ string_bytes text.old ++ outbound_text exchange.now) }
+    ensures { OnOk result (string_bytes text.new ≡ string_bytes text.old ++ outbound_text
+        exchange.now) }
 {
     match exchange {
         Some(exchange) => print_exchange(text, *exchange),
@@ -122,7 +128,8 @@ fn print_outbound(text: &mut String, exchange: &Option<Outbound>) -> Result<(), 
 
 /// The line of an exchange.
 fn print_exchange(text: &mut String, exchange: Outbound) -> Result<(), AllocError>
-    ensures { OnOk result (string_bytes text.new ≡ string_bytes text.old ++ outbound_line exchange) }
+    ensures { OnOk result (string_bytes text.new ≡ string_bytes text.old ++
+        outbound_line exchange) }
 {
     let Outbound {
         origin,

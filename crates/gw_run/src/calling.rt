@@ -51,7 +51,8 @@ pub(crate) fn call<T: Wait, R: Replica, D: Disk + Drop>(
     step: Arc<Step>,
     stage: &Stage,
 ) -> (Pass, Result<Answer, End>)
-    ensures made { IfOk result.1 (λ answer. (number : ℕ) × Made pass (arc_value step) (said answer) number result.0) }
+    ensures made { IfOk result.1 (λ answer. (number : ℕ) × Made pass (arc_value step) (said answer)
+        number result.0) }
     ensures none { IfErr result.1 (λ end. CannotCall end × (result.0 ≡ pass)) }
     ensures adds { (is : AnyStep → Bool) → is (arc_value step) ≡ true → Adds is pass result.0 }
 {

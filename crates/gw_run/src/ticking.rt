@@ -126,7 +126,8 @@ fn tick_once<T: Wait + Clock, R: Replica, D: Disk + Drop, P: Post>(
     stage: &Stage,
     post: &P,
 ) -> (Pass, Result<bool, End>)
-    ensures { MatchResult result.1 (λ gave. AddsOfClock pass None result.0) (λ end. AddsOfClock pass (Some end) result.0) }
+    ensures { MatchResult result.1 (λ gave. AddsOfClock pass None result.0)
+        (λ end. AddsOfClock pass (Some end) result.0) }
 {
     let Ok(step) = Arc::new(alloc, Step::Tick { now: moment(rt) }) else {
         return (pass, Err(End::Memory));

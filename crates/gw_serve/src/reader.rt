@@ -40,7 +40,8 @@ pub fn read_all<R: Wait, W: Wire>(
     requires part { 0 < (view ticket.old).parts }
     requires fresh { (view ticket.old).sent ≡ [] }
     ensures channel { IsSeatAt (sends_on sender.now) ticket.new }
-    ensures numbers { view ticket.new ≡ hand (view ticket.old).parts (one_to result.count) (view ticket.old).taken }
+    ensures numbers { view ticket.new ≡ hand (view ticket.old).parts (one_to result.count)
+        (view ticket.old).taken }
     ensures wire { result.fault ≡ Some causes.Wire → W.failures wire.old < W.failures wire.new }
 {
     let mut count: u64 = 0;

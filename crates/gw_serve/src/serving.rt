@@ -83,10 +83,15 @@ where
     P: Post + Sync,
     G: Gate + Sync,
     requires some { 0 < vec_len passes }
-    ensures datagrams { IfOk result (λ s. (n : ℕ) × ((x : ℕ) → times x (map (λ t. t.datagram) s.taken.items ++ s.left.items) ≡ times x (one_to n))) }
-    ensures passes { IfOk result (λ s. EachGains passes.items (map (λ t. t.step) s.taken.items) s.passes.items) }
-    ensures wire { IfErr result (λ f. f.cause ≡ causes.Wire → W.failures wire.old < W.failures wire.new) }
-    ensures back { IfErr result (λ f. (numbers : List ℕ) × EachGains passes.items numbers f.passes.items) }
+    ensures datagrams { IfOk result (λ s. (n : ℕ)
+        × ((x : ℕ) → times x (map (λ t. t.datagram) s.taken.items ++ s.left.items)
+        ≡ times x (one_to n))) }
+    ensures passes { IfOk result (λ s. EachGains passes.items (map (λ t. t.step) s.taken.items)
+        s.passes.items) }
+    ensures wire { IfErr result (λ f. f.cause ≡ causes.Wire
+        → W.failures wire.old < W.failures wire.new) }
+    ensures back { IfErr result (λ f. (numbers : List ℕ)
+        × EachGains passes.items numbers f.passes.items) }
 {
     let Ok(room) = Room::new(alloc, passes.len()) else {
         return Err(ServeFault {
@@ -137,10 +142,15 @@ where
     requires back { (room.back.items ≡ []) × (vec_len passes ≤ vec_capacity room.back) }
     requires channel { receives_on receiver.now ≡ sends_on sender.now }
     requires root { IsSeatAt (sends_on sender.now) root.old × (view root.old ≡ hand whole [] []) }
-    ensures datagrams { IfOk result (λ s. (n : ℕ) × ((x : ℕ) → times x (map (λ t. t.datagram) s.taken.items ++ s.left.items) ≡ times x (one_to n))) }
-    ensures passes { IfOk result (λ s. EachGains passes.items (map (λ t. t.step) s.taken.items) s.passes.items) }
-    ensures wire { IfErr result (λ f. f.cause ≡ causes.Wire → W.failures wire.old < W.failures wire.new) }
-    ensures back { IfErr result (λ f. (numbers : List ℕ) × EachGains passes.items numbers f.passes.items) }
+    ensures datagrams { IfOk result (λ s. (n : ℕ)
+        × ((x : ℕ) → times x (map (λ t. t.datagram) s.taken.items ++ s.left.items)
+        ≡ times x (one_to n))) }
+    ensures passes { IfOk result (λ s. EachGains passes.items (map (λ t. t.step) s.taken.items)
+        s.passes.items) }
+    ensures wire { IfErr result (λ f. f.cause ≡ causes.Wire
+        → W.failures wire.old < W.failures wire.new) }
+    ensures back { IfErr result (λ f. (numbers : List ℕ)
+        × EachGains passes.items numbers f.passes.items) }
 {
     let Room {
         slots,
@@ -227,9 +237,11 @@ fn seated(
     passes: Vec<Pass>,
     mut slots: Vec<Option<Seat>>,
 ) -> Vec<Option<Seat>>
-    requires channel { IsSeatAt (sends_on sender.now) root.old × (view root.old ≡ hand whole [] []) }
+    requires channel { IsSeatAt (sends_on sender.now) root.old
+        × (view root.old ≡ hand whole [] []) }
     requires room { (slots.items ≡ []) × (vec_len passes ≤ vec_capacity slots) }
-    ensures channel { IsSeatAt (sends_on sender.now) root.new × (view root.new ≡ hand (whole - length passes.items) [] []) }
+    ensures channel { IsSeatAt (sends_on sender.now) root.new
+        × (view root.new ≡ hand (whole - length passes.items) [] []) }
     ensures fresh { All (IsFreshSlot (sends_on sender.now)) result.items }
     ensures passes { map pass_of result.items ≡ passes.items }
 {
@@ -268,9 +280,11 @@ where
     G: Gate + Sync,
     requires channel { receives_on receiver.now ≡ sends_on sender.now }
     requires fresh { All (IsFreshSlot (receives_on receiver.now)) slots.old }
-    requires root { IsSeatAt (sends_on sender.now) root.old × (0 < (view root.old).parts) × ((view root.old).sent ≡ []) }
+    requires root { IsSeatAt (sends_on sender.now) root.old × (0 < (view root.old).parts)
+        × ((view root.old).sent ≡ []) }
     ensures slots { WorkedFrom (receives_on receiver.now) slots.old slots.new }
-    ensures root { IsSeatAt (sends_on sender.now) root.new × (view root.new ≡ hand (view root.old).parts (one_to result.count) (view root.old).taken) }
+    ensures root { IsSeatAt (sends_on sender.now) root.new
+        × (view root.new ≡ hand (view root.old).parts (one_to result.count) (view root.old).taken) }
     ensures wire { result.fault ≡ Some causes.Wire → W.failures wire.old < W.failures wire.new }
 {
     let mut working = ||
@@ -278,8 +292,12 @@ where
         ensures { WorkedFrom (receives_on receiver.entry.now) slots.entry.now slots.exit.now }
     { work_all(rt, alloc, shift, receiver, bell, stop, post, gate, slots) };
     let mut reading = || -> Reading
-        requires { IsSeatAt (sends_on sender.now) root.now × (0 < (view root.now).parts) × ((view root.now).sent ≡ []) }
-        ensures { IsSeatAt (sends_on sender.entry.now) root.exit.now × (view root.exit.now ≡ hand (view root.entry.now).parts (one_to result.count) (view root.entry.now).taken) × (result.fault ≡ Some causes.Wire → W.failures wire.entry.now < W.failures wire.exit.now) }
+        requires { IsSeatAt (sends_on sender.now) root.now × (0 < (view root.now).parts)
+            × ((view root.now).sent ≡ []) }
+        ensures { IsSeatAt (sends_on sender.entry.now) root.exit.now
+            × (view root.exit.now ≡ hand (view root.entry.now).parts (one_to result.count)
+            (view root.entry.now).taken) × (result.fault ≡ Some causes.Wire
+            → W.failures wire.entry.now < W.failures wire.exit.now) }
     { read_all(rt, alloc, sender, root, wire, buffer, bell, stop, turns) };
     let ((), read) = thread::join_mut(rt, &mut working, &mut reading);
     read
@@ -355,7 +373,8 @@ fn gather(
     mut back: Vec<Pass>,
 ) -> Gathered
     requires channel { IsSeatAt (sends_on sender.now) root.old }
-    requires parts { ((view root.old).parts + length slots.items ≡ whole) × (0 < (view root.old).parts) }
+    requires parts { ((view root.old).parts + length slots.items ≡ whole)
+        × (0 < (view root.old).parts) }
     requires none { (view root.old).taken ≡ [] }
     requires done { All (IsDone (sends_on sender.now)) slots.items }
     requires room { (back.items ≡ []) × (length slots.items ≤ vec_capacity back) }
@@ -363,8 +382,12 @@ fn gather(
     ensures parts { (view root.new).parts ≡ whole }
     ensures sent { (view root.new).sent ≡ (view root.old).sent }
     ensures count { length result.passes.items ≡ length slots.items }
-    ensures back { (before : List Holder) → DoneFrom (sends_on sender.now) before slots.items → (numbers : List ℕ) × EachGains before numbers result.passes.items }
-    ensures all { result.fault ≡ None → (before : List Holder) → DoneFrom (sends_on sender.now) before slots.items → IsGathered before (view root.new) result.taken.items result.left.items result.passes.items }
+    ensures back { (before : List Holder) → DoneFrom (sends_on sender.now) before slots.items
+        → (numbers : List ℕ) × EachGains before numbers result.passes.items }
+    ensures all { result.fault ≡ None → (before : List Holder)
+        → DoneFrom (sends_on sender.now) before slots.items
+        → IsGathered before (view root.new) result.taken.items result.left.items
+        result.passes.items }
 {
     let mut taken = Vec::new(alloc);
     let mut left = Vec::new(alloc);
@@ -399,9 +422,16 @@ fn join_seat(
     ensures channel { IsSeatAt (sends_on sender.now) root.new }
     ensures parts { (view root.new).parts ≡ (view root.old).parts + 1 }
     ensures sent { (view root.new).sent ≡ (view root.old).sent }
-    ensures back { (vec_len back.new ≡ vec_len back.old + 1) × (vec_capacity back.new ≡ vec_capacity back.old) }
-    ensures gains { (before : Holder) → IsWorked (sends_on sender.now) before seat → (done : List Holder) (numbers : List ℕ) → EachGains done numbers back.old.items → (more : List ℕ) × EachGains (done ++ before ∷ []) more back.new.items }
-    ensures gathered { result ≡ None → (before : Holder) → IsWorked (sends_on sender.now) before seat → (done : List Holder) → IsGathered done (view root.old) taken.old.items left.old.items back.old.items → IsGathered (done ++ before ∷ []) (view root.new) taken.new.items left.new.items back.new.items }
+    ensures back { (vec_len back.new ≡ vec_len back.old + 1)
+        × (vec_capacity back.new ≡ vec_capacity back.old) }
+    ensures gains { (before : Holder) → IsWorked (sends_on sender.now) before seat
+        → (done : List Holder) (numbers : List ℕ) → EachGains done numbers back.old.items
+        → (more : List ℕ) × EachGains (done ++ before ∷ []) more back.new.items }
+    ensures gathered { result ≡ None → (before : Holder)
+        → IsWorked (sends_on sender.now) before seat → (done : List Holder)
+        → IsGathered done (view root.old) taken.old.items left.old.items back.old.items
+        → IsGathered (done ++ before ∷ []) (view root.new) taken.new.items left.new.items
+        back.new.items }
 {
     let Seat {
         pass,
@@ -430,7 +460,9 @@ fn drain<T: Wait>(
 ) -> Option<Trouble>
     requires channel { IsSeatAt (receives_on receiver.now) root.old }
     requires part { (view root.old).parts ≡ whole }
-    ensures all { result ≡ None → (h : ℕ → ℕ) → weigh h (view root.old).sent + weigh h left.old.items ≡ weigh h (view root.old).taken + weigh h left.new.items }
+    ensures all { result ≡ None → (h : ℕ → ℕ)
+        → weigh h (view root.old).sent + weigh h left.old.items ≡ weigh h (view root.old).taken +
+        weigh h left.new.items }
 {
     for _ in rt.forever() {
         if left.reserve(1).is_err() {

@@ -70,7 +70,8 @@ impl Seat {
     pub fn new(alloc: Global, pass: Pass, ticket: Ticket) -> Seat
         ensures pass { result.pass ≡ pass }
         ensures ticket { result.ticket ≡ ticket }
-        ensures fresh { (result.taken.items ≡ []) × (result.left.items ≡ []) × (result.fault ≡ None) }
+        ensures fresh { (result.taken.items ≡ []) × (result.left.items ≡ [])
+            × (result.fault ≡ None) }
     {
         Seat {
             pass,
@@ -186,7 +187,13 @@ fn seat_of(
     left: Vec<u64>,
     fault: Option<Trouble>,
 ) -> Seat
-    ensures { result ≡ record { pass = pass; ticket = ticket; taken = taken; left = left; fault = fault } }
+    ensures { result ≡ record {
+      pass = pass;
+      ticket = ticket;
+      taken = taken;
+      left = left;
+      fault = fault;
+    } }
 {
     Seat {
         pass,
@@ -200,7 +207,8 @@ fn seat_of(
 /// Makes room for one more number in either list.
 fn has_room(taken: &mut Vec<Taken>, left: &mut Vec<u64>) -> bool
     ensures same { (taken.new.items ≡ taken.old.items) × (left.new.items ≡ left.old.items) }
-    ensures room { result ≡ true → (vec_len taken.new < vec_capacity taken.new) × (vec_len left.new < vec_capacity left.new) }
+    ensures room { result ≡ true → (vec_len taken.new < vec_capacity taken.new)
+        × (vec_len left.new < vec_capacity left.new) }
 {
     taken.reserve(1).is_ok() && left.reserve(1).is_ok()
 }

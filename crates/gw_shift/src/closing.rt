@@ -53,7 +53,8 @@ fn holds(number: u64, passes: &[Pass]) -> bool
 
 /// Whether an entry is this call of that pass.
 fn is_same(entry: &Entry, place: u64, held: &HeldCall) -> bool
-    ensures { IsTrue result ↔ (entry.now ≡ record { place = place; step = held.now.step; answer = held.now.answer }) }
+    ensures { IsTrue result ↔ (entry.now ≡ record
+        { place = place; step = held.now.step; answer = held.now.answer }) }
 {
     entry.place == place
         && same_step(&entry.step, &held.step)
@@ -80,7 +81,8 @@ fn first_strange_call(
     others: &[Pass],
     calls: &[HeldCall],
 ) -> Option<u64>
-    ensures { MatchOption result (AreOwn history.now place others.now calls.now) (IsStrangeIn history.now place others.now calls.now) }
+    ensures { MatchOption result (AreOwn history.now place others.now calls.now)
+        (IsStrangeIn history.now place others.now calls.now) }
 {
     let mut left = calls;
     'calls: while let Some((held, rest)) = left.split_first() {
@@ -94,7 +96,8 @@ fn first_strange_call(
 
 /// The same of several passes.
 fn first_in_turn(history: &[Entry], passes: &[Pass]) -> Option<u64>
-    ensures { MatchOption result (AreKnown history.now passes.now) (IsStrange history.now passes.now) }
+    ensures { MatchOption result (AreKnown history.now passes.now)
+        (IsStrange history.now passes.now) }
 {
     let mut left = passes;
     'passes: while let Some((pass, rest)) = left.split_first() {
@@ -167,7 +170,8 @@ fn are_apart(passes: &[Pass]) -> bool
 /// compared with those of the others.
 #[tactic(auto, using(crate::proofs::Apart::apart_known))]
 pub(crate) fn first_stranger(history: &[Entry], passes: &[Pass]) -> Option<u64>
-    ensures { MatchOption result (AreKnown history.now passes.now) (IsStrange history.now passes.now) }
+    ensures { MatchOption result (AreKnown history.now passes.now)
+        (IsStrange history.now passes.now) }
 {
     if are_apart(passes) {
         if each_stands(history, passes) {

@@ -16,7 +16,8 @@ use std::sync::Arc;
 
 /// What was answered, where it tells of a delta.
 fn told(answer: &Answer) -> Option<&Arc<Out>>
-    ensures { MatchOption result (made_of (said answer.now) ≡ None) (λ out. (delta : List Op) × (made_of (said answer.now) ≡ Some delta) × ((arc_value out.now).made ≡ Some delta)) }
+    ensures { MatchOption result (made_of (said answer.now) ≡ None) (λ out. (delta : List Op)
+        × (made_of (said answer.now) ≡ Some delta) × ((arc_value out.now).made ≡ Some delta)) }
 {
     match answer {
         Ok(out) => match out.made.as_ref() {

@@ -27,7 +27,8 @@ pub struct Locked<R: Replica, D: Disk> {
     pub ghost most: { vec_len history ≤ steps },
     pub ghost room: { steps ≤ vec_capacity history },
     pub ghost few: { steps ≤ 4096 },
-    pub ghost legal: { ∥ IsLegal (arc_value opening).items history.items (state_of R.kept node) ∥₁ },
+    pub ghost legal: { ∥ IsLegal (arc_value opening).items history.items
+        (state_of R.kept node) ∥₁ },
 }
 
 impl<R: Replica, D: Disk + Drop> Locked<R, D> {
@@ -40,7 +41,8 @@ impl<R: Replica, D: Disk + Drop> Locked<R, D> {
     /// Makes a call at the node, and enters it. The answer comes back twice.
     fn make(&mut self, alloc: Global, place: u64, step: Arc<Step>) -> (Answer, Answer)
         requires room { vec_len self.old.history < self.old.steps }
-        ensures history { self.new.history.items ≡ self.old.history.items ++ call place (arc_value step) (said result.0) ∷ [] }
+        ensures history { self.new.history.items ≡ self.old.history.items ++ call place
+            (arc_value step) (said result.0) ∷ [] }
         ensures second { said result.1 ≡ said result.0 }
         ensures opening { arc_value self.new.opening ≡ arc_value self.old.opening }
         ensures steps { self.new.steps ≡ self.old.steps }
@@ -61,9 +63,11 @@ impl<R: Replica, D: Disk + Drop> Locked<R, D> {
         pass: &Pass,
         step: Arc<Step>,
     ) -> Result<(Answer, Answer, u64), CallFault>
-        ensures ok { IfOk result (λ r. Entered self.old.history.items pass.now (arc_value step) (said r.0) r.2 self.new.history.items) }
+        ensures ok { IfOk result (λ r. Entered self.old.history.items pass.now (arc_value step)
+            (said r.0) r.2 self.new.history.items) }
         ensures second { IfOk result (λ r. said r.1 ≡ said r.0) }
-        ensures err { IfErr result (λ fault. NotEntered self.old.steps self.old.history.items pass.now fault self.new.history.items) }
+        ensures err { IfErr result (λ fault. NotEntered self.old.steps self.old.history.items
+            pass.now fault self.new.history.items) }
         ensures opening { arc_value self.new.opening ≡ arc_value self.old.opening }
         ensures steps { self.new.steps ≡ self.old.steps }
     {
@@ -87,7 +91,8 @@ impl<R: Replica, D: Disk + Drop> Locked<R, D> {
         number: u64,
         max: usize,
     ) -> Result<Vec<(u64, Arc<Out>)>, CallFault>
-        ensures ok { IfOk result (λ all. told_by all.items ≡ take max (made_after number (drop number self.now.history.items))) }
+        ensures ok { IfOk result (λ all. told_by all.items
+            ≡ take max (made_after number (drop number self.now.history.items))) }
         ensures err { IfErr result (λ fault. IsNotTold self.now.history.items pass.now fault) }
     {
         let had = self.history.len() as u64;

@@ -61,7 +61,8 @@ impl<R: Replica, D: Disk + Drop> Shift<R, D> {
     ) -> Result<(Shift<R, D>, Vec<Pass>), (Node<R, D>, ShiftFault)>
         requires some { 0 < passes }
         requires steps { (0 < steps) × (steps ≤ 4096) }
-        ensures ok { IfOk result (λ r. (opening : List (List Op)) × IsHeld (state_of R.kept node).kept opening × (r.1.items ≡ fresh opening passes)) }
+        ensures ok { IfOk result (λ r. (opening : List (List Op))
+            × IsHeld (state_of R.kept node).kept opening × (r.1.items ≡ fresh opening passes)) }
         ensures err { IfErr result (λ refused. (refused.0 ≡ node) × (refused.1 ≡ refusals.Memory)) }
     {
         let Ok(held) = node.held(alloc) else {
@@ -152,7 +153,8 @@ impl<R: Replica, D: Disk + Drop> Shift<R, D> {
     pub fn end(self) -> Ended<R, D>
         ensures few { length result.history.items ≤ 4096 }
         // The calls that come back were answered one after the other, from the opening to the node that comes back.
-        ensures legal { ∥ IsLegal (arc_value result.opening).items result.history.items (state_of R.kept result.node) ∥₁ }
+        ensures legal { ∥ IsLegal (arc_value result.opening).items result.history.items
+            (state_of R.kept result.node) ∥₁ }
     {
         self.locked.into_inner().ended()
     }

@@ -35,7 +35,8 @@ pub trait Wire {
     /// The next datagram, in the front of the buffer, or nothing where none came for a while.
     fn recv(&mut self, buffer: &mut [u8]) -> Result<Option<Arrival>, WireFault>
         ensures cause { HasCause (failures self.old) (failures self.new) result }
-        ensures size { IfOk result (λ came. IfSome came (λ arrival. arrival.size ≤ length buffer.new)) };
+        ensures size { IfOk result (λ came. IfSome came (λ arrival. arrival.size
+            ≤ length buffer.new)) };
 
     /// The last datagram was dropped: more waited than there was room for.
     fn unheard(&mut self)

@@ -15,11 +15,13 @@ ghost use Rattle.gw_world.specs.Worlds.{IsStop};
 /// and the same list of deltas. Up to want of memory, one event alone stops a run, for one reason, and what can
 /// run to its end is not stopped.
 pub fn one_run()
-    ensures one { (configs : List Config) (events : List Event) (answers others : List Answer) (one other : Field)
+    ensures one { (configs : List Config) (events : List Event) (answers others : List Answer)
+        (one other : Field)
         → Run (new_field configs) events answers one → Run (new_field configs) events others other
         → (map told answers ≡ map told others) × (one ≡ other) }
     ensures stop { (configs : List Config) (events : List Event) (one other : WorldFault)
         → IsStop configs events one → IsStop configs events other → one ≢ stops.Memory → other ≢ stops.Memory → one ≡ other }
-    ensures ends { (configs : List Config) (events : List Event) (answers : List Answer) (field : Field) (fault : WorldFault)
+    ensures ends { (configs : List Config) (events : List Event) (answers : List Answer)
+        (field : Field) (fault : WorldFault)
         → Run (new_field configs) events answers field → IsStop configs events fault → fault ≡ stops.Memory }
 {}

@@ -66,7 +66,8 @@ fn frame_to<R: Replica>(
     now: u64,
 ) -> Result<Result<Arc<Out>, NodeFault>, WorldFault>
     requires { IsCalm (state_of R.kept node.old) }
-    ensures ok { IfOk result (λ answer. StaysCalm (λ old new. OwnKept old (Datagram from bytes.now) now (said answer) new) (state_of R.kept node.old) (state_of R.kept node.new)) }
+    ensures ok { IfOk result (λ answer. StaysCalm (λ old new. OwnKept old (Datagram from bytes.now)
+        now (said answer) new) (state_of R.kept node.old) (state_of R.kept node.new)) }
     ensures err { IfErr result (λ fault. fault ≡ WorldFault.Memory) }
 {
     let answer = node.frame(alloc, from, bytes, now);
@@ -80,7 +81,8 @@ fn tick_to<R: Replica>(
     now: u64,
 ) -> Result<Result<Arc<Out>, NodeFault>, WorldFault>
     requires { IsCalm (state_of R.kept node.old) }
-    ensures ok { IfOk result (λ answer. StaysCalm (λ old new. OwnKept old Clock now (said answer) new) (state_of R.kept node.old) (state_of R.kept node.new)) }
+    ensures ok { IfOk result (λ answer. StaysCalm (λ old new. OwnKept old Clock now (said answer)
+        new) (state_of R.kept node.old) (state_of R.kept node.new)) }
     ensures err { IfErr result (λ fault. fault ≡ WorldFault.Memory) }
 {
     let answer = node.tick(alloc, now);
@@ -94,7 +96,8 @@ fn take_to<R: Replica>(
     delta: &Delta,
 ) -> Result<Result<Arc<Out>, NodeFault>, WorldFault>
     requires { IsCalm (state_of R.kept node.old) }
-    ensures ok { IfOk result (λ answer. StaysCalm (λ old new. TakeKept old delta.now (said answer) new) (state_of R.kept node.old) (state_of R.kept node.new)) }
+    ensures ok { IfOk result (λ answer. StaysCalm (λ old new. TakeKept old delta.now (said answer)
+        new) (state_of R.kept node.old) (state_of R.kept node.new)) }
     ensures err { IfErr result (λ fault. fault ≡ WorldFault.Memory) }
 {
     let answer = node.take(alloc, delta);
@@ -107,7 +110,8 @@ fn compact_in<R: Replica>(
     node: &mut Node<R, MemoryDisk>,
 ) -> Result<Result<Arc<Out>, NodeFault>, WorldFault>
     requires { IsCalm (state_of R.kept node.old) }
-    ensures ok { IfOk result (λ answer. StaysCalm (λ old new. CompactKept old (said answer) new) (state_of R.kept node.old) (state_of R.kept node.new)) }
+    ensures ok { IfOk result (λ answer. StaysCalm (λ old new. CompactKept old (said answer) new)
+        (state_of R.kept node.old) (state_of R.kept node.new)) }
     ensures err { IfErr result (λ fault. fault ≡ WorldFault.Memory) }
 {
     let answer = node.compact(alloc);
@@ -117,7 +121,8 @@ fn compact_in<R: Replica>(
 /// The next write of a gateway is to fail.
 fn fail_in<R: Replica>(node: &mut Node<R, MemoryDisk>, bytes: u64, sync: bool)
     requires { IsCalm (state_of R.kept node.old) }
-    ensures { StaysCalm (λ old new. IsArranged bytes sync old new) (state_of R.kept node.old) (state_of R.kept node.new) }
+    ensures { StaysCalm (λ old new. IsArranged bytes sync old new) (state_of R.kept node.old)
+        (state_of R.kept node.new) }
 {
     node.fail_next(bytes as usize, sync);
 }
@@ -133,8 +138,11 @@ pub fn frame_at<R: Replica>(
 ) -> Result<Result<Arc<Out>, NodeFault>, WorldFault>
     requires place { place < vec_len nodes.old }
     requires calm { AllByRecursion (λ node. IsCalm (state_of R.kept node)) nodes.old.items }
-    ensures calm { OnOk result (AllByRecursion (λ node. IsCalm (state_of R.kept node)) nodes.new.items) }
-    ensures ok { IfOk result (λ answer. OwnAt (map (λ node. keeping R.kept node) nodes.old.items) place (Datagram from bytes.now) now (said answer) (map (λ node. keeping R.kept node) nodes.new.items)) }
+    ensures calm { OnOk result (AllByRecursion (λ node. IsCalm (state_of R.kept node))
+        nodes.new.items) }
+    ensures ok { IfOk result (λ answer. OwnAt (map (λ node. keeping R.kept node) nodes.old.items)
+        place (Datagram from bytes.now) now (said answer) (map (λ node. keeping R.kept node)
+        nodes.new.items)) }
     ensures err { IfErr result (λ fault. fault ≡ WorldFault.Memory) }
 {
     let node = &mut nodes[place];
@@ -150,8 +158,10 @@ pub fn tick_at<R: Replica>(
 ) -> Result<Result<Arc<Out>, NodeFault>, WorldFault>
     requires place { place < vec_len nodes.old }
     requires calm { AllByRecursion (λ node. IsCalm (state_of R.kept node)) nodes.old.items }
-    ensures calm { OnOk result (AllByRecursion (λ node. IsCalm (state_of R.kept node)) nodes.new.items) }
-    ensures ok { IfOk result (λ answer. OwnAt (map (λ node. keeping R.kept node) nodes.old.items) place Clock now (said answer) (map (λ node. keeping R.kept node) nodes.new.items)) }
+    ensures calm { OnOk result (AllByRecursion (λ node. IsCalm (state_of R.kept node))
+        nodes.new.items) }
+    ensures ok { IfOk result (λ answer. OwnAt (map (λ node. keeping R.kept node) nodes.old.items)
+        place Clock now (said answer) (map (λ node. keeping R.kept node) nodes.new.items)) }
     ensures err { IfErr result (λ fault. fault ≡ WorldFault.Memory) }
 {
     let node = &mut nodes[place];
@@ -167,8 +177,10 @@ pub fn take_at<R: Replica>(
 ) -> Result<Result<Arc<Out>, NodeFault>, WorldFault>
     requires place { place < vec_len nodes.old }
     requires calm { AllByRecursion (λ node. IsCalm (state_of R.kept node)) nodes.old.items }
-    ensures calm { OnOk result (AllByRecursion (λ node. IsCalm (state_of R.kept node)) nodes.new.items) }
-    ensures ok { IfOk result (λ answer. TakeAt (map (λ node. keeping R.kept node) nodes.old.items) place delta.now (said answer) (map (λ node. keeping R.kept node) nodes.new.items)) }
+    ensures calm { OnOk result (AllByRecursion (λ node. IsCalm (state_of R.kept node))
+        nodes.new.items) }
+    ensures ok { IfOk result (λ answer. TakeAt (map (λ node. keeping R.kept node) nodes.old.items)
+        place delta.now (said answer) (map (λ node. keeping R.kept node) nodes.new.items)) }
     ensures err { IfErr result (λ fault. fault ≡ WorldFault.Memory) }
 {
     let node = &mut nodes[place];
@@ -183,8 +195,10 @@ pub fn compact_at<R: Replica>(
 ) -> Result<Result<Arc<Out>, NodeFault>, WorldFault>
     requires place { place < vec_len nodes.old }
     requires calm { AllByRecursion (λ node. IsCalm (state_of R.kept node)) nodes.old.items }
-    ensures calm { OnOk result (AllByRecursion (λ node. IsCalm (state_of R.kept node)) nodes.new.items) }
-    ensures ok { IfOk result (λ answer. CompactAt (map (λ node. keeping R.kept node) nodes.old.items) place (said answer) (map (λ node. keeping R.kept node) nodes.new.items)) }
+    ensures calm { OnOk result (AllByRecursion (λ node. IsCalm (state_of R.kept node))
+        nodes.new.items) }
+    ensures ok { IfOk result (λ answer. CompactAt (map (λ node. keeping R.kept node)
+        nodes.old.items) place (said answer) (map (λ node. keeping R.kept node) nodes.new.items)) }
     ensures err { IfErr result (λ fault. fault ≡ WorldFault.Memory) }
 {
     let node = &mut nodes[place];
@@ -201,7 +215,8 @@ pub fn fail_at<R: Replica>(
     requires place { place < vec_len nodes.old }
     requires calm { AllByRecursion (λ node. IsCalm (state_of R.kept node)) nodes.old.items }
     ensures calm { AllByRecursion (λ node. IsCalm (state_of R.kept node)) nodes.new.items }
-    ensures done { FailAt (map (λ node. keeping R.kept node) nodes.old.items) place bytes sync (map (λ node. keeping R.kept node) nodes.new.items) }
+    ensures done { FailAt (map (λ node. keeping R.kept node) nodes.old.items) place bytes sync
+        (map (λ node. keeping R.kept node) nodes.new.items) }
 {
     let node = &mut nodes[place];
     fail_in(node, bytes, sync)
@@ -232,9 +247,11 @@ fn open_again<R: Replica>(
     requires calm { IsCalm (state_of R.kept node) }
     requires safe { IsSafe (keeping R.kept node) }
     ensures calm { IfOk result (λ new. IsCalm (state_of R.kept new)) }
-    ensures configured { IfOk result (λ new. (keeping R.kept new).config ≡ (keeping R.kept node).config) }
+    ensures configured { IfOk result (λ new. (keeping R.kept new).config
+        ≡ (keeping R.kept node).config) }
     ensures ok { IfOk result (λ new. IsRestarted left (keeping R.kept node) (keeping R.kept new)) }
-    ensures records { IfOk result (λ new. records_of new ≡ records_left left (keeping R.kept node)) }
+    ensures records { IfOk result (λ new. records_of new ≡ records_left left
+        (keeping R.kept node)) }
     ensures err { IfErr result (λ fault. fault ≡ WorldFault.Memory) }
 {
     let (config, mut disk) = node.into_parts();
@@ -266,8 +283,10 @@ pub fn restart_at<R: Replica>(
     requires place { place < vec_len nodes.old }
     requires calm { AllByRecursion (λ node. IsCalm (state_of R.kept node)) nodes.old.items }
     requires safe { AllByRecursion IsSafe (map (λ node. keeping R.kept node) nodes.old.items) }
-    ensures calm { OnOk result (AllByRecursion (λ node. IsCalm (state_of R.kept node)) nodes.new.items) }
-    ensures ok { IfOk result (λ count. RestartAt (map (λ node. keeping R.kept node) nodes.old.items) place left count (map (λ node. keeping R.kept node) nodes.new.items)) }
+    ensures calm { OnOk result (AllByRecursion (λ node. IsCalm (state_of R.kept node))
+        nodes.new.items) }
+    ensures ok { IfOk result (λ count. RestartAt (map (λ node. keeping R.kept node) nodes.old.items)
+        place left count (map (λ node. keeping R.kept node) nodes.new.items)) }
     ensures err { IfErr result (λ fault. fault ≡ WorldFault.Memory) }
 {
     let old = nodes.remove(place);

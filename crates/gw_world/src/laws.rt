@@ -27,9 +27,16 @@ ghost use Rattle.gw_world.specs.Whole.{listed, everything, number_of, IsHome, Ar
 /// wrote it. So the operations that it makes contradict nothing that it has taken, and no datagram and
 /// no tick is ever answered by Conflict.
 pub fn steady_field()
-    ensures steady { (configs : List Config) (events : List Event) (answers : List Answer) (field : Field) → Run (new_field configs) events answers field → IsSteady field }
-    ensures agrees { (field : Field) (number i : ℕ) (gateway : Gateway) (occasion : Occasion) (now : ℕ) (plan : Plan) (delta : List Op) → IsSteady field → IsAt field number i gateway → IsPlan gateway occasion now (Some plan) → IsDeltaOf plan.ops delta → AllAgree gateway.taken delta }
-    ensures no_conflict { (field : Field) (number i : ℕ) (gateway : Gateway) (occasion : Occasion) (now : ℕ) (client : List ℕ) (new : Gateway) (made : List (List Op)) → IsSteady field → IsAt field number i gateway → OwnStep gateway occasion now (Err (refusals.Conflict client)) new made → ⊥ }
+    ensures steady { (configs : List Config) (events : List Event) (answers : List Answer)
+        (field : Field) → Run (new_field configs) events answers field → IsSteady field }
+    ensures agrees { (field : Field) (number i : ℕ) (gateway : Gateway) (occasion : Occasion)
+        (now : ℕ) (plan : Plan) (delta : List Op) → IsSteady field → IsAt field number i gateway
+        → IsPlan gateway occasion now (Some plan) → IsDeltaOf plan.ops delta
+        → AllAgree gateway.taken delta }
+    ensures no_conflict { (field : Field) (number i : ℕ) (gateway : Gateway) (occasion : Occasion)
+        (now : ℕ) (client : List ℕ) (new : Gateway) (made : List (List Op)) → IsSteady field
+        → IsAt field number i gateway → OwnStep gateway occasion now
+        (Err (refusals.Conflict client)) new made → ⊥ }
 {}
 
 /// A field never contradicts itself, whatever fails in it. In whatever all its gateways have taken and all deltas of its list
@@ -39,14 +46,28 @@ pub fn steady_field()
 /// has taken, and with what it must keep of that; so no delivery of it, and no event of a run at all, is
 /// answered by Conflict.
 pub fn consistent_field()
-    ensures consistent { (configs : List Config) (events : List Event) (answers : List Answer) (field : Field) → Run (new_field configs) events answers field → IsConsistent (everything field) }
-    ensures parts { (configs : List Config) (events : List Event) (answers : List Answer) (field : Field) (part : List Op) → Run (new_field configs) events answers field → ((op : Op) → Contains part op → Contains (everything field) op) → IsConsistent part }
+    ensures consistent { (configs : List Config) (events : List Event) (answers : List Answer)
+        (field : Field)
+        → Run (new_field configs) events answers field → IsConsistent (everything field) }
+    ensures parts { (configs : List Config) (events : List Event) (answers : List Answer)
+        (field : Field) (part : List Op) → Run (new_field configs) events answers field
+        → ((op : Op) → Contains part op → Contains (everything field) op) → IsConsistent part }
     ensures well_made { (configs : List Config) (events : List Event) (answers : List Answer)
         (field : Field) (delta : List Op) → Run (new_field configs) events answers field
         → Contains field.deltas delta → IsDelta delta × IsWritable delta }
-    ensures agrees { (configs : List Config) (events : List Event) (answers : List Answer) (field : Field) (gateway : Gateway) (delta : List Op) → Run (new_field configs) events answers field → Contains field.gateways gateway → Contains field.deltas delta → AllAgree gateway.taken delta × AllAgree (keep gateway.taken) delta }
-    ensures no_conflict { (configs : List Config) (events : List Event) (answers : List Answer) (field : Field) (number i k : ℕ) (gateway : Gateway) (delta : List Op) (client : List ℕ) (new : Gateway) (made : List (List Op)) → Run (new_field configs) events answers field → IsAt field number i gateway → IsDeltaAt field k delta → TakeStep gateway delta (Err (refusals.Conflict client)) new made → ⊥ }
-    ensures never { (configs : List Config) (events : List Event) (answers : List Answer) (field : Field) (client : List ℕ) → Run (new_field configs) events answers field → Contains answers (Node (Err (faults.Conflict client))) → ⊥ }
+    ensures agrees { (configs : List Config) (events : List Event) (answers : List Answer)
+        (field : Field) (gateway : Gateway) (delta : List Op)
+        → Run (new_field configs) events answers field → Contains field.gateways gateway
+        → Contains field.deltas delta → AllAgree gateway.taken delta
+        × AllAgree (keep gateway.taken) delta }
+    ensures no_conflict { (configs : List Config) (events : List Event) (answers : List Answer)
+        (field : Field) (number i k : ℕ) (gateway : Gateway) (delta : List Op) (client : List ℕ)
+        (new : Gateway) (made : List (List Op)) → Run (new_field configs) events answers field
+        → IsAt field number i gateway → IsDeltaAt field k delta
+        → TakeStep gateway delta (Err (refusals.Conflict client)) new made → ⊥ }
+    ensures never { (configs : List Config) (events : List Event) (answers : List Answer)
+        (field : Field) (client : List ℕ) → Run (new_field configs) events answers field
+        → Contains answers (Node (Err (faults.Conflict client))) → ⊥ }
 {}
 
 /// No session operation and no message is made twice. Each that is anywhere in a field stands in the set
@@ -57,7 +78,9 @@ pub fn consistent_field()
 /// deltas that answer a digest, which repeat what was made before. Where no digest is sent, in the whole
 /// list a name stands in one place.
 pub fn made_once()
-    ensures home { (configs : List Config) (events : List Event) (answers : List Answer) (field : Field) (op : Op) → Run (new_field configs) events answers field → Contains (everything field) op → IsHome field op }
+    ensures home { (configs : List Config) (events : List Event) (answers : List Answer)
+        (field : Field) (op : Op) → Run (new_field configs) events answers field
+        → Contains (everything field) op → IsHome field op }
     ensures writes { (configs : List Config) (events : List Event) (answers : List Answer)
         (old new : Field) (event : Event) (answer : Answer) (op : Op)
         → Run (new_field configs) events answers old → After old event answer new
@@ -89,11 +112,18 @@ pub fn made_once()
 /// delta that a gateway refused, and read back when it was opened again, is in no list until the gateway
 /// answers a digest.) And gateways with equal sets show the same.
 pub fn settled_field()
-    ensures listed { (configs : List Config) (events : List Event) (answers : List Answer) (field : Field) (gateway : Gateway) (op : Op) → Run (new_field configs) events answers field → NoneFails events → Contains field.gateways gateway → Contains gateway.taken op → Contains (listed field) op }
+    ensures listed { (configs : List Config) (events : List Event) (answers : List Answer)
+        (field : Field) (gateway : Gateway) (op : Op) → Run (new_field configs) events answers field
+        → NoneFails events → Contains field.gateways gateway
+        → Contains gateway.taken op → Contains (listed field) op }
     ensures within { (configs : List Config) (events : List Event) (answers : List Answer)
         (field : Field) (gateway : Gateway) → Run (new_field configs) events answers field → NoneFails events
         → Contains field.gateways gateway → Within gateway.taken (listed field) }
-    ensures alike { (configs : List Config) (events : List Event) (answers : List Answer) (field : Field) (one other : Gateway) → Run (new_field configs) events answers field → Contains field.gateways one → Contains field.gateways other → ((op : Op) → Contains one.taken op ↔ Contains other.taken op) → Same one.taken other.taken }
+    ensures alike { (configs : List Config) (events : List Event) (answers : List Answer)
+        (field : Field) (one other : Gateway) → Run (new_field configs) events answers field
+        → Contains field.gateways one → Contains field.gateways other
+        → ((op : Op) → Contains one.taken op ↔ Contains other.taken op)
+        → Same one.taken other.taken }
     ensures reached { (configs : List Config) (events : List Event) (answers : List Answer)
         (field : Field) (gateway : Gateway) (part : List Op)
         → Run (new_field configs) events answers field → Contains field.gateways gateway
@@ -106,7 +136,10 @@ pub fn settled_field()
         (field : Field) (one other : Gateway) → Run (new_field configs) events answers field
         → Contains field.gateways one → Contains field.gateways other
         → Within (everything field) one.taken → Within (everything field) other.taken → Same one.taken other.taken }
-    ensures settled { (configs : List Config) (events : List Event) (answers : List Answer) (field : Field) (one other : Gateway) → Run (new_field configs) events answers field → NoneFails events → Contains field.gateways one → Contains field.gateways other → HasTakenAll field one → HasTakenAll field other → Same one.taken other.taken }
+    ensures settled { (configs : List Config) (events : List Event) (answers : List Answer)
+        (field : Field) (one other : Gateway) → Run (new_field configs) events answers field
+        → NoneFails events → Contains field.gateways one → Contains field.gateways other
+        → HasTakenAll field one → HasTakenAll field other → Same one.taken other.taken }
     ensures shown { (one other : List Op) → Same one other → shown one ≡ shown other }
 {}
 

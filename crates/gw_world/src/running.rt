@@ -73,7 +73,8 @@ fn record_answered(
     deltas: &mut Vec<Delta>,
     answer: &Result<Arc<Out>, NodeFault>,
 ) -> Result<(), WorldFault>
-    ensures ok { OnOk result (Join deltas.old.items (answered_of (said answer.now)) deltas.new.items) }
+    ensures ok { OnOk result (Join deltas.old.items (answered_of (said answer.now))
+        deltas.new.items) }
     ensures err { IfErr result (λ fault. fault ≡ WorldFault.Memory) }
 {
     match answer {
@@ -94,8 +95,11 @@ fn play_frame<R: Replica>(
 ) -> Result<Answer, WorldFault>
     requires place { place < vec_len nodes.old }
     requires calm { AllByRecursion (λ node. IsCalm (state_of R.kept node)) nodes.old.items }
-    ensures calm { OnOk result (AllByRecursion (λ node. IsCalm (state_of R.kept node)) nodes.new.items) }
-    ensures ok { IfOk result (OwnAnswered (map (λ node. keeping R.kept node) nodes.old.items) deltas.old.items place (Datagram from bytes.now) now (map (λ node. keeping R.kept node) nodes.new.items) deltas.new.items) }
+    ensures calm { OnOk result (AllByRecursion (λ node. IsCalm (state_of R.kept node))
+        nodes.new.items) }
+    ensures ok { IfOk result (OwnAnswered (map (λ node. keeping R.kept node) nodes.old.items)
+        deltas.old.items place (Datagram from bytes.now) now (map (λ node. keeping R.kept node)
+        nodes.new.items) deltas.new.items) }
     ensures err { IfErr result (λ fault. fault ≡ WorldFault.Memory) }
 {
     let answer = frame_at(alloc, nodes, place, from, bytes, now)?;
@@ -113,8 +117,11 @@ fn play_tick<R: Replica>(
 ) -> Result<Answer, WorldFault>
     requires place { place < vec_len nodes.old }
     requires calm { AllByRecursion (λ node. IsCalm (state_of R.kept node)) nodes.old.items }
-    ensures calm { OnOk result (AllByRecursion (λ node. IsCalm (state_of R.kept node)) nodes.new.items) }
-    ensures ok { IfOk result (OwnAnswered (map (λ node. keeping R.kept node) nodes.old.items) deltas.old.items place Clock now (map (λ node. keeping R.kept node) nodes.new.items) deltas.new.items) }
+    ensures calm { OnOk result (AllByRecursion (λ node. IsCalm (state_of R.kept node))
+        nodes.new.items) }
+    ensures ok { IfOk result (OwnAnswered (map (λ node. keeping R.kept node) nodes.old.items)
+        deltas.old.items place Clock now (map (λ node. keeping R.kept node) nodes.new.items)
+        deltas.new.items) }
     ensures err { IfErr result (λ fault. fault ≡ WorldFault.Memory) }
 {
     let answer = tick_at(alloc, nodes, place, now)?;
@@ -131,8 +138,10 @@ fn play_take<R: Replica>(
 ) -> Result<Answer, WorldFault>
     requires place { place < vec_len nodes.old }
     requires calm { AllByRecursion (λ node. IsCalm (state_of R.kept node)) nodes.old.items }
-    ensures calm { OnOk result (AllByRecursion (λ node. IsCalm (state_of R.kept node)) nodes.new.items) }
-    ensures ok { IfOk result (TakeAnswered (map (λ node. keeping R.kept node) nodes.old.items) place delta.now (map (λ node. keeping R.kept node) nodes.new.items)) }
+    ensures calm { OnOk result (AllByRecursion (λ node. IsCalm (state_of R.kept node))
+        nodes.new.items) }
+    ensures ok { IfOk result (TakeAnswered (map (λ node. keeping R.kept node) nodes.old.items) place
+        delta.now (map (λ node. keeping R.kept node) nodes.new.items)) }
     ensures err { IfErr result (λ fault. fault ≡ WorldFault.Memory) }
 {
     Ok(Answer::Node(take_at(alloc, nodes, place, delta)?))
@@ -146,8 +155,10 @@ fn play_compact<R: Replica>(
 ) -> Result<Answer, WorldFault>
     requires place { place < vec_len nodes.old }
     requires calm { AllByRecursion (λ node. IsCalm (state_of R.kept node)) nodes.old.items }
-    ensures calm { OnOk result (AllByRecursion (λ node. IsCalm (state_of R.kept node)) nodes.new.items) }
-    ensures ok { IfOk result (CompactAnswered (map (λ node. keeping R.kept node) nodes.old.items) place (map (λ node. keeping R.kept node) nodes.new.items)) }
+    ensures calm { OnOk result (AllByRecursion (λ node. IsCalm (state_of R.kept node))
+        nodes.new.items) }
+    ensures ok { IfOk result (CompactAnswered (map (λ node. keeping R.kept node) nodes.old.items)
+        place (map (λ node. keeping R.kept node) nodes.new.items)) }
     ensures err { IfErr result (λ fault. fault ≡ WorldFault.Memory) }
 {
     Ok(Answer::Node(compact_at(alloc, nodes, place)?))
@@ -163,8 +174,10 @@ fn play_restart<R: Replica>(
     requires place { place < vec_len nodes.old }
     requires calm { AllByRecursion (λ node. IsCalm (state_of R.kept node)) nodes.old.items }
     requires safe { AllByRecursion IsSafe (map (λ node. keeping R.kept node) nodes.old.items) }
-    ensures calm { OnOk result (AllByRecursion (λ node. IsCalm (state_of R.kept node)) nodes.new.items) }
-    ensures ok { IfOk result (RestartAnswered (map (λ node. keeping R.kept node) nodes.old.items) place keep (map (λ node. keeping R.kept node) nodes.new.items)) }
+    ensures calm { OnOk result (AllByRecursion (λ node. IsCalm (state_of R.kept node))
+        nodes.new.items) }
+    ensures ok { IfOk result (RestartAnswered (map (λ node. keeping R.kept node) nodes.old.items)
+        place keep (map (λ node. keeping R.kept node) nodes.new.items)) }
     ensures err { IfErr result (λ fault. fault ≡ WorldFault.Memory) }
 {
     Ok(Answer::Records(restart_at(alloc, nodes, place, keep)?))
@@ -180,7 +193,8 @@ fn play_fail<R: Replica>(
     requires place { place < vec_len nodes.old }
     requires calm { AllByRecursion (λ node. IsCalm (state_of R.kept node)) nodes.old.items }
     ensures calm { AllByRecursion (λ node. IsCalm (state_of R.kept node)) nodes.new.items }
-    ensures done { FailAnswered (map (λ node. keeping R.kept node) nodes.old.items) place bytes sync (map (λ node. keeping R.kept node) nodes.new.items) result }
+    ensures done { FailAnswered (map (λ node. keeping R.kept node) nodes.old.items) place bytes sync
+        (map (λ node. keeping R.kept node) nodes.new.items) result }
 {
     fail_at(nodes, place, bytes, sync);
     Answer::Nothing
@@ -196,7 +210,8 @@ fn play_ask<R: Replica>(
 ) -> Result<Answer, WorldFault>
     requires place { place < length nodes.now }
     requires other { other < length nodes.now }
-    ensures ok { IfOk result (AskAnswered (map (λ node. keeping R.kept node) nodes.now) deltas.old.items
+    ensures ok { IfOk result (AskAnswered (map (λ node. keeping R.kept node) nodes.now)
+        deltas.old.items
         place other deltas.new.items) }
     ensures err { IfErr result (λ fault. fault ≡ WorldFault.Memory) }
 {
@@ -215,7 +230,8 @@ fn play_answer<R: Replica>(
     number: u64,
 ) -> Result<Answer, WorldFault>
     requires { place < length nodes.now }
-    ensures ok { IfOk result (PeerAnswered (map (λ node. keeping R.kept node) nodes.now) deltas.old.items
+    ensures ok { IfOk result (PeerAnswered (map (λ node. keeping R.kept node) nodes.now)
+        deltas.old.items
         place peer deltas.new.items) }
     ensures err { IfErr result (NoPeer (map (λ node. keeping R.kept node) nodes.now) peer number) }
 {
@@ -232,7 +248,8 @@ fn play_show<R: Replica>(
     place: usize,
 ) -> Result<Answer, WorldFault>
     requires { place < vec_len nodes.now }
-    ensures ok { IfOk result (ShowAnswered (map (λ node. keeping R.kept node) nodes.now.items) place) }
+    ensures ok { IfOk result (ShowAnswered (map (λ node. keeping R.kept node)
+        nodes.now.items) place) }
     ensures err { IfErr result (λ fault. fault ≡ WorldFault.Memory) }
 {
     match show_at(alloc, &nodes[place]) {
@@ -243,7 +260,8 @@ fn play_show<R: Replica>(
 
 /// The delta of this number; the first has number 1.
 fn delta_at(deltas: &[Delta], number: u64) -> Option<&Delta>
-    ensures { MatchOption result ((ops : List Op) → IsListed deltas.now number ops → ⊥) (λ delta. IsListed deltas.now number delta.now) }
+    ensures { MatchOption result ((ops : List Op) → IsListed deltas.now number ops
+        → ⊥) (λ delta. IsListed deltas.now number delta.now) }
 {
     if number == 0 {
         return None;
@@ -263,9 +281,13 @@ fn play_at<R: Replica>(
     requires place { place < vec_len nodes.old }
     requires calm { AllByRecursion (λ node. IsCalm (state_of R.kept node)) nodes.old.items }
     requires safe { AllByRecursion IsSafe (map (λ node. keeping R.kept node) nodes.old.items) }
-    ensures calm { OnOk result (AllByRecursion (λ node. IsCalm (state_of R.kept node)) nodes.new.items) }
-    ensures ok { IfOk result (EventAt (map (λ node. keeping R.kept node) nodes.old.items) deltas.old.items place event.now (map (λ node. keeping R.kept node) nodes.new.items) deltas.new.items) }
-    ensures err { IfErr result (IsMissing (map (λ node. keeping R.kept node) nodes.old.items) deltas.old.items
+    ensures calm { OnOk result (AllByRecursion (λ node. IsCalm (state_of R.kept node))
+        nodes.new.items) }
+    ensures ok { IfOk result (EventAt (map (λ node. keeping R.kept node) nodes.old.items)
+        deltas.old.items place event.now (map (λ node. keeping R.kept node) nodes.new.items)
+        deltas.new.items) }
+    ensures err { IfErr result (IsMissing (map (λ node. keeping R.kept node) nodes.old.items)
+        deltas.old.items
         event.now number) }
 {
     match event {
@@ -300,9 +322,13 @@ fn play_event<R: Replica>(
 ) -> Result<Answer, WorldFault>
     requires calm { AllByRecursion (λ node. IsCalm (state_of R.kept node)) nodes.old.items }
     requires safe { AllByRecursion IsSafe (map (λ node. keeping R.kept node) nodes.old.items) }
-    ensures calm { OnOk result (AllByRecursion (λ node. IsCalm (state_of R.kept node)) nodes.new.items) }
-    ensures ok { IfOk result (EventKept (map (λ node. keeping R.kept node) nodes.old.items) deltas.old.items event.now (map (λ node. keeping R.kept node) nodes.new.items) deltas.new.items) }
-    ensures err { IfErr result (IsStopKept (map (λ node. keeping R.kept node) nodes.old.items) deltas.old.items event.now number) }
+    ensures calm { OnOk result (AllByRecursion (λ node. IsCalm (state_of R.kept node))
+        nodes.new.items) }
+    ensures ok { IfOk result (EventKept (map (λ node. keeping R.kept node) nodes.old.items)
+        deltas.old.items event.now (map (λ node. keeping R.kept node) nodes.new.items)
+        deltas.new.items) }
+    ensures err { IfErr result (IsStopKept (map (λ node. keeping R.kept node) nodes.old.items)
+        deltas.old.items event.now number) }
 {
     match place_of(nodes.as_slice(), event.gateway()) {
         Some(place) => play_at(alloc, nodes, deltas, place, event, number),
@@ -340,9 +366,12 @@ fn new_nodes<R: Replica>(
     alloc: Global,
     configs: &[Config],
 ) -> Result<Vec<Node<R, MemoryDisk>>, WorldFault>
-    ensures ok { IfOk result (λ nodes. (map (λ node. keeping R.kept node) nodes.items) ≡ map new_gateway configs.now) }
-    ensures lasts { IfOk result (λ nodes. AllByRecursion (Lasts [] []) (map (λ node. keeping R.kept node) nodes.items)) }
-    ensures calm { IfOk result (λ nodes. AllByRecursion (λ node. IsCalm (state_of R.kept node)) nodes.items) }
+    ensures ok { IfOk result (λ nodes. (map (λ node. keeping R.kept node) nodes.items)
+        ≡ map new_gateway configs.now) }
+    ensures lasts { IfOk result (λ nodes. AllByRecursion (Lasts [] [])
+        (map (λ node. keeping R.kept node) nodes.items)) }
+    ensures calm { IfOk result (λ nodes. AllByRecursion (λ node. IsCalm (state_of R.kept node))
+        nodes.items) }
     ensures err { IfErr result (λ fault. fault ≡ WorldFault.Memory) }
 {
     let mut nodes = Vec::with_capacity(alloc, configs.len())?;
@@ -361,9 +390,13 @@ fn play_all<R: Replica>(
 ) -> Result<Vec<Answer>, WorldFault>
     requires calm { AllByRecursion (λ node. IsCalm (state_of R.kept node)) nodes.old.items }
     requires led { IsLed (map (λ node. keeping R.kept node) nodes.old.items) deltas.old.items }
-    ensures calm { OnOk result (AllByRecursion (λ node. IsCalm (state_of R.kept node)) nodes.new.items) }
-    ensures ok { IfOk result (PlayedKept (map (λ node. keeping R.kept node) nodes.old.items) deltas.old.items events.now (map (λ node. keeping R.kept node) nodes.new.items) deltas.new.items) }
-    ensures err { IfErr result (StopsKept (map (λ node. keeping R.kept node) nodes.old.items) deltas.old.items events.now) }
+    ensures calm { OnOk result (AllByRecursion (λ node. IsCalm (state_of R.kept node))
+        nodes.new.items) }
+    ensures ok { IfOk result (PlayedKept (map (λ node. keeping R.kept node) nodes.old.items)
+        deltas.old.items events.now (map (λ node. keeping R.kept node) nodes.new.items)
+        deltas.new.items) }
+    ensures err { IfErr result (StopsKept (map (λ node. keeping R.kept node) nodes.old.items)
+        deltas.old.items events.now) }
 {
     let mut answers = Vec::with_capacity(alloc, events.len())?;
     for (index, event) in events.iter().enumerate() {
@@ -390,10 +423,12 @@ pub fn run<R: Replica>(
     configs: &[Config],
     events: &[Event],
 ) -> Result<World<Node<R, MemoryDisk>>, WorldFault>
-    ensures ok { IfOk result (λ world. IsWorld (λ node. keeping R.kept node) configs.now events.now world.answers world.deltas world.gateways) }
+    ensures ok { IfOk result (λ world. IsWorld (λ node. keeping R.kept node) configs.now events.now
+        world.answers world.deltas world.gateways) }
     // At the end no node was refused memory, and of each disk it is known which failure is arranged. What a crash would leave of it stands
     // for the set of its gateway, or for that with the whole delta that it refused, as the world's `shown` says.
-    ensures calm { IfOk result (λ world. AllByRecursion (λ node. IsCalm (state_of R.kept node)) world.gateways) }
+    ensures calm { IfOk result (λ world. AllByRecursion (λ node. IsCalm (state_of R.kept node))
+        world.gateways) }
     ensures err { IfErr result (IsStop configs.now events.now) }
 {
     let mut nodes = new_nodes(alloc, configs)?;

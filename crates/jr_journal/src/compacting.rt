@@ -64,10 +64,16 @@ pub(crate) fn write_anew<D: Disk>(
 ) -> Result<(), JournalFault>
     ensures cause { D.failures disk.old ≤ D.failures disk.new }
     ensures starved { D.starved disk.old ≡ true → D.starved disk.new ≡ true }
-    ensures err { IfErr result (λ fault. (fault ≡ JournalFault.Disk) × (D.failures disk.old < D.failures disk.new)) }
-    ensures exact { D.honest → OnOk result (D.slots disk.new ≡ after_append None (emptied (D.slots disk.old) slot) slot bytes.now) }
-    ensures part { D.honest → OnErr result ((D.slots disk.new ≡ D.slots disk.old) ⊎ ((n : ℕ) × (D.slots disk.new ≡ replaced (emptied (D.slots disk.old) slot) slot (appended (at (emptied (D.slots disk.old) slot) slot) (take n bytes.now))))) }
-    ensures known { D.honest → D.starved disk.new ≡ false → AppendedAs (D.outlook disk.old) (emptied (D.slots disk.old) slot) slot bytes.now result (D.slots disk.new) (D.outlook disk.new) }
+    ensures err { IfErr result (λ fault. (fault ≡ JournalFault.Disk)
+        × (D.failures disk.old < D.failures disk.new)) }
+    ensures exact { D.honest → OnOk result (D.slots disk.new ≡ after_append None
+        (emptied (D.slots disk.old) slot) slot bytes.now) }
+    ensures part { D.honest → OnErr result ((D.slots disk.new ≡ D.slots disk.old)
+        ⊎ ((n : ℕ) × (D.slots disk.new ≡ replaced (emptied (D.slots disk.old) slot) slot
+        (appended (at (emptied (D.slots disk.old) slot) slot) (take n bytes.now))))) }
+    ensures known { D.honest → D.starved disk.new ≡ false
+        → AppendedAs (D.outlook disk.old) (emptied (D.slots disk.old) slot) slot bytes.now result
+        (D.slots disk.new) (D.outlook disk.new) }
 {
     if disk.cut(slot, 0).is_err() {
         return Err(JournalFault::Disk);

@@ -40,7 +40,8 @@ fn begins(gateway: u8, bytes: &[u8]) -> bool
 /// A number, and the bytes behind it; none where the number is cut.
 fn read_generation(bytes: &[u8]) -> Option<(u64, &[u8])>
     ensures none { IfNone result (length bytes.now < 8) }
-    ensures some { IfSome result (λ read. (8 ≤ length bytes.now) × (read.0 ≡ from_be_bytes w64 (take 8 bytes.now)) × (read.1.now ≡ drop 8 bytes.now)) }
+    ensures some { IfSome result (λ read. (8 ≤ length bytes.now)
+        × (read.0 ≡ from_be_bytes w64 (take 8 bytes.now)) × (read.1.now ≡ drop 8 bytes.now)) }
 {
     read_u64(bytes)
 }

@@ -63,7 +63,8 @@ pub trait Disk {
         ensures starved { starved self.new ≡ starved self.old }
         ensures outlook { GoesAs (outlook self.old) result (outlook self.new) }
         ensures same { honest → slots self.new ≡ slots self.old }
-        ensures length { honest → IfOk result (λ n. n ≡ length (bytes_of (at (slots self.old) slot))) };
+        ensures length { honest → IfOk result
+            (λ n. n ≡ length (bytes_of (at (slots self.old) slot))) };
 
     /// Reads bytes, from a place of the slot on, into all of the buffer.
     fn read_at(&mut self, slot: Slot, from: usize, buffer: &mut [u8]) -> Result<(), DiskFault>
@@ -74,14 +75,16 @@ pub trait Disk {
         ensures outlook { from + length buffer.old ≤ length (bytes_of (at (slots self.old) slot)) →
             GoesAs (outlook self.old) result (outlook self.new) }
         ensures same { honest → slots self.new ≡ slots self.old }
-        ensures bytes { honest → from + length buffer.old ≤ length (bytes_of (at (slots self.old) slot)) →
+        ensures bytes { honest → from + length buffer.old
+            ≤ length (bytes_of (at (slots self.old) slot)) →
             OnOk result (buffer.new ≡ take (length buffer.old) (drop from (bytes_of (at (slots self.old) slot)))) };
 
     /// Adds bytes at the end of a slot. On an error the first `written` of them went out.
     fn append(&mut self, slot: Slot, bytes: &[u8]) -> Result<(), Short>
         ensures cause { HasCause (failures self.old) (failures self.new) result }
         ensures starved { starved self.old ≡ true → starved self.new ≡ true }
-        ensures outlook { starved self.new ≡ false → AppendsAs (outlook self.old) (length bytes.now) result (outlook self.new) }
+        ensures outlook { starved self.new ≡ false
+            → AppendsAs (outlook self.old) (length bytes.now) result (outlook self.new) }
         // Where memory was refused in it nothing went out, and the failure that is arranged still is.
         ensures wanting { starved self.old ≡ false → starved self.new ≡ true →
             IsWanting result (slots self.old) (slots self.new) (outlook self.old) (outlook self.new) }
@@ -90,15 +93,18 @@ pub trait Disk {
             AppendsAs (outlook self.old) (length bytes.now) result (outlook self.new)
             ⊎ IsWanting result (slots self.old) (slots self.new) (outlook self.old) (outlook self.new) }
         ensures within { IfErr result (λ short. short.written ≤ length bytes.now) }
-        ensures ok { honest → OnOk result (slots self.new ≡ replaced (slots self.old) slot (appended (at (slots self.old) slot) bytes.now)) }
-        ensures err { honest → IfErr result (λ short. slots self.new ≡ replaced (slots self.old) slot (appended (at (slots self.old) slot) (take short.written bytes.now))) };
+        ensures ok { honest → OnOk result (slots self.new ≡ replaced (slots self.old) slot
+            (appended (at (slots self.old) slot) bytes.now)) }
+        ensures err { honest → IfErr result (λ short. slots self.new ≡ replaced (slots self.old)
+            slot (appended (at (slots self.old) slot) (take short.written bytes.now))) };
 
     /// Makes all bytes of a slot durable: after it a crash leaves them all.
     fn sync(&mut self, slot: Slot) -> Result<(), DiskFault>
         ensures cause { HasCause (failures self.old) (failures self.new) result }
         ensures starved { starved self.new ≡ starved self.old }
         ensures outlook { SyncsAs (outlook self.old) result (outlook self.new) }
-        ensures ok { honest → OnOk result (slots self.new ≡ replaced (slots self.old) slot (all_synced (at (slots self.old) slot))) }
+        ensures ok { honest → OnOk result (slots self.new ≡ replaced (slots self.old) slot
+            (all_synced (at (slots self.old) slot))) }
         ensures err { honest → OnErr result (slots self.new ≡ slots self.old) };
 
     /// Cuts a slot to a length, for good. On an error the slot is as it was, or it is cut.
@@ -106,6 +112,9 @@ pub trait Disk {
         ensures cause { HasCause (failures self.old) (failures self.new) result }
         ensures starved { starved self.new ≡ starved self.old }
         ensures outlook { GoesAs (outlook self.old) result (outlook self.new) }
-        ensures ok { honest → OnOk result (slots self.new ≡ replaced (slots self.old) slot (cut_to (at (slots self.old) slot) len)) }
-        ensures err { honest → OnErr result ((slots self.new ≡ slots self.old) ⊎ (slots self.new ≡ replaced (slots self.old) slot (cut_to (at (slots self.old) slot) len))) };
+        ensures ok { honest → OnOk result (slots self.new ≡ replaced (slots self.old) slot
+            (cut_to (at (slots self.old) slot) len)) }
+        ensures err { honest → OnErr result ((slots self.new ≡ slots self.old)
+            ⊎ (slots self.new ≡ replaced (slots self.old) slot
+            (cut_to (at (slots self.old) slot) len))) };
 }

@@ -20,7 +20,8 @@ pub struct Journal<D: Disk> {
     slot: Slot,
     generation: u64,
     halted: bool,
-    ghost settled: { D.honest → IsTrue (halted || is_in_use gateway slot generation (D.slots disk)) },
+    ghost settled: { D.honest → IsTrue (halted || is_in_use gateway slot generation
+        (D.slots disk)) },
 }
 
 impl<D: Disk + Drop> Journal<D> {
@@ -42,29 +43,44 @@ impl<D: Disk + Drop> Journal<D> {
         disk: D,
         gateway: u8,
     ) -> Result<(Journal<D>, Vec<Delta>), (D, JournalFault)>
-        ensures starts { IfOk result (λ made. (is_stopped made.0 ≡ false) × (gateway_of made.0 ≡ gateway)) }
-        ensures counts { MatchResult result (λ made. D.failures disk ≤ D.failures (disk_of made.0)) (λ refused. D.failures disk ≤ D.failures refused.0) }
-        ensures cause { IfErr result (λ refused. refused.1 ≡ JournalFault.Disk → D.failures disk < D.failures refused.0) }
-        ensures starved { D.starved disk ≡ true → MatchResult result (λ made. D.starved (disk_of made.0) ≡ true) (λ refused. D.starved refused.0 ≡ true) }
+        ensures starts { IfOk result (λ made. (is_stopped made.0 ≡ false)
+            × (gateway_of made.0 ≡ gateway)) }
+        ensures counts { MatchResult result (λ made. D.failures disk ≤ D.failures (disk_of made.0))
+            (λ refused. D.failures disk ≤ D.failures refused.0) }
+        ensures cause { IfErr result (λ refused. refused.1 ≡ JournalFault.Disk
+            → D.failures disk < D.failures refused.0) }
+        ensures starved { D.starved disk ≡ true
+            → MatchResult result (λ made. D.starved (disk_of made.0) ≡ true)
+            (λ refused. D.starved refused.0 ≡ true) }
         ensures running { IfErr result (λ refused. refused.1 ≢ JournalFault.Halted) }
         // It goes on in the slot that is read.
-        ensures place { D.honest → IfOk result (λ made. (slot_of made.0 ≡ slot_read gateway (image (D.slots disk))) × (generation_of made.0 ≡ generation_read gateway (image (D.slots disk)))) }
+        ensures place { D.honest → IfOk result
+            (λ made. (slot_of made.0 ≡ slot_read gateway (image (D.slots disk)))
+            × (generation_of made.0 ≡ generation_read gateway (image (D.slots disk)))) }
         // The records are those of the slots as they were found.
-        ensures records { D.honest → IfOk result (λ made. made.1.items ≡ records gateway (image (D.slots disk))) }
-        ensures known { D.honest → IfOk result (λ made. D.slots (disk_of made.0) ≡ recovered gateway (image (D.slots disk))) }
+        ensures records { D.honest → IfOk result (λ made. made.1.items ≡ records gateway
+            (image (D.slots disk))) }
+        ensures known { D.honest → IfOk result (λ made. D.slots (disk_of made.0) ≡ recovered gateway
+            (image (D.slots disk))) }
         // What was given stands after every crash.
-        ensures durable { D.honest → IfOk result (λ made. Leaves gateway (D.slots (disk_of made.0)) made.1.items) }
+        ensures durable { D.honest → IfOk result (λ made. Leaves gateway (D.slots (disk_of made.0))
+            made.1.items) }
         // It is refused exactly where the format says so, or the disk failed, or memory ran out.
         ensures found { D.honest → OnOk result (fault_of gateway (image (D.slots disk)) ≡ None) }
-        ensures fault { D.honest → IfErr result (λ refused. IsFault (fault_of gateway (image (D.slots disk))) refused.1) }
+        ensures fault { D.honest → IfErr result
+            (λ refused. IsFault (fault_of gateway (image (D.slots disk))) refused.1) }
         // Refused for another cause than the disk, it has synced the slots and changed nothing.
-        ensures kept { D.honest → IfErr result (λ refused. refused.1 ≢ JournalFault.Disk → D.slots refused.0 ≡ synced_slots (D.slots disk)) }
+        ensures kept { D.honest → IfErr result (λ refused. refused.1 ≢ JournalFault.Disk
+            → D.slots refused.0 ≡ synced_slots (D.slots disk)) }
         // Whatever refused it, no crash leaves what it could not have left before.
-        ensures leaves { D.honest → IfErr result (λ refused. LeavesNoMore gateway (D.slots disk) (D.slots refused.0)) }
+        ensures leaves { D.honest → IfErr result (λ refused. LeavesNoMore gateway (D.slots disk)
+            (D.slots refused.0)) }
         // A failure that is arranged for an append stays arranged, unless a journal is begun.
-        ensures quiet { D.honest → IsTrue (is_quiet (D.outlook disk) (is_fresh (image (D.slots disk)))) →
+        ensures quiet { D.honest → IsTrue (is_quiet (D.outlook disk)
+            (is_fresh (image (D.slots disk)))) →
             IfOk result (λ made. D.starved (disk_of made.0) ≡ false → D.outlook (disk_of made.0) ≡ D.outlook disk) }
-        ensures blameless { D.honest → IsTrue (is_quiet (D.outlook disk) (is_fresh (image (D.slots disk)))) →
+        ensures blameless { D.honest → IsTrue
+            (is_quiet (D.outlook disk) (is_fresh (image (D.slots disk)))) →
             IfErr result (λ refused. D.starved refused.0 ≡ false → (refused.1 ≢ JournalFault.Disk) × (D.outlook refused.0 ≡ D.outlook disk)) }
     {
         let mut disk = disk;
@@ -95,23 +111,38 @@ impl<D: Disk + Drop> Journal<D> {
     /// `Halted` where a write has failed before; else `Memory`, and nothing was written; else `Disk`.
     pub fn append(&mut self, alloc: Global, delta: &Delta) -> Result<(), JournalFault>
         ensures halted { IsErrOf result JournalFault.Halted ↔ (is_stopped self.old ≡ true) }
-        ensures same { (gateway_of self.new ≡ gateway_of self.old) × (slot_of self.new ≡ slot_of self.old) }
+        ensures same { (gateway_of self.new ≡ gateway_of self.old)
+            × (slot_of self.new ≡ slot_of self.old) }
         ensures generation { generation_of self.new ≡ generation_of self.old }
         ensures faults { IfErr result IsAppendFault }
         ensures goes_on { OnOk result (is_stopped self.new ≡ false) }
         ensures halts { IsErrOf result JournalFault.Disk → is_stopped self.new ≡ true }
         ensures counts { D.failures (disk_of self.old) ≤ D.failures (disk_of self.new) }
-        ensures cause { IsErrOf result JournalFault.Disk → D.failures (disk_of self.old) < D.failures (disk_of self.new) }
-        ensures refused { IsErrOf result JournalFault.Memory → ((disk_of self.new) ≡ (disk_of self.old)) × (is_stopped self.new ≡ is_stopped self.old) }
-        ensures stays { IsErrOf result JournalFault.Halted → ((disk_of self.new) ≡ (disk_of self.old)) × (is_stopped self.new ≡ true) }
-        ensures starved { D.starved (disk_of self.old) ≡ true → D.starved (disk_of self.new) ≡ true }
-        ensures exact { D.honest → OnOk result (D.slots (disk_of self.new) ≡ after_append None (D.slots (disk_of self.old)) (slot_of self.old) (written delta.now)) }
+        ensures cause { IsErrOf result JournalFault.Disk
+            → D.failures (disk_of self.old) < D.failures (disk_of self.new) }
+        ensures refused { IsErrOf result JournalFault.Memory
+            → ((disk_of self.new) ≡ (disk_of self.old))
+            × (is_stopped self.new ≡ is_stopped self.old) }
+        ensures stays { IsErrOf result JournalFault.Halted
+            → ((disk_of self.new) ≡ (disk_of self.old)) × (is_stopped self.new ≡ true) }
+        ensures starved { D.starved (disk_of self.old) ≡ true
+            → D.starved (disk_of self.new) ≡ true }
+        ensures exact { D.honest → OnOk result (D.slots (disk_of self.new) ≡ after_append None
+            (D.slots (disk_of self.old)) (slot_of self.old) (written delta.now)) }
         // After it every crash leaves the records from before and the new one.
-        ensures durable { D.honest → OnOk result (Leaves (gateway_of self.old) (D.slots (disk_of self.new)) (records (gateway_of self.old) (image (D.slots (disk_of self.old))) ++ delta.now ∷ [])) }
+        ensures durable { D.honest → OnOk result
+            (Leaves (gateway_of self.old) (D.slots (disk_of self.new))
+            (records (gateway_of self.old) (image (D.slots (disk_of self.old))) ++
+            delta.now ∷ [])) }
         // Where it failed, the new one may be missing.
-        ensures torn { D.honest → IsErrOf result JournalFault.Disk → LeavesOneMore (gateway_of self.old) (D.slots (disk_of self.new)) (records (gateway_of self.old) (image (D.slots (disk_of self.old)))) delta.now }
+        ensures torn { D.honest → IsErrOf result JournalFault.Disk
+            → LeavesOneMore (gateway_of self.old) (D.slots (disk_of self.new))
+            (records (gateway_of self.old) (image (D.slots (disk_of self.old)))) delta.now }
         // Where it is known which failure is arranged, so are the outcome and the slots.
-        ensures known { D.honest → D.starved (disk_of self.new) ≡ false → AppendedAs (D.outlook (disk_of self.old)) (D.slots (disk_of self.old)) (slot_of self.old) (written delta.now) result (D.slots (disk_of self.new)) (D.outlook (disk_of self.new)) }
+        ensures known { D.honest → D.starved (disk_of self.new) ≡ false
+            → AppendedAs (D.outlook (disk_of self.old)) (D.slots (disk_of self.old))
+            (slot_of self.old) (written delta.now) result (D.slots (disk_of self.new))
+            (D.outlook (disk_of self.new)) }
     {
         if self.halted {
             return Err(JournalFault::Halted);
@@ -137,23 +168,35 @@ impl<D: Disk + Drop> Journal<D> {
     pub fn compact(&mut self, alloc: Global, base: &[Delta]) -> Result<(), JournalFault>
         ensures halted { IsErrOf result JournalFault.Halted ↔ (is_stopped self.old ≡ true) }
         // The generation is the one that the header of the slot in use tells.
-        ensures number { D.honest → is_stopped self.old ≡ false → generation_of self.old ≡ generation_in (slot_content (gateway_of self.old) (at (D.slots (disk_of self.old)) (slot_of self.old)).synced) }
-        ensures last { IsErrOf result JournalFault.Foreign ↔ ((is_stopped self.old ≡ false) × (generation_of self.old ≡ last_generation)) }
+        ensures number { D.honest → is_stopped self.old ≡ false
+            → generation_of self.old ≡ generation_in (slot_content (gateway_of self.old)
+            (at (D.slots (disk_of self.old)) (slot_of self.old)).synced) }
+        ensures last { IsErrOf result JournalFault.Foreign ↔ ((is_stopped self.old ≡ false)
+            × (generation_of self.old ≡ last_generation)) }
         ensures same { gateway_of self.new ≡ gateway_of self.old }
         ensures faults { IfErr result IsCompactFault }
-        ensures goes_on { OnOk result ((is_stopped self.new ≡ false) × (slot_of self.new ≡ beside (slot_of self.old)) × (generation_of self.new ≡ generation_of self.old + 1)) }
-        ensures stays { OnErr result ((slot_of self.new ≡ slot_of self.old) × (generation_of self.new ≡ generation_of self.old)) }
+        ensures goes_on { OnOk result ((is_stopped self.new ≡ false)
+            × (slot_of self.new ≡ beside (slot_of self.old))
+            × (generation_of self.new ≡ generation_of self.old + 1)) }
+        ensures stays { OnErr result ((slot_of self.new ≡ slot_of self.old)
+            × (generation_of self.new ≡ generation_of self.old)) }
         ensures halts { IsErrOf result JournalFault.Disk → is_stopped self.new ≡ true }
-        ensures refused { IfErr result (λ fault. IsBeforeWriting fault → (disk_of self.new ≡ disk_of self.old) × (is_stopped self.new ≡ is_stopped self.old)) }
+        ensures refused { IfErr result (λ fault. IsBeforeWriting fault
+            → (disk_of self.new ≡ disk_of self.old) × (is_stopped self.new ≡ is_stopped self.old)) }
         ensures counts { D.failures (disk_of self.old) ≤ D.failures (disk_of self.new) }
-        ensures cause { IsErrOf result JournalFault.Disk → D.failures (disk_of self.old) < D.failures (disk_of self.new) }
-        ensures starved { D.starved (disk_of self.old) ≡ true → D.starved (disk_of self.new) ≡ true }
+        ensures cause { IsErrOf result JournalFault.Disk
+            → D.failures (disk_of self.old) < D.failures (disk_of self.new) }
+        ensures starved { D.starved (disk_of self.old) ≡ true
+            → D.starved (disk_of self.new) ≡ true }
         ensures exact { D.honest → OnOk result (D.slots (disk_of self.new) ≡
             after_append None (emptied (D.slots (disk_of self.old)) (beside (slot_of self.old))) (beside (slot_of self.old)) (base_bytes (gateway_of self.old) (generation_of self.old + 1) base.now)) }
         // After it every crash leaves the base and nothing else.
-        ensures durable { D.honest → OnOk result (Leaves (gateway_of self.old) (D.slots (disk_of self.new)) base.now) }
+        ensures durable { D.honest → OnOk result
+            (Leaves (gateway_of self.old) (D.slots (disk_of self.new)) base.now) }
         // Where it failed, the records from before may still be there.
-        ensures torn { D.honest → IsErrOf result JournalFault.Disk → LeavesEither (gateway_of self.old) (D.slots (disk_of self.new)) (records (gateway_of self.old) (image (D.slots (disk_of self.old)))) base.now }
+        ensures torn { D.honest → IsErrOf result JournalFault.Disk
+            → LeavesEither (gateway_of self.old) (D.slots (disk_of self.new))
+            (records (gateway_of self.old) (image (D.slots (disk_of self.old)))) base.now }
         // Where it is known which failure is arranged, so are the outcome and the slots.
         ensures known { D.honest → D.starved (disk_of self.new) ≡ false → IsTried result →
             AppendedAs (D.outlook (disk_of self.old)) (emptied (D.slots (disk_of self.old)) (beside (slot_of self.old))) (beside (slot_of self.old)) (base_bytes (gateway_of self.old) (generation_of self.old + 1) base.now) result (D.slots (disk_of self.new)) (D.outlook (disk_of self.new)) }
@@ -180,29 +223,48 @@ impl<D: Disk + Drop> Journal<D> {
     pub fn reopen(&mut self, alloc: Global) -> Result<Vec<Delta>, JournalFault>
         ensures same { gateway_of self.new ≡ gateway_of self.old }
         ensures starts { OnOk result (is_stopped self.new ≡ false) }
-        ensures halts { IfErr result (λ fault. fault ≢ JournalFault.Memory → is_stopped self.new ≡ true) }
-        ensures wanting { IsErrOf result JournalFault.Memory → is_stopped self.new ≡ is_stopped self.old }
-        ensures stays { OnErr result ((slot_of self.new ≡ slot_of self.old) × (generation_of self.new ≡ generation_of self.old)) }
+        ensures halts { IfErr result (λ fault. fault ≢ JournalFault.Memory
+            → is_stopped self.new ≡ true) }
+        ensures wanting { IsErrOf result JournalFault.Memory
+            → is_stopped self.new ≡ is_stopped self.old }
+        ensures stays { OnErr result ((slot_of self.new ≡ slot_of self.old)
+            × (generation_of self.new ≡ generation_of self.old)) }
         ensures counts { D.failures (disk_of self.old) ≤ D.failures (disk_of self.new) }
-        ensures cause { IsErrOf result JournalFault.Disk → D.failures (disk_of self.old) < D.failures (disk_of self.new) }
-        ensures starved { D.starved (disk_of self.old) ≡ true → D.starved (disk_of self.new) ≡ true }
+        ensures cause { IsErrOf result JournalFault.Disk
+            → D.failures (disk_of self.old) < D.failures (disk_of self.new) }
+        ensures starved { D.starved (disk_of self.old) ≡ true
+            → D.starved (disk_of self.new) ≡ true }
         ensures running { IsErrOf result JournalFault.Halted → ⊥ }
         // It goes on in the slot that is read.
-        ensures place { D.honest → OnOk result ((slot_of self.new ≡ slot_read (gateway_of self.old) (image (D.slots (disk_of self.old)))) × (generation_of self.new ≡ generation_read (gateway_of self.old) (image (D.slots (disk_of self.old))))) }
+        ensures place { D.honest → OnOk result
+            ((slot_of self.new ≡ slot_read (gateway_of self.old)
+            (image (D.slots (disk_of self.old))))
+            × (generation_of self.new ≡ generation_read (gateway_of self.old)
+            (image (D.slots (disk_of self.old))))) }
         // The records are those of the slots as they were found.
-        ensures records { D.honest → IfOk result (λ deltas. deltas.items ≡ records (gateway_of self.old) (image (D.slots (disk_of self.old)))) }
-        ensures known { D.honest → OnOk result (D.slots (disk_of self.new) ≡ recovered (gateway_of self.old) (image (D.slots (disk_of self.old)))) }
+        ensures records { D.honest → IfOk result (λ deltas. deltas.items
+            ≡ records (gateway_of self.old) (image (D.slots (disk_of self.old)))) }
+        ensures known { D.honest → OnOk result (D.slots (disk_of self.new) ≡ recovered
+            (gateway_of self.old) (image (D.slots (disk_of self.old)))) }
         // What was given stands after every crash.
-        ensures durable { D.honest → IfOk result (λ deltas. Leaves (gateway_of self.old) (D.slots (disk_of self.new)) deltas.items) }
+        ensures durable { D.honest → IfOk result (λ deltas. Leaves (gateway_of self.old)
+            (D.slots (disk_of self.new)) deltas.items) }
         // It is refused exactly where the format says so, or the disk failed, or memory ran out.
-        ensures found { D.honest → OnOk result (fault_of (gateway_of self.old) (image (D.slots (disk_of self.old))) ≡ None) }
-        ensures fault { D.honest → IfErr result (λ fault. IsFault (fault_of (gateway_of self.old) (image (D.slots (disk_of self.old)))) fault) }
+        ensures found { D.honest → OnOk result
+            (fault_of (gateway_of self.old) (image (D.slots (disk_of self.old))) ≡ None) }
+        ensures fault { D.honest → IfErr result
+            (λ fault. IsFault (fault_of (gateway_of self.old)
+            (image (D.slots (disk_of self.old)))) fault) }
         // Refused for another cause than the disk, it has synced the slots and changed nothing.
-        ensures kept { D.honest → IfErr result (λ fault. fault ≢ JournalFault.Disk → D.slots (disk_of self.new) ≡ synced_slots (D.slots (disk_of self.old))) }
+        ensures kept { D.honest → IfErr result (λ fault. fault ≢ JournalFault.Disk
+            → D.slots (disk_of self.new) ≡ synced_slots (D.slots (disk_of self.old))) }
         // Whatever refused it, no crash leaves what it could not have left before.
-        ensures leaves { D.honest → OnErr result (LeavesNoMore (gateway_of self.old) (D.slots (disk_of self.old)) (D.slots (disk_of self.new))) }
+        ensures leaves { D.honest → OnErr result (LeavesNoMore (gateway_of self.old)
+            (D.slots (disk_of self.old)) (D.slots (disk_of self.new))) }
         // A failure that is arranged for an append stays arranged, unless a journal is begun.
-        ensures quiet { D.honest → D.starved (disk_of self.new) ≡ false → IsTrue (is_quiet (D.outlook (disk_of self.old)) (is_fresh (image (D.slots (disk_of self.old))))) →
+        ensures quiet { D.honest → D.starved (disk_of self.new) ≡ false
+            → IsTrue (is_quiet (D.outlook (disk_of self.old))
+            (is_fresh (image (D.slots (disk_of self.old))))) →
             IsUnhurt result (D.outlook (disk_of self.old)) (D.outlook (disk_of self.new)) }
     {
         let halted = self.halted;
@@ -232,7 +294,9 @@ impl<D: Disk + Drop> Journal<D> {
     pub fn halt(&mut self)
         ensures halted { is_stopped self.new ≡ true }
         ensures disk { disk_of self.new ≡ disk_of self.old }
-        ensures same { (gateway_of self.new ≡ gateway_of self.old) × (slot_of self.new ≡ slot_of self.old) × (generation_of self.new ≡ generation_of self.old) }
+        ensures same { (gateway_of self.new ≡ gateway_of self.old)
+            × (slot_of self.new ≡ slot_of self.old)
+            × (generation_of self.new ≡ generation_of self.old) }
     {
         self.halted = true;
     }
@@ -282,7 +346,9 @@ impl Journal<MemoryDisk> {
     /// goes out and its sync fails, or the next append stops after so many bytes.
     pub fn fail_next(&mut self, bytes: usize, sync: bool)
         ensures disk { disk_of self.new ≡ failing bytes sync (disk_of self.old) }
-        ensures same { (gateway_of self.new ≡ gateway_of self.old) × (slot_of self.new ≡ slot_of self.old) × (generation_of self.new ≡ generation_of self.old) }
+        ensures same { (gateway_of self.new ≡ gateway_of self.old)
+            × (slot_of self.new ≡ slot_of self.old)
+            × (generation_of self.new ≡ generation_of self.old) }
         ensures halted { is_stopped self.new ≡ is_stopped self.old }
     {
         self.disk.fail_next(bytes, sync);

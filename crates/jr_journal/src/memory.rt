@@ -110,7 +110,8 @@ impl MemorySlots {
 
     /// On an error the slots are as they were.
     fn append(&mut self, slot: Slot, bytes: &[u8]) -> Result<(), AllocError>
-        ensures ok { OnOk result (self.new ≡ replaced self.old slot (appended (at self.old slot) bytes.now)) }
+        ensures ok { OnOk result (self.new ≡ replaced self.old slot
+            (appended (at self.old slot) bytes.now)) }
         ensures err { OnErr result (self.new ≡ self.old) }
     {
         match slot {

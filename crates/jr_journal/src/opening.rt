@@ -45,10 +45,14 @@ pub(crate) struct Recovered {
 pub(crate) fn sync_both<D: Disk>(disk: &mut D) -> Result<(), JournalFault>
     ensures cause { D.failures disk.old ≤ D.failures disk.new }
     ensures starved { D.starved disk.old ≡ true → D.starved disk.new ≡ true }
-    ensures calm { D.honest → D.starved disk.new ≡ false → IsTrue (is_calm (D.outlook disk.old)) → IsUnhurt result (D.outlook disk.old) (D.outlook disk.new) }
-    ensures err { IfErr result (λ fault. (fault ≡ JournalFault.Disk) × (D.failures disk.old < D.failures disk.new)) }
+    ensures calm { D.honest → D.starved disk.new ≡ false → IsTrue (is_calm (D.outlook disk.old))
+        → IsUnhurt result (D.outlook disk.old) (D.outlook disk.new) }
+    ensures err { IfErr result (λ fault. (fault ≡ JournalFault.Disk)
+        × (D.failures disk.old < D.failures disk.new)) }
     ensures ok { D.honest → OnOk result (D.slots disk.new ≡ synced_slots (D.slots disk.old)) }
-    ensures part { D.honest → OnErr result ((D.slots disk.new ≡ D.slots disk.old) ⊎ (D.slots disk.new ≡ replaced (D.slots disk.old) Slot.First (all_synced (at (D.slots disk.old) Slot.First)))) }
+    ensures part { D.honest → OnErr result ((D.slots disk.new ≡ D.slots disk.old)
+        ⊎ (D.slots disk.new ≡ replaced (D.slots disk.old) Slot.First
+        (all_synced (at (D.slots disk.old) Slot.First)))) }
 {
     if disk.sync(Slot::First).is_err() {
         return Err(JournalFault::Disk);
@@ -63,10 +67,13 @@ pub(crate) fn sync_both<D: Disk>(disk: &mut D) -> Result<(), JournalFault>
 fn read_slot<D: Disk>(alloc: Global, disk: &mut D, slot: Slot) -> Result<Vec<u8>, JournalFault>
     ensures cause { D.failures disk.old ≤ D.failures disk.new }
     ensures starved { D.starved disk.old ≡ true → D.starved disk.new ≡ true }
-    ensures calm { D.honest → D.starved disk.new ≡ false → IsTrue (is_calm (D.outlook disk.old)) → IsUnhurt result (D.outlook disk.old) (D.outlook disk.new) }
-    ensures err { IfErr result (λ fault. (fault ≡ JournalFault.Memory) ⊎ ((fault ≡ JournalFault.Disk) × (D.failures disk.old < D.failures disk.new))) }
+    ensures calm { D.honest → D.starved disk.new ≡ false → IsTrue (is_calm (D.outlook disk.old))
+        → IsUnhurt result (D.outlook disk.old) (D.outlook disk.new) }
+    ensures err { IfErr result (λ fault. (fault ≡ JournalFault.Memory)
+        ⊎ ((fault ≡ JournalFault.Disk) × (D.failures disk.old < D.failures disk.new))) }
     ensures same { D.honest → D.slots disk.new ≡ D.slots disk.old }
-    ensures ok { D.honest → IfOk result (λ bytes. bytes.items ≡ bytes_of (at (D.slots disk.old) slot)) }
+    ensures ok { D.honest → IfOk result (λ bytes. bytes.items
+        ≡ bytes_of (at (D.slots disk.old) slot)) }
 {
     let Ok(size) = disk.len(slot) else {
         return Err(JournalFault::Disk);
@@ -87,10 +94,14 @@ fn see_slot<D: Disk>(
 ) -> Result<(SlotContent, usize), JournalFault>
     ensures cause { D.failures disk.old ≤ D.failures disk.new }
     ensures starved { D.starved disk.old ≡ true → D.starved disk.new ≡ true }
-    ensures calm { D.honest → D.starved disk.new ≡ false → IsTrue (is_calm (D.outlook disk.old)) → IsUnhurt result (D.outlook disk.old) (D.outlook disk.new) }
-    ensures err { IfErr result (λ fault. (fault ≡ JournalFault.Memory) ⊎ ((fault ≡ JournalFault.Disk) × (D.failures disk.old < D.failures disk.new))) }
+    ensures calm { D.honest → D.starved disk.new ≡ false → IsTrue (is_calm (D.outlook disk.old))
+        → IsUnhurt result (D.outlook disk.old) (D.outlook disk.new) }
+    ensures err { IfErr result (λ fault. (fault ≡ JournalFault.Memory)
+        ⊎ ((fault ≡ JournalFault.Disk) × (D.failures disk.old < D.failures disk.new))) }
     ensures same { D.honest → D.slots disk.new ≡ D.slots disk.old }
-    ensures ok { D.honest → IfOk result (λ seen. (seen.0 ≡ slot_content gateway (bytes_of (at (D.slots disk.old) slot))) × (seen.1 ≡ length (bytes_of (at (D.slots disk.old) slot)))) }
+    ensures ok { D.honest → IfOk result (λ seen.
+        (seen.0 ≡ slot_content gateway (bytes_of (at (D.slots disk.old) slot)))
+        × (seen.1 ≡ length (bytes_of (at (D.slots disk.old) slot)))) }
 {
     let bytes = read_slot(alloc, disk, slot)?;
     let content = read_content(alloc, gateway, &bytes)?;
@@ -171,9 +182,13 @@ fn hold(slot: Slot, content: SlotContent, size: usize) -> Opening
 fn begin<D: Disk>(disk: &mut D, gateway: u8) -> Result<(), JournalFault>
     ensures cause { D.failures disk.old ≤ D.failures disk.new }
     ensures starved { D.starved disk.old ≡ true → D.starved disk.new ≡ true }
-    ensures calm { D.honest → D.starved disk.new ≡ false → IsTrue (is_quiet (D.outlook disk.old) true) → IsUnhurt result (D.outlook disk.old) (D.outlook disk.new) }
-    ensures err { IfErr result (λ fault. (fault ≡ JournalFault.Disk) × (D.failures disk.old < D.failures disk.new)) }
-    ensures ok { D.honest → OnOk result (D.slots disk.new ≡ replaced (D.slots disk.old) Slot.First (synced_bytes (new_journal gateway))) }
+    ensures calm { D.honest → D.starved disk.new ≡ false
+        → IsTrue (is_quiet (D.outlook disk.old) true)
+        → IsUnhurt result (D.outlook disk.old) (D.outlook disk.new) }
+    ensures err { IfErr result (λ fault. (fault ≡ JournalFault.Disk)
+        × (D.failures disk.old < D.failures disk.new)) }
+    ensures ok { D.honest → OnOk result (D.slots disk.new ≡ replaced (D.slots disk.old) Slot.First
+        (synced_bytes (new_journal gateway))) }
     ensures part { D.honest → OnErr result (IsBegun gateway (D.slots disk.old) (D.slots disk.new)) }
 {
     let [a, b, c, d] = MAGIC;
@@ -200,10 +215,16 @@ fn cut_torn<D: Disk>(
 ) -> Result<(), JournalFault>
     ensures cause { D.failures disk.old ≤ D.failures disk.new }
     ensures starved { D.starved disk.old ≡ true → D.starved disk.new ≡ true }
-    ensures calm { D.honest → D.starved disk.new ≡ false → IsTrue (is_calm (D.outlook disk.old)) → IsUnhurt result (D.outlook disk.old) (D.outlook disk.new) }
-    ensures err { IfErr result (λ fault. (fault ≡ JournalFault.Disk) × (D.failures disk.old < D.failures disk.new)) }
-    ensures ok { D.honest → size ≡ length (bytes_of (at (D.slots disk.old) slot)) → OnOk result (D.slots disk.new ≡ replaced (D.slots disk.old) slot (cut_to (at (D.slots disk.old) slot) (13 + whole))) }
-    ensures part { D.honest → OnErr result ((D.slots disk.new ≡ D.slots disk.old) ⊎ (D.slots disk.new ≡ replaced (D.slots disk.old) slot (cut_to (at (D.slots disk.old) slot) (13 + whole)))) }
+    ensures calm { D.honest → D.starved disk.new ≡ false → IsTrue (is_calm (D.outlook disk.old))
+        → IsUnhurt result (D.outlook disk.old) (D.outlook disk.new) }
+    ensures err { IfErr result (λ fault. (fault ≡ JournalFault.Disk)
+        × (D.failures disk.old < D.failures disk.new)) }
+    ensures ok { D.honest → size ≡ length (bytes_of (at (D.slots disk.old) slot))
+        → OnOk result (D.slots disk.new ≡ replaced (D.slots disk.old) slot
+        (cut_to (at (D.slots disk.old) slot) (13 + whole))) }
+    ensures part { D.honest → OnErr result ((D.slots disk.new ≡ D.slots disk.old)
+        ⊎ (D.slots disk.new ≡ replaced (D.slots disk.old) slot (cut_to (at (D.slots disk.old) slot)
+        (13 + whole)))) }
 {
     if size < HEADER || size - HEADER <= whole {
         return Ok(());
@@ -222,10 +243,15 @@ pub(crate) fn settle<D: Disk>(
 ) -> Result<(), JournalFault>
     ensures cause { D.failures disk.old ≤ D.failures disk.new }
     ensures starved { D.starved disk.old ≡ true → D.starved disk.new ≡ true }
-    ensures calm { D.honest → D.starved disk.new ≡ false → IsTrue (is_quiet (D.outlook disk.old) (is_new opening.now)) → IsUnhurt result (D.outlook disk.old) (D.outlook disk.new) }
-    ensures err { IfErr result (λ fault. (fault ≡ JournalFault.Disk) × (D.failures disk.old < D.failures disk.new)) }
-    ensures ok { D.honest → IsSized opening.now (D.slots disk.old) → OnOk result (D.slots disk.new ≡ settled gateway opening.now (D.slots disk.old)) }
-    ensures part { D.honest → OnErr result (IsPartly gateway opening.now (D.slots disk.old) (D.slots disk.new)) }
+    ensures calm { D.honest → D.starved disk.new ≡ false
+        → IsTrue (is_quiet (D.outlook disk.old) (is_new opening.now))
+        → IsUnhurt result (D.outlook disk.old) (D.outlook disk.new) }
+    ensures err { IfErr result (λ fault. (fault ≡ JournalFault.Disk)
+        × (D.failures disk.old < D.failures disk.new)) }
+    ensures ok { D.honest → IsSized opening.now (D.slots disk.old)
+        → OnOk result (D.slots disk.new ≡ settled gateway opening.now (D.slots disk.old)) }
+    ensures part { D.honest → OnErr result (IsPartly gateway opening.now (D.slots disk.old)
+        (D.slots disk.new)) }
 {
     match opening {
         Opening::New => begin(disk, gateway),
@@ -246,12 +272,15 @@ pub(crate) fn read_slots<D: Disk>(
 ) -> Result<Opening, JournalFault>
     ensures cause { D.failures disk.old ≤ D.failures disk.new }
     ensures starved { D.starved disk.old ≡ true → D.starved disk.new ≡ true }
-    ensures calm { D.honest → D.starved disk.new ≡ false → IsTrue (is_calm (D.outlook disk.old)) → IsUnhurt result (D.outlook disk.old) (D.outlook disk.new) }
+    ensures calm { D.honest → D.starved disk.new ≡ false → IsTrue (is_calm (D.outlook disk.old))
+        → IsUnhurt result (D.outlook disk.old) (D.outlook disk.new) }
     ensures err { IsErrOf result JournalFault.Disk → D.failures disk.old < D.failures disk.new }
     ensures running { IsErrOf result JournalFault.Halted → ⊥ }
     ensures same { D.honest → D.slots disk.new ≡ D.slots disk.old }
-    ensures opening { D.honest → IfOk result (λ opening. IsOpening gateway (image (D.slots disk.old)) opening × IsSized opening (D.slots disk.old)) }
-    ensures fault { D.honest → IfErr result (λ fault. IsFault (fault_of gateway (image (D.slots disk.old))) fault) }
+    ensures opening { D.honest → IfOk result (λ opening. IsOpening gateway
+        (image (D.slots disk.old)) opening × IsSized opening (D.slots disk.old)) }
+    ensures fault { D.honest → IfErr result (λ fault.
+        IsFault (fault_of gateway (image (D.slots disk.old))) fault) }
 {
     let (first, size) = see_slot(alloc, disk, gateway, Slot::First)?;
     let (second, beside) = see_slot(alloc, disk, gateway, Slot::Second)?;
@@ -298,18 +327,29 @@ pub(crate) fn recover<D: Disk>(
 ) -> Result<Recovered, JournalFault>
     ensures cause { D.failures disk.old ≤ D.failures disk.new }
     ensures starved { D.starved disk.old ≡ true → D.starved disk.new ≡ true }
-    ensures calm { D.honest → D.starved disk.new ≡ false → IsTrue (is_quiet (D.outlook disk.old) (is_fresh (image (D.slots disk.old)))) → IsUnhurt result (D.outlook disk.old) (D.outlook disk.new) }
+    ensures calm { D.honest → D.starved disk.new ≡ false
+        → IsTrue (is_quiet (D.outlook disk.old) (is_fresh (image (D.slots disk.old))))
+        → IsUnhurt result (D.outlook disk.old) (D.outlook disk.new) }
     ensures err { IsErrOf result JournalFault.Disk → D.failures disk.old < D.failures disk.new }
     ensures running { IsErrOf result JournalFault.Halted → ⊥ }
-    ensures records { D.honest → IfOk result (λ made. made.deltas.items ≡ records gateway (image (D.slots disk.old))) }
-    ensures place { D.honest → IfOk result (λ made. (made.slot ≡ slot_read gateway (image (D.slots disk.old))) × (made.generation ≡ generation_read gateway (image (D.slots disk.old)))) }
-    ensures known { D.honest → OnOk result (D.slots disk.new ≡ recovered gateway (image (D.slots disk.old))) }
-    ensures settled { D.honest → IfOk result (λ made. IsTrue (is_in_use gateway made.slot made.generation (D.slots disk.new))) }
-    ensures durable { D.honest → IfOk result (λ made. Leaves gateway (D.slots disk.new) made.deltas.items) }
+    ensures records { D.honest → IfOk result (λ made. made.deltas.items ≡ records gateway
+        (image (D.slots disk.old))) }
+    ensures place { D.honest → IfOk result (λ made.
+        (made.slot ≡ slot_read gateway (image (D.slots disk.old)))
+        × (made.generation ≡ generation_read gateway (image (D.slots disk.old)))) }
+    ensures known { D.honest → OnOk result (D.slots disk.new ≡ recovered gateway
+        (image (D.slots disk.old))) }
+    ensures settled { D.honest → IfOk result (λ made.
+        IsTrue (is_in_use gateway made.slot made.generation (D.slots disk.new))) }
+    ensures durable { D.honest → IfOk result (λ made. Leaves gateway (D.slots disk.new)
+        made.deltas.items) }
     ensures found { D.honest → OnOk result (fault_of gateway (image (D.slots disk.old)) ≡ None) }
-    ensures fault { D.honest → IfErr result (λ fault. IsFault (fault_of gateway (image (D.slots disk.old))) fault) }
-    ensures kept { D.honest → IfErr result (λ fault. fault ≢ JournalFault.Disk → D.slots disk.new ≡ synced_slots (D.slots disk.old)) }
-    ensures leaves { D.honest → OnErr result (LeavesNoMore gateway (D.slots disk.old) (D.slots disk.new)) }
+    ensures fault { D.honest → IfErr result (λ fault.
+        IsFault (fault_of gateway (image (D.slots disk.old))) fault) }
+    ensures kept { D.honest → IfErr result (λ fault. fault ≢ JournalFault.Disk
+        → D.slots disk.new ≡ synced_slots (D.slots disk.old)) }
+    ensures leaves { D.honest → OnErr result (LeavesNoMore gateway (D.slots disk.old)
+        (D.slots disk.new)) }
 {
     sync_both(disk)?;
     let opening = read_slots(alloc, disk, gateway)?;

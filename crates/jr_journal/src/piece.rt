@@ -90,7 +90,8 @@ fn read_body(alloc: Global, size: usize, rest: &[u8]) -> Result<Piece, JournalFa
 /// A length, and the bytes behind it; none where the length is cut.
 fn read_length(bytes: &[u8]) -> Option<(u32, &[u8])>
     ensures none { IfNone result (length bytes.now < 4) }
-    ensures some { IfSome result (λ read. (4 ≤ length bytes.now) × (read.0 ≡ from_be_bytes w32 (take 4 bytes.now)) × (read.1.now ≡ drop 4 bytes.now)) }
+    ensures some { IfSome result (λ read. (4 ≤ length bytes.now)
+        × (read.0 ≡ from_be_bytes w32 (take 4 bytes.now)) × (read.1.now ≡ drop 4 bytes.now)) }
 {
     read_u32(bytes)
 }

@@ -98,9 +98,11 @@ fn told(fault: JournalFault) -> JournalFault
 
 /// The records of a disk in memory, and where its journal goes on.
 fn open(alloc: Global, disk: MemoryDisk, gateway: u8) -> Result<Opened, JournalFault>
-    ensures records { IfOk result (λ opened. opened.records.items ≡ records gateway (image disk.slots)) }
+    ensures records { IfOk result (λ opened. opened.records.items ≡ records gateway
+        (image disk.slots)) }
     ensures place { IfOk result (λ opened. opened.slot ≡ slot_read gateway (image disk.slots)) }
-    ensures generation { IfOk result (λ opened. opened.generation ≡ generation_read gateway (image disk.slots)) }
+    ensures generation { IfOk result (λ opened. opened.generation ≡ generation_read gateway
+        (image disk.slots)) }
     ensures whole { IfOk result (λ opened.
         opened.whole ≡ length (bytes_of (at (recovered gateway (image disk.slots)) opened.slot))) }
     ensures found { OnOk result (fault_of gateway (image disk.slots) ≡ None) }
@@ -147,7 +149,8 @@ pub fn read(
 ) -> Result<Reading, JournalFault>
     ensures records { IfOk result (λ reading.
         reading.records.items ≡ records gateway (slots_of first.now second.now)) }
-    ensures place { IfOk result (λ reading. reading.slot ≡ slot_read gateway (slots_of first.now second.now)) }
+    ensures place { IfOk result (λ reading. reading.slot ≡ slot_read gateway
+        (slots_of first.now second.now)) }
     ensures generation { IfOk result (λ reading.
         reading.generation ≡ generation_read gateway (slots_of first.now second.now)) }
     // Each record stands at its place in the slot that is read.

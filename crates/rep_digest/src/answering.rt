@@ -41,7 +41,8 @@ fn left_of_replica<R: Replica>(
     entries: &[ClientEntry],
 ) -> Result<Vec<Op>, NoMemory>
     requires { IsDigest entries.now }
-    ensures { IfOk result (λ ops. AreWellMade ops.items × IsLeft entries.now (R.kept replica.now) ops.items) }
+    ensures { IfOk result (λ ops. AreWellMade ops.items
+        × IsLeft entries.now (R.kept replica.now) ops.items) }
 {
     let held = replica.held(alloc)?;
     left_of_deltas(alloc, entries, held.as_slice())
@@ -72,7 +73,8 @@ fn add_left(
 ) -> Result<(), NoMemory>
     requires digest { IsDigest entries.now }
     requires made { AreWellMade ops.now }
-    ensures { OnOk result (left.new.items ≡ left.old.items ++ flat_map (left_by entries.now) ops.now) }
+    ensures { OnOk result (left.new.items ≡ left.old.items ++ flat_map
+        (left_by entries.now) ops.now) }
 {
     for op in ops {
         add_left_of(alloc, left, entries, op)?;
@@ -136,7 +138,8 @@ fn add_left_by(
 /// Whether a message waits or is acknowledged.
 fn covers(entry: &ClientEntry, origin: u8, seq: u64) -> bool
     requires { IsEntry entry.now }
-    ensures { result ≡ (ranges_test seq (waiting_of origin (Some entry.now)) || ranges_test seq (acknowledged_of origin (Some entry.now))) }
+    ensures { result ≡ (ranges_test seq (waiting_of origin (Some entry.now)) || ranges_test seq
+        (acknowledged_of origin (Some entry.now))) }
 {
     in_ranges(seq, waiting_in(entry, origin)) || in_ranges(seq, acknowledged_in(entry, origin))
 }
@@ -151,7 +154,8 @@ fn add_outside(
     ranges: &[(u64, u64)],
 ) -> Result<(), NoMemory>
     requires { range.0 ≤ range.1 }
-    ensures { OnOk result (left.new.items ≡ left.old.items ++ map (ack_of client.now origin) (outside range ranges.now)) }
+    ensures { OnOk result (left.new.items ≡ left.old.items ++ map (ack_of client.now origin)
+        (outside range ranges.now)) }
 {
     let mut rest = Some(range);
     for covered in ranges {
@@ -178,7 +182,8 @@ fn add_before(
     range: (u64, u64),
     covered: (u64, u64),
 ) -> Result<(), NoMemory>
-    ensures { OnOk result (left.new.items ≡ left.old.items ++ map (ack_of client.now origin) (before range covered)) }
+    ensures { OnOk result (left.new.items ≡ left.old.items ++ map (ack_of client.now origin)
+        (before range covered)) }
 {
     if range.0 < covered.0 && covered.0 <= range.1 && range.0 <= covered.1 {
         add_range(alloc, left, client, origin, (range.0, covered.0 - 1))?;

@@ -18,7 +18,8 @@ use rep_ops::{ClientId, Stamp};
 /// The entry of a client. The time is logarithmic.
 pub fn find_entry<'a>(entries: &'a [ClientEntry], client: &ClientId) -> Option<&'a ClientEntry>
     requires { IsDigest entries.now }
-    ensures { MatchOption result (entry_of client.now entries.now ≡ None) (λ entry. (entry_of client.now entries.now ≡ Some entry.now) × IsEntry entry.now) }
+    ensures { MatchOption result (entry_of client.now entries.now ≡ None)
+        (λ entry. (entry_of client.now entries.now ≡ Some entry.now) × IsEntry entry.now) }
 {
     match place(entries, client) {
         Ok(at) => Some(&entries[at]),

@@ -70,7 +70,8 @@ impl Digest {
         // What is read is spelled so.
         ensures ok { IfOk result (λ d. bytes.now ≡ spelling d) }
         // What is spelled so is read, unless memory runs out.
-        ensures only { (d : List ClientEntry) → IsDigest d → IsWithinLimit d → bytes.now ≡ spelling d → (result ≡ Ok d) ⊎ (result ≡ Err OpsFault.Memory) }
+        ensures only { (d : List ClientEntry) → IsDigest d → IsWithinLimit d
+            → bytes.now ≡ spelling d → (result ≡ Ok d) ⊎ (result ≡ Err OpsFault.Memory) }
         // Which fault it is.
         ensures exact { Gives (λ d. d) result (reading bytes.now) }
     {

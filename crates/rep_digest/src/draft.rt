@@ -53,7 +53,8 @@ fn note_acknowledged(
     acks: &[Acknowledged],
 ) -> Result<(), OpsFault>
     requires { AreDrafted origins.old.items }
-    ensures ok { (A : List Acknowledged) (P : List Put) → origins.old.items ≡ drafted_origins A P → OnOk result (origins.new.items ≡ drafted_origins (A ++ acks.now) P) }
+    ensures ok { (A : List Acknowledged) (P : List Put) → origins.old.items ≡ drafted_origins A P
+        → OnOk result (origins.new.items ≡ drafted_origins (A ++ acks.now) P) }
     ensures err { IfErr result (λ fault. fault ≡ OpsFault.Memory) }
 {
     for range in acks {
@@ -69,7 +70,8 @@ fn note_waiting(
     pending: &[Put],
 ) -> Result<(), OpsFault>
     requires { AreDrafted origins.old.items }
-    ensures ok { (A : List Acknowledged) (P : List Put) → origins.old.items ≡ drafted_origins A P → OnOk result (origins.new.items ≡ drafted_origins A (P ++ pending.now)) }
+    ensures ok { (A : List Acknowledged) (P : List Put) → origins.old.items ≡ drafted_origins A P
+        → OnOk result (origins.new.items ≡ drafted_origins A (P ++ pending.now)) }
     ensures err { IfErr result (λ fault. fault ≡ OpsFault.Memory) }
 {
     for put in pending {
@@ -85,7 +87,8 @@ fn note_range(
     range: Acknowledged,
 ) -> Result<(), OpsFault>
     requires { AreDrafted origins.old.items }
-    ensures ok { (A : List Acknowledged) (P : List Put) → origins.old.items ≡ drafted_origins A P → OnOk result (origins.new.items ≡ drafted_origins (A ++ range ∷ []) P) }
+    ensures ok { (A : List Acknowledged) (P : List Put) → origins.old.items ≡ drafted_origins A P
+        → OnOk result (origins.new.items ≡ drafted_origins (A ++ range ∷ []) P) }
     ensures err { IfErr result (λ fault. fault ≡ OpsFault.Memory) }
 {
     if !is_gateway(range.origin) {
@@ -112,7 +115,8 @@ fn note_range(
 /// Puts the number of a message behind those of its origin. The time is logarithmic, but for an origin that is new.
 fn note_put(alloc: Global, origins: &mut Vec<OriginEntry>, put: &Put) -> Result<(), OpsFault>
     requires { AreDrafted origins.old.items }
-    ensures ok { (A : List Acknowledged) (P : List Put) → origins.old.items ≡ drafted_origins A P → OnOk result (origins.new.items ≡ drafted_origins A (P ++ put.now ∷ [])) }
+    ensures ok { (A : List Acknowledged) (P : List Put) → origins.old.items ≡ drafted_origins A P
+        → OnOk result (origins.new.items ≡ drafted_origins A (P ++ put.now ∷ [])) }
     ensures err { IfErr result (λ fault. fault ≡ OpsFault.Memory) }
 {
     if !is_gateway(put.origin) {

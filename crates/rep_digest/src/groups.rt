@@ -57,7 +57,8 @@ fn note_all(
     ops: &[Op],
 ) -> Result<(), OpsFault>
     requires { IsStrictlySortedBy client_cmp clients.now }
-    ensures ok { (W : List Op) → groups.old.items ≡ all_groups clients.now W → OnOk result (groups.new.items ≡ all_groups clients.now (W ++ ops.now)) }
+    ensures ok { (W : List Op) → groups.old.items ≡ all_groups clients.now W
+        → OnOk result (groups.new.items ≡ all_groups clients.now (W ++ ops.now)) }
     ensures err { IfErr result (λ fault. fault ≡ OpsFault.Memory) }
 {
     for op in ops {
@@ -73,7 +74,8 @@ fn note(
     op: &Op,
 ) -> Result<(), OpsFault>
     requires { IsStrictlySortedBy client_cmp clients.now }
-    ensures ok { (W : List Op) → groups.old.items ≡ all_groups clients.now W → OnOk result (groups.new.items ≡ all_groups clients.now (W ++ op.now ∷ [])) }
+    ensures ok { (W : List Op) → groups.old.items ≡ all_groups clients.now W
+        → OnOk result (groups.new.items ≡ all_groups clients.now (W ++ op.now ∷ [])) }
     ensures err { IfErr result (λ fault. fault ≡ OpsFault.Memory) }
 {
     match op {
@@ -103,7 +105,9 @@ fn note_range(
     range: Acknowledged,
 ) -> Result<(), OpsFault>
     requires { IsStrictlySortedBy client_cmp clients.now }
-    ensures ok { (W : List Op) → groups.old.items ≡ all_groups clients.now W → OnOk result (groups.new.items ≡ all_groups clients.now (W ++ OfAck client.now range.origin range.first range.last ∷ [])) }
+    ensures ok { (W : List Op) → groups.old.items ≡ all_groups clients.now W
+        → OnOk result (groups.new.items ≡ all_groups clients.now (W ++ OfAck client.now range.origin
+        range.first range.last ∷ [])) }
     ensures err { IfErr result (λ fault. fault ≡ OpsFault.Memory) }
 {
     match place(clients, client) {

@@ -15,15 +15,18 @@ ghost use Rattle.rep_digest.specs.declared.entry.ClientEntry.{ClientEntry};
 /// An answer completes: T with the answer X of S to the digest of T keeps what T with all of S keeps, whatever Y comes
 /// later.
 pub fn answer_completes()
-    ensures { (S T X Y : List Op) → IsRest (digest T) (keep S) X → Same (keep ((T ++ X) ++ Y)) (keep ((T ++ S) ++ Y)) }
+    ensures { (S T X Y : List Op) → IsRest (digest T) (keep S) X
+        → Same (keep ((T ++ X) ++ Y)) (keep ((T ++ S) ++ Y)) }
 {}
 
 /// The reading of octets and the spelling of digests are one another's inverse.
 pub fn one_reading()
     // A digest is read off its spelling, so no octets spell two digests.
-    ensures again { (d : List ClientEntry) → IsDigest d → IsWithinLimit d → reading (spelling d) ≡ Ok d }
+    ensures again { (d : List ClientEntry) → IsDigest d → IsWithinLimit d
+        → reading (spelling d) ≡ Ok d }
     // What is read off octets is spelled so.
-    ensures spelled { (bytes : List ℕ) (d : List ClientEntry) → AreOctets bytes → reading bytes ≡ Ok d → IsDigest d × IsWithinLimit d × (bytes ≡ spelling d) }
+    ensures spelled { (bytes : List ℕ) (d : List ClientEntry) → AreOctets bytes
+        → reading bytes ≡ Ok d → IsDigest d × IsWithinLimit d × (bytes ≡ spelling d) }
 {}
 
 /// What counts as a set has its digest, and the answer of what counts as a set is the answer of the set.

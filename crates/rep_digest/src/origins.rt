@@ -11,7 +11,8 @@ use super::entry::OriginEntry;
 /// The entry of an origin. The time is logarithmic.
 pub fn find_origin(origins: &[OriginEntry], origin: u8) -> Option<&OriginEntry>
     requires { OriginsAscend origins.now }
-    ensures { MatchOption result (find (λ o. origin == o.origin) origins.now ≡ None) (λ entry. find (λ o. origin == o.origin) origins.now ≡ Some entry.now) }
+    ensures { MatchOption result (find (λ o. origin == o.origin) origins.now ≡ None)
+        (λ entry. find (λ o. origin == o.origin) origins.now ≡ Some entry.now) }
 {
     match place(origins, origin) {
         Ok(at) => Some(&origins[at]),

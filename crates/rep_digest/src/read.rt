@@ -23,7 +23,8 @@ fn read_entries(
     count: u32,
     bytes: &[u8],
 ) -> Result<(Vec<ClientEntry>, &[u8]), OpsFault>
-    ensures { Gives (λ x. (x.0.items, x.1.now)) result (listed_at entry_at follow_test count [] bytes.now) }
+    ensures { Gives (λ x. (x.0.items, x.1.now)) result (listed_at entry_at follow_test count []
+        bytes.now) }
 {
     let mut entries = Vec::new(alloc);
     let mut rest = bytes;

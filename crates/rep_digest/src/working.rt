@@ -27,7 +27,9 @@ use std::alloc::Global;
 /// `Limit` where it would be spelled in more than 8,388,608 octets.
 pub fn digest_of<R: Replica>(alloc: Global, replica: &R) -> Result<Digest, OpsFault>
     ensures ok { IfOk result (λ made. made ≡ digest (R.kept replica.now)) }
-    ensures fault { IfErr result (λ fault. (fault ≡ OpsFault.Memory) ⊎ ((fault ≡ OpsFault.Limit) × (max_octets < length (spelling (digest (R.kept replica.now)))))) }
+    ensures fault { IfErr result (λ fault. (fault ≡ OpsFault.Memory)
+        ⊎ ((fault ≡ OpsFault.Limit) × (max_octets
+        < length (spelling (digest (R.kept replica.now)))))) }
 {
     let entries = worked_out(alloc, replica)?;
     if !is_within_limit(entries.as_slice()) {
@@ -38,7 +40,8 @@ pub fn digest_of<R: Replica>(alloc: Global, replica: &R) -> Result<Digest, OpsFa
 
 /// The entries of the digest, however large.
 fn worked_out<R: Replica>(alloc: Global, replica: &R) -> Result<Vec<ClientEntry>, NoMemory>
-    ensures { IfOk result (λ entries. (entries.items ≡ digest (R.kept replica.now)) × IsDigest entries.items) }
+    ensures { IfOk result (λ entries. (entries.items ≡ digest (R.kept replica.now))
+        × IsDigest entries.items) }
 {
     let clients = replica.clients(alloc)?;
     let held = replica.held(alloc)?;
@@ -81,7 +84,8 @@ fn entry_in<R: Replica>(
     client: &ClientId,
     acks: &[Acknowledged],
 ) -> Result<ClientEntry, NoMemory>
-    ensures { IfOk result (λ entry. entry ≡ drafted_entry client.now (view client.now (R.kept replica.now)) acks.now) }
+    ensures { IfOk result (λ entry. entry ≡ drafted_entry client.now
+        (view client.now (R.kept replica.now)) acks.now) }
 {
     match replica.view_of(client) {
         Some(view) => Ok(entry_of(alloc, client, view, acks)?),

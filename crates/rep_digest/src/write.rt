@@ -69,7 +69,8 @@ fn write_each_origin(out: &mut Vec<u8>, origins: &[OriginEntry]) -> Result<(), O
 
 /// Writes epoch, gateway and prefix.
 fn write_numbers(out: &mut Vec<u8>, epoch: u64, gateway: u8, prefix: u16) -> Result<(), OpsFault>
-    ensures { Writes (big_bytes 8 epoch ++ gateway ∷ big_bytes 2 prefix) out.old.items out.new.items result }
+    ensures { Writes (big_bytes 8 epoch ++ gateway ∷ big_bytes 2 prefix) out.old.items
+        out.new.items result }
 {
     append_u64(out, epoch)?;
     out.push(gateway)?;

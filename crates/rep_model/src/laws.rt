@@ -22,7 +22,8 @@ pub fn keep_laws()
     ensures joined { (S Y : List Op) → Same (keep (keep S ++ Y)) (keep (S ++ Y)) }
     ensures seen { (c : List ℕ) (S : List Op) → view c (keep S) ≡ view c S }
     ensures epoch { (c : List ℕ) (S : List Op) → next_epoch c (keep S) ≡ next_epoch c S }
-    ensures seq { (c : List ℕ) (gateway : ℕ) (S : List Op) → next_seq c gateway (keep S) ≡ next_seq c gateway S }
+    ensures seq { (c : List ℕ) (gateway : ℕ) (S : List Op)
+        → next_seq c gateway (keep S) ≡ next_seq c gateway S }
     ensures between { (c : List ℕ) (S K : List Op) → IsKeptOf S K → view c K ≡ view c S }
 {}
 
@@ -42,13 +43,16 @@ pub fn join_laws()
 /// No message is lost by a join: what waits for a client in a part of a set waits in the whole set, or
 /// the client has acknowledged it.
 pub fn leaves_only()
-    ensures { (S W : List Op) → Within S W → (c : List ℕ) (name : ℕ × ℕ) (put : Put) → pending_at c S name ≡ Some put → (pending_at c W name ≡ Some put) ⊎ (is_acknowledged c W name ≡ true) }
+    ensures { (S W : List Op) → Within S W → (c : List ℕ) (name : ℕ × ℕ) (put : Put)
+        → pending_at c S name ≡ Some put → (pending_at c W name ≡ Some put)
+        ⊎ (is_acknowledged c W name ≡ true) }
 {}
 
 /// Two consistent sets are consistent together exactly if the operations of one agree with the other, so
 /// a gateway that compares what it takes with what it keeps finds every contradiction, and no other.
 pub fn consistency()
-    ensures together { (K D : List Op) → IsConsistent K → IsConsistent D → AllByRecursion (Agrees K) D → IsConsistent (K ++ D) }
+    ensures together { (K D : List Op) → IsConsistent K → IsConsistent D
+        → AllByRecursion (Agrees K) D → IsConsistent (K ++ D) }
     ensures agrees { (K D : List Op) → IsConsistent (K ++ D) → AllByRecursion (Agrees K) D }
 {}
 
@@ -60,8 +64,10 @@ pub fn client_laws()
     ensures listed { (c : List ℕ) (S : List Op) → IsTrue (is_named c S) ↔ Contains (clients S) c }
     ensures ascending { (S : List Op) → IsStrictlySortedBy client_cmp (clients S) }
     ensures unseen { (c : List ℕ) (S : List Op) → is_named c S ≡ false → view c S ≡ unseen }
-    ensures first_epoch { (c : List ℕ) (S : List Op) → is_named c S ≡ false → next_epoch c S ≡ Some 1 }
-    ensures first_seq { (c : List ℕ) (gateway : ℕ) (S : List Op) → is_named c S ≡ false → next_seq c gateway S ≡ Some 1 }
+    ensures first_epoch { (c : List ℕ) (S : List Op) → is_named c S ≡ false
+        → next_epoch c S ≡ Some 1 }
+    ensures first_seq { (c : List ℕ) (gateway : ℕ) (S : List Op) → is_named c S ≡ false
+        → next_seq c gateway S ≡ Some 1 }
 {}
 
 /// A replica that keeps as much as counts answers every question as if it had kept all, refuses for the
@@ -73,48 +79,66 @@ pub fn count_laws()
     ensures named { (c : List ℕ) (S K : List Op) → CountsAs S K → is_named c K ≡ is_named c S }
     ensures clients { (S K : List Op) → CountsAs S K → clients K ≡ clients S }
     ensures epoch { (c : List ℕ) (S K : List Op) → CountsAs S K → next_epoch c K ≡ next_epoch c S }
-    ensures seq { (c : List ℕ) (gateway : ℕ) (S K : List Op) → CountsAs S K → next_seq c gateway K ≡ next_seq c gateway S }
+    ensures seq { (c : List ℕ) (gateway : ℕ) (S K : List Op) → CountsAs S K
+        → next_seq c gateway K ≡ next_seq c gateway S }
     ensures limit { (S K : List Op) → CountsAs S K → first_passed K ≡ first_passed S }
-    ensures limit_with_more { (S K Y : List Op) → CountsAs S K → first_passed (K ++ Y) ≡ first_passed (S ++ Y) }
+    ensures limit_with_more { (S K Y : List Op) → CountsAs S K
+        → first_passed (K ++ Y) ≡ first_passed (S ++ Y) }
 {}
 
 /// Order does not matter: two lists of the same operations, in whatever order and groups they came and
 /// however often, are the same set, and equal sets answer every question alike.
 pub fn order_laws()
-    ensures elements { (A B : List Op) → IsConsistent A → ((op : Op) → Contains A op ↔ Contains B op) → Same A B }
-    ensures consistent { (A B : List Op) → IsConsistent A → ((op : Op) → Contains A op ↔ Contains B op) → IsConsistent B }
+    ensures elements { (A B : List Op) → IsConsistent A
+        → ((op : Op) → Contains A op ↔ Contains B op) → Same A B }
+    ensures consistent { (A B : List Op) → IsConsistent A
+        → ((op : Op) → Contains A op ↔ Contains B op) → IsConsistent B }
     ensures seen { (c : List ℕ) (A B : List Op) → Same A B → view c A ≡ view c B }
     ensures named { (c : List ℕ) (A B : List Op) → Same A B → is_named c A ≡ is_named c B }
     ensures clients { (A B : List Op) → Same A B → clients A ≡ clients B }
     ensures epoch { (c : List ℕ) (A B : List Op) → Same A B → next_epoch c A ≡ next_epoch c B }
-    ensures seq { (c : List ℕ) (gateway : ℕ) (A B : List Op) → Same A B → next_seq c gateway A ≡ next_seq c gateway B }
+    ensures seq { (c : List ℕ) (gateway : ℕ) (A B : List Op) → Same A B
+        → next_seq c gateway A ≡ next_seq c gateway B }
     ensures limit { (A B : List Op) → Same A B → first_passed A ≡ first_passed B }
 {}
 
 /// The ranges of acknowledgements say exactly what is acknowledged, and there is one way to write them:
 /// in ascending order, neither overlapping nor touching.
 pub fn range_laws()
-    ensures says { (c : List ℕ) (origin seq : ℕ) (S : List Op) → in_ranges seq (acknowledged c origin S) ≡ is_acknowledged c S (seq, origin) }
+    ensures says { (c : List ℕ) (origin seq : ℕ) (S : List Op)
+        → in_ranges seq (acknowledged c origin S) ≡ is_acknowledged c S (seq, origin) }
     ensures apart { (c : List ℕ) (origin : ℕ) (S : List Op) → AreApart (acknowledged c origin S) }
-    ensures one_form { (ranges others : List (ℕ × ℕ)) → AreApart ranges → AreApart others → ((seq : ℕ) → in_ranges seq ranges ≡ in_ranges seq others) → ranges ≡ others }
-    ensures more_says { (range : ℕ × ℕ) (ranges : List (ℕ × ℕ)) (seq : ℕ) → in_ranges seq (with_range range ranges) ≡ (is_within seq range || in_ranges seq ranges) }
-    ensures more_apart { (range : ℕ × ℕ) (ranges : List (ℕ × ℕ)) → AreApart ranges → range.0 ≤ range.1 → AreApart (with_range range ranges) }
+    ensures one_form { (ranges others : List (ℕ × ℕ)) → AreApart ranges → AreApart others
+        → ((seq : ℕ) → in_ranges seq ranges ≡ in_ranges seq others) → ranges ≡ others }
+    ensures more_says { (range : ℕ × ℕ) (ranges : List (ℕ × ℕ)) (seq : ℕ)
+        → in_ranges seq (with_range range ranges) ≡ (is_within seq range || in_ranges seq ranges) }
+    ensures more_apart { (range : ℕ × ℕ) (ranges : List (ℕ × ℕ)) → AreApart ranges
+        → range.0 ≤ range.1 → AreApart (with_range range ranges) }
 {}
 
 /// The messages that wait for a client, as its view lists them: exactly those that are found under their names, in the order
 /// of delivery, each once.
 pub fn pending_laws()
-    ensures listed { (c : List ℕ) (S : List Op) (put : Put) → Contains (pending c S) put ↔ (pending_at c S (put.seq, put.origin) ≡ Some put) }
-    ensures ascending { (c : List ℕ) (S : List Op) → IsStrictlySortedBy (λ (a b : Put). put_cmp (a.seq, a.origin) (b.seq, b.origin)) (pending c S) }
-    ensures leaves { (c : List ℕ) (S W : List Op) (put : Put) → Within S W → Contains (view c S).pending put → Contains (view c W).pending put ⊎ (is_acknowledged c W (put.seq, put.origin) ≡ true) }
+    ensures listed { (c : List ℕ) (S : List Op) (put : Put)
+        → Contains (pending c S) put ↔ (pending_at c S (put.seq, put.origin) ≡ Some put) }
+    ensures ascending { (c : List ℕ) (S : List Op)
+        → IsStrictlySortedBy (λ (a b : Put). put_cmp (a.seq, a.origin) (b.seq, b.origin))
+        (pending c S) }
+    ensures leaves { (c : List ℕ) (S W : List Op) (put : Put) → Within S W
+        → Contains (view c S).pending put → Contains (view c W).pending put
+        ⊎ (is_acknowledged c W (put.seq, put.origin) ≡ true) }
 {}
 
 /// A set that is written down as the deltas of what must be kept of it can be read back: together these deltas are what a replica
 /// may hold of the set, and where the set passes no limit they can be taken one after the other, since no front part of them
 /// passes a limit either.
 pub fn base_laws()
-    ensures between { (S : List Op) (base : List (List Op)) → IsHeld S base → IsKeptOf S (all_of base) }
-    ensures counts { (S : List Op) (base : List (List Op)) → IsHeld S base → CountsAs S (all_of base) }
-    ensures roomy { (S : List Op) (base : List (List Op)) → IsHeld S base → first_passed S ≡ None → IsRoomy base }
-    ensures kept_roomy { (S K : List Op) (base : List (List Op)) → CountsAs S K → IsHeld K base → first_passed S ≡ None → IsRoomy base }
+    ensures between { (S : List Op) (base : List (List Op)) → IsHeld S base
+        → IsKeptOf S (all_of base) }
+    ensures counts { (S : List Op) (base : List (List Op)) → IsHeld S base
+        → CountsAs S (all_of base) }
+    ensures roomy { (S : List Op) (base : List (List Op)) → IsHeld S base → first_passed S ≡ None
+        → IsRoomy base }
+    ensures kept_roomy { (S K : List Op) (base : List (List Op)) → CountsAs S K → IsHeld K base
+        → first_passed S ≡ None → IsRoomy base }
 {}

@@ -44,7 +44,8 @@ pub trait Replica: Drop {
         ensures unchanged { kept self.new ≡ kept self.old }
         ensures fits { OnOk result (Fits (kept self.old) delta.now) }
         ensures ready { IfOk result (λ staged. ready self.new staged) }
-        ensures taken { IfOk result (λ staged. IsKeptOf (kept self.old ++ delta.now) (after self.new staged)) }
+        ensures taken { IfOk result (λ staged. IsKeptOf (kept self.old ++ delta.now)
+            (after self.new staged)) }
         ensures fault { IfErr result (λ fault. IsFaultOf (kept self.old) delta.now fault) };
 
     /// Takes the delta of the latest `prepare`.
@@ -54,7 +55,9 @@ pub trait Replica: Drop {
 
     /// The view of a client, where an operation names it.
     fn view_of(&self, client: &ClientId) -> Option<&ClientView>
-        ensures { MatchOption result (is_named client.now (kept self.now) ≡ false) (λ seen. (is_named client.now (kept self.now) ≡ true) × (seen.now ≡ view client.now (kept self.now))) };
+        ensures { MatchOption result (is_named client.now (kept self.now) ≡ false)
+            (λ seen. (is_named client.now (kept self.now) ≡ true)
+            × (seen.now ≡ view client.now (kept self.now))) };
 
     /// The clients that operations name, in ascending order.
     fn clients(&self, alloc: Global) -> Result<Vec<ClientId>, TakeFault>

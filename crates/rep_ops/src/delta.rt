@@ -57,7 +57,8 @@ impl Delta {
     /// `Kind` for an operation that no delta may hold; else `Twice` for two that have a name in common;
     /// else `Limit` where the delta would be spelled in more than 8,388,608 octets.
     pub fn from_ops(alloc: Global, ops: Vec<Op>) -> Result<Delta, OpsFault>
-        ensures ok { IfOk result (λ d. AreApart ops.items × IsDeltaOf ops.items d × IsWithinLimit d) }
+        ensures ok { IfOk result (λ d. AreApart ops.items × IsDeltaOf ops.items d
+            × IsWithinLimit d) }
         ensures fault { IfErr result (IsRefusal ops.items) }
         // The first two are told whatever memory there is.
         ensures kind { result ≡ Err OpsFault.Kind ↔ (¬ (AreWellMade ops.items)) }
@@ -96,7 +97,8 @@ impl Delta {
         // What is read is spelled so.
         ensures ok { IfOk result (IsSpelled bytes.now) }
         // What is spelled so is read, unless memory runs out.
-        ensures only { (d : List Op) → AreValues d → IsSpelled bytes.now d → (result ≡ Ok d) ⊎ (result ≡ Err OpsFault.Memory) }
+        ensures only { (d : List Op) → AreValues d → IsSpelled bytes.now d → (result ≡ Ok d)
+            ⊎ (result ≡ Err OpsFault.Memory) }
         // Which fault it is.
         ensures exact { Gives (λ d. d) result (reading bytes.now) }
         // Too many octets are told whatever memory there is.
@@ -137,8 +139,10 @@ impl Delta {
 
 /// The operations of the delta that is the set of these, however large.
 fn canonical(alloc: Global, ops: Vec<Op>) -> Result<Vec<Op>, OpsFault>
-    ensures ok { IfOk result (λ d. AreApart ops.items × IsDeltaOf ops.items d.items × AreValues d.items) }
-    ensures fault { IfErr result (λ fault. (fault ≡ OpsFault.Memory) ⊎ (fault ≡ OpsFault.Kind) ⊎ (fault ≡ OpsFault.Twice)) }
+    ensures ok { IfOk result (λ d. AreApart ops.items × IsDeltaOf ops.items d.items
+        × AreValues d.items) }
+    ensures fault { IfErr result (λ fault. (fault ≡ OpsFault.Memory) ⊎ (fault ≡ OpsFault.Kind)
+        ⊎ (fault ≡ OpsFault.Twice)) }
     ensures kind { result ≡ Err OpsFault.Kind ↔ (¬ (AreWellMade ops.items)) }
     ensures twice { result ≡ Err OpsFault.Twice ↔ (AreWellMade ops.items × HasTwice ops.items) }
 {
@@ -173,15 +177,18 @@ pub fn one_delta()
 /// The reading of octets and the spelling of deltas are one another's inverse.
 pub fn one_reading()
     // A delta is read off its spelling, so no octets spell two deltas.
-    ensures again { (d : List Op) → IsDelta d → AreValues d → IsWithinLimit d → reading (spelling d) ≡ Ok d }
+    ensures again { (d : List Op) → IsDelta d → AreValues d → IsWithinLimit d
+        → reading (spelling d) ≡ Ok d }
     // What is read off octets is spelled so.
-    ensures spelled { (bytes : List ℕ) (d : List Op) → AreOctets bytes → reading bytes ≡ Ok d → IsSpelled bytes d × AreValues d }
+    ensures spelled { (bytes : List ℕ) (d : List Op) → AreOctets bytes → reading bytes ≡ Ok d
+        → IsSpelled bytes d × AreValues d }
 {}
 
 /// No spelling begins another.
 pub fn no_prefix()
     // Where two spellings stand in front of the same octets they are the same, and so is what is behind them.
-    ensures free { (a b : List Op) (x y : List ℕ) → IsDelta a → AreValues a → IsWithinLimit a → IsDelta b → AreValues b → IsWithinLimit b
+    ensures free { (a b : List Op) (x y : List ℕ) → IsDelta a → AreValues a → IsWithinLimit a
+        → IsDelta b → AreValues b → IsWithinLimit b
         → spelling a ++ x ≡ spelling b ++ y → (a ≡ b) × (x ≡ y) }
     // What is cut off anywhere is told by `Truncated`.
     ensures cut { (d : List Op) (front rest : List ℕ) → IsDelta d → AreValues d → IsWithinLimit d

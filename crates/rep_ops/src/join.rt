@@ -36,7 +36,8 @@ pub fn sort_stably(ops: &mut Vec<Op>) -> Result<(), OpsFault>
 /// Whether two neighbours have a name in common.
 pub fn has_twice(ops: &[Op]) -> bool
     ensures twice { IsTrue result → HasTwice ops.now }
-    ensures once { IsFalse result → AllAdjacentBelow (λ a b. ¬ (ShareName a b)) ops.now (length ops.now) }
+    ensures once { IsFalse result → AllAdjacentBelow (λ a b. ¬ (ShareName a b)) ops.now
+        (length ops.now) }
 {
     for i in 1..ops.len() {
         if share_name(&ops[i - 1], &ops[i]) {
@@ -94,7 +95,8 @@ fn united(a: Op, b: Op) -> Op
 
 /// Puts an operation behind those that are joined, or joins it with the last of them.
 fn put_behind(out: &mut Vec<Op>, op: Op) -> Result<(), OpsFault>
-    ensures ok { (S : List Op) → out.old.items ≡ all_joined S → OnOk result (out.new.items ≡ all_joined (S ++ op ∷ [])) }
+    ensures ok { (S : List Op) → out.old.items ≡ all_joined S
+        → OnOk result (out.new.items ≡ all_joined (S ++ op ∷ [])) }
     ensures err { IfErr result (λ fault. fault ≡ OpsFault.Memory) }
 {
     match out.pop() {

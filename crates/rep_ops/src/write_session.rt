@@ -100,7 +100,8 @@ fn write_each_subscription(out: &mut Vec<u8>, entries: &[Subscription]) -> Resul
 
 /// Writes subscriptions.
 fn write_subscriptions(out: &mut Vec<u8>, entries: &Subscriptions) -> Result<(), OpsFault>
-    ensures { Writes (table_octets subscription_octets entries.now) out.old.items out.new.items result }
+    ensures { Writes (table_octets subscription_octets entries.now) out.old.items
+        out.new.items result }
 {
     append_u16(out, entries.len() as u16)?;
     write_each_subscription(out, entries.as_slice())?;
@@ -144,7 +145,8 @@ fn write_will(out: &mut Vec<u8>, will: &Option<Will>) -> Result<(), OpsFault>
 
 /// Writes a will's topic.
 fn write_will_topic(out: &mut Vec<u8>, asked: &Option<WillTopic>) -> Result<(), OpsFault>
-    ensures { Writes (option_octets will_topic_octets asked.now) out.old.items out.new.items result }
+    ensures { Writes (option_octets will_topic_octets asked.now) out.old.items
+        out.new.items result }
 {
     match asked {
         None => out.push(0)?,
@@ -158,7 +160,8 @@ fn write_will_topic(out: &mut Vec<u8>, asked: &Option<WillTopic>) -> Result<(), 
 
 /// Writes an exchange.
 fn write_exchange(out: &mut Vec<u8>, exchange: &Option<Outbound>) -> Result<(), OpsFault>
-    ensures { Writes (option_octets exchange_octets exchange.now) out.old.items out.new.items result }
+    ensures { Writes (option_octets exchange_octets exchange.now) out.old.items
+        out.new.items result }
 {
     match exchange {
         None => out.push(0)?,
@@ -174,7 +177,9 @@ fn write_exchange(out: &mut Vec<u8>, exchange: &Option<Outbound>) -> Result<(), 
 
 /// Writes where the client is, and the numbers of a session.
 fn write_head(out: &mut Vec<u8>, session: &Session) -> Result<(), OpsFault>
-    ensures { Writes ((presence_octet session.now.presence ∷ flag_octet session.now.clean ∷ []) ++ big_bytes 2 session.now.duration ++ big_bytes 2 session.now.next_id) out.old.items out.new.items result }
+    ensures { Writes ((presence_octet session.now.presence ∷ flag_octet session.now.clean ∷ []) ++
+        big_bytes 2 session.now.duration ++ big_bytes 2 session.now.next_id) out.old.items
+        out.new.items result }
 {
     out.extend_from_slice(&[presence_code(session.presence), session.clean as u8])?;
     append_u16(out, session.duration)?;

@@ -31,7 +31,8 @@ impl Entry {
     pub(crate) fn empty(alloc: Global) -> Entry
         ensures ops { result.ops.items ≡ [] }
         ensures worked_out { (c : List ℕ) → IsWorkedOut c result }
-        ensures open { (length result.seen.pending ≡ 0) × (result.parked ≡ 0) × (result.exceptions ≡ 0) }
+        ensures open { (length result.seen.pending ≡ 0) × (result.parked ≡ 0)
+            × (result.exceptions ≡ 0) }
     {
         Entry {
             ops: Vec::new(alloc),

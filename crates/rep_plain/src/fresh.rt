@@ -25,7 +25,8 @@ pub(crate) fn grown(
     table: &Table,
     news: Vec<Op>,
 ) -> Result<BTreeMap<ClientId, Vec<Op>>, NoMemory>
-    ensures { IfOk result (λ groups. IsGrown (rows_of table.now.entries) news.items (groups_of groups.entries)) }
+    ensures { IfOk result (λ groups. IsGrown (rows_of table.now.entries) news.items
+        (groups_of groups.entries)) }
 {
     let mut groups = BTreeMap::new(alloc);
     for op in news {
@@ -59,7 +60,9 @@ fn take_group(
     groups: &mut BTreeMap<ClientId, Vec<Op>>,
     client: &ClientId,
 ) -> Result<Vec<Op>, NoMemory>
-    ensures ops { IfOk result (λ ops. ops.items ≡ unwrap_or (find client_cmp client.now (groups_of groups.old.entries)) (own client.now (rows_of table.now.entries))) }
+    ensures ops { IfOk result (λ ops. ops.items ≡ unwrap_or
+        (find client_cmp client.now (groups_of groups.old.entries))
+        (own client.now (rows_of table.now.entries))) }
     ensures others { (c : List ℕ)
         → is_eq (client_cmp client.now c) ≡ false
         → find client_cmp c (groups_of groups.new.entries) ≡ find client_cmp c (groups_of groups.old.entries) }
@@ -87,7 +90,8 @@ pub(crate) fn worked_out(
     groups: BTreeMap<ClientId, Vec<Op>>,
 ) -> Result<Vec<(ClientId, Entry)>, NoMemory>
     ensures rows { IfOk result (λ fresh. rows_of fresh.items ≡ groups_of groups.entries) }
-    ensures worked_out { IfOk result (λ fresh. AllByRecursion (λ f. IsWorkedOut f.0 f.1) fresh.items) }
+    ensures worked_out { IfOk result (λ fresh. AllByRecursion (λ f. IsWorkedOut f.0 f.1)
+        fresh.items) }
     ensures sorted { IfOk result (λ fresh. T (is_sorted client_cmp (rows_of fresh.items))) }
 {
     let mut fresh = Vec::with_capacity(alloc, groups.len())?;

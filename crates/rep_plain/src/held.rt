@@ -60,7 +60,8 @@ fn push_kept(
     visible: Option<Stamp>,
     ranges: &[Range],
 ) -> Result<(), NoMemory>
-    ensures { OnOk result (kept.new.items ≡ kept.old.items ++ filter (must_stay visible ranges.now) ops.now) }
+    ensures { OnOk result (kept.new.items ≡ kept.old.items ++ filter
+        (must_stay visible ranges.now) ops.now) }
 {
     for op in ops {
         if must_stay(op, visible, ranges) {

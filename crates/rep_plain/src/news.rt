@@ -18,7 +18,8 @@ use std::alloc::Global;
 pub(crate) fn news(alloc: Global, table: &Table, delta: &[Op]) -> Result<Vec<Op>, TakeFault>
     requires { AreRows (rows_of table.now.entries) }
     ensures agree { OnOk result (AllAgree (flat (rows_of table.now.entries)) delta.now) }
-    ensures news { IfOk result (λ news. news.items ≡ filter (λ op. not (is_known (flat (rows_of table.now.entries)) op)) delta.now) }
+    ensures news { IfOk result (λ news. news.items
+        ≡ filter (λ op. not (is_known (flat (rows_of table.now.entries)) op)) delta.now) }
     ensures fault { IfErr result (IsFaultOf (flat (rows_of table.now.entries)) delta.now) }
 {
     let mut news = Vec::new(alloc);
@@ -32,7 +33,8 @@ pub(crate) fn news(alloc: Global, table: &Table, delta: &[Op]) -> Result<Vec<Op>
 fn add_new(alloc: Global, table: &Table, news: &mut Vec<Op>, op: &Op) -> Result<(), TakeFault>
     requires { AreRows (rows_of table.now.entries) }
     ensures agrees { OnOk result (Agrees (flat (rows_of table.now.entries)) op.now) }
-    ensures added { OnOk result (news.new.items ≡ news.old.items ++ one_new (flat (rows_of table.now.entries)) op.now) }
+    ensures added { OnOk result (news.new.items ≡ news.old.items ++ one_new
+        (flat (rows_of table.now.entries)) op.now) }
     ensures fault { IfErr result (IsRefusalOf (flat (rows_of table.now.entries)) op.now) }
 {
     let kept = own_ops(table, op.client());

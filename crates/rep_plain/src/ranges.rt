@@ -113,7 +113,8 @@ fn with_numbers(
     origin: u8,
     made: Vec<(u64, u64)>,
 ) -> Result<Vec<(u64, u64)>, NoMemory>
-    ensures { (S : List Range) → made.items ≡ joined (filter_map (numbers origin) S) → IfOk result (λ more. more.items ≡ joined (filter_map (numbers origin) (range.now ∷ S))) }
+    ensures { (S : List Range) → made.items ≡ joined (filter_map (numbers origin) S)
+        → IfOk result (λ more. more.items ≡ joined (filter_map (numbers origin) (range.now ∷ S))) }
 {
     match range.numbers(origin) {
         Some(numbers) => with_range(alloc, numbers, made.as_slice()),

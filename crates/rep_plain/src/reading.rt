@@ -29,7 +29,8 @@ pub(crate) fn visible_stamp(ops: &[Op], client: &ClientId) -> Option<Stamp>
 
 /// The visible stamp with one operation more, in front of those that gave `best`.
 fn greater_stamp(op: &Op, client: &ClientId, best: Option<Stamp>) -> Option<Stamp>
-    ensures { (S : List Op) → best ≡ visible client.now S → result ≡ visible client.now (op.now ∷ S) }
+    ensures { (S : List Op) → best ≡ visible client.now S
+        → result ≡ visible client.now (op.now ∷ S) }
 {
     match op {
         Op::Session {
@@ -82,7 +83,8 @@ pub(crate) fn operation_at<'a>(
 
 /// The change that an operation of this name makes, in front of any others.
 fn change_named<'a>(op: &'a Op, client: &ClientId, name: (Stamp, u8)) -> Option<&'a SessionOp>
-    ensures { (S : List Op) → operation_at client.now (op.now ∷ S) name ≡ first_of_two (option_copied result) (operation_at client.now S name) }
+    ensures { (S : List Op) → operation_at client.now (op.now ∷ S) name ≡ first_of_two
+        (option_copied result) (operation_at client.now S name) }
 {
     match op {
         Op::Session {
@@ -109,7 +111,8 @@ pub(crate) fn put_at<'a>(ops: &'a [Op], client: &ClientId, name: (u64, u8)) -> O
 
 /// The put that an operation of this name makes, in front of any others.
 fn put_named<'a>(op: &'a Op, client: &ClientId, name: (u64, u8)) -> Option<&'a Put>
-    ensures { (S : List Op) → put_at client.now (op.now ∷ S) name ≡ first_of_two (option_copied result) (put_at client.now S name) }
+    ensures { (S : List Op) → put_at client.now (op.now ∷ S) name ≡ first_of_two
+        (option_copied result) (put_at client.now S name) }
 {
     match op {
         Op::Put { client: owner, put } if owner == client && has_put_name(name, put) => Some(put),
@@ -154,7 +157,8 @@ pub(crate) fn greatest_epoch(ops: &[Op], client: &ClientId) -> u64
 
 /// The greatest epoch with one operation more, in front of those that gave `most`.
 fn greater_epoch(op: &Op, client: &ClientId, most: u64) -> u64
-    ensures { (S : List Op) → most ≡ greatest_epoch client.now S → result ≡ greatest_epoch client.now (op.now ∷ S) }
+    ensures { (S : List Op) → most ≡ greatest_epoch client.now S
+        → result ≡ greatest_epoch client.now (op.now ∷ S) }
 {
     match op {
         Op::Session {

@@ -23,7 +23,8 @@ pub(crate) fn operations_in_order(
     ops: &[Op],
     client: &ClientId,
 ) -> Result<BTreeMap<(Stamp, u8), SessionOp>, NoMemory>
-    ensures { IfOk result (λ known. known.entries ≡ in_order operation_cmp (operations client.now ops.now)) }
+    ensures { IfOk result (λ known. known.entries ≡ in_order operation_cmp
+        (operations client.now ops.now)) }
 {
     let mut known = BTreeMap::new(alloc);
     let mut i = ops.len();
@@ -41,7 +42,9 @@ fn note_operation(
     op: &Op,
     client: &ClientId,
 ) -> Result<(), NoMemory>
-    ensures { (S : List Op) → known.old.entries ≡ in_order operation_cmp (operations client.now S) → OnOk result (known.new.entries ≡ in_order operation_cmp (operations client.now (op.now ∷ S))) }
+    ensures { (S : List Op) → known.old.entries ≡ in_order operation_cmp (operations client.now S)
+        → OnOk result (known.new.entries ≡ in_order operation_cmp
+        (operations client.now (op.now ∷ S))) }
 {
     match op {
         Op::Session {
@@ -63,8 +66,10 @@ pub(crate) fn replay(
     known: &BTreeMap<(Stamp, u8), SessionOp>,
     visible: Option<Stamp>,
 ) -> Result<(u16, Option<Session>), NoMemory>
-    ensures prefix { IfOk result (λ made. made.0 ≡ length (history_at (λ name. find operation_cmp name known.now.entries) visible)) }
-    ensures session { IfOk result (λ made. made.1 ≡ session_of (history_at (λ name. find operation_cmp name known.now.entries) visible)) }
+    ensures prefix { IfOk result (λ made. made.0
+        ≡ length (history_at (λ name. find operation_cmp name known.now.entries) visible)) }
+    ensures session { IfOk result (λ made. made.1 ≡ session_of
+        (history_at (λ name. find operation_cmp name known.now.entries) visible)) }
 {
     let Some(stamp) = visible else {
         return Ok((0, None));

@@ -43,7 +43,8 @@ fn add_place(alloc: Global, table: &mut Table, client: &ClientId) -> Result<(), 
 /// Moves the fresh entries into their places.
 pub(crate) fn move_in(table: &mut Table, mut fresh: Vec<(ClientId, Entry)>)
     requires { HaveRoom (rows_of table.old.entries) (rows_of fresh.items) }
-    ensures rows { rows_of table.new.entries ≡ moved (rows_of table.old.entries) (rows_of fresh.items) }
+    ensures rows { rows_of table.new.entries ≡ moved (rows_of table.old.entries)
+        (rows_of fresh.items) }
     ensures movable { AreMovable table.old.entries fresh.items → AreMovable table.new.entries [] }
 {
     while let Some((client, entry)) = fresh.pop() {

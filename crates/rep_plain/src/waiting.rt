@@ -50,7 +50,10 @@ fn note_put(
     client: &ClientId,
     ranges: &[Range],
 ) -> Result<(), NoMemory>
-    ensures { (S : List Op) → by_name.old.entries ≡ in_order put_cmp (unacknowledged_by ranges.now client.now S) → OnOk result (by_name.new.entries ≡ in_order put_cmp (unacknowledged_by ranges.now client.now (op.now ∷ S))) }
+    ensures { (S : List Op) → by_name.old.entries ≡ in_order put_cmp
+        (unacknowledged_by ranges.now client.now S)
+        → OnOk result (by_name.new.entries ≡ in_order put_cmp
+        (unacknowledged_by ranges.now client.now (op.now ∷ S))) }
 {
     match op {
         Op::Put { client: owner, put }

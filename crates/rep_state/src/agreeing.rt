@@ -22,8 +22,10 @@ use std::alloc::Global;
 /// Tests each operation of a delta against what is kept under its name.
 pub(crate) fn check(alloc: Global, table: &Table, delta: &[Op]) -> Result<(), TakeFault>
     requires { AreRows (rows_of (by_client table.now.entries)) }
-    ensures agree { OnOk result (AllAgree (flat (rows_of (by_client table.now.entries))) delta.now) }
-    ensures fault { IfErr result (IsFaultOf (flat (rows_of (by_client table.now.entries))) delta.now) }
+    ensures agree { OnOk result (AllAgree (flat (rows_of (by_client table.now.entries)))
+        delta.now) }
+    ensures fault { IfErr result (IsFaultOf (flat (rows_of (by_client table.now.entries)))
+        delta.now) }
 {
     for op in delta {
         check_one(alloc, table, op)?;
@@ -35,7 +37,8 @@ pub(crate) fn check(alloc: Global, table: &Table, delta: &[Op]) -> Result<(), Ta
 fn check_one(alloc: Global, table: &Table, op: &Op) -> Result<(), TakeFault>
     requires { AreRows (rows_of (by_client table.now.entries)) }
     ensures agrees { OnOk result (Agrees (flat (rows_of (by_client table.now.entries))) op.now) }
-    ensures fault { IfErr result (IsRefusalOf (flat (rows_of (by_client table.now.entries))) op.now) }
+    ensures fault { IfErr result (IsRefusalOf
+        (flat (rows_of (by_client table.now.entries))) op.now) }
 {
     if !agrees(table, op) {
         return Err(conflict(alloc, op.client()));

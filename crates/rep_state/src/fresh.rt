@@ -45,7 +45,8 @@ impl Fresh {
 
     /// A client of whom nothing is changed yet.
     pub fn of(alloc: Global, entry: &Entry) -> Result<Fresh, NoMemory>
-        ensures fresh { (c : List ℕ) → IsEntry c entry.now → IfOk result (IsFresh entry.now.seen.pending) }
+        ensures fresh { (c : List ℕ) → IsEntry c entry.now
+            → IfOk result (IsFresh entry.now.seen.pending) }
         ensures row { (c : List ℕ) → IsEntry c entry.now
             → IfOk result (λ fresh. fresh_row c entry.now.seen.pending fresh ≡ row_of c entry.now) }
     {
@@ -148,7 +149,8 @@ impl Fresh {
     /// What is staged, where these messages waited before.
     pub fn into_change(self, alloc: Global, waiting: &[Put]) -> Result<Change, NoMemory>
         ensures change { IsFresh waiting.now self → IfOk result IsChange }
-        ensures fit { IsFresh waiting.now self → IfOk result (λ change. IsFit waiting.now (plan_of change)) }
+        ensures fit { IsFresh waiting.now self
+            → IfOk result (λ change. IsFit waiting.now (plan_of change)) }
         ensures counted { IsFresh waiting.now self
             → IfOk result (λ change. change.pending ≡ length (left_after waiting.now change)) }
         ensures row { (c : List ℕ) → IfOk result (λ change.
@@ -181,7 +183,8 @@ fn without_messages(alloc: Global, log: Log, acks: Acks) -> Entry
         × (result.seen.session ≡ log.session) }
     ensures known { result.known.entries ≡ log.known.entries }
     ensures acks { result.acks ≡ acks }
-    ensures parked { result.parked ≡ count_by (waits result.seen.stamp result.seen.prefix) (keys result.known) }
+    ensures parked { result.parked ≡ count_by (waits result.seen.stamp result.seen.prefix)
+        (keys result.known) }
     ensures exceptions { result.exceptions ≡ capped (above_gaps result.acks 255) }
 {
     let Log {

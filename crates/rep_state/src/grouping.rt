@@ -146,7 +146,8 @@ fn push_change(
     fresh: Fresh,
 ) -> Result<(), NoMemory>
     requires { IsFresh (waiting_of client.now (by_client table.now.entries)) fresh }
-    ensures rows { OnOk result (rows_of (future (by_client table.now.entries) (staged_of made.new.items))
+    ensures rows { OnOk result (rows_of (future (by_client table.now.entries)
+        (staged_of made.new.items))
         ≡ rows_of (future (by_client table.now.entries) (staged_of made.old.items)) ++ (
           client.now,
           fresh_row client.now (waiting_of client.now (by_client table.now.entries)) fresh,

@@ -49,7 +49,8 @@ fn add_copy(
     name: (Stamp, u8),
     change: &SessionOp,
 ) -> Result<(), NoMemory>
-    ensures { OnOk result (made.new.entries ≡ insert_entry operation_cmp made.old.entries name change.now) }
+    ensures { OnOk result (made.new.entries ≡ insert_entry operation_cmp made.old.entries name
+        change.now) }
 {
     let change = change.copy(alloc)?;
     made.insert(name, change)?;
@@ -96,9 +97,12 @@ fn go_on(
     from: u16,
     session: Option<Session>,
 ) -> Result<(u16, Option<Session>), NoMemory>
-    requires { (from < 257) × IsReplayed (λ k. find operation_cmp (stamp, k) known.now.entries) session from }
-    ensures prefix { IfOk result (λ made. made.0 ≡ length (history_in known.now.entries (Some stamp))) }
-    ensures session { IfOk result (λ made. made.1 ≡ session_of (history_in known.now.entries (Some stamp))) }
+    requires { (from < 257) × IsReplayed (λ k. find operation_cmp (stamp, k) known.now.entries)
+        session from }
+    ensures prefix { IfOk result (λ made. made.0
+        ≡ length (history_in known.now.entries (Some stamp))) }
+    ensures session { IfOk result (λ made. made.1 ≡ session_of
+        (history_in known.now.entries (Some stamp))) }
 {
     let mut session = session;
     let mut prefix = from;
@@ -114,7 +118,8 @@ fn go_on(
 
 /// Forgets what is below the stamp.
 fn forget_below(known: &mut BTreeMap<(Stamp, u8), SessionOp>, stamp: Stamp)
-    ensures kept { known.new.entries ≡ filter (λ e. not (below_test e.0.0 (Some stamp))) known.old.entries }
+    ensures kept { known.new.entries ≡ filter (λ e. not (below_test e.0.0 (Some stamp)))
+        known.old.entries }
     ensures ordered { T (is_sorted operation_cmp known.new.entries) }
 {
     known.retain(|name, _| !(name.0 < stamp));

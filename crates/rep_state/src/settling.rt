@@ -48,8 +48,10 @@ pub(crate) fn settled(
     requires empty { room.items ≡ [] }
     requires room { (length news.items == 0) ≡ false
         → length waiting.items + length news.items ≤ vec_capacity room }
-    requires untold { told ≡ false → NoneCovered (ranges_in acks.now) (weave waiting.items news.items) }
-    ensures { result.items ≡ filter (is_left (ranges_in acks.now)) (weave waiting.items news.items) }
+    requires untold { told ≡ false → NoneCovered (ranges_in acks.now)
+        (weave waiting.items news.items) }
+    ensures { result.items ≡ filter (is_left (ranges_in acks.now))
+        (weave waiting.items news.items) }
 {
     let mut all = joined(room, waiting, news);
     if told {

@@ -31,7 +31,8 @@ fn begins_before(news: &VecDeque<Put>, put: &Put) -> bool
 fn push(into: &mut Vec<Put>, put: Put)
     requires { vec_len into.old < vec_capacity into.old }
     ensures items { into.new.items ≡ into.old.items ++ put ∷ [] }
-    ensures room { (vec_len into.new ≡ vec_len into.old + 1) × (vec_capacity into.old ≤ vec_capacity into.new) }
+    ensures room { (vec_len into.new ≡ vec_len into.old + 1)
+        × (vec_capacity into.old ≤ vec_capacity into.new) }
 {
     match into.push(put) {
         Ok(()) => {}

@@ -161,7 +161,8 @@ fn forget(
     put: &Put,
     entry: Option<&TopicEntry>,
 ) -> Result<Draft, StepFault>
-    ensures ok { IfOk result (λ draft. draft ≡ forgotten_draft session.now put.now (option_copied entry.entry)) }
+    ensures ok { IfOk result (λ draft. draft ≡ forgotten_draft session.now put.now
+        (option_copied entry.entry)) }
     ensures err { IfErr result (λ fault. fault ≡ StepFault.Memory) }
 {
     match entry {
@@ -183,7 +184,8 @@ fn puback_put(
     code: u8,
     put: &Put,
 ) -> Result<Draft, StepFault>
-    ensures ok { IfOk result (λ draft. draft ≡ puback_draft_put predefined.now session.now code put.now) }
+    ensures ok { IfOk result (λ draft. draft ≡ puback_draft_put predefined.now session.now
+        code put.now) }
     ensures err { IfErr result (λ fault. fault ≡ StepFault.Memory) }
 {
     if code == 0 {
@@ -210,7 +212,8 @@ fn puback_of(
     code: u8,
     put: Option<&Put>,
 ) -> Result<Draft, StepFault>
-    ensures ok { IfOk result (λ draft. draft ≡ puback_draft_of predefined.now session.now code (option_copied put.entry)) }
+    ensures ok { IfOk result (λ draft. draft ≡ puback_draft_of predefined.now session.now code
+        (option_copied put.entry)) }
     ensures err { IfErr result (λ fault. fault ≡ StepFault.Memory) }
 {
     match put {
@@ -228,7 +231,8 @@ fn puback(
     msg_id: u16,
     code: u8,
 ) -> Result<Draft, StepFault>
-    ensures ok { IfOk result (λ draft. draft ≡ puback_draft predefined.now session.now pending.now msg_id code) }
+    ensures ok { IfOk result (λ draft. draft ≡ puback_draft predefined.now session.now pending.now
+        msg_id code) }
     ensures err { IfErr result (λ fault. fault ≡ StepFault.Memory) }
 {
     let put = put_awaiting(session, pending, Phase::Published, msg_id);
@@ -315,7 +319,8 @@ fn pubrec_of(
     msg_id: u16,
     exchange: Option<Outbound>,
 ) -> Result<Draft, StepFault>
-    ensures ok { IfOk result (λ draft. draft ≡ pubrec_draft_of peer.now session.now pending.now msg_id exchange) }
+    ensures ok { IfOk result (λ draft. draft ≡ pubrec_draft_of peer.now session.now pending.now
+        msg_id exchange) }
     ensures err { IfErr result (λ fault. fault ≡ StepFault.Memory) }
 {
     match exchange {
@@ -339,7 +344,8 @@ fn pubrec(
     pending: &[Put],
     msg_id: u16,
 ) -> Result<Draft, StepFault>
-    ensures ok { IfOk result (λ draft. draft ≡ pubrec_draft peer.now session.now pending.now msg_id) }
+    ensures ok { IfOk result (λ draft. draft ≡ pubrec_draft peer.now session.now
+        pending.now msg_id) }
     ensures err { IfErr result (λ fault. fault ≡ StepFault.Memory) }
 {
     let exchange = awaiting_pubrec(session, pending, msg_id);
@@ -382,7 +388,8 @@ fn registered(
     session: &Session,
     entry: Option<&TopicEntry>,
 ) -> Result<Draft, StepFault>
-    ensures ok { IfOk result (λ draft. draft ≡ registered_draft session.now (option_copied entry.entry)) }
+    ensures ok { IfOk result (λ draft. draft ≡ registered_draft session.now
+        (option_copied entry.entry)) }
     ensures err { IfErr result (λ fault. fault ≡ StepFault.Memory) }
 {
     let mut draft = Draft::new(alloc);
@@ -414,7 +421,8 @@ fn regack_of(
     code: u8,
     put: Option<&Put>,
 ) -> Result<Draft, StepFault>
-    ensures ok { IfOk result (λ draft. draft ≡ regack_draft_of session.now code (option_copied put.entry)) }
+    ensures ok { IfOk result (λ draft. draft ≡ regack_draft_of session.now code
+        (option_copied put.entry)) }
     ensures err { IfErr result (λ fault. fault ≡ StepFault.Memory) }
 {
     match put {
@@ -448,7 +456,8 @@ pub fn acknowledge(
     pending: &[Put],
     frame: &Frame,
 ) -> Result<Draft, StepFault>
-    ensures ok { IfOk result (λ draft. draft ≡ acknowledged predefined.now peer.now session.now pending.now frame.now) }
+    ensures ok { IfOk result (λ draft. draft ≡ acknowledged predefined.now peer.now session.now
+        pending.now frame.now) }
     ensures err { IfErr result (λ fault. fault ≡ StepFault.Memory) }
 {
     match frame {

@@ -52,7 +52,8 @@ fn begin(
 ) -> Result<(), StepFault>
     requires message { IsMessage frame.now }
     requires size { total_of frame.now ≤ 65535 }
-    ensures ok { OnOk result (draft.new ≡ begun peer.now session.now put.now phase frame.now draft.old) }
+    ensures ok { OnOk result (draft.new ≡ begun peer.now session.now put.now phase frame.now
+        draft.old) }
     ensures err { IfErr result (λ fault. fault ≡ StepFault.Memory) }
 {
     let exchange = Outbound {
@@ -133,7 +134,8 @@ fn register_first(
     told: Option<ToldId>,
     draft: &mut Draft,
 ) -> Result<bool, StepFault>
-    ensures ok { IfOk result (λ stops. (stops, draft.new) ≡ registered_first peer.now session.now put.now told draft.old) }
+    ensures ok { IfOk result (λ stops. (stops, draft.new) ≡ registered_first peer.now session.now
+        put.now told draft.old) }
     ensures err { IfErr result (λ fault. fault ≡ StepFault.Memory) }
 {
     let Some(told) = told else {
@@ -180,7 +182,8 @@ fn publish_now(
     form: Form,
     draft: &mut Draft,
 ) -> Result<bool, StepFault>
-    ensures ok { IfOk result (λ stops. (stops, draft.new) ≡ published_now peer.now session.now put.now form draft.old) }
+    ensures ok { IfOk result (λ stops. (stops, draft.new) ≡ published_now peer.now session.now
+        put.now form draft.old) }
     ensures err { IfErr result (λ fault. fault ≡ StepFault.Memory) }
 {
     if put.qos == 0 {
@@ -203,7 +206,8 @@ fn deliver_by(
     form: Option<Form>,
     draft: &mut Draft,
 ) -> Result<bool, StepFault>
-    ensures ok { IfOk result (λ stops. (stops, draft.new) ≡ delivered_by peer.now session.now put.now form draft.old) }
+    ensures ok { IfOk result (λ stops. (stops, draft.new) ≡ delivered_by peer.now session.now
+        put.now form draft.old) }
     ensures err { IfErr result (λ fault. fault ≡ StepFault.Memory) }
 {
     match form {
@@ -224,7 +228,8 @@ fn deliver_one(
     put: &Put,
     draft: &mut Draft,
 ) -> Result<bool, StepFault>
-    ensures ok { IfOk result (λ stops. (stops, draft.new) ≡ delivered_one predefined.now peer.now session.now put.now draft.old) }
+    ensures ok { IfOk result (λ stops. (stops, draft.new) ≡ delivered_one predefined.now peer.now
+        session.now put.now draft.old) }
     ensures err { IfErr result (λ fault. fault ≡ StepFault.Memory) }
 {
     let form = form_of(predefined, session, &put.topic);
@@ -261,7 +266,8 @@ fn deliver(
     pending: &[Put],
     draft: &mut Draft,
 ) -> Result<(), StepFault>
-    ensures ok { OnOk result (draft.new ≡ delivered predefined.now peer.now session.now (left acks.now pending.now) draft.old) }
+    ensures ok { OnOk result (draft.new ≡ delivered predefined.now peer.now session.now
+        (left acks.now pending.now) draft.old) }
     ensures err { IfErr result (λ fault. fault ≡ StepFault.Memory) }
 {
     let mut turn = 0;
@@ -285,7 +291,8 @@ pub fn deliver_left(
     pending: &[Put],
     draft: &mut Draft,
 ) -> Result<(), StepFault>
-    ensures ok { OnOk result (draft.new ≡ delivered_left predefined.now peer.now session.now pending.now draft.old) }
+    ensures ok { OnOk result (draft.new ≡ delivered_left predefined.now peer.now session.now
+        pending.now draft.old) }
     ensures err { IfErr result (λ fault. fault ≡ StepFault.Memory) }
 {
     let acks = Vec::from_slice(alloc, draft.acks())?;
@@ -309,7 +316,8 @@ pub fn deliver_if(
     pending: &[Put],
     draft: &mut Draft,
 ) -> Result<(), StepFault>
-    ensures ok { OnOk result (draft.new ≡ delivered_if predefined.now peer.now session.now pending.now draft.old) }
+    ensures ok { OnOk result (draft.new ≡ delivered_if predefined.now peer.now session.now
+        pending.now draft.old) }
     ensures err { IfErr result (λ fault. fault ≡ StepFault.Memory) }
 {
     if !is_served(session.presence) {
@@ -330,7 +338,8 @@ pub fn then_deliver(
     pending: &[Put],
     draft: &mut Draft,
 ) -> Result<(), StepFault>
-    ensures ok { OnOk result (draft.new ≡ then_delivered predefined.now peer.now session.now pending.now draft.old) }
+    ensures ok { OnOk result (draft.new ≡ then_delivered predefined.now peer.now session.now
+        pending.now draft.old) }
     ensures err { IfErr result (λ fault. fault ≡ StepFault.Memory) }
 {
     if draft.changes().is_empty() {

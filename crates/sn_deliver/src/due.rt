@@ -107,7 +107,8 @@ fn due_by(
     timer: Option<&Timer>,
     exchange: Option<Outbound>,
 ) -> Option<Due>
-    ensures { result ≡ due_by_exchange now session.now pending.now address (option_copied timer.entry) exchange }
+    ensures { result ≡ due_by_exchange now session.now pending.now address
+        (option_copied timer.entry) exchange }
 {
     match exchange {
         None => due_delivery(session, pending, address),
@@ -123,7 +124,8 @@ fn due_at(
     timer: Option<&Timer>,
     address: Option<Addr>,
 ) -> Option<Due>
-    ensures { result ≡ due_at_address now session.now pending.now (option_copied timer.entry) address }
+    ensures { result ≡ due_at_address now session.now pending.now
+        (option_copied timer.entry) address }
 {
     match address {
         None => None,
@@ -146,7 +148,8 @@ fn due_session(
     address: Option<Addr>,
     session: &Option<Session>,
 ) -> Option<Due>
-    ensures { result ≡ due_of_session now pending.now (option_copied timer.entry) address session.now }
+    ensures { result ≡ due_of_session now pending.now (option_copied timer.entry) address
+        session.now }
 {
     match session {
         None => None,
@@ -172,7 +175,8 @@ pub fn is_stamp_of(gateway: u8, stamp: Option<Stamp>) -> bool
 
 /// Whether nothing is due with a client of this session, wherever it may be.
 fn is_at_rest(now: u64, pending: &[Put], timer: Option<&Timer>, session: &Option<Session>) -> bool
-    ensures { IsTrue result → (a : Option Address) → due_of_session now pending.now (option_copied timer.entry) a session.now ≡ None }
+    ensures { IsTrue result → (a : Option Address)
+        → due_of_session now pending.now (option_copied timer.entry) a session.now ≡ None }
 {
     let anywhere = Addr { host: 0, port: 0 };
     due_session(now, pending, timer, Some(anywhere), session).is_none()

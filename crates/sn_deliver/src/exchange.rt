@@ -120,7 +120,8 @@ fn is_open_in(session: &Session, phase: Phase, put: Option<&Put>) -> bool
 
 /// Whether an exchange is open. One that waits for PUBCOMP is, whatever waits: its message is not looked for.
 fn is_open_among(session: &Session, acks: &[(u64, u8)], pending: &[Put], exchange: Outbound) -> bool
-    ensures { result ≡ is_open_in_phase session.now exchange.phase (left_put acks.now pending.now (message_of_exchange exchange)) }
+    ensures { result ≡ is_open_in_phase session.now exchange.phase
+        (left_put acks.now pending.now (message_of_exchange exchange)) }
 {
     match exchange.phase {
         Phase::Released => is_open_in(session, Phase::Released, None),

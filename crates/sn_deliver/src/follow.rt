@@ -39,7 +39,8 @@ fn follow_by(
     draft: &mut Draft,
     follow: &Follow,
 ) -> Result<(), StepFault>
-    ensures ok { OnOk result (draft.new ≡ draft_followed_by predefined.now peer.now session.now pending.now draft.old follow.now) }
+    ensures ok { OnOk result (draft.new ≡ draft_followed_by predefined.now peer.now session.now
+        pending.now draft.old follow.now) }
     ensures err { IfErr result (λ fault. fault ≡ StepFault.Memory) }
 {
     match follow {
@@ -58,7 +59,9 @@ fn follow_for<R: Replica>(
     draft: &mut Draft,
     follow: &Follow,
 ) -> Result<(), StepFault>
-    ensures ok { OnOk result (draft.new ≡ draft_followed_by predefined.now peer.now (session_of (seen_of (R.kept replica.now)) peer.now.client) ((seen_of (R.kept replica.now)).of peer.now.client).pending draft.old follow.now) }
+    ensures ok { OnOk result (draft.new ≡ draft_followed_by predefined.now peer.now
+        (session_of (seen_of (R.kept replica.now)) peer.now.client)
+        ((seen_of (R.kept replica.now)).of peer.now.client).pending draft.old follow.now) }
     ensures err { IfErr result (λ fault. fault ≡ StepFault.Memory) }
 {
     let empty = Session::empty(alloc);
@@ -78,7 +81,8 @@ fn followed<R: Replica>(
     now: u64,
     row: Row,
 ) -> Result<Row, StepFault>
-    ensures ok { IfOk result (λ made. made ≡ followed_row predefined.now (seen_of (R.kept replica.now)) address now row) }
+    ensures ok { IfOk result (λ made. made ≡ followed_row predefined.now
+        (seen_of (R.kept replica.now)) address now row) }
     ensures err { IfErr result (λ fault. fault ≡ StepFault.Memory) }
 {
     let Row {
@@ -114,7 +118,8 @@ pub fn deliver_next<R: Replica>(
     now: u64,
     row: Row,
 ) -> Result<Plan, StepFault>
-    ensures { Gives result (next_plan config.now.gateway config.now.predefined (seen_of (R.kept replica.now)) address now row) }
+    ensures { Gives result (next_plan config.now.gateway config.now.predefined
+        (seen_of (R.kept replica.now)) address now row) }
 {
     let row = followed(alloc, &config.predefined, replica, address, now, row)?;
     plan_of_row(alloc, config.gateway, replica, row)

@@ -50,8 +50,12 @@ pub fn tick_is_quiet()
 /// A tick that has nothing to do makes, notes and sends nothing; and where a tick of a moment has nothing to do, none of a
 /// moment before it has, as long as nothing changes.
 pub fn idle_lasts()
-    ensures nothing { (g advertise : ℕ) (field : List Addr) (predefined : Entries) (seen : Seen) (local : Local) (now : ℕ) → is_idle g advertise field seen local now ≡ true → tick g advertise field predefined seen local now ≡ Some (plan_without nothing) }
-    ensures before { (g advertise : ℕ) (field : List Addr) (seen : Seen) (local : Local) (earlier now : ℕ) → earlier ≤ now → is_idle g advertise field seen local now ≡ true → is_idle g advertise field seen local earlier ≡ true }
+    ensures nothing { (g advertise : ℕ) (field : List Addr) (predefined : Entries) (seen : Seen)
+        (local : Local) (now : ℕ) → is_idle g advertise field seen local now ≡ true
+        → tick g advertise field predefined seen local now ≡ Some (plan_without nothing) }
+    ensures before { (g advertise : ℕ) (field : List Addr) (seen : Seen) (local : Local)
+        (earlier now : ℕ) → earlier ≤ now → is_idle g advertise field seen local now ≡ true
+        → is_idle g advertise field seen local earlier ≡ true }
 {}
 
 /// What is due with a client is settled when a tick has done it: nothing is due with that client any more at the same moment.
@@ -63,16 +67,37 @@ pub fn tick_settles()
 /// moment do something, however many there are; so behind that many, those that are refused not counted, there is nothing to do.
 /// Once there is nothing to do, there is nothing to do behind more ticks of the moment, and nothing is due with any client.
 pub fn ticks_end()
-    ensures bound { (g advertise : ℕ) (field : List Addr) (predefined : Entries) (now : ℕ) (S : List Op) (local : Local) (ticks : List Ticked) → AreFlush g S → AreTicks g advertise field predefined now S local ticks → busy g advertise field now S local ticks ≤ (length (clients S) + 1) * (length (clients S) + 1) }
-    ensures ends { (g advertise : ℕ) (field : List Addr) (predefined : Entries) (now : ℕ) (S : List Op) (local : Local) (ticks : List Ticked) → AreFlush g S → AreTicks g advertise field predefined now S local ticks → (length (clients S) + 1) * (length (clients S) + 1) ≤ length ticks → does_something g advertise field (seen_of (set_behind S ticks)) (local_behind local ticks) now ≡ false }
-    ensures rests { (g advertise : ℕ) (field : List Addr) (predefined : Entries) (now : ℕ) (S : List Op) (local : Local) (ticks : List Ticked) → AreTicks g advertise field predefined now S local ticks → does_something g advertise field (seen_of S) local now ≡ false → does_something g advertise field (seen_of (set_behind S ticks)) (local_behind local ticks) now ≡ false }
-    ensures settled { (g advertise : ℕ) (field : List Addr) (now : ℕ) (S : List Op) (local : Local) → does_something g advertise field (seen_of S) local now ≡ false → (c : List ℕ) → due_with g (seen_of S) local now c ≡ None }
+    ensures bound { (g advertise : ℕ) (field : List Addr) (predefined : Entries) (now : ℕ)
+        (S : List Op) (local : Local) (ticks : List Ticked) → AreFlush g S
+        → AreTicks g advertise field predefined now S local ticks
+        → busy g advertise field now S local ticks
+        ≤ (length (clients S) + 1) * (length (clients S) + 1) }
+    ensures ends { (g advertise : ℕ) (field : List Addr) (predefined : Entries) (now : ℕ)
+        (S : List Op) (local : Local) (ticks : List Ticked) → AreFlush g S
+        → AreTicks g advertise field predefined now S local ticks
+        → (length (clients S) + 1) * (length (clients S) + 1) ≤ length ticks
+        → does_something g advertise field (seen_of (set_behind S ticks)) (local_behind local ticks)
+        now ≡ false }
+    ensures rests { (g advertise : ℕ) (field : List Addr) (predefined : Entries) (now : ℕ)
+        (S : List Op) (local : Local) (ticks : List Ticked)
+        → AreTicks g advertise field predefined now S local ticks
+        → does_something g advertise field (seen_of S) local now ≡ false
+        → does_something g advertise field (seen_of (set_behind S ticks)) (local_behind local ticks)
+        now ≡ false }
+    ensures settled { (g advertise : ℕ) (field : List Addr) (now : ℕ) (S : List Op) (local : Local)
+        → does_something g advertise field (seen_of S) local now ≡ false → (c : List ℕ)
+        → due_with g (seen_of S) local now c ≡ None }
 {}
 
 /// The laws of `sn_flow` hold of every step and of every tick: each of their plans is the plan of a draft with at most one message
 /// a client. So no step loses a message but by an acknowledgement of its own, and a gateway whose set is flush never refuses for a
 /// conflict what it made itself.
 pub fn every_step()
-    ensures steps { (g : ℕ) (predefined : Entries) (S : List Op) (local : Local) (a : Addr) (frame : Frame) (now : ℕ) (plan : Plan) → step g predefined (seen_of S) local a frame now ≡ Some plan → IsOfDraft g (seen_of S) plan }
-    ensures ticks { (g advertise : ℕ) (field : List Addr) (predefined : Entries) (S : List Op) (local : Local) (now : ℕ) (plan : Plan) → tick g advertise field predefined (seen_of S) local now ≡ Some plan → IsOfDraft g (seen_of S) plan }
+    ensures steps { (g : ℕ) (predefined : Entries) (S : List Op) (local : Local) (a : Addr)
+        (frame : Frame) (now : ℕ) (plan : Plan) → step g predefined (seen_of S) local a frame now
+        ≡ Some plan → IsOfDraft g (seen_of S) plan }
+    ensures ticks { (g advertise : ℕ) (field : List Addr) (predefined : Entries) (S : List Op)
+        (local : Local) (now : ℕ) (plan : Plan)
+        → tick g advertise field predefined (seen_of S) local now ≡ Some plan
+        → IsOfDraft g (seen_of S) plan }
 {}

@@ -38,7 +38,8 @@ fn named(alloc: Global, name: Option<&TopicName>) -> Result<Meant, StepFault>
 
 /// The topic of an id of the session.
 fn by_entry(alloc: Global, session: &Session, id: u16) -> Result<Meant, StepFault>
-    ensures ok { IfOk result (λ meant. meant ≡ named_topic (option_map entry_name (topic_of id session.now.topics))) }
+    ensures ok { IfOk result (λ meant. meant ≡ named_topic
+        (option_map entry_name (topic_of id session.now.topics))) }
     ensures err { IfErr result (λ fault. fault ≡ StepFault.Memory) }
 {
     match session.topic_of(id) {
@@ -103,7 +104,8 @@ pub fn publication_meant(
     topic: u16,
     body: &Octets,
 ) -> Result<Meant, StepFault>
-    ensures ok { IfOk result (λ meant. meant ≡ meant_publication predefined.now session.now flags.bits topic body.now) }
+    ensures ok { IfOk result (λ meant. meant ≡ meant_publication predefined.now session.now
+        flags.bits topic body.now) }
     ensures err { IfErr result (λ fault. fault ≡ StepFault.Memory) }
 {
     let meant = topic_meant(alloc, predefined, session, flags.kind(), topic)?;

@@ -25,7 +25,8 @@ fn puts_draft<R: Replica>(
     qos: u8,
     body: &Octets,
 ) -> Result<Draft, StepFault>
-    ensures ok { IfOk result (λ draft. draft ≡ put_all (puts_for_all (seen_of (R.kept replica.now)) name.now qos body.now) nothing) }
+    ensures ok { IfOk result (λ draft. draft ≡ put_all (puts_for_all (seen_of (R.kept replica.now))
+        name.now qos body.now) nothing) }
     ensures err { IfErr result (λ fault. fault ≡ StepFault.Memory) }
 {
     let puts = puts_for(alloc, replica, name, qos, body)?;
@@ -41,7 +42,8 @@ fn spread<R: Replica>(
     name: &TopicName,
     body: &Octets,
 ) -> Result<Draft, StepFault>
-    ensures ok { IfOk result (λ draft. draft ≡ spread_draft (seen_of (R.kept replica.now)) name.now body.now) }
+    ensures ok { IfOk result (λ draft. draft ≡ spread_draft (seen_of (R.kept replica.now))
+        name.now body.now) }
     ensures err { IfErr result (λ fault. fault ≡ StepFault.Memory) }
 {
     puts_draft(alloc, replica, name, 0, body)
@@ -81,7 +83,8 @@ fn spread_once<R: Replica>(
     body: &Octets,
     name: &TopicName,
 ) -> Result<Draft, StepFault>
-    ensures ok { IfOk result (λ draft. draft ≡ spread_once_draft (seen_of (R.kept replica.now)) to topic_id msg_id body.now name.now) }
+    ensures ok { IfOk result (λ draft. draft ≡ spread_once_draft (seen_of (R.kept replica.now)) to
+        topic_id msg_id body.now name.now) }
     ensures err { IfErr result (λ fault. fault ≡ StepFault.Memory) }
 {
     let mut draft = puts_draft(alloc, replica, name, 1, body)?;
@@ -107,7 +110,8 @@ fn spread_twice<R: Replica>(
     body: &Octets,
     name: &TopicName,
 ) -> Result<Draft, StepFault>
-    ensures ok { IfOk result (λ draft. draft ≡ spread_twice_draft (seen_of (R.kept replica.now)) to session.now topic_id msg_id body.now name.now) }
+    ensures ok { IfOk result (λ draft. draft ≡ spread_twice_draft (seen_of (R.kept replica.now)) to
+        session.now topic_id msg_id body.now name.now) }
     ensures err { IfErr result (λ fault. fault ≡ StepFault.Memory) }
 {
     if session.is_received(msg_id) {
@@ -134,7 +138,8 @@ fn publish_at<R: Replica>(
     name: &TopicName,
     qos: Qos,
 ) -> Result<Draft, StepFault>
-    ensures ok { IfOk result (λ draft. draft ≡ publish_draft_at (seen_of (R.kept replica.now)) to session.now topic_id msg_id body.now name.now qos) }
+    ensures ok { IfOk result (λ draft. draft ≡ publish_draft_at (seen_of (R.kept replica.now)) to
+        session.now topic_id msg_id body.now name.now qos) }
     ensures err { IfErr result (λ fault. fault ≡ StepFault.Memory) }
 {
     match qos {
@@ -157,7 +162,8 @@ fn publish_meant<R: Replica>(
     qos: Qos,
     meant: Meant,
 ) -> Result<Draft, StepFault>
-    ensures ok { IfOk result (λ draft. draft ≡ publish_draft_meant (seen_of (R.kept replica.now)) to session.now topic_id msg_id body.now qos meant) }
+    ensures ok { IfOk result (λ draft. draft ≡ publish_draft_meant (seen_of (R.kept replica.now)) to
+        session.now topic_id msg_id body.now qos meant) }
     ensures err { IfErr result (λ fault. fault ≡ StepFault.Memory) }
 {
     match meant {
@@ -181,7 +187,8 @@ pub fn publish<R: Replica>(
     msg_id: u16,
     body: &Octets,
 ) -> Result<Draft, StepFault>
-    ensures ok { IfOk result (λ draft. draft ≡ publish_draft predefined.now (seen_of (R.kept replica.now)) to session.now flags.bits topic msg_id body.now) }
+    ensures ok { IfOk result (λ draft. draft ≡ publish_draft predefined.now
+        (seen_of (R.kept replica.now)) to session.now flags.bits topic msg_id body.now) }
     ensures err { IfErr result (λ fault. fault ≡ StepFault.Memory) }
 {
     let meant = publication_meant(alloc, predefined, session, flags, topic, body)?;
@@ -205,7 +212,8 @@ fn spread_meant<R: Replica>(
     body: &Octets,
     meant: Meant,
 ) -> Result<Draft, StepFault>
-    ensures ok { IfOk result (λ draft. draft ≡ spread_draft_meant (seen_of (R.kept replica.now)) body.now meant) }
+    ensures ok { IfOk result (λ draft. draft ≡ spread_draft_meant (seen_of (R.kept replica.now))
+        body.now meant) }
     ensures err { IfErr result (λ fault. fault ≡ StepFault.Memory) }
 {
     match meant {
@@ -224,7 +232,8 @@ pub fn publish_unconnected<R: Replica>(
     topic: u16,
     body: &Octets,
 ) -> Result<Draft, StepFault>
-    ensures ok { IfOk result (λ draft. draft ≡ unconnected_draft predefined.now (seen_of (R.kept replica.now)) flags.bits topic body.now) }
+    ensures ok { IfOk result (λ draft. draft ≡ unconnected_draft predefined.now
+        (seen_of (R.kept replica.now)) flags.bits topic body.now) }
     ensures err { IfErr result (λ fault. fault ≡ StepFault.Memory) }
 {
     let session = Session::empty(alloc);

@@ -90,7 +90,8 @@ pub fn puts_for<R: Replica>(
     qos: u8,
     body: &Octets,
 ) -> Result<Vec<NewPut>, StepFault>
-    ensures ok { IfOk result (λ puts. puts.items ≡ puts_for_all (seen_of (R.kept replica.now)) topic.now qos body.now) }
+    ensures ok { IfOk result (λ puts. puts.items ≡ puts_for_all (seen_of (R.kept replica.now))
+        topic.now qos body.now) }
     ensures err { IfErr result (λ fault. fault ≡ StepFault.Memory) }
 {
     let mut puts = Vec::new(alloc);
@@ -113,7 +114,8 @@ fn put_for<R: Replica>(
     body: &Octets,
     client: &ClientId,
 ) -> Result<Option<NewPut>, StepFault>
-    ensures ok { IfOk result (λ put. put ≡ put_for_client (seen_of (R.kept replica.now)) topic.now qos body.now client.now) }
+    ensures ok { IfOk result (λ put. put ≡ put_for_client (seen_of (R.kept replica.now)) topic.now
+        qos body.now client.now) }
     ensures err { IfErr result (λ fault. fault ≡ StepFault.Memory) }
 {
     match replica.view_of(client) {
@@ -131,7 +133,8 @@ fn puts_among<R: Replica>(
     qos: u8,
     body: &Octets,
 ) -> Result<Vec<NewPut>, StepFault>
-    ensures ok { IfOk result (λ puts. puts.items ≡ puts_among_clients (seen_of (R.kept replica.now)) clients.items topic.now qos body.now) }
+    ensures ok { IfOk result (λ puts. puts.items ≡ puts_among_clients (seen_of (R.kept replica.now))
+        clients.items topic.now qos body.now) }
     ensures err { IfErr result (λ fault. fault ≡ StepFault.Memory) }
 {
     let mut puts = Vec::new(alloc);
@@ -164,7 +167,8 @@ pub fn puts_of_will<R: Replica>(
     client: &ClientId,
     will: &Will,
 ) -> Result<Vec<NewPut>, StepFault>
-    ensures ok { IfOk result (λ puts. puts.items ≡ puts_of_this_will (seen_of (R.kept replica.now)) client.now will.now) }
+    ensures ok { IfOk result (λ puts. puts.items ≡ puts_of_this_will (seen_of (R.kept replica.now))
+        client.now will.now) }
     ensures err { IfErr result (λ fault. fault ≡ StepFault.Memory) }
 {
     let mut clients = replica.clients(alloc)?;

@@ -22,7 +22,8 @@ use std::alloc::Global;
 fn again(alloc: Global, peer: &Peer, frame: &Frame, draft: &mut Draft) -> Result<bool, StepFault>
     requires message { IsMessage frame.now }
     requires size { total_of frame.now ≤ 65535 }
-    ensures ok { IfOk result (λ stops. (stops, draft.new) ≡ sent_again peer.now frame.now draft.old) }
+    ensures ok { IfOk result (λ stops. (stops, draft.new) ≡ sent_again peer.now frame.now
+        draft.old) }
     ensures err { IfErr result (λ fault. fault ≡ StepFault.Memory) }
 {
     send(alloc, peer, frame, draft)?;
@@ -35,7 +36,8 @@ fn again(alloc: Global, peer: &Peer, frame: &Frame, draft: &mut Draft) -> Result
 
 /// And then the end of the exchange. Answers that Delivery follows.
 fn give_up(session: &Session, draft: &mut Draft) -> Result<bool, StepFault>
-    ensures ok { IfOk result (λ stops. (stops, draft.new) ≡ exchange_given_up session.now draft.old) }
+    ensures ok { IfOk result (λ stops. (stops, draft.new) ≡ exchange_given_up session.now
+        draft.old) }
     ensures err { IfErr result (λ fault. fault ≡ StepFault.Memory) }
 {
     draft.change(SessionOp::Outbound {
@@ -55,7 +57,8 @@ fn register_by(
     entry: Option<&TopicEntry>,
     draft: &mut Draft,
 ) -> Result<bool, StepFault>
-    ensures ok { IfOk result (λ stops. (stops, draft.new) ≡ registered_by peer.now session.now put.now msg_id (option_copied entry.entry) draft.old) }
+    ensures ok { IfOk result (λ stops. (stops, draft.new) ≡ registered_by peer.now session.now
+        put.now msg_id (option_copied entry.entry) draft.old) }
     ensures err { IfErr result (λ fault. fault ≡ StepFault.Memory) }
 {
     match entry {
@@ -80,7 +83,8 @@ fn register_again(
     put: Option<&Put>,
     draft: &mut Draft,
 ) -> Result<bool, StepFault>
-    ensures ok { IfOk result (λ stops. (stops, draft.new) ≡ registered_again peer.now session.now msg_id (option_copied put.entry) draft.old) }
+    ensures ok { IfOk result (λ stops. (stops, draft.new) ≡ registered_again peer.now session.now
+        msg_id (option_copied put.entry) draft.old) }
     ensures err { IfErr result (λ fault. fault ≡ StepFault.Memory) }
 {
     match put {
@@ -102,7 +106,8 @@ fn publish_by(
     form: Option<Form>,
     draft: &mut Draft,
 ) -> Result<bool, StepFault>
-    ensures ok { IfOk result (λ stops. (stops, draft.new) ≡ published_by peer.now session.now put.now msg_id form draft.old) }
+    ensures ok { IfOk result (λ stops. (stops, draft.new) ≡ published_by peer.now session.now
+        put.now msg_id form draft.old) }
     ensures err { IfErr result (λ fault. fault ≡ StepFault.Memory) }
 {
     match form {
@@ -124,7 +129,8 @@ fn publish_again(
     put: Option<&Put>,
     draft: &mut Draft,
 ) -> Result<bool, StepFault>
-    ensures ok { IfOk result (λ stops. (stops, draft.new) ≡ published_again predefined.now peer.now session.now msg_id (option_copied put.entry) draft.old) }
+    ensures ok { IfOk result (λ stops. (stops, draft.new) ≡ published_again predefined.now peer.now
+        session.now msg_id (option_copied put.entry) draft.old) }
     ensures err { IfErr result (λ fault. fault ≡ StepFault.Memory) }
 {
     match put {
@@ -147,7 +153,8 @@ fn resend_in(
     put: Option<&Put>,
     draft: &mut Draft,
 ) -> Result<bool, StepFault>
-    ensures ok { IfOk result (λ stops. (stops, draft.new) ≡ resent_in predefined.now peer.now session.now msg_id phase (option_copied put.entry) draft.old) }
+    ensures ok { IfOk result (λ stops. (stops, draft.new) ≡ resent_in predefined.now peer.now
+        session.now msg_id phase (option_copied put.entry) draft.old) }
     ensures err { IfErr result (λ fault. fault ≡ StepFault.Memory) }
 {
     match phase {
@@ -167,7 +174,8 @@ fn resend(
     exchange: Outbound,
     draft: &mut Draft,
 ) -> Result<(), StepFault>
-    ensures ok { OnOk result (draft.new ≡ resent predefined.now peer.now session.now pending.now exchange draft.old) }
+    ensures ok { OnOk result (draft.new ≡ resent predefined.now peer.now session.now pending.now
+        exchange draft.old) }
     ensures err { IfErr result (λ fault. fault ≡ StepFault.Memory) }
 {
     let put = put_left(draft.acks(), pending, message_of(exchange));
@@ -197,7 +205,8 @@ fn resend_if(
     exchange: Option<Outbound>,
     draft: &mut Draft,
 ) -> Result<(), StepFault>
-    ensures ok { OnOk result (draft.new ≡ resent_if predefined.now peer.now session.now pending.now exchange draft.old) }
+    ensures ok { OnOk result (draft.new ≡ resent_if predefined.now peer.now session.now pending.now
+        exchange draft.old) }
     ensures err { IfErr result (λ fault. fault ≡ StepFault.Memory) }
 {
     match exchange {
@@ -215,7 +224,8 @@ fn resend_or_deliver(
     pending: &[Put],
     draft: &mut Draft,
 ) -> Result<(), StepFault>
-    ensures ok { OnOk result (draft.new ≡ resent_or_delivered predefined.now peer.now session.now pending.now draft.old) }
+    ensures ok { OnOk result (draft.new ≡ resent_or_delivered predefined.now peer.now session.now
+        pending.now draft.old) }
     ensures err { IfErr result (λ fault. fault ≡ StepFault.Memory) }
 {
     let exchange = open_exchange(session, draft.acks(), pending);
@@ -232,7 +242,8 @@ pub fn then_resend(
     pending: &[Put],
     draft: &mut Draft,
 ) -> Result<(), StepFault>
-    ensures ok { OnOk result (draft.new ≡ then_resent predefined.now peer.now session.now pending.now draft.old) }
+    ensures ok { OnOk result (draft.new ≡ then_resent predefined.now peer.now session.now
+        pending.now draft.old) }
     ensures err { IfErr result (λ fault. fault ≡ StepFault.Memory) }
 {
     if draft.changes().is_empty() {

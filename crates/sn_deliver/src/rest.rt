@@ -57,7 +57,8 @@ fn none_asks<R: Replica>(gateway: u8, replica: &R, dialogs: &Dialogs, now: u64) 
 
 /// Whether it was found that a tick of this moment has nothing to do. It has nothing to do at any moment before it then.
 pub fn is_idle<R: Replica>(config: &Config, replica: &R, dialogs: &Dialogs, now: u64) -> bool
-    ensures { IsTrue result → IsTrue (is_idle_moment config.now.gateway config.now.advertise config.now.field
+    ensures { IsTrue result → IsTrue (is_idle_moment config.now.gateway config.now.advertise
+        config.now.field
         (seen_of (R.kept replica.now)) dialogs.now.local now) }
 {
     let field = config.field.as_slice();

@@ -42,7 +42,9 @@ fn publish_bound<R: Replica>(
     body: &Octets,
     now: u64,
 ) -> Result<Row, StepFault>
-    ensures ok { IfOk result (λ row. row ≡ publish_of config.now.predefined (seen_of (R.kept replica.now)) from (Some client.now) flags.bits topic msg_id body.now now) }
+    ensures ok { IfOk result (λ row. row ≡ publish_of config.now.predefined
+        (seen_of (R.kept replica.now)) from (Some client.now) flags.bits topic msg_id
+        body.now now) }
     ensures err { IfErr result (λ fault. fault ≡ StepFault.Memory) }
 {
     let empty = Session::empty(alloc);
@@ -74,7 +76,9 @@ fn publish_connected<R: Replica>(
     body: &Octets,
     now: u64,
 ) -> Result<Row, StepFault>
-    ensures ok { IfOk result (λ row. row ≡ publish_of config.now.predefined (seen_of (R.kept replica.now)) from (client_of from dialogs.now.local.bindings) flags.bits topic msg_id body.now now) }
+    ensures ok { IfOk result (λ row. row ≡ publish_of config.now.predefined
+        (seen_of (R.kept replica.now)) from (client_of from dialogs.now.local.bindings) flags.bits
+        topic msg_id body.now now) }
     ensures err { IfErr result (λ fault. fault ≡ StepFault.Memory) }
 {
     match dialogs.client_at(from) {
@@ -99,7 +103,9 @@ pub fn publish_in<R: Replica>(
     body: &Octets,
     now: u64,
 ) -> Result<Row, StepFault>
-    ensures ok { IfOk result (λ row. row ≡ published_row config.now.predefined (seen_of (R.kept replica.now)) dialogs.now.local from flags.bits topic msg_id body.now now) }
+    ensures ok { IfOk result (λ row. row ≡ published_row config.now.predefined
+        (seen_of (R.kept replica.now)) dialogs.now.local from flags.bits topic msg_id
+        body.now now) }
     ensures err { IfErr result (λ fault. fault ≡ StepFault.Memory) }
 {
     match flags.qos() {
@@ -126,7 +132,8 @@ fn pubrel_bound<R: Replica>(
     msg_id: u16,
     now: u64,
 ) -> Result<Row, StepFault>
-    ensures ok { IfOk result (λ row. row ≡ pubrel_of (seen_of (R.kept replica.now)) from (Some client.now) msg_id now) }
+    ensures ok { IfOk result (λ row. row ≡ pubrel_of (seen_of (R.kept replica.now)) from
+        (Some client.now) msg_id now) }
     ensures err { IfErr result (λ fault. fault ≡ StepFault.Memory) }
 {
     let empty = Session::empty(alloc);
@@ -144,7 +151,8 @@ pub fn pubrel_in<R: Replica>(
     msg_id: u16,
     now: u64,
 ) -> Result<Row, StepFault>
-    ensures ok { IfOk result (λ row. row ≡ pubrel_row (seen_of (R.kept replica.now)) dialogs.now.local from msg_id now) }
+    ensures ok { IfOk result (λ row. row ≡ pubrel_row (seen_of (R.kept replica.now))
+        dialogs.now.local from msg_id now) }
     ensures err { IfErr result (λ fault. fault ≡ StepFault.Memory) }
 {
     match dialogs.client_at(from) {
@@ -161,7 +169,8 @@ fn acknowledged<R: Replica>(
     peer: &Peer,
     frame: &Frame,
 ) -> Result<Draft, StepFault>
-    ensures ok { IfOk result (λ draft. draft ≡ acknowledged_draft config.now.predefined (seen_of (R.kept replica.now)) peer.now frame.now) }
+    ensures ok { IfOk result (λ draft. draft ≡ acknowledged_draft config.now.predefined
+        (seen_of (R.kept replica.now)) peer.now frame.now) }
     ensures err { IfErr result (λ fault. fault ≡ StepFault.Memory) }
 {
     let empty = Session::empty(alloc);
@@ -188,7 +197,8 @@ fn ack_bound<R: Replica>(
     frame: &Frame,
     now: u64,
 ) -> Result<Row, StepFault>
-    ensures ok { IfOk result (λ row. row ≡ ack_of config.now.predefined (seen_of (R.kept replica.now)) from (Some client.now) frame.now now) }
+    ensures ok { IfOk result (λ row. row ≡ ack_of config.now.predefined
+        (seen_of (R.kept replica.now)) from (Some client.now) frame.now now) }
     ensures err { IfErr result (λ fault. fault ≡ StepFault.Memory) }
 {
     let peer = peer_at(alloc, from, client, now)?;
@@ -206,7 +216,8 @@ pub fn ack_in<R: Replica>(
     frame: &Frame,
     now: u64,
 ) -> Result<Row, StepFault>
-    ensures ok { IfOk result (λ row. row ≡ ack_row config.now.predefined (seen_of (R.kept replica.now)) dialogs.now.local from frame.now now) }
+    ensures ok { IfOk result (λ row. row ≡ ack_row config.now.predefined
+        (seen_of (R.kept replica.now)) dialogs.now.local from frame.now now) }
     ensures err { IfErr result (λ fault. fault ≡ StepFault.Memory) }
 {
     match dialogs.client_at(from) {

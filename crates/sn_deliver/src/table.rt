@@ -31,7 +31,8 @@ fn connected<R: Replica>(
     now: u64,
 ) -> Result<Row, StepFault>
     requires { IsClientId client.now }
-    ensures ok { IfOk result (λ row. row ≡ connect_row (seen_of (R.kept replica.now)) dialogs.now.local from flags.bits protocol duration client.now now) }
+    ensures ok { IfOk result (λ row. row ≡ connect_row (seen_of (R.kept replica.now))
+        dialogs.now.local from flags.bits protocol duration client.now now) }
     ensures err { IfErr result (λ fault. fault ≡ StepFault.Memory) }
 {
     let client = client_id(alloc, client)?;
@@ -51,7 +52,8 @@ fn row_for<R: Replica>(
     now: u64,
 ) -> Result<Row, StepFault>
     requires { IsMessage frame.now }
-    ensures ok { IfOk result (λ row. row ≡ defined_row config.now.gateway config.now.predefined (seen_of (R.kept replica.now)) dialogs.now.local from frame.now now) }
+    ensures ok { IfOk result (λ row. row ≡ defined_row config.now.gateway config.now.predefined
+        (seen_of (R.kept replica.now)) dialogs.now.local from frame.now now) }
     ensures err { IfErr result (λ fault. fault ≡ StepFault.Memory) }
 {
     match frame {
@@ -158,7 +160,8 @@ pub fn step<R: Replica>(
     now: u64,
 ) -> Result<Plan, StepFault>
     requires { IsMessage frame.now }
-    ensures { Gives result (defined_step config.now.gateway config.now.predefined (seen_of (R.kept replica.now)) dialogs.now.local from frame.now now) }
+    ensures { Gives result (defined_step config.now.gateway config.now.predefined
+        (seen_of (R.kept replica.now)) dialogs.now.local from frame.now now) }
 {
     let row = row_for(alloc, config, replica, dialogs, from, frame, now)?;
     deliver_next(alloc, config, replica, from, now, row)

@@ -128,7 +128,8 @@ fn cleaned<R: Replica>(
     dialogs: &Dialogs,
     now: u64,
 ) -> Result<Draft, StepFault>
-    ensures ok { IfOk result (λ draft. draft ≡ cleaned_draft gateway (seen_of (R.kept replica.now)) dialogs.now.local now) }
+    ensures ok { IfOk result (λ draft. draft ≡ cleaned_draft gateway (seen_of (R.kept replica.now))
+        dialogs.now.local now) }
     ensures err { IfErr result (λ fault. fault ≡ StepFault.Memory) }
 {
     let mut draft = Draft::new(alloc);
@@ -183,7 +184,8 @@ fn advertise_all(
     advertise: u16,
     field: &[Addr],
 ) -> Result<(), StepFault>
-    ensures ok { OnOk result (draft.new ≡ fold (advertised_to gateway advertise) draft.old field.now) }
+    ensures ok { OnOk result (draft.new ≡ fold (advertised_to gateway advertise) draft.old
+        field.now) }
     ensures err { IfErr result (λ fault. fault ≡ StepFault.Memory) }
 {
     for address in field {
@@ -201,7 +203,8 @@ fn advertised(
     now: u64,
     mut draft: Draft,
 ) -> Result<Draft, StepFault>
-    ensures ok { IfOk result (λ made. made ≡ advertised_draft gateway advertise field.now now draft) }
+    ensures ok { IfOk result (λ made. made ≡ advertised_draft gateway advertise field.now
+        now draft) }
     ensures err { IfErr result (λ fault. fault ≡ StepFault.Memory) }
 {
     advertise_all(alloc, &mut draft, gateway, advertise, field)?;
@@ -216,7 +219,8 @@ fn will_puts<R: Replica>(
     client: &ClientId,
     will: &Option<Will>,
 ) -> Result<Vec<NewPut>, StepFault>
-    ensures ok { IfOk result (λ puts. puts.items ≡ puts_of_the_will (seen_of (R.kept replica.now)) client.now will.now) }
+    ensures ok { IfOk result (λ puts. puts.items ≡ puts_of_the_will (seen_of (R.kept replica.now))
+        client.now will.now) }
     ensures err { IfErr result (λ fault. fault ≡ StepFault.Memory) }
 {
     match will {
@@ -233,7 +237,8 @@ fn lose<R: Replica>(
     session: &Session,
     draft: &mut Draft,
 ) -> Result<(), StepFault>
-    ensures ok { OnOk result (draft.new ≡ lost_draft (seen_of (R.kept replica.now)) client.now session.now draft.old) }
+    ensures ok { OnOk result (draft.new ≡ lost_draft (seen_of (R.kept replica.now)) client.now
+        session.now draft.old) }
     ensures err { IfErr result (λ fault. fault ≡ StepFault.Memory) }
 {
     let puts = will_puts(alloc, replica, client, &session.will)?;
@@ -257,7 +262,8 @@ fn plan_loss<R: Replica>(
     mut draft: Draft,
     client: &ClientId,
 ) -> Result<Plan, StepFault>
-    ensures { Gives result (plan_of_due config.now.gateway config.now.predefined (seen_of (R.kept replica.now)) now draft client.now Due.Loss) }
+    ensures { Gives result (plan_of_due config.now.gateway config.now.predefined
+        (seen_of (R.kept replica.now)) now draft client.now Due.Loss) }
 {
     let empty = Session::empty(alloc);
     let session = session_or(replica, client, &empty);
@@ -287,7 +293,8 @@ fn plan_retry<R: Replica>(
     client: &ClientId,
     address: Addr,
 ) -> Result<Plan, StepFault>
-    ensures { Gives result (plan_of_due config.now.gateway config.now.predefined (seen_of (R.kept replica.now)) now draft client.now (Due.Retry address)) }
+    ensures { Gives result (plan_of_due config.now.gateway config.now.predefined
+        (seen_of (R.kept replica.now)) now draft client.now (Due.Retry address)) }
 {
     let row = retried(alloc, now, draft, client)?;
     deliver_next(alloc, config, replica, address, now, row)
@@ -303,7 +310,8 @@ fn plan_due<R: Replica>(
     client: &ClientId,
     due: Due,
 ) -> Result<Plan, StepFault>
-    ensures { Gives result (plan_of_due config.now.gateway config.now.predefined (seen_of (R.kept replica.now)) now draft client.now due) }
+    ensures { Gives result (plan_of_due config.now.gateway config.now.predefined
+        (seen_of (R.kept replica.now)) now draft client.now due) }
 {
     match due {
         Due::Loss => plan_loss(alloc, config, replica, now, draft, client),
@@ -324,7 +332,8 @@ fn plan_if_due<R: Replica>(
     draft: Draft,
     found: Option<(ClientId, Due)>,
 ) -> Result<Plan, StepFault>
-    ensures { Gives result (plan_of_due_if config.now.gateway config.now.predefined (seen_of (R.kept replica.now)) now draft found) }
+    ensures { Gives result (plan_of_due_if config.now.gateway config.now.predefined
+        (seen_of (R.kept replica.now)) now draft found) }
 {
     match found {
         None => Ok(plan_without(alloc, draft)),
@@ -341,7 +350,8 @@ fn one_thing<R: Replica>(
     now: u64,
     draft: Draft,
 ) -> Result<Plan, StepFault>
-    ensures { Gives result (plan_of_one config.now.gateway config.now.advertise config.now.field config.now.predefined (seen_of (R.kept replica.now)) dialogs.now.local now draft) }
+    ensures { Gives result (plan_of_one config.now.gateway config.now.advertise config.now.field
+        config.now.predefined (seen_of (R.kept replica.now)) dialogs.now.local now draft) }
 {
     let field = config.field.as_slice();
     if may_advertise(config.advertise, field, now, dialogs.advertised()) {
@@ -362,7 +372,8 @@ pub fn tick<R: Replica>(
     dialogs: &Dialogs,
     now: u64,
 ) -> Result<Plan, StepFault>
-    ensures { Gives result (tick_plan config.now.gateway config.now.advertise config.now.field config.now.predefined (seen_of (R.kept replica.now)) dialogs.now.local now) }
+    ensures { Gives result (tick_plan config.now.gateway config.now.advertise config.now.field
+        config.now.predefined (seen_of (R.kept replica.now)) dialogs.now.local now) }
 {
     let draft = cleaned(alloc, config.gateway, replica, dialogs, now)?;
     one_thing(alloc, config, replica, dialogs, now, draft)

@@ -125,7 +125,8 @@ fn woken_by(
     idle: bool,
     draft: Draft,
 ) -> Result<Row, StepFault>
-    ensures ok { IfOk result (λ row. row ≡ row_by_state to client.now session.now idle draft session.now.presence) }
+    ensures ok { IfOk result (λ row. row ≡ row_by_state to client.now session.now idle draft
+        session.now.presence) }
     ensures err { IfErr result (λ fault. fault ≡ StepFault.Memory) }
 {
     match session.presence {
@@ -146,7 +147,8 @@ fn woken_view(
     view: &ClientView,
     now: u64,
 ) -> Result<Row, StepFault>
-    ensures ok { IfOk result (λ row. row ≡ row_of_session gateway to client.now view.now now view.now.session) }
+    ensures ok { IfOk result (λ row. row ≡ row_of_session gateway to client.now view.now now
+        view.now.session) }
     ensures err { IfErr result (λ fault. fault ≡ StepFault.Memory) }
 {
     match &view.session {
@@ -169,7 +171,8 @@ fn woken<R: Replica>(
     client: &ClientId,
     now: u64,
 ) -> Result<Row, StepFault>
-    ensures ok { IfOk result (λ row. row ≡ woken_row gateway (seen_of (R.kept replica.now)) to client.now now) }
+    ensures ok { IfOk result (λ row. row ≡ woken_row gateway (seen_of (R.kept replica.now)) to
+        client.now now) }
     ensures err { IfErr result (λ fault. fault ≡ StepFault.Memory) }
 {
     let nobody = unseen(alloc);
@@ -186,7 +189,8 @@ fn wake_bound<R: Replica>(
     bound: Option<&ClientId>,
     now: u64,
 ) -> Result<Row, StepFault>
-    ensures ok { IfOk result (λ row. row ≡ wake_row_of gateway (seen_of (R.kept replica.now)) from (option_copied bound.entry) now) }
+    ensures ok { IfOk result (λ row. row ≡ wake_row_of gateway (seen_of (R.kept replica.now)) from
+        (option_copied bound.entry) now) }
     ensures err { IfErr result (λ fault. fault ≡ StepFault.Memory) }
 {
     match bound {
@@ -209,7 +213,8 @@ fn wake_client<R: Replica>(
     now: u64,
 ) -> Result<Row, StepFault>
     requires { IsClientId client.now }
-    ensures ok { IfOk result (λ row. row ≡ heard_row_of (option_copied bound.entry) now (woken_row gateway (seen_of (R.kept replica.now)) from client.now now)) }
+    ensures ok { IfOk result (λ row. row ≡ heard_row_of (option_copied bound.entry) now
+        (woken_row gateway (seen_of (R.kept replica.now)) from client.now now)) }
     ensures err { IfErr result (λ fault. fault ≡ StepFault.Memory) }
 {
     let client = client_id(alloc, client)?;
@@ -241,7 +246,8 @@ pub fn wake<R: Replica>(
     now: u64,
 ) -> Result<Row, StepFault>
     requires { length client.now ≤ 23 }
-    ensures ok { IfOk result (λ row. row ≡ wake_row config.now.gateway (seen_of (R.kept replica.now)) dialogs.now.local from client.now now) }
+    ensures ok { IfOk result (λ row. row ≡ wake_row config.now.gateway
+        (seen_of (R.kept replica.now)) dialogs.now.local from client.now now) }
     ensures err { IfErr result (λ fault. fault ≡ StepFault.Memory) }
 {
     let bound = dialogs.client_at(from);

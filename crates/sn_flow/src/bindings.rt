@@ -31,7 +31,8 @@ fn is_of_other(client: &ClientId, binding: &Binding) -> bool
 /// Drops the bindings of the address and of the client.
 fn release(bindings: &mut Vec<Binding>, address: Addr, client: &ClientId)
     requires { AreBindings bindings.old.items }
-    ensures items { bindings.new.items ≡ filter (is_apart_from address client.now) bindings.old.items }
+    ensures items { bindings.new.items ≡ filter (is_apart_from address client.now)
+        bindings.old.items }
     ensures ascend { AreBindings bindings.new.items }
     ensures capacity { vec_capacity bindings.new ≡ vec_capacity bindings.old }
     ensures len { vec_len bindings.new ≤ vec_len bindings.old }
@@ -146,7 +147,8 @@ fn has_owned<R: Replica>(gateway: u8, replica: &R, binding: &Binding) -> bool
 /// Drops the bindings of clients that the gateway does not own.
 pub fn keep_bindings<R: Replica>(bindings: &mut Vec<Binding>, gateway: u8, replica: &R)
     requires { AreBindings bindings.old.items }
-    ensures items { bindings.new.items ≡ owned_bindings gateway (seen_of (R.kept replica.now)) bindings.old.items }
+    ensures items { bindings.new.items ≡ owned_bindings gateway (seen_of (R.kept replica.now))
+        bindings.old.items }
     ensures ascend { AreBindings bindings.new.items }
 {
     bindings.retain(|binding| has_owned(gateway, replica, binding));

@@ -44,7 +44,8 @@ fn request_of(
     duration: u16,
     client: &ClientId,
 ) -> Result<Request, StepFault>
-    ensures ok { IfOk result (λ request. request ≡ asked_request address flags.bits duration client.now) }
+    ensures ok { IfOk result (λ request. request ≡ asked_request address flags.bits duration
+        client.now) }
     ensures err { IfErr result (λ fault. fault ≡ StepFault.Memory) }
 {
     Ok(Request {
@@ -65,7 +66,8 @@ fn refusal_of<R: Replica>(
     flags: Flags,
     protocol: u8,
 ) -> Result<Option<u8>, StepFault>
-    ensures ok { IfOk result (λ code. code ≡ refused_by (seen_of (R.kept replica.now)) dialogs.now.local.dialogs from client.now flags.bits protocol) }
+    ensures ok { IfOk result (λ code. code ≡ refused_by (seen_of (R.kept replica.now))
+        dialogs.now.local.dialogs from client.now flags.bits protocol) }
     ensures err { IfErr result (λ fault. fault ≡ StepFault.Memory) }
 {
     if protocol != PROTOCOL {
@@ -151,7 +153,8 @@ pub fn connect<R: Replica>(
     client: &ClientId,
     now: u64,
 ) -> Result<Row, StepFault>
-    ensures ok { IfOk result (λ row. row ≡ connected_row (seen_of (R.kept replica.now)) dialogs.now.local from flags.bits protocol duration client.now now) }
+    ensures ok { IfOk result (λ row. row ≡ connected_row (seen_of (R.kept replica.now))
+        dialogs.now.local from flags.bits protocol duration client.now now) }
     ensures err { IfErr result (λ fault. fault ≡ StepFault.Memory) }
 {
     let refusal = refusal_of(alloc, replica, dialogs, from, client, flags, protocol)?;
@@ -201,7 +204,8 @@ fn disconnect_draft(
     session: &Session,
     duration: Option<u16>,
 ) -> Result<Draft, StepFault>
-    ensures ok { IfOk result (λ draft. draft ≡ drafted_disconnect to client.now session.now duration) }
+    ensures ok { IfOk result (λ draft. draft ≡ drafted_disconnect to client.now
+        session.now duration) }
     ensures err { IfErr result (λ fault. fault ≡ StepFault.Memory) }
 {
     match duration {
@@ -219,7 +223,8 @@ fn disconnect_bound<R: Replica>(
     duration: Option<u16>,
     now: u64,
 ) -> Result<Row, StepFault>
-    ensures ok { IfOk result (λ row. row ≡ disconnect_row_of (seen_of (R.kept replica.now)) from (Some client.now) duration now) }
+    ensures ok { IfOk result (λ row. row ≡ disconnect_row_of (seen_of (R.kept replica.now)) from
+        (Some client.now) duration now) }
     ensures err { IfErr result (λ fault. fault ≡ StepFault.Memory) }
 {
     let empty = Session::empty(alloc);
@@ -239,7 +244,8 @@ pub fn disconnect<R: Replica>(
     duration: Option<u16>,
     now: u64,
 ) -> Result<Row, StepFault>
-    ensures ok { IfOk result (λ row. row ≡ disconnected_row (seen_of (R.kept replica.now)) dialogs.now.local from duration now) }
+    ensures ok { IfOk result (λ row. row ≡ disconnected_row (seen_of (R.kept replica.now))
+        dialogs.now.local from duration now) }
     ensures err { IfErr result (λ fault. fault ≡ StepFault.Memory) }
 {
     match dialogs.client_at(from) {

@@ -230,7 +230,8 @@ pub fn number_puts<R: Replica>(
     puts: Vec<NewPut>,
     ops: &mut Vec<Op>,
 ) -> Result<(), StepFault>
-    ensures { Becomes result ops.new.items (with_puts gateway (λ e. next_seq e gateway (R.kept replica.now)) puts.items ops.old.items) }
+    ensures { Becomes result ops.new.items (with_puts gateway
+        (λ e. next_seq e gateway (R.kept replica.now)) puts.items ops.old.items) }
 {
     for new in puts {
         let NewPut {

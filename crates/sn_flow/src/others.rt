@@ -40,7 +40,8 @@ pub fn other(
     frame: &Frame,
     now: u64,
 ) -> Result<Row, StepFault>
-    ensures ok { IfOk result (λ row. row ≡ other_row config.now.gateway dialogs.now.local from frame.now now) }
+    ensures ok { IfOk result (λ row. row ≡ other_row config.now.gateway dialogs.now.local from
+        frame.now now) }
     ensures err { IfErr result (λ fault. fault ≡ StepFault.Memory) }
 {
     match frame {

@@ -35,7 +35,8 @@ fn writer_of<R: Replica>(
     replica: &R,
     client: &ClientId,
 ) -> Result<Writer, StepFault>
-    ensures ok { IfOk result (λ writer. writer ≡ start_of gateway (view client.now (R.kept replica.now)) (next_epoch client.now (R.kept replica.now))) }
+    ensures ok { IfOk result (λ writer. writer ≡ start_of gateway
+        (view client.now (R.kept replica.now)) (next_epoch client.now (R.kept replica.now))) }
     ensures err { IfErr result (λ fault. fault ≡ StepFault.Memory) }
 {
     let next = replica.next_epoch(client);
@@ -54,7 +55,9 @@ fn rest_of<R: Replica>(
     mut ops: Vec<Op>,
     draft: Draft,
 ) -> Result<Plan, StepFault>
-    ensures { Gives result (option_map (plan_with draft) (with_puts gateway (λ e. next_seq e gateway (R.kept replica.now)) draft.puts (ops.items ++ map (ack_of client.now) draft.acks))) }
+    ensures { Gives result (option_map (plan_with draft)
+        (with_puts gateway (λ e. next_seq e gateway (R.kept replica.now)) draft.puts
+        (ops.items ++ map (ack_of client.now) draft.acks))) }
 {
     let Draft {
         changes: _,

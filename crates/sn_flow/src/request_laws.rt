@@ -21,21 +21,28 @@ ghost use Rattle.sn_flow.specs.RequestLaws.{ChangesSessionOnly, session_after, S
 /// A client that registers a name, subscribes, unsubscribes or updates its will loses no message by it and gets none: these
 /// rows acknowledge nothing, put nothing and change no binding.
 pub fn requests_keep_messages()
-    ensures registers { (a : Addr) (s : Session) (msg_id : ℕ) (name : List ℕ) → ChangesSessionOnly (register a s msg_id name) }
-    ensures subscribes { (p : Entries) (a : Addr) (s : Session) (bits msg_id : ℕ) (field : List ℕ) → ChangesSessionOnly (subscribe p a s bits msg_id field) }
-    ensures unsubscribes { (p : Entries) (a : Addr) (s : Session) (bits msg_id : ℕ) (field : List ℕ) → ChangesSessionOnly (unsubscribe p a s bits msg_id field) }
-    ensures will_topic { (a : Addr) (will : Option Will) → ChangesSessionOnly (will_topic_update a will) }
-    ensures will_message { (a : Addr) (s : Session) (message : List ℕ) → ChangesSessionOnly (will_msg_update a s message) }
+    ensures registers { (a : Addr) (s : Session) (msg_id : ℕ) (name : List ℕ)
+        → ChangesSessionOnly (register a s msg_id name) }
+    ensures subscribes { (p : Entries) (a : Addr) (s : Session) (bits msg_id : ℕ) (field : List ℕ)
+        → ChangesSessionOnly (subscribe p a s bits msg_id field) }
+    ensures unsubscribes { (p : Entries) (a : Addr) (s : Session) (bits msg_id : ℕ) (field : List ℕ)
+        → ChangesSessionOnly (unsubscribe p a s bits msg_id field) }
+    ensures will_topic { (a : Addr) (will : Option Will)
+        → ChangesSessionOnly (will_topic_update a will) }
+    ensures will_message { (a : Addr) (s : Session) (message : List ℕ)
+        → ChangesSessionOnly (will_msg_update a s message) }
 {}
 
 /// An id that a client is given stands for the name from then on, and the client knows it.
 pub fn given_id_stands()
-    ensures { (s : Session) (name : List ℕ) → IsTable topic_cmp s.topics → IfSome (id_for s name) (StandsFor name s) }
+    ensures { (s : Session) (name : List ℕ) → IsTable topic_cmp s.topics
+        → IfSome (id_for s name) (StandsFor name s) }
 {}
 
 /// A SUBSCRIBE that finds room and an id leaves the filter at the quality of service that was asked for.
 pub fn subscribe_lasts()
-    ensures { (p : Entries) (a : Addr) (s : Session) (bits msg_id : ℕ) (field filter : List ℕ) (qos : ℕ) (named : NamedId) →
+    ensures { (p : Entries) (a : Addr) (s : Session) (bits msg_id : ℕ) (field filter : List ℕ)
+        (qos : ℕ) (named : NamedId) →
         qos_asked (qos_of bits) ≡ Some qos → topics_asked p (kind_of bits) field ≡ Topics filter →
         filter_has_no_room filter s.subscriptions ≡ false → id_asked s (kind_of bits) field filter ≡ Some named →
         IsSubscribed filter qos (session_after s (subscribe p a s bits msg_id field)) }

@@ -105,7 +105,8 @@ fn subscribed(
     qos: u8,
     named: Option<NamedId>,
 ) -> Result<Draft, StepFault>
-    ensures ok { IfOk result (λ draft. draft ≡ subscribed_draft to session.now flags.bits msg_id filter qos named) }
+    ensures ok { IfOk result (λ draft. draft ≡ subscribed_draft to session.now flags.bits msg_id
+        filter qos named) }
     ensures err { IfErr result (λ fault. fault ≡ StepFault.Memory) }
 {
     match named {
@@ -132,7 +133,8 @@ fn subscribe_to(
     filter: Filter,
     qos: u8,
 ) -> Result<Draft, StepFault>
-    ensures ok { IfOk result (λ draft. draft ≡ draft_to to session.now flags.bits msg_id field.now filter qos) }
+    ensures ok { IfOk result (λ draft. draft ≡ draft_to to session.now flags.bits msg_id field.now
+        filter qos) }
     ensures err { IfErr result (λ fault. fault ≡ StepFault.Memory) }
 {
     if session.subscriptions.has_no_room(&filter) {
@@ -153,7 +155,8 @@ fn subscribe_asked(
     asked: Asked,
     qos: u8,
 ) -> Result<Draft, StepFault>
-    ensures ok { IfOk result (λ draft. draft ≡ draft_asked to session.now flags.bits msg_id field.now asked qos) }
+    ensures ok { IfOk result (λ draft. draft ≡ draft_asked to session.now flags.bits msg_id
+        field.now asked qos) }
     ensures err { IfErr result (λ fault. fault ≡ StepFault.Memory) }
 {
     match asked {
@@ -175,7 +178,8 @@ pub fn subscribe(
     msg_id: u16,
     field: &[u8],
 ) -> Result<Draft, StepFault>
-    ensures ok { IfOk result (λ draft. draft ≡ subscribe_draft predefined.now to session.now flags.bits msg_id field.now) }
+    ensures ok { IfOk result (λ draft. draft ≡ subscribe_draft predefined.now to session.now
+        flags.bits msg_id field.now) }
     ensures err { IfErr result (λ fault. fault ≡ StepFault.Memory) }
 {
     let Some(qos) = qos_asked(flags.qos()) else {
@@ -216,7 +220,8 @@ pub fn unsubscribe(
     msg_id: u16,
     field: &[u8],
 ) -> Result<Draft, StepFault>
-    ensures ok { IfOk result (λ draft. draft ≡ unsubscribe_draft predefined.now to session.now flags.bits msg_id field.now) }
+    ensures ok { IfOk result (λ draft. draft ≡ unsubscribe_draft predefined.now to session.now
+        flags.bits msg_id field.now) }
     ensures err { IfErr result (λ fault. fault ≡ StepFault.Memory) }
 {
     let asked = topics_asked(alloc, predefined, flags.kind(), field)?;

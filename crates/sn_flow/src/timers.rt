@@ -200,7 +200,8 @@ fn times_owned<R: Replica>(gateway: u8, replica: &R, timer: &Timer) -> bool
 /// Drops the timers of clients that the gateway does not own.
 pub fn keep_timers<R: Replica>(timers: &mut Vec<Timer>, gateway: u8, replica: &R)
     requires { AreTimers timers.old.items }
-    ensures items { timers.new.items ≡ owned_timers gateway (seen_of (R.kept replica.now)) timers.old.items }
+    ensures items { timers.new.items ≡ owned_timers gateway (seen_of (R.kept replica.now))
+        timers.old.items }
     ensures order { AreTimers timers.new.items }
 {
     timers.retain(|timer| times_owned(gateway, replica, timer));

@@ -27,7 +27,8 @@ fn register_bound<R: Replica>(
     name: &[u8],
     now: u64,
 ) -> Result<Row, StepFault>
-    ensures ok { IfOk result (λ row. row ≡ register_of (seen_of (R.kept replica.now)) from (Some client.now) msg_id name.now now) }
+    ensures ok { IfOk result (λ row. row ≡ register_of (seen_of (R.kept replica.now)) from
+        (Some client.now) msg_id name.now now) }
     ensures err { IfErr result (λ fault. fault ≡ StepFault.Memory) }
 {
     let empty = Session::empty(alloc);
@@ -47,7 +48,8 @@ pub fn register<R: Replica>(
     name: &[u8],
     now: u64,
 ) -> Result<Row, StepFault>
-    ensures ok { IfOk result (λ row. row ≡ register_row (seen_of (R.kept replica.now)) dialogs.now.local from msg_id name.now now) }
+    ensures ok { IfOk result (λ row. row ≡ register_row (seen_of (R.kept replica.now))
+        dialogs.now.local from msg_id name.now now) }
     ensures err { IfErr result (λ fault. fault ≡ StepFault.Memory) }
 {
     match dialogs.client_at(from) {
@@ -68,7 +70,8 @@ fn subscribe_bound<R: Replica>(
     topic: &[u8],
     now: u64,
 ) -> Result<Row, StepFault>
-    ensures ok { IfOk result (λ row. row ≡ subscribe_of config.now.predefined (seen_of (R.kept replica.now)) from (Some client.now) flags.bits msg_id topic.now now) }
+    ensures ok { IfOk result (λ row. row ≡ subscribe_of config.now.predefined
+        (seen_of (R.kept replica.now)) from (Some client.now) flags.bits msg_id topic.now now) }
     ensures err { IfErr result (λ fault. fault ≡ StepFault.Memory) }
 {
     let empty = Session::empty(alloc);
@@ -98,7 +101,8 @@ pub fn subscribe<R: Replica>(
     topic: &[u8],
     now: u64,
 ) -> Result<Row, StepFault>
-    ensures ok { IfOk result (λ row. row ≡ subscribe_row config.now.predefined (seen_of (R.kept replica.now)) dialogs.now.local from flags.bits msg_id topic.now now) }
+    ensures ok { IfOk result (λ row. row ≡ subscribe_row config.now.predefined
+        (seen_of (R.kept replica.now)) dialogs.now.local from flags.bits msg_id topic.now now) }
     ensures err { IfErr result (λ fault. fault ≡ StepFault.Memory) }
 {
     match dialogs.client_at(from) {
@@ -121,7 +125,8 @@ fn unsubscribe_bound<R: Replica>(
     topic: &[u8],
     now: u64,
 ) -> Result<Row, StepFault>
-    ensures ok { IfOk result (λ row. row ≡ unsubscribe_of config.now.predefined (seen_of (R.kept replica.now)) from (Some client.now) flags.bits msg_id topic.now now) }
+    ensures ok { IfOk result (λ row. row ≡ unsubscribe_of config.now.predefined
+        (seen_of (R.kept replica.now)) from (Some client.now) flags.bits msg_id topic.now now) }
     ensures err { IfErr result (λ fault. fault ≡ StepFault.Memory) }
 {
     let empty = Session::empty(alloc);
@@ -151,7 +156,8 @@ pub fn unsubscribe<R: Replica>(
     topic: &[u8],
     now: u64,
 ) -> Result<Row, StepFault>
-    ensures ok { IfOk result (λ row. row ≡ unsubscribe_row config.now.predefined (seen_of (R.kept replica.now)) dialogs.now.local from flags.bits msg_id topic.now now) }
+    ensures ok { IfOk result (λ row. row ≡ unsubscribe_row config.now.predefined
+        (seen_of (R.kept replica.now)) dialogs.now.local from flags.bits msg_id topic.now now) }
     ensures err { IfErr result (λ fault. fault ≡ StepFault.Memory) }
 {
     match dialogs.client_at(from) {

@@ -43,7 +43,8 @@ fn concluded<R: Replica>(
     given: GivenWill,
     now: u64,
 ) -> Result<Row, StepFault>
-    ensures ok { IfOk result (λ row. row ≡ concluded_row (seen_of (R.kept replica.now)) request.now given now) }
+    ensures ok { IfOk result (λ row. row ≡ concluded_row (seen_of (R.kept replica.now)) request.now
+        given now) }
     ensures err { IfErr result (λ fault. fault ≡ StepFault.Memory) }
 {
     if has_no_room(alloc, replica, &request.client)? {
@@ -95,7 +96,8 @@ fn topic_row<R: Replica>(
     will: &Option<Will>,
     now: u64,
 ) -> Result<Row, StepFault>
-    ensures ok { IfOk result (λ row. row ≡ row_of_topic (seen_of (R.kept replica.now)) dialog.now will.now now) }
+    ensures ok { IfOk result (λ row. row ≡ row_of_topic (seen_of (R.kept replica.now)) dialog.now
+        will.now now) }
     ensures err { IfErr result (λ fault. fault ≡ StepFault.Memory) }
 {
     match will {
@@ -117,7 +119,8 @@ fn topic_in<R: Replica>(
     will: &Option<Will>,
     now: u64,
 ) -> Result<Row, StepFault>
-    ensures ok { IfOk result (λ row. row ≡ row_of_topic_in (seen_of (R.kept replica.now)) from (option_copied bound.entry) dialog.now will.now now dialog.now.awaited) }
+    ensures ok { IfOk result (λ row. row ≡ row_of_topic_in (seen_of (R.kept replica.now)) from
+        (option_copied bound.entry) dialog.now will.now now dialog.now.awaited) }
     ensures err { IfErr result (λ fault. fault ≡ StepFault.Memory) }
 {
     match &dialog.awaited {
@@ -139,7 +142,8 @@ pub fn will_topic<R: Replica>(
     will: &Option<Will>,
     now: u64,
 ) -> Result<Row, StepFault>
-    ensures ok { IfOk result (λ row. row ≡ will_topic_row (seen_of (R.kept replica.now)) dialogs.now.local from will.now now) }
+    ensures ok { IfOk result (λ row. row ≡ will_topic_row (seen_of (R.kept replica.now))
+        dialogs.now.local from will.now now) }
     ensures err { IfErr result (λ fault. fault ≡ StepFault.Memory) }
 {
     let bound = dialogs.client_at(from);
@@ -172,7 +176,8 @@ fn message_row<R: Replica>(
     message: &[u8],
     now: u64,
 ) -> Result<Row, StepFault>
-    ensures ok { IfOk result (λ row. row ≡ row_of_message (seen_of (R.kept replica.now)) request.now topic.now message.now now) }
+    ensures ok { IfOk result (λ row. row ≡ row_of_message (seen_of (R.kept replica.now)) request.now
+        topic.now message.now now) }
     ensures err { IfErr result (λ fault. fault ≡ StepFault.Memory) }
 {
     if message.len() > MAX_MESSAGE {
@@ -192,7 +197,8 @@ fn message_in<R: Replica>(
     message: &[u8],
     now: u64,
 ) -> Result<Row, StepFault>
-    ensures ok { IfOk result (λ row. row ≡ row_of_message_in (seen_of (R.kept replica.now)) from (option_copied bound.entry) dialog.now.request message.now now dialog.now.awaited) }
+    ensures ok { IfOk result (λ row. row ≡ row_of_message_in (seen_of (R.kept replica.now)) from
+        (option_copied bound.entry) dialog.now.request message.now now dialog.now.awaited) }
     ensures err { IfErr result (λ fault. fault ≡ StepFault.Memory) }
 {
     match &dialog.awaited {
@@ -214,7 +220,8 @@ pub fn will_msg<R: Replica>(
     message: &[u8],
     now: u64,
 ) -> Result<Row, StepFault>
-    ensures ok { IfOk result (λ row. row ≡ will_msg_row (seen_of (R.kept replica.now)) dialogs.now.local from message.now now) }
+    ensures ok { IfOk result (λ row. row ≡ will_msg_row (seen_of (R.kept replica.now))
+        dialogs.now.local from message.now now) }
     ensures err { IfErr result (λ fault. fault ≡ StepFault.Memory) }
 {
     let bound = dialogs.client_at(from);
@@ -266,7 +273,8 @@ fn update_message<R: Replica>(
     message: &[u8],
     now: u64,
 ) -> Result<Row, StepFault>
-    ensures ok { IfOk result (λ row. row ≡ message_update_of (seen_of (R.kept replica.now)) from (Some client.now) message.now now) }
+    ensures ok { IfOk result (λ row. row ≡ message_update_of (seen_of (R.kept replica.now)) from
+        (Some client.now) message.now now) }
     ensures err { IfErr result (λ fault. fault ≡ StepFault.Memory) }
 {
     let empty = Session::empty(alloc);
@@ -285,7 +293,8 @@ pub fn will_msg_update<R: Replica>(
     message: &[u8],
     now: u64,
 ) -> Result<Row, StepFault>
-    ensures ok { IfOk result (λ row. row ≡ message_update_row (seen_of (R.kept replica.now)) dialogs.now.local from message.now now) }
+    ensures ok { IfOk result (λ row. row ≡ message_update_row (seen_of (R.kept replica.now))
+        dialogs.now.local from message.now now) }
     ensures err { IfErr result (λ fault. fault ≡ StepFault.Memory) }
 {
     match dialogs.client_at(from) {

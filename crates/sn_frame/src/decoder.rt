@@ -30,7 +30,8 @@ pub fn decode(alloc: Global, bytes: &[u8]) -> Result<Frame, FrameFault>
     ensures value { IfOk result IsValue }
 
     // What is spelled so is read, unless memory runs out.
-    ensures only { (f : Frame) → IsValue f → Spells bytes.now f → (result ≡ Ok f) ⊎ (result ≡ Err FrameFault.Memory) }
+    ensures only { (f : Frame) → IsValue f → Spells bytes.now f → (result ≡ Ok f)
+        ⊎ (result ≡ Err FrameFault.Memory) }
 
     // A refusal names the first thing that is wrong.
     ensures fault { IfErr result (IsFirstFault bytes.now) }

@@ -11,7 +11,8 @@ ghost use Rattle.sn_frame.specs.Grammar.{Spells, spelling, total_of};
 /// No octets spell two frames. A frame that has a spelling has its canonical one, and each has one whose
 /// parts have sizes that its message allows and whose total fits.
 pub fn one_meaning()
-    ensures one { (bytes : List ℕ) (f g : Frame) → IsValue f → IsValue g → Spells bytes f → Spells bytes g → f ≡ g }
+    ensures one { (bytes : List ℕ) (f g : Frame) → IsValue f → IsValue g → Spells bytes f
+        → Spells bytes g → f ≡ g }
     ensures canonical { (bytes : List ℕ) (f : Frame) → Spells bytes f → Spells (spelling f) f }
     ensures spelled { (f : Frame) → IsMessage f → total_of f ≤ 65535 → Spells (spelling f) f }
 {}
@@ -19,7 +20,9 @@ pub fn one_meaning()
 /// A datagram is refused for one reason alone, and none but want of memory refuses a datagram that
 /// spells a frame.
 pub fn one_fault()
-    ensures one { (bytes : List ℕ) (d e : FrameFault) → IsFirstFault bytes d → IsFirstFault bytes e → d ≡ e }
-    ensures no_frame { (bytes : List ℕ) (e : FrameFault) (f : Frame) → IsFirstFault bytes e → IsValue f → Spells bytes f
+    ensures one { (bytes : List ℕ) (d e : FrameFault) → IsFirstFault bytes d
+        → IsFirstFault bytes e → d ≡ e }
+    ensures no_frame { (bytes : List ℕ) (e : FrameFault) (f : Frame) → IsFirstFault bytes e
+        → IsValue f → Spells bytes f
         → e ≡ FrameFault.Memory }
 {}

@@ -66,7 +66,8 @@ pub enum MsgType {
 impl MsgType {
     /// The message with this octet, if there is one.
     pub fn from_octet(octet: u8) -> Option<MsgType>
-        ensures { MatchOption result ((t : MsgType) → octet_of t ≢ octet) (λ t. octet_of t ≡ octet) }
+        ensures { MatchOption result ((t : MsgType) → octet_of t ≢ octet)
+            (λ t. octet_of t ≡ octet) }
     {
         let msg_type = match octet {
             0x00 => MsgType::Advertise,

@@ -40,7 +40,8 @@ impl Received {
 
     /// The table of these ids; nothing where they do not strictly ascend, or there are more than 256.
     pub fn from_sorted(ids: Vec<u16>) -> Option<Received>
-        ensures { MatchOption result (¬ (IsTable nat_cmp ids.items)) (λ made. (made ≡ ids.items) × IsTable nat_cmp ids.items) }
+        ensures { MatchOption result (¬ (IsTable nat_cmp ids.items)) (λ made. (made ≡ ids.items)
+            × IsTable nat_cmp ids.items) }
     {
         if ids.len() > MAX_ENTRIES || !is_ascending(ids.as_slice()) {
             return None;

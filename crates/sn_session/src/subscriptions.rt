@@ -65,7 +65,8 @@ impl Subscriptions {
 
     /// The table of these entries; nothing where their filters do not strictly ascend, or there are more than 256.
     pub fn from_sorted(entries: Vec<Subscription>) -> Option<Subscriptions>
-        ensures { MatchOption result (¬ (IsTable subscription_cmp entries.items)) (λ made. (made ≡ entries.items) × IsTable subscription_cmp entries.items) }
+        ensures { MatchOption result (¬ (IsTable subscription_cmp entries.items))
+            (λ made. (made ≡ entries.items) × IsTable subscription_cmp entries.items) }
     {
         if entries.len() > MAX_ENTRIES || !is_ascending(entries.as_slice()) {
             return None;
@@ -131,9 +132,11 @@ impl Subscriptions {
     /// Sets the subscription of a filter. `Full` exactly where it would be the 257th; on an error the table is as it
     /// was. A filter that is there takes no memory.
     pub fn set(&mut self, alloc: Global, filter: &Filter, qos: u8) -> Result<(), SessionFault>
-        ensures ok { OnOk result (self.new ≡ with_subscription (record { filter = filter.now; qos = qos }) self.old) }
+        ensures ok { OnOk result (self.new ≡ with_subscription
+            (record { filter = filter.now; qos = qos }) self.old) }
         ensures err { OnErr result (self.new ≡ self.old) }
-        ensures full { IsErrOf result SessionFault.Full ↔ IsTrue (filter_has_no_room filter.now self.old) }
+        ensures full { IsErrOf result SessionFault.Full
+            ↔ IsTrue (filter_has_no_room filter.now self.old) }
         ensures fits { OnOk result (filter_has_no_room filter.now self.old ≡ false) }
         ensures absent { OnErr result (IsTrue (is_none (subscription_of filter.now self.old))) }
     {

@@ -140,7 +140,8 @@ impl Topics {
         name: &TopicName,
         known: bool,
     ) -> Result<(), SessionFault>
-        ensures ok { OnOk result (self.new ≡ with_topic (record { id = id; name = name.now; known = known }) self.old) }
+        ensures ok { OnOk result (self.new ≡ with_topic
+            (record { id = id; name = name.now; known = known }) self.old) }
         ensures err { OnErr result (self.new ≡ self.old) }
         ensures full { IsErrOf result SessionFault.Full ↔ IsTrue (topic_has_no_room id self.old) }
         ensures fits { OnOk result (topic_has_no_room id self.old ≡ false) }
@@ -190,7 +191,8 @@ impl Topics {
 
     /// The table of these entries; nothing where their ids do not strictly ascend, or there are more than 256.
     pub fn from_sorted(entries: Vec<TopicEntry>) -> Option<Topics>
-        ensures { MatchOption result (¬ (IsTable topic_cmp entries.items)) (λ made. (made ≡ entries.items) × IsTable topic_cmp entries.items) }
+        ensures { MatchOption result (¬ (IsTable topic_cmp entries.items))
+            (λ made. (made ≡ entries.items) × IsTable topic_cmp entries.items) }
     {
         if entries.len() > MAX_ENTRIES || !is_ascending(entries.as_slice()) {
             return None;

@@ -31,7 +31,8 @@ impl Predefined {
     /// The table of these entries. `Id` is answered where an id is 0 or 65535, or stands twice. The entries
     /// are kept as they are, so no memory is taken. The time is quadratic in their number.
     pub fn new(_alloc: Global, entries: Vec<(u16, TopicName)>) -> Result<Predefined, TopicFault>
-        ensures ok { IfOk result (λ table. (table ≡ entries.items) × IsTrue (table_test entries.items)) }
+        ensures ok { IfOk result (λ table. (table ≡ entries.items)
+            × IsTrue (table_test entries.items)) }
         ensures refused { IsErrOf result TopicFault.Id ↔ IsFalse (table_test entries.items) }
         ensures no_other { IfErr result (λ fault. fault ≡ TopicFault.Id) }
     {

@@ -54,7 +54,8 @@ fn may_follow(ops: &[Op], op: &Op) -> bool
 
 /// So many operations.
 fn read_ops(alloc: Global, count: u32, bytes: &[u8]) -> Result<(Vec<Op>, &[u8]), OpsFault>
-    ensures { Gives (λ x. (x.0.items, x.1.now)) result (listed_at op_at follow_test count [] bytes.now) }
+    ensures { Gives (λ x. (x.0.items, x.1.now)) result (listed_at op_at follow_test count []
+        bytes.now) }
 {
     let mut ops = Vec::new(alloc);
     let mut rest = bytes;

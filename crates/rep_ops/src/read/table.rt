@@ -15,7 +15,8 @@ const MAX_ENTRIES: u16 = 256;
 
 /// How many entries a table has.
 fn read_count(bytes: &[u8]) -> Result<(u16, &[u8]), OpsFault>
-    ensures { Gives (λ x. (x.0, x.1.now)) result (ranged (λ n. nat_le n 256) (number_at w16) bytes.now) }
+    ensures { Gives (λ x. (x.0, x.1.now)) result (ranged (λ n. nat_le n 256) (number_at w16)
+        bytes.now) }
 {
     let (count, rest) = read_two(bytes)?;
     if count > MAX_ENTRIES {
@@ -61,7 +62,8 @@ fn read_each_subscription(
     count: u16,
     bytes: &[u8],
 ) -> Result<(Vec<Subscription>, &[u8]), OpsFault>
-    ensures { Gives (λ x. (x.0.items, x.1.now)) result (many_at subscription_at count [] bytes.now) }
+    ensures { Gives (λ x. (x.0.items, x.1.now)) result
+        (many_at subscription_at count [] bytes.now) }
 {
     let mut entries = Vec::new(alloc);
     let mut rest = bytes;
@@ -88,7 +90,8 @@ pub fn read_subscriptions(alloc: Global, bytes: &[u8]) -> Result<(Subscriptions,
 
 /// So many message ids.
 fn read_ids(alloc: Global, count: u16, bytes: &[u8]) -> Result<(Vec<u16>, &[u8]), OpsFault>
-    ensures { Gives (λ x. (x.0.items, x.1.now)) result (many_at (number_at w16) count [] bytes.now) }
+    ensures { Gives (λ x. (x.0.items, x.1.now)) result
+        (many_at (number_at w16) count [] bytes.now) }
 {
     let mut entries = Vec::new(alloc);
     let mut rest = bytes;

@@ -147,7 +147,8 @@ fn connect(
     duration: u16,
     client: &Octets,
 ) -> Result<Vec<u8>, AllocError>
-    ensures { IfOk result (λ body. body.items ≡ (flags.bits ∷ protocol ∷ big_bytes 2 duration) ++ client.now) }
+    ensures { IfOk result (λ body. body.items ≡ (flags.bits ∷ protocol ∷ big_bytes 2 duration) ++
+        client.now) }
 {
     let [high, low] = octets_of(duration);
     joined(alloc, &[flags.bits, protocol, high, low], client.as_slice())
@@ -155,7 +156,8 @@ fn connect(
 
 /// The body of REGISTER.
 fn register(alloc: Global, topic_id: u16, msg_id: u16, name: &Octets) -> Result<Vec<u8>, AllocError>
-    ensures { IfOk result (λ body. body.items ≡ big_bytes 2 topic_id ++ big_bytes 2 msg_id ++ name.now) }
+    ensures { IfOk result (λ body. body.items ≡ big_bytes 2 topic_id ++ big_bytes 2 msg_id
+        ++ name.now) }
 {
     let [t1, t0] = octets_of(topic_id);
     let [m1, m0] = octets_of(msg_id);
@@ -170,7 +172,8 @@ fn publish(
     msg_id: u16,
     message: &Octets,
 ) -> Result<Vec<u8>, AllocError>
-    ensures { IfOk result (λ body. body.items ≡ (flags.bits ∷ big_bytes 2 topic) ++ big_bytes 2 msg_id ++ message.now) }
+    ensures { IfOk result (λ body. body.items ≡ (flags.bits ∷ big_bytes 2 topic) ++ big_bytes 2
+        msg_id ++ message.now) }
 {
     let [t1, t0] = octets_of(topic);
     let [m1, m0] = octets_of(msg_id);
@@ -185,7 +188,8 @@ fn sub_ack(
     msg_id: u16,
     code: u8,
 ) -> Result<Vec<u8>, AllocError>
-    ensures { IfOk result (λ body. body.items ≡ (flags.bits ∷ big_bytes 2 topic_id) ++ big_bytes 2 msg_id ++ (code ∷ [])) }
+    ensures { IfOk result (λ body. body.items ≡ (flags.bits ∷ big_bytes 2 topic_id) ++ big_bytes 2
+        msg_id ++ (code ∷ [])) }
 {
     let [t1, t0] = octets_of(topic_id);
     let [m1, m0] = octets_of(msg_id);

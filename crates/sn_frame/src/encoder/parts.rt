@@ -42,7 +42,8 @@ pub(super) fn ids_and_code(
     msg_id: u16,
     code: u8,
 ) -> Result<Vec<u8>, AllocError>
-    ensures { IfOk result (λ body. body.items ≡ big_bytes 2 topic_id ++ big_bytes 2 msg_id ++ (code ∷ [])) }
+    ensures { IfOk result (λ body. body.items ≡ big_bytes 2 topic_id ++ big_bytes 2 msg_id ++
+        (code ∷ [])) }
 {
     let [t1, t0] = octets_of(topic_id);
     let [m1, m0] = octets_of(msg_id);
