@@ -10,7 +10,7 @@ trap 'rm -rf "$work"' EXIT
 python3 "$top/bench/script.py" "$@" >"$work/script"
 events=$(grep -vc '^gateway' "$work/script")
 program=$top/crates/gw_sim/out/gw_sim
-if [ ! -x "$program" ] || [ -n "$(find "$top/crates" -name '*.rt' -newer "$program" | head -n 1)" ]; then
+if [ ! -x "$program" ] || [ -n "$(find "$top/crates" -name out -prune -o -name '*.rt' -newer "$program" -print | head -n 1)" ]; then
     (cd "$top/crates/gw_sim" && rt run <"$work/script" >/dev/null) || true
 fi
 start=$(date +%s.%N)

@@ -73,7 +73,7 @@ pub trait Replica: Drop {
             × (found.1.now ≡ view found.0.now (kept self.now))) };
 
     /// The next client, from a place on, that may be subscribed to the topic (MQTT-SN 1.2 section 6.10), with its view, and the
-    /// place behind it; nothing where nobody who is left is subscribed. Whoever is passed over is not. A replica need not pass
+    /// place behind it; nothing only where nobody who is left is subscribed. Whoever is passed over is not. A replica need not pass
     /// over everybody that it could: whom it finds is to be asked.
     fn next_candidate(
         &self,
