@@ -1,5 +1,6 @@
 #!/usr/bin/env python3
-"""Publications of gw_sim: messages put per second, to many subscribers beside few, and behind many waiting messages beside few.
+"""Publications of gw_sim: messages put per second, to many subscribers beside few, behind many waiting messages beside few, and on
+the folded replica beside the plain one (`gw_sim --plain`), which was the only one at first.
 
 Usage: bench/publications.py PROGRAM
 
@@ -26,25 +27,32 @@ def publish(topic: bytes) -> str:
     return "frame 1 9999 1 " + frame(0x0C, bytes([0x62]) + topic + bytes(2) + b"sixteen octets !")
 
 
-def best(program: str, setup: list, publications: list) -> float:
+def best(program: str, setup: list, publications: list, *words: str) -> float:
     """Seconds of the publications alone."""
     scripts = ["\n".join(["gateway 1"] + setup) + "\n", "\n".join(["gateway 1"] + setup + publications) + "\n"]
-    times = [min(each) for each in zip(*([seconds(program, text) for text in scripts] for _ in range(3)))]
+    times = [min(each) for each in zip(*([seconds(program, text, *words) for text in scripts] for _ in range(3)))]
     return times[1] - times[0]
 
 
-def fan_out(program: str, subscribers: int, publications: int) -> float:
+def fan_out(program: str, subscribers: int, publications: int, *words: str) -> float:
     """Messages put per second, by publications to all subscribers."""
     setup = [line for client in range(subscribers) for line in asleep(client, b"ab")]
-    return subscribers * publications / best(program, setup, [publish(b"ab")] * publications)
+    return subscribers * publications / best(program, setup, [publish(b"ab")] * publications, *words)
 
 
-def behind(program: str, apiece: int) -> float:
+def behind(program: str, apiece: int, *words: str) -> float:
     """Messages put per second, 1,000 of them, so many to one of ten subscribers."""
     topics = [b"a%d" % number for number in range(10)]
     setup = [line for number, topic in enumerate(topics) for line in asleep(number, topic)]
     lines = [publish(topics[number // apiece]) for number in range(1000)]
-    return 1000 / best(program, setup, lines)
+    return 1000 / best(program, setup, lines, *words)
+
+
+def beside(what: str, folded: float, plain: float, goal: float) -> None:
+    """Messages per second on both replicas, and how often that of the plain one."""
+    ratio = folded / plain
+    print(f"  {what}: {folded:.0f} per second, on the plain replica {plain:.0f}, {ratio:.1f} times as many,"
+          f" goal {goal:g}: {'met' if ratio >= goal else 'MISSED'}")
 
 
 def main() -> None:
@@ -56,6 +64,9 @@ def main() -> None:
     print("1,000 messages put one by one")
     print(f"  up to 1,000 waiting for one client {long:.0f} per second, up to 100 for each of ten {short:.0f},"
           f" {long / short:.2f} times as many")
+    print("on both replicas")
+    beside("by publications to 1,000 at a time", many, fan_out(program, 1000, 4, "--plain"), 5)
+    beside("one by one, up to 1,000 for one client", long, behind(program, 1000, "--plain"), 10)
 
 
 main()

@@ -40,13 +40,13 @@ def script(clients: int, apiece: int) -> str:
     return "\n".join(lines) + "\n"
 
 
-def seconds(program: str, text: str) -> float:
-    """The processor time of one run."""
+def seconds(program: str, text: str, *words: str) -> float:
+    """The processor time of one run, with these words behind the program's name."""
     before = resource.getrusage(resource.RUSAGE_CHILDREN)
     with tempfile.TemporaryFile("w+") as lines:
         lines.write(text)
         lines.seek(0)
-        done = subprocess.run([program], stdin=lines, stdout=subprocess.PIPE, text=True, check=True)
+        done = subprocess.run([program, *words], stdin=lines, stdout=subprocess.PIPE, text=True, check=True)
     after = resource.getrusage(resource.RUSAGE_CHILDREN)
     assert "refused" not in done.stdout, done.stdout[:200]
     return after.ru_utime + after.ru_stime - before.ru_utime - before.ru_stime

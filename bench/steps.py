@@ -108,9 +108,9 @@ class Bench:
     def __init__(self, program: str, least: float) -> None:
         self.program, self.least = program, least
 
-    def fixed(self, cases: list) -> list:
-        """Microseconds of an event of each case: the best of three runs, in turn."""
-        rounds = [[case.times(self.program) for case in cases] for _ in range(3)]
+    def fixed(self, cases: list, times: int = 3) -> list:
+        """Microseconds of an event of each case: the best of so many runs, in turn."""
+        rounds = [[case.times(self.program) for case in cases] for _ in range(times)]
         best = [[min(each) for each in zip(*times)] for times in zip(*rounds)]
         return [1e6 * (used - without) / len(case.events) for (without, used), case in zip(best, cases)]
 
@@ -196,9 +196,18 @@ def bench_waits(bench: Bench, asked: argparse.Namespace) -> None:
     told("PUBLISH of another client that nobody subscribes to", few, many, bench.repeated(both, nobody, accepted(PUBLISHER)), 2)
     changes = [subscribe(FIRST, NOBODY, number % 2) for number in range(400)]
     told("SUBSCRIBE of the client itself", few, many, bench.fixed([Case(setup, changes, "delta ") for setup in both]), 2)
-    nine, more = sleepers(9), 100
-    behind = [nine, nine + to_each(9, max(asked.waiting - more, 0))]
-    told("PUBLISH to the client, up to that many", few, many, bench.fixed([Case(setup, to_each(9, more), "delta ") for setup in behind]), 2)
+    forty, more = sleepers(40), 100
+    behind = [forty, forty + to_each(40, max(asked.waiting - more, 0))]
+    told("PUBLISH to the client, up to that many", few, many, bench.fixed([Case(setup, to_each(40, more), "delta ") for setup in behind], 7), 2)
+    acks = [puback(FIRST, topic_of(0), message) for message in range(more)]
+    cases = [Case(awake(count), acks, "delta ") for count in (more + 1, asked.waiting)]
+    told("PUBACK, and the next message is sent", f"up to {more + 1}", many, bench.fixed(cases), 2)
+
+
+def awake(waiting: int) -> list:
+    """A client that stays connected, with so many messages of another; the first of them is sent when it is heard of again."""
+    one = [connect(0, FIRST), subscribe(FIRST, topic_of(0), 1)] + publisher(1)
+    return one + to_each(1, waiting) + [at(FIRST, 1, PING)]
 
 
 def handed_over(first: int, count: int) -> list:

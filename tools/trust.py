@@ -2,7 +2,8 @@
 """Writes docs/TRUST.md: the contracts that carry the promise, and every definition that they stand on.
 
     python3 tools/trust.py            writes the page
-    python3 tools/trust.py --check    tells whether the page is what the sources say; exits 1 where it is not
+    python3 tools/trust.py --check    tells whether the page is what the sources say, and whether each definition stands in specs/ or in
+                                      specs/inner/ as clauses cite it; exits 1 where it is not so
     python3 tools/trust.py --unused   lists the definitions of specs/ that nothing cites which a caller can see
 
 A part of the page begins with the contracts of its list below and follows their words (`sources.py`). Where a contract is not there,
@@ -318,10 +319,15 @@ def ending(words, book):
 
 # ---- what nothing cites
 
+def cited(book):
+    """The clauses that a caller can see, and the definitions that they stand on."""
+    everything = dict.fromkeys([item for items in book.contracts.values() for item in items] + book.impls)
+    return everything, {found for item in everything if book.is_exported(item) for found in cone(item)}
+
+
 def unused(book):
     """The definitions that no clause cites which a caller can see, each with the files that cite it."""
-    everything = dict.fromkeys([item for items in book.contracts.values() for item in items] + book.impls)
-    reached = {found for item in everything if book.is_exported(item) for found in cone(item)}
+    everything, reached = cited(book)
     citing = {}
     for item in list(everything) + book.definitions:
         for found in item.cites()[0]:
@@ -329,6 +335,17 @@ def unused(book):
     left = [item for item in book.definitions if item not in reached]
     lines = [f"{item.place()}:{item.line} {item.name}: {', '.join(sorted(citing.get(item, ['cited nowhere'])))}" for item in left]
     return lines + [f"{len(left)} of {len(book.definitions)} definitions, {size(left):,} of {size(book.definitions):,} lines"]
+
+
+def misplaced(book):
+    """Definitions of specs/ that no clause cites which a caller can see, and those of specs/inner/ that one does."""
+    reached = cited(book)[1]
+    for item in book.definitions:
+        is_inner = "/specs/inner/" in str(item.path)
+        if is_inner and item in reached:
+            yield f"{item.place()}:{item.line}: a public clause stands on {item.name}, so it belongs into specs/"
+        elif not is_inner and item not in reached:
+            yield f"{item.place()}:{item.line}: no public clause stands on {item.name}, so it belongs into specs/inner/"
 
 
 def main():
@@ -339,12 +356,15 @@ def main():
     text = page(book)
     for word, where in sorted(book.unknown):
         note(f"what is {word} in {where}?")
+    wrong = list(misplaced(book))
+    for words in wrong:
+        note(words)
     if sys.argv[1:] != ["--check"]:
         PAGE.write_text(text, encoding="utf-8")
     elif not PAGE.exists() or PAGE.read_text(encoding="utf-8") != text:
         print("docs/TRUST.md is out of date: make trust writes it.")
         return 1
-    return 0
+    return int(sys.argv[1:] == ["--check"] and bool(wrong))
 
 
 if __name__ == "__main__":

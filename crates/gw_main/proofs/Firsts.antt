@@ -7,7 +7,8 @@ use Rattle.gw_main.specs.declared.fault.Key.{Key}
 use Rattle.gw_main.specs.declared.fault.Key.TheVariants as keys
 use Rattle.gw_main.specs.declared.fault.SettingsFault.{SettingsFault}
 use Rattle.gw_main.specs.declared.fault.SettingsFault.TheVariants as faults
-use Rattle.gw_main.specs.Reading.{or_else, IsBadAt, IsBadOf, IsBad, gateway_in, listen_in, link_in, journal_in, workers_in, steps_in, advertise_in, field_in, peers_in, predefined_in}
+use Rattle.gw_main.specs.Reading.{or_else, gateway_in, listen_in, link_in, journal_in, workers_in, steps_in, advertise_in, field_in, peers_in, predefined_in}
+use Rattle.gw_main.specs.inner.Reading.{IsBadAt, IsBadOf, IsBad}
 
 -- it is this one
 bad_here : {A : Type 0} (read : Option A) (key : Key) (rest : Option Key) (fault : SettingsFault) → IsBadAt read key fault → IsBadOf (or_else read key rest) fault

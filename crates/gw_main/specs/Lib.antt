@@ -4,3 +4,4 @@ pub mod Keys
 pub mod Reading
 pub mod Beginning
 pub mod Tending
+pub mod inner

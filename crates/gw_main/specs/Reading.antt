@@ -141,18 +141,3 @@ abbrev pub IsRefused : List ℕ → SettingsFault → Type 0
 IsRefused text faults.Text = parse_document text ≡ None
 IsRefused text (faults.Key key) = (members : Members) × (parse_document text ≡ Some members) × (first_bad members ≡ Some key)
 IsRefused text faults.Memory = Unit {0}
-
--- why members are refused of which this is the first bad key
-abbrev pub IsBadOf : Option Key → SettingsFault → Type 0
-IsBadOf first faults.Text = ⊥
-IsBadOf first (faults.Key key) = first ≡ Some key
-IsBadOf first faults.Memory = Unit {0}
-
-abbrev pub IsBad : Members → SettingsFault → Type 0
-IsBad members fault = IsBadOf (first_bad members) fault
-
--- why a key is
-abbrev pub IsBadAt : {A : Type 0} → Option A → Key → SettingsFault → Type 0
-IsBadAt read key faults.Text = ⊥
-IsBadAt read key (faults.Key told) = (read ≡ None) × (told ≡ key)
-IsBadAt read key faults.Memory = Unit {0}

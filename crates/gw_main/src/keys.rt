@@ -4,7 +4,8 @@ ghost use Rattle.std.specs.Prelude.{◌≡◌, ◌≤◌, IfOk, IfErr, IfSome, S
 ghost use Rattle.toml.specs.Data.{get_member};
 ghost use Rattle.toml.specs.View.{view, table_view};
 ghost use Rattle.gw_main.specs.Addresses.{address_of};
-ghost use Rattle.gw_main.specs.Reading.{within, number_in, address_in, address_item, text_in, at, IsBadAt};
+ghost use Rattle.gw_main.specs.Reading.{within, number_in, address_in, address_item, text_in, at};
+ghost use Rattle.gw_main.specs.inner.Reading.{IsBadAt};
 
 use super::addresses::address;
 use super::fault::{Key, SettingsFault};

@@ -2,7 +2,8 @@
 
 ghost use Rattle.std.specs.Prelude.{◌≡◌, ◌<◌, ◌^◌, ◌++◌, ℕ, IfOk, IfErr, IfSome, Ok, Some, None, option_map};
 ghost use Rattle.toml.specs.View.{view, items_view, table_view};
-ghost use Rattle.gw_main.specs.Reading.{each, list_in, address_item, entry_item, entry_from, name_of_text, name_in, at, predefined_in, IsBadAt};
+ghost use Rattle.gw_main.specs.Reading.{each, list_in, address_item, entry_item, entry_from, name_of_text, name_in, at, predefined_in};
+ghost use Rattle.gw_main.specs.inner.Reading.{IsBadAt};
 ghost use Rattle.gw_main.specs.declared.fault.Key.TheVariants as keys;
 
 use super::fault::{Key, SettingsFault};

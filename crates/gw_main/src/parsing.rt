@@ -2,7 +2,8 @@
 
 ghost use Rattle.std.specs.Prelude.{◌≡◌, ◌≤◌, IfOk, IfErr, Some};
 ghost use Rattle.toml.specs.View.{table_view};
-ghost use Rattle.gw_main.specs.Reading.{Says, IsBad, IsRead, IsRefused};
+ghost use Rattle.gw_main.specs.Reading.{Says, IsRead, IsRefused};
+ghost use Rattle.gw_main.specs.inner.Reading.{IsBad};
 
 use super::fault::{Key, SettingsFault};
 use super::keys::{address_at, number_at, text_at};

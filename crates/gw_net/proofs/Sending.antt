@@ -7,7 +7,8 @@ use Rattle.gw_net.specs.declared.fault.LinkOutFault.{LinkOutFault}
 use Rattle.gw_net.specs.declared.fault.LinkOutFault.TheVariants.{Write, Memory}
 use Rattle.gw_net.specs.declared.message.LinkMessage.{LinkMessage}
 use Rattle.gw_net.specs.Messages.{kind_of, body_of, spelling}
-use Rattle.gw_net.specs.Writing.{IsCutBehind, IsCutShort}
+use Rattle.gw_net.specs.Writing.{IsCutShort}
+use Rattle.gw_net.specs.inner.Writing.{IsCutBehind}
 
 pub appends-both : (a b c : Option (List ℕ)) (x y : List ℕ) → Appends a b x → Appends b c y → Appends a c (x ++ y)
 appends-both None b c x y p q = tt

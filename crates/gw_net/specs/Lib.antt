@@ -3,3 +3,4 @@ pub mod Messages
 pub mod Streams
 pub mod Pieces
 pub mod Writing
+pub mod inner

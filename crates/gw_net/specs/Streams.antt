@@ -1,5 +1,5 @@
 -- What a stream of octets says.
-use Rattle.std.specs.Prelude.{◌≡◌, ℕ, Bool, not, ◌&&◌, if◌then◌else◌, nat_le, nat_lt, List, [], ◌∷◌, ◌++◌, length, take, drop, Option, Some, None, Result, Ok, Err}
+use Rattle.std.specs.Prelude.{◌≡◌, ℕ, ◌&&◌, if◌then◌else◌, nat_le, nat_lt, List, [], ◌∷◌, ◌++◌, length, take, drop, Option, Some, None, Result, Ok, Err}
 use Rattle.std.specs.Int.{w32}
 use Rattle.std.specs.List.{flat_map, AllByRecursion}
 use Rattle.rep_ops.specs.declared.fault.OpsFault.{OpsFault}
@@ -41,17 +41,3 @@ pub record IsRead (stream : List ℕ) (messages : List LinkMessage) (fault : Opt
   pub all : AllByRecursion IsMessage messages
   pub parts : stream ≡ flat_map spelling messages ++ rest
   pub ends : Ends rest fault
-
--- ---- what a function returned, against the definitions: want of memory may stand in place of any answer
-
-abbrev pub IsFront : {X : Type 0} → (X → LinkMessage × List ℕ) → Result (Option X) LinkFault → Front → Type 0
-IsFront view (Ok None) f = f ≡ Ok None
-IsFront view (Ok (Some x)) f = f ≡ Ok (Some (view x))
-IsFront view (Err faults.Memory) f = Unit {0}
-IsFront view (Err fault) f = f ≡ Err fault
-
-abbrev pub IsBody : Result LinkMessage LinkFault → Option LinkMessage → Type 0
-IsBody (Ok m) o = o ≡ Some m
-IsBody (Err faults.Memory) o = Unit {0}
-IsBody (Err faults.Body) o = o ≡ None
-IsBody (Err fault) o = ⊥

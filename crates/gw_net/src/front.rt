@@ -6,7 +6,8 @@ ghost use Rattle.rep_ops.specs.Reading.{number_at, reading as delta_reading};
 ghost use Rattle.rep_digest.specs.Reading.{reading as digest_reading};
 ghost use Rattle.gw_net.specs.declared.message.LinkMessage.TheVariants.{Digest as OfDigest, Delta as OfDelta};
 ghost use Rattle.gw_net.specs.Messages.{hello_at, read_or_none, message_at};
-ghost use Rattle.gw_net.specs.Streams.{front as stream_front, sized_at, IsFront, IsBody};
+ghost use Rattle.gw_net.specs.Streams.{front as stream_front, sized_at};
+ghost use Rattle.gw_net.specs.inner.Streams.{IsFront, IsBody};
 
 use super::fault::LinkFault;
 use super::message::LinkMessage;

@@ -5,7 +5,8 @@ ghost use Rattle.std.specs.Io.KnownBytes.{Appends, Keeps};
 ghost use Rattle.byteorder.specs.Endian.{big_bytes};
 ghost use Rattle.rep_ops.specs.Spelling.{max_octets};
 ghost use Rattle.gw_net.specs.Messages.{kind_of, body_of, spelling, IsNumbered};
-ghost use Rattle.gw_net.specs.Writing.{IsCutShort, IsCutBehind};
+ghost use Rattle.gw_net.specs.Writing.{IsCutShort};
+ghost use Rattle.gw_net.specs.inner.Writing.{IsCutBehind};
 
 use super::fault::LinkOutFault;
 use super::message::LinkMessage;

@@ -10,7 +10,7 @@ use Rattle.jr_journal.specs.Parts.{disk_of, gateway_of}
 use Rattle.gw_node.specs.declared.refusal.Refusal.{Refusal}
 use Rattle.gw_node.specs.declared.refusal.Refusal.TheVariants as refusals
 use Rattle.gw_node.specs.Parts.{State, is_halted}
-use Rattle.gw_node.specs.Handling.{IsGivenBack}
+use Rattle.gw_node.specs.inner.Handling.{IsGivenBack}
 use Rattle.gw_node.specs.Taking.{on_disk}
 use Rattle.gw_node.specs.Opening.{MayRefuse, IsNotReopened, image_of}
 use Rattle.gw_node.proofs.Started.{may_misfit, misfit_no_disk, misfit_fault, misfit_leaves, leaves_no_more, leaves_itself}

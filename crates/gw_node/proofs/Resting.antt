@@ -16,8 +16,8 @@ use Rattle.gw_node.specs.Occasions.{Clock}
 use Rattle.gw_node.specs.Parts.{State, is_halted, IsUnchanged, IsUntouched, only_sends}
 use Rattle.gw_node.specs.Plans.{Makes}
 use Rattle.gw_node.specs.Calls.{OwnCall, IsDone}
-use Rattle.gw_node.specs.Handling.{IsIdleAt}
-use Rattle.gw_node.specs.Resting.{rests}
+use Rattle.gw_node.specs.inner.Handling.{IsIdleAt}
+use Rattle.gw_node.specs.inner.Resting.{rests}
 
 -- what is remembered of a moment holds of each before it
 pub remembered : (idle : Option ℕ) (until now : ℕ) (config : Config) (kept : List Op) (local : Local) → idle ≡ Some until → now ≤ until → rests idle config kept local ≡ true

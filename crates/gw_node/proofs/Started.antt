@@ -24,10 +24,11 @@ use Rattle.gw_node.specs.declared.refusal.Refusal.{Refusal}
 use Rattle.gw_node.specs.declared.refusal.Refusal.TheVariants as refusals
 use Rattle.gw_node.specs.declared.node.Node.{Node}
 use Rattle.gw_node.specs.Parts.{State, state_of, only_sends}
-use Rattle.gw_node.specs.Writing.{refusal_of}
+use Rattle.gw_node.specs.inner.Writing.{refusal_of}
 use Rattle.gw_node.specs.Plans.{IsMisfit}
 use Rattle.gw_node.specs.Taking.{ops_of, StandsFor, HasTaken}
-use Rattle.gw_node.specs.Opening.{IsStarted, GoesOnIn, FitInTurn, HasMisfit, DoNotFit, IsOpenFault, IsDiskFault, MayRefuse, LeavesSlots}
+use Rattle.gw_node.specs.Opening.{IsStarted, GoesOnIn, FitInTurn, HasMisfit, IsOpenFault, IsDiskFault, MayRefuse, LeavesSlots}
+use Rattle.gw_node.specs.inner.Opening.{DoNotFit}
 use Rattle.gw_node.specs.Keeping.{Keeps}
 use Rattle.gw_node.proofs.Keeping.{keeps_more}
 use Rattle.gw_node.proofs.Between.{ops_of_more}

@@ -4,11 +4,10 @@ pub mod Writing
 pub mod Excuses
 pub mod Plans
 pub mod Calls
-pub mod Handling
 pub mod Keeping
 pub mod Taking
 pub mod Carrying
 pub mod Opening
 pub mod Failures
 pub mod Arranging
-pub mod Resting
+pub mod inner

@@ -40,17 +40,6 @@ pub record HasMisfit (deltas : List (List Op)) (refusal : Refusal) : Type 0 wher
   pub keeps : Keeps (ops_of (take before deltas)) kept
   pub misfit : IsMisfit kept delta refusal
 
--- why deltas are not taken, one after the other
-abbrev pub DoNotFit : List (List Op) → Refusal → Type 0
-DoNotFit deltas (refusals.Conflict client) = HasMisfit deltas (refusals.Conflict client)
-DoNotFit deltas refusals.Full = HasMisfit deltas refusals.Full
-DoNotFit deltas refusals.Memory = Unit {0}
-DoNotFit deltas (refusals.Frame fault) = ⊥
-DoNotFit deltas refusals.Halted = ⊥
-DoNotFit deltas (refusals.Disk excuse) = ⊥
-DoNotFit deltas refusals.Exhausted = ⊥
-DoNotFit deltas (refusals.Journal fault) = ⊥
-
 -- Why an image is not opened: the journal's fault; or a record that does not fit to those before it. A disk that failed, and want of
 -- memory, say nothing of the image.
 abbrev pub IsOpenFault : ℕ → Image → Refusal → Type 0

@@ -1,18 +1,13 @@
 -- What became of a journal that had a delta to write.
-use Rattle.std.specs.Prelude.{◌≡◌, ◌≢◌, ◌≤◌, ◌<◌, ◌+◌, true, false, List, [], ◌∷◌, ◌++◌, Option, Some, None, Result, Ok, Err}
+use Rattle.std.specs.Prelude.{◌≡◌, ◌≢◌, ◌≤◌, ◌<◌, ◌+◌, true, false, List, [], ◌∷◌, ◌++◌, None, Ok, Err}
 use Rattle.rep_ops.specs.declared.op.Op.{Op}
 use Rattle.jr_journal.specs.declared.disk.Disk.{Ghosts}
-use Rattle.jr_journal.specs.declared.fault.JournalFault.{JournalFault}
 use Rattle.jr_journal.specs.declared.fault.JournalFault.TheVariants as faults
 use Rattle.jr_journal.specs.declared.journal.Journal.{Journal}
 use Rattle.jr_journal.specs.Disk.{at, image}
 use Rattle.jr_journal.specs.Records.{written, base_bytes, slot_content, generation_in, records}
 use Rattle.jr_journal.specs.Journals.{other, Leaves, LeavesOneMore, LeavesEither, after_append, AppendedAs, emptied, last_generation}
 use Rattle.jr_journal.specs.Parts.{disk_of, gateway_of, slot_of, generation_of, is_halted}
-use Rattle.gw_node.specs.declared.out.Out.{Out}
-use Rattle.gw_node.specs.declared.refusal.Refusal.{Refusal}
-use Rattle.gw_node.specs.declared.refusal.Refusal.TheVariants as refusals
-use Rattle.gw_node.specs.Parts.{IsUntouched}
 
 -- The delta is the last record: synced, so that every crash leaves it.
 pub record IsWritten {D : Type 0} {G : Ghosts D} (old : Journal D G) (delta : List Op) (new : Journal D G) : Type 0 where
@@ -40,26 +35,6 @@ pub record IsFailed {D : Type 0} {G : Ghosts D} (old : Journal D G) (delta : Lis
   pub torn : G.honest → LeavesOneMore (gateway_of old) (G.slots (disk_of new)) (records (gateway_of old) (image (G.slots (disk_of old)))) delta
   -- where it is known which failure is arranged, it is this one
   pub known : G.honest → G.starved (disk_of new) ≡ false → AppendedAs (G.outlook (disk_of old)) (G.slots (disk_of old)) (slot_of old) (written delta) (Err faults.Disk) (G.slots (disk_of new)) (G.outlook (disk_of new))
-
-abbrev pub WrittenAs : {D : Type 0} {G : Ghosts D} → Journal D G → List Op → Result (Unit {0}) JournalFault → Journal D G → Type 0
-WrittenAs old delta (Ok done) new = IsWritten old delta new
-WrittenAs old delta (Err faults.Disk) new = IsFailed old delta new
-WrittenAs old delta (Err faults.Halted) new = (is_halted old ≡ true) × IsUntouched old new
-WrittenAs old delta (Err faults.Memory) new = IsUntouched old new
-WrittenAs old delta (Err faults.Foreign) new = ⊥
-WrittenAs old delta (Err (faults.BadRecord slot at)) new = ⊥
-
--- a delta is written where there is one
-abbrev pub WrittenIfMade : {D : Type 0} {G : Ghosts D} → Journal D G → Option (List Op) → Result (Unit {0}) JournalFault → Journal D G → Type 0
-WrittenIfMade old None (Ok done) new = IsUntouched old new
-WrittenIfMade old None (Err fault) new = ⊥
-WrittenIfMade old (Some delta) result new = WrittenAs old delta result new
-
--- where it has operations
-abbrev pub WrittenIfAny : {D : Type 0} {G : Ghosts D} → Journal D G → List Op → Result (Unit {0}) JournalFault → Journal D G → Type 0
-WrittenIfAny old [] (Ok done) new = IsUntouched old new
-WrittenIfAny old [] (Err fault) new = ⊥
-WrittenIfAny old (op ∷ ops) result new = WrittenAs old (op ∷ ops) result new
 
 -- ---- a compaction
 
@@ -98,22 +73,3 @@ pub record IsNotRewritten {D : Type 0} {G : Ghosts D} (old : Journal D G) (base 
   pub torn : G.honest → LeavesEither (gateway_of old) (G.slots (disk_of new)) (records (gateway_of old) (image (G.slots (disk_of old)))) base
   -- where it is known which failure is arranged, it is this one
   pub known : G.honest → G.starved (disk_of new) ≡ false → AppendedAs (G.outlook (disk_of old)) (emptied (G.slots (disk_of old)) (other (slot_of old))) (other (slot_of old)) (base_bytes (gateway_of old) (generation_of old + 1) base) (Err faults.Disk) (G.slots (disk_of new)) (G.outlook (disk_of new))
-
--- what became of a journal that was to be written anew
-abbrev pub RewrittenAs : {D : Type 0} {G : Ghosts D} → Journal D G → List (List Op) → Result (Unit {0}) JournalFault → Journal D G → Type 0
-RewrittenAs old base (Ok done) new = IsRewritten old base new
-RewrittenAs old base (Err faults.Disk) new = IsNotRewritten old base new
-RewrittenAs old base (Err faults.Halted) new = (is_halted old ≡ true) × IsUntouched old new
-RewrittenAs old base (Err faults.Foreign) new = (is_halted old ≡ false) × (generation_of old ≡ last_generation) × IsNumbered old × IsUntouched old new
-RewrittenAs old base (Err faults.Memory) new = IsUntouched old new
-RewrittenAs old base (Err (faults.BadRecord slot at)) new = ⊥
-
--- ---- refusals
-
--- a refusal of the journal, with what is answered
-abbrev pub refusal_of : JournalFault → Out → Refusal
-refusal_of faults.Disk excuse = refusals.Disk excuse
-refusal_of faults.Halted excuse = refusals.Halted
-refusal_of faults.Memory excuse = refusals.Memory
-refusal_of faults.Foreign excuse = refusals.Journal faults.Foreign
-refusal_of (faults.BadRecord slot at) excuse = refusals.Journal (faults.BadRecord slot at)

@@ -3,10 +3,10 @@
 ghost use Rattle.std.specs.Prelude.{◌≡◌, ◌↔◌, [], IsTrue, IfOk, IfErr};
 ghost use Rattle.rep_model.specs.Held.{IsHeld};
 ghost use Rattle.gw_node.specs.Parts.{state_of};
-ghost use Rattle.gw_node.specs.Writing.{RewrittenAs};
+ghost use Rattle.gw_node.specs.inner.Writing.{RewrittenAs};
 ghost use Rattle.gw_node.specs.Calls.{CompactCall};
 ghost use Rattle.gw_node.specs.Opening.{ReopenCall};
-ghost use Rattle.gw_node.specs.Handling.{RefilledAs};
+ghost use Rattle.gw_node.specs.inner.Handling.{RefilledAs};
 ghost use Rattle.gw_node.specs.declared.refusal.Refusal.TheVariants as refusals;
 
 use super::carrying::refused;

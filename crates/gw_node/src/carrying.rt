@@ -9,9 +9,9 @@ ghost use Rattle.rep_model.specs.Taking.{Fits};
 ghost use Rattle.rep_model.specs.Keep.{IsKeptOf};
 ghost use Rattle.gw_node.specs.Parts.{state_of, IsUnchanged, only_sends};
 ghost use Rattle.gw_node.specs.Plans.{IsMisfit};
-ghost use Rattle.gw_node.specs.Writing.{WrittenAs, WrittenIfMade, WrittenIfAny, refusal_of};
+ghost use Rattle.gw_node.specs.inner.Writing.{WrittenAs, WrittenIfMade, WrittenIfAny, refusal_of};
 ghost use Rattle.gw_node.specs.Calls.{TakeCall, IsDone};
-ghost use Rattle.gw_node.specs.Handling.{HaveNoDelta, CarriedOut};
+ghost use Rattle.gw_node.specs.inner.Handling.{HaveNoDelta, CarriedOut};
 ghost use Rattle.gw_node.specs.declared.refusal.Refusal.TheVariants as refusals;
 
 use super::node::Node;

@@ -1,7 +1,7 @@
 //! One gateway.
 
 ghost use Rattle.std.specs.Prelude.{◌≡◌, true};
-ghost use Rattle.gw_node.specs.Resting.{rests};
+ghost use Rattle.gw_node.specs.inner.Resting.{rests};
 
 use super::anew::{handle_compact, handle_reopen};
 use super::carrying::take_in;

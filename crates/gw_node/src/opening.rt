@@ -5,10 +5,11 @@ ghost use Rattle.std.specs.Arc.{arc_value};
 ghost use Rattle.jr_journal.specs.Parts.{disk_of as disk_under};
 ghost use Rattle.sn_flow.specs.Locals.{no_local};
 ghost use Rattle.gw_node.specs.Parts.{told, state_of, records_of, only_sends};
-ghost use Rattle.gw_node.specs.Writing.{refusal_of};
+ghost use Rattle.gw_node.specs.inner.Writing.{refusal_of};
 ghost use Rattle.gw_node.specs.Keeping.{Keeps};
 ghost use Rattle.gw_node.specs.Taking.{ops_of};
-ghost use Rattle.gw_node.specs.Opening.{FitInTurn, DoNotFit};
+ghost use Rattle.gw_node.specs.Opening.{FitInTurn};
+ghost use Rattle.gw_node.specs.inner.Opening.{DoNotFit};
 
 use super::carrying::prepare;
 use super::fault::NodeFault;

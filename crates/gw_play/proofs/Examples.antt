@@ -11,7 +11,8 @@ use Rattle.sn_frame.specs.declared.fault.FrameFault.TheVariants as frame_faults
 use Rattle.gw_play.specs.Commands.{fields_of}
 use Rattle.gw_play.specs.Numbers.{value_of}
 use Rattle.gw_play.specs.Texts.{line_end}
-use Rattle.gw_play.specs.Printing.{send_line, refusal_text, said_text, put_line, client_text, answers_text, world_fault_line, bad_line_text}
+use Rattle.gw_play.specs.Printing.{send_line, refusal_text, said_text, put_line, client_text, answers_text}
+use Rattle.gw_play.specs.inner.Printing.{world_fault_line, bad_line_text}
 
 -- a field of leading zeros
 zeros : value_of (codes "0040") ≡ 40

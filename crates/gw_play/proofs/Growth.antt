@@ -8,7 +8,8 @@ use Rattle.gw_play.specs.declared.command.Command.{Command}
 use Rattle.gw_play.specs.declared.fault.LineFault.{LineFault}
 use Rattle.gw_play.specs.declared.fault.LineFault.TheVariants as faults
 use Rattle.gw_play.specs.declared.script.Script.{Script}
-use Rattle.gw_play.specs.Commands.{Spells, Reads}
+use Rattle.gw_play.specs.Commands.{Spells}
+use Rattle.gw_play.specs.inner.Commands.{Reads}
 use Rattle.std.proofs.Common.{rules}
 use Rattle.std.proofs.lemmas.Bool.{eq-eqb, eqb-true}
 use Rattle.std.proofs.lemmas.List.Elements.{All-nil, All-push}
@@ -16,7 +17,8 @@ use Rattle.std.proofs.lemmas.List.Folds.{list_any_at}
 use Rattle.std.proofs.lemmas.List.Quantifiers.{all_pairs_push}
 use Rattle.sn_flow.specs.declared.config.Config.{Config}
 use Rattle.gw_play.specs.declared.command.Command.TheVariants as commands
-use Rattle.gw_play.specs.Scripts.{AreGateways, Adds, config_of, has_gateway, Extends, IsScriptOf, IsBadLine}
+use Rattle.gw_play.specs.Scripts.{Adds, config_of, has_gateway, Extends, IsScriptOf}
+use Rattle.gw_play.specs.inner.Scripts.{AreGateways, IsBadLine}
 use Rattle.gw_play.specs.Scripts.IsScriptOf.{none, more}
 
 -- the octets of lines

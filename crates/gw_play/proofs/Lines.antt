@@ -10,7 +10,8 @@ use Rattle.gw_play.specs.declared.fault.LineFault.{LineFault}
 use Rattle.gw_play.specs.declared.fault.LineFault.TheVariants as faults
 use Rattle.gw_world.specs.declared.event.Event.TheVariants as events
 use Rattle.gw_play.specs.declared.command.Command.TheVariants as commands
-use Rattle.gw_play.specs.Commands.{fields_of, text_of, IsAddress, IsFailure, IsSpared, Says, Spells, Reads}
+use Rattle.gw_play.specs.Commands.{fields_of, text_of, IsAddress, IsFailure, IsSpared, Says, Spells}
+use Rattle.gw_play.specs.inner.Commands.{Reads}
 use Rattle.gw_play.specs.Numbers.{IsNumber, value_of}
 use Rattle.gw_play.specs.Octets.{IsHex}
 use Rattle.sn_topic.specs.Topics.{IsName}

@@ -1,5 +1,5 @@
 -- The lines of a script.
-use Rattle.std.specs.Prelude.{◌≡◌, Bool, true, false, ℕ, ◌-◌, ◌^◌, ◌==◌, ◌⊎◌, List, [], ◌∷◌, codes, Result, Ok, Err}
+use Rattle.std.specs.Prelude.{◌≡◌, Bool, true, false, ℕ, ◌-◌, ◌^◌, ◌==◌, ◌⊎◌, List, [], ◌∷◌, codes}
 use Rattle.std.specs.List.{slice_split}
 use Rattle.sn_flow.specs.declared.config.Addr.{Addr}
 use Rattle.gw_world.specs.declared.event.Event.TheVariants as events
@@ -7,8 +7,6 @@ use Rattle.gw_play.specs.declared.command.Command.{Command}
 use Rattle.gw_play.specs.declared.command.Command.TheVariants as commands
 use Rattle.gw_play.specs.declared.command.Word.{Word}
 use Rattle.gw_play.specs.declared.command.Word.TheVariants as words
-use Rattle.gw_play.specs.declared.fault.LineFault.{LineFault}
-use Rattle.gw_play.specs.declared.fault.LineFault.TheVariants as faults
 use Rattle.gw_play.specs.Numbers.{IsNumber}
 use Rattle.sn_topic.specs.Topics.{IsName}
 use Rattle.gw_play.specs.Octets.{IsHex}
@@ -67,9 +65,3 @@ Says word fields command = ⊥
 abbrev pub Spells : List ℕ → Command → Type 0
 Spells line command =
     (word : Word) × (fields : List (List ℕ)) × (fields_of line ≡ text_of word ∷ fields) × Says word fields command
-
--- The answer of a reader: a command for which the fact holds. Where it is refused there is none.
-abbrev pub Reads : (Command → Type 0) → Result Command LineFault → Type 0
-Reads IsSaid (Ok command) = IsSaid command
-Reads IsSaid (Err faults.NotACommand) = (command : Command) → IsSaid command → ⊥
-Reads IsSaid (Err faults.Memory) = Unit {0}

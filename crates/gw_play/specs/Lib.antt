@@ -6,3 +6,4 @@ pub mod Scripts
 pub mod Playing
 pub mod Sessions
 pub mod Texts
+pub mod inner

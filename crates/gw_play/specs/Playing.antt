@@ -1,13 +1,10 @@
 -- What is printed for a script, and the exit status.
-use Rattle.std.specs.Prelude.{◌≡◌, ◌⊎◌, ℕ, List}
+use Rattle.std.specs.Prelude.{ℕ, List}
 use Rattle.gw_world.specs.declared.event.Answer.{Answer}
-use Rattle.gw_world.specs.declared.world.WorldFault.{WorldFault}
 use Rattle.gw_world.specs.Field.{Field, Run, new_field}
-use Rattle.gw_world.specs.Worlds.{IsStop}
 use Rattle.gw_play.specs.declared.script.Script.{Script}
 use Rattle.gw_play.specs.Commands.{lines_of}
-use Rattle.gw_play.specs.Scripts.{IsScriptOf, IsBadLine}
-use Rattle.gw_play.specs.Printing.{answers_text, bad_line_text, world_fault_line}
+use Rattle.gw_play.specs.Scripts.{IsScriptOf}
 
 -- the text is a script, and its events lead its gateways, from their start, to these answers
 pub record IsAnswered (text : List ℕ) (answers : List Answer) : Type 0 where
@@ -15,16 +12,3 @@ pub record IsAnswered (text : List ℕ) (answers : List Answer) : Type 0 where
   pub said : IsScriptOf (lines_of text) script
   pub field : Field
   pub ran : Run (new_field script.configs) script.events answers field
-
--- the text is no script, for a line of it; or it is one, and an event of it stops the run
-abbrev pub IsRefused : List ℕ → List ℕ → Type 0
-IsRefused text printed =
-    ((number : ℕ) × IsBadLine (lines_of text) number × (printed ≡ bad_line_text number))
-    ⊎ ((script : Script) × (fault : WorldFault) × IsScriptOf (lines_of text) script
-    × IsStop script.configs script.events fault × (printed ≡ world_fault_line fault))
-
--- what is printed for a text, with its status: the answers with 0, or why there are none with 1
-abbrev pub IsOutcome : List ℕ → List ℕ → ℕ → Type 0
-IsOutcome text printed status =
-    ((status ≡ 0) × ((answers : List Answer) × IsAnswered text answers × (printed ≡ answers_text 0 answers)))
-    ⊎ ((status ≡ 1) × IsRefused text printed)

@@ -1,5 +1,5 @@
 -- What answers are printed as. Each line ends with a line feed.
-use Rattle.std.specs.Prelude.{ℕ, ◌+◌, ◌∷◌, ◌++◌, List, [], Option, Some, None, Result, Ok, Err, Bool, true, false, codes, flat_map, length}
+use Rattle.std.specs.Prelude.{ℕ, ◌+◌, ◌∷◌, ◌++◌, List, [], Option, Some, Result, Ok, Err, Bool, true, false, codes, flat_map, length}
 use Rattle.std.specs.Option.{option_to_list}
 use Rattle.std.specs.Fmt.{decimal}
 use Rattle.sn_frame.specs.Faults.{fault_number}
@@ -17,8 +17,6 @@ use Rattle.gw_node.specs.declared.out.Out.{Out}
 use Rattle.gw_node.specs.declared.refusal.Refusal.{Refusal}
 use Rattle.gw_node.specs.declared.refusal.Refusal.TheVariants as refusals
 use Rattle.gw_node.specs.Parts.{said}
-use Rattle.gw_world.specs.declared.world.WorldFault.{WorldFault}
-use Rattle.gw_world.specs.declared.world.WorldFault.TheVariants as world_faults
 use Rattle.gw_play.specs.Texts.{◌▹◌, hex_text, line_end}
 use Rattle.gw_play.specs.Sessions.{tables_text}
 
@@ -141,13 +139,3 @@ deltas_after before answers.Nothing = before
 abbrev pub answers_text : ℕ → List Answer → List ℕ
 answers_text before [] = []
 answers_text before (answer ∷ rest) = answer_text before answer ▹ answers_text (deltas_after before answer) rest
-
--- why a run has no result
-abbrev pub world_fault_line : WorldFault → List ℕ
-world_fault_line (world_faults.NoGateway event) = codes "event " ▹ decimal event ▹ codes ": E1" ▹ line_end
-world_fault_line (world_faults.NoDelta event) = codes "event " ▹ decimal event ▹ codes ": E2" ▹ line_end
-world_fault_line world_faults.Memory = codes "E3" ▹ line_end
-
--- a script whose line of this number is bad
-abbrev pub bad_line_text : ℕ → List ℕ
-bad_line_text number = codes "line " ▹ decimal number ▹ codes ": not a command" ▹ line_end

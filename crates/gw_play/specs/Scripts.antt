@@ -1,5 +1,5 @@
 -- A script: gateways, and then events.
-use Rattle.std.specs.Prelude.{◌≡◌, ◌≢◌, ◌==◌, ℕ, ◌-◌, ◌<◌, ◌⊎◌, Bool, false, List, [], ◌∷◌, ◌++◌, take, position, slice_get, slice_set, Some, All, AllPairs, IsTrue}
+use Rattle.std.specs.Prelude.{◌≡◌, ◌≢◌, ◌==◌, ℕ, ◌-◌, ◌⊎◌, Bool, false, List, [], ◌∷◌, ◌++◌, position, slice_get, slice_set, Some, IsTrue}
 use Rattle.std.specs.List.{list_any}
 use Rattle.sn_topic.specs.Table.{is_table}
 use Rattle.sn_flow.specs.declared.config.Config.{Config}
@@ -15,11 +15,6 @@ config_of number = record { gateway = number; advertise = 0; field = []; predefi
 -- whether a gateway has the number
 abbrev pub has_gateway : List Config → ℕ → Bool
 has_gateway configs number = list_any (λ config. config.gateway == number) configs
-
--- gateways as a field may have them: each has a number that is not 0, and no two have the same
-pub record AreGateways (configs : List Config) : Type 0 where
-  pub some : All (λ config. config.gateway ≢ 0) configs
-  pub different : AllPairs (λ a b. a.gateway ≢ b.gateway) configs
 
 -- the script that says nothing
 abbrev pub empty_script : Script
@@ -49,13 +44,3 @@ pub data IsScriptOf : List (List ℕ) → Script → Type 0 where
   none : IsScriptOf [] empty_script
   more : (lines : List (List ℕ)) (line : List ℕ) (before after : Script) → IsScriptOf lines before → Extends before line after
       → IsScriptOf (lines ++ line ∷ []) after
-
--- The line of this number, from 1, is the first that cannot stand where it stands: the lines before it
--- make up a script, and no script has it next.
-pub record IsBadLine (lines : List (List ℕ)) (number : ℕ) : Type 0 where
-  pub before : Script
-  pub line : List ℕ
-  pub counted : 0 < number
-  pub there : slice_get lines (number - 1) ≡ Some line
-  pub read : IsScriptOf (take (number - 1) lines) before
-  pub refused : (after : Script) → Extends before line after → ⊥

@@ -3,7 +3,8 @@
 ghost use Rattle.std.specs.Prelude.{◌≡◌, ◌≢◌, ◌==◌, ◌⊎◌, ℕ, Bool, Err, IfOk, MatchOption, map};
 ghost use Rattle.std.specs.List.{slice_split};
 ghost use Rattle.gw_play.specs.declared.command.Word.TheVariants as words;
-ghost use Rattle.gw_play.specs.Commands.{IsFailure, IsSpared, Reads, Says, Spells};
+ghost use Rattle.gw_play.specs.Commands.{IsFailure, IsSpared, Says, Spells};
+ghost use Rattle.gw_play.specs.inner.Commands.{Reads};
 ghost use Rattle.sn_topic.specs.Topics.{IsName};
 
 use super::bytes::bytes;

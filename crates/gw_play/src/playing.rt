@@ -3,7 +3,8 @@
 ghost use Rattle.std.specs.Prelude.{◌≡◌, ◌+◌, ◌≤◌, ◌^◌, IfOk, OnOk, IfSome, List, ◌⊎◌, string_bytes};
 ghost use Rattle.std.specs.Io.KnownBytes.{IsAtEnd, Appends};
 ghost use Rattle.gw_world.specs.declared.event.Answer.{Answer};
-ghost use Rattle.gw_play.specs.Playing.{IsAnswered, IsOutcome};
+ghost use Rattle.gw_play.specs.Playing.{IsAnswered};
+ghost use Rattle.gw_play.specs.inner.Playing.{IsOutcome};
 ghost use Rattle.gw_play.specs.Printing.{answers_text};
 
 use super::fault::ScriptFault;

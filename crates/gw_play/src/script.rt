@@ -3,7 +3,8 @@
 ghost use Rattle.std.specs.Prelude.{◌≡◌, ◌∷◌, ◌++◌, ◌==◌, [], ℕ, Err, IfOk, IfErr, IsTrue, IsFalse, IfSome, length, ◌<◌, position};
 ghost use Rattle.sn_topic.specs.Table.{is_table};
 ghost use Rattle.gw_play.specs.Commands.{lines_of};
-ghost use Rattle.gw_play.specs.Scripts.{AreGateways, IsScriptOf, IsBadLine};
+ghost use Rattle.gw_play.specs.Scripts.{IsScriptOf};
+ghost use Rattle.gw_play.specs.inner.Scripts.{AreGateways, IsBadLine};
 
 use super::command::{Command, cut, read_command};
 use super::fault::{LineFault, ScriptFault};

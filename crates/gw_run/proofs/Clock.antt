@@ -16,7 +16,8 @@ use Rattle.gw_shift.specs.Calling.{Made, NotMade}
 use Rattle.gw_shift.specs.declared.fault.CallFault.{CallFault}
 use Rattle.gw_shift.specs.declared.fault.CallFault.TheVariants as faults
 use Rattle.gw_run.specs.Adding.{AddsEach}
-use Rattle.gw_run.specs.Clock.{reached_by, CannotCall, says_halted, IsLiveTick, FindsHalted, OpensAs, EndsAs, AddsOfClock}
+use Rattle.gw_run.specs.Clock.{CannotCall, says_halted, IsLiveTick, FindsHalted, OpensAs, EndsAs, AddsOfClock}
+use Rattle.gw_run.specs.inner.Clock.{reached_by}
 use Rattle.gw_run.specs.declared.calling.End.{End}
 use Rattle.gw_run.specs.declared.calling.End.TheVariants as ends
 use Rattle.gw_run.proofs.Adding.{each_none, each_one, each_more}

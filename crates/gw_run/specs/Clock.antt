@@ -2,23 +2,13 @@
 use Rattle.std.specs.Prelude.{◌≡◌, ◌⊎◌, ℕ, Bool, true, false, Option, Some, None, Result, Ok, Err}
 use Rattle.gw_node.specs.declared.step.Step.TheVariants as steps
 use Rattle.gw_node.specs.declared.out.Out.{Out}
-use Rattle.gw_node.specs.declared.fault.NodeFault.{NodeFault}
 use Rattle.gw_node.specs.declared.refusal.Refusal.{Refusal}
 use Rattle.gw_node.specs.declared.refusal.Refusal.TheVariants as refusals
 use Rattle.gw_shift.specs.Calls.{Held, Holder}
 use Rattle.gw_shift.specs.Calling.{Made}
-use Rattle.gw_shift.specs.declared.fault.CallFault.{CallFault}
-use Rattle.gw_shift.specs.declared.fault.CallFault.TheVariants as faults
 use Rattle.gw_run.specs.Adding.{AddsEach, is_tick}
 use Rattle.gw_run.specs.declared.calling.End.{End}
 use Rattle.gw_run.specs.declared.calling.End.TheVariants as ends
-
--- what a refused call means: the gateway's refusal, or why the call did not reach it
-abbrev pub reached_by : CallFault → Result NodeFault End
-reached_by faults.ShiftFull = Err ends.Full
-reached_by (faults.Behind held) = Err ends.Behind
-reached_by faults.Memory = Err ends.Memory
-reached_by (faults.Node number fault) = Ok fault
 
 -- why a call may not reach the gateway
 abbrev pub CannotCall : End → Type 0

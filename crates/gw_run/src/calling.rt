@@ -6,7 +6,8 @@ ghost use Rattle.gw_node.specs.Parts.{said, told};
 ghost use Rattle.gw_node.specs.declared.step.Step.{Step as AnyStep};
 ghost use Rattle.gw_shift.specs.Calling.{Made};
 ghost use Rattle.gw_run.specs.Adding.{Adds};
-ghost use Rattle.gw_run.specs.Clock.{says_halted, reached_by, CannotCall};
+ghost use Rattle.gw_run.specs.Clock.{says_halted, CannotCall};
+ghost use Rattle.gw_run.specs.inner.Clock.{reached_by};
 ghost use Rattle.gw_run.specs.declared.calling.End.TheVariants as ends;
 
 use crate::stage::Stage;

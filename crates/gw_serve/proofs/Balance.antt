@@ -7,7 +7,7 @@ use Rattle.atomic_table.proofs.Lists.{at_set, at_snoc}
 use Rattle.gw_serve.specs.declared.queue.Hand.{Hand}
 use Rattle.gw_serve.specs.declared.queue.Datagram.{Datagram}
 use Rattle.gw_serve.specs.Count.{weigh}
-use Rattle.gw_serve.specs.Queue.{hand, total, numbers, IdleIsEmpty, whole, Balanced}
+use Rattle.gw_serve.specs.inner.Queue.{hand, total, numbers, IdleIsEmpty, whole, Balanced}
 
 pub weigh-append : (h : ℕ → ℕ) (xs ys : List ℕ) → weigh h (xs ++ ys) ≡ weigh h xs + weigh h ys
 weigh-append h [] ys = omega arith

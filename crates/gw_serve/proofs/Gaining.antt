@@ -24,10 +24,10 @@ use Rattle.crossbeam_channel.specs.declared.flavors.array.Key.{Key}
 use Rattle.crossbeam_channel.specs.declared.flavors.array.Doing.{Doing}
 use Rattle.crossbeam_channel.specs.Claims.{view, IsSeatAt}
 use Rattle.gw_serve.specs.Count.{weigh}
-use Rattle.gw_serve.specs.Queue.{hand}
+use Rattle.gw_serve.specs.inner.Queue.{hand}
 use Rattle.gw_serve.specs.Serving.{is_frame, with_calls, Gains}
-use Rattle.gw_serve.specs.Handling.{IsHandled, IsRefused}
-use Rattle.gw_serve.specs.Work.{IsWorking, IsWorked}
+use Rattle.gw_serve.specs.inner.Handling.{IsHandled, IsRefused}
+use Rattle.gw_serve.specs.inner.Work.{IsWorked, IsWorking}
 use Rattle.gw_serve.proofs.Balance.{weigh-append}
 
 -- no calls behind what it held

@@ -13,9 +13,9 @@ use Rattle.gw_serve.specs.declared.queue.Hand.{Hand}
 use Rattle.gw_serve.specs.declared.worker.Seat.{Seat}
 use Rattle.gw_serve.specs.declared.worker.Taken.{Taken}
 use Rattle.gw_serve.specs.Count.{weigh, one_to}
-use Rattle.gw_serve.specs.Queue.{hand}
+use Rattle.gw_serve.specs.inner.Queue.{hand}
 use Rattle.gw_serve.specs.Serving.{Gains, EachGains}
-use Rattle.gw_serve.specs.Work.{IsWorking, IsWorked, IsGathered, IsFresh, IsFreshSlot, IsDone, IsWorkedSlot, WorkedFrom, DoneFrom, pass_of}
+use Rattle.gw_serve.specs.inner.Work.{IsWorked, IsFresh, IsFreshSlot, IsDone, IsWorkedSlot, WorkedFrom, DoneFrom, IsWorking, IsGathered, pass_of}
 use Rattle.gw_serve.proofs.Balance.{weigh-append}
 use Rattle.gw_serve.proofs.Gaining.{gains_none}
 

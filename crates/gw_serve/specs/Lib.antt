@@ -1,5 +1,3 @@
 pub mod Count
-pub mod Queue
 pub mod Serving
-pub mod Handling
-pub mod Work
+pub mod inner

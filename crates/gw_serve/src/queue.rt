@@ -2,7 +2,7 @@
 
 ghost use Rattle.std.specs.Prelude.{◌≡◌, ◌^◌, ◌-◌, ◌+◌, [], ◌∷◌, ◌++◌, length};
 ghost use Rattle.gw_serve.specs.Count.{weigh};
-ghost use Rattle.gw_serve.specs.Queue.{hand, numbers, whole, Balanced};
+ghost use Rattle.gw_serve.specs.inner.Queue.{hand, numbers, whole, Balanced};
 
 use crossbeam_channel::protocol::{Join, Lesson, Outcome, Protocol, Split};
 use crossbeam_channel::{Pass, RuledReceiver, RuledSender};
@@ -37,7 +37,7 @@ pub struct Fair;
 
 impl Protocol<Datagram, Hand> for Fair {
     ghost use Rattle.std.specs.Prelude.{[]};
-    ghost use Rattle.gw_serve.specs.Queue.{hand, whole, Balanced};
+    ghost use Rattle.gw_serve.specs.inner.Queue.{hand, whole, Balanced};
 
     ghost holds = { Balanced };
 
@@ -49,7 +49,7 @@ pub struct Cut;
 
 impl Split<Hand> for Cut {
     ghost use Rattle.std.specs.Prelude.{◌-◌, []};
-    ghost use Rattle.gw_serve.specs.Queue.{hand};
+    ghost use Rattle.gw_serve.specs.inner.Queue.{hand};
 
     ghost left = { λ v. hand (v.parts - 1) v.sent v.taken };
 
@@ -58,7 +58,7 @@ impl Split<Hand> for Cut {
 
 impl Join<Hand> for Cut {
     ghost use Rattle.std.specs.Prelude.{◌+◌, ◌++◌, []};
-    ghost use Rattle.gw_serve.specs.Queue.{hand};
+    ghost use Rattle.gw_serve.specs.inner.Queue.{hand};
 
     ghost both = { λ v w. hand (v.parts + w.parts) (v.sent ++ w.sent) (v.taken ++ w.taken) };
 
@@ -101,7 +101,7 @@ impl Outcome<Datagram, Hand> for Drains {
 impl Lesson<Datagram, Hand> for Drains {
     ghost use Rattle.std.specs.Prelude.{◌≡◌, ◌+◌, ℕ};
     ghost use Rattle.gw_serve.specs.Count.{weigh};
-    ghost use Rattle.gw_serve.specs.Queue.{numbers};
+    ghost use Rattle.gw_serve.specs.inner.Queue.{numbers};
 
     ghost fact = { λ v items. (h : ℕ → ℕ) → weigh h v.sent ≡ weigh h v.taken + weigh h (numbers items) };
 }

@@ -4,9 +4,9 @@ ghost use Rattle.std.specs.Prelude.{◌≡◌, ◌≤◌, ◌<◌, ◌+◌, ◌-
 ghost use Rattle.crossbeam_channel.specs.Claims.{view, IsSeatAt};
 ghost use Rattle.crossbeam_channel.specs.Ends.{sends_on, receives_on};
 ghost use Rattle.gw_serve.specs.Count.{weigh, times, one_to};
-ghost use Rattle.gw_serve.specs.Queue.{hand, whole};
+ghost use Rattle.gw_serve.specs.inner.Queue.{hand, whole};
 ghost use Rattle.gw_serve.specs.Serving.{EachGains};
-ghost use Rattle.gw_serve.specs.Work.{IsFreshSlot, IsDone, IsWorked, IsWorkedSlot, WorkedFrom, DoneFrom, IsGathered, pass_of};
+ghost use Rattle.gw_serve.specs.inner.Work.{IsFreshSlot, IsDone, IsWorked, IsWorkedSlot, WorkedFrom, DoneFrom, IsGathered, pass_of};
 ghost use Rattle.gw_shift.specs.Calls.{Holder};
 ghost use Rattle.gw_serve.specs.declared.worker.Cause.TheVariants as causes;
 

@@ -2,8 +2,8 @@
 
 ghost use Rattle.std.specs.Prelude.{◌≡◌, ◌<◌, ℕ, true, vec_len, vec_capacity, Some, None, List, [], ◌∷◌, ◌++◌, map};
 ghost use Rattle.crossbeam_channel.specs.Ends.{receives_on};
-ghost use Rattle.gw_serve.specs.Handling.{IsHandled, IsRefused};
-ghost use Rattle.gw_serve.specs.Work.{IsFresh, IsWorked};
+ghost use Rattle.gw_serve.specs.inner.Handling.{IsHandled, IsRefused};
+ghost use Rattle.gw_serve.specs.inner.Work.{IsFresh, IsWorked};
 
 use crate::bell::Bell;
 use crate::queue::{Datagram, Receiver, Takes, Ticket};

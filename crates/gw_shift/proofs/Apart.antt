@@ -2,7 +2,8 @@
 use Rattle.std.proofs.Common.{◌≡◌, ◌≢◌, ◌-◌, ◌==◌, ℕ, false, List, [], ◌∷◌, Option, Some, None, slice_get, refl, sym, ◌∙◌, ap}
 use Rattle.std.proofs.lemmas.Bool.{ne_eqb, or_from}
 use Rattle.gw_shift.specs.Calls.{Call, Held, Holder}
-use Rattle.gw_shift.specs.Closing.{StandsIn, AllStand, EachStands, IsElsewhere, AreApart, has_number, is_held, AreOwn, AreKnown}
+use Rattle.gw_shift.specs.Closing.{StandsIn, has_number, is_held, AreOwn, AreKnown}
+use Rattle.gw_shift.specs.inner.Closing.{AllStand, EachStands, IsElsewhere, AreApart}
 
 abbrev place_of : Option Call → ℕ
 place_of None = 0

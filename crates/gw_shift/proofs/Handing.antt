@@ -7,7 +7,8 @@ use Rattle.std.specs.declared.alloc.Global.{Global}
 use Rattle.rep_ops.specs.declared.op.Op.{Op}
 use Rattle.gw_node.specs.declared.out.Out.{Out}
 use Rattle.gw_shift.specs.Calls.{Call}
-use Rattle.gw_shift.specs.Passes.{made_of, made_after, noted, told_by, Climb}
+use Rattle.gw_shift.specs.Passes.{Climb}
+use Rattle.gw_shift.specs.inner.Passes.{made_of, made_after, noted, told_by}
 
 -- a lower beginning does as well
 climb_from : (least more : ℕ) (entries : List (ℕ × List Op)) → least ≤ more → Climb more entries → Climb least entries

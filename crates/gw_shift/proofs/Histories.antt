@@ -9,7 +9,7 @@ use Rattle.gw_node.specs.declared.step.Step.{Step}
 use Rattle.gw_node.specs.Parts.{State}
 use Rattle.gw_node.specs.Calls.{StepCall}
 use Rattle.gw_node.specs.Carrying.{StepCarriesOn}
-use Rattle.gw_shift.specs.Passes.{call}
+use Rattle.gw_shift.specs.inner.Passes.{call}
 use Rattle.gw_shift.specs.Calls.{Call}
 use Rattle.gw_node.specs.Failures.{failed}
 use Rattle.gw_node.proofs.Failing.{failures_grow}

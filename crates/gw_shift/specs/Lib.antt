@@ -4,3 +4,4 @@ pub mod Legal
 pub mod Passes
 pub mod Calling
 pub mod Closing
+pub mod inner

@@ -1,13 +1,10 @@
 -- What a pass holds after a call, and which deltas a shift hands on.
-use Rattle.std.specs.Prelude.{◌<◌, ◌+◌, ℕ, zero, suc, List, [], ◌∷◌, ◌++◌, Option, Some, None, Result, Ok, Err}
-use Rattle.std.specs.Arc.{arc_value}
-use Rattle.std.specs.declared.sync.Arc.{Arc}
-use Rattle.std.specs.declared.alloc.Global.{Global}
+use Rattle.std.specs.Prelude.{◌<◌, ◌+◌, ℕ, zero, suc, List, [], ◌∷◌, ◌++◌, Result}
 use Rattle.rep_ops.specs.declared.op.Op.{Op}
 use Rattle.gw_node.specs.declared.step.Step.{Step}
 use Rattle.gw_node.specs.declared.out.Out.{Out}
 use Rattle.gw_node.specs.declared.refusal.Refusal.{Refusal}
-use Rattle.gw_shift.specs.Calls.{Call, Held, Holder}
+use Rattle.gw_shift.specs.Calls.{Held, Holder}
 
 -- the numbers of the calls ascend, and the first is above this one
 abbrev pub Ascend : ℕ → List Held → Type 0
@@ -29,33 +26,12 @@ held_as number step answer = record { number = number; step = step; answer = ans
 abbrev pub with_call : Holder → Held → Holder
 with_call pass made = record { place = pass.place; opening = pass.opening; calls = pass.calls ++ made ∷ [] }
 
-abbrev pub made_of : Result Out Refusal → Option (List Op)
-made_of (Ok out) = out.made
-made_of (Err refusal) = None
-
-abbrev pub noted : ℕ → Option (List Op) → List (ℕ × List Op) → List (ℕ × List Op)
-noted number None rest = rest
-noted number (Some delta) rest = (number, delta) ∷ rest
-
--- the deltas that the calls made, with their numbers, which begin after this one
-abbrev pub made_after : ℕ → List Call → List (ℕ × List Op)
-made_after before [] = []
-made_after before (call ∷ calls) = noted (before + 1) (made_of call.answer) (made_after (before + 1) calls)
-
 -- numbers ascend, and the first is above this one
 abbrev pub Climb : ℕ → List (ℕ × List Op) → Type 0
 Climb least [] = Unit {0}
 Climb least (entry ∷ rest) = (least < entry.0) × Climb entry.0 rest
 
-abbrev pub call : ℕ → Step → Result Out Refusal → Call
-call place step answer = record { place = place; step = step; answer = answer }
-
 -- so many passes that hold nothing but the opening
 abbrev pub fresh : List (List Op) → ℕ → List Holder
 fresh opening zero = []
 fresh opening (suc count) = fresh opening count ++ record { place = count; opening = opening; calls = [] } ∷ []
-
--- the deltas that shares of answers tell of, with their numbers
-abbrev pub told_by : List (ℕ × Arc Out Global) → List (ℕ × List Op)
-told_by [] = []
-told_by (share ∷ rest) = noted share.0 (arc_value share.1).made (told_by rest)

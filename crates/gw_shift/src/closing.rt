@@ -2,7 +2,8 @@
 
 ghost use Rattle.std.specs.Prelude.{◌≡◌, ◌↔◌, ◌≤◌, ◌-◌, IsTrue, MatchOption, slice_get, length};
 ghost use Rattle.rep_ops.specs.declared.op.Op.{Op};
-ghost use Rattle.gw_shift.specs.Closing.{StandsIn, AllStand, EachStands, IsElsewhere, AreApart, has_number, is_held, AreOwn, AreKnown, HaveOpening, IsStrangeIn, IsStrange, taken_by};
+ghost use Rattle.gw_shift.specs.Closing.{StandsIn, has_number, is_held, AreOwn, AreKnown, HaveOpening, IsStrangeIn, IsStrange, taken_by};
+ghost use Rattle.gw_shift.specs.inner.Closing.{AllStand, EachStands, IsElsewhere, AreApart};
 
 use super::entry::{Entry, HeldCall};
 use super::pass::Pass;

@@ -4,7 +4,7 @@ ghost use Rattle.std.specs.Prelude.{◌≡◌, ◌+◌, ◌<◌, ◌^◌, ◌++�
 ghost use Rattle.std.specs.Arc.{arc_value};
 ghost use Rattle.rep_ops.specs.declared.op.Op.{Op};
 ghost use Rattle.gw_node.specs.Parts.{said};
-ghost use Rattle.gw_shift.specs.Passes.{made_of, made_after, told_by};
+ghost use Rattle.gw_shift.specs.inner.Passes.{made_of, made_after, told_by};
 ghost use Rattle.gw_shift.specs.declared.fault.CallFault.TheVariants.{Memory as NoMemory};
 
 use super::entry::Entry;

@@ -35,8 +35,8 @@ impl<R: Replica, D: Disk + Drop> Locked<R, D> {
     ghost use Rattle.std.specs.Prelude.{◌≡◌, ◌≤◌, ◌<◌, ◌+◌, ◌++◌, ◌∷◌, [], ℕ, IfOk, IfErr, vec_len, take, drop};
     ghost use Rattle.gw_node.specs.Parts.{said};
     ghost use Rattle.gw_shift.specs.Calls.{Call};
-    ghost use Rattle.gw_shift.specs.Passes.{call, made_after, told_by};
-    ghost use Rattle.gw_shift.specs.Calling.{Entered, NotEntered, IsNotTold};
+    ghost use Rattle.gw_shift.specs.inner.Passes.{call, made_after, told_by};
+    ghost use Rattle.gw_shift.specs.inner.Calling.{Entered, NotEntered, IsNotTold};
 
     /// Makes a call at the node, and enters it. The answer comes back twice.
     fn make(&mut self, alloc: Global, place: u64, step: Arc<Step>) -> (Answer, Answer)

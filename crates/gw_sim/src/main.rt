@@ -4,16 +4,19 @@
 //! standard output. Nothing is printed before the whole script was read and run: a bad line is printed
 //! alone, and so is a refused run.
 //!
-//! With `--random SEED` it makes scripts from the seed, plays them, and compares what gateways show with what the definitions say.
+//! With `--random SEED` it makes scripts from the seed, plays them, and compares what gateways show with what the definitions say. With
+//! `--plain` gateways keep their operations in the plain replica, which forgets nothing.
 //!
 //! - `words`: the words of the command line.
 #![tactic(auto)]
 
 mod words;
 
-use crate::words::{Options, read_words};
-use gw_play::{Counted, Held, play};
+use crate::words::{Asked, Options, read_words};
+use gw_play::{Counted, Held, play, play_with};
 use gw_random::{Report, random_run};
+use rep_model::Replica;
+use rep_plain::Plain;
 use std::alloc::Global;
 use std::env::Env;
 use std::io::Write;
@@ -25,19 +28,26 @@ fn main(rt: HostRuntime) -> ExitCode {
     let errors = rt.stderr();
     let mut out = io::writer(&rt);
     let mut err = io::writer(&errors);
-    match given(&rt, alloc) {
-        Some(words) => {
-            if words.len() > 1 {
-                return ExitCode::from(invent(alloc, words.as_slice(), &mut out, &mut err));
-            }
-        }
+    let asked = match given(&rt, alloc) {
+        Some(words) => read_words(alloc, words.as_slice()),
+        None => None,
+    };
+    let status = match asked {
         None => {
             let _ = writeln!(&mut err, "gw_sim: arguments");
-            return ExitCode::FAILURE;
+            1
         }
-    }
-    let mut source = Counted::new(rt.reader());
-    ExitCode::from(play(alloc, &mut source, &mut out))
+        Some(Asked::Script { plain: false }) => {
+            play(alloc, &mut Counted::new(rt.reader()), &mut out)
+        }
+        Some(Asked::Script { plain: true }) => {
+            play_with::<Plain, _, _>(alloc, &mut Counted::new(rt.reader()), &mut out)
+        }
+        Some(Asked::Random { plain, options }) => {
+            invent(alloc, plain, options, &mut out, &mut err)
+        }
+    };
+    ExitCode::from(status)
 }
 
 /// The words of the command line, the program's name first.
@@ -50,17 +60,32 @@ fn given<T: Env>(rt: &T, alloc: Global) -> Option<Vec<String>> {
 }
 
 /// Plays random scripts, and prints what came of them. The exit status is 0 where none differs from the definitions.
-fn invent<O: Write, E: Write>(alloc: Global, words: &[String], out: &mut O, err: &mut E) -> u8 {
-    let Some(options) = read_words(alloc, words) else {
-        let _ = writeln!(err, "gw_sim: arguments");
-        return 1;
-    };
+fn invent<O: Write, E: Write>(
+    alloc: Global,
+    plain: bool,
+    options: Options,
+    out: &mut O,
+    err: &mut E,
+) -> u8 {
+    if plain {
+        return invent_with::<Plain, _, _>(alloc, options, out, err);
+    }
+    invent_with::<Held, _, _>(alloc, options, out, err)
+}
+
+/// The same with replicas of a kind.
+fn invent_with<R: Replica, O: Write, E: Write>(
+    alloc: Global,
+    options: Options,
+    out: &mut O,
+    err: &mut E,
+) -> u8 {
     let Options {
         seed,
         events,
         gateways,
     } = options;
-    match random_run::<Held>(alloc, seed, events, gateways) {
+    match random_run::<R>(alloc, seed, events, gateways) {
         Ok(report) => tell(&report, options, out, err),
         Err(fault) => {
             let _ = writeln!(err, "gw_sim: {fault}");

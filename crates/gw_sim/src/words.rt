@@ -1,9 +1,18 @@
 //! The words of the command line.
 
-use clap::{Arg, ArgAction, Command};
+use clap::{Arg, ArgAction, ArgMatches, Command};
 use std::alloc::Global;
 
 /// What was asked for.
+#[derive(Clone, Copy)]
+pub enum Asked {
+    /// A script from standard input is to be played.
+    Script { plain: bool },
+    /// Scripts are to be made from a seed, and played.
+    Random { plain: bool, options: Options },
+}
+
+/// What scripts from a seed are made of.
 #[derive(Clone, Copy)]
 pub struct Options {
     /// What the scripts are made from.
@@ -15,26 +24,50 @@ pub struct Options {
 }
 
 /// Reads the words, the program's name first. Nothing where they do not parse, `--help` among them, or where memory ran out.
-pub(crate) fn read_words(alloc: Global, words: &[String]) -> Option<Options> {
+pub(crate) fn read_words(alloc: Global, words: &[String]) -> Option<Asked> {
+    let plain = Arg::new(alloc, "plain")
+        .long("plain")
+        .action(ArgAction::SetTrue);
     let seed = Arg::new(alloc, "random")
         .long("random")
-        .required(true)
         .action(ArgAction::Set)
         .value_parser(clap::value_parser!(u64).range(0..=i64::MAX));
     let events = Arg::new(alloc, "events")
         .long("events")
         .action(ArgAction::Set)
-        .value_parser(clap::value_parser!(u64).range(1..=1_000_000_000));
+        .value_parser(clap::value_parser!(u64).range(1..=1_000_000_000))
+        .requires_arg("random")
+        .ok()?;
     let gateways = Arg::new(alloc, "gateways")
         .long("gateways")
         .action(ArgAction::Set)
-        .value_parser(clap::value_parser!(u8).range(1..=8));
-    let command = Command::new(alloc, "gw_sim").arg(seed).ok()?;
-    let command = command.arg(events).ok()?.arg(gateways).ok()?;
+        .value_parser(clap::value_parser!(u8).range(1..=8))
+        .requires_arg("random")
+        .ok()?;
+    let command = Command::new(alloc, "gw_sim").arg(plain).ok()?;
+    let command = command
+        .arg(seed)
+        .ok()?
+        .arg(events)
+        .ok()?
+        .arg(gateways)
+        .ok()?;
     let matches = command.try_get_matches_from(words).ok()?;
-    Some(Options {
-        seed: matches.get_one::<u64>("random")?,
-        events: matches.get_one::<u64>("events").unwrap_or(20_000),
-        gateways: matches.get_one::<u8>("gateways").unwrap_or(3),
-    })
+    Some(ask_for(&matches))
+}
+
+/// What the words ask for.
+fn ask_for(matches: &ArgMatches) -> Asked {
+    let plain = matches.get_flag("plain");
+    let Some(seed) = matches.get_one::<u64>("random") else {
+        return Asked::Script { plain };
+    };
+    Asked::Random {
+        plain,
+        options: Options {
+            seed,
+            events: matches.get_one::<u64>("events").unwrap_or(20_000),
+            gateways: matches.get_one::<u8>("gateways").unwrap_or(3),
+        },
+    }
 }

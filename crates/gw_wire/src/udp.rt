@@ -1,7 +1,8 @@
 //! One UDP socket, from which one thread reads and through which any thread sends.
 
 ghost use Rattle.std.specs.Prelude.{◌≡◌, ◌≤◌, length, IfOk, IfSome};
-ghost use Rattle.gw_wire.specs.Addresses.{IsAddress, addr_of};
+ghost use Rattle.gw_wire.specs.Addresses.{IsAddress};
+ghost use Rattle.gw_wire.specs.inner.Addresses.{addr_of};
 
 use super::ends::{Arrival, Post, Unsent, Wire, WireFault};
 use jr_journal::Failures;

@@ -48,9 +48,10 @@ use Rattle.gw_node.proofs.Taken.{StandFor, MayFollow, stands_at, records_stand, 
 use Rattle.gw_world.specs.Gateways.{new_gateway, with_refused}
 use Rattle.gw_world.specs.Drives.{Drive, opened as opened_in, new_drive, GoesOut, with_record, noted, torn, generation, compacted, torn_base, arranged, left_by, opened_again, has_more}
 use Rattle.gw_world.specs.Keeping.{IsSynced, Lasts}
-use Rattle.gw_world.specs.Plans.{LastsMore, LastsTorn, IsSame, IsLost, IsCompacted, IsNotCompacted, IsArranged, OwnKept, TakeKept, CompactKept, IsRestarted, Makes}
-use Rattle.gw_world.specs.Events.{IsSafe}
-use Rattle.gw_world.specs.Calm.{HasBegun, IsCalm, IsFed, known_plan, drive_of, held_of, StaysCalm}
+use Rattle.gw_world.specs.inner.Plans.{LastsMore, LastsTorn, IsSame, IsLost, IsCompacted, IsNotCompacted, IsArranged, OwnKept, TakeKept, CompactKept, IsRestarted, Makes}
+use Rattle.gw_world.specs.inner.Events.{IsSafe}
+use Rattle.gw_world.specs.Calm.{HasBegun, IsCalm, known_plan, drive_of, held_of}
+use Rattle.gw_world.specs.inner.Calm.{IsFed, StaysCalm}
 
 -- ---- lists
 

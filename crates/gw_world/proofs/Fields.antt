@@ -26,7 +26,8 @@ use Rattle.gw_node.specs.Parts.{said}
 use Rattle.gw_world.specs.Gateways.{Gateway, new_gateway, place_from, place_of}
 use Rattle.gw_world.specs.Steps.{IsPlan}
 use Rattle.gw_world.specs.Field.{Field, new_field, IsAt, Steps, After, Run, NamesNoGateway, NamesNoDelta, shown, gateway_of}
-use Rattle.gw_world.specs.Events.{made_of, answered_of, Moves, OwnAnswered, EventKept, IsReached, IsLed, IsSafe, RunKept, StopsKept, IsStopKept}
+use Rattle.gw_world.specs.Events.{made_of, answered_of}
+use Rattle.gw_world.specs.inner.Events.{Moves, OwnAnswered, EventKept, IsReached, IsLed, IsSafe, RunKept, StopsKept, IsStopKept}
 use Rattle.gw_world.specs.Keeping.{Lasts, IsShown, AreShown}
 use Rattle.gw_world.specs.Worlds.{IsWorld, IsStop}
 use Rattle.gw_node.proofs.Keeping.{keeps_nothing}

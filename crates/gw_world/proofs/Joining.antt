@@ -2,7 +2,7 @@
 use Rattle.std.proofs.Common.{◌≡◌, List, [], ◌∷◌, ◌++◌, ap, ◌∙◌, append_assoc}
 use Rattle.rep_ops.specs.declared.op.Op.{Op}
 use Rattle.gw_world.specs.Steps.{IsWritable}
-use Rattle.gw_world.specs.Events.{Join}
+use Rattle.gw_world.specs.inner.Events.{Join}
 use Rattle.gw_world.proofs.Calmness.{all_push}
 
 pub join_more : (deltas done mid next : List (List Op)) (delta : List Op) → Join deltas done mid → IsWritable delta → next ≡ mid ++ delta ∷ [] → Join deltas (done ++ delta ∷ []) next

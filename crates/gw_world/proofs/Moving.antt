@@ -15,8 +15,8 @@ use Rattle.gw_node.specs.Occasions.{Occasion}
 use Rattle.gw_world.specs.Gateways.{Gateway, place_of}
 use Rattle.gw_world.specs.Field.{gateway_of}
 use Rattle.gw_world.specs.Steps.{records_left}
-use Rattle.gw_world.specs.Plans.{OwnKept, TakeKept, CompactKept, IsRestarted, IsArranged, AskKept}
-use Rattle.gw_world.specs.Events.{Moves, OwnAt, TakeAt, CompactAt, RestartAt, FailAt, AskAt, IsMissing, IsStopKept}
+use Rattle.gw_world.specs.inner.Plans.{OwnKept, TakeKept, CompactKept, IsRestarted, IsArranged, AskKept}
+use Rattle.gw_world.specs.inner.Events.{Moves, OwnAt, TakeAt, CompactAt, RestartAt, FailAt, AskAt, IsMissing, IsStopKept}
 
 module _ {N : Type 0} (f : N → Gateway) (nodes : List N) (i : ℕ) (old new : N) (place : slice_get nodes i ≡ Some old) (configured : (f new).config ≡ (f old).config) where
   pub moves_in_place : Moves (map f nodes) i (f old) (f new) (map f (set nodes i new))

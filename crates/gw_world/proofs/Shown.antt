@@ -33,7 +33,7 @@ use Rattle.gw_world.specs.Gateways.{Gateway, with_refused}
 use Rattle.gw_world.specs.Field.{failing}
 use Rattle.gw_world.specs.Steps.{OwnStep, TakeStep, AnswerStep, CompactStep, IsMade, IsTorn, IsGivenUp, IsPlan, IsUnchanged, IsTooMuch, HasNoDelta, IsWritable, records_left, has_refused, restarted}
 use Rattle.gw_node.specs.Calls.{AreTooMuch}
-use Rattle.gw_world.specs.Plans.{OwnKept, TakeKept, CompactKept, IsRestarted, IsArranged, AskKept, IsPlanFor, IsSame, IsLost, Makes}
+use Rattle.gw_world.specs.inner.Plans.{OwnKept, TakeKept, CompactKept, IsRestarted, IsArranged, AskKept, IsPlanFor, IsSame, IsLost, Makes}
 use Rattle.gw_world.specs.Events.{made_of, answered_of}
 use Rattle.gw_node.specs.Keeping.{Keeps}
 use Rattle.gw_node.specs.Taking.{ops_of, IsBetween, StandsFor}

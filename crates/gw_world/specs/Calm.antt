@@ -1,17 +1,13 @@
 -- Nodes in a field.
-use Rattle.std.specs.Prelude.{◌≡◌, ℕ, Bool, true, false, IsTrue, List, [], Option, Some, None, Result, Ok, Err}
+use Rattle.std.specs.Prelude.{◌≡◌, false, IsTrue, List, [], Option, Some, None}
 use Rattle.rep_ops.specs.declared.op.Op.{Op}
 use Rattle.rep_model.specs.declared.replica.Replica.{Ghosts as Promises}
 use Rattle.jr_journal.specs.declared.disk.Disk.{Ghosts}
 use Rattle.jr_journal.specs.declared.disk.Plan.{Plan}
-use Rattle.jr_journal.specs.Memory.{MemoryState, failing}
 use Rattle.jr_journal.specs.Disk.{EachCrash}
 use Rattle.jr_journal.specs.Faults.{is_fresh}
 use Rattle.jr_journal.specs.Opening.{is_quiet}
 use Rattle.jr_journal.specs.Parts.{disk_of, gateway_of, slot_of}
-use Rattle.gw_node.specs.declared.out.Out.{Out}
-use Rattle.gw_node.specs.declared.refusal.Refusal.{Refusal}
-use Rattle.gw_node.specs.declared.refusal.Refusal.TheVariants as refusals
 use Rattle.gw_node.specs.declared.node.Node.{Node}
 use Rattle.gw_node.specs.Parts.{State, state_of, is_halted}
 use Rattle.gw_world.specs.Drives.{Drive}
@@ -49,21 +45,3 @@ held_of state = record { config = state.config; taken = state.kept; local = stat
 
 abbrev pub keeping : {R Z D : Type 0} {P : Promises R Z} {G : Ghosts D} → (R → List Op) → Node R D Z P G → Gateway
 keeping kept node = held_of (state_of kept node)
-
--- memory did not run out
-abbrev pub IsFed : Result Out Refusal → Type 0
-IsFed (Ok out) = Unit {0}
-IsFed (Err refusals.Memory) = ⊥
-IsFed (Err (refusals.Frame fault)) = Unit {0}
-IsFed (Err refusals.Halted) = Unit {0}
-IsFed (Err (refusals.Disk excuse)) = Unit {0}
-IsFed (Err (refusals.Conflict client)) = Unit {0}
-IsFed (Err refusals.Full) = Unit {0}
-IsFed (Err refusals.Exhausted) = Unit {0}
-IsFed (Err (refusals.Journal fault)) = Unit {0}
-
--- a node became another that is calm too, and was told the same; this is what it keeps then
-pub record StaysCalm {D : Type 0} {G : Ghosts D} (Kept : Gateway → Gateway → Type 0) (old new : State G) : Type 0 where
-  pub calm : IsCalm new
-  pub configured : new.config ≡ old.config
-  pub kept : Kept (held_of old) (held_of new)

@@ -7,7 +7,7 @@ pub mod Events
 pub mod Field
 pub mod Keeping
 pub mod Calm
-pub mod Plans
 pub mod Steady
 pub mod Whole
 pub mod Telling
+pub mod inner

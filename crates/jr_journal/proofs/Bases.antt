@@ -12,7 +12,8 @@ use Rattle.rep_ops.specs.declared.op.Op.{Op}
 use Rattle.jr_journal.specs.declared.piece.Piece.TheVariants.{Seal}
 use Rattle.jr_journal.specs.declared.piece.Found.{Found}
 use Rattle.jr_journal.specs.declared.content.SlotContent.TheVariants.{Unsealed, Sealed, Broken}
-use Rattle.jr_journal.specs.Records.{delta_bytes, IsReadable, written, made, ended, joined, one_record, one_seal, found, piece_at, slot_content, magic, base_bytes, begins, after_header}
+use Rattle.jr_journal.specs.Records.{delta_bytes, written, made, ended, joined, one_record, one_seal, found, piece_at, slot_content, magic, base_bytes, begins, after_header}
+use Rattle.jr_journal.specs.inner.Records.{IsReadable}
 use Rattle.jr_journal.proofs.Append.{made_same, found_append, found_written, found_front, length_written}
 use Rattle.jr_journal.proofs.Pieces.{found_seal, found_nothing}
 use Rattle.jr_journal.proofs.Contents.{IsSealed, content_cut, content_whole}

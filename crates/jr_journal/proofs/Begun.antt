@@ -8,7 +8,7 @@ use Rattle.jr_journal.specs.declared.disk.Short.{Short}
 use Rattle.jr_journal.specs.declared.disk.DiskFault.{DiskFault}
 use Rattle.jr_journal.specs.Disk.{SlotBytes, Slots, replaced, appended, cut_to}
 use Rattle.jr_journal.specs.Records.{new_journal}
-use Rattle.jr_journal.specs.Opening.{IsBegun}
+use Rattle.jr_journal.specs.inner.Opening.{IsBegun}
 use Rattle.jr_journal.proofs.Appending.{on_ok, on_err, err_written}
 
 -- an emptied slot, and bytes behind that

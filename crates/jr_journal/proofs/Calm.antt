@@ -5,7 +5,8 @@ use Rattle.jr_journal.specs.declared.disk.DiskFault.{DiskFault}
 use Rattle.jr_journal.specs.declared.disk.Short.{Short}
 use Rattle.jr_journal.specs.declared.disk.Plan.{Plan}
 use Rattle.jr_journal.specs.declared.disk.Plan.TheVariants.{Stop, KeepBack, FailSync}
-use Rattle.jr_journal.specs.Disk.{AppendsAs, SyncsAs, GoesAs, is_calm}
+use Rattle.jr_journal.specs.Disk.{AppendsAs, SyncsAs, GoesAs}
+use Rattle.jr_journal.specs.inner.Disk.{is_calm}
 use Rattle.jr_journal.specs.Opening.{is_quiet}
 
 pub not_starved : (a b : Bool) → (a ≡ true → b ≡ true) → b ≡ false → a ≡ false

@@ -7,9 +7,12 @@ use Rattle.rep_ops.specs.declared.op.Op.{Op}
 use Rattle.jr_journal.specs.declared.disk.Slot.{Slot}
 use Rattle.jr_journal.specs.declared.disk.Slot.TheVariants.{First, Second}
 use Rattle.jr_journal.specs.declared.piece.Found.{Found}
-use Rattle.jr_journal.specs.Disk.{SlotBytes, Slots, at, bytes_of, all_synced, synced_part, image, after_crash}
-use Rattle.jr_journal.specs.Records.{IsReadable, base_bytes, slot_content, records}
-use Rattle.jr_journal.specs.Journals.{other, is_below, is_in_use, after_append, emptied, Opens, Leaves, LeavesEither}
+use Rattle.jr_journal.specs.Disk.{SlotBytes, Slots, at, bytes_of, all_synced, image, after_crash}
+use Rattle.jr_journal.specs.inner.Disk.{synced_part}
+use Rattle.jr_journal.specs.Records.{base_bytes, slot_content, records}
+use Rattle.jr_journal.specs.inner.Records.{IsReadable}
+use Rattle.jr_journal.specs.Journals.{other, after_append, emptied, Opens, Leaves, LeavesEither}
+use Rattle.jr_journal.specs.inner.Journals.{is_below, is_in_use}
 use Rattle.jr_journal.specs.Opening.{synced_slots}
 use Rattle.jr_journal.proofs.Contents.{IsSealed, sealed_again}
 use Rattle.jr_journal.proofs.Sound.{image_at, used_sound, not_fresh}

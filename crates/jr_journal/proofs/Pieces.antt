@@ -11,7 +11,8 @@ use Rattle.rep_ops.specs.Reading.{reading, Fails}
 use Rattle.rep_ops.specs.Spelling.{max_octets}
 use Rattle.jr_journal.specs.declared.fault.JournalFault.TheVariants.{Memory}
 use Rattle.jr_journal.specs.declared.piece.Piece.TheVariants.{Whole, Seal, Torn, Bad}
-use Rattle.jr_journal.specs.Records.{whole_if, refusal, delta_piece, body_at, record_at, piece_at, ended, joined, one_record, one_seal, found}
+use Rattle.jr_journal.specs.Records.{whole_if, delta_piece, body_at, record_at, piece_at, ended, joined, one_record, one_seal, found}
+use Rattle.jr_journal.specs.inner.Records.{refusal}
 
 -- ---- a delta of so many bytes
 

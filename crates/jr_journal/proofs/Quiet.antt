@@ -3,9 +3,11 @@ use Rattle.std.proofs.Common.{◌≡◌, ℕ, Bool, true, false, Result, Ok, Err
 use Rattle.jr_journal.specs.declared.fault.JournalFault.{JournalFault}
 use Rattle.jr_journal.specs.declared.fault.JournalFault.TheVariants.{Disk}
 use Rattle.jr_journal.specs.declared.opening.Opening.{Opening}
-use Rattle.jr_journal.specs.Disk.{Slots, Image, image, is_calm}
+use Rattle.jr_journal.specs.Disk.{Slots, Image, image}
+use Rattle.jr_journal.specs.inner.Disk.{is_calm}
 use Rattle.jr_journal.specs.Faults.{is_fresh}
-use Rattle.jr_journal.specs.Opening.{synced_slots, IsOpening, is_new, is_quiet, IsUnhurt}
+use Rattle.jr_journal.specs.Opening.{synced_slots, is_quiet, IsUnhurt}
+use Rattle.jr_journal.specs.inner.Opening.{IsOpening, is_new}
 use Rattle.jr_journal.proofs.Calm.{Outlook, not_starved, quiet_calm}
 use Rattle.jr_journal.proofs.Opened.{synced_same, opening_fresh}
 

@@ -6,7 +6,8 @@ use Rattle.rep_ops.specs.Deltas.{IsDelta}
 use Rattle.rep_ops.specs.Spelling.{spelling, IsWithinLimit}
 use Rattle.rep_ops.specs.Values.{AreValues}
 use Rattle.rep_ops.proofs.Format.{read_again}
-use Rattle.jr_journal.specs.Records.{delta_bytes, IsReadable, written}
+use Rattle.jr_journal.specs.Records.{delta_bytes, written}
+use Rattle.jr_journal.specs.inner.Records.{IsReadable}
 
 pub readable : (delta : List Op) → IsDelta delta → AreValues delta → IsWithinLimit delta → IsReadable delta
 unfolding delta_bytes

@@ -9,9 +9,12 @@ use Rattle.jr_journal.specs.declared.disk.Slot.TheVariants.{First, Second}
 use Rattle.jr_journal.specs.declared.piece.Found.{Found}
 use Rattle.jr_journal.specs.declared.content.SlotContent.{SlotContent}
 use Rattle.jr_journal.specs.declared.content.SlotContent.TheVariants.{Alien, Unsealed, Sealed, Broken}
-use Rattle.jr_journal.specs.Disk.{SlotBytes, Slots, Image, at, replaced, bytes_of, image, synced_part, appended, all_synced, left_of, after_crash}
-use Rattle.jr_journal.specs.Records.{delta_bytes, IsReadable, written, joined, ended, one_record, slot_content, generation_in, chosen, records}
-use Rattle.jr_journal.specs.Journals.{other, is_below, leads, is_settled, is_in_use, Leaves, LeavesOneMore}
+use Rattle.jr_journal.specs.Disk.{SlotBytes, Slots, Image, at, replaced, bytes_of, image, appended, all_synced, left_of, after_crash}
+use Rattle.jr_journal.specs.inner.Disk.{synced_part}
+use Rattle.jr_journal.specs.Records.{delta_bytes, written, joined, ended, one_record, slot_content, generation_in, chosen, records}
+use Rattle.jr_journal.specs.inner.Records.{IsReadable}
+use Rattle.jr_journal.specs.Journals.{other, Leaves, LeavesOneMore}
+use Rattle.jr_journal.specs.inner.Journals.{is_below, leads, is_settled, is_in_use}
 use Rattle.jr_journal.specs.Faults.{is_nil, fault_of}
 use Rattle.jr_journal.proofs.Append.{found_written, found_front, length_written}
 use Rattle.jr_journal.proofs.Contents.{IsSealed, IsFull, sealed_shape, sealed_again, sealed_more}

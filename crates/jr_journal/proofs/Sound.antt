@@ -10,10 +10,13 @@ use Rattle.jr_journal.specs.declared.fault.JournalFault.TheVariants.{Foreign}
 use Rattle.jr_journal.specs.declared.piece.Found.{Found}
 use Rattle.jr_journal.specs.declared.content.SlotContent.{SlotContent}
 use Rattle.jr_journal.specs.declared.content.SlotContent.TheVariants.{Alien, Unsealed, Sealed, Broken}
-use Rattle.jr_journal.specs.Disk.{SlotBytes, Slots, Image, at, replaced, synced_part}
+use Rattle.jr_journal.specs.Disk.{SlotBytes, Slots, Image, at, replaced}
+use Rattle.jr_journal.specs.inner.Disk.{synced_part}
 use Rattle.jr_journal.specs.Records.{found, slot_content}
-use Rattle.jr_journal.specs.Faults.{is_nil, is_none, is_fresh, slots_fault, fault_of}
-use Rattle.jr_journal.specs.Journals.{other, is_below}
+use Rattle.jr_journal.specs.Faults.{is_nil, is_fresh, slots_fault, fault_of}
+use Rattle.jr_journal.specs.inner.Faults.{is_none}
+use Rattle.jr_journal.specs.Journals.{other}
+use Rattle.jr_journal.specs.inner.Journals.{is_below}
 use Rattle.jr_journal.proofs.Pieces.{found_nothing}
 use Rattle.jr_journal.proofs.Contents.{IsSealed, sealed_again}
 

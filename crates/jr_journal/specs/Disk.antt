@@ -1,5 +1,5 @@
 -- A disk of two slots: what is in them, what a crash leaves, and when a call may fail.
-use Rattle.std.specs.Prelude.{Option, Some, None, Bool, true, false, ◌≡◌, ℕ, ◌-◌, ◌<◌, ◌≤◌, min, List, [], ◌++◌, length, take, Result, IsOk, IsErr, IsErrAnd, MatchResult}
+use Rattle.std.specs.Prelude.{Option, Some, None, ◌≡◌, ℕ, ◌-◌, ◌<◌, ◌≤◌, min, List, [], ◌++◌, length, take, Result, IsOk, IsErr, IsErrAnd, MatchResult}
 use Rattle.jr_journal.specs.declared.disk.Slot.{Slot}
 use Rattle.jr_journal.specs.declared.disk.Slot.TheVariants.{First, Second}
 use Rattle.jr_journal.specs.declared.disk.DiskFault.{DiskFault}
@@ -35,10 +35,6 @@ bytes_of s = s.synced ++ s.unsynced
 
 abbrev pub image : Slots → Image
 image d = record { first = bytes_of d.first; second = bytes_of d.second }
-
--- what of it is synced
-abbrev pub synced_part : Slots → Image
-synced_part d = record { first = d.first.synced; second = d.second.synced }
 
 abbrev pub appended : SlotBytes → List ℕ → SlotBytes
 appended s bytes = record { synced = s.synced; unsynced = s.unsynced ++ bytes }
@@ -87,14 +83,6 @@ SyncsAs (Some None) result after = IsOk result × (after ≡ Some None)
 SyncsAs (Some (Some (Stop k))) result after = IsOk result × (after ≡ Some (Some (Stop k)))
 SyncsAs (Some (Some KeepBack)) result after = IsOk result × (after ≡ Some (Some KeepBack))
 SyncsAs (Some (Some FailSync)) result after = IsErr result × (after ≡ Some None)
-
--- neither a sync nor any call but an append meets the failure that is arranged
-abbrev pub is_calm : Option (Option Plan) → Bool
-is_calm None = false
-is_calm (Some None) = true
-is_calm (Some (Some (Stop k))) = true
-is_calm (Some (Some KeepBack)) = true
-is_calm (Some (Some FailSync)) = false
 
 -- any other call: what is arranged is not for it
 abbrev pub GoesAs : {T E : Type 0} → Option (Option Plan) → Result T E → Option (Option Plan) → Type 0

@@ -48,11 +48,6 @@ IsFault fault Foreign = fault ≡ Some Foreign
 IsFault fault (BadRecord slot at) = fault ≡ Some (BadRecord slot at)
 IsFault fault Halted = fault ≡ Some Halted
 
--- there is none
-abbrev pub is_none : Option JournalFault → Bool
-is_none None = true
-is_none (Some fault) = false
-
 -- the number by which programs tell a fault, with a `J` in front of it
 abbrev pub fault_number : JournalFault → ℕ
 fault_number Disk = 1

@@ -1,5 +1,5 @@
 -- What a journal keeps true of its disk, and what an append and a compaction do to it.
-use Rattle.std.specs.Prelude.{Option, Some, None, ◌≡◌, ℕ, ◌+◌, ◌-◌, ◌^◌, ◌==◌, Bool, true, false, ◌&&◌, nat_lt, ◌⊎◌, min, List, [], ◌∷◌, ◌++◌, length, take, Result, Ok, Err, IsSome}
+use Rattle.std.specs.Prelude.{Option, Some, None, ◌≡◌, ℕ, ◌+◌, ◌-◌, ◌^◌, false, ◌⊎◌, min, List, [], ◌∷◌, ◌++◌, length, take, Result, Ok, Err, IsSome}
 use Rattle.rep_ops.specs.declared.op.Op.{Op}
 use Rattle.jr_journal.specs.declared.disk.Slot.{Slot}
 use Rattle.jr_journal.specs.declared.disk.Slot.TheVariants.{First, Second}
@@ -7,43 +7,15 @@ use Rattle.jr_journal.specs.declared.disk.Plan.{Plan}
 use Rattle.jr_journal.specs.declared.disk.Plan.TheVariants.{Stop, KeepBack, FailSync}
 use Rattle.jr_journal.specs.declared.fault.JournalFault.{JournalFault}
 use Rattle.jr_journal.specs.declared.fault.JournalFault.TheVariants.{Disk, Foreign, BadRecord, Memory, Halted}
-use Rattle.jr_journal.specs.declared.content.SlotContent.{SlotContent}
-use Rattle.jr_journal.specs.declared.content.SlotContent.TheVariants.{Alien, Unsealed, Sealed, Broken}
-use Rattle.jr_journal.specs.Disk.{Slots, Image, at, replaced, cut_to, synced_part, appended, all_synced, EachCrash}
-use Rattle.jr_journal.specs.Records.{records, slot_content, generation_in}
-use Rattle.jr_journal.specs.Faults.{is_nil, is_none, is_fresh, fault_of}
+use Rattle.jr_journal.specs.Disk.{Slots, Image, at, replaced, cut_to, appended, all_synced, EachCrash}
+use Rattle.jr_journal.specs.Records.{records}
+use Rattle.jr_journal.specs.Faults.{is_fresh, fault_of}
 
 -- ---- the slot in use
 
 abbrev pub other : Slot → Slot
 other First = Second
 other Second = First
-
--- a slot of which nothing is read beside a sealed one of this generation
-abbrev pub is_below : SlotContent → ℕ → Bool
-is_below (Sealed n g) generation = nat_lt n generation
-is_below Unsealed generation = true
-is_below Alien generation = false
-is_below (Broken from) generation = false
-
--- a slot of so many bytes is read, it ends with a whole piece, and beside it the other is not read
-abbrev pub leads : SlotContent → ℕ → SlotContent → Bool
-leads (Sealed generation f) size beside = (13 + f.whole == size) && is_below beside generation
-leads Alien size beside = false
-leads Unsealed size beside = false
-leads (Broken from) size beside = false
-
--- all is synced, the slot in use is the one that is read and ends with a whole piece, and there is no fault
-abbrev pub is_settled : ℕ → Slot → Slots → Bool
-is_settled gateway slot d =
-    is_nil d.first.unsynced && is_nil d.second.unsynced
-    && leads (slot_content gateway (at d slot).synced) (length (at d slot).synced) (slot_content gateway (at d (other slot)).synced)
-    && is_none (fault_of gateway (synced_part d))
-
--- it is settled, and this is the generation of the slot in use
-abbrev pub is_in_use : ℕ → Slot → ℕ → Slots → Bool
-is_in_use gateway slot generation d =
-    is_settled gateway slot d && (generation_in (slot_content gateway (at d slot).synced) == generation)
 
 -- ---- crashes
 

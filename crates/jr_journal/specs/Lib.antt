@@ -6,3 +6,4 @@ pub mod Faults
 pub mod Journals
 pub mod Opening
 pub mod Parts
+pub mod inner

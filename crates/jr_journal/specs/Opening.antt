@@ -1,6 +1,5 @@
 -- What opening a journal makes of the two slots.
-use Rattle.std.specs.Prelude.{Option, Some, None, ◌≡◌, ◌⊎◌, ℕ, ◌+◌, Bool, true, false, not, if◌then◌else◌, nat_lt, List, [], length, take, Result, IsErrOf}
-use Rattle.rep_ops.specs.declared.op.Op.{Op}
+use Rattle.std.specs.Prelude.{Option, Some, None, ◌≡◌, ℕ, ◌+◌, Bool, true, false, not, if◌then◌else◌, nat_lt, List, [], take, Result, IsErrOf}
 use Rattle.jr_journal.specs.declared.disk.Slot.{Slot}
 use Rattle.jr_journal.specs.declared.disk.Slot.TheVariants.{First, Second}
 use Rattle.jr_journal.specs.declared.disk.Plan.{Plan}
@@ -9,9 +8,7 @@ use Rattle.jr_journal.specs.declared.fault.JournalFault.{JournalFault}
 use Rattle.jr_journal.specs.declared.fault.JournalFault.TheVariants.{Disk}
 use Rattle.jr_journal.specs.declared.content.SlotContent.{SlotContent}
 use Rattle.jr_journal.specs.declared.content.SlotContent.TheVariants.{Alien, Unsealed, Sealed, Broken}
-use Rattle.jr_journal.specs.declared.opening.Opening.{Opening}
-use Rattle.jr_journal.specs.declared.opening.Opening.TheVariants.{New, Held}
-use Rattle.jr_journal.specs.Disk.{SlotBytes, Slots, Image, at, replaced, bytes_of, all_synced, cut_to, after_crash}
+use Rattle.jr_journal.specs.Disk.{SlotBytes, Slots, Image, at, all_synced, after_crash}
 use Rattle.jr_journal.specs.Records.{new_journal, slot_content, generation_in, records}
 use Rattle.jr_journal.specs.Faults.{is_fresh, fault_of}
 
@@ -19,9 +16,6 @@ use Rattle.jr_journal.specs.Faults.{is_fresh, fault_of}
 
 abbrev pub synced_bytes : List ℕ → SlotBytes
 synced_bytes bytes = record { synced = bytes; unsynced = [] }
-
-abbrev pub synced_image : Image → Slots
-synced_image i = record { first = synced_bytes i.first; second = synced_bytes i.second }
 
 -- both slots, all synced
 abbrev pub synced_slots : Slots → Slots
@@ -65,52 +59,7 @@ generation_read gateway i =
     then generation_in (slot_content gateway i.first)
     else generation_in (slot_content gateway i.second))
 
--- ---- what is to be done
-
--- a slot of so many bytes is gone on in, where it is sealed
-abbrev pub held_of : Slot → SlotContent → ℕ → Opening
-held_of slot (Sealed m f) size = Held slot m f size
-held_of slot Alien size = New
-held_of slot Unsealed size = New
-held_of slot (Broken at) size = New
-
--- what is to be done with two slots of so many bytes that have no fault
-abbrev pub opening_of : SlotContent → ℕ → SlotContent → ℕ → Opening
-opening_of a size b beside = if reads_first a b then held_of First a size else held_of Second b beside
-
-abbrev pub deltas_of : Opening → List (List Op)
-deltas_of New = []
-deltas_of (Held slot m f size) = f.deltas
-
-abbrev pub place_of : Opening → Slot
-place_of New = First
-place_of (Held slot m f size) = slot
-
-abbrev pub number_of : Opening → ℕ
-number_of New = 1
-number_of (Held slot m f size) = m
-
--- the slots have no fault, and this is to be done with them
-abbrev pub IsOpening : ℕ → Image → Opening → Type 0
-IsOpening gateway i opening =
-    (fault_of gateway i ≡ None)
-    × (opening ≡ opening_of (slot_content gateway i.first) (length i.first) (slot_content gateway i.second) (length i.second))
-
--- it speaks of the bytes of its slot
-abbrev pub IsSized : Opening → Slots → Type 0
-IsSized New d = Unit {0}
-IsSized (Held slot m f size) d = size ≡ length (bytes_of (at d slot))
-
--- it is done
-abbrev pub settled : ℕ → Opening → Slots → Slots
-settled gateway New d = replaced d First (synced_bytes (new_journal gateway))
-settled gateway (Held slot m f size) d = replaced d slot (cut_to (at d slot) (13 + f.whole))
-
 -- ---- a failure that is arranged
-
-abbrev pub is_new : Opening → Bool
-is_new New = true
-is_new (Held slot m f size) = false
 
 -- an opening does not meet it: it appends only where the journal is new
 abbrev pub is_quiet : Option (Option Plan) → Bool → Bool
@@ -125,15 +74,6 @@ abbrev pub IsUnhurt : {T : Type 0} → Result T JournalFault → Option (Option 
 IsUnhurt result old new = (IsErrOf result Disk → ⊥) × (new ≡ old)
 
 -- ---- an opening that failed
-
--- a new journal was begun as far as this
-abbrev pub IsBegun : ℕ → Slots → Slots → Type 0
-IsBegun gateway old new = (new ≡ old) ⊎ ((w : ℕ) × (new ≡ replaced old First (record { synced = []; unsynced = take w (new_journal gateway) })))
-
--- the last step was done, or in part, or not
-abbrev pub IsPartly : ℕ → Opening → Slots → Slots → Type 0
-IsPartly gateway New old new = IsBegun gateway old new
-IsPartly gateway (Held slot m f size) old new = (new ≡ old) ⊎ (new ≡ replaced old slot (cut_to (at old slot) (13 + f.whole)))
 
 -- an opening finds the same in both: the same records and the same fault, if any; and where it begins no journal in the second, it
 -- begins none in the first

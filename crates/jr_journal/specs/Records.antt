@@ -1,15 +1,12 @@
 -- The bytes of a slot: a header, then records with one seal among them.
-use Rattle.std.specs.Prelude.{◌≡◌, ◌≤◌, ℕ, zero, suc, ◌+◌, ◌==◌, Bool, true, false, if◌then◌else◌, nat_lt, min, List, [], ◌∷◌, ◌++◌, length, take, drop, flat_map, Result, Ok, Err}
+use Rattle.std.specs.Prelude.{ℕ, zero, suc, ◌+◌, ◌==◌, Bool, true, false, if◌then◌else◌, nat_lt, min, List, [], ◌∷◌, ◌++◌, length, take, drop, flat_map, Result, Ok, Err}
 use Rattle.std.specs.Int.{w32, w64, from_be_bytes}
 use Rattle.std.specs.Str.{bytes_eq}
 use Rattle.byteorder.specs.Endian.{big_bytes}
 use Rattle.rep_ops.specs.declared.op.Op.{Op}
 use Rattle.rep_ops.specs.declared.fault.OpsFault.{OpsFault}
-use Rattle.rep_ops.specs.declared.fault.OpsFault.TheVariants as faults
 use Rattle.rep_ops.specs.Reading.{reading}
 use Rattle.rep_ops.specs.Spelling.{spelling, max_octets}
-use Rattle.jr_journal.specs.declared.fault.JournalFault.{JournalFault}
-use Rattle.jr_journal.specs.declared.fault.JournalFault.TheVariants.{Memory}
 use Rattle.jr_journal.specs.declared.piece.Piece.{Piece}
 use Rattle.jr_journal.specs.declared.piece.Piece.TheVariants.{Whole, Seal, Torn, Bad}
 use Rattle.jr_journal.specs.declared.piece.Found.{Found}
@@ -22,11 +19,6 @@ use Rattle.jr_journal.specs.Disk.{Image}
 -- the bytes of a delta
 unfoldable pub delta_bytes : List Op → List ℕ
 delta_bytes delta = spelling delta
-
--- the delta is read again from its bytes, and a record can hold them
-pub record IsReadable (delta : List Op) : Type 0 where
-  pub read : reading (delta_bytes delta) ≡ Ok delta
-  pub limit : length (delta_bytes delta) ≤ max_octets
 
 -- a record: its tag, its length, the delta's bytes
 abbrev pub written : List Op → List ℕ
@@ -52,11 +44,6 @@ base_bytes gateway generation base = header gateway generation ++ (flat_map writ
 abbrev pub whole_if : Result (List Op) OpsFault → ℕ → Piece
 whole_if (Ok delta) size = Whole delta size
 whole_if (Err fault) size = Bad
-
--- what a delta that is refused stands for: want of memory says nothing of it
-abbrev pub refusal : OpsFault → Result Piece JournalFault
-refusal faults.Memory = Err Memory
-refusal fault = Ok Bad
 
 -- the delta of so many bytes, or none
 unfoldable pub delta_piece : ℕ → List ℕ → Piece

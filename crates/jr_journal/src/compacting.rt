@@ -3,7 +3,8 @@
 ghost use Rattle.std.specs.Prelude.{ℕ, ◌≡◌, ◌≤◌, ◌<◌, ◌⊎◌, ◌++◌, true, false, None, flat_map, take, IfOk, IfErr, OnOk, OnErr, IsErrOf};
 ghost use Rattle.std.specs.List.{AllByRecursion};
 ghost use Rattle.jr_journal.specs.Disk.{at, replaced, appended};
-ghost use Rattle.jr_journal.specs.Records.{IsReadable, header, written, base_bytes};
+ghost use Rattle.jr_journal.specs.Records.{header, written, base_bytes};
+ghost use Rattle.jr_journal.specs.inner.Records.{IsReadable};
 ghost use Rattle.jr_journal.specs.Journals.{other as beside, emptied, after_append, AppendedAs};
 
 use crate::content::MAGIC;

@@ -1,7 +1,7 @@
 //! The journal.
 
 ghost use Rattle.std.specs.Prelude.{IsTrue, ◌||◌};
-ghost use Rattle.jr_journal.specs.Journals.{is_in_use};
+ghost use Rattle.jr_journal.specs.inner.Journals.{is_in_use};
 
 use crate::compacting::{base_of, other, write_anew};
 use crate::disk::{Disk, Slot};

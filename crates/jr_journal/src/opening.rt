@@ -2,11 +2,14 @@
 //! cut away; or begin a new journal.
 
 ghost use Rattle.std.specs.Prelude.{◌≡◌, ◌≢◌, ◌≤◌, ◌<◌, ◌⊎◌, ◌+◌, [], true, false, length, IfOk, IfErr, OnOk, OnErr, IsErrOf, IsTrue, None, Some, if◌then◌else◌};
-ghost use Rattle.jr_journal.specs.Disk.{at, replaced, bytes_of, image, all_synced, cut_to, is_calm};
+ghost use Rattle.jr_journal.specs.Disk.{at, replaced, bytes_of, image, all_synced, cut_to};
+ghost use Rattle.jr_journal.specs.inner.Disk.{is_calm};
 ghost use Rattle.jr_journal.specs.Records.{new_journal, slot_content, records};
-ghost use Rattle.jr_journal.specs.Opening.{synced_bytes, synced_slots, reads_first, slot_read, generation_read, held_of, opening_of, deltas_of, place_of, number_of, IsOpening, IsSized, settled, recovered, is_new, is_quiet, IsUnhurt, IsBegun, IsPartly, LeavesNoMore};
+ghost use Rattle.jr_journal.specs.Opening.{synced_bytes, synced_slots, reads_first, slot_read, generation_read, recovered, is_quiet, IsUnhurt, LeavesNoMore};
+ghost use Rattle.jr_journal.specs.inner.Opening.{held_of, opening_of, deltas_of, place_of, number_of, IsOpening, IsSized, settled, is_new, IsBegun, IsPartly};
 ghost use Rattle.jr_journal.specs.Faults.{is_fresh, IsFault, slots_fault, fault_of};
-ghost use Rattle.jr_journal.specs.Journals.{is_in_use, Leaves};
+ghost use Rattle.jr_journal.specs.Journals.{Leaves};
+ghost use Rattle.jr_journal.specs.inner.Journals.{is_in_use};
 
 use crate::content::{HEADER, MAGIC, SlotContent, read_content};
 use crate::disk::{Disk, Slot};

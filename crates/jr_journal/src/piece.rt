@@ -2,15 +2,13 @@
 
 ghost use Rattle.std.specs.Prelude.{◌≡◌, ◌≤◌, ◌<◌, ◌+◌, false, length, take, drop, IfOk, IfErr, IfNone, IfSome};
 ghost use Rattle.std.specs.Int.{w32, from_be_bytes};
-ghost use Rattle.jr_journal.specs.Records.{delta_piece, body_at, record_at, piece_at, refusal, made, found};
+ghost use Rattle.jr_journal.specs.Records.{delta_piece, body_at, record_at, piece_at, made, found};
+ghost use Rattle.jr_journal.specs.inner.Records.{refusal};
 
 use crate::fault::JournalFault;
 use octets::{Sequence, read_u32};
-use rep_ops::{Delta, OpsFault};
+use rep_ops::{Delta, MAX_OCTETS, OpsFault};
 use std::alloc::Global;
-
-/// The most bytes of a delta, 8 MiB.
-const MAX_DELTA: usize = 8_388_608;
 
 /// The tag of a record.
 pub(crate) const RECORD: u8 = 0x44;
@@ -78,7 +76,7 @@ fn read_body(alloc: Global, size: usize, rest: &[u8]) -> Result<Piece, JournalFa
     ensures ok { IfOk result (λ piece. piece ≡ body_at size rest.now) }
     ensures err { IfErr result (λ fault. fault ≡ JournalFault.Memory) }
 {
-    if size > MAX_DELTA {
+    if size > MAX_OCTETS {
         return Ok(Piece::Bad);
     }
     if rest.len() < size {

@@ -2,7 +2,8 @@
 
 ghost use Rattle.std.specs.Prelude.{◌≡◌, ◌≤◌, length, IfOk, IfErr, OnOk};
 ghost use Rattle.rep_ops.specs.Spelling.{max_octets};
-ghost use Rattle.jr_journal.specs.Records.{delta_bytes, IsReadable, written};
+ghost use Rattle.jr_journal.specs.Records.{delta_bytes, written};
+ghost use Rattle.jr_journal.specs.inner.Records.{IsReadable};
 
 use crate::fault::JournalFault;
 use crate::piece::RECORD;

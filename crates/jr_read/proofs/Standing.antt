@@ -15,13 +15,15 @@ use Rattle.jr_journal.specs.declared.opening.Opening.TheVariants.{New, Held}
 use Rattle.jr_journal.specs.Disk.{Image}
 use Rattle.jr_journal.specs.Records.{piece_at, found, slot_content, records}
 use Rattle.jr_journal.specs.Faults.{fault_of}
-use Rattle.jr_journal.specs.Opening.{slot_read, opening_of, deltas_of, place_of, IsOpening}
+use Rattle.jr_journal.specs.Opening.{slot_read}
+use Rattle.jr_journal.specs.inner.Opening.{opening_of, deltas_of, place_of, IsOpening}
 use Rattle.jr_journal.proofs.Pieces.{record_shape, seal_same, found_record, found_seal, found_second_seal, found_torn, found_bad, found_nothing, found_skip}
 use Rattle.jr_journal.proofs.Contents.{sealed_shape}
 use Rattle.jr_journal.proofs.Sound.{image_at}
 use Rattle.jr_journal.proofs.Opened.{Ruled, ruled, opening_records, opening_place}
 use Rattle.jr_read.specs.declared.places.Place.{Place}
-use Rattle.jr_read.specs.Places.{octets_in, piece_in, IsPlaced, ArePlaced, Holds, after_seal}
+use Rattle.jr_read.specs.Places.{octets_in, piece_in, IsPlaced, ArePlaced}
+use Rattle.jr_read.specs.inner.Places.{Holds, after_seal}
 
 -- ---- one record
 

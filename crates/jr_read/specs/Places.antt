@@ -1,5 +1,5 @@
 -- Where records stand in their slot, and what is told of two slots.
-use Rattle.std.specs.Prelude.{◌≡◌, ℕ, ◌+◌, ◌==◌, Bool, if◌then◌else◌, List, [], ◌∷◌, drop, Option, Some}
+use Rattle.std.specs.Prelude.{◌≡◌, ℕ, ◌+◌, List, [], ◌∷◌, drop, Option, Some}
 use Rattle.rep_ops.specs.declared.op.Op.{Op}
 use Rattle.jr_journal.specs.declared.disk.Slot.{Slot}
 use Rattle.jr_journal.specs.declared.disk.Slot.TheVariants.{First, Second}
@@ -8,7 +8,7 @@ use Rattle.jr_journal.specs.declared.fault.JournalFault.TheVariants.{Disk, Forei
 use Rattle.jr_journal.specs.declared.piece.Piece.{Piece}
 use Rattle.jr_journal.specs.declared.piece.Piece.TheVariants.{Whole, Torn}
 use Rattle.jr_journal.specs.Disk.{Image}
-use Rattle.jr_journal.specs.Records.{piece_at, found}
+use Rattle.jr_journal.specs.Records.{piece_at}
 use Rattle.jr_read.specs.declared.places.Place.{Place}
 
 -- two slots that hold these octets
@@ -43,12 +43,3 @@ ArePlaced slot [] [] = Unit {0}
 ArePlaced slot (place ∷ places) (delta ∷ deltas) = IsPlaced slot place delta × ArePlaced slot places deltas
 ArePlaced slot [] (delta ∷ deltas) = ⊥
 ArePlaced slot (place ∷ places) [] = ⊥
-
--- these are the records from here on, a seal being still to come or not
-abbrev pub Holds : List ℕ → List (List Op) → Type 0
-Holds bytes deltas = (sealed : Bool) × ((found 0 sealed bytes).deltas ≡ deltas)
-
--- what stands behind a seal, where there is one in front
-abbrev pub after_seal : List ℕ → List ℕ
-after_seal [] = []
-after_seal (b ∷ rest) = if b == 83 then rest else b ∷ rest

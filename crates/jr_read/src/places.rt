@@ -2,7 +2,8 @@
 
 ghost use Rattle.std.specs.Prelude.{◌≡◌, ◌⊎◌, ◌+◌, ◌<◌, ◌≤◌, [], length, take, drop, IfOk, IfNone, IfSome};
 ghost use Rattle.std.specs.Int.{w32, from_be_bytes};
-ghost use Rattle.jr_read.specs.Places.{ArePlaced, Holds, after_seal};
+ghost use Rattle.jr_read.specs.Places.{ArePlaced};
+ghost use Rattle.jr_read.specs.inner.Places.{Holds, after_seal};
 
 use octets::read_u32;
 use rep_ops::Delta;

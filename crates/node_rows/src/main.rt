@@ -74,19 +74,43 @@ use crate::stop::Stop;
 use anyhow::Result;
 use rep_model::Replica;
 use rep_plain::Plain;
+use rep_state::Folded;
 use std::alloc::Global;
 use std::io::{self, Write};
 
 fn main(rt: HostRuntime) -> Result<()> {
     let alloc = rt.alloc();
-    let mut row: Row<Plain> = begin(alloc);
-    let mut names = names::none(alloc);
-    let mut printed = String::new(alloc);
+    let mut lines = Vec::new(alloc);
     for line in rt.lines(alloc) {
-        answer(alloc, &mut printed, &mut row, &mut names, line?.as_str())?;
+        lines.push(line?)?;
     }
+    let printed = print_both(alloc, lines.as_slice())?;
     io::writer(&rt).write_all(printed.as_bytes())?;
     Ok(())
+}
+
+/// What both replicas print, which is the same, and a line that says so; where it is not, what each prints.
+fn print_both(alloc: Global, lines: &[String]) -> Result<String, Stop> {
+    let mut folded = played::<Folded>(alloc, lines)?;
+    let plain = played::<Plain>(alloc, lines)?;
+    if folded.as_str() == plain.as_str() {
+        folded.push_str("== both replicas\nno difference\n")?;
+    } else {
+        folded.push_str("== the plain replica prints otherwise\n")?;
+        folded.push_str(plain.as_str())?;
+    }
+    Ok(folded)
+}
+
+/// What the lines give on a replica.
+fn played<R: Replica>(alloc: Global, lines: &[String]) -> Result<String, Stop> {
+    let mut row: Row<R> = begin(alloc);
+    let mut names = names::none(alloc);
+    let mut printed = String::new(alloc);
+    for line in lines {
+        answer(alloc, &mut printed, &mut row, &mut names, line.as_str())?;
+    }
+    Ok(printed)
 }
 
 /// Plays a line; one that is none of the language is told.

@@ -6,13 +6,13 @@ use Rattle.std.specs.Ordering.{nat_cmp}
 use Rattle.std.proofs.lemmas.Bool.{or_left, or_right, lt-ltb, ne_eqb, and_from, and_parts}
 use Rattle.std.proofs.lemmas.List.Elements.{filter_map-append}
 use Rattle.std.proofs.lemmas.List.Sums.{fold-append}
-use Rattle.sn_session.specs.Tables.{IsAt, IsGap}
+use Rattle.sn_session.specs.inner.Tables.{IsAt, IsGap}
 use Rattle.rep_ops.specs.declared.op.Put.{Put}
 use Rattle.rep_digest.specs.declared.groups.Acknowledged.{Acknowledged}
 use Rattle.rep_digest.specs.declared.entry.OriginEntry.{OriginEntry}
 use Rattle.rep_digest.specs.Digests.{has_ranges}
 use Rattle.rep_digest.specs.WellMade.{OriginsAscend}
-use Rattle.rep_digest.specs.Steps.{numbers_of, seq_of, with_number, in_ranges_of, drafted, drafted_origins, AreDrafted}
+use Rattle.rep_digest.specs.inner.Steps.{numbers_of, seq_of, with_number, in_ranges_of, drafted, drafted_origins, AreDrafted}
 use Rattle.rep_digest.proofs.Occurring.{silent, unchanged, at_place, at_gap, origins_up, none_listed}
 
 -- ---- a number behind the others

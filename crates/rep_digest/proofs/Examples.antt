@@ -8,7 +8,7 @@ use Rattle.rep_model.specs.Views.{gapless}
 use Rattle.rep_digest.specs.Digests.{digest, origin_entries, numbers_from}
 use Rattle.rep_digest.specs.Answers.{covers_put, covers_acknowledgement}
 use Rattle.rep_digest.specs.Spelling.{spelling}
-use Rattle.rep_digest.specs.Steps.{outside, left_by}
+use Rattle.rep_digest.specs.inner.Steps.{outside, left_by}
 
 -- a client `s1`
 abbrev s1 : List ℕ

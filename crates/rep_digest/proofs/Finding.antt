@@ -7,7 +7,8 @@ use Rattle.std.specs.Cmp.{on_total}
 use Rattle.std.proofs.lemmas.Bool.{and_from}
 use Rattle.std.proofs.lemmas.Option.{same_Some}
 use Rattle.std.specs.List.{find, AllByRecursion}
-use Rattle.sn_session.specs.Tables.{is_ascending, IsAt, IsGap}
+use Rattle.sn_session.specs.Tables.{is_ascending}
+use Rattle.sn_session.specs.inner.Tables.{IsAt, IsGap}
 use Rattle.sn_session.proofs.Ascending.{Ascends, from_test}
 use Rattle.sn_session.proofs.Places.{find_at, find_gap}
 use Rattle.rep_digest.specs.declared.entry.ClientEntry.{ClientEntry}

@@ -10,10 +10,10 @@ use Rattle.rep_ops.specs.declared.op.Op.TheVariants.{Ack}
 use Rattle.rep_ops.specs.Orders.{client_cmp}
 use Rattle.rep_ops.specs.Sets.{same_client}
 use Rattle.rep_model.proofs.Readers.{client_total}
-use Rattle.sn_session.specs.Tables.{AllAbove, IsAt, IsGap}
+use Rattle.sn_session.specs.inner.Tables.{AllAbove, IsAt, IsGap}
 use Rattle.sn_session.proofs.Ascending.{Ascends}
 use Rattle.rep_digest.specs.declared.groups.Acknowledged.{Acknowledged}
-use Rattle.rep_digest.specs.Steps.{acknowledged_by, group, groups}
+use Rattle.rep_digest.specs.inner.Steps.{acknowledged_by, group, groups}
 
 pub ascends_from : (cs : List (List ℕ)) → IsStrictlySortedBy client_cmp cs → Ascends client_cmp cs
 unfolding IsStrictlySortedBy

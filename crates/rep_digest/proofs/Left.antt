@@ -23,7 +23,7 @@ use Rattle.rep_digest.specs.declared.entry.OriginEntry.{OriginEntry}
 use Rattle.rep_digest.specs.declared.entry.ClientEntry.{ClientEntry}
 use Rattle.rep_digest.specs.Answers.{entry_of, ranges_of, acknowledged_in, waiting_in, sees, covers_operation, covers_put, covers_acknowledgement, IsRest}
 use Rattle.rep_digest.specs.WellMade.{IsOrigin, IsEntry, IsDigest}
-use Rattle.rep_digest.specs.Steps.{outside, ack_of, left_by, IsLeft}
+use Rattle.rep_digest.specs.inner.Steps.{outside, ack_of, left_by, IsLeft}
 use Rattle.rep_digest.proofs.Reaching.{in_outside, IsPartOf, parts}
 
 -- ---- the ranges that an entry has are apart

@@ -6,7 +6,7 @@ use Rattle.std.specs.List.Sorted.{IsPartitionedBy}
 use Rattle.std.proofs.lemmas.Bool.{and_parts, and_from, or_left, or_right, ltb-true, lt-ltb, ltb-false, false_from_ne_true, cases_lt}
 use Rattle.rep_model.specs.Ranges.{is_within, in_ranges, AreApartFrom, AreApart}
 use Rattle.rep_model.proofs.Ranges.{within-parts, in-apart}
-use Rattle.rep_digest.specs.Steps.{ending_from, beginning_by, begins_by, reaches, before, behind, outside_from, outside}
+use Rattle.rep_digest.specs.inner.Steps.{ending_from, beginning_by, begins_by, reaches, before, behind, outside_from, outside}
 
 within-from : (n : ℕ) (r : ℕ × ℕ) → r.0 ≤ n → n ≤ r.1 → is_within n r ≡ true
 within-from n r f g = and_from (nat_le r.0 n) (nat_le n r.1) (le-leb r.0 n f) (le-leb n r.1 g)

@@ -21,7 +21,7 @@ use Rattle.rep_model.proofs.Readers.{same_client-true}
 use Rattle.rep_model.proofs.Waiting.{AreUnderNames, waiting_entries, waiting_under, waiting_sorted}
 use Rattle.rep_model.proofs.Ranges.{IsRange, within-parts, in-joined, apart-joined, same_ranges}
 use Rattle.rep_digest.specs.Digests.{number_of, waiting}
-use Rattle.rep_digest.specs.Steps.{acknowledged_by, group, numbers_of, seq_of, with_number, in_ranges_of}
+use Rattle.rep_digest.specs.inner.Steps.{acknowledged_by, group, numbers_of, seq_of, with_number, in_ranges_of}
 
 -- ---- acknowledgements
 

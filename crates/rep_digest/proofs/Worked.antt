@@ -18,7 +18,7 @@ use Rattle.rep_model.proofs.Limits.{in-ranges_of, in-acknowledged, apart-acknowl
 use Rattle.rep_digest.specs.declared.groups.Acknowledged.{Acknowledged}
 use Rattle.rep_digest.specs.declared.entry.ClientEntry.{ClientEntry}
 use Rattle.rep_digest.specs.Digests.{origin_entry, has_ranges, numbers_from, origin_entries, client_entry, digest}
-use Rattle.rep_digest.specs.Steps.{group, groups, drafted, drafted_entry}
+use Rattle.rep_digest.specs.inner.Steps.{group, groups, drafted, drafted_entry}
 use Rattle.rep_ops.specs.Values.{AreValues}
 use Rattle.rep_digest.specs.WellMade.{IsDigest}
 use Rattle.rep_digest.proofs.Said.{group_ranges, ranges_rising, waiting_said}

@@ -3,4 +3,4 @@ pub mod Answers
 pub mod WellMade
 pub mod Spelling
 pub mod Reading
-pub mod Steps
+pub mod inner

@@ -1,6 +1,6 @@
 -- The one spelling of a digest as octets, version 1. Numbers have the most significant octet first.
-use Rattle.std.specs.Prelude.{◌≡◌, ℕ, ◌+◌, ◌^◌, ◌<◌, ◌≤◌, List, ◌∷◌, ◌++◌, length, Option, Some, None, MatchOption}
-use Rattle.std.specs.List.{flat_map, AllByRecursion}
+use Rattle.std.specs.Prelude.{ℕ, ◌+◌, ◌≤◌, List, ◌∷◌, ◌++◌, length, Option, Some, None}
+use Rattle.std.specs.List.{flat_map}
 use Rattle.byteorder.specs.Endian.{big_bytes}
 use Rattle.rep_ops.specs.declared.op.Stamp.{Stamp}
 use Rattle.rep_ops.specs.Spelling.{client_octets, text_of, max_octets}
@@ -38,15 +38,3 @@ spelling d = text_of entry_octets d
 
 abbrev pub IsWithinLimit : List ClientEntry → Type 0
 IsWithinLimit d = length (spelling d) ≤ max_octets
-
--- counts that fit their octets: ranges four, origins two
-abbrev pub AreFew : OriginEntry → Type 0
-AreFew o = (length o.acknowledged < 2 ^ 32) × (length o.waiting < 2 ^ 32)
-
-pub record IsWritable (e : ClientEntry) : Type 0 where
-  pub origins : length e.origins < 2 ^ 16
-  pub ranges : AllByRecursion AreFew e.origins
-
--- what is left of a number of octets behind so many: nothing where they do not fit
-abbrev pub Leaves : ℕ → ℕ → Option ℕ → Type 0
-Leaves octets room result = MatchOption result (room < octets) (λ rest. rest + octets ≡ room)

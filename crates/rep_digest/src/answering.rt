@@ -8,7 +8,7 @@ ghost use Rattle.rep_ops.specs.WellMade.{is_well_made as made_test};
 ghost use Rattle.rep_model.specs.Ranges.{in_ranges as ranges_test};
 ghost use Rattle.rep_digest.specs.Answers.{acknowledged_in as acknowledged_of, waiting_in as waiting_of, IsAnswer};
 ghost use Rattle.rep_digest.specs.WellMade.{IsEntry, IsDigest};
-ghost use Rattle.rep_digest.specs.Steps.{before, behind as behind_range, outside, ack_of, left_of, left_by, IsLeft};
+ghost use Rattle.rep_digest.specs.inner.Steps.{before, behind as behind_range, outside, ack_of, left_of, left_by, IsLeft};
 
 use super::cover::{
     acknowledged_in, beginning_by, ending_from, find_entry, in_ranges, sees, waiting_in,

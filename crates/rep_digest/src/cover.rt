@@ -2,14 +2,14 @@
 
 ghost use Rattle.std.specs.Prelude.{◌≡◌, ◌==◌, Some, None, MatchOption};
 ghost use Rattle.std.specs.List.{find};
-ghost use Rattle.sn_session.specs.Tables.{IsPlace};
+ghost use Rattle.sn_session.specs.inner.Tables.{IsPlace};
 ghost use Rattle.rep_ops.specs.Orders.{client_cmp};
 ghost use Rattle.rep_model.specs.Keep.{is_below as below_test};
 ghost use Rattle.rep_model.specs.Limits.{is_in_prefix as prefix_test};
 ghost use Rattle.rep_model.specs.Ranges.{in_ranges as ranges_test, AreApart};
 ghost use Rattle.rep_digest.specs.Answers.{entry_of, acknowledged_in as acknowledged_of, waiting_in as waiting_of, sees as sees_test};
 ghost use Rattle.rep_digest.specs.WellMade.{IsEntry, ClientsAscend, IsDigest};
-ghost use Rattle.rep_digest.specs.Steps.{ending_from as ending_test, beginning_by as beginning_test, begins_by};
+ghost use Rattle.rep_digest.specs.inner.Steps.{ending_from as ending_test, beginning_by as beginning_test, begins_by};
 
 use super::entry::ClientEntry;
 use super::origins::find_origin;

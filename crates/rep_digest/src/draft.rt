@@ -3,7 +3,7 @@
 ghost use Rattle.std.specs.Prelude.{◌≡◌, ◌+◌, ◌==◌, ◌&&◌, nat_le, ◌++◌, ◌∷◌, [], List, IfOk, IfErr, OnOk};
 ghost use Rattle.rep_ops.specs.declared.op.Put.{Put};
 ghost use Rattle.rep_digest.specs.declared.groups.Acknowledged.{Acknowledged};
-ghost use Rattle.rep_digest.specs.Steps.{with_number, drafted_origins, AreDrafted, drafted_entry};
+ghost use Rattle.rep_digest.specs.inner.Steps.{with_number, drafted_origins, AreDrafted, drafted_entry};
 
 use super::entry::{ClientEntry, OriginEntry};
 use super::groups::Acknowledged;

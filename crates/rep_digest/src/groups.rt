@@ -2,12 +2,12 @@
 
 ghost use Rattle.std.specs.Prelude.{◌≡◌, ◌++◌, ◌∷◌, [], List, length, IfOk, IfErr, OnOk};
 ghost use Rattle.std.specs.List.Sorted.{IsStrictlySortedBy};
-ghost use Rattle.sn_session.specs.Tables.{IsPlace};
+ghost use Rattle.sn_session.specs.inner.Tables.{IsPlace};
 ghost use Rattle.rep_ops.specs.declared.op.Op.{Op};
 ghost use Rattle.rep_ops.specs.declared.op.Op.TheVariants.{Ack as OfAck};
 ghost use Rattle.rep_ops.specs.Orders.{client_cmp};
 ghost use Rattle.rep_ops.specs.Splitting.{all_of};
-ghost use Rattle.rep_digest.specs.Steps.{groups as all_groups};
+ghost use Rattle.rep_digest.specs.inner.Steps.{groups as all_groups};
 
 use octets::Sequence;
 use rep_ops::{ClientId, Delta, Op, OpsFault};

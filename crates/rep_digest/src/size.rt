@@ -3,7 +3,8 @@
 ghost use Rattle.std.specs.Prelude.{◌≡◌, ◌↔◌, length, IsTrue};
 ghost use Rattle.std.specs.List.{flat_map};
 ghost use Rattle.rep_ops.specs.ClientIds.{IsClientId};
-ghost use Rattle.rep_digest.specs.Spelling.{ranges_octets, origin_octets, origins_octets, entry_octets, IsWithinLimit, Leaves};
+ghost use Rattle.rep_digest.specs.Spelling.{ranges_octets, origin_octets, origins_octets, entry_octets, IsWithinLimit};
+ghost use Rattle.rep_digest.specs.inner.Spelling.{Leaves};
 
 use super::entry::{ClientEntry, OriginEntry};
 use rep_ops::MAX_OCTETS;

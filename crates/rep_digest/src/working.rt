@@ -9,7 +9,7 @@ ghost use Rattle.rep_model.specs.Views.{view, unseen as nothing_seen};
 ghost use Rattle.rep_digest.specs.Digests.{digest};
 ghost use Rattle.rep_digest.specs.WellMade.{IsDigest};
 ghost use Rattle.rep_digest.specs.Spelling.{spelling};
-ghost use Rattle.rep_digest.specs.Steps.{group, groups as all_groups, drafted_entry};
+ghost use Rattle.rep_digest.specs.inner.Steps.{group, groups as all_groups, drafted_entry};
 
 use super::digest::Digest;
 use super::draft::entry_of;

@@ -7,7 +7,8 @@ ghost use Rattle.byteorder.specs.Endian.{big_bytes};
 ghost use Rattle.std.specs.List.{flat_map, AllByRecursion};
 ghost use Rattle.rep_ops.specs.Writing.{Writes};
 ghost use Rattle.rep_digest.specs.WellMade.{IsDigest};
-ghost use Rattle.rep_digest.specs.Spelling.{range_octets, ranges_octets, origin_octets, origins_octets, seen_octets, entry_octets, spelling, IsWithinLimit, AreFew, IsWritable};
+ghost use Rattle.rep_digest.specs.Spelling.{range_octets, ranges_octets, origin_octets, origins_octets, seen_octets, entry_octets, spelling, IsWithinLimit};
+ghost use Rattle.rep_digest.specs.inner.Spelling.{AreFew, IsWritable};
 
 use super::entry::{ClientEntry, OriginEntry};
 use octets::{append_u16, append_u32, append_u64};

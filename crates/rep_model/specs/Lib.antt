@@ -6,4 +6,5 @@ pub mod Ranges
 pub mod Limits
 pub mod Roomy
 pub mod Taking
+pub mod Faults
 pub mod Asking

@@ -8,6 +8,7 @@ use Rattle.rep_ops.specs.declared.op.Op.{Op}
 use Rattle.rep_ops.specs.declared.op.Op.TheVariants.{Session as OfSession, Put as OfPut, Ack}
 use Rattle.rep_ops.specs.Orders.{stamp_cmp, operation_cmp}
 use Rattle.rep_ops.specs.Sets.{same_client, operations}
+use Rattle.rep_model.specs.declared.fault.TheConstants.{MOST_CLIENTS, MOST_PENDING, MOST_PARKED, MOST_EXCEPTIONS}
 use Rattle.rep_model.specs.declared.fault.Limit.{Limit}
 use Rattle.rep_model.specs.declared.fault.Limit.TheVariants.{Clients, Pending, Parked, Exceptions}
 use Rattle.rep_model.specs.Views.{visible, history, in_order, pending, clients}
@@ -73,7 +74,7 @@ any_above most count S = list_any (λ c. nat_lt most (count c)) (clients S)
 -- 16,384 acknowledgements above a gap
 abbrev pub first_passed : List Op → Option Limit
 first_passed S =
-    if nat_lt 4096 (length (clients S)) then Some Clients
-    else (if any_above 16384 (λ c. length (pending c S)) S then Some Pending
-    else (if any_above 4096 (λ c. length (parked c S)) S then Some Parked
-    else (if any_above 16384 (λ c. exceptions c S) S then Some Exceptions else None)))
+    if nat_lt MOST_CLIENTS (length (clients S)) then Some Clients
+    else (if any_above MOST_PENDING (λ c. length (pending c S)) S then Some Pending
+    else (if any_above MOST_PARKED (λ c. length (parked c S)) S then Some Parked
+    else (if any_above MOST_EXCEPTIONS (λ c. exceptions c S) S then Some Exceptions else None)))

@@ -2,21 +2,34 @@
 
 ghost use Rattle.std.specs.Prelude.{◌≡◌};
 ghost use Rattle.rep_model.specs.declared.fault.TakeFault.TheVariants.{Memory};
+ghost use Rattle.rep_model.specs.Faults.{number_of};
 
 use rep_ops::{ClientId, OpsFault};
 use std::alloc::AllocError;
 use thiserror::Error;
 
+/// The most clients that a replica holds.
+pub const MOST_CLIENTS: usize = 4096;
+
+/// The most messages that wait for a client.
+pub const MOST_PENDING: usize = 16384;
+
+/// The most session operations of a client that wait for earlier ones.
+pub const MOST_PARKED: usize = 4096;
+
+/// The most acknowledgements of a client's messages above one that is not acknowledged.
+pub const MOST_EXCEPTIONS: u64 = 16384;
+
 /// What a replica can hold too much of.
 #[derive(Clone, Copy, Debug, PartialEq, Eq)]
 pub enum Limit {
-    /// 4,096 clients.
+    /// More than [`MOST_CLIENTS`] clients, 4,096.
     Clients,
-    /// 16,384 messages that wait for one client.
+    /// More than [`MOST_PENDING`] messages that wait for one client, 16,384.
     Pending,
-    /// 4,096 session operations of one client that wait for earlier ones.
+    /// More than [`MOST_PARKED`] session operations of one client that wait for earlier ones, 4,096.
     Parked,
-    /// 16,384 acknowledgements of one client's messages above one that is not acknowledged.
+    /// More than [`MOST_EXCEPTIONS`] acknowledgements of one client's messages above one that is not acknowledged, 16,384.
     Exceptions,
 }
 
@@ -32,6 +45,19 @@ pub enum TakeFault {
     /// Fault 3: memory ran out.
     #[error("out of memory")]
     Memory,
+}
+
+impl TakeFault {
+    /// The number by which reports name the fault, 1 to 3.
+    pub fn number(&self) -> u8
+        ensures { result ≡ number_of self.now }
+    {
+        match self {
+            TakeFault::Conflict { .. } => 1,
+            TakeFault::Full { .. } => 2,
+            TakeFault::Memory => 3,
+        }
+    }
 }
 
 impl From<AllocError> for TakeFault {

@@ -6,7 +6,7 @@
 //!
 //! - `view`: the view of a client, as a value (`ClientView`).
 //! - `laws`: the laws of sets and views, proved of all sets.
-//! - `fault`: why a replica refuses a delta.
+//! - `fault`: why a replica refuses a delta, and how much it holds at most (`MOST_CLIENTS` and the others).
 //! - `replica`: what every replica of a set promises (`Replica`), however it keeps it.
 //!
 //! The definitions are in `specs/`: `Views` (visible stamp, prefix, session, pending), `Fresh` (the next
@@ -22,7 +22,7 @@ mod laws;
 mod replica;
 mod view;
 
-pub use fault::{Limit, TakeFault};
+pub use fault::{Limit, MOST_CLIENTS, MOST_EXCEPTIONS, MOST_PARKED, MOST_PENDING, TakeFault};
 pub use laws::{
     base_laws, client_laws, consistency, count_laws, join_laws, keep_laws, leaves_only, order_laws,
     pending_laws, range_laws,

@@ -65,12 +65,14 @@ pub trait Replica: Drop {
         ensures err { IfErr result (λ fault. fault ≡ Memory) };
 
     /// The client at a place among those that operations name, which stand in ascending order from place 0 on, with its
-    /// view; nothing behind the last.
-    fn client_at(&self, place: usize) -> Option<(&ClientId, &ClientView)>
+    /// view, and the place behind it; nothing behind the last.
+    fn client_at(&self, place: usize) -> Option<(usize, &ClientId, &ClientView)>
         ensures { MatchOption result
             (drop place (clients (kept self.now)) ≡ [])
-            (λ found. (drop place (clients (kept self.now)) ≡ found.0.now ∷ drop (place + 1) (clients (kept self.now)))
-            × (found.1.now ≡ view found.0.now (kept self.now))) };
+            (λ found. (drop place (clients (kept self.now))
+            ≡ found.1.now ∷ drop found.0 (clients (kept self.now)))
+            × (found.0 ≡ place + 1)
+            × (found.2.now ≡ view found.1.now (kept self.now))) };
 
     /// The next client, from a place on, that may be subscribed to the topic (MQTT-SN 1.2 section 6.10), with its view, and the
     /// place behind it; nothing only where nobody who is left is subscribed. Whoever is passed over is not. A replica need not pass

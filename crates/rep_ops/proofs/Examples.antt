@@ -6,7 +6,7 @@ use Rattle.sn_session.specs.Session.{empty_session}
 use Rattle.rep_ops.specs.declared.fault.OpsFault.TheVariants as faults
 use Rattle.rep_ops.specs.declared.op.Op.{Op}
 use Rattle.rep_ops.specs.declared.op.Op.TheVariants.{Session as OfSession, Ack}
-use Rattle.rep_ops.specs.Joining.{joined}
+use Rattle.rep_ops.specs.inner.Joining.{joined}
 use Rattle.rep_ops.specs.Reading.{reading, whole_at, text_at, listed_at, op_at, ack_at, range_at, client_at}
 use Rattle.rep_ops.specs.Spelling.{spelling}
 

@@ -15,7 +15,7 @@ use Rattle.rep_ops.specs.declared.op.Put.{Put}
 use Rattle.rep_ops.specs.declared.op.Op.{Op}
 use Rattle.rep_ops.specs.declared.op.Op.TheVariants.{Session as OfSession, Put as OfPut, Ack}
 use Rattle.rep_ops.specs.Deltas.{IsDelta, IsAscending, IsBefore}
-use Rattle.rep_ops.specs.Joining.{joins, united, united_from, joined}
+use Rattle.rep_ops.specs.inner.Joining.{joins, united, united_from, joined}
 use Rattle.rep_ops.specs.Making.{AreWellMade}
 use Rattle.rep_ops.specs.Orders.{name_cmp, operation_cmp, put_cmp}
 use Rattle.rep_ops.specs.Sets.{same_client, operation_at, put_at, acknowledges, is_acknowledged, Same}

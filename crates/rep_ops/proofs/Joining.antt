@@ -5,7 +5,7 @@ use Rattle.std.specs.List.{AllByRecursion}
 use Rattle.std.proofs.lemmas.Slice.Eq.{bytes_eq-Decides}
 use Rattle.rep_ops.specs.declared.op.Op.{Op}
 use Rattle.rep_ops.specs.declared.op.Op.TheVariants.{Ack}
-use Rattle.rep_ops.specs.Joining.{joins, united, united_from, joined}
+use Rattle.rep_ops.specs.inner.Joining.{joins, united, united_from, joined}
 
 -- what it means that two ranges join
 pub record Near (c d : List ℕ) (r s last start : ℕ) : Type 0 where

@@ -13,7 +13,7 @@ use Rattle.rep_ops.specs.declared.fault.OpsFault.TheVariants.{Memory, Twice}
 use Rattle.rep_ops.specs.declared.op.Op.{Op}
 use Rattle.rep_ops.specs.Deltas.{ShareName}
 use Rattle.rep_ops.specs.declared.op.Op.TheVariants.{Session as OfSession, Put as OfPut, Ack}
-use Rattle.rep_ops.specs.Joining.{united, joined}
+use Rattle.rep_ops.specs.inner.Joining.{united, joined}
 use Rattle.rep_ops.specs.Making.{AreWellMade, AreApart, IsDeltaOf}
 use Rattle.rep_ops.specs.Orders.{name_cmp}
 use Rattle.rep_ops.specs.Values.{IsValue, AreValues}

@@ -15,7 +15,7 @@ use Rattle.rep_ops.specs.declared.op.Op.{Op}
 use Rattle.rep_ops.specs.declared.op.Op.TheVariants.{Session as OfSession, Put as OfPut, Ack}
 use Rattle.rep_ops.specs.declared.fault.OpsFault.{OpsFault}
 use Rattle.rep_ops.specs.Making.{IsDeltaOf, AreWellMade}
-use Rattle.rep_ops.specs.Joining.{joined}
+use Rattle.rep_ops.specs.inner.Joining.{joined}
 use Rattle.rep_ops.specs.Orders.{name_cmp, operation_cmp, put_cmp}
 use Rattle.rep_ops.specs.Sets.{same_client, operation_at, put_at, acknowledges, is_acknowledged, Same}
 use Rattle.rep_ops.proofs.Names.{name_total, same_client_cmp, then_equal}

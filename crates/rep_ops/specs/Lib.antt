@@ -8,9 +8,9 @@ pub mod WellMade
 pub mod Deltas
 pub mod Spelling
 pub mod Making
-pub mod Joining
 pub mod Splitting
 pub mod Writing
 pub mod Reading
 pub mod Values
 pub mod Formats
+pub mod inner

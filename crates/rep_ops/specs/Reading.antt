@@ -21,6 +21,7 @@ use Rattle.sn_session.specs.declared.change.SessionOp.{SessionOp}
 use Rattle.sn_session.specs.declared.change.SessionOp.TheVariants.{Take, Presence as SetPresence, Register, Subscribe, Unsubscribe, WillTopic as SetWillTopic, WillMsg, Received, Released, Outbound as SetOutbound}
 use Rattle.rep_ops.specs.declared.fault.OpsFault.{OpsFault}
 use Rattle.rep_ops.specs.declared.fault.OpsFault.TheVariants as faults
+use Rattle.rep_ops.specs.declared.size.TheConstants.{MAX_BODY}
 use Rattle.rep_ops.specs.declared.op.Op.{Op}
 use Rattle.rep_ops.specs.declared.op.Op.TheVariants.{Session as OfSession, Put as OfPut, Ack}
 use Rattle.rep_ops.specs.Orders.{name_cmp}
@@ -84,7 +85,7 @@ unfoldable pub topic_at : Reader (List ℕ)
 topic_at = ranged (λ name. not (has_wildcard name)) (sized_at (λ n. nat_le 1 n && nat_le n 256) (number_at w16))
 
 unfoldable pub body_at : Reader (List ℕ)
-body_at = sized_at (λ n. nat_le n 4096) (number_at w16)
+body_at = sized_at (λ n. nat_le n MAX_BODY) (number_at w16)
 
 -- ---- texts: a version, a count, and values of which each may stand behind those before it
 

@@ -2,6 +2,7 @@
 use Rattle.std.specs.Prelude.{ℕ, ◌≤◌, List, ◌∷◌, ◌++◌, length}
 use Rattle.std.specs.List.{flat_map}
 use Rattle.byteorder.specs.Endian.{big_bytes}
+use Rattle.rep_ops.specs.declared.size.TheConstants.{MAX_OCTETS}
 use Rattle.rep_ops.specs.declared.op.Put.{Put}
 use Rattle.rep_ops.specs.declared.op.Op.{Op}
 use Rattle.rep_ops.specs.declared.op.Op.TheVariants.{Session as OfSession, Put as OfPut, Ack}
@@ -32,7 +33,7 @@ spelling ops = text_of op_octets ops
 
 -- the most octets of a delta, 8 MiB
 abbrev pub max_octets : ℕ
-max_octets = 8388608
+max_octets = MAX_OCTETS
 
 abbrev pub IsWithinLimit : List Op → Type 0
 IsWithinLimit ops = length (spelling ops) ≤ max_octets

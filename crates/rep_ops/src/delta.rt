@@ -2,13 +2,13 @@
 
 ghost use Rattle.std.specs.Prelude.{◌≡◌, ◌≢◌, ◌⊎◌, ◌<◌, ◌≤◌, ◌==◌, ℕ, List, [], Ok, Err, ◌++◌, length, IfOk, IfErr, OnOk, OnErr, ◌↔◌};
 ghost use Rattle.rep_ops.specs.Deltas.{IsDelta, HasTwice};
-ghost use Rattle.rep_ops.specs.Joining.{joined};
+ghost use Rattle.rep_ops.specs.inner.Joining.{joined};
 ghost use Rattle.rep_ops.specs.Making.{AreWellMade, AreApart, IsDeltaOf, IsRefusal};
 ghost use Rattle.rep_ops.specs.Formats.{IsSpelled};
 ghost use Rattle.rep_ops.specs.Reading.{Gives, reading, AreOctets};
 ghost use Rattle.rep_ops.specs.Sets.{Same};
 ghost use Rattle.rep_ops.specs.Values.{AreValues};
-ghost use Rattle.rep_ops.specs.Spelling.{spelling, IsWithinLimit};
+ghost use Rattle.rep_ops.specs.Spelling.{spelling, max_octets, IsWithinLimit};
 ghost use Rattle.rep_ops.specs.declared.op.Op.{Op};
 
 use super::fault::OpsFault;
@@ -102,7 +102,7 @@ impl Delta {
         // Which fault it is.
         ensures exact { Gives (λ d. d) result (reading bytes.now) }
         // Too many octets are told whatever memory there is.
-        ensures limit { 8388608 < length bytes.now → result ≡ Err OpsFault.Limit }
+        ensures limit { max_octets < length bytes.now → result ≡ Err OpsFault.Limit }
     {
         Ok(Delta {
             ops: read_delta(alloc, bytes)?,
@@ -195,5 +195,5 @@ pub fn no_prefix()
         → spelling d ≡ front ++ rest → rest ≢ [] → reading front ≡ Err OpsFault.Truncated }
     // What stands behind is told by `Trailing`.
     ensures behind { (d : List Op) (rest : List ℕ) → IsDelta d → AreValues d → rest ≢ []
-        → length (spelling d ++ rest) ≤ 8388608 → reading (spelling d ++ rest) ≡ Err OpsFault.Trailing }
+        → length (spelling d ++ rest) ≤ max_octets → reading (spelling d ++ rest) ≡ Err OpsFault.Trailing }
 {}

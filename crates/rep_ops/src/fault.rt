@@ -2,7 +2,7 @@
 
 ghost use Rattle.std.specs.Prelude.{◌≡◌};
 ghost use Rattle.rep_ops.specs.declared.fault.OpsFault.TheVariants.{Memory};
-ghost use Rattle.rep_ops.specs.Faults.{fault_of_topic};
+ghost use Rattle.rep_ops.specs.Faults.{fault_of_topic, number_of};
 
 use sn_session::SessionFault;
 use sn_topic::TopicFault;
@@ -36,6 +36,24 @@ pub enum OpsFault {
     /// Fault 8: bytes stand behind the delta.
     #[error("bytes stand behind the delta")]
     Trailing,
+}
+
+impl OpsFault {
+    /// The number by which reports name the fault, 1 to 8.
+    pub fn number(&self) -> u8
+        ensures { result ≡ number_of self.now }
+    {
+        match self {
+            OpsFault::Twice => 1,
+            OpsFault::Limit => 2,
+            OpsFault::Memory => 3,
+            OpsFault::Truncated => 4,
+            OpsFault::Version => 5,
+            OpsFault::Kind => 6,
+            OpsFault::Order => 7,
+            OpsFault::Trailing => 8,
+        }
+    }
 }
 
 impl From<AllocError> for OpsFault {

@@ -6,7 +6,7 @@ ghost use Rattle.std.specs.List.Sorted.{IsPermutation, IsSortedBy, IsStableBy};
 ghost use Rattle.std.specs.Ordering.{is_lt};
 ghost use Rattle.rep_ops.specs.Deltas.{ShareName, HasTwice};
 ghost use Rattle.rep_ops.specs.declared.op.Op.{Op};
-ghost use Rattle.rep_ops.specs.Joining.{joins as join_test, united as united_op, joined as all_joined};
+ghost use Rattle.rep_ops.specs.inner.Joining.{joins as join_test, united as united_op, joined as all_joined};
 ghost use Rattle.rep_ops.specs.Orders.{name_cmp};
 
 use super::fault::OpsFault;

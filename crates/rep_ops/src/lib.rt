@@ -44,6 +44,6 @@ pub use read::{
     read_client, read_counted_eight, read_counted_octet, read_eight, read_four, read_octet,
     read_two,
 };
-pub use size::MAX_OCTETS;
+pub use size::{MAX_BODY, MAX_OCTETS};
 pub use split::deltas_of;
 pub use write::write_client;

@@ -4,10 +4,8 @@ ghost use Rattle.std.specs.Prelude.{◌≡◌};
 ghost use Rattle.std.specs.List.{list_all};
 ghost use Rattle.rep_ops.specs.Ranges.{is_topic_id as id_test, is_topic as topic_test, is_subscription as subscription_test, is_will as will_test, is_will_topic as will_topic_test, is_exchange as exchange_test, is_session as session_test, is_change as change_test};
 
+use super::size::MAX_BODY;
 use sn_session::{Outbound, Session, SessionOp, Subscription, TopicEntry, Will, WillTopic};
-
-/// The most octets of a message.
-const MAX_MESSAGE: usize = 4096;
 
 /// Whether a topic id is not reserved.
 pub fn is_topic_id(id: u16) -> bool
@@ -22,7 +20,7 @@ fn is_will(will: &Option<Will>) -> bool
 {
     match will {
         None => true,
-        Some(will) => will.qos <= 2 && will.message.len() <= MAX_MESSAGE,
+        Some(will) => will.qos <= 2 && will.message.len() <= MAX_BODY,
     }
 }
 
@@ -80,7 +78,7 @@ pub fn is_change(change: &SessionOp) -> bool
         SessionOp::Register { id, .. } => is_topic_id(*id),
         SessionOp::Subscribe { qos, .. } => *qos <= 2,
         SessionOp::WillTopic(asked) => is_will_topic(asked),
-        SessionOp::WillMsg(message) => message.len() <= MAX_MESSAGE,
+        SessionOp::WillMsg(message) => message.len() <= MAX_BODY,
         SessionOp::Outbound { exchange, next_id } => *next_id >= 1 && is_exchange(exchange),
         SessionOp::Presence { .. }
         | SessionOp::Unsubscribe { .. }

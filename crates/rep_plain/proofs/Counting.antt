@@ -18,8 +18,10 @@ use Rattle.rep_model.proofs.Named.{find_clients}
 use Rattle.rep_plain.specs.declared.entry.Entry.{Entry}
 use Rattle.rep_plain.specs.Steps.{capped}
 use Rattle.rep_plain.specs.Entries.{IsWorkedOut}
-use Rattle.rep_plain.specs.Rows.{flat, own, or_nothing, moved, has_any, count_named, count_new, IsOwn, AreRows, of_client}
-use Rattle.rep_plain.specs.Tables.{rows_of, IsEntry, AreEntries, passed_of, passed_by, too_many_pending, too_many_parked, too_many_exceptions}
+use Rattle.rep_plain.specs.Rows.{flat, own, or_nothing, moved, has_any, count_named, IsOwn}
+use Rattle.rep_plain.specs.inner.Rows.{count_new, AreRows, of_client}
+use Rattle.rep_plain.specs.Tables.{rows_of, IsEntry, AreEntries}
+use Rattle.rep_plain.specs.inner.Tables.{passed_of, passed_by, too_many_pending, too_many_parked, too_many_exceptions}
 use Rattle.std.specs.Option.{option_map}
 use Rattle.std.proofs.lemmas.Bool.Decides.{nat_tests}
 use Rattle.rep_model.specs.declared.view.ClientView.{ClientView}

@@ -14,7 +14,7 @@ use Rattle.rep_ops.specs.Sets.{same_client, operations, puts, is_acknowledged}
 use Rattle.rep_model.specs.Views.{in_order, pending}
 use Rattle.rep_model.specs.Limits.{range_of}
 use Rattle.rep_plain.specs.declared.ranges.Range.{Range}
-use Rattle.rep_plain.specs.Steps.{range_in, covers, numbers, unacknowledged_by}
+use Rattle.rep_plain.specs.inner.Steps.{range_in, covers, numbers, unacknowledged_by}
 use Rattle.rep_plain.proofs.Maps.{insert_is_put}
 
 -- the test of two clients the other way round

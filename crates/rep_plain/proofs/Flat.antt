@@ -16,7 +16,8 @@ use Rattle.rep_ops.specs.Sets.{same_client}
 use Rattle.rep_model.specs.Views.{named, in_order, names, clients, names_client, is_named}
 use Rattle.rep_model.proofs.Lookup.{or_else}
 use Rattle.rep_model.proofs.Readers.{client_total, client_exact}
-use Rattle.rep_plain.specs.Rows.{flat, own, or_nothing, moved, has_any, count_named, IsOwn, AreRows, of_client}
+use Rattle.rep_plain.specs.Rows.{flat, own, or_nothing, moved, has_any, count_named, IsOwn}
+use Rattle.rep_plain.specs.inner.Rows.{AreRows, of_client}
 use Rattle.rep_plain.proofs.Single.{is_named_own}
 
 abbrev twice : List ℕ → Option (List ℕ × List ℕ)

@@ -18,8 +18,10 @@ use Rattle.rep_model.specs.Taking.{IsFaultOf}
 use Rattle.rep_model.specs.declared.fault.TakeFault.{TakeFault}
 use Rattle.rep_model.specs.declared.fault.TakeFault.TheVariants.{Conflict, Full, Memory}
 use Rattle.rep_plain.specs.declared.entry.Entry.{Entry}
-use Rattle.rep_plain.specs.Rows.{flat, own, or_nothing, IsOwn, AreRows}
-use Rattle.rep_plain.specs.Tables.{rows_of, AreEntries, IsTable, is_known, has_range, IsRefusalOf}
+use Rattle.rep_plain.specs.Rows.{flat, own, or_nothing, IsOwn}
+use Rattle.rep_plain.specs.inner.Rows.{AreRows}
+use Rattle.rep_plain.specs.Tables.{rows_of, AreEntries, IsTable}
+use Rattle.rep_plain.specs.inner.Tables.{is_known, has_range, IsRefusalOf}
 use Rattle.rep_plain.proofs.Maps.{lookup_is_find}
 use Rattle.rep_plain.proofs.Single.{operation_at_own, put_at_own, has_range_own}
 use Rattle.rep_plain.proofs.Flat.{of_flat}

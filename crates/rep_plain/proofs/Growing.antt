@@ -12,7 +12,8 @@ use Rattle.rep_ops.specs.declared.op.Op.{Op}
 use Rattle.rep_ops.specs.Orders.{client_cmp, client_of}
 use Rattle.rep_ops.specs.Sets.{same_client}
 use Rattle.rep_model.proofs.Readers.{client_total}
-use Rattle.rep_plain.specs.Rows.{own, has_any, of_client, grown}
+use Rattle.rep_plain.specs.Rows.{own, has_any}
+use Rattle.rep_plain.specs.inner.Rows.{of_client, grown}
 use Rattle.rep_plain.proofs.Maps.{lookup_is_find}
 use Rattle.rep_plain.proofs.Found.{find_map}
 

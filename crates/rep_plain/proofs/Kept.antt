@@ -15,8 +15,9 @@ use Rattle.rep_model.specs.Keep.{is_below, is_kept, keep}
 use Rattle.rep_model.proofs.Readers.{client_total}
 use Rattle.rep_plain.specs.declared.entry.Entry.{Entry}
 use Rattle.rep_plain.specs.declared.ranges.Range.{Range}
-use Rattle.rep_plain.specs.Rows.{flat, own, or_nothing, kept_rows, IsOwn, IsOwnOp, AreRows}
-use Rattle.rep_plain.specs.Steps.{range_in, must_stay}
+use Rattle.rep_plain.specs.Rows.{flat, own, or_nothing, IsOwn, IsOwnOp}
+use Rattle.rep_plain.specs.inner.Rows.{kept_rows, AreRows}
+use Rattle.rep_plain.specs.inner.Steps.{range_in, must_stay}
 use Rattle.rep_plain.specs.Tables.{IsEntry}
 use Rattle.rep_plain.proofs.Counting.{all_found}
 use Rattle.rep_plain.proofs.Entering.{covers_acknowledged}

@@ -20,7 +20,8 @@ use Rattle.rep_model.proofs.Joins.{all-both, all-weaker}
 use Rattle.rep_plain.specs.declared.entry.Entry.{Entry}
 use Rattle.rep_plain.specs.Entries.{IsWorkedOut}
 use Rattle.rep_plain.specs.Rows.{flat, own, or_nothing, moved, has_any, count_named, IsOwn}
-use Rattle.rep_plain.specs.Tables.{rows_of, IsEntry, AreEntries, IsTable, IsRoomier, AreMovable, HaveRoom}
+use Rattle.rep_plain.specs.Tables.{rows_of, IsEntry, AreEntries, IsTable, HaveRoom}
+use Rattle.rep_plain.specs.inner.Tables.{IsRoomier, AreMovable}
 use Rattle.rep_plain.proofs.Maps.{insert_is_put, lookup_is_find}
 use Rattle.rep_plain.proofs.Single.{view_own}
 use Rattle.rep_plain.proofs.Flat.{all_put, of_flat, named_flat, count_put, moved_last, one_if}

@@ -6,7 +6,8 @@ use Rattle.std.specs.List.{filter_map}
 use Rattle.rep_model.specs.Views.{gapless, then_more, after_change, session_of}
 use Rattle.rep_model.specs.Limits.{joined, above_a_gap}
 use Rattle.rep_plain.specs.declared.ranges.Range.{Range}
-use Rattle.rep_plain.specs.Steps.{numbers, capped, above_gaps}
+use Rattle.rep_plain.specs.Steps.{capped}
+use Rattle.rep_plain.specs.inner.Steps.{numbers, above_gaps}
 
 -- n operations of `at` are there without a gap, and make the session
 pub record IsReplayed (at : ℕ → Option SessionOp) (session : Option Session) (n : ℕ) : Type 0 where

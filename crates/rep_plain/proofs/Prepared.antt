@@ -19,8 +19,10 @@ use Rattle.rep_model.proofs.Thin.{thin-same}
 use Rattle.rep_model.proofs.Limits.{first_passed-thin}
 use Rattle.rep_plain.specs.declared.entry.Entry.{Entry}
 use Rattle.rep_plain.specs.Entries.{IsWorkedOut}
-use Rattle.rep_plain.specs.Rows.{flat, own, moved, has_any, count_named, count_new, IsOwn, IsOwnOp, AreRows, of_client, grown, IsGrown}
-use Rattle.rep_plain.specs.Tables.{rows_of, AreEntries, IsTable, IsRoomier, is_known, passed_by, too_many_pending, too_many_parked, too_many_exceptions}
+use Rattle.rep_plain.specs.Rows.{flat, own, moved, has_any, count_named, IsOwn, IsOwnOp}
+use Rattle.rep_plain.specs.inner.Rows.{count_new, AreRows, of_client, grown, IsGrown}
+use Rattle.rep_plain.specs.Tables.{rows_of, AreEntries, IsTable}
+use Rattle.rep_plain.specs.inner.Tables.{IsRoomier, is_known, passed_by, too_many_pending, too_many_parked, too_many_exceptions}
 use Rattle.rep_plain.proofs.Flat.{of_flat, found_own}
 use Rattle.rep_plain.proofs.Found.{table_rows}
 use Rattle.rep_plain.proofs.Taking.{same_news, same_grown}

@@ -11,8 +11,8 @@ use Rattle.rep_ops.specs.Sets.{same_client, operation_of, operations, operation_
 use Rattle.rep_model.specs.Views.{greatest, take_stamp, names, visible, history, history_at, session_of, in_order, pending, view, names_client, is_named}
 use Rattle.rep_model.specs.Fresh.{largest, seq_of, greatest_epoch}
 use Rattle.rep_model.specs.Limits.{is_parked, parked, range_of, joined, above_a_gap, sum_to, exceptions}
-use Rattle.rep_plain.specs.Rows.{of_client}
-use Rattle.rep_plain.specs.Tables.{has_range}
+use Rattle.rep_plain.specs.inner.Rows.{of_client}
+use Rattle.rep_plain.specs.inner.Tables.{has_range}
 
 -- a reader that reads nothing of other clients
 reads_own : {X : Type 0} (c : List ℕ) (f : Op → Option X) → ((op : Op) → same_client c (client_of op) ≡ false → f op ≡ None) → (S : List Op) → filter_map f S ≡ filter_map f (of_client c S)

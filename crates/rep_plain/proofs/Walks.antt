@@ -2,7 +2,8 @@
 use Rattle.std.proofs.Common.{◌≡◌, ℕ, suc, ◌+◌, ◌-◌, true, false, cond, List, ◌∷◌, map, filter, drop, sym, ap, ◌∙◌, arith, ◌<◌}
 use Rattle.std.proofs.lemmas.List.{drop-drop}
 use Rattle.rep_ops.specs.declared.op.Op.{Op}
-use Rattle.rep_plain.specs.Rows.{has_any, named_rows}
+use Rattle.rep_plain.specs.Rows.{has_any}
+use Rattle.rep_plain.specs.inner.Rows.{named_rows}
 
 -- what stands behind the one at a place
 pub drop_next : {A : Type 0} (n : ℕ) (xs ys : List A) (y : A) → drop n xs ≡ y ∷ ys → drop (n + 1) xs ≡ ys

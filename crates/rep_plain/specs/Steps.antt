@@ -1,52 +1,13 @@
 -- Steps from one operation to the next.
-use Rattle.std.specs.Prelude.{ℕ, ◌-◌, ◌^◌, ◌==◌, Bool, true, not, ◌&&◌, if◌then◌else◌, nat_le, List, Option, Some, None, min, filter}
-use Rattle.std.specs.List.{filter_map, list_any}
+use Rattle.std.specs.Prelude.{ℕ, ◌-◌, ◌^◌, Bool, not, ◌&&◌, Option, min}
 use Rattle.rep_ops.specs.declared.op.Stamp.{Stamp}
-use Rattle.rep_ops.specs.declared.op.Put.{Put}
-use Rattle.rep_ops.specs.declared.op.Op.{Op}
-use Rattle.rep_ops.specs.declared.op.Op.TheVariants.{Session as OfSession, Put as OfPut, Ack}
-use Rattle.rep_ops.specs.Sets.{same_client, puts}
 use Rattle.rep_model.specs.Keep.{is_below}
-use Rattle.rep_model.specs.Limits.{is_in_prefix, joined, above_a_gap, sum_to}
-use Rattle.rep_plain.specs.declared.ranges.Range.{Range}
-
--- the first, or else the second
-abbrev pub first_of_two : {A : Type 0} → Option A → Option A → Option A
-first_of_two None b = b
-first_of_two (Some a) b = Some a
+use Rattle.rep_model.specs.Limits.{is_in_prefix}
 
 -- whether a session operation of that name waits for earlier ones
 abbrev pub waits : Option Stamp → ℕ → Stamp × ℕ → Bool
 waits seen prefix name = not (is_below name.0 seen) && not (is_in_prefix seen prefix name)
 
--- the client's acknowledgements in one operation
-abbrev pub range_in : List ℕ → Op → Option Range
-range_in c (OfSession d stamp counter change) = None
-range_in c (OfPut d put) = None
-range_in c (Ack d origin first last) = if same_client c d then Some (record { origin = origin; first = first; last = last }) else None
-
--- whether the range has the name of the put
-abbrev pub covers : ℕ × ℕ → Range → Bool
-covers name range = (name.1 == range.origin) && nat_le range.first name.0 && nat_le name.0 range.last
-
--- the client's puts that no range covers, under their names
-abbrev pub unacknowledged_by : List Range → List ℕ → List Op → List ((ℕ × ℕ) × Put)
-unacknowledged_by ranges c S = filter (λ e. not (list_any (covers e.0) ranges)) (puts c S)
-
--- the sequence numbers of the origin in the range
-abbrev pub numbers : ℕ → Range → Option (ℕ × ℕ)
-numbers origin range = if (origin == range.origin) && nat_le range.first range.last then Some (range.first, range.last) else None
-
 -- a count as eight octets have it
 abbrev pub capped : ℕ → ℕ
 capped n = min n (2 ^ 64 - 1)
-
--- the acknowledgements above a gap, of the origins 1 to n
-unfoldable pub above_gaps : List Range → ℕ → ℕ
-above_gaps ranges n = sum_to (λ origin. above_a_gap (joined (filter_map (numbers origin) ranges))) n
-
--- whether the operation must be kept, by the visible stamp and the acknowledgements of its client
-abbrev pub must_stay : Option Stamp → List Range → Op → Bool
-must_stay seen ranges (OfSession c stamp counter change) = not (is_below stamp seen)
-must_stay seen ranges (OfPut c put) = not (list_any (covers (put.seq, put.origin)) ranges)
-must_stay seen ranges (Ack c origin first last) = true

@@ -8,8 +8,10 @@ ghost use Rattle.std.specs.FinMap.{find, is_sorted};
 ghost use Rattle.rep_ops.specs.declared.op.Op.{Op};
 ghost use Rattle.rep_ops.specs.Orders.{client_cmp};
 ghost use Rattle.rep_plain.specs.Entries.{IsWorkedOut};
-ghost use Rattle.rep_plain.specs.Rows.{IsGrown, own};
-ghost use Rattle.rep_plain.specs.Tables.{rows_of, groups_of};
+ghost use Rattle.rep_plain.specs.Rows.{own};
+ghost use Rattle.rep_plain.specs.inner.Rows.{IsGrown};
+ghost use Rattle.rep_plain.specs.Tables.{rows_of};
+ghost use Rattle.rep_plain.specs.inner.Tables.{groups_of};
 
 use super::entry::Entry;
 use super::fault::NoMemory;

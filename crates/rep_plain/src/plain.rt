@@ -50,6 +50,7 @@ pub struct Staged {
 impl Model for Staged {
     ghost use Rattle.std.specs.Prelude.{List, ℕ, ◌≤◌};
     ghost use Rattle.rep_ops.specs.declared.op.Op.{Op};
+    ghost use Rattle.rep_model.specs.declared.fault.TheConstants.{MOST_CLIENTS};
 
     ghost Value = { List (List ℕ × List Op) × ℕ };
 
@@ -57,7 +58,7 @@ impl Model for Staged {
 
     ghost view = { λ s. (rows_of s.fresh.items, s.named) };
 
-    ghost invariant = { λ s. AreEntries s.fresh.items × (s.named ≤ 4096) };
+    ghost invariant = { λ s. AreEntries s.fresh.items × (s.named ≤ MOST_CLIENTS) };
 }
 
 impl Replica for Plain {
@@ -110,9 +111,9 @@ impl Replica for Plain {
         Ok(named_clients(alloc, &self.table)?)
     }
 
-    fn client_at(&self, place: usize) -> Option<(&ClientId, &ClientView)> {
+    fn client_at(&self, place: usize) -> Option<(usize, &ClientId, &ClientView)> {
         let (client, entry) = named_at(&self.table, place)?;
-        Some((client, &entry.seen))
+        Some((place + 1, client, &entry.seen))
     }
 
     fn next_candidate(

@@ -17,7 +17,7 @@ pub(crate) struct Range {
 }
 
 impl Range {
-    ghost use Rattle.rep_plain.specs.Steps.{range_in, covers, numbers};
+    ghost use Rattle.rep_plain.specs.inner.Steps.{range_in, covers, numbers};
 
     /// The client's acknowledgements in one operation.
     fn in_op(op: &Op, client: &ClientId) -> Option<Range>
@@ -57,7 +57,8 @@ impl Range {
     }
 }
 
-ghost use Rattle.rep_plain.specs.Steps.{range_in, covers, numbers, capped, above_gaps};
+ghost use Rattle.rep_plain.specs.Steps.{capped};
+ghost use Rattle.rep_plain.specs.inner.Steps.{range_in, covers, numbers, above_gaps};
 
 /// The client's acknowledgements in the order in which they came.
 pub(crate) fn ranges_of(

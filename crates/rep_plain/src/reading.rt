@@ -7,7 +7,7 @@ ghost use Rattle.rep_ops.specs.declared.op.Op.{Op};
 ghost use Rattle.rep_ops.specs.Orders.{operation_cmp, put_cmp};
 ghost use Rattle.rep_ops.specs.Sets.{operation_at, put_at, is_acknowledged, acknowledges, Agrees};
 ghost use Rattle.rep_model.specs.Views.{visible};
-ghost use Rattle.rep_plain.specs.Steps.{first_of_two};
+ghost use Rattle.rep_plain.specs.inner.Steps.{first_of_two};
 ghost use Rattle.rep_model.specs.Fresh.{greatest_epoch, seq_of, largest};
 
 use rep_ops::{ClientId, Op, Put, Stamp};

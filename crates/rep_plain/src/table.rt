@@ -4,30 +4,20 @@ ghost use Rattle.std.specs.Prelude.{◌≡◌, ◌+◌, ◌∷◌, [], List, ℕ
 ghost use Rattle.std.specs.List.{list_any, AllByRecursion};
 ghost use Rattle.std.specs.FinMap.{find, is_sorted};
 ghost use Rattle.rep_ops.specs.Orders.{client_cmp};
-ghost use Rattle.rep_plain.specs.Rows.{own, flat, has_any, count_new, named_rows};
-ghost use Rattle.rep_plain.specs.Tables.{rows_of, passed_by, too_many_pending, too_many_parked, too_many_exceptions};
+ghost use Rattle.rep_plain.specs.Rows.{own, flat, has_any};
+ghost use Rattle.rep_plain.specs.inner.Rows.{count_new, named_rows};
+ghost use Rattle.rep_plain.specs.Tables.{rows_of};
+ghost use Rattle.rep_plain.specs.inner.Tables.{passed_by, too_many_pending, too_many_parked, too_many_exceptions};
 
 use super::entry::Entry;
 use super::fault::NoMemory;
-use rep_model::Limit;
+use rep_model::{Limit, MOST_CLIENTS, MOST_EXCEPTIONS, MOST_PARKED, MOST_PENDING};
 use rep_ops::{ClientId, Op};
 use std::alloc::Global;
 use std::collections::BTreeMap;
 
 /// The clients with what the replica holds of them.
 pub(crate) type Table = BTreeMap<ClientId, Entry>;
-
-/// The most clients that a replica holds.
-const MOST_CLIENTS: usize = 4096;
-
-/// The most messages that wait for a client.
-const MOST_PENDING: usize = 16384;
-
-/// The most session operations of a client that wait for earlier ones.
-const MOST_PARKED: usize = 4096;
-
-/// The most acknowledgements of a client above a number that is not acknowledged.
-const MOST_EXCEPTIONS: u64 = 16384;
 
 /// The client's own operations.
 pub(crate) fn own_ops<'a>(table: &'a Table, client: &ClientId) -> &'a [Op]

@@ -6,7 +6,7 @@ ghost use Rattle.std.specs.BTreeMap.{values};
 ghost use Rattle.rep_ops.specs.declared.op.Op.{Op};
 ghost use Rattle.rep_ops.specs.Orders.{put_cmp};
 ghost use Rattle.rep_model.specs.Views.{in_order, pending};
-ghost use Rattle.rep_plain.specs.Steps.{range_in, unacknowledged_by};
+ghost use Rattle.rep_plain.specs.inner.Steps.{range_in, unacknowledged_by};
 
 use super::fault::NoMemory;
 use super::ranges::{Range, is_covered};

@@ -1,1 +1,1 @@
-pub mod Equal
+pub mod inner

@@ -16,7 +16,8 @@ use Rattle.std.specs.FinMap.{find, put}
 use Rattle.std.specs.FinMap.Entries.{find-put}
 use Rattle.sn_topic.specs.Levels.{is_wildcard, has_wildcard, is_hash, is_plus, is_only, levels, begins_with_wildcard}
 use Rattle.sn_topic.specs.Matching.{is_match, levels_match, level_agrees, no_level, begins_with_dollar}
-use Rattle.sn_session.specs.Tables.{with_entry, IsAt, IsGap, AllAbove}
+use Rattle.sn_session.specs.Tables.{with_entry}
+use Rattle.sn_session.specs.inner.Tables.{IsAt, IsGap, AllAbove}
 use Rattle.sn_session.specs.Subscriptions.{asked_qos, subscribed_qos, or_greater}
 use Rattle.sn_session.specs.declared.session.Session.{Session}
 use Rattle.sn_session.specs.declared.subscriptions.Subscription.{Subscription}
@@ -35,8 +36,10 @@ use Rattle.rep_state.proofs.Rows.{table_rows}
 use Rattle.rep_state.proofs.Walking.{names_from}
 use Rattle.rep_state.specs.declared.entry.Entry.{Entry}
 use Rattle.rep_state.specs.declared.places.Place.{Place}
-use Rattle.rep_state.specs.Tables.{arrivals, place_cmp, names_at, rows_of, ArePlaces, IsKept, IsTable}
-use Rattle.rep_state.specs.Interests.{mixed_with, mark_of, has_mark, AskWithin, SessionWithin, EntryWithin, AreMarked, marked, NoneMarked, IsPassed, IsSilent, AreSilent, IsNext}
+use Rattle.rep_state.specs.Tables.{arrivals, names_at, rows_of, ArePlaces, IsKept, IsTable}
+use Rattle.rep_state.specs.inner.Tables.{place_cmp}
+use Rattle.rep_state.specs.Interests.{mixed_with, mark_of, has_mark, AskWithin, SessionWithin, EntryWithin, AreMarked}
+use Rattle.rep_state.specs.inner.Interests.{marked, NoneMarked, IsPassed, IsSilent, AreSilent, IsNext}
 
 -- ---- a filter without wildcards asks for itself alone
 

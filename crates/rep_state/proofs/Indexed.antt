@@ -15,12 +15,14 @@ use Rattle.rep_ops.specs.Orders.{client_cmp}
 use Rattle.rep_model.proofs.Lookup.{is_sorted-in_order}
 use Rattle.rep_model.proofs.Readers.{client_total, client_exact}
 use Rattle.rep_plain.proofs.Counting.{all_found}
-use Rattle.sn_session.specs.Tables.{is_ascending, with_entry, IsAt, IsGap}
+use Rattle.sn_session.specs.Tables.{is_ascending, with_entry}
+use Rattle.sn_session.specs.inner.Tables.{IsAt, IsGap}
 use Rattle.sn_session.proofs.Ascending.{Ascends, to_test, all_with, less}
 use Rattle.sn_session.proofs.Places.{with_at, with_gap}
 use Rattle.rep_state.specs.declared.entry.Entry.{Entry}
 use Rattle.rep_state.specs.declared.places.Place.{Place}
-use Rattle.rep_state.specs.Tables.{plain_of, by_client, arrivals, place_cmp, names_at, ArePlaces}
+use Rattle.rep_state.specs.Tables.{plain_of, by_client, arrivals, names_at, ArePlaces}
+use Rattle.rep_state.specs.inner.Tables.{place_cmp}
 
 pub same_some : {A : Type 0} (x y : A) → Some x ≡ Some y → x ≡ y
 same_some x y e = ap (λ o. unwrap_or o x) e

@@ -1,3 +1,4 @@
+mod Names
 pub mod Logging
 pub mod Moving
 pub mod Rising

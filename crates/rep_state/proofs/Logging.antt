@@ -18,7 +18,8 @@ use Rattle.rep_ops.specs.Orders.{stamp_cmp, operation_cmp}
 use Rattle.rep_model.specs.Views.{greatest, greater, take_stamp, names, gapless, then_more, session_of, after_change}
 use Rattle.rep_model.specs.Keep.{is_below}
 use Rattle.rep_model.proofs.Readers.{operation_total, operation_exact, stamp_total, stamp_exact}
-use Rattle.rep_state.specs.Logs.{visible_in, history_in, IsFoldedOf, IsKeptIn, IsReplayed}
+use Rattle.rep_state.specs.Logs.{visible_in, history_in, IsFoldedOf, IsKeptIn}
+use Rattle.rep_state.specs.inner.Logs.{IsReplayed}
 
 Entry : Type 0
 Entry = (Stamp × ℕ) × SessionOp

@@ -1,7 +1,8 @@
 -- Messages that are moved one by one.
 use Rattle.std.proofs.Common.{◌≡◌, true, false, List, [], ◌∷◌, if◌then◌else◌, refl, sym, ap, ◌∙◌}
 use Rattle.rep_ops.specs.declared.op.Put.{Put}
-use Rattle.rep_state.specs.Mail.{begins_before, front_before, rest_from}
+use Rattle.rep_state.specs.Mail.{front_before, rest_from}
+use Rattle.rep_state.specs.inner.Mail.{begins_before}
 
 -- nothing goes before p any more
 pub front_none : (p : Put) (ns : List Put) → begins_before p ns ≡ false → front_before p ns ≡ []

@@ -17,14 +17,16 @@ use Rattle.rep_model.proofs.Readers.{client_total, client_exact}
 use Rattle.rep_model.proofs.Joins.{all-weaker}
 use Rattle.rep_model.proofs.Named.{find_clients}
 use Rattle.rep_plain.specs.Steps.{capped}
-use Rattle.rep_plain.specs.Rows.{flat, own, or_nothing, moved, has_any, count_named, count_new, IsOwn, AreRows, of_client}
-use Rattle.rep_plain.specs.Tables.{passed_of}
+use Rattle.rep_plain.specs.Rows.{flat, own, or_nothing, moved, has_any, count_named, IsOwn}
+use Rattle.rep_plain.specs.inner.Rows.{count_new, AreRows, of_client}
+use Rattle.rep_plain.specs.inner.Tables.{passed_of}
 use Rattle.rep_plain.proofs.Counting.{all_found, count_moved}
 use Rattle.rep_plain.proofs.Single.{pending_own, parked_own, exceptions_own}
 use Rattle.rep_plain.proofs.Flat.{of_flat, find_in_moved, rows_moved, count_clients, named_flat}
 use Rattle.rep_state.specs.declared.entry.Entry.{Entry}
 use Rattle.rep_state.specs.Entries.{row_of, IsEntry}
-use Rattle.rep_state.specs.Tables.{rows_of, IsKept, AreKept, passed_by, too_many_pending, too_many_parked, too_many_exceptions}
+use Rattle.rep_state.specs.Tables.{rows_of, IsKept, AreKept}
+use Rattle.rep_state.specs.inner.Tables.{passed_by, too_many_pending, too_many_parked, too_many_exceptions}
 use Rattle.rep_state.proofs.Entering.{seen_row}
 use Rattle.rep_state.proofs.Rows.{find_rows}
 

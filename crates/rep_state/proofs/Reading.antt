@@ -27,7 +27,7 @@ use Rattle.rep_state.specs.Mail.{Range, name_of, put_named}
 use Rattle.rep_state.specs.Origins.{origins_of, or_no_range, ranges_at, ranges_in, IsOrigin, AreOrigins}
 use Rattle.rep_state.specs.Kept.{of_log, of_mail, of_acks}
 use Rattle.rep_state.specs.Entries.{row_of}
-use Rattle.rep_state.specs.Numbers.{epoch_of, seq_from}
+use Rattle.rep_state.specs.inner.Numbers.{epoch_of, seq_from}
 use Rattle.rep_state.proofs.Client.{itself, kept_operations}
 
 -- ---- whether there is anything

@@ -15,7 +15,7 @@ use Rattle.rep_ops.specs.WellMade.{is_put}
 use Rattle.rep_model.proofs.Readers.{client_total, client_exact}
 use Rattle.rep_plain.specs.Rows.{own, or_nothing, moved}
 use Rattle.rep_plain.specs.Steps.{capped}
-use Rattle.rep_plain.specs.Tables.{passed_of}
+use Rattle.rep_plain.specs.inner.Tables.{passed_of}
 use Rattle.rep_plain.proofs.Flat.{all_put}
 use Rattle.rep_plain.proofs.Prepared.{all_filter}
 use Rattle.rep_state.specs.declared.entry.Entry.{Entry}
@@ -23,9 +23,11 @@ use Rattle.rep_state.specs.declared.change.Change.{Change}
 use Rattle.rep_state.specs.Mail.{Rising, is_left, front_before, rest_from, weave}
 use Rattle.rep_state.specs.Origins.{ranges_in}
 use Rattle.rep_state.specs.Entries.{AreMade, IsEntry, messages, row_of}
-use Rattle.rep_state.specs.Groups.{waiting_of, or_no_message}
-use Rattle.rep_state.specs.Tables.{rows_of, IsKept, AreKept, IsRoomier, passed_by, too_many_pending, too_many_parked, too_many_exceptions}
-use Rattle.rep_state.specs.Staging.{left_after, applied, staged_of, future, IsChange, IsFit, plan_of, plans, waiting_in, planned, IsReady, AreReady, AreMovable, HaveRoom, AreWorkedOut, AreStaged}
+use Rattle.rep_state.specs.inner.Groups.{waiting_of, or_no_message}
+use Rattle.rep_state.specs.Tables.{rows_of, IsKept, AreKept}
+use Rattle.rep_state.specs.inner.Tables.{IsRoomier, passed_by, too_many_pending, too_many_parked, too_many_exceptions}
+use Rattle.rep_state.specs.Staging.{left_after, applied, staged_of, IsChange, IsFit, plan_of, plans, waiting_in, planned, IsReady, AreReady, AreStaged}
+use Rattle.rep_state.specs.inner.Staging.{future, AreMovable, HaveRoom, AreWorkedOut}
 use Rattle.rep_state.proofs.Client.{kept_puts}
 use Rattle.rep_state.proofs.Rising.{front_rest, rising_weave, weave_all, values_named}
 use Rattle.rep_state.proofs.Changes.{none_covered}

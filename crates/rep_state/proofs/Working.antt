@@ -17,15 +17,17 @@ use Rattle.rep_ops.specs.WellMade.{is_well_made}
 use Rattle.rep_model.specs.Keep.{keep}
 use Rattle.rep_model.proofs.Joins.{same_trans, all-both, all-weaker}
 use Rattle.rep_model.proofs.Readers.{client_total, client_exact, same_client-true}
-use Rattle.rep_plain.specs.Rows.{flat, own, has_any, of_client, IsOwn, IsOwnOp}
+use Rattle.rep_plain.specs.Rows.{flat, own, has_any, IsOwn, IsOwnOp}
+use Rattle.rep_plain.specs.inner.Rows.{of_client}
 use Rattle.rep_plain.proofs.Counting.{all_found}
 use Rattle.rep_plain.proofs.Flat.{of_flat, found_own}
 use Rattle.rep_state.specs.declared.entry.Entry.{Entry}
 use Rattle.rep_state.specs.declared.fresh.Fresh.{Fresh}
 use Rattle.rep_state.specs.Mail.{Rising}
 use Rattle.rep_state.specs.Entries.{AreMade, IsFresh, fresh_row, IsStep}
-use Rattle.rep_state.specs.Tables.{rows_of, AreKept, IsKept, AreWorkedOut, IsTable}
-use Rattle.rep_state.specs.Groups.{waiting_of, or_no_message, IsTaken, IsGroup, IsGroupOf, AreGroups, fresh_rows, IsRowOf, AreRowsOf}
+use Rattle.rep_state.specs.Tables.{rows_of, AreKept, IsKept, IsTable}
+use Rattle.rep_state.specs.inner.Tables.{AreWorkedOut}
+use Rattle.rep_state.specs.inner.Groups.{waiting_of, or_no_message, IsTaken, IsGroup, IsGroupOf, AreGroups, fresh_rows, IsRowOf, AreRowsOf}
 use Rattle.rep_plain.proofs.Maps.{insert_is_put}
 use Rattle.rep_state.proofs.Client.{itself}
 use Rattle.rep_state.proofs.Entering.{own_entry}

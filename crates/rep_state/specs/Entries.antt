@@ -64,12 +64,13 @@ waiting_after waiting fresh = filter (is_left (ranges_in fresh.acks)) (weave wai
 abbrev pub fresh_row : List ℕ → List Put → Fresh → List Op
 fresh_row c waiting fresh = kept_ops c fresh.log.known.entries (waiting_after waiting fresh) (ranges_in fresh.acks)
 
--- the log is folded; new messages stand under their names, and none of them waits already;
+-- the log is folded; messages that wait ascend; new ones stand under their names, and none of them waits already;
 -- acknowledged ranges do not touch, and where none is new they have no message
 pub record IsFresh (waiting : List Put) (fresh : Fresh) : Type 0 where
   pub folded : IsFolded fresh.log
   pub ordered : T (is_sorted operation_cmp fresh.log.known.entries)
   pub changes : AreChanges fresh.log.known.entries
+  pub rising : Rising waiting
   pub sorted : T (is_sorted put_cmp fresh.news.entries)
   pub under : AreUnderNames fresh.news.entries
   pub made : AllByRecursion (λ (e : (ℕ × ℕ) × Put). IsTrue (is_put e.1)) fresh.news.entries

@@ -5,6 +5,5 @@ pub mod Origins
 pub mod Entries
 pub mod Tables
 pub mod Interests
-pub mod Groups
-pub mod Numbers
 pub mod Staging
+pub mod inner

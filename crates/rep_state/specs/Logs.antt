@@ -1,12 +1,12 @@
 -- Session operations of one client under their names.
-use Rattle.std.specs.Prelude.{◌≡◌, ℕ, ◌+◌, ◌-◌, false, not, cond, List, Option, None, length, fold}
+use Rattle.std.specs.Prelude.{◌≡◌, ℕ, ◌-◌, false, not, cond, List, Option, None, length}
 use Rattle.std.specs.List.{filter_map, AllByRecursion}
 use Rattle.std.specs.FinMap.{find}
 use Rattle.sn_session.specs.declared.session.Session.{Session}
 use Rattle.sn_session.specs.declared.change.SessionOp.{SessionOp}
 use Rattle.rep_ops.specs.declared.op.Stamp.{Stamp}
 use Rattle.rep_ops.specs.Orders.{stamp_cmp, operation_cmp}
-use Rattle.rep_model.specs.Views.{greatest, take_stamp, names, gapless, history_at, session_of, after_change}
+use Rattle.rep_model.specs.Views.{greatest, take_stamp, names, history_at, session_of}
 use Rattle.rep_model.specs.Keep.{is_below}
 use Rattle.rep_state.specs.declared.log.Log.{Log}
 
@@ -29,11 +29,6 @@ pub record IsFoldedOf (stamp : Option Stamp) (count : ℕ) (made : Option Sessio
 pub record IsKeptIn (es others : List ((Stamp × ℕ) × SessionOp)) (stamp : Option Stamp) : Type 0 where
   pub visible : stamp ≡ visible_in es
   pub found : (name : Stamp × ℕ) → find operation_cmp name others ≡ cond (not (is_below name.0 stamp)) (find operation_cmp name es) None
-
--- n operations of `at` are there without a gap, and make the session
-pub record IsReplayed (at : ℕ → Option SessionOp) (session : Option Session) (n : ℕ) : Type 0 where
-  pub prefix : length (gapless at 256 0) ≡ n + length (gapless at (256 - n) n)
-  pub made : session_of (gapless at 256 0) ≡ fold after_change session (gapless at (256 - n) n)
 
 -- the same of a log
 abbrev pub IsFolded : Log → Type 0

@@ -13,10 +13,6 @@ name_of p = (p.seq, p.origin)
 abbrev pub goes_before : Put → Put → Bool
 goes_before p q = is_lt (put_cmp (name_of p) (name_of q))
 
-abbrev pub begins_before : Put → List Put → Bool
-begins_before p [] = false
-begins_before p (n ∷ ns) = goes_before n p
-
 -- those in front that go before p, and the others
 abbrev pub front_before : Put → List Put → List Put
 front_before p [] = []

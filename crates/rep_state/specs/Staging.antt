@@ -1,5 +1,5 @@
 -- What is staged of each client that a delta names.
-use Rattle.std.specs.Prelude.{◌≡◌, ℕ, ◌+◌, ◌==◌, ◌≤◌, Bool, true, false, List, map, filter, length, vec_capacity, count_by, is_some, IsSome, T, Vec, []}
+use Rattle.std.specs.Prelude.{◌≡◌, ℕ, ◌+◌, ◌==◌, ◌≤◌, Bool, true, false, List, map, filter, length, vec_capacity, count_by, is_some, T, Vec, []}
 use Rattle.std.specs.Global.{Global}
 use Rattle.std.specs.List.{AllByRecursion}
 use Rattle.std.specs.Map.{keys_of}
@@ -10,6 +10,7 @@ use Rattle.rep_ops.specs.declared.op.Put.{Put}
 use Rattle.rep_ops.specs.declared.op.Op.{Op}
 use Rattle.rep_ops.specs.Orders.{client_cmp, operation_cmp}
 use Rattle.rep_ops.specs.Sets.{puts}
+use Rattle.rep_model.specs.declared.fault.TheConstants.{MOST_PENDING, MOST_PARKED, MOST_EXCEPTIONS}
 use Rattle.rep_plain.specs.Rows.{own}
 use Rattle.rep_plain.specs.Steps.{capped, waits}
 use Rattle.rep_state.specs.declared.entry.Entry.{Entry}
@@ -19,8 +20,6 @@ use Rattle.rep_state.specs.Mail.{Range, Rising, NoneCovered, InOne, is_left, wea
 use Rattle.rep_state.specs.Origins.{ranges_in, AreOrigins, above_gaps}
 use Rattle.rep_state.specs.Kept.{kept_ops}
 use Rattle.rep_state.specs.Entries.{AreChanges, AreMade, messages}
-use Rattle.rep_state.specs.Tables.{rows_of}
-use Rattle.rep_state.specs.Groups.{waiting_of}
 
 -- the messages that wait once the change is in its place, where `ps` do before
 abbrev pub left_after : List Put → Change → List Put
@@ -38,14 +37,6 @@ applied ps change = record {
 
 abbrev pub staged_of : List (Vec ℕ Global × Change) → List (List ℕ × Change)
 staged_of changes = map (λ g. (g.0.items, g.1)) changes
-
--- the entries that the changes make of those that are there
-abbrev pub future : List (List ℕ × Entry) → List (List ℕ × Change) → List (List ℕ × Entry)
-future es gs = map (λ g. (g.0, applied (waiting_of g.0 es) g.1)) gs
-
--- each of the clients has a place
-abbrev pub HaveRoom : List (List ℕ × Entry) → List (List ℕ × Change) → Type 0
-HaveRoom es gs = AllByRecursion (λ g. IsSome (find client_cmp g.0 (rows_of es))) gs
 
 -- what a change has, whatever waits in its place: its log is folded, acknowledged ranges do not touch, new messages ascend,
 -- and the counts are those of what is kept
@@ -93,27 +84,14 @@ pub record IsFit (ps : List Put) (plan : Plan) : Type 0 where
 pub record IsReady (there : Bool) (ps : List Put) (plan : Plan) : Type 0 where
   pub is_there : there ≡ true
   pub fit : IsFit ps plan
-  pub few : length (filter (is_left plan.2) (weave ps plan.1)) ≤ 16384
+  pub few : length (filter (is_left plan.2) (weave ps plan.1)) ≤ MOST_PENDING
 
 abbrev pub AreReady : List (List ℕ × List Op) → List (List ℕ × Plan) → Type 0
 AreReady rows ps = AllByRecursion (λ p. IsReady (is_some (find client_cmp p.0 rows)) (waiting_in p.0 (own p.0 rows)) p.1) ps
-
--- the same of entries
-abbrev pub AreMovable : List (List ℕ × Entry) → List (List ℕ × Change) → Type 0
-AreMovable es gs = AllByRecursion (λ g. IsReady (is_some (find client_cmp g.0 es)) (waiting_of g.0 es) (plan_of g.1)) gs
-
--- the changes are what they are said to be, whether they pass a limit or not
-pub record IsWorkedOut (ps : List Put) (change : Change) : Type 0 where
-  pub change_is : IsChange change
-  pub fit : IsFit ps (plan_of change)
-  pub counted : change.pending ≡ length (left_after ps change)
-
-abbrev pub AreWorkedOut : List (List ℕ × Entry) → List (List ℕ × Change) → Type 0
-AreWorkedOut es gs = AllByRecursion (λ g. IsWorkedOut (waiting_of g.0 es) g.1) gs
 
 -- changes that pass no limit of their own, in the order of their clients
 pub record AreStaged (gs : List (List ℕ × Change)) : Type 0 where
   pub sorted : T (is_sorted client_cmp gs)
   pub each : AllByRecursion (λ g. IsChange g.1) gs
-  pub parked : AllByRecursion (λ g. g.1.entry.parked ≤ 4096) gs
-  pub exceptions : AllByRecursion (λ g. g.1.entry.exceptions ≤ 16384) gs
+  pub parked : AllByRecursion (λ g. g.1.entry.parked ≤ MOST_PARKED) gs
+  pub exceptions : AllByRecursion (λ g. g.1.entry.exceptions ≤ MOST_EXCEPTIONS) gs

@@ -1,18 +1,18 @@
 //! Whether a delta contradicts what is kept.
 
 ghost use Rattle.std.specs.Prelude.{◌≡◌, ◌⊎◌, ◌↔◌, IsTrue, OnOk, IfErr, ℕ, List};
-ghost use Rattle.std.specs.Option.{option_copied};
-ghost use Rattle.std.specs.Ordering.{is_eq};
-ghost use Rattle.rep_ops.specs.Orders.{client_of, put_cmp};
+ghost use Rattle.rep_ops.specs.Orders.{client_of};
 ghost use Rattle.rep_ops.specs.Sets.{Agrees};
 ghost use Rattle.rep_model.specs.Taking.{AllAgree, IsFaultOf};
-ghost use Rattle.rep_plain.specs.Rows.{flat, own, AreRows};
-ghost use Rattle.rep_plain.specs.Tables.{IsRefusalOf};
+ghost use Rattle.rep_plain.specs.Rows.{flat, own};
+ghost use Rattle.rep_plain.specs.inner.Rows.{AreRows};
+ghost use Rattle.rep_plain.specs.inner.Tables.{IsRefusalOf};
 ghost use Rattle.rep_state.specs.Entries.{row_of};
-ghost use Rattle.rep_state.specs.Mail.{name_of, put_named};
-ghost use Rattle.rep_state.specs.Tables.{by_client, rows_of};
+ghost use Rattle.rep_state.specs.Mail.{Rising};
+ghost use Rattle.rep_state.specs.Tables.{by_client, rows_of, AreKept};
 
 use super::entry::Entry;
+use super::searching::find_put;
 use super::table::{Table, entry_of};
 use rep_model::TakeFault;
 use rep_ops::{ClientId, Op, Put};
@@ -21,7 +21,8 @@ use std::alloc::Global;
 
 /// Tests each operation of a delta against what is kept under its name.
 pub(crate) fn check(alloc: Global, table: &Table, delta: &[Op]) -> Result<(), TakeFault>
-    requires { AreRows (rows_of (by_client table.now.entries)) }
+    requires rows { AreRows (rows_of (by_client table.now.entries)) }
+    requires kept { AreKept (by_client table.now.entries) }
     ensures agree { OnOk result (AllAgree (flat (rows_of (by_client table.now.entries)))
         delta.now) }
     ensures fault { IfErr result (IsFaultOf (flat (rows_of (by_client table.now.entries)))
@@ -35,7 +36,8 @@ pub(crate) fn check(alloc: Global, table: &Table, delta: &[Op]) -> Result<(), Ta
 
 /// Tests an operation.
 fn check_one(alloc: Global, table: &Table, op: &Op) -> Result<(), TakeFault>
-    requires { AreRows (rows_of (by_client table.now.entries)) }
+    requires rows { AreRows (rows_of (by_client table.now.entries)) }
+    requires kept { AreKept (by_client table.now.entries) }
     ensures agrees { OnOk result (Agrees (flat (rows_of (by_client table.now.entries))) op.now) }
     ensures fault { IfErr result (IsRefusalOf
         (flat (rows_of (by_client table.now.entries))) op.now) }
@@ -58,6 +60,7 @@ fn conflict(alloc: Global, client: &ClientId) -> TakeFault
 
 /// Whether an operation contradicts nothing that is kept of its client.
 fn agrees(table: &Table, op: &Op) -> bool
+    requires { AreKept (by_client table.now.entries) }
     ensures { IsTrue result
         ↔ Agrees (own (client_of op.now) (rows_of (by_client table.now.entries))) op.now }
 {
@@ -69,6 +72,7 @@ fn agrees(table: &Table, op: &Op) -> bool
 
 /// Whether an operation contradicts nothing that is kept of its client, which is this.
 fn agrees_with(entry: &Entry, op: &Op) -> bool
+    requires { Rising entry.now.seen.pending }
     ensures { IsTrue result ↔ Agrees (row_of (client_of op.now) entry.now) op.now }
 {
     match op {
@@ -94,23 +98,4 @@ fn same_put(put: &Put, other: &Put) -> bool
     ensures { IsTrue result ↔ (put.now ≡ other.now) }
 {
     put == other
-}
-
-/// The message of that name.
-fn find_put<'a>(puts: &'a [Put], seq: u64, origin: u8) -> Option<&'a Put>
-    ensures { option_copied result ≡ put_named (seq, origin) puts.now }
-{
-    for put in puts {
-        if has_name(put, seq, origin) {
-            return Some(put);
-        }
-    }
-    None
-}
-
-/// Whether the message has that name.
-fn has_name(put: &Put, seq: u64, origin: u8) -> bool
-    ensures { result ≡ is_eq (put_cmp (seq, origin) (name_of put.now)) }
-{
-    seq.cmp(&put.seq).then(origin.cmp(&put.origin)).is_eq()
 }

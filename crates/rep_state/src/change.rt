@@ -1,6 +1,7 @@
 //! What is staged of a client, and the move into its place.
 
 ghost use Rattle.std.specs.Prelude.{◌≡◌};
+ghost use Rattle.rep_state.specs.Mail.{Rising};
 ghost use Rattle.rep_state.specs.Staging.{applied, plan_of, IsFit, IsChange};
 
 use super::entry::Entry;
@@ -37,6 +38,7 @@ fn into_messages(entry: Entry) -> Vec<Put>
 pub(crate) fn put_into(place: &mut Entry, change: Change)
     requires change { IsChange change }
     requires fit { IsFit place.old.seen.pending (plan_of change) }
+    requires rising { Rising place.old.seen.pending }
     ensures { place.new ≡ applied place.old.seen.pending change }
 {
     let Change {

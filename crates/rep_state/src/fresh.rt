@@ -2,7 +2,6 @@
 
 ghost use Rattle.std.specs.Prelude.{◌≡◌, ◌+◌, ◌==◌, ◌≤◌, ◌++◌, ◌∷◌, ◌||◌, [], ℕ, List, T, IsTrue, Some, None, false, is_some, length, count_by, vec_capacity, IfOk, OnOk};
 ghost use Rattle.std.specs.List.{list_any};
-ghost use Rattle.std.specs.Ordering.{is_eq};
 ghost use Rattle.std.specs.FinMap.{find};
 ghost use Rattle.std.specs.BTreeMap.{keys, values};
 ghost use Rattle.rep_ops.specs.declared.op.Put.{Put};
@@ -13,7 +12,7 @@ ghost use Rattle.rep_ops.specs.WellMade.{is_well_made};
 ghost use Rattle.rep_model.specs.Keep.{keep};
 ghost use Rattle.rep_plain.specs.Rows.{IsOwnOp};
 ghost use Rattle.rep_state.specs.Logs.{IsFolded};
-ghost use Rattle.rep_state.specs.Mail.{covers, name_of, put_named};
+ghost use Rattle.rep_state.specs.Mail.{covers, name_of, put_named, Rising};
 ghost use Rattle.rep_plain.specs.Steps.{capped, waits};
 ghost use Rattle.rep_state.specs.Origins.{ranges_in, above_gaps};
 
@@ -22,6 +21,7 @@ use super::change::Change;
 use super::entry::{Entry, count_parked};
 use super::fault::NoMemory;
 use super::log::Log;
+use super::searching::find_put;
 use super::settling::count_settled;
 use rep_model::{ClientView, Puts};
 use rep_ops::{Op, Put, Stamp};
@@ -137,12 +137,13 @@ impl Fresh {
 
     /// Whether a message of that name is acknowledged, waits, or is among the new ones.
     fn has(&self, waiting: &[Put], put: &Put) -> bool
-        ensures { result ≡ (list_any (covers (name_of put.now)) (ranges_in self.now.acks)
+        ensures { Rising waiting.now
+            → result ≡ (list_any (covers (name_of put.now)) (ranges_in self.now.acks)
             || is_some (put_named (name_of put.now) waiting.now)
             || is_some (find put_cmp (name_of put.now) self.now.news.entries)) }
     {
         self.acks.covers(put.seq, put.origin)
-            || is_among(waiting, put)
+            || find_put(waiting, put.seq, put.origin).is_some()
             || self.news.contains_key(&(put.seq, put.origin))
     }
 
@@ -211,7 +212,8 @@ fn without_messages(alloc: Global, log: Log, acks: Acks) -> Entry
     }
 }
 
-/// Room for the messages that wait and those that are new; none where none is new.
+/// Room for the messages that wait and those that are new, and for half as many more, so that they seldom move; none where none
+/// is new.
 fn room_for(alloc: Global, waiting: &[Put], news: &[Put]) -> Result<Vec<Put>, NoMemory>
     ensures empty { IfOk result (λ room. room.items ≡ []) }
     ensures room { IfOk result (λ room. (length news.now == 0) ≡ false
@@ -221,7 +223,8 @@ fn room_for(alloc: Global, waiting: &[Put], news: &[Put]) -> Result<Vec<Put>, No
         return Ok(Vec::new(alloc));
     }
     let count = waiting.len().checked_add(news.len()).ok_or(NoMemory)?;
-    Ok(Vec::with_capacity(alloc, count)?)
+    let room = count.checked_add(count / 2).ok_or(NoMemory)?;
+    Ok(Vec::with_capacity(alloc, room)?)
 }
 
 /// The messages in the order of their names.
@@ -230,25 +233,4 @@ fn into_puts(alloc: Global, news: BTreeMap<(u64, u8), Put>) -> Result<Vec<Put>, 
 {
     let puts = news.into_values().collect(alloc)?;
     Ok(puts)
-}
-
-/// Whether a message of that name is among them.
-fn is_among(waiting: &[Put], put: &Put) -> bool
-    ensures { result ≡ is_some (put_named (name_of put.now) waiting.now) }
-{
-    any_named(waiting, put.seq, put.origin)
-}
-
-/// Whether one of the messages has that name.
-fn any_named(waiting: &[Put], seq: u64, origin: u8) -> bool
-    ensures { result ≡ list_any (λ put. is_eq (put_cmp (seq, origin) (name_of put))) waiting.now }
-{
-    waiting.iter().any(|put| has_name(put, seq, origin))
-}
-
-/// Whether the message has that name.
-fn has_name(put: &Put, seq: u64, origin: u8) -> bool
-    ensures { result ≡ is_eq (put_cmp (seq, origin) (name_of put.now)) }
-{
-    seq.cmp(&put.seq).then(origin.cmp(&put.origin)).is_eq()
 }

@@ -10,8 +10,9 @@ ghost use Rattle.rep_ops.specs.WellMade.{is_well_made};
 ghost use Rattle.rep_plain.specs.Rows.{own};
 ghost use Rattle.rep_state.specs.Entries.{IsFresh, fresh_row};
 ghost use Rattle.rep_state.specs.Tables.{by_client, rows_of, AreKept};
-ghost use Rattle.rep_state.specs.Staging.{future, staged_of, AreWorkedOut};
-ghost use Rattle.rep_state.specs.Groups.{waiting_of, IsTaken, AreGroups, fresh_rows};
+ghost use Rattle.rep_state.specs.Staging.{staged_of};
+ghost use Rattle.rep_state.specs.inner.Staging.{future, AreWorkedOut};
+ghost use Rattle.rep_state.specs.inner.Groups.{waiting_of, IsTaken, AreGroups, fresh_rows};
 
 use super::change::Change;
 use super::entry::Entry;

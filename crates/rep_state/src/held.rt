@@ -5,11 +5,15 @@ ghost use Rattle.std.specs.FinMap.{find};
 ghost use Rattle.rep_ops.specs.Orders.{client_cmp};
 ghost use Rattle.rep_ops.specs.declared.op.Op.TheVariants.{Session as OfSession, Put as OfPut};
 ghost use Rattle.rep_model.specs.Held.{IsHeld};
-ghost use Rattle.rep_plain.specs.Rows.{flat, own, has_any, count_named, named_rows};
+ghost use Rattle.rep_model.specs.declared.fault.TheConstants.{MOST_CLIENTS};
+ghost use Rattle.rep_plain.specs.Rows.{flat, own, has_any, count_named};
+ghost use Rattle.rep_plain.specs.inner.Rows.{named_rows};
 ghost use Rattle.rep_state.specs.Entries.{row_of};
 ghost use Rattle.rep_state.specs.Kept.{of_log, of_mail};
-ghost use Rattle.rep_state.specs.Tables.{by_client, rows_of, own_of_all, IsTable, ArePlaces};
-ghost use Rattle.rep_state.specs.Interests.{AreMarked, AreSilent, IsNext};
+ghost use Rattle.rep_state.specs.Tables.{by_client, rows_of, IsTable, ArePlaces};
+ghost use Rattle.rep_state.specs.inner.Tables.{own_of_all};
+ghost use Rattle.rep_state.specs.Interests.{AreMarked};
+ghost use Rattle.rep_state.specs.inner.Interests.{AreSilent, IsNext};
 
 use super::entry::Entry;
 use super::fault::NoMemory;
@@ -113,7 +117,7 @@ pub(crate) fn next_asking<'a>(
     requires places { ArePlaces table.now.entries places.now }
     requires marks { AreMarked (by_client table.now.entries) places.now }
     requires named { named ≡ count_named (rows_of (by_client table.now.entries)) }
-    requires few { named ≤ 4096 }
+    requires few { named ≤ MOST_CLIENTS }
     ensures next { MatchOption result
         (AreSilent topic.now (by_client table.now.entries)
         (drop from (named_rows (rows_of (by_client table.now.entries)))))

@@ -23,6 +23,7 @@
 //! - `change`: that as it is staged, and its move into its place.
 //! - `log`: the session operations of a client, with the visible stamp, the prefix and the session.
 //! - `acks`: acknowledged numbers.
+//! - `searching`: a message by its name.
 //! - `weaving`, `settling`: messages that wait, with new ones in their places, without the acknowledged ones.
 //! - `fault`: want of memory.
 //!
@@ -48,6 +49,7 @@ mod numbers;
 mod places;
 mod replica;
 mod room;
+mod searching;
 mod settling;
 mod table;
 mod weaving;

@@ -6,7 +6,8 @@ ghost use Rattle.std.specs.FinMap.{find, is_sorted};
 ghost use Rattle.rep_ops.specs.Orders.{operation_cmp};
 ghost use Rattle.rep_model.specs.Keep.{is_below as below_test};
 ghost use Rattle.rep_model.specs.Views.{after_change, gapless, session_of};
-ghost use Rattle.rep_state.specs.Logs.{history_in, IsKeptIn, IsReplayed};
+ghost use Rattle.rep_state.specs.Logs.{history_in, IsKeptIn};
+ghost use Rattle.rep_state.specs.inner.Logs.{IsReplayed};
 
 use super::fault::NoMemory;
 use rep_model::ClientView;

@@ -4,8 +4,9 @@ ghost use Rattle.std.specs.Prelude.{◌≡◌, ℕ, List, max};
 ghost use Rattle.rep_model.specs.Fresh.{greatest_epoch, seq_of, largest};
 ghost use Rattle.rep_plain.specs.Rows.{own};
 ghost use Rattle.rep_state.specs.Entries.{row_of};
-ghost use Rattle.rep_state.specs.Numbers.{epoch_of, seq_from};
-ghost use Rattle.rep_state.specs.Tables.{by_client, rows_of};
+ghost use Rattle.rep_state.specs.Mail.{Rising};
+ghost use Rattle.rep_state.specs.inner.Numbers.{epoch_of, seq_from};
+ghost use Rattle.rep_state.specs.Tables.{by_client, rows_of, AreKept};
 ghost use Rattle.std.specs.BTreeMap.{keys};
 
 use super::entry::Entry;
@@ -27,6 +28,7 @@ pub(crate) fn last_epoch(table: &Table, client: &ClientId) -> u64
 
 /// The greatest sequence number of the client and the gateway, or 0.
 pub(crate) fn last_seq(table: &Table, client: &ClientId, gateway: u8) -> u64
+    requires { AreKept (by_client table.now.entries) }
     ensures { result
         ≡ largest (seq_of client.now gateway) (own client.now (rows_of (by_client table.now.entries))) }
 {
@@ -49,6 +51,7 @@ fn greatest_epoch(known: &BTreeMap<(Stamp, u8), SessionOp>) -> u64
 
 /// The greatest sequence number of the gateway that the entry names, or 0.
 fn greatest_seq(entry: &Entry, gateway: u8) -> u64
+    requires { Rising entry.now.seen.pending }
     ensures { (c : List ℕ) → result ≡ largest (seq_of c gateway) (row_of c entry.now) }
 {
     let sent = greatest_put(entry.seen.pending.as_slice(), gateway);
@@ -63,24 +66,19 @@ fn larger(a: u64, b: u64) -> u64
     a.max(b)
 }
 
-/// The greatest sequence number of the gateway's messages, or 0.
+/// The greatest sequence number of the gateway's messages, which stand in order: that of its last one; or 0.
 fn greatest_put(puts: &[Put], gateway: u8) -> u64
+    requires { Rising puts.now }
     ensures { result ≡ largest (seq_from gateway) puts.now }
 {
-    let mut most = 0;
     let mut i = puts.len();
     while i > 0 {
         i -= 1;
-        most = seq_from(&puts[i], gateway).max(most);
+        if puts[i].origin == gateway {
+            return puts[i].seq;
+        }
     }
-    most
-}
-
-/// The sequence number of a message of the gateway, or 0.
-fn seq_from(put: &Put, gateway: u8) -> u64
-    ensures { result ≡ seq_from gateway put.now }
-{
-    if gateway == put.origin { put.seq } else { 0 }
+    0
 }
 
 /// The greatest end of the ranges, or 0.

@@ -56,12 +56,13 @@ pub struct Staged {
 impl Model for Staged {
     ghost use Rattle.std.specs.Prelude.{List, ℕ, ◌≤◌};
     ghost use Rattle.rep_state.specs.Staging.{Plan, plans, staged_of, AreStaged};
+    ghost use Rattle.rep_model.specs.declared.fault.TheConstants.{MOST_CLIENTS};
 
     ghost Value = { List (List ℕ × Plan) × ℕ };
 
     ghost view = { λ s. (plans (staged_of s.changes.items), s.named) };
 
-    ghost invariant = { λ s. AreStaged (staged_of s.changes.items) × (s.named ≤ 4096) };
+    ghost invariant = { λ s. AreStaged (staged_of s.changes.items) × (s.named ≤ MOST_CLIENTS) };
 }
 
 impl Replica for Folded {
@@ -117,10 +118,10 @@ impl Replica for Folded {
         Ok(named_clients(alloc, &self.table, self.places.as_slice(), self.named)?)
     }
 
-    fn client_at(&self, place: usize) -> Option<(&ClientId, &ClientView)> {
+    fn client_at(&self, place: usize) -> Option<(usize, &ClientId, &ClientView)> {
         let places = self.places.as_slice();
         let (client, entry) = named_at(&self.table, places, self.named, place)?;
-        Some((client, &entry.seen))
+        Some((place + 1, client, &entry.seen))
     }
 
     fn next_candidate(

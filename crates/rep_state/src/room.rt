@@ -4,10 +4,12 @@ ghost use Rattle.std.specs.Prelude.{◌≡◌, IsSome, is_some, OnOk, List};
 ghost use Rattle.std.specs.FinMap.{find, put};
 ghost use Rattle.rep_ops.specs.Orders.{client_cmp};
 ghost use Rattle.rep_plain.specs.Rows.{moved};
-ghost use Rattle.rep_state.specs.Tables.{by_client, rows_of, IsRoomier, AreKept, ArePlaces};
+ghost use Rattle.rep_state.specs.Tables.{by_client, rows_of, AreKept, ArePlaces};
+ghost use Rattle.rep_state.specs.inner.Tables.{IsRoomier};
 ghost use Rattle.rep_state.specs.Interests.{AreMarked};
-ghost use Rattle.rep_state.specs.Groups.{waiting_of};
-ghost use Rattle.rep_state.specs.Staging.{applied, staged_of, future, plan_of, HaveRoom, IsChange, IsReady, AreMovable, AreStaged};
+ghost use Rattle.rep_state.specs.inner.Groups.{waiting_of};
+ghost use Rattle.rep_state.specs.Staging.{applied, staged_of, plan_of, IsChange, IsReady, AreStaged};
+ghost use Rattle.rep_state.specs.inner.Staging.{future, HaveRoom, AreMovable};
 ghost use Rattle.rep_state.specs.declared.places.Place.{Place as AtPlace};
 
 use super::change::{Change, put_into};
@@ -101,6 +103,7 @@ pub(crate) fn move_in(
 /// Puts the change in the client's place.
 fn move_one(table: &mut Table, client: &[u8], change: Change)
     requires change { IsChange change }
+    requires kept { AreKept (by_client table.old.entries) }
     requires ready { IsReady
         (is_some (find client_cmp client.now (by_client table.old.entries)))
         (waiting_of client.now (by_client table.old.entries))

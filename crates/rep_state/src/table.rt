@@ -6,30 +6,18 @@ ghost use Rattle.std.specs.List.{list_any};
 ghost use Rattle.std.specs.FinMap.{find};
 ghost use Rattle.rep_ops.specs.Orders.{client_cmp};
 ghost use Rattle.rep_plain.specs.Rows.{own, has_any};
-ghost use Rattle.rep_plain.specs.Tables.{passed_of};
+ghost use Rattle.rep_plain.specs.inner.Tables.{passed_of};
 ghost use Rattle.rep_state.specs.Tables.{by_client, rows_of};
 
 use super::change::Change;
 use super::entry::Entry;
 use super::fault::NoMemory;
 use indexmap::IndexMap;
-use rep_model::Limit;
+use rep_model::{Limit, MOST_CLIENTS, MOST_EXCEPTIONS, MOST_PARKED, MOST_PENDING};
 use std::alloc::Global;
 
 /// The clients with what the replica keeps of them, under the octets of their names, in the order in which they came.
 pub(crate) type Table = IndexMap<Vec<u8>, Entry>;
-
-/// The most clients that a replica holds.
-const MOST_CLIENTS: usize = 4096;
-
-/// The most messages that wait for a client.
-const MOST_PENDING: usize = 16384;
-
-/// The most session operations of a client that wait for earlier ones.
-const MOST_PARKED: usize = 4096;
-
-/// The most acknowledgements of a client above a number that is not acknowledged.
-const MOST_EXCEPTIONS: u64 = 16384;
 
 /// The client's entry.
 pub(crate) fn entry_of<'a>(table: &'a Table, client: &[u8]) -> Option<&'a Entry>
@@ -60,9 +48,9 @@ pub(crate) fn copy_octets(alloc: Global, octets: &[u8]) -> Result<Vec<u8>, NoMem
 /// The first limit that is passed once the changes are in their places, where `count` clients are named then.
 pub(crate) fn passed(count: usize, changes: &[(Vec<u8>, Change)]) -> Option<Limit>
     ensures { result ≡ passed_of count
-        (list_any (λ g. nat_lt 16384 g.1.pending) changes.now)
-        (list_any (λ g. nat_lt 4096 g.1.entry.parked) changes.now)
-        (list_any (λ g. nat_lt 16384 g.1.entry.exceptions) changes.now) }
+        (list_any (λ g. nat_lt MOST_PENDING g.1.pending) changes.now)
+        (list_any (λ g. nat_lt MOST_PARKED g.1.entry.parked) changes.now)
+        (list_any (λ g. nat_lt MOST_EXCEPTIONS g.1.entry.exceptions) changes.now) }
 {
     let pending = any_pending(changes);
     let parked = any_parked(changes);
@@ -89,21 +77,21 @@ fn first_limit(count: usize, pending: bool, parked: bool, exceptions: bool) -> O
 
 /// Whether too many messages wait for one of the clients.
 fn any_pending(changes: &[(Vec<u8>, Change)]) -> bool
-    ensures { result ≡ list_any (λ g. nat_lt 16384 g.1.pending) changes.now }
+    ensures { result ≡ list_any (λ g. nat_lt MOST_PENDING g.1.pending) changes.now }
 {
     changes.iter().any(|row| row.1.pending > MOST_PENDING)
 }
 
 /// Whether too many session operations of one of the clients wait.
 fn any_parked(changes: &[(Vec<u8>, Change)]) -> bool
-    ensures { result ≡ list_any (λ g. nat_lt 4096 g.1.entry.parked) changes.now }
+    ensures { result ≡ list_any (λ g. nat_lt MOST_PARKED g.1.entry.parked) changes.now }
 {
     changes.iter().any(|row| row.1.entry.parked > MOST_PARKED)
 }
 
 /// Whether one of the clients has too many exceptions.
 fn any_exceptions(changes: &[(Vec<u8>, Change)]) -> bool
-    ensures { result ≡ list_any (λ g. nat_lt 16384 g.1.entry.exceptions) changes.now }
+    ensures { result ≡ list_any (λ g. nat_lt MOST_EXCEPTIONS g.1.entry.exceptions) changes.now }
 {
     changes
         .iter()

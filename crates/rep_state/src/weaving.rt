@@ -2,13 +2,14 @@
 
 ghost use Rattle.std.specs.Prelude.{◌≡◌, ◌+◌, ◌<◌, ◌≤◌, ◌++◌, ◌∷◌, [], vec_len, vec_capacity, length};
 ghost use Rattle.std.specs.VecDeque.{deque_len};
-ghost use Rattle.rep_state.specs.Mail.{goes_before, begins_before, front_before, rest_from, weave};
+ghost use Rattle.rep_state.specs.Mail.{goes_before, front_before, rest_from, weave};
+ghost use Rattle.rep_state.specs.inner.Mail.{begins_before};
 
 use rep_ops::Put;
 use std::collections::VecDeque;
 
 /// Whether the first message goes before the second.
-fn goes_before(put: &Put, other: &Put) -> bool
+pub(crate) fn goes_before(put: &Put, other: &Put) -> bool
     ensures { result ≡ goes_before put.now other.now }
 {
     put.seq

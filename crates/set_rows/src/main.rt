@@ -1,6 +1,8 @@
 //! Worked rows of operations, deltas, sessions, replicas and journals: what no clause says, as that calls succeed, and octets written
 //! out by hand.
 //!
+//! The rows are played on both replicas, and a last line says that these print the same.
+//!
 //! A contract lets a call answer want of memory in place of almost anything; a row does not. Standard input holds rows, each
 //! behind a line `== NAME`; empty lines and those that begin with `#` are skipped. Each row begins with nothing: no operation, no
 //! octets, the empty session, an empty replica, an empty disk. The program prints each name, and below it what the lines of the row
@@ -104,6 +106,9 @@ use crate::names::Names;
 use crate::row::{Row, begin, play};
 use crate::stop::Stop;
 use anyhow::Result;
+use rep_model::Replica;
+use rep_plain::Plain;
+use rep_state::Folded;
 use std::alloc::Global;
 use std::io::{self, Write};
 
@@ -112,21 +117,44 @@ const MARK: &str = "== ";
 
 fn main(rt: HostRuntime) -> Result<()> {
     let alloc = rt.alloc();
-    let mut row = begin(alloc)?;
-    let mut names = names::none(alloc);
-    let mut printed = String::new(alloc);
+    let mut lines = Vec::new(alloc);
     for line in rt.lines(alloc) {
-        answer(alloc, &mut printed, &mut row, &mut names, line?.as_str())?;
+        lines.push(line?)?;
     }
+    let printed = print_both(alloc, lines.as_slice())?;
     io::writer(&rt).write_all(printed.as_bytes())?;
     Ok(())
 }
 
+/// What both replicas print, which is the same, and a line that says so; where it is not, what each prints.
+fn print_both(alloc: Global, lines: &[String]) -> Result<String, Stop> {
+    let mut folded = played::<Folded>(alloc, lines)?;
+    let plain = played::<Plain>(alloc, lines)?;
+    if folded.as_str() == plain.as_str() {
+        folded.push_str("== both replicas\nno difference\n")?;
+    } else {
+        folded.push_str("== the plain replica prints otherwise\n")?;
+        folded.push_str(plain.as_str())?;
+    }
+    Ok(folded)
+}
+
+/// What the lines give on a replica.
+fn played<R: Replica>(alloc: Global, lines: &[String]) -> Result<String, Stop> {
+    let mut row: Row<R> = begin(alloc)?;
+    let mut names = names::none(alloc);
+    let mut printed = String::new(alloc);
+    for line in lines {
+        answer(alloc, &mut printed, &mut row, &mut names, line.as_str())?;
+    }
+    Ok(printed)
+}
+
 /// Plays a line; one that is none of the language is told.
-fn answer(
+fn answer<R: Replica>(
     alloc: Global,
     text: &mut String,
-    row: &mut Row,
+    row: &mut Row<R>,
     names: &mut Names,
     line: &str,
 ) -> Result<(), Stop> {
@@ -145,10 +173,10 @@ fn answer(
 }
 
 /// Plays a line that is a name for octets, or a row's.
-fn play_line(
+fn play_line<R: Replica>(
     alloc: Global,
     text: &mut String,
-    row: &mut Row,
+    row: &mut Row<R>,
     names: &mut Names,
     line: &str,
 ) -> Result<(), Stop> {

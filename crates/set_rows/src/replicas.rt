@@ -7,12 +7,11 @@ use crate::stop::Stop;
 use crate::words::take_fault;
 use rep_model::{ClientView, Replica, TakeFault};
 use rep_ops::{ClientId, Delta, Op};
-use rep_plain::Plain;
 use std::alloc::Global;
 
 /// An empty replica.
-pub(crate) fn empty(alloc: Global) -> Result<Plain, Stop> {
-    match Plain::empty(alloc) {
+pub(crate) fn empty<R: Replica>(alloc: Global) -> Result<R, Stop> {
+    match R::empty(alloc) {
         Ok(replica) => Ok(replica),
         Err(_) => Err(Stop::Memory),
     }
@@ -25,10 +24,10 @@ fn refused(alloc: Global, text: &mut String, fault: &TakeFault) -> Result<(), St
 }
 
 /// `join`: the replica takes the operations in one delta.
-pub(crate) fn join(
+pub(crate) fn join<R: Replica>(
     alloc: Global,
     text: &mut String,
-    replica: &mut Plain,
+    replica: &mut R,
     ops: Vec<Op>,
 ) -> Result<(), Stop> {
     match made(alloc, text, ops)? {
@@ -38,10 +37,10 @@ pub(crate) fn join(
 }
 
 /// The replica takes a delta.
-fn join_delta(
+fn join_delta<R: Replica>(
     alloc: Global,
     text: &mut String,
-    replica: &mut Plain,
+    replica: &mut R,
     delta: &Delta,
 ) -> Result<(), Stop> {
     match replica.prepare(alloc, delta) {
@@ -62,10 +61,10 @@ fn only_client(alloc: Global, fields: &[&str]) -> Result<ClientId, Stop> {
 }
 
 /// `view CLIENT`: what the replica knows of a client.
-pub(crate) fn view(
+pub(crate) fn view<R: Replica>(
     alloc: Global,
     text: &mut String,
-    replica: &Plain,
+    replica: &R,
     fields: &[&str],
 ) -> Result<(), Stop> {
     let client = only_client(alloc, fields)?;
@@ -76,10 +75,10 @@ pub(crate) fn view(
 }
 
 /// `copied CLIENT`: the same of a copy, and the messages of a copy of its messages.
-pub(crate) fn copied(
+pub(crate) fn copied<R: Replica>(
     alloc: Global,
     text: &mut String,
-    replica: &Plain,
+    replica: &R,
     fields: &[&str],
 ) -> Result<(), Stop> {
     let client = only_client(alloc, fields)?;
@@ -104,10 +103,10 @@ fn print_copy(alloc: Global, text: &mut String, view: &ClientView) -> Result<(),
 }
 
 /// `waiting CLIENT`: how many messages wait for a client.
-pub(crate) fn waiting(
+pub(crate) fn waiting<R: Replica>(
     alloc: Global,
     text: &mut String,
-    replica: &Plain,
+    replica: &R,
     fields: &[&str],
 ) -> Result<(), Stop> {
     let client = only_client(alloc, fields)?;
@@ -121,10 +120,10 @@ pub(crate) fn waiting(
 }
 
 /// `next CLIENT GATEWAY`: the epoch of the client's next Take, and the number of the gateway's next message for it.
-pub(crate) fn next(
+pub(crate) fn next<R: Replica>(
     alloc: Global,
     text: &mut String,
-    replica: &Plain,
+    replica: &R,
     fields: &[&str],
 ) -> Result<(), Stop> {
     let [name, gateway] = fields else {
@@ -145,7 +144,11 @@ fn next_number(text: &mut String, what: &str, number: Option<u64>) -> Result<(),
 }
 
 /// `clients`: how many clients the replica knows.
-pub(crate) fn clients(alloc: Global, text: &mut String, replica: &Plain) -> Result<(), Stop> {
+pub(crate) fn clients<R: Replica>(
+    alloc: Global,
+    text: &mut String,
+    replica: &R,
+) -> Result<(), Stop> {
     match replica.clients(alloc) {
         Err(_) => Err(Stop::Memory),
         Ok(clients) => {
@@ -156,7 +159,7 @@ pub(crate) fn clients(alloc: Global, text: &mut String, replica: &Plain) -> Resu
 }
 
 /// `held`: the deltas of what must be kept.
-pub(crate) fn held(alloc: Global, text: &mut String, replica: &Plain) -> Result<(), Stop> {
+pub(crate) fn held<R: Replica>(alloc: Global, text: &mut String, replica: &R) -> Result<(), Stop> {
     let Ok(deltas) = replica.held(alloc) else {
         return Err(Stop::Memory);
     };
@@ -169,7 +172,7 @@ pub(crate) fn held(alloc: Global, text: &mut String, replica: &Plain) -> Result<
 }
 
 /// `parts`: how many operations each of these deltas has.
-pub(crate) fn parts(alloc: Global, text: &mut String, replica: &Plain) -> Result<(), Stop> {
+pub(crate) fn parts<R: Replica>(alloc: Global, text: &mut String, replica: &R) -> Result<(), Stop> {
     let Ok(deltas) = replica.held(alloc) else {
         return Err(Stop::Memory);
     };

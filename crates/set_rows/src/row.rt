@@ -7,26 +7,26 @@ use crate::operations::{ack_op, ack_ops, put_op, put_ops, session_op, session_op
 use crate::retries::retries;
 use crate::stop::Stop;
 use crate::{deltas, journals, names, replicas, sessions};
+use rep_model::Replica;
 use rep_ops::Op;
-use rep_plain::Plain;
 use sn_session::Session;
 use std::alloc::Global;
 use std::mem;
 
 /// What the lines of a row have brought about.
 #[derive(Drop)]
-pub(crate) struct Row {
+pub(crate) struct Row<R: Replica> {
     /// The session that changes, and that `take` holds.
     session: Session,
     /// The operations that no line has used.
     ops: Vec<Op>,
     octets: Vec<u8>,
-    replica: Plain,
+    replica: R,
     store: Store,
 }
 
 /// A row without a line.
-pub(crate) fn begin(alloc: Global) -> Result<Row, Stop> {
+pub(crate) fn begin<R: Replica>(alloc: Global) -> Result<Row<R>, Stop> {
     Ok(Row {
         session: Session::empty(alloc),
         ops: Vec::new(alloc),
@@ -37,10 +37,10 @@ pub(crate) fn begin(alloc: Global) -> Result<Row, Stop> {
 }
 
 /// Plays a line.
-pub(crate) fn play(
+pub(crate) fn play<R: Replica>(
     alloc: Global,
     text: &mut String,
-    row: &mut Row,
+    row: &mut Row<R>,
     names: &Names,
     words: &[&str],
 ) -> Result<(), Stop> {
@@ -134,10 +134,10 @@ fn play_operation(
 }
 
 /// Lines that use the operations.
-fn play_use(
+fn play_use<R: Replica>(
     alloc: Global,
     text: &mut String,
-    row: &mut Row,
+    row: &mut Row<R>,
     ops: Vec<Op>,
     first: &str,
 ) -> Result<(), Stop> {
@@ -209,10 +209,10 @@ fn play_reading(
 }
 
 /// Lines that ask a replica.
-fn play_replica(
+fn play_replica<R: Replica>(
     alloc: Global,
     text: &mut String,
-    replica: &Plain,
+    replica: &R,
     first: &str,
     rest: &[&str],
 ) -> Result<(), Stop> {

@@ -7,7 +7,7 @@ use Rattle.sn_client.specs.declared.talk.Awaited.TheVariants as waits
 use Rattle.sn_client.specs.declared.talk.Outcome.TheVariants as outcomes
 use Rattle.sn_client.specs.declared.talk.Turn.{Turn}
 use Rattle.sn_client.specs.declared.talk.Turn.TheVariants as turns
-use Rattle.sn_client.specs.Talking.{turn_of, turn_under, turn_by_code, turn_by_refusal, turn_by_reg_ack, msg_id_of, id_awaited, OnProgress}
+use Rattle.sn_client.specs.inner.Talking.{turn_of, turn_under, turn_by_code, turn_by_refusal, turn_by_reg_ack, msg_id_of, id_awaited, OnProgress}
 
 -- what holds is held on progress too
 progress : (turn : Turn) (P : Type 0) → P → OnProgress turn P

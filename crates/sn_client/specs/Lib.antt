@@ -1,3 +1,1 @@
-pub mod Asking
-pub mod Exchanges
-pub mod Talking
+pub mod inner

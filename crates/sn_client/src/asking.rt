@@ -2,8 +2,8 @@
 
 ghost use Rattle.std.specs.Prelude.{◌≡◌, ◌≤◌, ◌≢◌, ◌↔◌, IfOk, IsTrue, IsBitSet};
 ghost use Rattle.sn_frame.specs.FlagBits.{qos_of, kind_of};
-ghost use Rattle.sn_client.specs.Asking.{qos_bits, kind_bits, retain_bit, flags_of, connect_flags, publish_id};
-ghost use Rattle.sn_client.specs.Exchanges.{IsAsked};
+ghost use Rattle.sn_client.specs.inner.Asking.{qos_bits, kind_bits, retain_bit, flags_of, connect_flags, publish_id};
+ghost use Rattle.sn_client.specs.inner.Exchanges.{IsAsked};
 
 use crate::talk::{Awaited, Publication, Talk};
 use crate::words::{Command, Topic};

@@ -1,8 +1,8 @@
 //! One exchange, without a socket: what a frame means for what is awaited, and what is sent for it (MQTT-SN 1.2 sections 6.2 to 6.14).
 
 ghost use Rattle.std.specs.Prelude.{◌≡◌, option_map};
-ghost use Rattle.sn_client.specs.Talking.{status_of, awaited_at, outcome_at, repeated, turn_of};
-ghost use Rattle.sn_client.specs.Exchanges.{beginning, frame_by_id, outcome_of, planned_of, publishing_of, registering, turned};
+ghost use Rattle.sn_client.specs.inner.Talking.{status_of, awaited_at, outcome_at, repeated, turn_of};
+ghost use Rattle.sn_client.specs.inner.Exchanges.{beginning, frame_by_id, outcome_of, planned_of, publishing_of, registering, turned};
 
 use octets::Octets;
 use sn_frame::{Flags, Frame, Qos};

@@ -15,6 +15,7 @@ use Rattle.sn_frame.specs.declared.flags.TopicIdType.{TopicIdType}
 use Rattle.sn_frame.specs.declared.flags.TopicIdType.TheVariants as kinds
 use Rattle.sn_frame.specs.declared.frame.Frame.TheVariants as frames
 use Rattle.sn_frame.specs.FlagBits.{qos_of, kind_of}
+use Rattle.rep_ops.specs.declared.size.TheConstants.{MAX_BODY}
 use Rattle.sn_flow.specs.declared.config.Addr.{Addr}
 use Rattle.sn_flow.specs.Asking.{name_asked}
 use Rattle.sn_flow.specs.Drafts.{Drafted, nothing, changed, changed_if, put_all, sent}
@@ -46,7 +47,7 @@ topic_meant predefined s kinds.Reserved topic = Refused 3
 -- code 3, not supported, where the message has more than 4,096 octets
 abbrev pub within_limit : List ℕ → Meant → Meant
 within_limit body (Refused code) = Refused code
-within_limit body (Topic name) = if nat_lt 4096 (length body) then Refused 3 else Topic name
+within_limit body (Topic name) = if nat_lt MAX_BODY (length body) then Refused 3 else Topic name
 
 -- what a PUBLISH is about
 abbrev pub publication_meant : Entries → Session → ℕ → ℕ → List ℕ → Meant

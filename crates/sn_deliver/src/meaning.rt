@@ -7,14 +7,12 @@ ghost use Rattle.sn_flow.specs.Asking.{name_asked as name_in};
 ghost use Rattle.sn_session.specs.Topics.{topic_of};
 
 use octets::Octets;
+use rep_ops::MAX_BODY;
 use sn_flow::{StepFault, name_asked};
 use sn_frame::{Flags, TopicIdType};
 use sn_session::Session;
 use sn_topic::{Predefined, TopicName};
 use std::alloc::Global;
-
-/// The most octets of a message.
-const MAX_BODY: usize = 4096;
 
 /// What a PUBLISH is about.
 #[derive(Debug, Drop)]

@@ -43,16 +43,14 @@ fn none_asks<R: Replica>(gateway: u8, replica: &R, dialogs: &Dialogs, now: u64) 
         (client_asks gateway (seen_of (R.kept replica.now)) dialogs.now.local now)
         (clients_of (R.kept replica.now)) ≡ false }
 {
-    for place in 0..usize::MAX {
-        let Some((client, view)) = replica.client_at(place) else {
-            return true;
-        };
+    let mut place = 0;
+    while let Some((behind, client, view)) = replica.client_at(place) {
         if asks(gateway, dialogs, now, client, view) {
             return false;
         }
+        place = behind;
     }
-    // no memory holds so many clients
-    false
+    true
 }
 
 /// Whether it was found that a tick of this moment has nothing to do. It has nothing to do at any moment before it then.

@@ -110,14 +110,12 @@ fn begin_timers<R: Replica>(
         (clients_of (R.kept replica.now)) draft.old) }
     ensures err { IfErr result (λ fault. fault ≡ StepFault.Memory) }
 {
-    for place in 0..usize::MAX {
-        let Some((client, view)) = replica.client_at(place) else {
-            return Ok(());
-        };
+    let mut place = 0;
+    while let Some((behind, client, view)) = replica.client_at(place) {
         begin_timer(alloc, draft, gateway, dialogs, now, client, view)?;
+        place = behind;
     }
-    // no memory holds so many clients
-    Err(StepFault::Memory)
+    Ok(())
 }
 
 /// What every tick does first.

@@ -9,7 +9,7 @@ use Rattle.std.specs.List.{insert, filter, find}
 use Rattle.rep_ops.specs.Orders.{client_cmp}
 use Rattle.rep_ops.specs.Sets.{same_client}
 use Rattle.rep_model.proofs.Readers.{client_total}
-use Rattle.sn_session.specs.Tables.{IsAt, IsGap}
+use Rattle.sn_session.specs.inner.Tables.{IsAt, IsGap}
 use Rattle.sn_session.proofs.Ascending.{Ascends, from_test, to_test, ascends_with, ascends_filter}
 use Rattle.sn_session.proofs.Places.{find_at, find_gap, with_at, with_gap}
 use Rattle.sn_flow.specs.declared.local.Timer.{Timer}

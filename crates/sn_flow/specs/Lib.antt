@@ -21,3 +21,5 @@ pub mod TopicRows
 pub mod WillDialogs
 pub mod WillUpdate
 pub mod Wills
+pub mod Faults
+pub mod inner

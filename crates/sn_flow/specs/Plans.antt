@@ -42,7 +42,3 @@ IsFault Memory defined = ⊤
 -- the result is what the definition says
 abbrev pub Gives : {X : Type 0} → Result X StepFault → Option X → Type 0
 Gives result defined = MatchResult result (λ x. defined ≡ Some x) (λ fault. IsFault fault defined)
-
--- the value after the call is what the definition says
-abbrev pub Becomes : {X Y : Type 0} → Result Y StepFault → X → Option X → Type 0
-Becomes result x defined = MatchResult result (λ _. defined ≡ Some x) (λ fault. IsFault fault defined)

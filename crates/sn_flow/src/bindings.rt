@@ -4,7 +4,8 @@
 ghost use Rattle.std.specs.Prelude.{◌≡◌, ◌+◌, ◌≤◌, true, filter, vec_len};
 ghost use Rattle.std.specs.Option.{option_copied};
 ghost use Rattle.std.specs.Vec.{vec_capacity};
-ghost use Rattle.sn_session.specs.Tables.{IsPlace, with_entry};
+ghost use Rattle.sn_session.specs.Tables.{with_entry};
+ghost use Rattle.sn_session.specs.inner.Tables.{IsPlace};
 ghost use Rattle.sn_flow.specs.Bindings.{AreBindings, address_cmp, binding_cmp};
 ghost use Rattle.sn_flow.specs.Bindings.{client_at as client_of_address, address_of as address_of_client, bound, unbound, is_apart as is_apart_from, is_of_other as is_of_another, is_owned as is_owned_at, has_owned as has_owned_client, owned_bindings};
 ghost use Rattle.sn_flow.specs.Plans.{seen_of};

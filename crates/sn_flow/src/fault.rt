@@ -2,6 +2,7 @@
 
 ghost use Rattle.std.specs.Prelude.{◌≡◌};
 ghost use Rattle.sn_flow.specs.declared.fault.StepFault.TheVariants.{Memory};
+ghost use Rattle.sn_flow.specs.Faults.{number_of};
 
 use rep_model::TakeFault;
 use rep_ops::OpsFault;
@@ -19,6 +20,18 @@ pub enum StepFault {
     /// Fault 2: memory ran out.
     #[error("out of memory")]
     Memory,
+}
+
+impl StepFault {
+    /// The number by which reports name the fault, 1 or 2.
+    pub fn number(&self) -> u8
+        ensures { result ≡ number_of self.now }
+    {
+        match self {
+            StepFault::Exhausted => 1,
+            StepFault::Memory => 2,
+        }
+    }
 }
 
 impl From<AllocError> for StepFault {

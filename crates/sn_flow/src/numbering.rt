@@ -4,7 +4,7 @@ ghost use Rattle.std.specs.Prelude.{◌≡◌, ℕ, ◌<◌, ◌∷◌, ◌++◌
 ghost use Rattle.rep_model.specs.Fresh.{one_more as next_number, next_seq};
 ghost use Rattle.sn_session.specs.Session.{applied};
 ghost use Rattle.sn_flow.specs.Numbering.{with_puts, ack_of};
-ghost use Rattle.sn_flow.specs.Plans.{Becomes};
+ghost use Rattle.sn_flow.specs.inner.Plans.{Becomes};
 
 use super::draft::NewPut;
 use super::fault::StepFault;

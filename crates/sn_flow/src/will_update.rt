@@ -10,13 +10,11 @@ use super::config::Addr;
 use super::draft::Draft;
 use super::fault::StepFault;
 use octets::Octets;
+use rep_ops::MAX_BODY;
 use sn_frame::{Flags, Frame, Will};
 use sn_session::{Session, SessionOp, WillTopic};
 use sn_topic::TopicName;
 use std::alloc::Global;
-
-/// The most octets that the message of a will may have.
-pub const MAX_MESSAGE: usize = 4096;
 
 /// Whether the will is to be retained.
 fn is_retained(flags: Flags) -> bool
@@ -91,7 +89,7 @@ pub fn will_topic_update(alloc: Global, to: Addr, will: &Option<Will>) -> Result
 fn has_no_place(session: &Session, message: &[u8]) -> bool
     ensures { result ≡ is_without_place session.now message.now }
 {
-    message.len() > MAX_MESSAGE || session.will.is_none()
+    message.len() > MAX_BODY || session.will.is_none()
 }
 
 /// WILLMSGUPD: the client gives its will another message. WILLMSGRESP says whether it is done: a message of more than

@@ -14,11 +14,11 @@ use super::fault::StepFault;
 use super::local::{Awaited, Dialogs, LocalChange, Request, WillDialog};
 use super::row::{Follow, Row, heard_row, stray, turn_away};
 use super::will_update::{
-    MAX_MESSAGE, topic_asked, will_msg_update as draft_message, will_topic_update as draft_topic,
+    topic_asked, will_msg_update as draft_message, will_topic_update as draft_topic,
 };
 use octets::Octets;
 use rep_model::Replica;
-use rep_ops::ClientId;
+use rep_ops::{ClientId, MAX_BODY};
 use sn_frame::{Frame, Will};
 use sn_session::{Session, Will as SessionWill, WillTopic};
 use std::alloc::Global;
@@ -180,7 +180,7 @@ fn message_row<R: Replica>(
         topic.now message.now now) }
     ensures err { IfErr result (λ fault. fault ≡ StepFault.Memory) }
 {
-    if message.len() > MAX_MESSAGE {
+    if message.len() > MAX_BODY {
         return dismiss(alloc, request, NOT_SUPPORTED);
     }
     let will = will_of(alloc, topic, message)?;

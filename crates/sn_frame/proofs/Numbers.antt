@@ -1,7 +1,7 @@
 -- numbers of two octets, and choices by a test
 use Rattle.std.proofs.Common.{◌≡◌, ℕ, ◌+◌, ◌*◌, ◌^◌, ◌/◌, ◌%◌, ◌<◌, Bool, true, false, cond, ◌&&◌, List, [], ◌∷◌, get_or, refl, arith}
 use Rattle.byteorder.specs.Endian.{big_bytes}
-use Rattle.sn_frame.specs.Reading.{number}
+use Rattle.sn_frame.specs.inner.Reading.{number}
 
 -- each octet is below 256
 abbrev pub IsBytes : List ℕ → Type 0

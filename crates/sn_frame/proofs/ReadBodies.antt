@@ -12,7 +12,7 @@ use Rattle.sn_frame.specs.declared.msg_type.MsgType.{MsgType}
 use Rattle.sn_frame.specs.declared.msg_type.MsgType.TheVariants as types
 use Rattle.sn_frame.specs.Bodies.{type_of, body_of, IsMessage, IsValue, IsTopicField, will_octets}
 use Rattle.sn_frame.specs.FlagBits.{kind_of}
-use Rattle.sn_frame.specs.Reading.{number, read_bare, read_octet, read_number, read_ids, fits_topic, read_filter, read_will, read_advertise, read_gw_info, read_connect, read_register, read_publish, read_sub_ack, read_ping_req, read_disconnect, frame_of}
+use Rattle.sn_frame.specs.inner.Reading.{number, read_bare, read_octet, read_number, read_ids, fits_topic, read_filter, read_will, read_advertise, read_gw_info, read_connect, read_register, read_publish, read_sub_ack, read_ping_req, read_disconnect, frame_of}
 use Rattle.sn_frame.proofs.Numbers.{IsBytes, octets-number, number-fits, number-octets, chosen, both, first_of_both, second_of_both}
 
 -- the frame is one of this type with this body

@@ -9,7 +9,7 @@ use Rattle.sn_frame.specs.declared.msg_type.MsgType.{MsgType}
 use Rattle.sn_frame.specs.Bodies.{type_of, body_of, IsMessage, IsValue}
 use Rattle.sn_frame.specs.Faults.{IsFirstFault, IsPlain, type_place}
 use Rattle.sn_frame.specs.Grammar.{IsFramed, Spells, spelling, total_of}
-use Rattle.sn_frame.specs.Reading.{frame_of, Gives}
+use Rattle.sn_frame.specs.inner.Reading.{frame_of, Gives}
 use Rattle.sn_frame.specs.Types.{octet_of}
 use Rattle.sn_frame.proofs.Framing.{one_framing, one_type, no_capsule, framed_place, framed_there, body_bytes}
 use Rattle.sn_frame.proofs.Numbers.{IsBytes, chosen, otherwise}

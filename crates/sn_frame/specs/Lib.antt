@@ -2,5 +2,5 @@ pub mod Bodies
 pub mod Faults
 pub mod FlagBits
 pub mod Grammar
-pub mod Reading
 pub mod Types
+pub mod inner

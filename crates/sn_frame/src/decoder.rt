@@ -6,7 +6,7 @@ ghost use Rattle.sn_frame.specs.declared.fault.FrameFault.TheVariants as frame_f
 ghost use Rattle.sn_frame.specs.Bodies.{IsValue};
 ghost use Rattle.sn_frame.specs.Faults.{IsPlain, IsFirstFault};
 ghost use Rattle.sn_frame.specs.Grammar.{IsFramed, Spells};
-ghost use Rattle.sn_frame.specs.Reading.{frame_of, Gives};
+ghost use Rattle.sn_frame.specs.inner.Reading.{frame_of, Gives};
 
 use crate::fault::FrameFault;
 use crate::frame::Frame;

@@ -30,7 +30,7 @@ pub enum TopicIdType {
 
 impl TopicIdType {
     ghost use Rattle.sn_frame.specs.Bodies.{IsTopicField};
-    ghost use Rattle.sn_frame.specs.Reading.{fits_topic};
+    ghost use Rattle.sn_frame.specs.inner.Reading.{fits_topic};
 
     /// Whether a topic field of SUBSCRIBE or UNSUBSCRIBE may have this size.
     pub(crate) fn fits(self, topic: &[u8]) -> bool

@@ -8,7 +8,8 @@ use Rattle.std.specs.List.{AllByRecursion, filter, find, insert, remove}
 use Rattle.std.specs.List.Sorted.{IsSearchInRange, IsBinarySearchResult, IsNonDecreasingBy}
 use Rattle.std.proofs.lemmas.List.Sorted.{searchable_from_sorted}
 use Rattle.std.proofs.lemmas.List.Edits.{length-insert}
-use Rattle.sn_session.specs.Tables.{is_ascending, with_entry, AllAbove, IsAt, IsGap, IsPlace, IsTable}
+use Rattle.sn_session.specs.Tables.{is_ascending, with_entry, IsTable}
+use Rattle.sn_session.specs.inner.Tables.{AllAbove, IsAt, IsGap, IsPlace}
 use Rattle.sn_session.proofs.Ascending.{Ascends, all_weaker, from_test, to_test, ascends_with, ascends_filter}
 
 -- neighbours of a list that ascends do not go down

@@ -6,7 +6,8 @@ use Rattle.std.specs.Ordering.{nat_cmp, ordering_reverse}
 use Rattle.std.specs.Cmp.{nat_cmp_total}
 use Rattle.std.specs.List.{insert, remove}
 use Rattle.std.proofs.lemmas.Cmp.{ranked}
-use Rattle.sn_session.specs.Tables.{IsTable, IsAt, IsGap, IsPlace, AllAbove}
+use Rattle.sn_session.specs.Tables.{IsTable}
+use Rattle.sn_session.specs.inner.Tables.{IsAt, IsGap, IsPlace, AllAbove}
 use Rattle.sn_session.specs.Received.{with_received, without_received, is_received, id_has_no_room}
 use Rattle.sn_session.proofs.Numbers.{tied, lower, higher, room_left}
 use Rattle.sn_session.proofs.Places.{with_gap, table_insert, table_filter, without_at, without_gap}

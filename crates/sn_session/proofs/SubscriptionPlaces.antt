@@ -8,7 +8,8 @@ use Rattle.std.specs.Cmp.Lexicographic.{nat_list_cmp_total, texts_ties}
 use Rattle.std.specs.FinMap.{slice_cmp-IsAntisymmetric, nat_cmp-IsAntisymmetric}
 use Rattle.std.specs.List.{insert, remove}
 use Rattle.sn_session.specs.declared.subscriptions.Subscription.{Subscription}
-use Rattle.sn_session.specs.Tables.{IsTable, IsAt, IsGap}
+use Rattle.sn_session.specs.Tables.{IsTable}
+use Rattle.sn_session.specs.inner.Tables.{IsAt, IsGap}
 use Rattle.sn_session.specs.Subscriptions.{filter_cmp, subscription_cmp, with_subscription, without_filter, subscription_of, filter_has_no_room}
 use Rattle.sn_session.proofs.Numbers.{room_left}
 use Rattle.sn_session.proofs.Places.{find_at, find_gap, at_equal, with_at, with_gap, table_set, table_insert, table_filter, without_at, without_gap}

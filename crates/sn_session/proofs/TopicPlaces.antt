@@ -5,7 +5,8 @@ use Rattle.std.specs.Ordering.{nat_cmp, ordering_reverse}
 use Rattle.std.specs.Cmp.{nat_cmp_total, on_total, IsTotalOrder}
 use Rattle.std.specs.List.{insert}
 use Rattle.sn_session.specs.declared.topics.TopicEntry.{TopicEntry}
-use Rattle.sn_session.specs.Tables.{IsTable, IsAt, IsGap}
+use Rattle.sn_session.specs.Tables.{IsTable}
+use Rattle.sn_session.specs.inner.Tables.{IsAt, IsGap}
 use Rattle.sn_session.specs.Topics.{topic_cmp, with_topic, topic_of, topic_has_no_room}
 use Rattle.sn_session.proofs.Numbers.{tied, lower, higher, room_left}
 use Rattle.sn_session.proofs.Places.{find_at, find_gap, with_at, with_gap, table_set, table_insert}

@@ -5,3 +5,4 @@ pub mod Subscriptions
 pub mod Received
 pub mod Wills
 pub mod Session
+pub mod inner

@@ -2,7 +2,8 @@
 
 ghost use Rattle.std.specs.Prelude.{◌≡◌, ◌==◌, ◌<◌, ◌≤◌, ◌↔◌, [], length, IfOk, IfErr, MatchOption, OnOk, OnErr, IsErrOf, IsTrue, false};
 ghost use Rattle.std.specs.Ordering.{nat_cmp};
-ghost use Rattle.sn_session.specs.Tables.{IsTable, IsPlace, is_ascending as ascending_test};
+ghost use Rattle.sn_session.specs.Tables.{IsTable, is_ascending as ascending_test};
+ghost use Rattle.sn_session.specs.inner.Tables.{IsPlace};
 ghost use Rattle.sn_session.specs.Received.{with_received, without_received, is_received, id_has_no_room};
 
 use crate::fault::SessionFault;

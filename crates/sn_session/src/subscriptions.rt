@@ -1,7 +1,8 @@
 //! The subscriptions of a session.
 
 ghost use Rattle.std.specs.Prelude.{◌≡◌, ◌==◌, ◌<◌, ◌≤◌, ◌↔◌, [], length, IfOk, IfErr, IfSome, MatchOption, OnOk, OnErr, IsErrOf, IsTrue, false, Some, is_none};
-ghost use Rattle.sn_session.specs.Tables.{IsTable, IsPlace, is_ascending as ascending_test};
+ghost use Rattle.sn_session.specs.Tables.{IsTable, is_ascending as ascending_test};
+ghost use Rattle.sn_session.specs.inner.Tables.{IsPlace};
 ghost use Rattle.sn_session.specs.Subscriptions.{filter_cmp, subscription_cmp, with_subscription, without_filter, subscription_of, qos_of, filter_has_no_room, asked_qos, subscribed_qos, or_greater as greater_test, IsGreatest};
 
 use crate::fault::SessionFault;

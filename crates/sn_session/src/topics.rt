@@ -2,7 +2,8 @@
 
 ghost use Rattle.std.specs.Prelude.{◌≡◌, ◌==◌, ◌<◌, ◌≤◌, ◌↔◌, [], ◌∷◌, length, is_some, IfOk, IfErr, IfSome, MatchOption, OnOk, OnErr, IsErrOf, IsTrue, false, map, option_copied};
 ghost use Rattle.std.specs.Ordering.{nat_cmp};
-ghost use Rattle.sn_session.specs.Tables.{IsTable, IsPlace, is_ascending as ascending_test};
+ghost use Rattle.sn_session.specs.Tables.{IsTable, is_ascending as ascending_test};
+ghost use Rattle.sn_session.specs.inner.Tables.{IsPlace};
 ghost use Rattle.sn_session.specs.Topics.{topic_cmp, unknown, with_topic, topic_of, topic_named, topic_id, topic_has_no_room, free_id, least_unused, IsLeastUnused, IsLeastIdOf};
 
 use crate::fault::SessionFault;

@@ -1,1 +1,1 @@
-pub mod Stopping
+pub mod inner

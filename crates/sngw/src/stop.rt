@@ -1,7 +1,7 @@
 //! Why the program ends early.
 
 ghost use Rattle.std.specs.Prelude.{◌≡◌};
-ghost use Rattle.sngw.specs.Stopping.{status_of};
+ghost use Rattle.sngw.specs.inner.Stopping.{status_of};
 
 use gw_main::Key;
 use thiserror::Error;

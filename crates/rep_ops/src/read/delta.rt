@@ -1,6 +1,7 @@
 //! The whole delta.
 
 ghost use Rattle.std.specs.Prelude.{◌≡◌, ◌<◌, [], Err, length};
+ghost use Rattle.rep_ops.specs.Spelling.{max_octets};
 ghost use Rattle.rep_ops.specs.Reading.{Gives, is_apart as apart_test, may_follow as follow_test, op_at, listed_at, reading};
 
 use super::field::{read_four, read_octet};
@@ -74,7 +75,7 @@ fn read_ops(alloc: Global, count: u32, bytes: &[u8]) -> Result<(Vec<Op>, &[u8]),
 #[tactic(auto, unfolding(crate::specs::Reading::whole_at, crate::specs::Reading::text_at))]
 pub fn read_delta(alloc: Global, bytes: &[u8]) -> Result<Vec<Op>, OpsFault>
     ensures reads { Gives (λ v. v.items) result (reading bytes.now) }
-    ensures limit { 8388608 < length bytes.now → result ≡ Err OpsFault.Limit }
+    ensures limit { max_octets < length bytes.now → result ≡ Err OpsFault.Limit }
 {
     if bytes.len() > MAX_OCTETS {
         return Err(OpsFault::Limit);

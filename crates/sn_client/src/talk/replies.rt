@@ -1,7 +1,7 @@
 //! What a frame from the gateway is acknowledged by, and a frame that is sent again.
 
 ghost use Rattle.std.specs.Prelude.{◌≡◌, IfSome};
-ghost use Rattle.sn_client.specs.Talking.{acknowledgement_of, acknowledgement_at, msg_id_of, repeated, repeated_bits};
+ghost use Rattle.sn_client.specs.inner.Talking.{acknowledgement_of, acknowledgement_at, msg_id_of, repeated, repeated_bits};
 
 use sn_frame::{Flags, Frame, Qos};
 

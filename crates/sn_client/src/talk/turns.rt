@@ -1,7 +1,7 @@
 //! What a frame means for what is awaited. An answer counts under the message id that was sent, and under no other.
 
 ghost use Rattle.std.specs.Prelude.{◌≡◌};
-ghost use Rattle.sn_client.specs.Talking.{turn_of, turn_under, turn_by_code, turn_by_refusal, turn_by_reg_ack, msg_id_of, id_awaited, OnProgress};
+ghost use Rattle.sn_client.specs.inner.Talking.{turn_of, turn_under, turn_by_code, turn_by_refusal, turn_by_reg_ack, msg_id_of, id_awaited, OnProgress};
 
 use super::{Awaited, Outcome, Turn};
 use sn_frame::Frame;

@@ -1,6 +1,6 @@
 //! Bodies that one message alone has.
 
-ghost use Rattle.sn_frame.specs.Reading.{Gives, read_advertise, read_gw_info, read_connect, read_register, read_publish, read_sub_ack, read_ping_req, read_disconnect};
+ghost use Rattle.sn_frame.specs.inner.Reading.{Gives, read_advertise, read_gw_info, read_connect, read_register, read_publish, read_sub_ack, read_ping_req, read_disconnect};
 
 use crate::decoder::parts::number;
 use crate::fault::FrameFault;

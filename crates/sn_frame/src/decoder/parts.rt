@@ -1,7 +1,7 @@
 //! Bodies, and parts of bodies, that several messages share.
 
 ghost use Rattle.std.specs.Prelude.{◌≡◌, IfOk};
-ghost use Rattle.sn_frame.specs.Reading.{Gives, number, read_bare, read_octet, read_number, read_ids, read_filter, read_will};
+ghost use Rattle.sn_frame.specs.inner.Reading.{Gives, number, read_bare, read_octet, read_number, read_ids, read_filter, read_will};
 
 use crate::fault::FrameFault;
 use crate::flags::Flags;

@@ -2,7 +2,8 @@ use Rattle.std.proofs.Common.{◌≡◌, ℕ, List, ◌++◌, subst, ◌∙◌, 
 use Rattle.std.specs.Io.KnownBytes.{Appends}
 use Rattle.std.proofs.lemmas.Result.{IfErr-weaker}
 use Rattle.gw_net.specs.Messages.{spelling}
-use Rattle.gw_net.specs.Writing.{IsCutBehind, IsCutShort}
+use Rattle.gw_net.specs.Writing.{IsCutShort}
+use Rattle.gw_net.specs.inner.Writing.{IsCutBehind}
 use Rattle.gw_net.proofs.Sending.{headed, cut_first, cut_second}
 use Rattle.gw_net.proofs.outgoing.link_out.Goals as goal
 

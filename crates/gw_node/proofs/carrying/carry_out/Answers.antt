@@ -6,9 +6,9 @@ use Rattle.rep_model.specs.Keep.{IsKeptOf}
 use Rattle.sn_flow.specs.Locals.{after_all}
 use Rattle.gw_node.specs.declared.out.Out.{Out}
 use Rattle.gw_node.specs.Parts.{state_of, only_sends}
-use Rattle.gw_node.specs.Writing.{WrittenIfMade, refusal_of}
+use Rattle.gw_node.specs.inner.Writing.{WrittenIfMade, refusal_of}
 use Rattle.gw_node.specs.Plans.{Makes}
-use Rattle.gw_node.specs.Handling.{HaveNoDelta}
+use Rattle.gw_node.specs.inner.Handling.{HaveNoDelta}
 use Rattle.gw_node.proofs.Calling.{makes, no_delta, no_room, given_up}
 use Rattle.gw_node.proofs.carrying.carry_out.Goals as goal
 

@@ -2,7 +2,7 @@ use Rattle.std.proofs.Common.{◌≡◌, ◌≤◌, None}
 use Rattle.crossbeam_channel.specs.Claims.{view, IsSeatAt}
 use Rattle.crossbeam_channel.specs.Ends.{sends_on}
 use Rattle.gw_serve.specs.Count.{one_to}
-use Rattle.gw_serve.specs.Queue.{hand}
+use Rattle.gw_serve.specs.inner.Queue.{hand}
 use Rattle.gw_serve.proofs.reader.read_all.Given as goal
 
 abbrev pub invariant-loop-turn : goal.invariant-loop-turn

@@ -2,7 +2,7 @@ use Rattle.std.proofs.Common.{◌≡◌, ◌+◌, ℕ}
 use Rattle.crossbeam_channel.specs.Claims.{view, IsSeatAt}
 use Rattle.crossbeam_channel.specs.Ends.{receives_on}
 use Rattle.gw_serve.specs.Count.{weigh}
-use Rattle.gw_serve.specs.Queue.{whole}
+use Rattle.gw_serve.specs.inner.Queue.{whole}
 use Rattle.gw_serve.proofs.serving.drain.Given as goal
 
 abbrev pub invariant-loop : goal.invariant-loop

@@ -2,7 +2,7 @@ use Rattle.std.proofs.Common.{◌∷◌, ◌++◌, [], List, Option, length, All
 use Rattle.crossbeam_channel.specs.Claims.{view}
 use Rattle.gw_shift.specs.Calls.{Holder}
 use Rattle.gw_serve.specs.declared.worker.Seat.{Seat}
-use Rattle.gw_serve.specs.Work.{IsDone, DoneFrom}
+use Rattle.gw_serve.specs.inner.Work.{IsDone, DoneFrom}
 use Rattle.gw_serve.proofs.Gathering.{next_done, gains_all, gathered_all}
 use Rattle.gw_serve.proofs.serving.gather.Goals as goal
 

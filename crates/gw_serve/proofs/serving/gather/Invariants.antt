@@ -2,9 +2,9 @@ use Rattle.std.proofs.Common.{◌≡◌, ◌+◌, ◌<◌, ◌≤◌, ◌++◌, 
 use Rattle.std.specs.Vec.Iter.{into_iter_items}
 use Rattle.crossbeam_channel.specs.Claims.{view, IsSeatAt}
 use Rattle.crossbeam_channel.specs.Ends.{sends_on}
-use Rattle.gw_serve.specs.Queue.{whole}
+use Rattle.gw_serve.specs.inner.Queue.{whole}
 use Rattle.gw_serve.specs.Serving.{EachGains}
-use Rattle.gw_serve.specs.Work.{IsDone, DoneFrom, IsGathered}
+use Rattle.gw_serve.specs.inner.Work.{IsDone, DoneFrom, IsGathered}
 use Rattle.gw_shift.specs.Calls.{Holder}
 use Rattle.gw_serve.proofs.serving.gather.Given as goal
 

@@ -4,8 +4,8 @@ use Rattle.crossbeam_channel.specs.Ends.{sends_on}
 use Rattle.gw_shift.specs.Calls.{Holder}
 use Rattle.gw_serve.specs.declared.queue.Hand.{Hand}
 use Rattle.gw_serve.specs.declared.worker.Seat.{Seat}
-use Rattle.gw_serve.specs.Queue.{hand, whole}
-use Rattle.gw_serve.specs.Work.{IsFreshSlot, pass_of}
+use Rattle.gw_serve.specs.inner.Queue.{hand, whole}
+use Rattle.gw_serve.specs.inner.Work.{IsFreshSlot, pass_of}
 use Rattle.gw_serve.proofs.Balance.{forks}
 use Rattle.gw_serve.proofs.Gathering.{fresh_more, fresh_seat}
 use Rattle.gw_serve.proofs.serving.seated.Goals as goal

@@ -2,8 +2,8 @@ use Rattle.std.proofs.Common.{◌≡◌, ◌-◌, ◌+◌, ◌≤◌, ◌++◌, 
 use Rattle.std.specs.Vec.Iter.{into_iter_items}
 use Rattle.crossbeam_channel.specs.Claims.{view, IsSeatAt}
 use Rattle.crossbeam_channel.specs.Ends.{sends_on}
-use Rattle.gw_serve.specs.Queue.{hand, whole}
-use Rattle.gw_serve.specs.Work.{IsFreshSlot, pass_of}
+use Rattle.gw_serve.specs.inner.Queue.{hand, whole}
+use Rattle.gw_serve.specs.inner.Work.{IsFreshSlot, pass_of}
 use Rattle.gw_serve.proofs.serving.seated.Given as goal
 
 abbrev pub invariant-loop-pass : goal.invariant-loop-pass

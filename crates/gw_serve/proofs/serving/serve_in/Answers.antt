@@ -6,7 +6,7 @@ use Rattle.crossbeam_channel.specs.Ends.{sends_on}
 use Rattle.gw_shift.specs.Calls.{Holder}
 use Rattle.gw_serve.specs.declared.queue.Hand.{Hand}
 use Rattle.gw_serve.specs.Serving.{EachGains}
-use Rattle.gw_serve.specs.Work.{IsDone, DoneFrom, pass_of}
+use Rattle.gw_serve.specs.inner.Work.{IsDone, DoneFrom, pass_of}
 use Rattle.gw_serve.proofs.Gathering.{all_done, all_from, accounted}
 use Rattle.gw_serve.proofs.serving.serve_in.Goals as goal
 

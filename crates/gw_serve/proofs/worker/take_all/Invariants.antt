@@ -1,6 +1,6 @@
 use Rattle.crossbeam_channel.specs.Claims.{view, IsSeatAt}
 use Rattle.crossbeam_channel.specs.Ends.{receives_on}
-use Rattle.gw_serve.specs.Work.{IsWorking}
+use Rattle.gw_serve.specs.inner.Work.{IsWorking}
 use Rattle.gw_serve.proofs.worker.take_all.Given as goal
 
 abbrev pub invariant-loop : goal.invariant-loop

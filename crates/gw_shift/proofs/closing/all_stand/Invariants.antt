@@ -1,5 +1,5 @@
 use Rattle.std.proofs.Common.{length}
-use Rattle.gw_shift.specs.Closing.{AllStand}
+use Rattle.gw_shift.specs.inner.Closing.{AllStand}
 use Rattle.gw_shift.proofs.closing.all_stand.Given as goal
 
 -- all stand where those that are left do

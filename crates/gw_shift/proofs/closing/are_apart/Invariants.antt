@@ -1,5 +1,5 @@
 use Rattle.std.proofs.Common.{length}
-use Rattle.gw_shift.specs.Closing.{AreApart}
+use Rattle.gw_shift.specs.inner.Closing.{AreApart}
 use Rattle.gw_shift.proofs.closing.are_apart.Given as goal
 
 -- all are apart where those that are left are

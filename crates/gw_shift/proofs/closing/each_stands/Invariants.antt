@@ -1,5 +1,5 @@
 use Rattle.std.proofs.Common.{length}
-use Rattle.gw_shift.specs.Closing.{EachStands}
+use Rattle.gw_shift.specs.inner.Closing.{EachStands}
 use Rattle.gw_shift.proofs.closing.each_stands.Given as goal
 
 -- all stand where those of the passes that are left do

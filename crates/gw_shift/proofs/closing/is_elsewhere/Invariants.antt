@@ -1,5 +1,5 @@
 use Rattle.std.proofs.Common.{length}
-use Rattle.gw_shift.specs.Closing.{IsElsewhere}
+use Rattle.gw_shift.specs.inner.Closing.{IsElsewhere}
 use Rattle.gw_shift.proofs.closing.is_elsewhere.Given as goal
 
 -- none is there where none of those that are left is

@@ -1,5 +1,5 @@
 use Rattle.std.proofs.Common.{◌≡◌, ◌++◌, length}
-use Rattle.gw_shift.specs.Passes.{told_by}
+use Rattle.gw_shift.specs.inner.Passes.{told_by}
 use Rattle.gw_shift.proofs.gathering.copies.Given as goal
 
 -- what was copied, and what is left

@@ -1,5 +1,5 @@
 use Rattle.std.proofs.Common.{◌≡◌, ◌+◌, ◌++◌, take, length}
-use Rattle.gw_shift.specs.Passes.{told_by, made_after}
+use Rattle.gw_shift.specs.inner.Passes.{told_by, made_after}
 use Rattle.gw_shift.proofs.gathering.shares.Given as goal
 
 -- what was told of, and what is left up to the number that was asked for

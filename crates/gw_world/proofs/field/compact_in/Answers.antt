@@ -1,7 +1,7 @@
 -- It goes on as the definition says.
 use Rattle.gw_node.specs.Parts.{state_of, said}
-use Rattle.gw_world.specs.Plans.{CompactKept}
-use Rattle.gw_world.specs.Calm.{StaysCalm}
+use Rattle.gw_world.specs.inner.Plans.{CompactKept}
+use Rattle.gw_world.specs.inner.Calm.{StaysCalm}
 use Rattle.gw_world.proofs.Calmness.{compact_calm, if_fed}
 use Rattle.gw_world.proofs.field.compact_in.Goals as goal
 

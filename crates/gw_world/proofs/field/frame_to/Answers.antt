@@ -1,8 +1,8 @@
 -- It goes on as the definition says.
 use Rattle.gw_node.specs.Occasions.{Datagram}
 use Rattle.gw_node.specs.Parts.{state_of, said}
-use Rattle.gw_world.specs.Plans.{OwnKept}
-use Rattle.gw_world.specs.Calm.{StaysCalm}
+use Rattle.gw_world.specs.inner.Plans.{OwnKept}
+use Rattle.gw_world.specs.inner.Calm.{StaysCalm}
 use Rattle.gw_world.proofs.Calmness.{own_calm, if_fed}
 use Rattle.gw_world.proofs.field.frame_to.Goals as goal
 

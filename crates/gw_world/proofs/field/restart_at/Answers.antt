@@ -4,7 +4,7 @@ use Rattle.std.specs.List.{AllByRecursion, insert}
 use Rattle.std.proofs.lemmas.Option.{slice_get_read}
 use Rattle.gw_node.specs.Parts.{state_of}
 use Rattle.gw_world.specs.Calm.{IsCalm, keeping}
-use Rattle.gw_world.specs.Events.{RestartAt, IsSafe}
+use Rattle.gw_world.specs.inner.Events.{RestartAt, IsSafe}
 use Rattle.gw_world.proofs.Calmness.{all_at, all_set}
 use Rattle.gw_world.proofs.Moving.{restart_in_place, there_in_place, put_back}
 use Rattle.gw_world.proofs.field.restart_at.Goals as goal

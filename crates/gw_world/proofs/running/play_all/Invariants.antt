@@ -4,7 +4,7 @@ use Rattle.std.specs.List.{AllByRecursion}
 use Rattle.gw_node.specs.Parts.{state_of}
 use Rattle.gw_world.specs.Gateways.{Gateway}
 use Rattle.gw_world.specs.Calm.{IsCalm, keeping}
-use Rattle.gw_world.specs.Events.{RunKept}
+use Rattle.gw_world.specs.inner.Events.{RunKept}
 use Rattle.gw_world.proofs.running.play_all.Given as goal
 
 abbrev pub invariant-loop-index : goal.invariant-loop-index

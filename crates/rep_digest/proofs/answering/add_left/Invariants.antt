@@ -1,6 +1,6 @@
 use Rattle.std.proofs.Common.{◌≡◌, ◌++◌, take}
 use Rattle.std.specs.List.{flat_map}
-use Rattle.rep_digest.specs.Steps.{left_by}
+use Rattle.rep_digest.specs.inner.Steps.{left_by}
 use Rattle.rep_digest.proofs.answering.add_left.Given as goal
 
 abbrev pub invariant-loop-op : goal.invariant-loop-op

@@ -1,5 +1,5 @@
 use Rattle.std.proofs.Common.{ℕ, ◌++◌, refl, ap, sym, ◌∙◌, map}
-use Rattle.rep_digest.specs.Steps.{ending_from, beginning_by, outside, ack_of, left_of}
+use Rattle.rep_digest.specs.inner.Steps.{ending_from, beginning_by, outside, ack_of, left_of}
 use Rattle.std.specs.Prelude.{Some}
 use Rattle.rep_digest.proofs.Reaching.{outside_ending, outside_beginning}
 use Rattle.rep_digest.proofs.answering.add_left_by.Goals as goal

@@ -1,5 +1,5 @@
 use Rattle.std.proofs.Common.{◌≡◌, ◌++◌, map, drop}
-use Rattle.rep_digest.specs.Steps.{outside, outside_from, ack_of}
+use Rattle.rep_digest.specs.inner.Steps.{outside, outside_from, ack_of}
 use Rattle.rep_digest.proofs.answering.add_outside.Given as goal
 
 -- what is left of the rest leads where all leads

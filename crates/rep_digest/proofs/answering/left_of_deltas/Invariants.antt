@@ -1,7 +1,7 @@
 use Rattle.std.proofs.Common.{◌≡◌, take}
 use Rattle.std.specs.List.{flat_map}
 use Rattle.rep_ops.specs.Splitting.{all_of}
-use Rattle.rep_digest.specs.Steps.{left_by}
+use Rattle.rep_digest.specs.inner.Steps.{left_by}
 use Rattle.rep_digest.proofs.answering.left_of_deltas.Given as goal
 
 abbrev pub invariant-loop-delta : goal.invariant-loop-delta

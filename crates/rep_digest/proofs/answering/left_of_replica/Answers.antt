@@ -2,7 +2,7 @@ use Rattle.std.proofs.Common.{ap, ◌∙◌}
 use Rattle.std.specs.List.{flat_map}
 use Rattle.std.proofs.lemmas.Result.{IfOk-weaker}
 use Rattle.rep_ops.specs.Splitting.{all_of}
-use Rattle.rep_digest.specs.Steps.{left_by}
+use Rattle.rep_digest.specs.inner.Steps.{left_by}
 use Rattle.rep_digest.proofs.Left.{left_held}
 use Rattle.rep_digest.proofs.answering.left_of_replica.Goals as goal
 

@@ -1,7 +1,7 @@
 use Rattle.std.proofs.Common.{◌≡◌, ◌∙◌, List, ℕ, take, arith, rules, nat_le, sym, subst}
 use Rattle.std.proofs.lemmas.Fn.{always_returns_same}
 use Rattle.rep_model.specs.Ranges.{AreApart}
-use Rattle.rep_digest.specs.Steps.{beginning_by}
+use Rattle.rep_digest.specs.inner.Steps.{beginning_by}
 use Rattle.rep_digest.proofs.Reaching.{begun_first, take_beginning, apart_beginning}
 use Rattle.rep_digest.proofs.cover.beginning_by.Goals as goal
 

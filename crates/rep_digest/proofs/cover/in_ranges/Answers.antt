@@ -1,5 +1,5 @@
 use Rattle.std.proofs.Common.{ap, ◌∙◌}
-use Rattle.rep_digest.specs.Steps.{begins_by}
+use Rattle.rep_digest.specs.inner.Steps.{begins_by}
 use Rattle.rep_digest.proofs.Reaching.{in_ending}
 use Rattle.rep_digest.proofs.cover.in_ranges.Goals as goal
 

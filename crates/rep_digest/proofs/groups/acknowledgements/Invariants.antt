@@ -1,6 +1,6 @@
 use Rattle.std.proofs.Common.{◌≡◌, take}
 use Rattle.rep_ops.specs.Splitting.{all_of}
-use Rattle.rep_digest.specs.Steps.{groups}
+use Rattle.rep_digest.specs.inner.Steps.{groups}
 use Rattle.rep_digest.proofs.groups.acknowledgements.Given as goal
 
 abbrev pub invariant-loop-delta : goal.invariant-loop-delta

@@ -1,5 +1,5 @@
 use Rattle.std.proofs.Common.{◌≡◌, [], take}
-use Rattle.rep_digest.specs.Steps.{groups}
+use Rattle.rep_digest.specs.inner.Steps.{groups}
 use Rattle.rep_digest.proofs.groups.no_groups.Given as goal
 
 abbrev pub invariant-loop : goal.invariant-loop

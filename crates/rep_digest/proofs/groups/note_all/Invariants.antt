@@ -1,6 +1,6 @@
 use Rattle.std.proofs.Common.{◌≡◌, ◌++◌, List, take}
 use Rattle.rep_ops.specs.declared.op.Op.{Op}
-use Rattle.rep_digest.specs.Steps.{groups}
+use Rattle.rep_digest.specs.inner.Steps.{groups}
 use Rattle.rep_digest.proofs.groups.note_all.Given as goal
 
 abbrev pub invariant-loop-op : goal.invariant-loop-op

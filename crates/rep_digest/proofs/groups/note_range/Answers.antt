@@ -1,6 +1,6 @@
 use Rattle.std.proofs.Common.{◌≡◌, ◌++◌, ◌∷◌, [], get_or, sym, ap, ◌∙◌}
 use Rattle.std.specs.Prelude.{slice_set}
-use Rattle.rep_digest.specs.Steps.{groups}
+use Rattle.rep_digest.specs.inner.Steps.{groups}
 use Rattle.rep_digest.proofs.Grouping.{nowhere, at_place}
 use Rattle.rep_digest.proofs.groups.note_range.Goals as goal
 

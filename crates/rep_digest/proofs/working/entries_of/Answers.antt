@@ -1,6 +1,6 @@
 use Rattle.std.proofs.Common.{ap, ◌∙◌}
 use Rattle.rep_model.specs.Views.{view}
-use Rattle.rep_digest.specs.Steps.{group, drafted_entry}
+use Rattle.rep_digest.specs.inner.Steps.{group, drafted_entry}
 use Rattle.rep_digest.proofs.Worked.{entry_more}
 use Rattle.rep_digest.proofs.working.entries_of.Goals as goal
 

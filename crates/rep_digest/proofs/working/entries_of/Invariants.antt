@@ -1,7 +1,7 @@
 use Rattle.std.proofs.Common.{◌≡◌, List, map, take}
 use Rattle.rep_ops.specs.declared.op.Op.{Op}
 use Rattle.rep_model.specs.Views.{view}
-use Rattle.rep_digest.specs.Steps.{group, groups, drafted_entry}
+use Rattle.rep_digest.specs.inner.Steps.{group, groups, drafted_entry}
 use Rattle.rep_digest.proofs.working.entries_of.Given as goal
 
 abbrev pub invariant-loop-i : goal.invariant-loop-i

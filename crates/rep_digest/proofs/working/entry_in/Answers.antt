@@ -1,6 +1,6 @@
 use Rattle.std.proofs.Common.{sym, ap, ◌∙◌}
 use Rattle.rep_model.proofs.Named.{unnamed-unseen}
-use Rattle.rep_digest.specs.Steps.{drafted_entry}
+use Rattle.rep_digest.specs.inner.Steps.{drafted_entry}
 use Rattle.rep_digest.proofs.working.entry_in.Goals as goal
 
 pub returns-in_ok-entry_of-in-None : goal.returns-in_ok-entry_of-in-None

@@ -5,7 +5,7 @@ use Rattle.rep_ops.specs.Splitting.{all_of}
 use Rattle.std.specs.List.Sorted.{IsStrictlySortedBy}
 use Rattle.rep_model.proofs.Named.{clients-ascend}
 use Rattle.rep_ops.specs.Values.{AreValues}
-use Rattle.rep_digest.specs.Steps.{groups}
+use Rattle.rep_digest.specs.inner.Steps.{groups}
 use Rattle.rep_digest.proofs.Worked.{worked}
 use Rattle.rep_digest.proofs.working.worked_out.Goals as goal
 

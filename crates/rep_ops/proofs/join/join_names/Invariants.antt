@@ -1,5 +1,5 @@
 use Rattle.std.proofs.Common.{◌≡◌}
-use Rattle.rep_ops.specs.Joining.{joined}
+use Rattle.rep_ops.specs.inner.Joining.{joined}
 use Rattle.rep_ops.proofs.join.join_names.Given as goal
 
 abbrev pub invariant-loop-op : goal.invariant-loop-op

@@ -7,8 +7,10 @@ use Rattle.std.proofs.lemmas.Map.Views.{tells_apart}
 use Rattle.rep_ops.specs.declared.op.Op.{Op}
 use Rattle.rep_ops.specs.Orders.{client_cmp, client_of}
 use Rattle.rep_model.proofs.Readers.{client_exact}
-use Rattle.rep_plain.specs.Rows.{own, grown}
-use Rattle.rep_plain.specs.Tables.{rows_of, groups_of}
+use Rattle.rep_plain.specs.Rows.{own}
+use Rattle.rep_plain.specs.inner.Rows.{grown}
+use Rattle.rep_plain.specs.Tables.{rows_of}
+use Rattle.rep_plain.specs.inner.Tables.{groups_of}
 use Rattle.rep_plain.proofs.Growing.{look_up, grown_there, grown_apart, not_same}
 use Rattle.rep_plain.proofs.fresh.add_to_group.Goals as goal
 

@@ -1,5 +1,6 @@
-use Rattle.rep_plain.specs.Rows.{IsGrown}
-use Rattle.rep_plain.specs.Tables.{rows_of, groups_of}
+use Rattle.rep_plain.specs.inner.Rows.{IsGrown}
+use Rattle.rep_plain.specs.Tables.{rows_of}
+use Rattle.rep_plain.specs.inner.Tables.{groups_of}
 use Rattle.rep_plain.proofs.fresh.grown.Given as goal
 
 abbrev pub invariant-loop-op : goal.invariant-loop-op

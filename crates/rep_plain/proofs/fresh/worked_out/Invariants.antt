@@ -1,7 +1,8 @@
 use Rattle.std.proofs.Common.{◌≡◌, ◌++◌}
 use Rattle.std.specs.List.{AllByRecursion}
 use Rattle.rep_plain.specs.Entries.{IsWorkedOut}
-use Rattle.rep_plain.specs.Tables.{rows_of, groups_of}
+use Rattle.rep_plain.specs.Tables.{rows_of}
+use Rattle.rep_plain.specs.inner.Tables.{groups_of}
 use Rattle.rep_plain.proofs.fresh.worked_out.Given as goal
 
 abbrev pub invariant-loop-client : goal.invariant-loop-client

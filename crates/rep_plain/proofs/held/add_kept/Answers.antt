@@ -1,6 +1,6 @@
 use Rattle.std.proofs.Common.{◌≡◌, ◌++◌, filter, OnOk, ap, subst, ◌∙◌}
 use Rattle.std.specs.List.{filter_map}
-use Rattle.rep_plain.specs.Steps.{range_in, must_stay}
+use Rattle.rep_plain.specs.inner.Steps.{range_in, must_stay}
 use Rattle.rep_plain.proofs.Kept.{kept_of_entry}
 use Rattle.rep_plain.proofs.held.add_kept.Goals as goal
 

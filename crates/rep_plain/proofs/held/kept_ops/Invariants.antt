@@ -1,5 +1,5 @@
 use Rattle.std.proofs.Common.{◌≡◌, ◌++◌}
-use Rattle.rep_plain.specs.Rows.{kept_rows}
+use Rattle.rep_plain.specs.inner.Rows.{kept_rows}
 use Rattle.rep_plain.specs.Tables.{rows_of, AreEntries}
 use Rattle.rep_plain.proofs.held.kept_ops.Given as goal
 

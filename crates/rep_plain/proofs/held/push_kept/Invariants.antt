@@ -1,5 +1,5 @@
 use Rattle.std.proofs.Common.{◌≡◌, ◌++◌, filter, take}
-use Rattle.rep_plain.specs.Steps.{must_stay}
+use Rattle.rep_plain.specs.inner.Steps.{must_stay}
 use Rattle.rep_plain.proofs.held.push_kept.Given as goal
 
 abbrev pub invariant-loop-op : goal.invariant-loop-op

@@ -1,5 +1,5 @@
 use Rattle.std.proofs.Common.{is_some, sym, ap, ◌∙◌}
-use Rattle.rep_plain.specs.Tables.{is_known}
+use Rattle.rep_plain.specs.inner.Tables.{is_known}
 use Rattle.rep_plain.proofs.Found.{is_some_copied}
 use Rattle.rep_plain.proofs.news.is_known.Goals as goal
 

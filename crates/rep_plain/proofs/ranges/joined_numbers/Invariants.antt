@@ -1,7 +1,7 @@
 use Rattle.std.proofs.Common.{◌≡◌, ◌≤◌, length, drop}
 use Rattle.std.specs.List.{filter_map}
 use Rattle.rep_model.specs.Limits.{joined}
-use Rattle.rep_plain.specs.Steps.{numbers}
+use Rattle.rep_plain.specs.inner.Steps.{numbers}
 use Rattle.rep_plain.proofs.ranges.joined_numbers.Given as goal
 
 abbrev pub invariant-loop-i : goal.invariant-loop-i

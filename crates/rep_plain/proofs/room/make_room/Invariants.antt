@@ -1,5 +1,6 @@
 use Rattle.std.proofs.Common.{take}
-use Rattle.rep_plain.specs.Tables.{rows_of, IsRoomier, HaveRoom}
+use Rattle.rep_plain.specs.Tables.{rows_of, HaveRoom}
+use Rattle.rep_plain.specs.inner.Tables.{IsRoomier}
 use Rattle.rep_plain.proofs.room.make_room.Given as goal
 
 abbrev pub invariant-loop-row : goal.invariant-loop-row

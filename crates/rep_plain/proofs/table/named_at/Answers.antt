@@ -4,7 +4,8 @@ use Rattle.std.specs.FinMap.{find}
 use Rattle.rep_ops.specs.Orders.{client_cmp}
 use Rattle.rep_model.proofs.Readers.{client_total}
 use Rattle.rep_plain.specs.declared.entry.Entry.{Entry}
-use Rattle.rep_plain.specs.Rows.{has_any, named_rows}
+use Rattle.rep_plain.specs.Rows.{has_any}
+use Rattle.rep_plain.specs.inner.Rows.{named_rows}
 use Rattle.rep_plain.specs.Tables.{rows_of}
 use Rattle.rep_plain.proofs.Counting.{all_found}
 use Rattle.rep_plain.proofs.Moves.{any_length}

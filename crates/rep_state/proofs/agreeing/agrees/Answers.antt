@@ -1,11 +1,20 @@
-use Rattle.std.proofs.Common.{Some, None, IsTrue, refl, ap, subst, ◌∙◌}
+use Rattle.std.proofs.Common.{Some, None, IsTrue, refl, sym, ap, subst, ◌∙◌}
 use Rattle.std.specs.FinMap.{find}
 use Rattle.rep_ops.specs.Orders.{client_cmp, client_of}
 use Rattle.rep_ops.specs.Sets.{Agrees}
-use Rattle.rep_state.specs.Tables.{by_client}
+use Rattle.rep_model.proofs.Readers.{client_exact}
+use Rattle.rep_state.specs.Tables.{by_client, IsKept}
+use Rattle.rep_state.proofs.Owning.{found_holds}
 use Rattle.rep_state.proofs.Reading.{own_found}
 use Rattle.rep_state.proofs.Contradicting.{agrees_nothing}
 use Rattle.rep_state.proofs.agreeing.agrees.Goals as goal
+
+pub agrees_with-requires : goal.agrees_with-requires
+agrees_with-requires c =
+    let op = c.args.op.now in
+    let es = by_client c.args.table.now.entries in
+    let found = c.in-Some.ensures ∙ ap (λ k. find client_cmp k es) (c.bytes.ensures.octets ∙ c.client.ensures) in
+    (found_holds client_cmp client_exact IsKept (client_of op) c.in-Some.entry.now es c.requires (sym found)).entry_is.rising
 
 pub returns-in-Some : goal.returns-in-Some
 returns-in-Some c =

@@ -1,6 +1,6 @@
 use Rattle.std.proofs.Common.{sym, subst, ◌∙◌, true≢false, ⊎_elim}
 use Rattle.rep_plain.specs.Rows.{flat}
-use Rattle.rep_plain.specs.Tables.{IsRefusalOf}
+use Rattle.rep_plain.specs.inner.Tables.{IsRefusalOf}
 use Rattle.rep_plain.proofs.Found.{agrees_flat, agrees_own}
 use Rattle.rep_state.specs.Tables.{by_client, rows_of}
 use Rattle.rep_state.proofs.agreeing.check_one.Goals as goal
@@ -10,9 +10,9 @@ returns-then-not-agrees-clause-fault c =
     let rows = rows_of (by_client c.args.table.now.entries) in
     let op = c.args.op.now in
     ⊎_elim
-    (λ is. subst (IsRefusalOf (flat rows) op) (sym is) (sym c.client.ensures, λ h. true≢false (sym (c.agrees.ensures.1 (agrees_own rows c.requires op h)) ∙ c.if-not-agrees.true)))
+    (λ is. subst (IsRefusalOf (flat rows) op) (sym is) (sym c.client.ensures, λ h. true≢false (sym (c.agrees.ensures.1 (agrees_own rows c.requires.rows op h)) ∙ c.if-not-agrees.true)))
     (λ is. subst (IsRefusalOf (flat rows) op) (sym is) tt)
     c.conflict.ensures
 
 pub returns-clause-agrees : goal.returns-clause-agrees
-returns-clause-agrees c = agrees_flat (rows_of (by_client c.args.table.now.entries)) c.requires c.args.op.now (c.agrees.ensures.0 c.if-not-agrees.false)
+returns-clause-agrees c = agrees_flat (rows_of (by_client c.args.table.now.entries)) c.requires.rows c.args.op.now (c.agrees.ensures.0 c.if-not-agrees.false)

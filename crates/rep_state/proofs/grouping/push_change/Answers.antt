@@ -5,8 +5,9 @@ use Rattle.rep_model.proofs.Joins.{all-both}
 use Rattle.rep_state.specs.declared.change.Change.{Change}
 use Rattle.rep_state.specs.Entries.{IsFresh, fresh_row, row_of}
 use Rattle.rep_state.specs.Tables.{by_client, rows_of}
-use Rattle.rep_state.specs.Groups.{waiting_of}
-use Rattle.rep_state.specs.Staging.{applied, staged_of, future, IsWorkedOut, AreWorkedOut}
+use Rattle.rep_state.specs.inner.Groups.{waiting_of}
+use Rattle.rep_state.specs.Staging.{applied, staged_of}
+use Rattle.rep_state.specs.inner.Staging.{future, IsWorkedOut, AreWorkedOut}
 use Rattle.rep_state.proofs.Placing.{rows_last}
 use Rattle.rep_state.proofs.Staging.{staged_last, future_last}
 use Rattle.rep_state.proofs.grouping.push_change.Goals as goal

@@ -5,7 +5,7 @@ use Rattle.rep_plain.specs.Rows.{own}
 use Rattle.rep_plain.proofs.Maps.{lookup_is_find}
 use Rattle.rep_state.specs.Entries.{fresh_row}
 use Rattle.rep_state.specs.Tables.{by_client, rows_of}
-use Rattle.rep_state.specs.Groups.{waiting_of, IsTaken, IsGroupOf}
+use Rattle.rep_state.specs.inner.Groups.{waiting_of, IsTaken, IsGroupOf}
 use Rattle.rep_state.proofs.Working.{nothing_taken}
 use Rattle.rep_state.proofs.grouping.take_group.Goals as goal
 

@@ -7,7 +7,7 @@ use Rattle.rep_model.proofs.Readers.{client_exact}
 use Rattle.rep_plain.specs.Rows.{own}
 use Rattle.rep_state.specs.Entries.{IsFresh, fresh_row, row_of}
 use Rattle.rep_state.specs.Tables.{by_client, rows_of, IsKept}
-use Rattle.rep_state.specs.Groups.{waiting_of, or_no_message}
+use Rattle.rep_state.specs.inner.Groups.{waiting_of, or_no_message}
 use Rattle.rep_state.proofs.Owning.{found_holds}
 use Rattle.rep_state.proofs.Reading.{own_found}
 use Rattle.rep_state.proofs.grouping.unchanged.Goals as goal

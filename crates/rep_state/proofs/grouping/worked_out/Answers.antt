@@ -4,8 +4,9 @@ use Rattle.rep_ops.specs.declared.op.Op.{Op}
 use Rattle.rep_state.specs.declared.fresh.Fresh.{Fresh}
 use Rattle.rep_state.specs.Entries.{IsFresh, fresh_row}
 use Rattle.rep_state.specs.Tables.{by_client, rows_of}
-use Rattle.rep_state.specs.Groups.{waiting_of, fresh_rows}
-use Rattle.rep_state.specs.Staging.{staged_of, future}
+use Rattle.rep_state.specs.inner.Groups.{waiting_of, fresh_rows}
+use Rattle.rep_state.specs.Staging.{staged_of}
+use Rattle.rep_state.specs.inner.Staging.{future}
 use Rattle.rep_state.proofs.grouping.worked_out.Goals as goal
 
 pub push_change-requires : goal.push_change-requires

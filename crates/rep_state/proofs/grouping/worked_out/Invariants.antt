@@ -2,8 +2,9 @@ use Rattle.std.proofs.Common.{◌≡◌, ◌++◌}
 use Rattle.std.specs.List.{AllByRecursion}
 use Rattle.rep_state.specs.Entries.{IsFresh}
 use Rattle.rep_state.specs.Tables.{by_client, rows_of}
-use Rattle.rep_state.specs.Groups.{waiting_of, fresh_rows}
-use Rattle.rep_state.specs.Staging.{staged_of, future, AreWorkedOut}
+use Rattle.rep_state.specs.inner.Groups.{waiting_of, fresh_rows}
+use Rattle.rep_state.specs.Staging.{staged_of}
+use Rattle.rep_state.specs.inner.Staging.{future, AreWorkedOut}
 use Rattle.rep_state.proofs.grouping.worked_out.Given as goal
 
 abbrev pub invariant-loop-client : goal.invariant-loop-client

@@ -1,5 +1,6 @@
 use Rattle.std.proofs.Common.{◌++◌, ap, ◌∙◌}
-use Rattle.rep_state.specs.Tables.{by_client, rows_of, own_of_all}
+use Rattle.rep_state.specs.Tables.{by_client, rows_of}
+use Rattle.rep_state.specs.inner.Tables.{own_of_all}
 use Rattle.rep_state.proofs.Indexed.{in_order}
 use Rattle.rep_state.proofs.Walking.{walked_all}
 use Rattle.rep_state.proofs.held.kept_ops.Goals as goal

@@ -1,5 +1,6 @@
 use Rattle.std.proofs.Common.{◌≡◌, ◌++◌, drop}
-use Rattle.rep_state.specs.Tables.{by_client, rows_of, own_of_all}
+use Rattle.rep_state.specs.Tables.{by_client, rows_of}
+use Rattle.rep_state.specs.inner.Tables.{own_of_all}
 use Rattle.rep_state.proofs.held.push_all.Given as goal
 
 abbrev pub invariant-loop-client : goal.invariant-loop-client

@@ -1,6 +1,6 @@
 use Rattle.std.proofs.Common.{◌≡◌, ◌+◌, ◌∷◌, List, ℕ, drop, sym, ap, ◌∙◌, arith}
 use Rattle.std.proofs.lemmas.List.{drop-drop}
-use Rattle.rep_plain.specs.Rows.{named_rows}
+use Rattle.rep_plain.specs.inner.Rows.{named_rows}
 use Rattle.rep_plain.proofs.Walks.{drop_next, named_front, named_behind, drop_less}
 use Rattle.rep_state.specs.declared.entry.Entry.{Entry}
 use Rattle.rep_state.specs.Entries.{row_of}

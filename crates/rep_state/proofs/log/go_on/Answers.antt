@@ -1,7 +1,7 @@
 use Rattle.std.proofs.Common.{◌≡◌, ℕ, ◌+◌, Some, None, sym, subst, ◌∙◌, arith}
 use Rattle.std.specs.FinMap.{find}
 use Rattle.rep_ops.specs.Orders.{operation_cmp}
-use Rattle.rep_state.specs.Logs.{IsReplayed}
+use Rattle.rep_state.specs.inner.Logs.{IsReplayed}
 use Rattle.rep_plain.proofs.Maps.{lookup_is_find}
 use Rattle.rep_state.proofs.Logging.{replayed_more, replayed_gap, replayed_all}
 use Rattle.rep_state.proofs.log.go_on.Goals as goal

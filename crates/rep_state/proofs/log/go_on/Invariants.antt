@@ -1,7 +1,7 @@
 use Rattle.std.proofs.Common.{◌-◌, ◌<◌}
 use Rattle.std.specs.FinMap.{find}
 use Rattle.rep_ops.specs.Orders.{operation_cmp}
-use Rattle.rep_state.specs.Logs.{IsReplayed}
+use Rattle.rep_state.specs.inner.Logs.{IsReplayed}
 use Rattle.rep_state.proofs.log.go_on.Given as goal
 
 abbrev pub invariant-loop-prefix : goal.invariant-loop-prefix

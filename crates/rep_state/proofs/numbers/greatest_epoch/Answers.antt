@@ -1,6 +1,6 @@
 use Rattle.std.specs.BTreeMap.{keys}
 use Rattle.rep_model.specs.Fresh.{largest}
-use Rattle.rep_state.specs.Numbers.{epoch_of}
+use Rattle.rep_state.specs.inner.Numbers.{epoch_of}
 use Rattle.rep_state.proofs.Reading.{largest_step, largest_done}
 use Rattle.rep_state.proofs.numbers.greatest_epoch.Goals as goal
 

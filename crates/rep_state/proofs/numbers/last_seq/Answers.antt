@@ -1,10 +1,19 @@
-use Rattle.std.proofs.Common.{Some, None, ap, ◌∙◌}
+use Rattle.std.proofs.Common.{Some, None, sym, ap, ◌∙◌}
 use Rattle.std.specs.FinMap.{find}
 use Rattle.rep_ops.specs.Orders.{client_cmp}
 use Rattle.rep_model.specs.Fresh.{largest, seq_of}
-use Rattle.rep_state.specs.Tables.{by_client}
+use Rattle.rep_model.proofs.Readers.{client_exact}
+use Rattle.rep_state.specs.Tables.{by_client, IsKept}
+use Rattle.rep_state.proofs.Owning.{found_holds}
 use Rattle.rep_state.proofs.Reading.{own_found}
 use Rattle.rep_state.proofs.numbers.last_seq.Goals as goal
+
+pub greatest_seq-requires : goal.greatest_seq-requires
+greatest_seq-requires c =
+    let client = c.args.client.now in
+    let es = by_client c.args.table.now.entries in
+    let found = c.in-Some.ensures ∙ ap (λ k. find client_cmp k es) c.bytes.ensures.octets in
+    (found_holds client_cmp client_exact IsKept client c.in-Some.entry.now es c.requires (sym found)).entry_is.rising
 
 pub returns-in-Some : goal.returns-in-Some
 returns-in-Some c =

@@ -1,4 +1,4 @@
-use Rattle.rep_state.specs.Interests.{IsPassed}
+use Rattle.rep_state.specs.inner.Interests.{IsPassed}
 use Rattle.rep_state.proofs.places.next_marked.Given as goal
 
 abbrev pub invariant-loop-at : goal.invariant-loop-at

@@ -4,7 +4,8 @@ use Rattle.std.specs.Map.{lookup}
 use Rattle.std.specs.FinMap.{find, put}
 use Rattle.std.specs.Prelude.{bytes_eq}
 use Rattle.rep_ops.specs.Orders.{client_cmp}
-use Rattle.rep_state.specs.Tables.{by_client, place_cmp}
+use Rattle.rep_state.specs.Tables.{by_client}
+use Rattle.rep_state.specs.inner.Tables.{place_cmp}
 use Rattle.rep_state.specs.declared.places.Place.{Place}
 use Rattle.rep_state.proofs.Rows.{put_by_client, found_by_client}
 use Rattle.rep_state.proofs.Placing.{roomier_place, place_there, empty_kept, some_there, none_there}

@@ -2,10 +2,11 @@ use Rattle.std.proofs.Common.{◌≡◌, refl, sym, ap, subst, ◌∙◌, List, 
 use Rattle.std.specs.FinMap.{find, put}
 use Rattle.rep_ops.specs.Orders.{client_cmp}
 use Rattle.rep_state.specs.Tables.{by_client, ArePlaces}
-use Rattle.rep_state.specs.Interests.{AreMarked, marked}
+use Rattle.rep_state.specs.Interests.{AreMarked}
+use Rattle.rep_state.specs.inner.Interests.{marked}
 use Rattle.rep_state.proofs.Asking.{places_marked, marked_anew}
 use Rattle.rep_state.proofs.Indexed.{places_pass}
-use Rattle.rep_state.specs.Groups.{waiting_of}
+use Rattle.rep_state.specs.inner.Groups.{waiting_of}
 use Rattle.rep_state.specs.Staging.{staged_of, applied, IsReady, plan_of}
 use Rattle.rep_state.proofs.Working.{waiting_is}
 use Rattle.rep_state.proofs.Staging.{staged_last, last_change, last_ready, rest_staged, rest_movable, rest_moved, rest_kept}

@@ -2,8 +2,10 @@ use Rattle.std.proofs.Common.{◌≡◌, is_some, None, true≢false, sym, ap, s
 use Rattle.std.specs.FinMap.{find, put}
 use Rattle.rep_ops.specs.Orders.{client_cmp}
 use Rattle.rep_ops.specs.declared.op.Put.{Put}
-use Rattle.rep_state.specs.Tables.{by_client}
-use Rattle.rep_state.specs.Groups.{or_no_message}
+use Rattle.rep_model.proofs.Readers.{client_exact}
+use Rattle.rep_state.specs.Tables.{by_client, IsKept}
+use Rattle.rep_state.proofs.Owning.{found_holds}
+use Rattle.rep_state.specs.inner.Groups.{or_no_message}
 use Rattle.rep_state.specs.Staging.{applied, IsFit, plan_of}
 use Rattle.rep_state.proofs.Rows.{written_by_client, found_by_client}
 use Rattle.rep_state.proofs.Indexed.{places_written}
@@ -22,6 +24,13 @@ put_into-requires-clause-fit c =
     let old = c.args.table.now.entries in
     let found = sym (found_by_client client old) ∙ sym c.in-Some.ensures.value in
     subst (λ (ps : List Put). IsFit ps (plan_of c.args.change)) (ap or_no_message found) c.requires.ready.fit
+
+pub put_into-requires-clause-rising : goal.put_into-requires-clause-rising
+put_into-requires-clause-rising c =
+    let client = c.args.client.now in
+    let old = c.args.table.now.entries in
+    let found = sym (found_by_client client old) ∙ sym c.in-Some.ensures.value in
+    (found_holds client_cmp client_exact IsKept client c.in-Some.place.now (by_client old) c.requires.kept found).entry_is.rising
 
 pub returns-clause-put : goal.returns-clause-put
 returns-clause-put c =

@@ -1,7 +1,7 @@
 use Rattle.std.specs.Arc.{arc_value}
 use Rattle.std.proofs.Math.Logic.{∥∥₁_map}
 use Rattle.gw_node.specs.Parts.{said}
-use Rattle.gw_shift.specs.Passes.{call}
+use Rattle.gw_shift.specs.inner.Passes.{call}
 use Rattle.gw_shift.proofs.Histories.{goes_on, does_so}
 use Rattle.gw_shift.proofs.locked.Locked.make.Goals as goal
 

@@ -4,7 +4,8 @@ use Rattle.rep_ops.specs.declared.op.Op.{Op}
 use Rattle.rep_ops.specs.Orders.{client_cmp}
 use Rattle.rep_model.specs.Views.{clients, view}
 use Rattle.rep_model.specs.Asking.{NoneAsks}
-use Rattle.rep_plain.specs.Rows.{flat, has_any, named_rows}
+use Rattle.rep_plain.specs.Rows.{flat, has_any}
+use Rattle.rep_plain.specs.inner.Rows.{named_rows}
 use Rattle.rep_plain.specs.Tables.{rows_of}
 use Rattle.rep_plain.proofs.Flat.{clients_flat}
 use Rattle.rep_plain.proofs.Found.{table_rows}

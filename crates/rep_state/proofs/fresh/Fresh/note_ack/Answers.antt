@@ -13,6 +13,7 @@ returns c =
         folded = fresh.folded;
         ordered = fresh.ordered;
         changes = fresh.changes;
+        rising = fresh.rising;
         sorted = fresh.sorted;
         under = fresh.under;
         made = fresh.made;

@@ -23,7 +23,7 @@ returns-then-has c =
     let p = c.args.put.now in
     let rs = ranges_in f.acks in
     let cov = list_any (covers (name_of p)) rs in
-    let known : ((cov || is_some (put_named (name_of p) waiting)) || is_some (find put_cmp (name_of p) es)) ≡ true = sym c.has.ensures ∙ c.if-has.true in
+    let known : ((cov || is_some (put_named (name_of p) waiting)) || is_some (find put_cmp (name_of p) es)) ≡ true = sym (c.has.ensures fresh.rising) ∙ c.if-has.true in
     let split = find_weave (name_of p) waiting (messages es) (fresh.apart (name_of p)) ∙ ap (or_else (put_named (name_of p) waiting)) (found_message (name_of p) es fresh.under) in (
       fresh,
       put_skipped client f.log.known.entries f.log.stamp fresh.folded.visible fresh.folded.none_below p rs (weave waiting (messages es)) (λ free. ap is_some split ∙ in_weave cov (put_named (name_of p) waiting) (find put_cmp (name_of p) es) known free),
@@ -39,7 +39,7 @@ returns c =
     let p = c.args.put.now in
     let rs = ranges_in f.acks in
     let cov = list_any (covers (name_of p)) rs in
-    let known : ((cov || is_some (put_named (name_of p) waiting)) || is_some (find put_cmp (name_of p) es)) ≡ false = sym c.has.ensures ∙ c.if-has.false in
+    let known : ((cov || is_some (put_named (name_of p) waiting)) || is_some (find put_cmp (name_of p) es)) ≡ false = sym (c.has.ensures fresh.rising) ∙ c.if-has.false in
     let none = not_there cov (put_named (name_of p) waiting) (find put_cmp (name_of p) es) known in
     let is : new ≡ place put_cmp (name_of p) p es = c.in_ok-insert.ensures.entries ∙ ap (λ (x : Put). insert_entry put_cmp es (name_of x) x) c.in_ok-put.ensures.ok ∙ insert_is_put put_cmp (name_of p) p es in
     let apart = apart_more waiting es new p fresh.under fresh.apart none.0 is in (
@@ -47,6 +47,7 @@ returns c =
         folded = fresh.folded;
         ordered = fresh.ordered;
         changes = fresh.changes;
+        rising = fresh.rising;
         sorted = sorted_more waiting es new p fresh.under fresh.apart none.0 is fresh.sorted;
         under = under_more waiting es new p fresh.under fresh.apart none.0 is;
         made = made_more waiting es new p fresh.under fresh.apart none.0 is own fresh.made;

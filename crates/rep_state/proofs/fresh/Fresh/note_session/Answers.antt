@@ -53,6 +53,7 @@ returns c =
         folded = c.in_ok-note.ensures.folded;
         ordered = ordered;
         changes = changes_kept (((s, k), x) ∷ es) log.known.entries log.stamp kept ordered (own, fresh.changes);
+        rising = fresh.rising;
         sorted = fresh.sorted;
         under = fresh.under;
         made = fresh.made;

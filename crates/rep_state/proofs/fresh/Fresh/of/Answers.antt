@@ -24,6 +24,7 @@ returns-clause-fresh c =
       folded = folded_as log.stamp entry.seen.stamp log.prefix entry.seen.prefix log.session entry.seen.session log.known.entries entry.known.entries seen.0 seen.1 seen.2 known e.folded;
       ordered = subst (λ es. T (is_sorted operation_cmp es)) (sym known) e.ordered;
       changes = subst AreChanges (sym known) e.changes;
+      rising = e.rising;
       sorted = subst (λ (es : List ((ℕ × ℕ) × Put)). T (is_sorted put_cmp es)) (sym none) tt;
       under = subst AreUnderNames (sym none) tt;
       made = subst (AllByRecursion (λ (n : (ℕ × ℕ) × Put). IsTrue (is_put n.1))) (sym none) tt;

@@ -3,7 +3,8 @@ use Rattle.rep_model.specs.Views.{clients, view}
 use Rattle.rep_model.specs.Asking.{NoneAsks}
 use Rattle.rep_model.proofs.Readers.{client_exact}
 use Rattle.rep_ops.specs.Orders.{client_cmp}
-use Rattle.rep_plain.specs.Rows.{flat, named_rows}
+use Rattle.rep_plain.specs.Rows.{flat}
+use Rattle.rep_plain.specs.inner.Rows.{named_rows}
 use Rattle.rep_plain.proofs.Flat.{clients_flat, of_flat}
 use Rattle.rep_plain.proofs.Single.{view_own}
 use Rattle.rep_state.specs.Tables.{by_client, rows_of, IsKept}

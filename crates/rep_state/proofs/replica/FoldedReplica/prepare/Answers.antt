@@ -2,10 +2,13 @@ use Rattle.std.proofs.Common.{◌≡◌, ◌+◌, ◌++◌, not, Some, sym, ap, 
 use Rattle.rep_model.specs.Taking.{AllAgree, Fits}
 use Rattle.rep_model.specs.Limits.{first_passed}
 use Rattle.rep_model.specs.Keep.{IsKeptOf}
-use Rattle.rep_plain.specs.Rows.{flat, own, has_any, moved, count_named, count_new}
-use Rattle.rep_state.specs.Tables.{by_client, rows_of, passed_by}
-use Rattle.rep_state.specs.Groups.{AreGroups}
-use Rattle.rep_state.specs.Staging.{staged_of, future, plans, planned, HaveRoom, AreWorkedOut}
+use Rattle.rep_plain.specs.Rows.{flat, own, has_any, moved, count_named}
+use Rattle.rep_plain.specs.inner.Rows.{count_new}
+use Rattle.rep_state.specs.Tables.{by_client, rows_of}
+use Rattle.rep_state.specs.inner.Tables.{passed_by}
+use Rattle.rep_state.specs.inner.Groups.{AreGroups}
+use Rattle.rep_state.specs.Staging.{staged_of, plans, planned}
+use Rattle.rep_state.specs.inner.Staging.{future, HaveRoom, AreWorkedOut}
 use Rattle.rep_state.proofs.Rows.{table_rows}
 use Rattle.rep_state.proofs.Placing.{roomier_itself}
 use Rattle.rep_state.proofs.Working.{waiting_is, are_fresh, fresh_rows_of}
@@ -13,8 +16,8 @@ use Rattle.rep_state.proofs.Fitting.{own_room, kept_after, first_passed_both, co
 use Rattle.rep_state.proofs.Staging.{planned_future, future_worked_out, passed_future, count_future, are_staged, are_ready}
 use Rattle.rep_state.proofs.replica.FoldedReplica.prepare.Goals as goal
 
-pub check-requires : goal.check-requires
-check-requires c = table_rows (by_client c.self.inside.table.entries) c.self.inside.named c.self.invariant.0
+pub check-requires-clause-rows : goal.check-requires-clause-rows
+check-requires-clause-rows c = table_rows (by_client c.self.inside.table.entries) c.self.inside.named c.self.invariant.0
 
 pub returns-in-Some-clause-fault : goal.returns-in-Some-clause-fault
 returns-in-Some-clause-fault c =

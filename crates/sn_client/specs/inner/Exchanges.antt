@@ -10,7 +10,7 @@ use Rattle.sn_client.specs.declared.talk.Publication.{Publication}
 use Rattle.sn_client.specs.declared.talk.Talk.{Talk}
 use Rattle.sn_client.specs.declared.talk.Turn.{Turn}
 use Rattle.sn_client.specs.declared.talk.Turn.TheVariants as turns
-use Rattle.sn_client.specs.Talking.{awaited_at, outcome_at, msg_id_of, id_awaited}
+use Rattle.sn_client.specs.inner.Talking.{awaited_at, outcome_at, msg_id_of, id_awaited}
 
 -- an exchange that begins with a frame
 abbrev pub beginning : Option Frame → Awaited → Talk

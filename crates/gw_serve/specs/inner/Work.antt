@@ -11,7 +11,7 @@ use Rattle.gw_serve.specs.declared.queue.Hand.{Hand}
 use Rattle.gw_serve.specs.declared.worker.Seat.{Seat}
 use Rattle.gw_serve.specs.declared.worker.Taken.{Taken}
 use Rattle.gw_serve.specs.Count.{weigh}
-use Rattle.gw_serve.specs.Queue.{hand}
+use Rattle.gw_serve.specs.inner.Queue.{hand}
 use Rattle.gw_serve.specs.Serving.{Gains, EachGains}
 
 -- the passes of a seat while no fault was met: its steps are those of the numbers taken, and each number is in one list

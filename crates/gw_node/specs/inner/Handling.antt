@@ -22,7 +22,8 @@ use Rattle.gw_node.specs.Plans.{MakeNoDelta}
 use Rattle.gw_node.specs.Calls.{IsDone, IsGivenUp, AreTooMuch}
 use Rattle.gw_node.specs.Keeping.{Keeps}
 use Rattle.gw_node.specs.Taking.{ops_of}
-use Rattle.gw_node.specs.Opening.{FitInTurn, DoNotFit}
+use Rattle.gw_node.specs.Opening.{FitInTurn}
+use Rattle.gw_node.specs.inner.Opening.{DoNotFit}
 
 -- the bytes are no frame; want of memory says nothing of them
 abbrev pub IsNoFrameBy : List ℕ → Refusal → Type 0

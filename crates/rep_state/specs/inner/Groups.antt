@@ -6,7 +6,8 @@ use Rattle.rep_ops.specs.declared.op.Op.{Op}
 use Rattle.rep_ops.specs.Orders.{client_cmp}
 use Rattle.rep_ops.specs.Sets.{Same}
 use Rattle.rep_model.specs.Keep.{keep}
-use Rattle.rep_plain.specs.Rows.{own, has_any, of_client}
+use Rattle.rep_plain.specs.Rows.{own, has_any}
+use Rattle.rep_plain.specs.inner.Rows.{of_client}
 use Rattle.rep_state.specs.declared.entry.Entry.{Entry}
 use Rattle.rep_state.specs.declared.fresh.Fresh.{Fresh}
 use Rattle.rep_state.specs.Entries.{IsFresh, fresh_row}

@@ -57,10 +57,6 @@ LastsMore old delta new = (S : List Op) → AllAgree S delta → Lasts S [] old 
 abbrev pub LastsTorn : Gateway → List Op → Gateway → Type 0
 LastsTorn old delta new = (S : List Op) → AllAgree S delta → Lasts S [] old → Lasts S delta new
 
--- or lasts as it was
-abbrev pub LastsOn : Gateway → Gateway → Type 0
-LastsOn old new = (S refused : List Op) → Lasts S refused old → Lasts S refused new
-
 -- or, where the gateway was opened again, with what was refused if all of that was left
 abbrev pub LastsAgain : ℕ → Gateway → Gateway → Type 0
 LastsAgain left old new =

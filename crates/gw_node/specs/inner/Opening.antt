@@ -1,0 +1,17 @@
+-- Opening a node: it takes what its journal holds.
+use Rattle.std.specs.Prelude.{List}
+use Rattle.rep_ops.specs.declared.op.Op.{Op}
+use Rattle.gw_node.specs.declared.refusal.Refusal.{Refusal}
+use Rattle.gw_node.specs.declared.refusal.Refusal.TheVariants as refusals
+use Rattle.gw_node.specs.Opening.{HasMisfit}
+
+-- why deltas are not taken, one after the other
+abbrev pub DoNotFit : List (List Op) → Refusal → Type 0
+DoNotFit deltas (refusals.Conflict client) = HasMisfit deltas (refusals.Conflict client)
+DoNotFit deltas refusals.Full = HasMisfit deltas refusals.Full
+DoNotFit deltas refusals.Memory = Unit {0}
+DoNotFit deltas (refusals.Frame fault) = ⊥
+DoNotFit deltas refusals.Halted = ⊥
+DoNotFit deltas (refusals.Disk excuse) = ⊥
+DoNotFit deltas refusals.Exhausted = ⊥
+DoNotFit deltas (refusals.Journal fault) = ⊥

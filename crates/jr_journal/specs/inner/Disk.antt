@@ -1,0 +1,17 @@
+-- A disk of two slots: what is in them, what a crash leaves, and when a call may fail.
+use Rattle.std.specs.Prelude.{Option, Some, None, Bool, true, false, ◌-◌}
+use Rattle.jr_journal.specs.declared.disk.Plan.{Plan}
+use Rattle.jr_journal.specs.declared.disk.Plan.TheVariants.{Stop, KeepBack, FailSync}
+use Rattle.jr_journal.specs.Disk.{Slots, Image}
+
+-- what of it is synced
+abbrev pub synced_part : Slots → Image
+synced_part d = record { first = d.first.synced; second = d.second.synced }
+
+-- neither a sync nor any call but an append meets the failure that is arranged
+abbrev pub is_calm : Option (Option Plan) → Bool
+is_calm None = false
+is_calm (Some None) = true
+is_calm (Some (Some (Stop k))) = true
+is_calm (Some (Some KeepBack)) = true
+is_calm (Some (Some FailSync)) = false

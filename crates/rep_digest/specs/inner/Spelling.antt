@@ -1,0 +1,17 @@
+-- The one spelling of a digest as octets, version 1. Numbers have the most significant octet first.
+use Rattle.std.specs.Prelude.{◌≡◌, ℕ, ◌+◌, ◌^◌, ◌<◌, length, Option, MatchOption}
+use Rattle.std.specs.List.{AllByRecursion}
+use Rattle.rep_digest.specs.declared.entry.OriginEntry.{OriginEntry}
+use Rattle.rep_digest.specs.declared.entry.ClientEntry.{ClientEntry}
+
+-- counts that fit their octets: ranges four, origins two
+abbrev pub AreFew : OriginEntry → Type 0
+AreFew o = (length o.acknowledged < 2 ^ 32) × (length o.waiting < 2 ^ 32)
+
+pub record IsWritable (e : ClientEntry) : Type 0 where
+  pub origins : length e.origins < 2 ^ 16
+  pub ranges : AllByRecursion AreFew e.origins
+
+-- what is left of a number of octets behind so many: nothing where they do not fit
+abbrev pub Leaves : ℕ → ℕ → Option ℕ → Type 0
+Leaves octets room result = MatchOption result (room < octets) (λ rest. rest + octets ≡ room)

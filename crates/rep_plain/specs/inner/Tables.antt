@@ -1,0 +1,76 @@
+-- The table of the replica.
+use Rattle.std.specs.Prelude.{◌≡◌, ℕ, Bool, false, ◌==◌, ◌&&◌, nat_le, List, map, length, T, IsSome, Option, Some, None, is_some, nat_lt, if◌then◌else◌, not, [], ◌∷◌, Vec}
+use Rattle.std.specs.Global.{Global}
+use Rattle.std.specs.List.{list_any}
+use Rattle.std.specs.FinMap.{find, is_sorted}
+use Rattle.rep_ops.specs.declared.op.Op.{Op}
+use Rattle.rep_ops.specs.declared.op.Op.TheVariants.{Session as OfSession, Put as OfPut, Ack}
+use Rattle.rep_ops.specs.Orders.{client_cmp, client_of}
+use Rattle.rep_ops.specs.Sets.{same_client, operation_at, put_at, Agrees}
+use Rattle.rep_model.specs.declared.fault.TheConstants.{MOST_CLIENTS, MOST_PENDING, MOST_PARKED, MOST_EXCEPTIONS}
+use Rattle.rep_model.specs.declared.fault.Limit.{Limit}
+use Rattle.rep_model.specs.declared.fault.Limit.TheVariants.{Clients, Pending, Parked, Exceptions}
+use Rattle.rep_model.specs.declared.fault.TakeFault.{TakeFault}
+use Rattle.rep_model.specs.declared.fault.TakeFault.TheVariants.{Conflict, Full, Memory}
+use Rattle.rep_plain.specs.declared.entry.Entry.{Entry}
+use Rattle.rep_plain.specs.Rows.{flat}
+use Rattle.rep_plain.specs.Tables.{rows_of, AreEntries, IsTable}
+
+-- the operations of each client, where there is nothing else yet
+abbrev pub groups_of : List (List ℕ × Vec Op Global) → List (List ℕ × List Op)
+groups_of groups = map (λ e. (e.0, e.1.items)) groups
+
+-- the table with more places, and nothing in them
+pub record IsRoomier (old new : List (List ℕ × Entry)) : Type 0 where
+  pub same : flat (rows_of new) ≡ flat (rows_of old)
+  pub table : (count : ℕ) → IsTable old count → IsTable new count
+  pub found : (c : List ℕ) → IsSome (find client_cmp c (rows_of old)) → IsSome (find client_cmp c (rows_of new))
+
+-- the fresh entries can be moved into the table
+pub record AreMovable (entries fresh : List (List ℕ × Entry)) : Type 0 where
+  pub sorted : T (is_sorted client_cmp entries)
+  pub each : AreEntries entries
+  pub fresh_each : AreEntries fresh
+
+-- whether the range of acknowledgements lies within the operation
+abbrev pub has_range : List ℕ → ℕ → ℕ → ℕ → Op → Bool
+has_range c origin first last (OfSession d stamp counter change) = false
+has_range c origin first last (OfPut d put) = false
+has_range c origin first last (Ack d o start end) = same_client c d && (origin == o) && nat_le start first && nat_le last end
+
+-- whether the list has the operation's name
+abbrev pub is_known : List Op → Op → Bool
+is_known S (OfSession c stamp counter change) = is_some (operation_at c S (stamp, counter))
+is_known S (OfPut c put) = is_some (put_at c S (put.seq, put.origin))
+is_known S (Ack c origin first last) = list_any (has_range c origin first last) S
+
+-- the first limit that is passed: of clients, and whether any client passes those of pending, parked and exceptions
+abbrev pub passed_of : ℕ → Bool → Bool → Bool → Option Limit
+passed_of count pending parked exceptions =
+    if nat_lt MOST_CLIENTS count then Some Clients
+    else (if pending then Some Pending
+    else (if parked then Some Parked
+    else (if exceptions then Some Exceptions else None)))
+
+abbrev pub too_many_pending : List ℕ × Entry → Bool
+too_many_pending e = nat_lt MOST_PENDING (length e.1.seen.pending)
+
+abbrev pub too_many_parked : List ℕ × Entry → Bool
+too_many_parked e = nat_lt MOST_PARKED e.1.parked
+
+abbrev pub too_many_exceptions : List ℕ × Entry → Bool
+too_many_exceptions e = nat_lt MOST_EXCEPTIONS e.1.exceptions
+
+-- the limit that is passed once the fresh entries are in their places
+abbrev pub passed_by : ℕ → List (List ℕ × Entry) → Option Limit
+passed_by count fresh = passed_of count (list_any too_many_pending fresh) (list_any too_many_parked fresh) (list_any too_many_exceptions fresh)
+
+-- the operation, where its name is new
+abbrev pub one_new : List Op → Op → List Op
+one_new S op = if not (is_known S op) then op ∷ [] else []
+
+-- why the operation is refused: it contradicts one that is there, and its client is named; or memory ran out
+abbrev pub IsRefusalOf : List Op → Op → TakeFault → Type 0
+IsRefusalOf S op (Conflict c) = (client_of op ≡ c) × (¬ (Agrees S op))
+IsRefusalOf S op (Full limit) = ⊥
+IsRefusalOf S op Memory = Unit {0}

@@ -1,0 +1,38 @@
+-- Which topics a client's filters may ask for, told by a few marks.
+use Rattle.std.specs.Prelude.{◌≡◌, ℕ, ◌+◌, false, cond, ⊤, List, ◌∷◌, ◌++◌, drop, Option, Some, None}
+use Rattle.std.specs.List.{AllByRecursion}
+use Rattle.std.specs.Ordering.{is_eq}
+use Rattle.std.specs.FinMap.{find}
+use Rattle.rep_ops.specs.Orders.{client_cmp}
+use Rattle.rep_model.specs.Asking.{is_subscribed}
+use Rattle.rep_state.specs.declared.entry.Entry.{Entry}
+use Rattle.rep_state.specs.declared.places.Place.{Place}
+use Rattle.rep_state.specs.Interests.{has_mark}
+
+-- the place with other marks, where it is that of the client
+abbrev pub marked : List ℕ → ℕ → Place → Place
+marked c marks p = cond (is_eq (client_cmp p.name c)) (record { name = p.name; index = p.index; marks = marks }) p
+
+-- none of these places has the mark
+abbrev pub NoneMarked : ℕ → List Place → Type 0
+NoneMarked mark places = AllByRecursion (λ p. has_mark p.marks mark ≡ false) places
+
+-- the place from which on another begins, where none between them has the mark
+pub record IsPassed (mark : ℕ) (places : List Place) (from next : ℕ) : Type 0 where
+  pub passed : List Place
+  pub stands : drop from places ≡ passed ++ drop next places
+  pub none_marked : NoneMarked mark passed
+
+-- no filter of the client asks for the topic
+abbrev pub IsSilent : List ℕ → Option Entry → Type 0
+IsSilent topic None = ⊤
+IsSilent topic (Some entry) = is_subscribed topic entry.seen ≡ false
+
+abbrev pub AreSilent : List ℕ → List (List ℕ × Entry) → List (List ℕ) → Type 0
+AreSilent topic es cs = AllByRecursion (λ c. IsSilent topic (find client_cmp c es)) cs
+
+-- of these clients none asks for the topic from a place on, before this one, which is followed by those behind it
+pub record IsNext (topic : List ℕ) (es : List (List ℕ × Entry)) (cs : List (List ℕ)) (place behind : ℕ) (c : List ℕ) : Type 0 where
+  pub passed : List (List ℕ)
+  pub stands : drop place cs ≡ passed ++ c ∷ drop behind cs
+  pub silent : AreSilent topic es passed

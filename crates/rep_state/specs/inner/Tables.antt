@@ -1,0 +1,47 @@
+-- The table of clients.
+use Rattle.std.specs.Prelude.{◌≡◌, ℕ, List, [], ◌∷◌, ◌++◌, length, IsSome, Option, nat_lt, Bool}
+use Rattle.std.specs.List.{AllByRecursion, list_any}
+use Rattle.std.specs.declared.cmp.Ordering.{Ordering}
+use Rattle.std.specs.FinMap.{find}
+use Rattle.rep_ops.specs.declared.op.Op.{Op}
+use Rattle.rep_ops.specs.Orders.{client_cmp}
+use Rattle.rep_model.specs.declared.fault.TheConstants.{MOST_PENDING, MOST_PARKED, MOST_EXCEPTIONS}
+use Rattle.rep_model.specs.declared.fault.Limit.{Limit}
+use Rattle.rep_plain.specs.Rows.{flat, own}
+use Rattle.rep_plain.specs.inner.Tables.{passed_of}
+use Rattle.rep_state.specs.declared.entry.Entry.{Entry}
+use Rattle.rep_state.specs.declared.places.Place.{Place}
+use Rattle.rep_state.specs.Entries.{IsEntry}
+use Rattle.rep_state.specs.Tables.{rows_of, IsTable}
+
+-- places are in the order of their names
+abbrev pub place_cmp : Place → Place → Ordering
+place_cmp a b = client_cmp a.name b.name
+
+-- all that is kept of these clients
+abbrev pub own_of_all : List (List ℕ) → List (List ℕ × List Op) → List Op
+own_of_all [] rows = []
+own_of_all (c ∷ cs) rows = own c rows ++ own_of_all cs rows
+
+-- entries of clients, whether they pass a limit or not
+abbrev pub AreWorkedOut : List (List ℕ × Entry) → Type 0
+AreWorkedOut es = AllByRecursion (λ e. IsEntry e.0 e.1) es
+
+-- the table with more places, and nothing in them
+pub record IsRoomier (old new : List (List ℕ × Entry)) : Type 0 where
+  pub same : flat (rows_of new) ≡ flat (rows_of old)
+  pub table : (count : ℕ) → IsTable old count → IsTable new count
+  pub found : (c : List ℕ) → IsSome (find client_cmp c (rows_of old)) → IsSome (find client_cmp c (rows_of new))
+
+abbrev pub too_many_pending : List ℕ × Entry → Bool
+too_many_pending e = nat_lt MOST_PENDING (length e.1.seen.pending)
+
+abbrev pub too_many_parked : List ℕ × Entry → Bool
+too_many_parked e = nat_lt MOST_PARKED e.1.parked
+
+abbrev pub too_many_exceptions : List ℕ × Entry → Bool
+too_many_exceptions e = nat_lt MOST_EXCEPTIONS e.1.exceptions
+
+-- the limit that is passed once the fresh entries are in their places
+abbrev pub passed_by : ℕ → List (List ℕ × Entry) → Option Limit
+passed_by count fresh = passed_of count (list_any too_many_pending fresh) (list_any too_many_parked fresh) (list_any too_many_exceptions fresh)

@@ -1,0 +1,29 @@
+//! Messages that wait, by their names. They stand in the order of their names, so none is looked for one by one.
+
+ghost use Rattle.std.specs.Prelude.{◌≡◌, length};
+ghost use Rattle.std.specs.List.Sorted.{IsSearchInRange};
+ghost use Rattle.std.specs.Option.{option_copied};
+ghost use Rattle.sn_session.specs.inner.Tables.{IsPlace};
+ghost use Rattle.rep_ops.specs.Orders.{put_cmp};
+ghost use Rattle.rep_state.specs.Mail.{name_of, put_named, Rising};
+
+use rep_ops::Put;
+
+/// Where a message of that name stands among messages in order, or where it would go. The time is logarithmic.
+fn place_of_name(puts: &[Put], seq: u64, origin: u8) -> Result<usize, usize>
+    ensures place { Rising puts.now
+        → IsPlace (λ put. put_cmp (name_of put) (seq, origin)) puts.now result }
+    ensures bound { IsSearchInRange result (length puts.now) }
+{
+    puts.binary_search_by(|put| put.seq.cmp(&seq).then(put.origin.cmp(&origin)))
+}
+
+/// The message of that name among messages in order. The time is logarithmic.
+pub(crate) fn find_put<'a>(puts: &'a [Put], seq: u64, origin: u8) -> Option<&'a Put>
+    ensures { Rising puts.now → option_copied result ≡ put_named (seq, origin) puts.now }
+{
+    match place_of_name(puts, seq, origin) {
+        Ok(at) => Some(&puts[at]),
+        Err(_) => None,
+    }
+}
