@@ -3,7 +3,7 @@
 
 Usage: bench/goes_on.py PROGRAM        (gw_sim)
 
-40 sleepers get up to 1,000 messages each, the best of seven runs; one client gets 100,000 of its own messages and acknowledges each, the best of
+40 sleepers get up to 1,000 messages each, the best of seven runs; one client gets 60,000 of its own messages and acknowledges each, the best of
 three. Processor time is counted. Every stretch is printed: on a machine with other work they differ by half and more.
 """
 import resource
@@ -55,7 +55,7 @@ def main(words):
     print("a PUBLISH at 1 to one of 40 sleepers, by how many wait for it")
     stretches(words[0], lambda count: sleepers + steps.to_each(40, count), [100, 400, 900, 1000], 40, 7)
     print("a PUBLISH at 1 to oneself and its PUBACK, by how many were delivered")
-    stretches(words[0], to_oneself, [25000, 50000, 75000, 100000], 1, 3)
+    stretches(words[0], to_oneself, [10000, 20000, 40000, 60000], 1, 3)
     return 0
 
 

@@ -24,5 +24,5 @@ awk -v n="$events" -v a="$start" -v b="$end" 'BEGIN { printf "%.3f s, %.0f event
 python3 "$top/bench/sessions.py" "$program"
 python3 "$top/bench/publications.py" "$program"
 python3 "$top/bench/takeover.py" "$program"
-python3 "$top/bench/steps.py" "$program"
+python3 "$top/bench/steps.py" "$program" --past 100000
 python3 "$top/bench/goes_on.py" "$program"

@@ -2,7 +2,7 @@
 //! 20 puts with bodies of 4,096 octets and five ranges of acknowledgements.
 
 use crate::numbers::Numbers;
-use octets::Octets;
+use octets::{NoMemory, Octets};
 use rep_ops::{ClientId, Op, OpsFault, Put, Stamp};
 use sn_session::{Presence, Session, SessionOp};
 use sn_topic::TopicName;
@@ -109,7 +109,7 @@ fn put(alloc: Global, client: u8, seq: u64, numbers: &mut Numbers) -> Result<Op,
     })
 }
 
-fn body(alloc: Global, numbers: &mut Numbers) -> Result<Octets, AllocError> {
+fn body(alloc: Global, numbers: &mut Numbers) -> Result<Octets, NoMemory> {
     let mut octets = Vec::with_capacity(alloc, BODY)?;
     for _ in 0..BODY {
         octets.push(numbers.octet())?;

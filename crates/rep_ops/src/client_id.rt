@@ -4,7 +4,7 @@ ghost use Rattle.std.specs.Prelude.{◌≡◌, ℕ, ◌⊎◌, List, IfOk, IfErr
 ghost use Rattle.rep_ops.specs.ClientIds.{IsClientId};
 
 use super::fault::OpsFault;
-use octets::Octets;
+use octets::{NoMemory, Octets};
 use std::alloc::Global;
 use std::cmp::Ordering;
 use std::marker::Model;
@@ -47,13 +47,20 @@ impl ClientId {
     }
 
     /// An equal name.
+    pub fn copied(&self, alloc: Global) -> Result<ClientId, NoMemory>
+        ensures { IfOk result (λ made. made ≡ self.now) }
+    {
+        Ok(ClientId {
+            octets: self.octets.copied(alloc)?,
+        })
+    }
+
+    /// The same, where want of memory is a fault of this crate.
     pub fn copy(&self, alloc: Global) -> Result<ClientId, OpsFault>
         ensures ok { IfOk result (λ made. made ≡ self.now) }
         ensures err { IfErr result (λ fault. fault ≡ OpsFault.Memory) }
     {
-        Ok(ClientId {
-            octets: self.octets.copy(alloc)?,
-        })
+        Ok(self.copied(alloc)?)
     }
 }
 

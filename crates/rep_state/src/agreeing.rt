@@ -52,7 +52,7 @@ fn check_one(alloc: Global, table: &Table, op: &Op) -> Result<(), TakeFault>
 fn conflict(alloc: Global, client: &ClientId) -> TakeFault
     ensures { (result ≡ TakeFault.Conflict client.now) ⊎ (result ≡ TakeFault.Memory) }
 {
-    match client.copy(alloc) {
+    match client.copied(alloc) {
         Ok(client) => TakeFault::Conflict { client },
         Err(_) => TakeFault::Memory,
     }

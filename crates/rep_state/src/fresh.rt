@@ -19,10 +19,10 @@ ghost use Rattle.rep_state.specs.Origins.{ranges_in, above_gaps};
 use super::acks::Acks;
 use super::change::Change;
 use super::entry::{Entry, count_parked};
-use super::fault::NoMemory;
 use super::log::Log;
 use super::searching::find_put;
 use super::settling::count_settled;
+use octets::NoMemory;
 use rep_model::{ClientView, Puts};
 use rep_ops::{Op, Put, Stamp};
 use sn_session::SessionOp;
@@ -51,7 +51,7 @@ impl Fresh {
             → IfOk result (λ fresh. fresh_row c entry.now.seen.pending fresh ≡ row_of c entry.now) }
     {
         let log = Log::of(alloc, &entry.seen, &entry.known)?;
-        let acks = entry.acks.copy(alloc)?;
+        let acks = entry.acks.copied(alloc)?;
         Ok(Fresh {
             log,
             news: BTreeMap::new(alloc),
@@ -103,7 +103,7 @@ impl Fresh {
         if self.log.known.contains_key(&(stamp, counter)) {
             return Ok(());
         }
-        let change = change.copy(alloc)?;
+        let change = change.copied(alloc)?;
         self.log.note(alloc, stamp, counter, change)?;
         Ok(())
     }
@@ -130,7 +130,7 @@ impl Fresh {
         if self.has(waiting, put) {
             return Ok(());
         }
-        let put = put.copy(alloc)?;
+        let put = put.copied(alloc)?;
         self.news.insert((put.seq, put.origin), put)?;
         Ok(())
     }

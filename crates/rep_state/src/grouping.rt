@@ -16,9 +16,9 @@ ghost use Rattle.rep_state.specs.inner.Groups.{waiting_of, IsTaken, AreGroups, f
 
 use super::change::Change;
 use super::entry::Entry;
-use super::fault::NoMemory;
 use super::fresh::Fresh;
 use super::table::{Table, copy_octets, entry_of};
+use octets::NoMemory;
 use rep_ops::{ClientId, Op, Put};
 use std::alloc::Global;
 use std::collections::BTreeMap;
@@ -60,7 +60,7 @@ fn add_to_group(
         (AreGroups (by_client table.now.entries) (D ++ op.now ∷ []) groups.new.entries) }
     ensures sorted { OnOk result (T (is_sorted client_cmp groups.new.entries)) }
 {
-    let client = op.client().copy(alloc)?;
+    let client = op.client().copied(alloc)?;
     let mut fresh = take_group(alloc, table, groups, &client)?;
     fresh.note(alloc, waiting(table, &client), op)?;
     groups.insert(client, fresh)?;

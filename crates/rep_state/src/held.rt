@@ -16,10 +16,10 @@ ghost use Rattle.rep_state.specs.Interests.{AreMarked};
 ghost use Rattle.rep_state.specs.inner.Interests.{AreSilent, IsNext};
 
 use super::entry::Entry;
-use super::fault::NoMemory;
 use super::interest::mark_of;
 use super::places::{Place, client_at, names, next_marked};
 use super::table::{Table, entry_of, has_operations};
+use octets::NoMemory;
 use rep_ops::{ClientId, Delta, Op, Put, Stamp, deltas_of};
 use sn_session::SessionOp;
 use sn_topic::TopicName;
@@ -231,10 +231,10 @@ fn push_session(
         ≡ kept.old.items ++ OfSession client.now name.0 name.1 change.now ∷ []) }
 {
     let op = Op::Session {
-        client: client.copy(alloc)?,
+        client: client.copied(alloc)?,
         stamp: name.0,
         counter: name.1,
-        change: change.copy(alloc)?,
+        change: change.copied(alloc)?,
     };
     kept.push(op)?;
     Ok(())
@@ -260,8 +260,8 @@ fn push_put(alloc: Global, kept: &mut Vec<Op>, client: &ClientId, put: &Put) -> 
     ensures { OnOk result (kept.new.items ≡ kept.old.items ++ OfPut client.now put.now ∷ []) }
 {
     let op = Op::Put {
-        client: client.copy(alloc)?,
-        put: put.copy(alloc)?,
+        client: client.copied(alloc)?,
+        put: put.copied(alloc)?,
     };
     kept.push(op)?;
     Ok(())

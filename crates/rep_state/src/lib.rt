@@ -25,7 +25,6 @@
 //! - `acks`: acknowledged numbers.
 //! - `searching`: a message by its name.
 //! - `weaving`, `settling`: messages that wait, with new ones in their places, without the acknowledged ones.
-//! - `fault`: want of memory.
 //!
 //! The definitions are in `specs/`: `Logs`, `Mail` and `Origins` (of session operations, messages and
 //! acknowledgements), `Kept` (all three as a list of operations), `Entries` (what holds of an entry, and of a
@@ -39,7 +38,6 @@ mod acks;
 mod agreeing;
 mod change;
 mod entry;
-mod fault;
 mod fresh;
 mod grouping;
 mod held;
@@ -57,8 +55,8 @@ mod weaving;
 pub use acks::Acks;
 pub use change::Change;
 pub use entry::Entry;
-pub use fault::NoMemory;
 pub use fresh::Fresh;
 pub use log::Log;
+pub use octets::NoMemory;
 pub use rep_model::{ClientView, Limit, Puts, Replica, TakeFault};
 pub use replica::{Folded, Staged};

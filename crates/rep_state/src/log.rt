@@ -9,7 +9,7 @@ ghost use Rattle.rep_model.specs.Views.{after_change, gapless, session_of};
 ghost use Rattle.rep_state.specs.Logs.{history_in, IsKeptIn};
 ghost use Rattle.rep_state.specs.inner.Logs.{IsReplayed};
 
-use super::fault::NoMemory;
+use octets::NoMemory;
 use rep_model::ClientView;
 use rep_ops::Stamp;
 use sn_session::{Session, SessionFault, SessionOp};
@@ -53,7 +53,7 @@ fn add_copy(
     ensures { OnOk result (made.new.entries ≡ insert_entry operation_cmp made.old.entries name
         change.now) }
 {
-    let change = change.copy(alloc)?;
+    let change = change.copied(alloc)?;
     made.insert(name, change)?;
     Ok(())
 }
@@ -84,7 +84,7 @@ fn changed(
             }
         }
         None => match change {
-            SessionOp::Take(taken) => Ok(Some(taken.copy(alloc)?)),
+            SessionOp::Take(taken) => Ok(Some(taken.copied(alloc)?)),
             _ => Ok(None),
         },
     }
@@ -143,7 +143,7 @@ impl Log {
     {
         let session = match &seen.session {
             None => None,
-            Some(session) => Some(session.copy(alloc)?),
+            Some(session) => Some(session.copied(alloc)?),
         };
         Ok(Log {
             stamp: seen.stamp,

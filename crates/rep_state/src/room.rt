@@ -1,6 +1,6 @@
 //! Places for clients, and the move of what is staged into them.
 
-ghost use Rattle.std.specs.Prelude.{◌≡◌, IsSome, is_some, OnOk, List};
+ghost use Rattle.std.specs.Prelude.{◌≡◌, IsSome, is_some, IfOk, OnOk, List};
 ghost use Rattle.std.specs.FinMap.{find, put};
 ghost use Rattle.rep_ops.specs.Orders.{client_cmp};
 ghost use Rattle.rep_plain.specs.Rows.{moved};
@@ -14,10 +14,10 @@ ghost use Rattle.rep_state.specs.declared.places.Place.{Place as AtPlace};
 
 use super::change::{Change, put_into};
 use super::entry::Entry;
-use super::fault::NoMemory;
 use super::interest::marks_of;
 use super::places::{Place, enter, mark_place};
 use super::table::{Table, copy_octets};
+use octets::NoMemory;
 use rep_ops::ClientId;
 use std::alloc::Global;
 
@@ -59,7 +59,7 @@ fn add_place(
     if table.contains_key(client) {
         return Ok(());
     }
-    let name = ClientId::new(alloc, client)?;
+    let name = named(alloc, client)?;
     let key = copy_octets(alloc, client)?;
     places.reserve(1)?;
     let index = table.len();
@@ -73,6 +73,16 @@ fn add_place(
         },
     );
     Ok(())
+}
+
+/// The client of these octets. Some client has them, so nothing but memory can be wanting.
+fn named(alloc: Global, client: &[u8]) -> Result<ClientId, NoMemory>
+    ensures { IfOk result (λ name. name ≡ client.now) }
+{
+    match ClientId::new(alloc, client) {
+        Ok(name) => Ok(name),
+        Err(_) => Err(NoMemory),
+    }
 }
 
 /// Moves the changes into their places, and notes what their clients may ask for.

@@ -6,8 +6,8 @@ ghost use Rattle.rep_state.specs.inner.Mail.{are_behind};
 ghost use Rattle.rep_state.specs.Origins.{ranges_in};
 
 use super::acks::Acks;
-use super::fault::NoMemory;
 use super::weaving::{goes_before, merge};
+use octets::NoMemory;
 use rep_ops::Put;
 use std::collections::VecDeque;
 

@@ -11,8 +11,8 @@ ghost use Rattle.rep_state.specs.Tables.{by_client, rows_of};
 
 use super::change::Change;
 use super::entry::Entry;
-use super::fault::NoMemory;
 use indexmap::IndexMap;
+use octets::NoMemory;
 use rep_model::{Limit, MOST_CLIENTS, MOST_EXCEPTIONS, MOST_PARKED, MOST_PENDING};
 use std::alloc::Global;
 

@@ -1,11 +1,11 @@
 //! How a topic is named in a PUBLISH (MQTT-SN 1.2 sections 5.3.11 and 5.3.12).
 
-ghost use Rattle.std.specs.Prelude.{◌≡◌, ◌≤◌, IfOk, IfErr};
+ghost use Rattle.std.specs.Prelude.{◌≡◌, ◌≤◌, IfOk};
 ghost use Rattle.std.specs.Option.{option_copied};
 ghost use Rattle.sn_deliver.specs.Forms.{by_entry as entry_form, known_form as form_if_known, short_form as form_if_short, predefined_form as form_if_predefined, form_of as form_of_topic, form_again as form_of_topic_again, qos_bits as bits_of_qos, kind_bits as bits_of_kind, dup_bit as bit_of_dup, publication as publication_of};
 
+use octets::NoMemory;
 use rep_ops::Put;
-use sn_flow::StepFault;
 use sn_frame::{Flags, Frame, TopicIdType};
 use sn_session::{Session, TopicEntry};
 use sn_topic::{Predefined, TopicName};
@@ -140,9 +140,8 @@ pub fn publication(
     put: &Put,
     msg_id: u16,
     form: Form,
-) -> Result<Frame, StepFault>
-    ensures ok { IfOk result (λ frame. frame ≡ publication_of again put.now msg_id form) }
-    ensures err { IfErr result (λ fault. fault ≡ StepFault.Memory) }
+) -> Result<Frame, NoMemory>
+    ensures { IfOk result (λ frame. frame ≡ publication_of again put.now msg_id form) }
 {
     let flags = Flags {
         bits: dup_bit(again) + qos_bits(put.qos) + kind_bits(form.kind),
@@ -151,6 +150,6 @@ pub fn publication(
         flags,
         topic: form.topic,
         msg_id,
-        body: put.body.copy(alloc)?,
+        body: put.body.copied(alloc)?,
     })
 }

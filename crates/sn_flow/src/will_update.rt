@@ -1,6 +1,6 @@
 //! WILLTOPICUPD and WILLMSGUPD (MQTT-SN 1.2 section 6.4).
 
-ghost use Rattle.std.specs.Prelude.{◌≡◌, IfOk, IfErr};
+ghost use Rattle.std.specs.Prelude.{◌≡◌, IfOk};
 ghost use Rattle.sn_flow.specs.Connection.{has_bit};
 ghost use Rattle.sn_flow.specs.WillUpdate.{topic_from as topic_of_parts, topic_asked as topic_asked_for, topic_accepted, topic_set, has_no_place as is_without_place, will_topic_update as topic_update, will_msg_update as message_update};
 
@@ -8,8 +8,7 @@ use super::asking::{name_asked, qos_asked};
 use super::codes::{ACCEPTED, NOT_SUPPORTED};
 use super::config::Addr;
 use super::draft::Draft;
-use super::fault::StepFault;
-use octets::Octets;
+use octets::{NoMemory, Octets};
 use rep_ops::MAX_BODY;
 use sn_frame::{Flags, Frame, Will};
 use sn_session::{Session, SessionOp, WillTopic};
@@ -34,18 +33,16 @@ fn topic_from(name: Option<TopicName>, qos: Option<u8>, retain: bool) -> Option<
 }
 
 /// The topic that is asked for with these flags and octets.
-pub fn topic_asked(alloc: Global, will: &Will) -> Result<Option<WillTopic>, StepFault>
-    ensures ok { IfOk result (λ topic. topic ≡ topic_asked_for will.now) }
-    ensures err { IfErr result (λ fault. fault ≡ StepFault.Memory) }
+pub fn topic_asked(alloc: Global, will: &Will) -> Result<Option<WillTopic>, NoMemory>
+    ensures { IfOk result (λ topic. topic ≡ topic_asked_for will.now) }
 {
     let name = name_asked(alloc, will.topic.as_slice())?;
     Ok(topic_from(name, qos_asked(will.flags.qos()), is_retained(will.flags)))
 }
 
 /// The will has this topic from now on, or none.
-fn accept_topic(alloc: Global, to: Addr, topic: Option<WillTopic>) -> Result<Draft, StepFault>
-    ensures ok { IfOk result (λ draft. draft ≡ topic_accepted to topic) }
-    ensures err { IfErr result (λ fault. fault ≡ StepFault.Memory) }
+fn accept_topic(alloc: Global, to: Addr, topic: Option<WillTopic>) -> Result<Draft, NoMemory>
+    ensures { IfOk result (λ draft. draft ≡ topic_accepted to topic) }
 {
     let mut draft = Draft::new(alloc);
     draft.change(SessionOp::WillTopic(topic))?;
@@ -54,9 +51,8 @@ fn accept_topic(alloc: Global, to: Addr, topic: Option<WillTopic>) -> Result<Dra
 }
 
 /// Gives the will this topic; refuses where there is none.
-fn set_topic(alloc: Global, to: Addr, topic: Option<WillTopic>) -> Result<Draft, StepFault>
-    ensures ok { IfOk result (λ draft. draft ≡ topic_set to topic) }
-    ensures err { IfErr result (λ fault. fault ≡ StepFault.Memory) }
+fn set_topic(alloc: Global, to: Addr, topic: Option<WillTopic>) -> Result<Draft, NoMemory>
+    ensures { IfOk result (λ draft. draft ≡ topic_set to topic) }
 {
     match topic {
         None => Draft::reply(
@@ -72,9 +68,8 @@ fn set_topic(alloc: Global, to: Addr, topic: Option<WillTopic>) -> Result<Draft,
 
 /// WILLTOPICUPD: the client gives its will another topic, or deletes it. WILLTOPICRESP says whether it is done: a topic
 /// that is no name, or a quality of service of bits 11, is refused.
-pub fn will_topic_update(alloc: Global, to: Addr, will: &Option<Will>) -> Result<Draft, StepFault>
-    ensures ok { IfOk result (λ draft. draft ≡ topic_update to will.now) }
-    ensures err { IfErr result (λ fault. fault ≡ StepFault.Memory) }
+pub fn will_topic_update(alloc: Global, to: Addr, will: &Option<Will>) -> Result<Draft, NoMemory>
+    ensures { IfOk result (λ draft. draft ≡ topic_update to will.now) }
 {
     match will {
         None => accept_topic(alloc, to, None),
@@ -99,9 +94,8 @@ pub fn will_msg_update(
     to: Addr,
     session: &Session,
     message: &[u8],
-) -> Result<Draft, StepFault>
-    ensures ok { IfOk result (λ draft. draft ≡ message_update to session.now message.now) }
-    ensures err { IfErr result (λ fault. fault ≡ StepFault.Memory) }
+) -> Result<Draft, NoMemory>
+    ensures { IfOk result (λ draft. draft ≡ message_update to session.now message.now) }
 {
     if has_no_place(session, message) {
         return Draft::reply(

@@ -1,6 +1,6 @@
 //! The message ids that a client sent at quality of service 2 and has not released.
 
-ghost use Rattle.std.specs.Prelude.{◌≡◌, ◌==◌, ◌<◌, ◌≤◌, ◌↔◌, [], length, IfOk, IfErr, MatchOption, OnOk, OnErr, IsErrOf, IsTrue, false};
+ghost use Rattle.std.specs.Prelude.{◌≡◌, ◌==◌, ◌<◌, ◌≤◌, ◌↔◌, [], length, IfOk, MatchOption, OnOk, OnErr, IsErrOf, IsTrue, false};
 ghost use Rattle.std.specs.Ordering.{nat_cmp};
 ghost use Rattle.sn_session.specs.Tables.{IsTable, is_ascending as ascending_test};
 ghost use Rattle.sn_session.specs.inner.Tables.{IsPlace};
@@ -8,6 +8,7 @@ ghost use Rattle.sn_session.specs.Received.{with_received, without_received, is_
 
 use crate::fault::SessionFault;
 use crate::table::{MAX_ENTRIES, insert_at};
+use octets::NoMemory;
 use std::alloc::Global;
 use std::marker::Model;
 
@@ -117,9 +118,8 @@ impl Received {
     }
 
     /// An equal table.
-    pub fn copy(&self, alloc: Global) -> Result<Received, SessionFault>
-        ensures ok { IfOk result (λ made. made ≡ self.now) }
-        ensures err { IfErr result (λ fault. fault ≡ SessionFault.Memory) }
+    pub fn copied(&self, alloc: Global) -> Result<Received, NoMemory>
+        ensures { IfOk result (λ made. made ≡ self.now) }
     {
         Ok(Received {
             ids: Vec::from_slice(alloc, self.ids.as_slice())?,

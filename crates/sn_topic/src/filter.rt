@@ -6,7 +6,7 @@ ghost use Rattle.sn_topic.specs.Topics.{IsTopicSize, IsFilter};
 
 use crate::fault::TopicFault;
 use crate::level::{MAX_SIZE, begins_with_wildcard, has_wildcard, wildcards_stand_alone};
-use octets::Octets;
+use octets::{NoMemory, Octets};
 use std::alloc::Global;
 use std::marker::Model;
 
@@ -75,12 +75,19 @@ impl Filter {
     }
 
     /// An equal filter.
-    pub fn copy(&self, alloc: Global) -> Result<Filter, TopicFault>
-        ensures equal { IfOk result (λ filter. filter ≡ self.now) }
-        ensures memory { IfErr result (λ fault. fault ≡ TopicFault.Memory) }
+    pub fn copied(&self, alloc: Global) -> Result<Filter, NoMemory>
+        ensures { IfOk result (λ filter. filter ≡ self.now) }
     {
-        let octets = self.octets.copy(alloc)?;
+        let octets = self.octets.copied(alloc)?;
         Ok(Filter { octets })
+    }
+
+    /// The same, where want of memory is a fault of this crate.
+    pub fn copy(&self, alloc: Global) -> Result<Filter, TopicFault>
+        ensures ok { IfOk result (λ filter. filter ≡ self.now) }
+        ensures err { IfErr result (λ fault. fault ≡ TopicFault.Memory) }
+    {
+        Ok(self.copied(alloc)?)
     }
 }
 

@@ -6,7 +6,7 @@ ghost use Rattle.sn_topic.specs.Topics.{IsTopicSize, IsName};
 
 use crate::fault::TopicFault;
 use crate::level::{MAX_SIZE, has_wildcard};
-use octets::Octets;
+use octets::{NoMemory, Octets};
 use std::alloc::Global;
 use std::marker::Model;
 
@@ -60,12 +60,19 @@ impl TopicName {
     }
 
     /// An equal name.
-    pub fn copy(&self, alloc: Global) -> Result<TopicName, TopicFault>
-        ensures equal { IfOk result (λ name. name ≡ self.now) }
-        ensures memory { IfErr result (λ fault. fault ≡ TopicFault.Memory) }
+    pub fn copied(&self, alloc: Global) -> Result<TopicName, NoMemory>
+        ensures { IfOk result (λ name. name ≡ self.now) }
     {
-        let octets = self.octets.copy(alloc)?;
+        let octets = self.octets.copied(alloc)?;
         Ok(TopicName { octets })
+    }
+
+    /// The same, where want of memory is a fault of this crate.
+    pub fn copy(&self, alloc: Global) -> Result<TopicName, TopicFault>
+        ensures ok { IfOk result (λ name. name ≡ self.now) }
+        ensures err { IfErr result (λ fault. fault ≡ TopicFault.Memory) }
+    {
+        Ok(self.copied(alloc)?)
     }
 }
 

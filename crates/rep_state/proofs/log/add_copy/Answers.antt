@@ -4,4 +4,4 @@ use Rattle.rep_ops.specs.Orders.{operation_cmp}
 use Rattle.rep_state.proofs.log.add_copy.Goals as goal
 
 pub returns : goal.returns
-returns c = c.in_ok-insert.ensures.entries ∙ ap (insert_entry operation_cmp c.args.made.now.entries c.args.name) c.in_ok-change.ensures.ok
+returns c = c.in_ok-insert.ensures.entries ∙ ap (insert_entry operation_cmp c.args.made.now.entries c.args.name) c.in_ok-change.ensures

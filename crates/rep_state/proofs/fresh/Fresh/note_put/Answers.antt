@@ -41,7 +41,7 @@ returns c =
     let cov = list_any (covers (name_of p)) rs in
     let known : ((cov || is_some (put_named (name_of p) waiting)) || is_some (find put_cmp (name_of p) es)) ≡ false = sym (c.has.ensures fresh.rising) ∙ c.if-has.false in
     let none = not_there cov (put_named (name_of p) waiting) (find put_cmp (name_of p) es) known in
-    let is : new ≡ place put_cmp (name_of p) p es = c.in_ok-insert.ensures.entries ∙ ap (λ (x : Put). insert_entry put_cmp es (name_of x) x) c.in_ok-put.ensures.ok ∙ insert_is_put put_cmp (name_of p) p es in
+    let is : new ≡ place put_cmp (name_of p) p es = c.in_ok-insert.ensures.entries ∙ ap (λ (x : Put). insert_entry put_cmp es (name_of x) x) c.in_ok-put.ensures ∙ insert_is_put put_cmp (name_of p) p es in
     let apart = apart_more waiting es new p fresh.under fresh.apart none.0 is in (
       record {
         folded = fresh.folded;

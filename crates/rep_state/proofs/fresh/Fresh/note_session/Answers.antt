@@ -47,7 +47,7 @@ returns c =
     let log = c.note.new.self in
     let rs = ranges_in f.acks in
     let absent : find operation_cmp (s, k) es ≡ None = sym (lookup_is_find operation_cmp (s, k) es) ∙ none_there (lookup (is_at (operation_cmp (s, k))) es) (sym c.contains_key.ensures ∙ c.if-contains_key.false) in
-    let kept : IsKeptIn (((s, k), x) ∷ es) log.known.entries log.stamp = subst (λ y. IsKeptIn (((s, k), y) ∷ es) log.known.entries log.stamp) c.in_ok-change.ensures.ok c.in_ok-note.ensures.kept in
+    let kept : IsKeptIn (((s, k), x) ∷ es) log.known.entries log.stamp = subst (λ y. IsKeptIn (((s, k), y) ∷ es) log.known.entries log.stamp) c.in_ok-change.ensures c.in_ok-note.ensures.kept in
     let ordered = c.in_ok-note.ensures.ordered fresh.ordered in (
       record {
         folded = c.in_ok-note.ensures.folded;

@@ -1,5 +1,5 @@
 use Rattle.std.proofs.Common.{◌≡◌, take}
-use Rattle.sn_topic.proofs.predefined.Predefined.copy.Given as goal
+use Rattle.sn_topic.proofs.predefined.Predefined.copied.Given as goal
 
 -- the first entries are copied
 abbrev pub invariant-loop-id : goal.invariant-loop-id
