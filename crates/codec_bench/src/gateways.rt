@@ -7,7 +7,7 @@ use octets::Octets;
 use rep_model::Replica;
 use rep_ops::{ClientId, Delta, Op, OpsFault, Put, Stamp};
 use rep_plain::Plain;
-use sn_session::{Session, SessionOp};
+use sn_session::{Message, Session, SessionOp};
 use sn_topic::TopicName;
 use std::alloc::Global;
 
@@ -98,11 +98,11 @@ pub fn put(alloc: Global, client: u16, message: u16) -> Result<Op, OpsFault> {
     })
 }
 
-fn body(alloc: Global, seed: u16) -> Result<Octets, OpsFault> {
+fn body(alloc: Global, seed: u16) -> Result<Message, OpsFault> {
     let mut octets = Vec::with_capacity(alloc, BODY)?;
     let mut numbers = Numbers::new();
     for _ in 0..BODY {
         octets.push(numbers.octet() ^ (seed % 256) as u8)?;
     }
-    Ok(Octets::new(octets)?)
+    Message::new(Octets::new(octets)?).ok_or(OpsFault::Kind)
 }

@@ -4,7 +4,7 @@
 use crate::numbers::Numbers;
 use octets::Octets;
 use rep_ops::{ClientId, Op, OpsFault, Put, Stamp};
-use sn_session::{Presence, Session, SessionOp};
+use sn_session::{Message, Presence, Session, SessionOp};
 use sn_topic::TopicName;
 use std::alloc::{AllocError, Global};
 
@@ -109,12 +109,12 @@ fn put(alloc: Global, client: u8, seq: u64, numbers: &mut Numbers) -> Result<Op,
     })
 }
 
-fn body(alloc: Global, numbers: &mut Numbers) -> Result<Octets, AllocError> {
+fn body(alloc: Global, numbers: &mut Numbers) -> Result<Message, OpsFault> {
     let mut octets = Vec::with_capacity(alloc, BODY)?;
     for _ in 0..BODY {
         octets.push(numbers.octet())?;
     }
-    Octets::new(octets)
+    Message::new(Octets::new(octets)?).ok_or(OpsFault::Kind)
 }
 
 /// Five acknowledgements from a first one on.

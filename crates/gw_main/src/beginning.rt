@@ -14,7 +14,7 @@ ghost use Rattle.gw_node.specs.declared.fault.NodeFault.TheVariants as faults;
 use super::options::Settings;
 use gw_node::{Node, NodeFault};
 use jr_journal::{Disk, JournalFault};
-use octets::Sequence;
+use octets::{NoMemory, Sequence};
 use rep_model::Replica;
 use sn_flow::Config;
 use std::alloc::Global;
@@ -80,7 +80,9 @@ fn open<R: Replica, D: Disk + Drop>(
         ≡ length (clients_of (state_of R.kept opened.0).kept)) }
     ensures may { IfErr result (λ fault. MayRefuse (told fault)) }
 {
-    let config = config_of(alloc, settings)?;
+    let Ok(config) = config_of(alloc, settings) else {
+        return Err(NodeFault::Memory);
+    };
     match Node::open(alloc, config, disk) {
         Err((_, fault)) => Err(fault),
         Ok(node) => match node.clients(alloc) {
@@ -91,15 +93,14 @@ fn open<R: Replica, D: Disk + Drop>(
 }
 
 /// What the gateway is told.
-fn config_of(alloc: Global, settings: &Settings) -> Result<Config, NodeFault>
-    ensures ok { IfOk result (λ config. config ≡ config_of settings.now) }
-    ensures err { IfErr result (λ fault. fault ≡ faults.Memory) }
+fn config_of(alloc: Global, settings: &Settings) -> Result<Config, NoMemory>
+    ensures { IfOk result (λ config. config ≡ config_of settings.now) }
 {
     let Ok(field) = Vec::from_slice(alloc, settings.field.as_slice()) else {
-        return Err(NodeFault::Memory);
+        return Err(NoMemory);
     };
-    let Ok(predefined) = settings.predefined.copy(alloc) else {
-        return Err(NodeFault::Memory);
+    let Ok(predefined) = settings.predefined.copied(alloc) else {
+        return Err(NoMemory);
     };
     Ok(Config {
         gateway: settings.gateway,

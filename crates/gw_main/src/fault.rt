@@ -2,8 +2,9 @@
 
 ghost use Rattle.std.specs.Prelude.{◌≡◌};
 ghost use Rattle.gw_main.specs.Keys.{name_of};
-ghost use Rattle.gw_main.specs.declared.fault.SettingsFault.TheVariants.{Memory as NoMemory};
+ghost use Rattle.gw_main.specs.declared.fault.SettingsFault.TheVariants.{Memory};
 
+use octets::NoMemory;
 use std::alloc::{AllocError, AllocFailed};
 use thiserror::Error;
 
@@ -77,15 +78,23 @@ pub enum SettingsFault {
 }
 
 impl From<AllocError> for SettingsFault {
-    ghost from_gives = { λ _ e. e ≡ NoMemory };
+    ghost from_gives = { λ _ e. e ≡ Memory };
 
     fn from(_error: AllocError) -> SettingsFault {
         SettingsFault::Memory
     }
 }
 
+impl From<NoMemory> for SettingsFault {
+    ghost from_gives = { λ _ e. e ≡ Memory };
+
+    fn from(_error: NoMemory) -> SettingsFault {
+        SettingsFault::Memory
+    }
+}
+
 impl<T: Drop> From<AllocFailed<T>> for SettingsFault {
-    ghost from_gives = { λ _ e. e ≡ NoMemory };
+    ghost from_gives = { λ _ e. e ≡ Memory };
 
     fn from(_error: AllocFailed<T>) -> SettingsFault {
         SettingsFault::Memory

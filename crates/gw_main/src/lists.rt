@@ -8,6 +8,7 @@ ghost use Rattle.gw_main.specs.declared.fault.Key.TheVariants as keys;
 
 use super::fault::{Key, SettingsFault};
 use super::keys::{address_item, found, number_in};
+use octets::NoMemory;
 use sn_flow::Addr;
 use sn_topic::{Predefined, TopicFault, TopicName};
 use std::alloc::Global;
@@ -56,25 +57,23 @@ pub(crate) fn addresses_at(
 
 /// A text as the name of a topic, where it is one.
 #[tactic(auto, using(crate::proofs::Naming::named, crate::proofs::Naming::empty, crate::proofs::Naming::too_long, crate::proofs::Naming::wild))]
-fn named(alloc: Global, text: &[u8]) -> Result<Option<TopicName>, SettingsFault>
-    ensures ok { IfOk result (λ name. name ≡ name_of_text text.now) }
-    ensures err { IfErr result (λ fault. fault ≡ SettingsFault.Memory) }
+fn named(alloc: Global, text: &[u8]) -> Result<Option<TopicName>, NoMemory>
+    ensures { IfOk result (λ name. name ≡ name_of_text text.now) }
 {
     match TopicName::new(alloc, text) {
         Ok(name) => Ok(Some(name)),
         Err(TopicFault::Empty) => Ok(None),
         Err(TopicFault::TooLong) => Ok(None),
         Err(TopicFault::Wildcard) => Ok(None),
-        Err(TopicFault::Id) => Err(SettingsFault::Memory),
-        Err(TopicFault::Memory) => Err(SettingsFault::Memory),
+        Err(TopicFault::Id) => Err(NoMemory),
+        Err(TopicFault::Memory) => Err(NoMemory),
     }
 }
 
 /// The name of a topic.
-fn name_in(alloc: Global, found: Option<&Value>) -> Result<Option<TopicName>, SettingsFault>
-    ensures ok { IfOk result (λ name. name ≡ name_in (option_map (λ value. view value.now)
+fn name_in(alloc: Global, found: Option<&Value>) -> Result<Option<TopicName>, NoMemory>
+    ensures { IfOk result (λ name. name ≡ name_in (option_map (λ value. view value.now)
         found.entry)) }
-    ensures err { IfErr result (λ fault. fault ≡ SettingsFault.Memory) }
 {
     match found {
         None => Ok(None),
@@ -86,9 +85,8 @@ fn name_in(alloc: Global, found: Option<&Value>) -> Result<Option<TopicName>, Se
 }
 
 /// An id and the name that it stands for, in a table.
-fn entry_from(alloc: Global, table: &Table) -> Result<Option<(u16, TopicName)>, SettingsFault>
-    ensures ok { IfOk result (λ entry. entry ≡ entry_from (table_view table.now)) }
-    ensures err { IfErr result (λ fault. fault ≡ SettingsFault.Memory) }
+fn entry_from(alloc: Global, table: &Table) -> Result<Option<(u16, TopicName)>, NoMemory>
+    ensures { IfOk result (λ entry. entry ≡ entry_from (table_view table.now)) }
 {
     match number_in(found(table, "id"), 0, 65_535, None) {
         None => Ok(None),
@@ -101,9 +99,8 @@ fn entry_from(alloc: Global, table: &Table) -> Result<Option<(u16, TopicName)>, 
 }
 
 /// An id and the name that it stands for, where a value is a table of both.
-fn entry(alloc: Global, item: &Value) -> Result<Option<(u16, TopicName)>, SettingsFault>
-    ensures ok { IfOk result (λ entry. entry ≡ entry_item (view item.now)) }
-    ensures err { IfErr result (λ fault. fault ≡ SettingsFault.Memory) }
+fn entry(alloc: Global, item: &Value) -> Result<Option<(u16, TopicName)>, NoMemory>
+    ensures { IfOk result (λ entry. entry ≡ entry_item (view item.now)) }
 {
     match item.as_table() {
         None => Ok(None),

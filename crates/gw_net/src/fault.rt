@@ -5,7 +5,7 @@ ghost use Rattle.gw_net.specs.Faults.{fault_number};
 ghost use Rattle.gw_net.specs.declared.fault.LinkFault.TheVariants.{Memory};
 ghost use Rattle.gw_net.specs.declared.fault.LinkOutFault.TheVariants.{Memory as OutMemory};
 
-use rep_ops::OpsFault;
+use octets::NoMemory;
 use std::alloc::{AllocError, AllocFailed};
 use thiserror::Error;
 
@@ -52,6 +52,14 @@ impl From<AllocError> for LinkFault {
     }
 }
 
+impl From<NoMemory> for LinkFault {
+    ghost from_gives = { λ _ e. e ≡ Memory };
+
+    fn from(_error: NoMemory) -> LinkFault {
+        LinkFault::Memory
+    }
+}
+
 impl<T: Drop> From<AllocFailed<T>> for LinkFault {
     ghost from_gives = { λ _ e. e ≡ Memory };
 
@@ -79,19 +87,18 @@ impl From<AllocError> for LinkOutFault {
     }
 }
 
-impl<T: Drop> From<AllocFailed<T>> for LinkOutFault {
+impl From<NoMemory> for LinkOutFault {
     ghost from_gives = { λ _ e. e ≡ OutMemory };
 
-    fn from(_error: AllocFailed<T>) -> LinkOutFault {
+    fn from(_error: NoMemory) -> LinkOutFault {
         LinkOutFault::Memory
     }
 }
 
-// A digest and a delta are encoded; that is refused for want of memory alone.
-impl From<OpsFault> for LinkOutFault {
+impl<T: Drop> From<AllocFailed<T>> for LinkOutFault {
     ghost from_gives = { λ _ e. e ≡ OutMemory };
 
-    fn from(_error: OpsFault) -> LinkOutFault {
+    fn from(_error: AllocFailed<T>) -> LinkOutFault {
         LinkOutFault::Memory
     }
 }

@@ -10,7 +10,7 @@ ghost use Rattle.gw_net.specs.inner.Writing.{IsCutBehind};
 
 use super::fault::LinkOutFault;
 use super::message::LinkMessage;
-use octets::append_u32;
+use octets::{NoMemory, append_u32};
 use std::alloc::Global;
 use std::io::Write;
 
@@ -54,24 +54,22 @@ fn is_short(message: &LinkMessage)
 }
 
 /// The octets of a body.
-fn body(alloc: Global, message: &LinkMessage) -> Result<Vec<u8>, LinkOutFault>
-    ensures ok { IfOk result (λ body. body.items ≡ body_of message.now) }
-    ensures err { IfErr result (λ fault. fault ≡ LinkOutFault.Memory) }
+fn body(alloc: Global, message: &LinkMessage) -> Result<Vec<u8>, NoMemory>
+    ensures { IfOk result (λ body. body.items ≡ body_of message.now) }
 {
     let mut body = Vec::new(alloc);
     match message {
         LinkMessage::Hello(gateway) => body.push(*gateway)?,
-        LinkMessage::Digest(digest) => digest.encode(alloc, &mut body)?,
-        LinkMessage::Delta(delta) => delta.encode(alloc, &mut body)?,
+        LinkMessage::Digest(digest) => digest.append_to(&mut body)?,
+        LinkMessage::Delta(delta) => delta.append_to(&mut body)?,
     }
     Ok(body)
 }
 
 /// Kind and length.
-fn head(alloc: Global, message: &LinkMessage, size: usize) -> Result<Vec<u8>, LinkOutFault>
+fn head(alloc: Global, message: &LinkMessage, size: usize) -> Result<Vec<u8>, NoMemory>
     requires { size < 2 ^ 32 }
-    ensures ok { IfOk result (λ head. head.items ≡ kind_of message.now ∷ big_bytes 4 size) }
-    ensures err { IfErr result (λ fault. fault ≡ LinkOutFault.Memory) }
+    ensures { IfOk result (λ head. head.items ≡ kind_of message.now ∷ big_bytes 4 size) }
 {
     let kind = match message {
         LinkMessage::Hello(_) => 1,

@@ -9,3 +9,4 @@ pub mod Started
 pub mod Reopened
 pub mod Failing
 mod Resting
+mod Owned

@@ -2,4 +2,5 @@
 pub mod Handling
 pub mod Opening
 pub mod Resting
+pub mod Tidy
 pub mod Writing

@@ -97,6 +97,7 @@ fn refill<R: Replica, D: Disk + Drop>(
     match take_all(alloc, &mut replica, deltas.as_slice()) {
         Ok(()) => {
             node.idle = None;
+            node.tidy = true;
             node.replica = replica;
             node.dialogs = Dialogs::empty(alloc);
             node.records = deltas.len() as u64;

@@ -1,7 +1,7 @@
 //! A plan is carried out, and a delta is taken: room, delta, journal, replica, local state, in this order. What can be refused is
 //! refused before the journal is written; behind it nothing can be.
 
-ghost use Rattle.std.specs.Prelude.{◌≡◌, ◌≢◌, ◌++◌, [], IfOk, IfErr, OnOk};
+ghost use Rattle.std.specs.Prelude.{◌≡◌, ◌≢◌, ◌++◌, [], IfOk, IfErr, OnOk, unwrap_or};
 ghost use Rattle.rep_ops.specs.Deltas.{IsDelta};
 ghost use Rattle.rep_ops.specs.Making.{AreApart, IsDeltaOf};
 ghost use Rattle.rep_ops.specs.Spelling.{IsWithinLimit};
@@ -18,6 +18,7 @@ use super::node::Node;
 use super::out::Out;
 use super::refusal::Refusal;
 use super::shares::{Names, Shares};
+use super::tidy::{keep_owned, note_changes, note_taken};
 use jr_journal::{Disk, Journal, JournalFault};
 use octets::Sequence;
 use rep_model::{Replica, TakeFault};
@@ -104,6 +105,16 @@ fn write_if_any<D: Disk + Drop>(
     write(alloc, journal, delta)
 }
 
+/// The operations of a delta, if there is one.
+fn ops_of(made: &Option<Delta>) -> &[Op]
+    ensures { result.now ≡ unwrap_or made.now [] }
+{
+    match made {
+        Some(delta) => delta.ops(),
+        None => &[],
+    }
+}
+
 /// A refusal of the journal, with what is answered.
 pub(crate) fn refused(fault: JournalFault, excuse: Shares) -> Refusal
     ensures { result ≡ refusal_of fault excuse }
@@ -133,10 +144,18 @@ pub(crate) fn note<R: Replica, D: Disk + Drop>(
         sends,
         local,
     } = plan;
+    let tidy = node.tidy;
     node.idle = None;
+    node.tidy = false;
     node.dialogs.prepare(local.as_slice())?;
     let answer = Shares::new(alloc, Out::of_sends(alloc, sends))?;
-    node.dialogs.commit(local);
+    node.tidy = note_changes(
+        node.config.gateway,
+        &node.replica,
+        &mut node.dialogs,
+        tidy,
+        local,
+    );
     Ok(answer)
 }
 
@@ -153,7 +172,9 @@ pub(crate) fn carry_out<R: Replica, D: Disk + Drop>(
     ensures { CarriedOut (state_of R.kept node.old) plan excuse result (state_of R.kept node.new) }
 {
     let Plan { ops, sends, local } = plan;
+    let tidy = node.tidy;
     node.idle = None;
+    node.tidy = false;
     node.dialogs.prepare(local.as_slice())?;
     let delta = match delta_of(alloc, ops.into_vec()) {
         Ok(delta) => delta,
@@ -165,7 +186,15 @@ pub(crate) fn carry_out<R: Replica, D: Disk + Drop>(
     match write_if_made(alloc, &mut node.journal, &answer.out().made) {
         Ok(()) => {
             node.replica.commit(staged);
-            node.dialogs.commit(local);
+            let made = ops_of(&answer.out().made);
+            node.tidy = note_taken(
+                node.config.gateway,
+                &node.replica,
+                &mut node.dialogs,
+                tidy,
+                made,
+                local,
+            );
             Ok(answer)
         }
         Err(fault) => Err(refused(fault, excuse)),
@@ -183,14 +212,23 @@ pub(crate) fn take_in<R: Replica, D: Disk + Drop>(
     if node.journal.is_halted() {
         return Err(Refusal::Halted);
     }
+    let tidy = node.tidy;
     node.idle = None;
+    node.tidy = false;
     let ready = prepare(alloc, &mut node.replica, delta)?;
     let nothing = Shares::new(alloc, Out::of_sends(alloc, Sequence::empty(alloc)))?;
     let answer = Shares::new(alloc, Out::of_sends(alloc, Sequence::empty(alloc)))?;
     match write_if_any(alloc, &mut node.journal, delta) {
         Ok(()) => {
             node.replica.commit(ready);
-            node.dialogs.keep_owned(node.config.gateway, &node.replica);
+            keep_owned(
+                node.config.gateway,
+                &node.replica,
+                &mut node.dialogs,
+                tidy,
+                delta.ops(),
+            );
+            node.tidy = true;
             Ok(answer)
         }
         Err(fault) => Err(refused(fault, nothing)),

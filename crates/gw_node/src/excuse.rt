@@ -5,8 +5,8 @@ ghost use Rattle.sn_frame.specs.Bodies.{IsMessage};
 ghost use Rattle.sn_frame.specs.Grammar.{total_of};
 ghost use Rattle.gw_node.specs.Excuses.{accepts as would_accept, unpublished as unpublished_of, excuse_of as defined_excuse, excuses as defined_excuses};
 
-use octets::{Octets, Sequence};
-use sn_flow::{Addr, Draft, Send, StepFault, plan_without};
+use octets::{NoMemory, Sequence};
+use sn_flow::{Addr, Draft, Send, plan_without};
 use sn_frame::{Flags, Frame, Qos};
 use std::alloc::Global;
 
@@ -80,7 +80,7 @@ pub(crate) fn excuses(
     from: Addr,
     frame: &Frame,
     sends: &[Send],
-) -> Result<Sequence<Send>, StepFault>
+) -> Result<Sequence<Send>, NoMemory>
     ensures { IfOk result (λ made. made ≡ defined_excuses from frame.now sends.now) }
 {
     match excuse_of(frame, sends) {

@@ -234,7 +234,7 @@ pub(crate) fn handle_view<R: Replica, D: Disk>(
     ensures err { IfErr result (λ refusal. refusal ≡ refusals.Memory) }
 {
     let view = match node.replica.view_of(client) {
-        Some(view) => Some(view.copy(alloc)?),
+        Some(view) => Some(view.copied(alloc)?),
         None => None,
     };
     Ok(Shares::new(alloc, Out::of_view(alloc, view))?)
@@ -272,7 +272,9 @@ pub(crate) fn handle_answer<R: Replica, D: Disk>(
 ) -> Result<Shares, Refusal>
     ensures { AnswerCall (state_of R.kept node.now) digest.now result (state_of R.kept node.now) }
 {
-    let deltas = answer(alloc, &node.replica, digest)?;
+    let Ok(deltas) = answer(alloc, &node.replica, digest) else {
+        return Err(Refusal::Memory);
+    };
     Ok(Shares::new(alloc, Out::of_answer(alloc, deltas))?)
 }
 

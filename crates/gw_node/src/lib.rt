@@ -37,6 +37,7 @@ mod same;
 mod same_out;
 mod shares;
 mod step;
+mod tidy;
 
 pub use fault::NodeFault;
 pub use laws::opening_laws;

@@ -2,6 +2,7 @@
 
 ghost use Rattle.std.specs.Prelude.{◌≡◌, true};
 ghost use Rattle.gw_node.specs.inner.Resting.{rests};
+ghost use Rattle.gw_node.specs.inner.Tidy.{tidied};
 
 use super::anew::{handle_compact, handle_reopen};
 use super::carrying::take_in;
@@ -30,6 +31,9 @@ pub struct Node<R: Replica, D: Disk> {
     /// Until when ticks have nothing to do, where that was found out and nothing has changed since.
     pub(crate) idle: Option<u64>,
     ghost is_idle_until: { rests idle config (R.kept replica) dialogs.local ≡ true },
+    /// Whether each address and each timer is known to be of a client that the gateway owns.
+    pub(crate) tidy: bool,
+    ghost is_tidy: { tidied tidy config.gateway (R.kept replica) dialogs.local ≡ true },
 }
 
 impl<R: Replica, D: Disk + Drop> Node<R, D> {

@@ -73,6 +73,7 @@ pub(crate) fn start<R: Replica, D: Disk + Drop>(
             journal,
             records: deltas.len() as u64,
             idle: None,
+            tidy: true,
         }),
         Err(refusal) => Err((journal.into_disk(), refusal.into_one())),
     }

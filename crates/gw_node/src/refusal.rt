@@ -2,14 +2,13 @@
 
 ghost use Rattle.std.specs.Prelude.{◌≡◌, Ok, Err};
 ghost use Rattle.gw_node.specs.Parts.{told, said};
-ghost use Rattle.gw_node.specs.declared.refusal.Refusal.TheVariants.{Memory as NoMemory};
+ghost use Rattle.gw_node.specs.declared.refusal.Refusal.TheVariants.{Memory};
 
 use super::fault::NodeFault;
 use super::out::Out;
 use super::shares::{Names, Shares};
 use jr_journal::JournalFault;
-use rep_ops::OpsFault;
-use sn_flow::StepFault;
+use octets::NoMemory;
 use sn_frame::FrameFault;
 use std::alloc::{AllocError, AllocFailed};
 use std::sync::Arc;
@@ -39,7 +38,7 @@ pub enum Refusal {
 }
 
 impl From<AllocError> for Refusal {
-    ghost from_gives = { λ _ e. e ≡ NoMemory };
+    ghost from_gives = { λ _ e. e ≡ Memory };
 
     fn from(_error: AllocError) -> Refusal {
         Refusal::Memory
@@ -47,25 +46,17 @@ impl From<AllocError> for Refusal {
 }
 
 impl<T: Drop> From<AllocFailed<T>> for Refusal {
-    ghost from_gives = { λ _ e. e ≡ NoMemory };
+    ghost from_gives = { λ _ e. e ≡ Memory };
 
     fn from(_error: AllocFailed<T>) -> Refusal {
         Refusal::Memory
     }
 }
 
-impl From<OpsFault> for Refusal {
-    ghost from_gives = { λ _ e. e ≡ NoMemory };
+impl From<NoMemory> for Refusal {
+    ghost from_gives = { λ _ e. e ≡ Memory };
 
-    fn from(_error: OpsFault) -> Refusal {
-        Refusal::Memory
-    }
-}
-
-impl From<StepFault> for Refusal {
-    ghost from_gives = { λ _ e. e ≡ NoMemory };
-
-    fn from(_error: StepFault) -> Refusal {
+    fn from(_error: NoMemory) -> Refusal {
         Refusal::Memory
     }
 }

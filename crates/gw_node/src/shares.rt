@@ -5,7 +5,8 @@ ghost use Rattle.std.specs.Arc.{arc_value};
 ghost use Rattle.gw_node.specs.declared.out.Out.{Out};
 
 use super::out::Out;
-use rep_ops::{ClientId, OpsFault};
+use octets::NoMemory;
+use rep_ops::ClientId;
 use std::alloc::{AllocError, Global};
 use std::marker::Model;
 use std::sync::Arc;
@@ -93,12 +94,12 @@ impl Model for Names {
 
 impl Names {
     /// Copies of a name.
-    pub(crate) fn new(alloc: Global, client: ClientId) -> Result<Names, OpsFault>
+    pub(crate) fn new(alloc: Global, client: ClientId) -> Result<Names, NoMemory>
         ensures { IfOk result (λ names. names ≡ client) }
     {
         Ok(Names {
-            second: client.copy(alloc)?,
-            third: client.copy(alloc)?,
+            second: client.copied(alloc)?,
+            third: client.copied(alloc)?,
             first: client,
         })
     }

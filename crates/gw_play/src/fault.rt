@@ -4,6 +4,7 @@ ghost use Rattle.std.specs.Prelude.{◌≡◌};
 ghost use Rattle.gw_play.specs.declared.fault.LineFault.TheVariants as line_faults;
 ghost use Rattle.gw_play.specs.declared.fault.ScriptFault.TheVariants as script_faults;
 
+use octets::NoMemory;
 use std::alloc::{AllocError, AllocFailed};
 use thiserror::Error;
 
@@ -22,6 +23,14 @@ impl From<AllocError> for LineFault {
     ghost from_gives = { λ _ e. e ≡ line_faults.Memory };
 
     fn from(_error: AllocError) -> LineFault {
+        LineFault::Memory
+    }
+}
+
+impl From<NoMemory> for LineFault {
+    ghost from_gives = { λ _ e. e ≡ line_faults.Memory };
+
+    fn from(_error: NoMemory) -> LineFault {
         LineFault::Memory
     }
 }
@@ -49,6 +58,14 @@ impl From<AllocError> for ScriptFault {
     ghost from_gives = { λ _ e. e ≡ script_faults.Memory };
 
     fn from(_error: AllocError) -> ScriptFault {
+        ScriptFault::Memory
+    }
+}
+
+impl From<NoMemory> for ScriptFault {
+    ghost from_gives = { λ _ e. e ≡ script_faults.Memory };
+
+    fn from(_error: NoMemory) -> ScriptFault {
         ScriptFault::Memory
     }
 }

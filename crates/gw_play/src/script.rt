@@ -1,6 +1,6 @@
 //! What the lines of a script say together.
 
-ghost use Rattle.std.specs.Prelude.{◌≡◌, ◌∷◌, ◌++◌, ◌==◌, [], ℕ, Err, IfOk, IfErr, IsTrue, IsFalse, IfSome, length, ◌<◌, position};
+ghost use Rattle.std.specs.Prelude.{◌≡◌, ◌∷◌, ◌++◌, ◌==◌, [], ℕ, Err, IfOk, IsTrue, IsFalse, IfSome, length, ◌<◌, position};
 ghost use Rattle.sn_topic.specs.Table.{is_table};
 ghost use Rattle.gw_play.specs.Commands.{lines_of};
 ghost use Rattle.gw_play.specs.Scripts.{IsScriptOf};
@@ -9,7 +9,7 @@ ghost use Rattle.gw_play.specs.inner.Scripts.{AreGateways, IsBadLine};
 use super::command::{Command, cut, read_command};
 use super::fault::{LineFault, ScriptFault};
 use gw_world::Event;
-use octets::Sequence;
+use octets::{NoMemory, Sequence};
 use sn_flow::Config;
 use sn_topic::{Predefined, TopicFault, TopicName};
 use std::alloc::Global;
@@ -160,14 +160,13 @@ fn with_entry(alloc: Global, config: &Config, id: u16, name: TopicName) -> Resul
 fn copy_entries(
     alloc: Global,
     entries: &[(u16, TopicName)],
-) -> Result<Vec<(u16, TopicName)>, LineFault>
-    ensures ok { IfOk result (λ made. made.items ≡ entries.now) }
-    ensures err { IfErr result (λ fault. fault ≡ LineFault.Memory) }
+) -> Result<Vec<(u16, TopicName)>, NoMemory>
+    ensures { IfOk result (λ made. made.items ≡ entries.now) }
 {
     let mut made = Vec::with_capacity(alloc, entries.len() + 1)?;
     for (id, name) in entries {
-        let Ok(name) = name.copy(alloc) else {
-            return Err(LineFault::Memory);
+        let Ok(name) = name.copied(alloc) else {
+            return Err(NoMemory);
         };
         made.push((*id, name))?;
     }

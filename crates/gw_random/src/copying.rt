@@ -1,10 +1,11 @@
 //! Equal events, and events with what each leaves shown.
 
 use gw_world::Event;
-use std::alloc::{AllocError, Global};
+use octets::NoMemory;
+use std::alloc::Global;
 
 /// An equal event.
-pub(crate) fn copy_event(alloc: Global, event: &Event) -> Result<Event, AllocError> {
+pub(crate) fn copy_event(alloc: Global, event: &Event) -> Result<Event, NoMemory> {
     match event {
         Event::Frame {
             gateway,
@@ -14,7 +15,7 @@ pub(crate) fn copy_event(alloc: Global, event: &Event) -> Result<Event, AllocErr
         } => Ok(Event::Frame {
             gateway: *gateway,
             from: *from,
-            bytes: bytes.copy(alloc)?,
+            bytes: bytes.copied(alloc)?,
             now: *now,
         }),
         Event::Tick { gateway, now } => Ok(Event::Tick {
@@ -52,7 +53,7 @@ pub(crate) fn append_copies(
     alloc: Global,
     made: &mut Vec<Event>,
     events: &[Event],
-) -> Result<(), AllocError> {
+) -> Result<(), NoMemory> {
     for event in events {
         made.push(copy_event(alloc, event)?)?;
     }
@@ -60,7 +61,7 @@ pub(crate) fn append_copies(
 }
 
 /// The events, each with what its gateways show behind it.
-pub(crate) fn with_shows(alloc: Global, events: &[Event]) -> Result<Vec<Event>, AllocError> {
+pub(crate) fn with_shows(alloc: Global, events: &[Event]) -> Result<Vec<Event>, NoMemory> {
     let mut made = Vec::new(alloc);
     for event in events {
         made.push(copy_event(alloc, event)?)?;

@@ -6,9 +6,10 @@ use super::field::{Field, Played};
 use super::judge::{What, delta_at, held_of};
 use super::seat::Seat;
 use gw_world::{Answer, Event, NodeFault};
+use octets::NoMemory;
 use rep_model::Replica;
 use rep_ops::Delta;
-use std::alloc::{AllocError, Global};
+use std::alloc::Global;
 
 /// Whether a gateway may do what an event asks. Where it is halted, it only answers others.
 pub(crate) fn may_go_on(seat: &Seat, event: &Event) -> bool {
@@ -24,7 +25,7 @@ pub(crate) fn is_written(
     seat: &mut Seat,
     event: &Event,
     delta: Option<&Delta>,
-) -> Result<Option<What>, AllocError> {
+) -> Result<Option<What>, NoMemory> {
     let is_right = match event {
         Event::Compact { .. } => {
             let base = base_of(alloc, seat)?;
@@ -44,7 +45,7 @@ fn differs_unless(is_right: bool, what: What) -> Option<What> {
 }
 
 /// How many records a journal has that is written anew.
-fn base_of(alloc: Global, seat: &Seat) -> Result<u64, AllocError> {
+fn base_of(alloc: Global, seat: &Seat) -> Result<u64, NoMemory> {
     let held = held_of(alloc, seat)?;
     Ok(held.len() as u64)
 }
@@ -59,7 +60,7 @@ pub(crate) fn follow_fault<R: Replica>(
     at: usize,
     event: &Event,
     fault: &NodeFault,
-) -> Result<Option<What>, AllocError> {
+) -> Result<Option<What>, NoMemory> {
     seat.latest = None;
     match fault {
         NodeFault::Frame { .. } | NodeFault::Full | NodeFault::Exhausted => {
@@ -83,7 +84,7 @@ fn follow_failure<R: Replica>(
     seat: &mut Seat,
     at: usize,
     event: &Event,
-) -> Result<Option<What>, AllocError> {
+) -> Result<Option<What>, NoMemory> {
     if seat.drive.is_halted() {
         return Ok(Some(What::Halted));
     }
@@ -109,13 +110,13 @@ fn has_operations(delta: Option<&Delta>) -> bool {
 }
 
 /// An equal delta.
-fn copy_of(alloc: Global, delta: Option<&Delta>) -> Result<Option<Delta>, AllocError> {
+fn copy_of(alloc: Global, delta: Option<&Delta>) -> Result<Option<Delta>, NoMemory> {
     let Some(delta) = delta else {
         return Ok(None);
     };
-    match delta.copy(alloc) {
+    match delta.copied(alloc) {
         Ok(copy) => Ok(Some(copy)),
-        Err(_) => Err(AllocError),
+        Err(_) => Err(NoMemory),
     }
 }
 
@@ -126,7 +127,7 @@ fn made_without<R: Replica>(
     events: &[Event],
     at: usize,
     first: usize,
-) -> Result<Option<Delta>, AllocError> {
+) -> Result<Option<Delta>, NoMemory> {
     let Some(last) = events.get(at) else {
         return Ok(None);
     };
@@ -168,7 +169,7 @@ pub(crate) fn follow_restart(
     seat: &mut Seat,
     event: &Event,
     told: u64,
-) -> Result<Option<What>, AllocError> {
+) -> Result<Option<What>, NoMemory> {
     seat.latest = None;
     let Event::Restart { keep, .. } = event else {
         return Ok(Some(What::Stopped));
@@ -185,11 +186,7 @@ pub(crate) fn follow_restart(
 }
 
 /// A gateway has what it had refused.
-fn join(
-    alloc: Global,
-    seat: &mut Seat,
-    refused: Option<Delta>,
-) -> Result<Option<What>, AllocError> {
+fn join(alloc: Global, seat: &mut Seat, refused: Option<Delta>) -> Result<Option<What>, NoMemory> {
     let Some(delta) = refused else {
         return Ok(Some(What::Records));
     };

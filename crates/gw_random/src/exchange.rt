@@ -3,8 +3,9 @@
 use super::copying::append_copies;
 use super::field::{Field, Played, added};
 use gw_world::Event;
+use octets::NoMemory;
 use rep_model::Replica;
-use std::alloc::{AllocError, Global};
+use std::alloc::Global;
 
 /// The events, and behind them an exchange: each gateway is opened again, asks each other, and takes what is answered. Nothing
 /// where the events cannot be played.
@@ -12,7 +13,7 @@ pub(crate) fn with_exchange<R: Replica>(
     alloc: Global,
     field: &Field,
     events: &[Event],
-) -> Result<Option<Vec<Event>>, AllocError> {
+) -> Result<Option<Vec<Event>>, NoMemory> {
     let mut all = Vec::new(alloc);
     append_copies(alloc, &mut all, events)?;
     append_restarts(&mut all, field.gateways, events)?;
@@ -26,7 +27,7 @@ pub(crate) fn with_exchange<R: Replica>(
 }
 
 /// Each gateway is opened again. Where failures were arranged for it, none is left.
-fn append_restarts(all: &mut Vec<Event>, gateways: u8, events: &[Event]) -> Result<(), AllocError> {
+fn append_restarts(all: &mut Vec<Event>, gateways: u8, events: &[Event]) -> Result<(), NoMemory> {
     let keep = u64::MAX;
     for gateway in 1..=gateways {
         all.push(Event::Restart { gateway, keep })?;
@@ -47,7 +48,7 @@ fn is_failure(event: &Event, number: u8) -> bool {
 }
 
 /// Each gateway asks each other.
-fn append_questions(all: &mut Vec<Event>, gateways: u8) -> Result<(), AllocError> {
+fn append_questions(all: &mut Vec<Event>, gateways: u8) -> Result<(), NoMemory> {
     for gateway in 1..=gateways {
         for peer in 1..=gateways {
             if gateway != peer {
@@ -64,7 +65,7 @@ fn takes(
     events: &[Event],
     played: &Played,
     from: usize,
-) -> Result<Vec<Event>, AllocError> {
+) -> Result<Vec<Event>, NoMemory> {
     let mut takes = Vec::new(alloc);
     let mut listed = 0u64;
     let both = events.iter().zip(played.answers.as_slice());

@@ -3,6 +3,7 @@
 ghost use Rattle.std.specs.Prelude.{◌≡◌};
 ghost use Rattle.gw_random.specs.declared.fault.RandomFault.TheVariants.{Memory};
 
+use octets::NoMemory;
 use std::alloc::{AllocError, AllocFailed};
 use thiserror::Error;
 
@@ -21,6 +22,14 @@ impl From<AllocError> for RandomFault {
     ghost from_gives = { λ _ e. e ≡ Memory };
 
     fn from(_error: AllocError) -> RandomFault {
+        RandomFault::Memory
+    }
+}
+
+impl From<NoMemory> for RandomFault {
+    ghost from_gives = { λ _ e. e ≡ Memory };
+
+    fn from(_error: NoMemory) -> RandomFault {
         RandomFault::Memory
     }
 }

@@ -2,12 +2,12 @@
 
 use super::writing::{PREDEFINED, PREDEFINED_ID};
 use gw_world::{Answer, Event, World, WorldFault, run};
-use octets::Sequence;
+use octets::{NoMemory, Sequence};
 use rep_model::Replica;
 use rep_ops::Delta;
 use sn_flow::Config;
 use sn_topic::{Predefined, TopicName};
-use std::alloc::{AllocError, Global};
+use std::alloc::Global;
 
 /// The gateways of a script, which are numbered from 1.
 #[derive(Drop)]
@@ -28,7 +28,7 @@ pub(crate) struct Played {
 
 impl Field {
     /// So many gateways.
-    pub(crate) fn new(alloc: Global, gateways: u8) -> Result<Field, AllocError> {
+    pub(crate) fn new(alloc: Global, gateways: u8) -> Result<Field, NoMemory> {
         let mut configs = Vec::new(alloc);
         for gateway in 1..=gateways {
             configs.push(config(alloc, gateway)?)?;
@@ -41,7 +41,7 @@ impl Field {
         &self,
         alloc: Global,
         events: &[Event],
-    ) -> Result<Option<Played>, AllocError> {
+    ) -> Result<Option<Played>, NoMemory> {
         match run::<R>(alloc, self.configs.as_slice(), events) {
             Ok(
                 World {
@@ -50,21 +50,21 @@ impl Field {
                     ..
                 },
             ) => Ok(Some(Played { answers, deltas })),
-            Err(WorldFault::Memory) => Err(AllocError),
+            Err(WorldFault::Memory) => Err(NoMemory),
             Err(_) => Ok(None),
         }
     }
 }
 
 /// What a gateway is told.
-fn config(alloc: Global, gateway: u8) -> Result<Config, AllocError> {
+fn config(alloc: Global, gateway: u8) -> Result<Config, NoMemory> {
     let Ok(name) = TopicName::new(alloc, PREDEFINED) else {
-        return Err(AllocError);
+        return Err(NoMemory);
     };
     let mut entries = Vec::new(alloc);
     entries.push((PREDEFINED_ID, name))?;
     let Ok(predefined) = Predefined::new(alloc, entries) else {
-        return Err(AllocError);
+        return Err(NoMemory);
     };
     Ok(Config {
         gateway,

@@ -2,9 +2,9 @@
 
 use super::draw::Draw;
 use super::writing::{PREDEFINED, PREDEFINED_ID};
-use octets::{Octets, append_u16};
+use octets::{NoMemory, Octets, append_u16};
 use sn_frame::{Flags, Frame, Qos, Will, encode};
-use std::alloc::{AllocError, Global};
+use std::alloc::Global;
 
 /// Names that clients register, subscribe to and publish under.
 const NAMES: [&[u8]; 5] = [b"a/b", b"a/c", b"d", b"xy", PREDEFINED];
@@ -19,11 +19,11 @@ const SHORT_NAME: u16 = 0x7879;
 const SILENCE: [u16; 4] = [0, 5, 60, 600];
 
 /// The octets of a frame. None where it cannot be spelled.
-pub(crate) fn octets_of(alloc: Global, frame: &Frame) -> Result<Octets, AllocError> {
+pub(crate) fn octets_of(alloc: Global, frame: &Frame) -> Result<Octets, NoMemory> {
     let mut octets = Vec::new(alloc);
     match encode(alloc, frame, &mut octets) {
         Ok(()) => Octets::new(octets),
-        Err(_) => Err(AllocError),
+        Err(_) => Err(NoMemory),
     }
 }
 
@@ -65,12 +65,10 @@ fn msg_id(draw: &mut Draw) -> u16 {
 }
 
 /// A message of up to three octets.
-fn message(alloc: Global, draw: &mut Draw) -> Result<Octets, AllocError> {
+fn message(alloc: Global, draw: &mut Draw) -> Result<Octets, NoMemory> {
     let mut octets = Vec::new(alloc);
     for _ in 0..draw.octet_below(4) {
-        octets
-            .push(draw.octet_below(255))
-            .map_err(AllocError::from)?;
+        octets.push(draw.octet_below(255))?;
     }
     Octets::new(octets)
 }
@@ -81,7 +79,7 @@ fn service(draw: &mut Draw) -> u8 {
 }
 
 /// A frame that a client sends of itself.
-pub(crate) fn any_frame(alloc: Global, draw: &mut Draw, client: u8) -> Result<Frame, AllocError> {
+pub(crate) fn any_frame(alloc: Global, draw: &mut Draw, client: u8) -> Result<Frame, NoMemory> {
     match draw.octet_below(20) {
         0..=2 => register(alloc, draw),
         3..=6 => subscribe(alloc, draw),
@@ -99,7 +97,7 @@ pub(crate) fn any_frame(alloc: Global, draw: &mut Draw, client: u8) -> Result<Fr
 }
 
 /// CONNECT, clean or not, with a will or without.
-pub(crate) fn connect(alloc: Global, draw: &mut Draw, client: u8) -> Result<Frame, AllocError> {
+pub(crate) fn connect(alloc: Global, draw: &mut Draw, client: u8) -> Result<Frame, NoMemory> {
     let clean = if draw.is_once_in(3) { 4 } else { 0 };
     let will = if draw.is_once_in(3) { 8 } else { 0 };
     Ok(Frame::Connect {
@@ -111,7 +109,7 @@ pub(crate) fn connect(alloc: Global, draw: &mut Draw, client: u8) -> Result<Fram
 }
 
 /// REGISTER of a name.
-fn register(alloc: Global, draw: &mut Draw) -> Result<Frame, AllocError> {
+fn register(alloc: Global, draw: &mut Draw) -> Result<Frame, NoMemory> {
     Ok(Frame::Register {
         topic_id: 0,
         msg_id: msg_id(draw),
@@ -120,7 +118,7 @@ fn register(alloc: Global, draw: &mut Draw) -> Result<Frame, AllocError> {
 }
 
 /// The flags and the topic of a SUBSCRIBE or UNSUBSCRIBE: in full, by its predefined id, or a short name.
-fn topic_asked(alloc: Global, draw: &mut Draw) -> Result<(Flags, Octets), AllocError> {
+fn topic_asked(alloc: Global, draw: &mut Draw) -> Result<(Flags, Octets), NoMemory> {
     let bits = service(draw);
     match draw.octet_below(6) {
         0 => Ok((Flags { bits: bits | 1 }, id_octets(alloc)?)),
@@ -130,14 +128,14 @@ fn topic_asked(alloc: Global, draw: &mut Draw) -> Result<(Flags, Octets), AllocE
 }
 
 /// The predefined topic id as octets.
-fn id_octets(alloc: Global) -> Result<Octets, AllocError> {
+fn id_octets(alloc: Global) -> Result<Octets, NoMemory> {
     let mut octets = Vec::new(alloc);
     append_u16(&mut octets, PREDEFINED_ID)?;
     Octets::new(octets)
 }
 
 /// SUBSCRIBE.
-fn subscribe(alloc: Global, draw: &mut Draw) -> Result<Frame, AllocError> {
+fn subscribe(alloc: Global, draw: &mut Draw) -> Result<Frame, NoMemory> {
     let (flags, topic) = topic_asked(alloc, draw)?;
     Ok(Frame::Subscribe {
         flags,
@@ -147,7 +145,7 @@ fn subscribe(alloc: Global, draw: &mut Draw) -> Result<Frame, AllocError> {
 }
 
 /// UNSUBSCRIBE.
-fn unsubscribe(alloc: Global, draw: &mut Draw) -> Result<Frame, AllocError> {
+fn unsubscribe(alloc: Global, draw: &mut Draw) -> Result<Frame, NoMemory> {
     let (flags, topic) = topic_asked(alloc, draw)?;
     Ok(Frame::Unsubscribe {
         flags,
@@ -166,7 +164,7 @@ fn topic_field(draw: &mut Draw) -> (u8, u16) {
 }
 
 /// PUBLISH at quality of service 0 to 2.
-fn publish(alloc: Global, draw: &mut Draw) -> Result<Frame, AllocError> {
+fn publish(alloc: Global, draw: &mut Draw) -> Result<Frame, NoMemory> {
     let (kind, topic) = topic_field(draw);
     let bits = service(draw) | kind;
     let again = if draw.is_once_in(8) { 128 } else { 0 };
@@ -179,7 +177,7 @@ fn publish(alloc: Global, draw: &mut Draw) -> Result<Frame, AllocError> {
 }
 
 /// PUBLISH at quality of service -1.
-fn unconnected(alloc: Global, draw: &mut Draw) -> Result<Frame, AllocError> {
+fn unconnected(alloc: Global, draw: &mut Draw) -> Result<Frame, NoMemory> {
     let (kind, topic) = topic_field(draw);
     Ok(Frame::Publish {
         flags: Flags { bits: 96 | kind },
@@ -190,7 +188,7 @@ fn unconnected(alloc: Global, draw: &mut Draw) -> Result<Frame, AllocError> {
 }
 
 /// A will's flags and topic, or none.
-fn will(alloc: Global, draw: &mut Draw) -> Result<Option<Will>, AllocError> {
+fn will(alloc: Global, draw: &mut Draw) -> Result<Option<Will>, NoMemory> {
     if draw.is_once_in(5) {
         return Ok(None);
     }
@@ -203,7 +201,7 @@ fn will(alloc: Global, draw: &mut Draw) -> Result<Option<Will>, AllocError> {
 }
 
 /// An update of the will: of its topic, or of its message.
-fn will_update(alloc: Global, draw: &mut Draw) -> Result<Frame, AllocError> {
+fn will_update(alloc: Global, draw: &mut Draw) -> Result<Frame, NoMemory> {
     if draw.is_once_in(2) {
         return Ok(Frame::WillTopicUpd {
             will: will(alloc, draw)?,
@@ -215,7 +213,7 @@ fn will_update(alloc: Global, draw: &mut Draw) -> Result<Frame, AllocError> {
 }
 
 /// PINGREQ with the client's id, or without one.
-pub(crate) fn ping(alloc: Global, draw: &mut Draw, client: u8) -> Result<Frame, AllocError> {
+pub(crate) fn ping(alloc: Global, draw: &mut Draw, client: u8) -> Result<Frame, NoMemory> {
     if draw.is_once_in(4) {
         return Ok(Frame::PingReq {
             client: Octets::new(Vec::new(alloc))?,
@@ -252,7 +250,7 @@ pub(crate) fn reply(
     alloc: Global,
     draw: &mut Draw,
     sent: &Frame,
-) -> Result<Option<Frame>, AllocError> {
+) -> Result<Option<Frame>, NoMemory> {
     match sent {
         Frame::WillTopicReq => Ok(Some(Frame::WillTopic {
             will: will(alloc, draw)?,

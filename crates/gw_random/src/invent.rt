@@ -5,10 +5,11 @@ use super::field::{Field, added};
 use super::frames::{any_frame, connect, octets_of, ping, reply};
 use super::listed::Listed;
 use gw_world::{Answer, Event, NodeFault, Out};
+use octets::NoMemory;
 use rep_model::Replica;
 use sn_flow::Addr;
 use sn_frame::{Frame, decode};
-use std::alloc::{AllocError, Global};
+use std::alloc::Global;
 
 /// How many rounds a script has. Between two of them it is played, so that the next can answer.
 const ROUNDS: u8 = 12;
@@ -45,7 +46,7 @@ pub(crate) fn invented<R: Replica>(
     alloc: Global,
     field: &Field,
     seed: u64,
-) -> Result<Vec<Event>, AllocError> {
+) -> Result<Vec<Event>, NoMemory> {
     let mut events = Vec::new(alloc);
     let mut invention = Invention::begun(alloc, field.gateways, seed)?;
     invention.arrivals(alloc, &mut events)?;
@@ -65,7 +66,7 @@ pub(crate) fn invented<R: Replica>(
 
 impl Invention {
     /// Nothing has happened.
-    fn begun(alloc: Global, gateways: u8, seed: u64) -> Result<Invention, AllocError> {
+    fn begun(alloc: Global, gateways: u8, seed: u64) -> Result<Invention, NoMemory> {
         let mut draw = Draw::new(seed);
         let mut homes = Vec::new(alloc);
         for _ in 0..draw.octet_below(4).saturating_add(2) {
@@ -114,7 +115,7 @@ impl Invention {
         client: u8,
         gateway: u8,
         frame: &Frame,
-    ) -> Result<Event, AllocError> {
+    ) -> Result<Event, NoMemory> {
         let sender = if self.draw.is_once_in(40) {
             self.client()
         } else {
@@ -132,7 +133,7 @@ impl Invention {
     }
 
     /// Each client connects.
-    fn arrivals(&mut self, alloc: Global, events: &mut Vec<Event>) -> Result<(), AllocError> {
+    fn arrivals(&mut self, alloc: Global, events: &mut Vec<Event>) -> Result<(), NoMemory> {
         for client in 0..self.homes.len() {
             let client = u8::try_from(client).unwrap_or(0);
             let event = self.connects(alloc, client, false)?;
@@ -142,14 +143,14 @@ impl Invention {
     }
 
     /// A client connects.
-    fn connects(&mut self, alloc: Global, client: u8, roams: bool) -> Result<Event, AllocError> {
+    fn connects(&mut self, alloc: Global, client: u8, roams: bool) -> Result<Event, NoMemory> {
         let gateway = self.home(client, roams);
         let frame = connect(alloc, &mut self.draw, client)?;
         self.frame(alloc, client, gateway, &frame)
     }
 
     /// A client sends something of itself.
-    fn sends(&mut self, alloc: Global) -> Result<Event, AllocError> {
+    fn sends(&mut self, alloc: Global) -> Result<Event, NoMemory> {
         let client = self.client();
         let roams = self.draw.is_once_in(3);
         match self.draw.octet_below(12) {
@@ -168,7 +169,7 @@ impl Invention {
     }
 
     /// A round of events.
-    fn round(&mut self, alloc: Global, events: &mut Vec<Event>) -> Result<(), AllocError> {
+    fn round(&mut self, alloc: Global, events: &mut Vec<Event>) -> Result<(), NoMemory> {
         for _ in 0..self.draw.octet_below(LEAST).saturating_add(LEAST) {
             let event = self.next(alloc)?;
             events.push(event)?;
@@ -183,7 +184,7 @@ impl Invention {
     }
 
     /// One event; where a gateway is due, mostly one at it.
-    fn next(&mut self, alloc: Global) -> Result<Event, AllocError> {
+    fn next(&mut self, alloc: Global) -> Result<Event, NoMemory> {
         let Some((gateway, left)) = self.due else {
             return self.event(alloc);
         };
@@ -200,7 +201,7 @@ impl Invention {
     }
 
     /// An event at a gateway that it may write for.
-    fn writes(&mut self, alloc: Global, gateway: u8) -> Result<Event, AllocError> {
+    fn writes(&mut self, alloc: Global, gateway: u8) -> Result<Event, NoMemory> {
         match self.draw.octet_below(8) {
             0..=2 => self.takes(alloc, gateway),
             3 => Ok(self.ticks(gateway)),
@@ -228,7 +229,7 @@ impl Invention {
     }
 
     /// One event.
-    fn event(&mut self, alloc: Global) -> Result<Event, AllocError> {
+    fn event(&mut self, alloc: Global) -> Result<Event, NoMemory> {
         self.wait();
         let gateway = self.gateway();
         match self.draw.octet_below(32) {
@@ -255,7 +256,7 @@ impl Invention {
     }
 
     /// A gateway takes a delta, if there is one.
-    fn takes(&mut self, alloc: Global, gateway: u8) -> Result<Event, AllocError> {
+    fn takes(&mut self, alloc: Global, gateway: u8) -> Result<Event, NoMemory> {
         match self.listed.choose(alloc, &mut self.draw, gateway)? {
             Some(delta) => Ok(Event::Take { gateway, delta }),
             None => Ok(self.ticks(gateway)),
@@ -310,7 +311,7 @@ impl Invention {
     }
 
     /// What an answer tells the inventor: which deltas there are, and what clients were sent.
-    fn learn(&mut self, alloc: Global, event: &Event, answer: &Answer) -> Result<(), AllocError> {
+    fn learn(&mut self, alloc: Global, event: &Event, answer: &Answer) -> Result<(), NoMemory> {
         let gateway = event.gateway();
         let holder = event.peer().unwrap_or(gateway);
         for _ in 0..added(answer) {
@@ -327,13 +328,13 @@ impl Invention {
     }
 
     /// Clients make up their minds what to answer to what they were sent.
-    fn hear(&mut self, alloc: Global, gateway: u8, out: &Out) -> Result<(), AllocError> {
+    fn hear(&mut self, alloc: Global, gateway: u8, out: &Out) -> Result<(), NoMemory> {
         if self.replies.len() > IN_MIND {
             self.replies.clear();
         }
         for send in out.sends.as_slice() {
             let Ok(sent) = decode(alloc, send.bytes.as_slice()) else {
-                return Err(AllocError);
+                return Err(NoMemory);
             };
             if let Some(frame) = reply(alloc, &mut self.draw, &sent)? {
                 self.replies.push(Event::Frame {

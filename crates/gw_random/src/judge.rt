@@ -4,11 +4,11 @@ use super::disk::{follow_fault, follow_restart, is_written, may_go_on};
 use super::field::{Field, Played, added};
 use super::seat::{Seat, are_same, has_vanished};
 use gw_world::{Answer, Event, Out};
-use octets::Sequence;
+use octets::{NoMemory, Sequence};
 use rep_model::{ClientView, Replica};
 use rep_ops::{ClientId, Delta};
 use rep_same::same_deltas;
-use std::alloc::{AllocError, Global};
+use std::alloc::Global;
 
 /// What differs.
 #[derive(Clone, Copy, Debug, PartialEq, Eq)]
@@ -75,7 +75,7 @@ pub(crate) fn judged<R: Replica>(
     field: &Field,
     events: &[Event],
     played: &Played,
-) -> Result<Option<Difference>, AllocError> {
+) -> Result<Option<Difference>, NoMemory> {
     let mut seats = Seats::empty(alloc, field.gateways)?;
     let both = events.iter().zip(played.answers.as_slice());
     for (at, (event, answer)) in both.enumerate() {
@@ -110,7 +110,7 @@ fn views_at(played: &Played, at: usize) -> Option<&Sequence<(ClientId, ClientVie
 
 impl Seats {
     /// Gateways that have made and taken nothing.
-    fn empty(alloc: Global, gateways: u8) -> Result<Seats, AllocError> {
+    fn empty(alloc: Global, gateways: u8) -> Result<Seats, NoMemory> {
         let mut seats = Vec::new(alloc);
         for _ in 0..gateways {
             seats.push(Seat::empty(alloc)?)?;
@@ -128,7 +128,7 @@ impl Seats {
         at: usize,
         event: &Event,
         answer: &Answer,
-    ) -> Result<Option<What>, AllocError> {
+    ) -> Result<Option<What>, NoMemory> {
         self.listed = self.listed.saturating_add(added(answer));
         let place = usize::from(event.gateway().saturating_sub(1));
         let Some(seat) = self.seats.get_mut(place) else {
@@ -146,7 +146,7 @@ impl Seats {
     }
 
     /// What differs between gateways that have exchanged all, if something does.
-    fn settled(&self, alloc: Global, played: &Played) -> Result<Option<What>, AllocError> {
+    fn settled(&self, alloc: Global, played: &Played) -> Result<Option<What>, NoMemory> {
         let Some((first, rest)) = self.seats.as_slice().split_first() else {
             return Ok(None);
         };
@@ -165,10 +165,10 @@ impl Seats {
 }
 
 /// What must be kept of a gateway's set.
-pub(crate) fn held_of(alloc: Global, seat: &Seat) -> Result<Vec<Delta>, AllocError> {
+pub(crate) fn held_of(alloc: Global, seat: &Seat) -> Result<Vec<Delta>, NoMemory> {
     match seat.plain.held(alloc) {
         Ok(held) => Ok(held),
-        Err(_) => Err(AllocError),
+        Err(_) => Err(NoMemory),
     }
 }
 
@@ -205,7 +205,7 @@ fn follow_out(
     listed: u64,
     event: &Event,
     out: &Out,
-) -> Result<Option<What>, AllocError> {
+) -> Result<Option<What>, NoMemory> {
     seat.latest = number_of(listed, event, out);
     if !may_go_on(seat, event) {
         return Ok(Some(What::Halted));
@@ -255,7 +255,7 @@ fn follow_views(
     played: &Played,
     at: usize,
     views: &[(ClientId, ClientView)],
-) -> Result<Option<What>, AllocError> {
+) -> Result<Option<What>, NoMemory> {
     if vanished(seat, played, views) {
         return Ok(Some(What::Vanished));
     }

@@ -1,7 +1,8 @@
 //! Which deltas there are, and which gateways have them.
 
 use super::draw::Draw;
-use std::alloc::{AllocError, Global};
+use octets::NoMemory;
+use std::alloc::Global;
 
 /// Which gateways have each delta of the list: the first gateway is the lowest bit.
 #[derive(Drop)]
@@ -29,7 +30,7 @@ impl Listed {
     }
 
     /// One more delta, which this gateway has.
-    pub(crate) fn add(&mut self, gateway: u8) -> Result<(), AllocError> {
+    pub(crate) fn add(&mut self, gateway: u8) -> Result<(), NoMemory> {
         self.holders.push(bit_of(gateway))?;
         Ok(())
     }
@@ -50,7 +51,7 @@ impl Listed {
         alloc: Global,
         draw: &mut Draw,
         gateway: u8,
-    ) -> Result<Option<u64>, AllocError> {
+    ) -> Result<Option<u64>, NoMemory> {
         let bit = bit_of(gateway);
         let any = draw.is_once_in(10);
         let mut open = Vec::new(alloc);

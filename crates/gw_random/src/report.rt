@@ -11,8 +11,9 @@ use super::judge::{Difference, What};
 use super::shorten::{Short, Verdict, examined, shortened};
 use super::writing::script;
 use gw_world::Event;
+use octets::NoMemory;
 use rep_model::Replica;
-use std::alloc::{AllocError, Global};
+use std::alloc::Global;
 
 /// A script that shows something else than the definitions say.
 #[derive(Debug, Drop)]
@@ -78,7 +79,7 @@ fn look<R: Replica>(
     field: &Field,
     seed: u64,
     events: Vec<Event>,
-) -> Result<Option<Found>, AllocError> {
+) -> Result<Option<Found>, NoMemory> {
     match examined::<R>(alloc, field, events.as_slice())? {
         Verdict::Same => Ok(None),
         Verdict::Stuck => Ok(Some(stuck(alloc, field, seed, events.as_slice())?)),
@@ -93,7 +94,7 @@ fn look<R: Replica>(
 }
 
 /// A script that cannot be played.
-fn stuck(alloc: Global, field: &Field, seed: u64, events: &[Event]) -> Result<Found, AllocError> {
+fn stuck(alloc: Global, field: &Field, seed: u64, events: &[Event]) -> Result<Found, NoMemory> {
     let words = What::Stopped.words();
     Ok(Found {
         script: script(alloc, field.gateways, events)?,
@@ -102,7 +103,7 @@ fn stuck(alloc: Global, field: &Field, seed: u64, events: &[Event]) -> Result<Fo
 }
 
 /// A short script that differs, and what differs.
-fn describe(alloc: Global, field: &Field, seed: u64, short: &Short) -> Result<Found, AllocError> {
+fn describe(alloc: Global, field: &Field, seed: u64, short: &Short) -> Result<Found, NoMemory> {
     let Difference { at, gateway, what } = short.difference;
     let mut front = Vec::new(alloc);
     let until = at.saturating_add(1).min(short.all.len());

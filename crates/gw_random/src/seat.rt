@@ -1,11 +1,12 @@
 //! What a gateway must show by the definitions.
 
 use super::drive::Drive;
+use octets::NoMemory;
 use rep_model::{ClientView, Replica, TakeFault};
 use rep_ops::{ClientId, Delta, Op, Put};
 use rep_plain::Plain;
 use rep_same::{same_client, same_put, same_view};
-use std::alloc::{AllocError, Global};
+use std::alloc::Global;
 
 /// What a gateway must show: the views of the set that it has made and taken.
 #[derive(Drop)]
@@ -24,9 +25,9 @@ pub(crate) struct Seat {
 
 impl Seat {
     /// A gateway that has made and taken nothing.
-    pub(crate) fn empty(alloc: Global) -> Result<Seat, AllocError> {
+    pub(crate) fn empty(alloc: Global) -> Result<Seat, NoMemory> {
         let Ok(plain) = Plain::empty(alloc) else {
-            return Err(AllocError);
+            return Err(NoMemory);
         };
         Ok(Seat {
             plain,
@@ -38,13 +39,13 @@ impl Seat {
     }
 
     /// Takes a delta. False where it does not fit.
-    pub(crate) fn take(&mut self, alloc: Global, delta: &Delta) -> Result<bool, AllocError> {
+    pub(crate) fn take(&mut self, alloc: Global, delta: &Delta) -> Result<bool, NoMemory> {
         match self.plain.prepare(alloc, delta) {
             Ok(staged) => {
                 self.plain.commit(staged);
                 Ok(true)
             }
-            Err(TakeFault::Memory) => Err(AllocError),
+            Err(TakeFault::Memory) => Err(NoMemory),
             Err(_) => Ok(false),
         }
     }
@@ -54,9 +55,9 @@ impl Seat {
         &self,
         alloc: Global,
         views: &[(ClientId, ClientView)],
-    ) -> Result<bool, AllocError> {
+    ) -> Result<bool, NoMemory> {
         let Ok(clients) = self.plain.clients(alloc) else {
-            return Err(AllocError);
+            return Err(NoMemory);
         };
         if clients.len() != views.len() {
             return Ok(false);

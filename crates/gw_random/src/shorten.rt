@@ -5,8 +5,9 @@ use super::exchange::with_exchange;
 use super::field::{Field, added};
 use super::judge::{Difference, What, judged};
 use gw_world::Event;
+use octets::NoMemory;
 use rep_model::Replica;
-use std::alloc::{AllocError, Global};
+use std::alloc::Global;
 
 /// How often all events are looked at.
 const PASSES: u8 = 4;
@@ -43,7 +44,7 @@ pub(crate) fn examined<R: Replica>(
     alloc: Global,
     field: &Field,
     events: &[Event],
-) -> Result<Verdict, AllocError> {
+) -> Result<Verdict, NoMemory> {
     let Some(all) = with_exchange::<R>(alloc, field, events)? else {
         return Ok(Verdict::Stuck);
     };
@@ -82,7 +83,7 @@ pub(crate) fn shortened<R: Replica>(
     script: Vec<Event>,
     all: Vec<Event>,
     difference: Difference,
-) -> Result<Short, AllocError> {
+) -> Result<Short, NoMemory> {
     let mut events = script;
     events.truncate(difference.at.saturating_add(1));
     let mut short = Short {
@@ -101,7 +102,7 @@ pub(crate) fn shortened<R: Replica>(
 }
 
 /// Leaves out each event once, where the script still differs without it.
-fn pass<R: Replica>(alloc: Global, field: &Field, short: &mut Short) -> Result<(), AllocError> {
+fn pass<R: Replica>(alloc: Global, field: &Field, short: &mut Short) -> Result<(), NoMemory> {
     let counts = counts::<R>(alloc, field, short.events.as_slice())?;
     for (index, (first, count)) in counts.as_slice().iter().enumerate().rev() {
         let is_left_out = leave_out::<R>(alloc, field, short, index, *first, *count)?;
@@ -117,7 +118,7 @@ fn counts<R: Replica>(
     alloc: Global,
     field: &Field,
     events: &[Event],
-) -> Result<Vec<(u64, u64)>, AllocError> {
+) -> Result<Vec<(u64, u64)>, NoMemory> {
     let mut counts = Vec::new(alloc);
     let mut listed = 0u64;
     let Some(played) = field.play::<R>(alloc, events)? else {
@@ -139,7 +140,7 @@ fn leave_out<R: Replica>(
     index: usize,
     first: u64,
     count: u64,
-) -> Result<bool, AllocError> {
+) -> Result<bool, NoMemory> {
     let mut fewer = without(alloc, short.events.as_slice(), index, first, count)?;
     let verdict = examined::<R>(alloc, field, fewer.as_slice())?;
     let Verdict::Differs { events, difference } = verdict else {
@@ -165,7 +166,7 @@ fn without(
     index: usize,
     first: u64,
     count: u64,
-) -> Result<Vec<Event>, AllocError> {
+) -> Result<Vec<Event>, NoMemory> {
     let mut made = Vec::new(alloc);
     for (at, event) in events.iter().enumerate() {
         if at != index {
@@ -182,7 +183,7 @@ fn push_moved(
     event: &Event,
     first: u64,
     count: u64,
-) -> Result<(), AllocError> {
+) -> Result<(), NoMemory> {
     match event {
         Event::Take { gateway, delta } => {
             if *delta > first.saturating_add(count) {

@@ -57,7 +57,7 @@ pub(crate) fn say_answer<S: Drop>(
     deltas: &[Delta],
 ) -> Result<(), End> {
     for delta in deltas {
-        let Ok(delta) = delta.copy(alloc) else {
+        let Ok(delta) = delta.copied(alloc) else {
             return Err(End::Memory);
         };
         say(alloc, link, &LinkMessage::Delta(delta))?;

@@ -1,15 +1,14 @@
 //! The deltas that calls made.
 
-ghost use Rattle.std.specs.Prelude.{◌≡◌, ◌+◌, ◌<◌, ◌^◌, ◌++◌, ◌∷◌, [], List, IfOk, IfErr, MatchOption, None, Some, length, take};
+ghost use Rattle.std.specs.Prelude.{◌≡◌, ◌+◌, ◌<◌, ◌^◌, ◌++◌, ◌∷◌, [], List, IfOk, MatchOption, None, Some, length, take};
 ghost use Rattle.std.specs.Arc.{arc_value};
 ghost use Rattle.rep_ops.specs.declared.op.Op.{Op};
 ghost use Rattle.gw_node.specs.Parts.{said};
 ghost use Rattle.gw_shift.specs.inner.Passes.{made_of, made_after, told_by};
-ghost use Rattle.gw_shift.specs.declared.fault.CallFault.TheVariants.{Memory as NoMemory};
 
 use super::entry::Entry;
-use super::fault::CallFault;
 use gw_node::{Answer, Out};
+use octets::NoMemory;
 use rep_ops::Delta;
 use std::alloc::Global;
 use std::sync::Arc;
@@ -36,10 +35,9 @@ pub(crate) fn shares(
     entries: &[Entry],
     before: u64,
     max: usize,
-) -> Result<Vec<(u64, Arc<Out>)>, CallFault>
+) -> Result<Vec<(u64, Arc<Out>)>, NoMemory>
     requires { before + length entries.now < 2 ^ 64 }
-    ensures ok { IfOk result (λ all. told_by all.items ≡ take max (made_after before entries.now)) }
-    ensures err { IfErr result (λ fault. fault ≡ NoMemory) }
+    ensures { IfOk result (λ all. told_by all.items ≡ take max (made_after before entries.now)) }
 {
     let mut all = Vec::new(alloc);
     let mut number = before;
@@ -66,17 +64,14 @@ pub(crate) fn shares(
 pub(crate) fn copies(
     alloc: Global,
     shares: &[(u64, Arc<Out>)],
-) -> Result<Vec<(u64, Delta)>, CallFault>
-    ensures ok { IfOk result (λ all. all.items ≡ told_by shares.now) }
-    ensures err { IfErr result (λ fault. fault ≡ NoMemory) }
+) -> Result<Vec<(u64, Delta)>, NoMemory>
+    ensures { IfOk result (λ all. all.items ≡ told_by shares.now) }
 {
     let mut all = Vec::new(alloc);
     let mut left = shares;
     'shares: while let Some((share, rest)) = left.split_first() {
         if let Some(delta) = share.1.made.as_ref() {
-            let Ok(delta) = delta.copy(alloc) else {
-                return Err(CallFault::Memory);
-            };
+            let delta = delta.copied(alloc)?;
             all.reserve(1)?;
             all.push_reserved((share.0, delta));
         }

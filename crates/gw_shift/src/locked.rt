@@ -102,12 +102,9 @@ impl<R: Replica, D: Disk + Drop> Locked<R, D> {
         if number >= had {
             return Ok(Vec::new(alloc));
         }
-        shares(
-            alloc,
-            &self.history.as_slice()[number as usize..],
-            number,
-            max,
-        )
+        let behind = &self.history.as_slice()[number as usize..];
+        let found = shares(alloc, behind, number, max)?;
+        Ok(found)
     }
 
     /// The shift is over, and all of it comes back.

@@ -143,7 +143,7 @@ impl<R: Replica, D: Disk + Drop> Shift<R, D> {
     {
         let found = self.locked.lock(rt).made_above(alloc, pass, number, max);
         match found {
-            Ok(shares) => copies(alloc, shares.as_slice()),
+            Ok(shares) => Ok(copies(alloc, shares.as_slice())?),
             Err(fault) => Err(fault),
         }
     }

@@ -344,7 +344,7 @@ fn view_of<R: Replica>(
 {
     match node.view(alloc, client) {
         Ok(out) => match &out.view {
-            Some(view) => Ok(view.copy(alloc)?),
+            Some(view) => Ok(view.copied(alloc)?),
             None => Err(WorldFault::Memory),
         },
         Err(_) => Err(WorldFault::Memory),

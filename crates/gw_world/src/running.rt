@@ -35,7 +35,7 @@ fn record(alloc: Global, deltas: &mut Vec<Delta>, delta: &Delta) -> Result<(), W
     ensures err { IfErr result (λ fault. fault ≡ WorldFault.Memory) }
 {
     let _ops = delta.ops();
-    deltas.push(delta.copy(alloc)?)?;
+    deltas.push(delta.copied(alloc)?)?;
     Ok(())
 }
 
@@ -346,7 +346,7 @@ fn new_node<R: Replica>(alloc: Global, config: &Config) -> Result<Node<R, Memory
     ensures calm { IfOk result (λ node. IsCalm (state_of R.kept node)) }
     ensures err { IfErr result (λ fault. fault ≡ WorldFault.Memory) }
 {
-    match Node::open(alloc, config.copy(alloc)?, MemoryDisk::new(alloc)) {
+    match Node::open(alloc, config.copied(alloc)?, MemoryDisk::new(alloc)) {
         Ok(node) => {
             if node.starved() {
                 return Err(WorldFault::Memory);

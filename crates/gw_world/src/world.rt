@@ -5,7 +5,7 @@ ghost use Rattle.gw_world.specs.Faults.{fault_number};
 ghost use Rattle.gw_world.specs.declared.world.WorldFault.TheVariants.{Memory};
 
 use super::event::Answer;
-use octets::Sequence;
+use octets::{NoMemory, Sequence};
 use rep_ops::{Delta, OpsFault};
 use sn_flow::StepFault;
 use std::alloc::{AllocError, AllocFailed};
@@ -58,26 +58,18 @@ impl From<AllocError> for WorldFault {
     }
 }
 
+impl From<NoMemory> for WorldFault {
+    ghost from_gives = { λ _ e. e ≡ Memory };
+
+    fn from(_error: NoMemory) -> WorldFault {
+        WorldFault::Memory
+    }
+}
+
 impl<T: Drop> From<AllocFailed<T>> for WorldFault {
     ghost from_gives = { λ _ e. e ≡ Memory };
 
     fn from(_error: AllocFailed<T>) -> WorldFault {
-        WorldFault::Memory
-    }
-}
-
-impl From<OpsFault> for WorldFault {
-    ghost from_gives = { λ _ e. e ≡ Memory };
-
-    fn from(_error: OpsFault) -> WorldFault {
-        WorldFault::Memory
-    }
-}
-
-impl From<StepFault> for WorldFault {
-    ghost from_gives = { λ _ e. e ≡ Memory };
-
-    fn from(_error: StepFault) -> WorldFault {
         WorldFault::Memory
     }
 }

@@ -1,6 +1,6 @@
 -- The pieces of a slot: one of them, and one behind the other.
 use Rattle.std.proofs.Common.{◌≡◌, ℕ, zero, suc, ◌+◌, ◌≤◌, Bool, true, false, cond, List, [], ◌∷◌, length, take, drop, Result, Ok, Err, refl, sym, ap, ◌∙◌, inl, inr, arith}
-use Rattle.std.specs.Prelude.{nat_lt, ◌==◌, IfOk, IfErr}
+use Rattle.std.specs.Prelude.{nat_lt, ◌==◌, IfSome}
 use Rattle.std.specs.Int.{w32, from_be_bytes}
 use Rattle.std.proofs.lemmas.Bool.{cases_Bool, ltb-false, le-ltb}
 use Rattle.std.proofs.lemmas.List.{take-take, length-drop, drop-take}
@@ -9,7 +9,6 @@ use Rattle.rep_ops.specs.declared.fault.OpsFault.{OpsFault}
 use Rattle.rep_ops.specs.declared.fault.OpsFault.TheVariants as faults
 use Rattle.rep_ops.specs.Reading.{reading, Fails}
 use Rattle.rep_ops.specs.Spelling.{max_octets}
-use Rattle.jr_journal.specs.declared.fault.JournalFault.TheVariants.{Memory}
 use Rattle.jr_journal.specs.declared.piece.Piece.TheVariants.{Whole, Seal, Torn, Bad}
 use Rattle.jr_journal.specs.Records.{whole_if, delta_piece, body_at, record_at, piece_at, ended, joined, one_record, one_seal, found}
 use Rattle.jr_journal.specs.inner.Records.{refusal}
@@ -24,7 +23,7 @@ bad_piece : (size : ℕ) (rest : List ℕ) (fault : OpsFault) → reading (take 
 unfolding delta_piece
 bad_piece size rest fault e = sym (ap (λ (r : Result (List Op) OpsFault). whole_if r size) e)
 
-pub refused_piece : (fault : OpsFault) (size : ℕ) (rest : List ℕ) → Fails fault (reading (take size rest)) → IfOk (refusal fault) (λ piece. piece ≡ delta_piece size rest)
+pub refused_piece : (fault : OpsFault) (size : ℕ) (rest : List ℕ) → Fails fault (reading (take size rest)) → IfSome (refusal fault) (λ piece. piece ≡ delta_piece size rest)
 refused_piece faults.Twice size rest h = bad_piece size rest faults.Twice h
 refused_piece faults.Limit size rest h = bad_piece size rest faults.Limit h
 refused_piece faults.Memory size rest h = tt
@@ -33,16 +32,6 @@ refused_piece faults.Version size rest h = bad_piece size rest faults.Version h
 refused_piece faults.Kind size rest h = bad_piece size rest faults.Kind h
 refused_piece faults.Order size rest h = bad_piece size rest faults.Order h
 refused_piece faults.Trailing size rest h = bad_piece size rest faults.Trailing h
-
-pub refused_fault : (fault : OpsFault) → IfErr (refusal fault) (λ fault. fault ≡ Memory)
-refused_fault faults.Twice = tt
-refused_fault faults.Limit = tt
-refused_fault faults.Memory = refl
-refused_fault faults.Truncated = tt
-refused_fault faults.Version = tt
-refused_fault faults.Kind = tt
-refused_fault faults.Order = tt
-refused_fault faults.Trailing = tt
 
 delta_shape : (r : Result (List Op) OpsFault) (size : ℕ) (delta : List Op) (n : ℕ) → whole_if r size ≡ Whole delta n → (r ≡ Ok delta) × (size ≡ n)
 delta_shape (Ok d) size delta n e = (cc, cc)

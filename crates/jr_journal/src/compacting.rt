@@ -12,7 +12,7 @@ use crate::disk::{Disk, Slot};
 use crate::fault::JournalFault;
 use crate::piece::SEAL;
 use crate::record::record_of;
-use octets::append_u64;
+use octets::{NoMemory, append_u64};
 use rep_ops::Delta;
 use std::alloc::Global;
 
@@ -27,9 +27,8 @@ pub(crate) fn other(slot: Slot) -> Slot
 }
 
 /// The header of a slot.
-fn header_of(alloc: Global, gateway: u8, generation: u64) -> Result<Vec<u8>, JournalFault>
-    ensures ok { IfOk result (λ bytes. bytes.items ≡ header gateway generation) }
-    ensures err { IfErr result (λ fault. fault ≡ JournalFault.Memory) }
+fn header_of(alloc: Global, gateway: u8, generation: u64) -> Result<Vec<u8>, NoMemory>
+    ensures { IfOk result (λ bytes. bytes.items ≡ header gateway generation) }
 {
     let magic = [MAGIC[0], MAGIC[1], MAGIC[2], MAGIC[3], gateway];
     let mut bytes = Vec::from_slice(alloc, &magic)?;
@@ -43,10 +42,9 @@ pub(crate) fn base_of(
     gateway: u8,
     generation: u64,
     base: &[Delta],
-) -> Result<Vec<u8>, JournalFault>
+) -> Result<Vec<u8>, NoMemory>
     ensures ok { IfOk result (λ bytes. bytes.items ≡ base_bytes gateway generation base.now) }
     ensures readable { OnOk result (AllByRecursion IsReadable base.now) }
-    ensures err { IfErr result (λ fault. fault ≡ JournalFault.Memory) }
 {
     let mut bytes = header_of(alloc, gateway, generation)?;
     for delta in base {

@@ -1,12 +1,11 @@
 //! What a slot is.
 
-ghost use Rattle.std.specs.Prelude.{◌≡◌, ◌≤◌, ◌<◌, ◌+◌, ◌^◌, length, take, drop, min, IfOk, IfErr, IfNone, IfSome};
+ghost use Rattle.std.specs.Prelude.{◌≡◌, ◌≤◌, ◌<◌, ◌+◌, ◌^◌, length, take, drop, min, IfOk, IfNone, IfSome};
 ghost use Rattle.std.specs.Int.{w64, from_be_bytes};
 ghost use Rattle.jr_journal.specs.Records.{begins as begins_test, after_header, slot_content};
 
-use crate::fault::JournalFault;
 use crate::piece::{Found, read_pieces};
-use octets::read_u64;
+use octets::{NoMemory, read_u64};
 use std::alloc::Global;
 
 /// The bytes with which a header begins, before the number of the gateway.
@@ -67,9 +66,8 @@ pub(crate) fn read_content(
     alloc: Global,
     gateway: u8,
     bytes: &[u8],
-) -> Result<SlotContent, JournalFault>
-    ensures ok { IfOk result (λ content. content ≡ slot_content gateway bytes.now) }
-    ensures err { IfErr result (λ fault. fault ≡ JournalFault.Memory) }
+) -> Result<SlotContent, NoMemory>
+    ensures { IfOk result (λ content. content ≡ slot_content gateway bytes.now) }
 {
     if !begins(gateway, bytes) {
         return Ok(SlotContent::Alien);

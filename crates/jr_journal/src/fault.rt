@@ -5,6 +5,7 @@ ghost use Rattle.jr_journal.specs.Faults.{fault_number};
 ghost use Rattle.jr_journal.specs.declared.fault.JournalFault.TheVariants.{Memory};
 
 use crate::disk::Slot;
+use octets::NoMemory;
 use std::alloc::{AllocError, AllocFailed};
 use thiserror::Error;
 
@@ -47,6 +48,14 @@ impl From<AllocError> for JournalFault {
     ghost from_gives = { λ _ e. e ≡ Memory };
 
     fn from(_error: AllocError) -> JournalFault {
+        JournalFault::Memory
+    }
+}
+
+impl From<NoMemory> for JournalFault {
+    ghost from_gives = { λ _ e. e ≡ Memory };
+
+    fn from(_error: NoMemory) -> JournalFault {
         JournalFault::Memory
     }
 }

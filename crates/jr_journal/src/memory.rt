@@ -1,6 +1,6 @@
 //! A disk in memory.
 
-ghost use Rattle.std.specs.Prelude.{Some, ◌≡◌, ◌≤◌, ℕ, ◌+◌, Bool, true, ◌++◌, min, length, take, OnOk, OnErr, IfOk, IfErr, IsOk, IsErr};
+ghost use Rattle.std.specs.Prelude.{Some, ◌≡◌, ◌≤◌, ℕ, ◌+◌, Bool, true, ◌++◌, min, length, take, OnOk, OnErr, IfOk, IsOk, IsErr};
 
 use crate::disk::{Disk, DiskFault, Plan, Short, Slot};
 use crate::failures::Failures;

@@ -1,12 +1,11 @@
 //! What stands in a slot behind its header: records and a seal.
 
-ghost use Rattle.std.specs.Prelude.{◌≡◌, ◌≤◌, ◌<◌, ◌+◌, false, length, take, drop, IfOk, IfErr, IfNone, IfSome};
+ghost use Rattle.std.specs.Prelude.{◌≡◌, ◌≤◌, ◌<◌, ◌+◌, false, length, take, drop, IfOk, IfNone, IfSome};
 ghost use Rattle.std.specs.Int.{w32, from_be_bytes};
 ghost use Rattle.jr_journal.specs.Records.{delta_piece, body_at, record_at, piece_at, made, found};
 ghost use Rattle.jr_journal.specs.inner.Records.{refusal};
 
-use crate::fault::JournalFault;
-use octets::{Sequence, read_u32};
+use octets::{NoMemory, Sequence, read_u32};
 use rep_ops::{Delta, MAX_OCTETS, OpsFault};
 use std::alloc::Global;
 
@@ -42,39 +41,40 @@ pub struct Found {
     pub bad: bool,
 }
 
-/// What a refused delta stands for.
-fn refused(fault: OpsFault) -> Result<Piece, JournalFault>
+/// What a refused delta stands for; nothing where memory ran out.
+fn refused(fault: OpsFault) -> Option<Piece>
     ensures { result ≡ refusal fault }
 {
     match fault {
-        OpsFault::Memory => Err(JournalFault::Memory),
+        OpsFault::Memory => None,
         OpsFault::Twice
         | OpsFault::Limit
         | OpsFault::Truncated
         | OpsFault::Version
         | OpsFault::Kind
         | OpsFault::Order
-        | OpsFault::Trailing => Ok(Piece::Bad),
+        | OpsFault::Trailing => Some(Piece::Bad),
     }
 }
 
 /// The delta of so many bytes, of which there are enough.
-#[tactic(auto, using(crate::proofs::Pieces::refused_piece, crate::proofs::Pieces::refused_fault, crate::proofs::Pieces::whole_piece))]
-fn read_delta(alloc: Global, size: usize, rest: &[u8]) -> Result<Piece, JournalFault>
+#[tactic(auto, using(crate::proofs::Pieces::refused_piece, crate::proofs::Pieces::whole_piece))]
+fn read_delta(alloc: Global, size: usize, rest: &[u8]) -> Result<Piece, NoMemory>
     requires { size ≤ length rest.now }
-    ensures ok { IfOk result (λ piece. piece ≡ delta_piece size rest.now) }
-    ensures err { IfErr result (λ fault. fault ≡ JournalFault.Memory) }
+    ensures { IfOk result (λ piece. piece ≡ delta_piece size rest.now) }
 {
     match Delta::decode(alloc, &rest[..size]) {
         Ok(delta) => Ok(Piece::Whole { delta, size }),
-        Err(fault) => refused(fault),
+        Err(fault) => match refused(fault) {
+            Some(piece) => Ok(piece),
+            None => Err(NoMemory),
+        },
     }
 }
 
 /// So many bytes should be a delta.
-fn read_body(alloc: Global, size: usize, rest: &[u8]) -> Result<Piece, JournalFault>
-    ensures ok { IfOk result (λ piece. piece ≡ body_at size rest.now) }
-    ensures err { IfErr result (λ fault. fault ≡ JournalFault.Memory) }
+fn read_body(alloc: Global, size: usize, rest: &[u8]) -> Result<Piece, NoMemory>
+    ensures { IfOk result (λ piece. piece ≡ body_at size rest.now) }
 {
     if size > MAX_OCTETS {
         return Ok(Piece::Bad);
@@ -95,9 +95,8 @@ fn read_length(bytes: &[u8]) -> Option<(u32, &[u8])>
 }
 
 /// A record, behind its tag.
-fn read_record(alloc: Global, rest: &[u8]) -> Result<Piece, JournalFault>
-    ensures ok { IfOk result (λ piece. piece ≡ record_at rest.now) }
-    ensures err { IfErr result (λ fault. fault ≡ JournalFault.Memory) }
+fn read_record(alloc: Global, rest: &[u8]) -> Result<Piece, NoMemory>
+    ensures { IfOk result (λ piece. piece ≡ record_at rest.now) }
 {
     match read_length(rest) {
         None => Ok(Piece::Torn),
@@ -107,9 +106,8 @@ fn read_record(alloc: Global, rest: &[u8]) -> Result<Piece, JournalFault>
 
 /// The piece that begins with this byte.
 #[tactic(auto, unfolding(crate::specs::Records::piece_at))]
-fn read_piece(alloc: Global, tag: u8, rest: &[u8]) -> Result<Piece, JournalFault>
-    ensures ok { IfOk result (λ piece. piece ≡ piece_at tag rest.now) }
-    ensures err { IfErr result (λ fault. fault ≡ JournalFault.Memory) }
+fn read_piece(alloc: Global, tag: u8, rest: &[u8]) -> Result<Piece, NoMemory>
+    ensures { IfOk result (λ piece. piece ≡ piece_at tag rest.now) }
 {
     match tag {
         RECORD => read_record(alloc, rest),
@@ -139,10 +137,9 @@ fn found_until(deltas: Sequence<Delta>, sealed: bool, whole: usize, bad: bool) -
 }
 
 /// The whole pieces of a slot, behind its header.
-pub(crate) fn read_pieces(alloc: Global, bytes: &[u8]) -> Result<Found, JournalFault>
+pub(crate) fn read_pieces(alloc: Global, bytes: &[u8]) -> Result<Found, NoMemory>
     ensures ok { IfOk result (λ f. f ≡ found 0 false bytes.now) }
     ensures inside { IfOk result (λ f. f.whole ≤ length bytes.now) }
-    ensures err { IfErr result (λ fault. fault ≡ JournalFault.Memory) }
 {
     let mut deltas = Sequence::empty(alloc);
     let mut sealed = false;

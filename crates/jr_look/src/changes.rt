@@ -2,9 +2,8 @@
 
 use crate::clients::{exchange, session, will};
 use crate::shown::{message, name};
-use octets::Octets;
 use rep_ops::{Op, Put};
-use sn_session::{Outbound, Presence, SessionOp, WillTopic};
+use sn_session::{Message, Outbound, Presence, SessionOp, WillTopic};
 use std::alloc::{AllocError, Global};
 
 /// The lines of an operation.
@@ -72,7 +71,7 @@ fn session_change(alloc: Global, text: &mut String, change: &SessionOp) -> Resul
         SessionOp::Subscribe { filter, qos } => subscribed(alloc, text, filter.bytes(), *qos),
         SessionOp::Unsubscribe { filter } => unsubscribed(alloc, text, filter.bytes()),
         SessionOp::WillTopic(topic) => will_topic(alloc, text, topic),
-        SessionOp::WillMsg(octets) => will_message(alloc, text, octets),
+        SessionOp::WillMsg(message) => will_message(alloc, text, message),
         SessionOp::Received { id } => {
             let id = *id;
             writeln!(text, "message id {id} was received")
@@ -145,8 +144,8 @@ fn will_topic(
 }
 
 /// The will has another message.
-fn will_message(alloc: Global, text: &mut String, octets: &Octets) -> Result<(), AllocError> {
-    let body = message(alloc, octets.as_slice())?;
+fn will_message(alloc: Global, text: &mut String, said: &Message) -> Result<(), AllocError> {
+    let body = message(alloc, said.as_slice())?;
     writeln!(text, "the will's message is {body}")
 }
 

@@ -3,9 +3,8 @@
 use crate::changes::presence_word;
 use crate::clients::phase_word;
 use crate::shown::quoted;
-use octets::Octets;
 use rep_ops::{Op, Put};
-use sn_session::{Outbound, Presence, Session, SessionOp, Will, WillTopic};
+use sn_session::{Message, Outbound, Presence, Session, SessionOp, Will, WillTopic};
 use sn_topic::{Filter, TopicName};
 use std::alloc::{AllocError, Global};
 
@@ -89,7 +88,7 @@ fn session_change(alloc: Global, text: &mut String, change: &SessionOp) -> Resul
         }
         SessionOp::Unsubscribe { filter } => unsubscribed(alloc, text, filter),
         SessionOp::WillTopic(topic) => will_topic(alloc, text, topic),
-        SessionOp::WillMsg(octets) => will_message(alloc, text, octets),
+        SessionOp::WillMsg(message) => will_message(alloc, text, message),
         SessionOp::Received { id } => {
             let id = *id;
             write!(text, "\"received\",\"id\":{id}")
@@ -161,8 +160,8 @@ fn will_topic(
 }
 
 /// The will has another message.
-fn will_message(alloc: Global, text: &mut String, octets: &Octets) -> Result<(), AllocError> {
-    let body = quoted(alloc, octets.as_slice())?;
+fn will_message(alloc: Global, text: &mut String, message: &Message) -> Result<(), AllocError> {
+    let body = quoted(alloc, message.as_slice())?;
     write!(text, "\"will_message\",\"message\":{body}")
 }
 

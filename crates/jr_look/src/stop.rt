@@ -1,5 +1,6 @@
 //! Why the program has nothing to show.
 
+use octets::NoMemory;
 use std::alloc::AllocError;
 use thiserror::Error;
 
@@ -25,6 +26,12 @@ pub enum Stop {
 
 impl From<AllocError> for Stop {
     fn from(_error: AllocError) -> Stop {
+        Stop::Memory
+    }
+}
+
+impl From<NoMemory> for Stop {
+    fn from(_error: NoMemory) -> Stop {
         Stop::Memory
     }
 }

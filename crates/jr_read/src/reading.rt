@@ -11,7 +11,7 @@ ghost use Rattle.jr_read.specs.Places.{slots_of, octets_in, ArePlaced, IsTold};
 
 use super::places::{HEADER, Place, places_of};
 use jr_journal::{Disk, Journal, JournalFault, MemoryDisk, Slot};
-use octets::read_u64;
+use octets::{NoMemory, read_u64};
 use rep_ops::Delta;
 use std::alloc::Global;
 
@@ -71,16 +71,15 @@ fn read_generation(octets: &[u8]) -> Option<(u64, &[u8])>
 }
 
 /// A disk in memory with these octets in its slots.
-fn disk_of(alloc: Global, first: &[u8], second: &[u8]) -> Result<MemoryDisk, JournalFault>
-    ensures ok { IfOk result (λ disk. image disk.slots ≡ slots_of first.now second.now) }
-    ensures err { IfErr result (λ fault. fault ≡ JournalFault.Memory) }
+fn disk_of(alloc: Global, first: &[u8], second: &[u8]) -> Result<MemoryDisk, NoMemory>
+    ensures { IfOk result (λ disk. image disk.slots ≡ slots_of first.now second.now) }
 {
     let mut disk = MemoryDisk::new(alloc);
     if disk.append(Slot::First, first).is_err() {
-        return Err(JournalFault::Memory);
+        return Err(NoMemory);
     }
     if disk.append(Slot::Second, second).is_err() {
-        return Err(JournalFault::Memory);
+        return Err(NoMemory);
     }
     Ok(disk)
 }

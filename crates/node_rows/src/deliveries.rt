@@ -10,7 +10,7 @@ use jr_journal::MemoryDisk;
 use octets::Octets;
 use rep_model::{ClientView, Replica};
 use rep_ops::Put;
-use sn_deliver::{Meant, Peer, acknowledge, publication_meant, pubrel, then_deliver, then_resend};
+use sn_deliver::{Meant, Peer, acknowledge, pubrel, then_deliver, then_resend, topic_meant};
 use sn_flow::{Addr, Draft};
 use sn_frame::{Flags, Frame, decode};
 use sn_session::Session;
@@ -120,8 +120,7 @@ fn meaning(alloc: Global, text: &mut String, session: &Session, bytes: &[u8]) ->
         u16::from(*high) * 256 + u16::from(*low),
     );
     let predefined = no_predefined(alloc)?;
-    let body = Octets::from_slice(alloc, &[])?;
-    match publication_meant(alloc, &predefined, session, flags, topic, &body) {
+    match topic_meant(alloc, &predefined, session, flags.kind(), topic) {
         Ok(meant) => print_meant(alloc, text, &meant),
         Err(_) => Err(Stop::Memory),
     }

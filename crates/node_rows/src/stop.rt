@@ -1,5 +1,6 @@
 //! Why a line is not played.
 
+use octets::NoMemory;
 use std::alloc::{AllocError, AllocFailed};
 use thiserror::Error;
 
@@ -16,6 +17,12 @@ pub(crate) enum Stop {
 
 impl From<AllocError> for Stop {
     fn from(_error: AllocError) -> Stop {
+        Stop::Memory
+    }
+}
+
+impl From<NoMemory> for Stop {
+    fn from(_error: NoMemory) -> Stop {
         Stop::Memory
     }
 }

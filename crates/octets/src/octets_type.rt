@@ -2,7 +2,8 @@
 
 ghost use Rattle.std.specs.Prelude.{◌≡◌, ℕ, List, length, IfOk, IsTrue, ◌↔◌, nat_eq, ◌==◌};
 
-use std::alloc::{AllocError, Global};
+use super::memory::NoMemory;
+use std::alloc::Global;
 use std::cmp::Ordering;
 use std::marker::Model;
 use std::sync::ArcSlice;
@@ -24,7 +25,7 @@ impl Model for Octets {
 
 impl Octets {
     /// The octet string of these octets.
-    pub fn new(octets: Vec<u8>) -> Result<Octets, AllocError>
+    pub fn new(octets: Vec<u8>) -> Result<Octets, NoMemory>
         ensures { IfOk result (λ made. made ≡ octets.items) }
     {
         let items = ArcSlice::from_vec(octets)?;
@@ -32,7 +33,7 @@ impl Octets {
     }
 
     /// A copy of these octets.
-    pub fn from_slice(alloc: Global, octets: &[u8]) -> Result<Octets, AllocError>
+    pub fn from_slice(alloc: Global, octets: &[u8]) -> Result<Octets, NoMemory>
         ensures { IfOk result (λ made. made ≡ octets.now) }
     {
         Octets::new(Vec::from_slice(alloc, octets)?)
@@ -60,7 +61,7 @@ impl Octets {
     }
 
     /// An equal octet string, which shares the octets.
-    pub fn copy(&self, _alloc: Global) -> Result<Octets, AllocError>
+    pub fn copied(&self, _alloc: Global) -> Result<Octets, NoMemory>
         ensures { IfOk result (λ made. made ≡ self.now) }
     {
         let items = self.items.clone()?;

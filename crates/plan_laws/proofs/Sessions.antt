@@ -1,7 +1,5 @@
 -- Sessions whose values are in range stay so, and so the sessions of sets of well made operations are.
 use Rattle.std.proofs.Common.{◌≡◌, ℕ, Bool, true, false, cond, ◌&&◌, nat_le, if◌then◌else◌, List, [], ◌∷◌, map, filter, fold, length, Option, Some, None, IfSome, unwrap_or, refl, sym, ap, ◌∙◌, subst}
-use Rattle.std.specs.declared.cmp.Ordering.{Ordering}
-use Rattle.std.specs.declared.cmp.Ordering.TheVariants.{Less, Equal, Greater}
 use Rattle.std.specs.List.{AllByRecursion, list_all, find}
 use Rattle.std.proofs.lemmas.Bool.{and_parts, and_from}
 use Rattle.sn_session.specs.declared.session.Session.{Session}
@@ -11,7 +9,7 @@ use Rattle.sn_session.specs.declared.will.Will.{Will}
 use Rattle.sn_session.specs.declared.will.WillTopic.{WillTopic}
 use Rattle.sn_session.specs.declared.change.SessionOp.{SessionOp}
 use Rattle.sn_session.specs.declared.change.SessionOp.TheVariants.{Take, Presence as SetPresence, Register, Subscribe, Unsubscribe, WillTopic as SetWillTopic, WillMsg, Received, Released, Outbound as SetOutbound}
-use Rattle.sn_session.specs.Tables.{with_entry, by_order}
+use Rattle.sn_flow.proofs.Entered.{all-entered, all-filtered}
 use Rattle.sn_session.specs.Topics.{unknown, topic_cmp}
 use Rattle.sn_session.specs.Subscriptions.{subscription_cmp}
 use Rattle.sn_session.specs.Wills.{with_will_topic, with_will_message}
@@ -55,26 +53,6 @@ fine-to s f =
 -- ---- tables
 
 module _ {E : Type 0} (p : E → Bool) where
-  pub all-entered : (cmp : E → E → Ordering) (e : E) (xs : List E) → p e ≡ true → list_all p xs ≡ true → list_all p (with_entry cmp e xs) ≡ true
-  all-entered cmp e [] h all = and_from (p e) true h refl
-  all-entered cmp e (x ∷ xs) h all =
-      let parts = and_parts (p x) (list_all p xs) all in
-      elim (cmp e x) as (λ o. list_all p (by_order o (e ∷ x ∷ xs) (e ∷ xs) (x ∷ with_entry cmp e xs)) ≡ true) [
-        | Less ↦ and_from (p e) (list_all p (x ∷ xs)) h all
-        | Equal ↦ and_from (p e) (list_all p xs) h parts.1
-        | Greater ↦ and_from (p x) (list_all p (with_entry cmp e xs)) parts.0 (all-entered cmp e xs h parts.1)
-      ]
-
-  if_all : (b : Bool) (x : E) (xs : List E) → p x ≡ true → list_all p xs ≡ true → list_all p (cond b (x ∷ xs) xs) ≡ true
-  if_all true x xs h all = and_from (p x) (list_all p xs) h all
-  if_all false x xs h all = all
-
-  pub all-filtered : (test : E → Bool) (xs : List E) → list_all p xs ≡ true → list_all p (filter test xs) ≡ true
-  all-filtered test [] all = refl
-  all-filtered test (x ∷ xs) all =
-      let parts = and_parts (p x) (list_all p xs) all in
-      if_all (test x) x (filter test xs) parts.0 (all-filtered test xs parts.1)
-
   -- what is found is one of them
   pub all-found : (test : E → Bool) (xs : List E) → list_all p xs ≡ true → IfSome (find test xs) (λ x. p x ≡ true)
   all-found test [] all = tt

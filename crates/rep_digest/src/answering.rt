@@ -15,7 +15,7 @@ use super::cover::{
 };
 use super::digest::Digest;
 use super::entry::ClientEntry;
-use super::fault::NoMemory;
+use octets::NoMemory;
 use rep_model::Replica;
 use rep_ops::{ClientId, Delta, Op, OpsFault, deltas_of};
 use std::alloc::Global;
@@ -31,7 +31,7 @@ pub fn answer<R: Replica>(
     ensures err { IfErr result (λ fault. fault ≡ OpsFault.Memory) }
 {
     let ops = left_of_replica(alloc, replica, digest.entries())?;
-    deltas_of(alloc, ops)
+    Ok(deltas_of(alloc, ops)?)
 }
 
 /// What a digest leaves of the operations that a replica must keep.
@@ -44,7 +44,9 @@ fn left_of_replica<R: Replica>(
     ensures { IfOk result (λ ops. AreWellMade ops.items
         × IsLeft entries.now (R.kept replica.now) ops.items) }
 {
-    let held = replica.held(alloc)?;
+    let Ok(held) = replica.held(alloc) else {
+        return Err(NoMemory);
+    };
     left_of_deltas(alloc, entries, held.as_slice())
 }
 
@@ -94,7 +96,7 @@ fn add_left_of(
     ensures { OnOk result (left.new.items ≡ left.old.items ++ left_by entries.now op.now) }
 {
     match find_entry(entries, op.client()) {
-        None => Ok(left.push(op.copy(alloc)?)?),
+        None => Ok(left.push(op.copied(alloc)?)?),
         Some(entry) => add_left_by(alloc, left, entry, op),
     }
 }
@@ -113,12 +115,12 @@ fn add_left_by(
     match op {
         Op::Session { stamp, counter, .. } => {
             if !sees(entry, *stamp, *counter) {
-                left.push(op.copy(alloc)?)?;
+                left.push(op.copied(alloc)?)?;
             }
         }
         Op::Put { put, .. } => {
             if !covers(entry, put.origin, put.seq) {
-                left.push(op.copy(alloc)?)?;
+                left.push(op.copied(alloc)?)?;
             }
         }
         Op::Ack {
@@ -215,7 +217,7 @@ fn add_range(
     ensures { OnOk result (left.new.items ≡ left.old.items ++ ack_of client.now origin range ∷ []) }
 {
     left.push(Op::Ack {
-        client: client.copy(alloc)?,
+        client: client.copied(alloc)?,
         origin,
         first: range.0,
         last: range.1,

@@ -10,6 +10,7 @@ ghost use Rattle.rep_digest.specs.declared.entry.ClientEntry.{ClientEntry};
 use super::entry::ClientEntry;
 use super::read::read_digest;
 use super::write::write_digest;
+use octets::NoMemory;
 use rep_ops::OpsFault;
 use std::alloc::Global;
 use std::marker::Model;
@@ -45,10 +46,9 @@ impl Digest {
     }
 
     /// Appends the one spelling of the digest. On an error the vector is as it was.
-    pub fn encode(&self, _alloc: Global, out: &mut Vec<u8>) -> Result<(), OpsFault>
+    pub fn append_to(&self, out: &mut Vec<u8>) -> Result<(), NoMemory>
         ensures ok { OnOk result (out.new.items ≡ out.old.items ++ spelling self.now) }
         ensures err { OnErr result (out.new.items ≡ out.old.items) }
-        ensures memory { IfErr result (λ fault. fault ≡ OpsFault.Memory) }
     {
         let start = out.len();
         match write_digest(out, self.entries()) {
@@ -58,6 +58,15 @@ impl Digest {
                 Err(fault)
             }
         }
+    }
+
+    /// The same, where want of memory is a fault of operations.
+    pub fn encode(&self, _alloc: Global, out: &mut Vec<u8>) -> Result<(), OpsFault>
+        ensures ok { OnOk result (out.new.items ≡ out.old.items ++ spelling self.now) }
+        ensures err { OnErr result (out.new.items ≡ out.old.items) }
+        ensures memory { IfErr result (λ fault. fault ≡ OpsFault.Memory) }
+    {
+        Ok(self.append_to(out)?)
     }
 
     /// The digest that octets spell.

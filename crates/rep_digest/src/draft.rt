@@ -1,6 +1,6 @@
 //! What is said of a client, worked out of its view and its acknowledgements.
 
-ghost use Rattle.std.specs.Prelude.{◌≡◌, ◌+◌, ◌==◌, ◌&&◌, nat_le, ◌++◌, ◌∷◌, [], List, IfOk, IfErr, OnOk};
+ghost use Rattle.std.specs.Prelude.{◌≡◌, ◌+◌, ◌==◌, ◌&&◌, nat_le, ◌++◌, ◌∷◌, [], List, IfOk, OnOk};
 ghost use Rattle.rep_ops.specs.declared.op.Put.{Put};
 ghost use Rattle.rep_digest.specs.declared.groups.Acknowledged.{Acknowledged};
 ghost use Rattle.rep_digest.specs.inner.Steps.{with_number, drafted_origins, AreDrafted, drafted_entry};
@@ -8,9 +8,9 @@ ghost use Rattle.rep_digest.specs.inner.Steps.{with_number, drafted_origins, Are
 use super::entry::{ClientEntry, OriginEntry};
 use super::groups::Acknowledged;
 use super::origins::place;
-use octets::Sequence;
+use octets::{NoMemory, Sequence};
 use rep_model::ClientView;
-use rep_ops::{ClientId, OpsFault, Put};
+use rep_ops::{ClientId, Put};
 use std::alloc::Global;
 
 /// What is said of a client.
@@ -19,12 +19,11 @@ pub fn entry_of(
     client: &ClientId,
     view: &ClientView,
     acks: &[Acknowledged],
-) -> Result<ClientEntry, OpsFault>
-    ensures ok { IfOk result (λ entry. entry ≡ drafted_entry client.now view.now acks.now) }
-    ensures err { IfErr result (λ fault. fault ≡ OpsFault.Memory) }
+) -> Result<ClientEntry, NoMemory>
+    ensures { IfOk result (λ entry. entry ≡ drafted_entry client.now view.now acks.now) }
 {
     Ok(ClientEntry {
-        client: client.copy(alloc)?,
+        client: client.copied(alloc)?,
         stamp: view.stamp,
         prefix: view.prefix,
         origins: origins_of(alloc, acks, view.pending.as_slice())?,
@@ -36,9 +35,8 @@ fn origins_of(
     alloc: Global,
     acks: &[Acknowledged],
     pending: &[Put],
-) -> Result<Sequence<OriginEntry>, OpsFault>
-    ensures ok { IfOk result (λ origins. origins ≡ drafted_origins acks.now pending.now) }
-    ensures err { IfErr result (λ fault. fault ≡ OpsFault.Memory) }
+) -> Result<Sequence<OriginEntry>, NoMemory>
+    ensures { IfOk result (λ origins. origins ≡ drafted_origins acks.now pending.now) }
 {
     let mut origins = Vec::new(alloc);
     note_acknowledged(alloc, &mut origins, acks)?;
@@ -51,11 +49,10 @@ fn note_acknowledged(
     alloc: Global,
     origins: &mut Vec<OriginEntry>,
     acks: &[Acknowledged],
-) -> Result<(), OpsFault>
+) -> Result<(), NoMemory>
     requires { AreDrafted origins.old.items }
-    ensures ok { (A : List Acknowledged) (P : List Put) → origins.old.items ≡ drafted_origins A P
+    ensures { (A : List Acknowledged) (P : List Put) → origins.old.items ≡ drafted_origins A P
         → OnOk result (origins.new.items ≡ drafted_origins (A ++ acks.now) P) }
-    ensures err { IfErr result (λ fault. fault ≡ OpsFault.Memory) }
 {
     for range in acks {
         note_range(alloc, origins, *range)?;
@@ -68,11 +65,10 @@ fn note_waiting(
     alloc: Global,
     origins: &mut Vec<OriginEntry>,
     pending: &[Put],
-) -> Result<(), OpsFault>
+) -> Result<(), NoMemory>
     requires { AreDrafted origins.old.items }
-    ensures ok { (A : List Acknowledged) (P : List Put) → origins.old.items ≡ drafted_origins A P
+    ensures { (A : List Acknowledged) (P : List Put) → origins.old.items ≡ drafted_origins A P
         → OnOk result (origins.new.items ≡ drafted_origins A (P ++ pending.now)) }
-    ensures err { IfErr result (λ fault. fault ≡ OpsFault.Memory) }
 {
     for put in pending {
         note_put(alloc, origins, put)?;
@@ -85,11 +81,10 @@ fn note_range(
     alloc: Global,
     origins: &mut Vec<OriginEntry>,
     range: Acknowledged,
-) -> Result<(), OpsFault>
+) -> Result<(), NoMemory>
     requires { AreDrafted origins.old.items }
-    ensures ok { (A : List Acknowledged) (P : List Put) → origins.old.items ≡ drafted_origins A P
+    ensures { (A : List Acknowledged) (P : List Put) → origins.old.items ≡ drafted_origins A P
         → OnOk result (origins.new.items ≡ drafted_origins (A ++ range ∷ []) P) }
-    ensures err { IfErr result (λ fault. fault ≡ OpsFault.Memory) }
 {
     if !is_gateway(range.origin) {
         return Ok(());
@@ -113,11 +108,10 @@ fn note_range(
 }
 
 /// Puts the number of a message behind those of its origin. The time is logarithmic, but for an origin that is new.
-fn note_put(alloc: Global, origins: &mut Vec<OriginEntry>, put: &Put) -> Result<(), OpsFault>
+fn note_put(alloc: Global, origins: &mut Vec<OriginEntry>, put: &Put) -> Result<(), NoMemory>
     requires { AreDrafted origins.old.items }
-    ensures ok { (A : List Acknowledged) (P : List Put) → origins.old.items ≡ drafted_origins A P
+    ensures { (A : List Acknowledged) (P : List Put) → origins.old.items ≡ drafted_origins A P
         → OnOk result (origins.new.items ≡ drafted_origins A (P ++ put.now ∷ [])) }
-    ensures err { IfErr result (λ fault. fault ≡ OpsFault.Memory) }
 {
     if !is_gateway(put.origin) {
         return Ok(());
@@ -147,9 +141,8 @@ fn is_gateway(number: u8) -> bool
 }
 
 /// A range alone.
-fn one_range(alloc: Global, range: (u64, u64)) -> Result<Sequence<(u64, u64)>, OpsFault>
-    ensures ok { IfOk result (λ ranges. ranges ≡ range ∷ []) }
-    ensures err { IfErr result (λ fault. fault ≡ OpsFault.Memory) }
+fn one_range(alloc: Global, range: (u64, u64)) -> Result<Sequence<(u64, u64)>, NoMemory>
+    ensures { IfOk result (λ ranges. ranges ≡ range ∷ []) }
 {
     let mut ranges = Sequence::empty(alloc);
     ranges.push(range)?;
@@ -157,9 +150,8 @@ fn one_range(alloc: Global, range: (u64, u64)) -> Result<Sequence<(u64, u64)>, O
 }
 
 /// Puts a number behind the others: in the last range where it touches it.
-fn add_number(ranges: &mut Sequence<(u64, u64)>, number: u64) -> Result<(), OpsFault>
-    ensures ok { OnOk result (ranges.new ≡ with_number ranges.old number) }
-    ensures err { IfErr result (λ fault. fault ≡ OpsFault.Memory) }
+fn add_number(ranges: &mut Sequence<(u64, u64)>, number: u64) -> Result<(), NoMemory>
+    ensures { OnOk result (ranges.new ≡ with_number ranges.old number) }
 {
     let count = ranges.len();
     if count > 0 {

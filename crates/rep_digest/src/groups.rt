@@ -1,6 +1,6 @@
 //! The acknowledgements of each client.
 
-ghost use Rattle.std.specs.Prelude.{◌≡◌, ◌++◌, ◌∷◌, [], List, length, IfOk, IfErr, OnOk};
+ghost use Rattle.std.specs.Prelude.{◌≡◌, ◌++◌, ◌∷◌, [], List, length, IfOk, OnOk};
 ghost use Rattle.std.specs.List.Sorted.{IsStrictlySortedBy};
 ghost use Rattle.sn_session.specs.inner.Tables.{IsPlace};
 ghost use Rattle.rep_ops.specs.declared.op.Op.{Op};
@@ -9,8 +9,8 @@ ghost use Rattle.rep_ops.specs.Orders.{client_cmp};
 ghost use Rattle.rep_ops.specs.Splitting.{all_of};
 ghost use Rattle.rep_digest.specs.inner.Steps.{groups as all_groups};
 
-use octets::Sequence;
-use rep_ops::{ClientId, Delta, Op, OpsFault};
+use octets::{NoMemory, Sequence};
+use rep_ops::{ClientId, Delta, Op};
 use std::alloc::Global;
 
 /// The acknowledgements of the messages first to last of an origin.
@@ -26,10 +26,9 @@ pub fn acknowledgements(
     alloc: Global,
     clients: &[ClientId],
     deltas: &[Delta],
-) -> Result<Vec<Sequence<Acknowledged>>, OpsFault>
+) -> Result<Vec<Sequence<Acknowledged>>, NoMemory>
     requires { IsStrictlySortedBy client_cmp clients.now }
-    ensures ok { IfOk result (λ groups. groups.items ≡ all_groups clients.now (all_of deltas.now)) }
-    ensures err { IfErr result (λ fault. fault ≡ OpsFault.Memory) }
+    ensures { IfOk result (λ groups. groups.items ≡ all_groups clients.now (all_of deltas.now)) }
 {
     let mut groups = no_groups(alloc, clients)?;
     for delta in deltas {
@@ -39,9 +38,8 @@ pub fn acknowledgements(
 }
 
 /// No acknowledgement, for each client.
-fn no_groups(alloc: Global, clients: &[ClientId]) -> Result<Vec<Sequence<Acknowledged>>, OpsFault>
-    ensures ok { IfOk result (λ groups. groups.items ≡ all_groups clients.now []) }
-    ensures err { IfErr result (λ fault. fault ≡ OpsFault.Memory) }
+fn no_groups(alloc: Global, clients: &[ClientId]) -> Result<Vec<Sequence<Acknowledged>>, NoMemory>
+    ensures { IfOk result (λ groups. groups.items ≡ all_groups clients.now []) }
 {
     let mut groups = Vec::with_capacity(alloc, clients.len())?;
     for _ in clients {
@@ -55,11 +53,10 @@ fn note_all(
     groups: &mut Vec<Sequence<Acknowledged>>,
     clients: &[ClientId],
     ops: &[Op],
-) -> Result<(), OpsFault>
+) -> Result<(), NoMemory>
     requires { IsStrictlySortedBy client_cmp clients.now }
-    ensures ok { (W : List Op) → groups.old.items ≡ all_groups clients.now W
+    ensures { (W : List Op) → groups.old.items ≡ all_groups clients.now W
         → OnOk result (groups.new.items ≡ all_groups clients.now (W ++ ops.now)) }
-    ensures err { IfErr result (λ fault. fault ≡ OpsFault.Memory) }
 {
     for op in ops {
         note(groups, clients, op)?;
@@ -72,11 +69,10 @@ fn note(
     groups: &mut Vec<Sequence<Acknowledged>>,
     clients: &[ClientId],
     op: &Op,
-) -> Result<(), OpsFault>
+) -> Result<(), NoMemory>
     requires { IsStrictlySortedBy client_cmp clients.now }
-    ensures ok { (W : List Op) → groups.old.items ≡ all_groups clients.now W
+    ensures { (W : List Op) → groups.old.items ≡ all_groups clients.now W
         → OnOk result (groups.new.items ≡ all_groups clients.now (W ++ op.now ∷ [])) }
-    ensures err { IfErr result (λ fault. fault ≡ OpsFault.Memory) }
 {
     match op {
         Op::Session { .. } => Ok(()),
@@ -103,12 +99,11 @@ fn note_range(
     clients: &[ClientId],
     client: &ClientId,
     range: Acknowledged,
-) -> Result<(), OpsFault>
+) -> Result<(), NoMemory>
     requires { IsStrictlySortedBy client_cmp clients.now }
-    ensures ok { (W : List Op) → groups.old.items ≡ all_groups clients.now W
+    ensures { (W : List Op) → groups.old.items ≡ all_groups clients.now W
         → OnOk result (groups.new.items ≡ all_groups clients.now (W ++ OfAck client.now range.origin
         range.first range.last ∷ [])) }
-    ensures err { IfErr result (λ fault. fault ≡ OpsFault.Memory) }
 {
     match place(clients, client) {
         Err(_) => Ok(()),

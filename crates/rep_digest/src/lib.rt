@@ -19,7 +19,6 @@ mod cover;
 mod digest;
 mod draft;
 mod entry;
-mod fault;
 mod groups;
 mod laws;
 mod origins;

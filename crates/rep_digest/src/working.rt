@@ -14,10 +14,9 @@ ghost use Rattle.rep_digest.specs.inner.Steps.{group, groups as all_groups, draf
 use super::digest::Digest;
 use super::draft::entry_of;
 use super::entry::ClientEntry;
-use super::fault::NoMemory;
 use super::groups::{Acknowledged, acknowledgements};
 use super::size::is_within_limit;
-use octets::Sequence;
+use octets::{NoMemory, Sequence};
 use rep_model::{ClientView, Puts, Replica};
 use rep_ops::{ClientId, Delta, OpsFault};
 use std::alloc::Global;
@@ -43,8 +42,12 @@ fn worked_out<R: Replica>(alloc: Global, replica: &R) -> Result<Vec<ClientEntry>
     ensures { IfOk result (λ entries. (entries.items ≡ digest (R.kept replica.now))
         × IsDigest entries.items) }
 {
-    let clients = replica.clients(alloc)?;
-    let held = replica.held(alloc)?;
+    let Ok(clients) = replica.clients(alloc) else {
+        return Err(NoMemory);
+    };
+    let Ok(held) = replica.held(alloc) else {
+        return Err(NoMemory);
+    };
     are_values(held.as_slice());
     let groups = acknowledgements(alloc, clients.as_slice(), held.as_slice())?;
     entries_of(alloc, replica, clients.as_slice(), groups.as_slice())

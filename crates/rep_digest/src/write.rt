@@ -11,14 +11,14 @@ ghost use Rattle.rep_digest.specs.Spelling.{range_octets, ranges_octets, origin_
 ghost use Rattle.rep_digest.specs.inner.Spelling.{AreFew, IsWritable};
 
 use super::entry::{ClientEntry, OriginEntry};
-use octets::{append_u16, append_u32, append_u64};
-use rep_ops::{OpsFault, Stamp, write_client};
+use octets::{NoMemory, append_u16, append_u32, append_u64};
+use rep_ops::{Stamp, write_client};
 
 /// The version of the format.
 const VERSION: u8 = 1;
 
 /// Writes a range.
-fn write_range(out: &mut Vec<u8>, range: (u64, u64)) -> Result<(), OpsFault>
+fn write_range(out: &mut Vec<u8>, range: (u64, u64)) -> Result<(), NoMemory>
     ensures { Writes (range_octets range) out.old.items out.new.items result }
 {
     append_u64(out, range.0)?;
@@ -27,7 +27,7 @@ fn write_range(out: &mut Vec<u8>, range: (u64, u64)) -> Result<(), OpsFault>
 }
 
 /// Writes ranges one after the other.
-fn write_each_range(out: &mut Vec<u8>, ranges: &[(u64, u64)]) -> Result<(), OpsFault>
+fn write_each_range(out: &mut Vec<u8>, ranges: &[(u64, u64)]) -> Result<(), NoMemory>
     ensures { Writes (flat_map range_octets ranges.now) out.old.items out.new.items result }
 {
     for range in ranges {
@@ -37,7 +37,7 @@ fn write_each_range(out: &mut Vec<u8>, ranges: &[(u64, u64)]) -> Result<(), OpsF
 }
 
 /// Writes how many ranges there are, and the ranges.
-fn write_ranges(out: &mut Vec<u8>, ranges: &[(u64, u64)]) -> Result<(), OpsFault>
+fn write_ranges(out: &mut Vec<u8>, ranges: &[(u64, u64)]) -> Result<(), NoMemory>
     requires { length ranges.now < 2 ^ 32 }
     ensures { Writes (ranges_octets ranges.now) out.old.items out.new.items result }
 {
@@ -47,7 +47,7 @@ fn write_ranges(out: &mut Vec<u8>, ranges: &[(u64, u64)]) -> Result<(), OpsFault
 }
 
 /// Writes an origin.
-fn write_origin(out: &mut Vec<u8>, origin: &OriginEntry) -> Result<(), OpsFault>
+fn write_origin(out: &mut Vec<u8>, origin: &OriginEntry) -> Result<(), NoMemory>
     requires { AreFew origin.now }
     ensures { Writes (origin_octets origin.now) out.old.items out.new.items result }
 {
@@ -58,7 +58,7 @@ fn write_origin(out: &mut Vec<u8>, origin: &OriginEntry) -> Result<(), OpsFault>
 }
 
 /// Writes origins one after the other.
-fn write_each_origin(out: &mut Vec<u8>, origins: &[OriginEntry]) -> Result<(), OpsFault>
+fn write_each_origin(out: &mut Vec<u8>, origins: &[OriginEntry]) -> Result<(), NoMemory>
     requires { AllByRecursion AreFew origins.now }
     ensures { Writes (flat_map origin_octets origins.now) out.old.items out.new.items result }
 {
@@ -69,7 +69,7 @@ fn write_each_origin(out: &mut Vec<u8>, origins: &[OriginEntry]) -> Result<(), O
 }
 
 /// Writes epoch, gateway and prefix.
-fn write_numbers(out: &mut Vec<u8>, epoch: u64, gateway: u8, prefix: u16) -> Result<(), OpsFault>
+fn write_numbers(out: &mut Vec<u8>, epoch: u64, gateway: u8, prefix: u16) -> Result<(), NoMemory>
     ensures { Writes (big_bytes 8 epoch ++ gateway ∷ big_bytes 2 prefix) out.old.items
         out.new.items result }
 {
@@ -80,7 +80,7 @@ fn write_numbers(out: &mut Vec<u8>, epoch: u64, gateway: u8, prefix: u16) -> Res
 }
 
 /// Writes the stamp, all 0 where there is none, and the prefix.
-fn write_seen(out: &mut Vec<u8>, stamp: Option<Stamp>, prefix: u16) -> Result<(), OpsFault>
+fn write_seen(out: &mut Vec<u8>, stamp: Option<Stamp>, prefix: u16) -> Result<(), NoMemory>
     ensures { Writes (seen_octets stamp prefix) out.old.items out.new.items result }
 {
     match stamp {
@@ -90,7 +90,7 @@ fn write_seen(out: &mut Vec<u8>, stamp: Option<Stamp>, prefix: u16) -> Result<()
 }
 
 /// Writes an entry.
-fn write_entry(out: &mut Vec<u8>, entry: &ClientEntry) -> Result<(), OpsFault>
+fn write_entry(out: &mut Vec<u8>, entry: &ClientEntry) -> Result<(), NoMemory>
     requires { IsWritable entry.now }
     ensures { Writes (entry_octets entry.now) out.old.items out.new.items result }
 {
@@ -102,7 +102,7 @@ fn write_entry(out: &mut Vec<u8>, entry: &ClientEntry) -> Result<(), OpsFault>
 }
 
 /// Writes entries one after the other.
-fn write_entries(out: &mut Vec<u8>, entries: &[ClientEntry]) -> Result<(), OpsFault>
+fn write_entries(out: &mut Vec<u8>, entries: &[ClientEntry]) -> Result<(), NoMemory>
     requires { AllByRecursion IsWritable entries.now }
     ensures { Writes (flat_map entry_octets entries.now) out.old.items out.new.items result }
 {
@@ -113,7 +113,7 @@ fn write_entries(out: &mut Vec<u8>, entries: &[ClientEntry]) -> Result<(), OpsFa
 }
 
 /// Writes the digest of these entries.
-pub fn write_digest(out: &mut Vec<u8>, entries: &[ClientEntry]) -> Result<(), OpsFault>
+pub fn write_digest(out: &mut Vec<u8>, entries: &[ClientEntry]) -> Result<(), NoMemory>
     requires digest { IsDigest entries.now }
     requires size { IsWithinLimit entries.now }
     ensures { Writes (spelling entries.now) out.old.items out.new.items result }

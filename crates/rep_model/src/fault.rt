@@ -4,7 +4,8 @@ ghost use Rattle.std.specs.Prelude.{◌≡◌};
 ghost use Rattle.rep_model.specs.declared.fault.TakeFault.TheVariants.{Memory};
 ghost use Rattle.rep_model.specs.Faults.{number_of};
 
-use rep_ops::{ClientId, OpsFault};
+use octets::NoMemory;
+use rep_ops::ClientId;
 use std::alloc::AllocError;
 use thiserror::Error;
 
@@ -64,6 +65,14 @@ impl From<AllocError> for TakeFault {
     ghost from_gives = { λ _ e. e ≡ Memory };
 
     fn from(_error: AllocError) -> TakeFault {
+        TakeFault::Memory
+    }
+}
+
+impl From<NoMemory> for TakeFault {
+    ghost from_gives = { λ _ e. e ≡ Memory };
+
+    fn from(_error: NoMemory) -> TakeFault {
         TakeFault::Memory
     }
 }

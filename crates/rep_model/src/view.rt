@@ -2,9 +2,10 @@
 
 ghost use Rattle.std.specs.Prelude.{◌≡◌, ◌==◌, length, List, IfOk, IfErr};
 
+use octets::NoMemory;
 use rep_ops::{OpsFault, Put, Stamp};
 use sn_session::Session;
-use std::alloc::{AllocError, Global};
+use std::alloc::Global;
 use std::marker::Model;
 
 /// Messages in the order of delivery: by sequence number, then origin. Contracts see the list.
@@ -59,13 +60,12 @@ impl Puts {
     }
 
     /// Equal messages.
-    pub fn copy(&self, alloc: Global) -> Result<Puts, OpsFault>
-        ensures ok { IfOk result (λ made. made ≡ self.now) }
-        ensures err { IfErr result (λ fault. fault ≡ OpsFault.Memory) }
+    pub fn copied(&self, alloc: Global) -> Result<Puts, NoMemory>
+        ensures { IfOk result (λ made. made ≡ self.now) }
     {
         let mut items = Vec::new(alloc);
         for put in self.items.as_slice() {
-            items.push(put.copy(alloc)?).map_err(AllocError::from)?;
+            items.push(put.copied(alloc)?)?;
         }
         Ok(Puts { items })
     }
@@ -86,19 +86,26 @@ pub struct ClientView {
 
 impl ClientView {
     /// An equal view.
-    pub fn copy(&self, alloc: Global) -> Result<ClientView, OpsFault>
-        ensures ok { IfOk result (λ made. made ≡ self.now) }
-        ensures err { IfErr result (λ fault. fault ≡ OpsFault.Memory) }
+    pub fn copied(&self, alloc: Global) -> Result<ClientView, NoMemory>
+        ensures { IfOk result (λ made. made ≡ self.now) }
     {
         let session = match &self.session {
             None => None,
-            Some(session) => Some(session.copy(alloc)?),
+            Some(session) => Some(session.copied(alloc)?),
         };
         Ok(ClientView {
             stamp: self.stamp,
             prefix: self.prefix,
             session,
-            pending: self.pending.copy(alloc)?,
+            pending: self.pending.copied(alloc)?,
         })
+    }
+
+    /// The same, where want of memory is a fault of this crate.
+    pub fn copy(&self, alloc: Global) -> Result<ClientView, OpsFault>
+        ensures ok { IfOk result (λ made. made ≡ self.now) }
+        ensures err { IfErr result (λ fault. fault ≡ OpsFault.Memory) }
+    {
+        Ok(self.copied(alloc)?)
     }
 }

@@ -1,5 +1,5 @@
 -- Sorted and joined, operations are the delta of their set.
-use Rattle.std.proofs.Common.{◌≡◌, List, length, Result, Ok, Err, subst, sym, arith}
+use Rattle.std.proofs.Common.{◌≡◌, List, length, Result, Ok, Err, subst, sym, arith, IsErrAnd}
 use Rattle.std.specs.Prelude.{IfOk, IfErr}
 use Rattle.std.specs.Global.{Vec}
 use Rattle.std.specs.List.{AllAdjacentBelow}
@@ -61,11 +61,10 @@ sorted_delta xs ys s =
 sorted_values : (xs ys : List Op) → Sorted xs ys → AreValues (joined ys)
 sorted_values xs ys s = all_joined IsValue united_value ys (values_permutation xs ys s.same s.values)
 
-pub ok_made : (xs ys : List Op) → Sorted xs ys → (r : Result (Vec Op) OpsFault) → IfOk r (λ out. out.items ≡ joined ys) → IfOk r (λ d. AreApart xs × IsDeltaOf xs d.items × AreValues d.items)
-ok_made xs ys s (Ok out) h = (sorted_apart xs ys s, subst (λ (d : List Op). IsDeltaOf xs d) (sym h) (sorted_delta xs ys s), subst AreValues (sym h) (sorted_values xs ys s))
-ok_made xs ys s (Err e) h = tt
+pub joined_made : (xs ys out : List Op) → Sorted xs ys → out ≡ joined ys → AreApart xs × IsDeltaOf xs out × AreValues out
+joined_made xs ys out s h = (sorted_apart xs ys s, subst (λ (d : List Op). IsDeltaOf xs d) (sym h) (sorted_delta xs ys s), subst AreValues (sym h) (sorted_values xs ys s))
 
-pub memory_alone : {T : Type 0} (r : Result T OpsFault) → IfErr r (λ fault. fault ≡ Memory) → r ≡ Err Twice → ⊥
+pub memory_alone : {T : Type 0} (r : Result T OpsFault) → IsErrAnd r (λ fault. fault ≡ Memory) → r ≡ Err Twice → ⊥
 memory_alone (Ok x) h e = absurd cc
 memory_alone (Err f) h e = absurd cc
 

@@ -103,7 +103,7 @@ whole_delta xs ys made p stable sorted =
       same = Same-trans (joined ys) ys xs (same_joined ys there sorted) (same_stable xs ys p stable);
     }
 
-pub whole_made : (xs ys : List Op) → AreWellMade xs → IsPermutation xs ys → IsStableBy lower xs ys → IsSortedByName ys → (r : Result (Vec Op) OpsFault)
+pub whole_made : (xs ys : List Op) → AreWellMade xs → IsPermutation xs ys → IsStableBy lower xs ys → IsSortedByName ys → {F : Type 0} (r : Result (Vec Op) F)
     → IfOk r (λ out. out.items ≡ joined ys) → IfOk r (λ d. IsDeltaOf xs d.items)
 whole_made xs ys made p stable sorted (Ok out) h = subst (λ (d : List Op). IsDeltaOf xs d) (sym h) (whole_delta xs ys made p stable sorted)
 whole_made xs ys made p stable sorted (Err e) h = tt

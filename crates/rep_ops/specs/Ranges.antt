@@ -1,7 +1,7 @@
 -- Which values of a session and of a change are in range. The order and the size of a session's tables are their types' own.
 use Rattle.std.specs.Prelude.{ℕ, Bool, true, ◌&&◌, nat_le, List, length, Option, Some, None}
 use Rattle.std.specs.List.{list_all}
-use Rattle.rep_ops.specs.declared.size.TheConstants.{MAX_BODY}
+use Rattle.sn_session.specs.declared.message.TheConstants.{MAX_MESSAGE}
 use Rattle.sn_session.specs.declared.session.Session.{Session}
 use Rattle.sn_session.specs.declared.topics.TopicEntry.{TopicEntry}
 use Rattle.sn_session.specs.declared.subscriptions.Subscription.{Subscription}
@@ -21,7 +21,7 @@ is_qos qos = nat_le qos 2
 
 -- a message has at most 4,096 octets
 abbrev pub is_message : List ℕ → Bool
-is_message message = nat_le (length message) MAX_BODY
+is_message message = nat_le (length message) MAX_MESSAGE
 
 abbrev pub is_topic : TopicEntry → Bool
 is_topic entry = is_topic_id entry.id

@@ -3,6 +3,7 @@ use Rattle.std.specs.Prelude.{Option, Some, None, ◌≡◌, ℕ, zero, suc, ◌
 use Rattle.std.specs.Int.{Width, w16, w32, w64, byte_len, from_be_bytes}
 use Rattle.std.specs.declared.cmp.Ordering.{Ordering}
 use Rattle.std.specs.Ordering.{is_lt, nat_cmp}
+use Rattle.sn_topic.specs.declared.level.TheConstants.{MAX_TOPIC}
 use Rattle.sn_topic.specs.Levels.{has_wildcard, levels, wildcards_stand_alone}
 use Rattle.sn_session.specs.declared.presence.Presence.{Presence}
 use Rattle.sn_session.specs.declared.presence.Presence.TheVariants as presences
@@ -14,6 +15,7 @@ use Rattle.sn_session.specs.declared.topics.TopicEntry.{TopicEntry}
 use Rattle.sn_session.specs.declared.subscriptions.Subscription.{Subscription}
 use Rattle.sn_session.specs.declared.will.Will.{Will}
 use Rattle.sn_session.specs.declared.will.WillTopic.{WillTopic}
+use Rattle.sn_session.specs.declared.table.TheConstants.{MAX_ENTRIES}
 use Rattle.sn_session.specs.Tables.{is_ascending}
 use Rattle.sn_session.specs.Topics.{topic_cmp}
 use Rattle.sn_session.specs.Subscriptions.{subscription_cmp}
@@ -21,7 +23,8 @@ use Rattle.sn_session.specs.declared.change.SessionOp.{SessionOp}
 use Rattle.sn_session.specs.declared.change.SessionOp.TheVariants.{Take, Presence as SetPresence, Register, Subscribe, Unsubscribe, WillTopic as SetWillTopic, WillMsg, Received, Released, Outbound as SetOutbound}
 use Rattle.rep_ops.specs.declared.fault.OpsFault.{OpsFault}
 use Rattle.rep_ops.specs.declared.fault.OpsFault.TheVariants as faults
-use Rattle.rep_ops.specs.declared.size.TheConstants.{MAX_BODY}
+use Rattle.rep_ops.specs.declared.client_id.TheConstants.{MAX_CLIENT_ID}
+use Rattle.sn_session.specs.declared.message.TheConstants.{MAX_MESSAGE}
 use Rattle.rep_ops.specs.declared.op.Op.{Op}
 use Rattle.rep_ops.specs.declared.op.Op.TheVariants.{Session as OfSession, Put as OfPut, Ack}
 use Rattle.rep_ops.specs.Orders.{name_cmp}
@@ -79,13 +82,13 @@ abbrev pub is_counted : ℕ → Bool
 is_counted n = nat_le 1 n
 
 unfoldable pub client_at : Reader (List ℕ)
-client_at = sized_at (λ n. nat_le 1 n && nat_le n 23) octet_at
+client_at = sized_at (λ n. nat_le 1 n && nat_le n MAX_CLIENT_ID) octet_at
 
 unfoldable pub topic_at : Reader (List ℕ)
-topic_at = ranged (λ name. not (has_wildcard name)) (sized_at (λ n. nat_le 1 n && nat_le n 256) (number_at w16))
+topic_at = ranged (λ name. not (has_wildcard name)) (sized_at (λ n. nat_le 1 n && nat_le n MAX_TOPIC) (number_at w16))
 
 unfoldable pub body_at : Reader (List ℕ)
-body_at = sized_at (λ n. nat_le n MAX_BODY) (number_at w16)
+body_at = sized_at (λ n. nat_le n MAX_MESSAGE) (number_at w16)
 
 -- ---- texts: a version, a count, and values of which each may stand behind those before it
 
@@ -138,14 +141,14 @@ counted_by count read bytes = count bytes >>= λ n. many_at read n.0 [] n.1
 
 -- at most 256 entries
 abbrev pub counted_at : {A : Type 0} → Reader A → Reader (List A)
-counted_at read = counted_by (ranged (λ n. nat_le n 256) (number_at w16)) read
+counted_at read = counted_by (ranged (λ n. nat_le n MAX_ENTRIES) (number_at w16)) read
 
 -- a table; its order is looked at when it is whole
 abbrev pub table_at : {A : Type 0} → (A → A → Ordering) → Reader A → Reader (List A)
 table_at cmp read = ranged (is_ascending cmp) (counted_at read)
 
 unfoldable pub filter_at : Reader (List ℕ)
-filter_at = ranged (λ name. wildcards_stand_alone (levels name)) (sized_at (λ n. nat_le 1 n && nat_le n 256) (number_at w16))
+filter_at = ranged (λ name. wildcards_stand_alone (levels name)) (sized_at (λ n. nat_le 1 n && nat_le n MAX_TOPIC) (number_at w16))
 
 unfoldable pub qos_at : Reader ℕ
 qos_at = ranged is_qos octet_at

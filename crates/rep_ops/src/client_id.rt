@@ -4,10 +4,13 @@ ghost use Rattle.std.specs.Prelude.{◌≡◌, ℕ, ◌⊎◌, List, IfOk, IfErr
 ghost use Rattle.rep_ops.specs.ClientIds.{IsClientId};
 
 use super::fault::OpsFault;
-use octets::Octets;
+use octets::{NoMemory, Octets};
 use std::alloc::Global;
 use std::cmp::Ordering;
 use std::marker::Model;
+
+/// The most octets of a client's name.
+pub const MAX_CLIENT_ID: usize = 23;
 
 /// The name of a client: 1 to 23 octets (MQTT-SN 1.2 section 5.3.1). Contracts see the list of its octets.
 #[derive(Debug, Drop)]
@@ -30,7 +33,7 @@ impl ClientId {
         ensures kind { IsErrOf result OpsFault.Kind ↔ (¬ (IsClientId octets.now)) }
         ensures err { IfErr result (λ fault. (fault ≡ OpsFault.Kind) ⊎ (fault ≡ OpsFault.Memory)) }
     {
-        if octets.is_empty() || octets.len() > 23 {
+        if octets.is_empty() || octets.len() > MAX_CLIENT_ID {
             return Err(OpsFault::Kind);
         }
         Ok(ClientId {
@@ -47,13 +50,20 @@ impl ClientId {
     }
 
     /// An equal name.
+    pub fn copied(&self, alloc: Global) -> Result<ClientId, NoMemory>
+        ensures { IfOk result (λ made. made ≡ self.now) }
+    {
+        Ok(ClientId {
+            octets: self.octets.copied(alloc)?,
+        })
+    }
+
+    /// The same, where want of memory is a fault of this crate.
     pub fn copy(&self, alloc: Global) -> Result<ClientId, OpsFault>
         ensures ok { IfOk result (λ made. made ≡ self.now) }
         ensures err { IfErr result (λ fault. fault ≡ OpsFault.Memory) }
     {
-        Ok(ClientId {
-            octets: self.octets.copy(alloc)?,
-        })
+        Ok(self.copied(alloc)?)
     }
 }
 

@@ -17,6 +17,7 @@ use super::op::Op;
 use super::read::read_delta;
 use super::size::{are_well_made, is_within_limit};
 use super::write::write_delta;
+use octets::NoMemory;
 use std::alloc::Global;
 use std::marker::Model;
 
@@ -72,10 +73,9 @@ impl Delta {
     }
 
     /// Appends the one spelling of the delta. On an error the vector is as it was.
-    pub fn encode(&self, _alloc: Global, out: &mut Vec<u8>) -> Result<(), OpsFault>
+    pub fn append_to(&self, out: &mut Vec<u8>) -> Result<(), NoMemory>
         ensures ok { OnOk result (out.new.items ≡ out.old.items ++ spelling self.now) }
         ensures err { OnErr result (out.new.items ≡ out.old.items) }
-        ensures memory { IfErr result (λ fault. fault ≡ OpsFault.Memory) }
     {
         let start = out.len();
         match write_delta(out, self.ops()) {
@@ -85,6 +85,15 @@ impl Delta {
                 Err(fault)
             }
         }
+    }
+
+    /// The same, where want of memory is a fault of this crate.
+    pub fn encode(&self, _alloc: Global, out: &mut Vec<u8>) -> Result<(), OpsFault>
+        ensures ok { OnOk result (out.new.items ≡ out.old.items ++ spelling self.now) }
+        ensures err { OnErr result (out.new.items ≡ out.old.items) }
+        ensures memory { IfErr result (λ fault. fault ≡ OpsFault.Memory) }
+    {
+        Ok(self.append_to(out)?)
     }
 
     /// The delta that octets spell.
@@ -127,13 +136,20 @@ impl Delta {
     }
 
     /// An equal delta.
-    pub fn copy(&self, alloc: Global) -> Result<Delta, OpsFault>
-        ensures ok { IfOk result (λ made. made ≡ self.now) }
-        ensures err { IfErr result (λ fault. fault ≡ OpsFault.Memory) }
+    pub fn copied(&self, alloc: Global) -> Result<Delta, NoMemory>
+        ensures { IfOk result (λ made. made ≡ self.now) }
     {
         Ok(Delta {
             ops: copy_all(alloc, self.ops())?,
         })
+    }
+
+    /// The same, where want of memory is a fault of this crate.
+    pub fn copy(&self, alloc: Global) -> Result<Delta, OpsFault>
+        ensures ok { IfOk result (λ made. made ≡ self.now) }
+        ensures err { IfErr result (λ fault. fault ≡ OpsFault.Memory) }
+    {
+        Ok(self.copied(alloc)?)
     }
 }
 
@@ -154,17 +170,17 @@ fn canonical(alloc: Global, ops: Vec<Op>) -> Result<Vec<Op>, OpsFault>
     if has_twice(sorted.as_slice()) {
         return Err(OpsFault::Twice);
     }
-    join_names(alloc, sorted)
+    let joined = join_names(alloc, sorted)?;
+    Ok(joined)
 }
 
 /// Equal operations.
-fn copy_all(alloc: Global, ops: &[Op]) -> Result<Vec<Op>, OpsFault>
-    ensures ok { IfOk result (λ made. made.items ≡ ops.now) }
-    ensures err { IfErr result (λ fault. fault ≡ OpsFault.Memory) }
+fn copy_all(alloc: Global, ops: &[Op]) -> Result<Vec<Op>, NoMemory>
+    ensures { IfOk result (λ made. made.items ≡ ops.now) }
 {
     let mut made = Vec::with_capacity(alloc, ops.len())?;
     for op in ops {
-        made.push(op.copy(alloc)?)?;
+        made.push(op.copied(alloc)?)?;
     }
     Ok(made)
 }

@@ -4,7 +4,7 @@ ghost use Rattle.std.specs.Prelude.{◌≡◌};
 ghost use Rattle.rep_ops.specs.declared.fault.OpsFault.TheVariants.{Memory};
 ghost use Rattle.rep_ops.specs.Faults.{fault_of_topic, number_of};
 
-use sn_session::SessionFault;
+use octets::NoMemory;
 use sn_topic::TopicFault;
 use std::alloc::{AllocError, AllocFailed};
 use thiserror::Error;
@@ -64,19 +64,18 @@ impl From<AllocError> for OpsFault {
     }
 }
 
-impl<T: Drop> From<AllocFailed<T>> for OpsFault {
+impl From<NoMemory> for OpsFault {
     ghost from_gives = { λ _ e. e ≡ Memory };
 
-    fn from(_error: AllocFailed<T>) -> OpsFault {
+    fn from(_error: NoMemory) -> OpsFault {
         OpsFault::Memory
     }
 }
 
-// Operations only copy sessions, and a copy is refused for want of memory alone.
-impl From<SessionFault> for OpsFault {
+impl<T: Drop> From<AllocFailed<T>> for OpsFault {
     ghost from_gives = { λ _ e. e ≡ Memory };
 
-    fn from(_error: SessionFault) -> OpsFault {
+    fn from(_error: AllocFailed<T>) -> OpsFault {
         OpsFault::Memory
     }
 }

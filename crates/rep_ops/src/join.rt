@@ -1,6 +1,6 @@
 //! What makes a list of operations the list of a delta: order, no name twice, ranges joined.
 
-ghost use Rattle.std.specs.Prelude.{◌≡◌, ◌<◌, ◌+◌, ℕ, IsTrue, IsFalse, OnOk, IfOk, IfErr, OnErr, length, List, [], ◌∷◌, ◌++◌};
+ghost use Rattle.std.specs.Prelude.{◌≡◌, ◌<◌, ◌+◌, ℕ, IsTrue, IsFalse, OnOk, IfOk, OnErr, length, List, [], ◌∷◌, ◌++◌};
 ghost use Rattle.std.specs.List.{AllAdjacentBelow};
 ghost use Rattle.std.specs.List.Sorted.{IsPermutation, IsSortedBy, IsStableBy};
 ghost use Rattle.std.specs.Ordering.{is_lt};
@@ -9,9 +9,9 @@ ghost use Rattle.rep_ops.specs.declared.op.Op.{Op};
 ghost use Rattle.rep_ops.specs.inner.Joining.{joins as join_test, united as united_op, joined as all_joined};
 ghost use Rattle.rep_ops.specs.Orders.{name_cmp};
 
-use super::fault::OpsFault;
 use super::op::Op;
 use super::order::{name_order, share_name};
+use octets::NoMemory;
 use std::alloc::Global;
 
 /// Sorts operations by their names.
@@ -23,11 +23,10 @@ pub fn sort_by_name(ops: &mut Vec<Op>)
 }
 
 /// Sorts operations by their names; those of one name stay in the order that they have.
-pub fn sort_stably(ops: &mut Vec<Op>) -> Result<(), OpsFault>
+pub fn sort_stably(ops: &mut Vec<Op>) -> Result<(), NoMemory>
     ensures same { IsPermutation ops.old.items ops.new.items }
     ensures sorted { OnOk result (IsSortedBy (λ a b. is_lt (name_cmp a b)) ops.new.items) }
     ensures stable { IsStableBy (λ a b. is_lt (name_cmp a b)) ops.old.items ops.new.items }
-    ensures err { IfErr result (λ fault. fault ≡ OpsFault.Memory) }
 {
     ops.sort_by(|a, b| name_order(a, b))?;
     Ok(())
@@ -94,10 +93,9 @@ fn united(a: Op, b: Op) -> Op
 }
 
 /// Puts an operation behind those that are joined, or joins it with the last of them.
-fn put_behind(out: &mut Vec<Op>, op: Op) -> Result<(), OpsFault>
-    ensures ok { (S : List Op) → out.old.items ≡ all_joined S
+fn put_behind(out: &mut Vec<Op>, op: Op) -> Result<(), NoMemory>
+    ensures { (S : List Op) → out.old.items ≡ all_joined S
         → OnOk result (out.new.items ≡ all_joined (S ++ op ∷ [])) }
-    ensures err { IfErr result (λ fault. fault ≡ OpsFault.Memory) }
 {
     match out.pop() {
         None => out.push(op)?,
@@ -115,9 +113,8 @@ fn put_behind(out: &mut Vec<Op>, op: Op) -> Result<(), OpsFault>
 
 /// Joins operations that are in the order of their names: of one name the first stays, and ranges that
 /// overlap or touch are one.
-pub fn join_names(alloc: Global, ops: Vec<Op>) -> Result<Vec<Op>, OpsFault>
-    ensures ok { IfOk result (λ out. out.items ≡ all_joined ops.items) }
-    ensures err { IfErr result (λ fault. fault ≡ OpsFault.Memory) }
+pub fn join_names(alloc: Global, ops: Vec<Op>) -> Result<Vec<Op>, NoMemory>
+    ensures { IfOk result (λ out. out.items ≡ all_joined ops.items) }
 {
     let mut out = Vec::with_capacity(alloc, ops.len())?;
     for op in ops {

@@ -36,7 +36,7 @@ mod value;
 mod write;
 mod write_session;
 
-pub use client_id::ClientId;
+pub use client_id::{ClientId, MAX_CLIENT_ID};
 pub use delta::{Delta, no_prefix, one_delta, one_reading};
 pub use fault::OpsFault;
 pub use op::{Op, Put, Stamp};
@@ -44,6 +44,6 @@ pub use read::{
     read_client, read_counted_eight, read_counted_octet, read_eight, read_four, read_octet,
     read_two,
 };
-pub use size::{MAX_BODY, MAX_OCTETS};
+pub use size::MAX_OCTETS;
 pub use split::deltas_of;
 pub use write::write_client;

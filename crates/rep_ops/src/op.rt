@@ -1,12 +1,11 @@
 //! Stamps, puts and operations.
 
-ghost use Rattle.std.specs.Prelude.{◌≡◌, IfOk, IfErr};
+ghost use Rattle.std.specs.Prelude.{◌≡◌, IfOk};
 ghost use Rattle.rep_ops.specs.Orders.{stamp_cmp, client_of};
 
 use super::client_id::ClientId;
-use super::fault::OpsFault;
-use octets::Octets;
-use sn_session::SessionOp;
+use octets::NoMemory;
+use sn_session::{Message, SessionOp};
 use sn_topic::TopicName;
 use std::alloc::Global;
 use std::cmp::Ordering;
@@ -33,7 +32,7 @@ pub struct Put {
     /// Its quality of service, 0 to 2.
     pub qos: u8,
     /// What was published.
-    pub body: Octets,
+    pub body: Message,
 }
 
 /// An operation on the state of a client.
@@ -62,16 +61,15 @@ pub enum Op {
 
 impl Put {
     /// An equal message.
-    pub fn copy(&self, alloc: Global) -> Result<Put, OpsFault>
-        ensures ok { IfOk result (λ made. made ≡ self.now) }
-        ensures err { IfErr result (λ fault. fault ≡ OpsFault.Memory) }
+    pub fn copied(&self, alloc: Global) -> Result<Put, NoMemory>
+        ensures { IfOk result (λ made. made ≡ self.now) }
     {
         Ok(Put {
             origin: self.origin,
             seq: self.seq,
-            topic: self.topic.copy(alloc)?,
+            topic: self.topic.copied(alloc)?,
             qos: self.qos,
-            body: self.body.copy(alloc)?,
+            body: self.body.copied(alloc)?,
         })
     }
 }
@@ -89,9 +87,8 @@ impl Op {
     }
 
     /// An equal operation.
-    pub fn copy(&self, alloc: Global) -> Result<Op, OpsFault>
-        ensures ok { IfOk result (λ made. made ≡ self.now) }
-        ensures err { IfErr result (λ fault. fault ≡ OpsFault.Memory) }
+    pub fn copied(&self, alloc: Global) -> Result<Op, NoMemory>
+        ensures { IfOk result (λ made. made ≡ self.now) }
     {
         match self {
             Op::Session {
@@ -100,14 +97,14 @@ impl Op {
                 counter,
                 change,
             } => Ok(Op::Session {
-                client: client.copy(alloc)?,
+                client: client.copied(alloc)?,
                 stamp: *stamp,
                 counter: *counter,
-                change: change.copy(alloc)?,
+                change: change.copied(alloc)?,
             }),
             Op::Put { client, put } => Ok(Op::Put {
-                client: client.copy(alloc)?,
-                put: put.copy(alloc)?,
+                client: client.copied(alloc)?,
+                put: put.copied(alloc)?,
             }),
             Op::Ack {
                 client,
@@ -115,7 +112,7 @@ impl Op {
                 first,
                 last,
             } => Ok(Op::Ack {
-                client: client.copy(alloc)?,
+                client: client.copied(alloc)?,
                 origin: *origin,
                 first: *first,
                 last: *last,

@@ -4,8 +4,9 @@ ghost use Rattle.std.specs.Prelude.{◌≡◌};
 ghost use Rattle.std.specs.List.{list_all};
 ghost use Rattle.rep_ops.specs.Ranges.{is_topic_id as id_test, is_topic as topic_test, is_subscription as subscription_test, is_will as will_test, is_will_topic as will_topic_test, is_exchange as exchange_test, is_session as session_test, is_change as change_test};
 
-use super::size::MAX_BODY;
-use sn_session::{Outbound, Session, SessionOp, Subscription, TopicEntry, Will, WillTopic};
+use sn_session::{
+    MAX_MESSAGE, Outbound, Session, SessionOp, Subscription, TopicEntry, Will, WillTopic,
+};
 
 /// Whether a topic id is not reserved.
 pub fn is_topic_id(id: u16) -> bool
@@ -20,7 +21,7 @@ fn is_will(will: &Option<Will>) -> bool
 {
     match will {
         None => true,
-        Some(will) => will.qos <= 2 && will.message.len() <= MAX_BODY,
+        Some(will) => will.qos <= 2 && will.message.len() <= MAX_MESSAGE,
     }
 }
 
@@ -78,7 +79,7 @@ pub fn is_change(change: &SessionOp) -> bool
         SessionOp::Register { id, .. } => is_topic_id(*id),
         SessionOp::Subscribe { qos, .. } => *qos <= 2,
         SessionOp::WillTopic(asked) => is_will_topic(asked),
-        SessionOp::WillMsg(message) => message.len() <= MAX_BODY,
+        SessionOp::WillMsg(message) => message.len() <= MAX_MESSAGE,
         SessionOp::Outbound { exchange, next_id } => *next_id >= 1 && is_exchange(exchange),
         SessionOp::Presence { .. }
         | SessionOp::Unsubscribe { .. }

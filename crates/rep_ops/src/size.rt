@@ -10,13 +10,10 @@ use super::op::{Op, Put, Stamp};
 use super::range::is_change;
 use super::session_size::change_size;
 use super::value::is_value;
-use sn_session::SessionOp;
+use sn_session::{MAX_MESSAGE, SessionOp};
 
 /// The most octets of a delta.
 pub const MAX_OCTETS: usize = 8_388_608;
-
-/// The most octets of a message.
-pub const MAX_BODY: usize = 4096;
 
 /// Whether epoch and gateway begin at 1.
 fn is_stamp(stamp: Stamp) -> bool
@@ -40,7 +37,7 @@ fn is_counted(counter: u8, change: &SessionOp) -> bool
 fn is_put(put: &Put) -> bool
     ensures { result ≡ put_test put.now }
 {
-    put.origin >= 1 && put.seq >= 1 && put.qos <= 2 && put.body.len() <= MAX_BODY
+    put.origin >= 1 && put.seq >= 1 && put.qos <= 2 && put.body.len() <= MAX_MESSAGE
 }
 
 /// Whether a delta may hold the operation.

@@ -1,16 +1,16 @@
 //! A set as deltas: as few as can be where each is at most 8,388,608 octets.
 
-ghost use Rattle.std.specs.Prelude.{◌≡◌, IfOk, IfErr};
+ghost use Rattle.std.specs.Prelude.{◌≡◌, IfOk};
 ghost use Rattle.rep_ops.specs.Deltas.{IsDelta};
 ghost use Rattle.rep_ops.specs.Making.{AreWellMade, IsDeltaOf};
 ghost use Rattle.rep_ops.specs.Splitting.{IsSplit, AreDeltasOf};
 
 use super::delta::Delta;
-use super::fault::OpsFault;
 use super::join::{join_names, sort_stably};
 use super::op::Op;
 use super::size::{MAX_OCTETS, op_size};
 use super::value::is_value;
+use octets::NoMemory;
 use std::alloc::Global;
 use std::mem;
 
@@ -22,19 +22,17 @@ const NO_OCTETS: usize = 5;
 /// where the next operation does not fit into 8,388,608 octets. Of no operations there is no delta.
 ///
 /// `Memory` is the only fault.
-pub fn deltas_of(alloc: Global, ops: Vec<Op>) -> Result<Vec<Delta>, OpsFault>
+pub fn deltas_of(alloc: Global, ops: Vec<Op>) -> Result<Vec<Delta>, NoMemory>
     requires { AreWellMade ops.items }
-    ensures ok { IfOk result (λ deltas. AreDeltasOf ops.items deltas.items) }
-    ensures err { IfErr result (λ fault. fault ≡ OpsFault.Memory) }
+    ensures { IfOk result (λ deltas. AreDeltasOf ops.items deltas.items) }
 {
     split(alloc, whole(alloc, ops)?)
 }
 
 /// The operations of the delta that is the set of these, however large; of one name the first counts.
-fn whole(alloc: Global, ops: Vec<Op>) -> Result<Vec<Op>, OpsFault>
+fn whole(alloc: Global, ops: Vec<Op>) -> Result<Vec<Op>, NoMemory>
     requires { AreWellMade ops.items }
-    ensures ok { IfOk result (λ d. IsDeltaOf ops.items d.items) }
-    ensures err { IfErr result (λ fault. fault ≡ OpsFault.Memory) }
+    ensures { IfOk result (λ d. IsDeltaOf ops.items d.items) }
 {
     let mut sorted = ops;
     sort_stably(&mut sorted)?;
@@ -42,10 +40,9 @@ fn whole(alloc: Global, ops: Vec<Op>) -> Result<Vec<Op>, OpsFault>
 }
 
 /// The operations of a delta, in parts that fit.
-fn split(alloc: Global, ops: Vec<Op>) -> Result<Vec<Delta>, OpsFault>
+fn split(alloc: Global, ops: Vec<Op>) -> Result<Vec<Delta>, NoMemory>
     requires { IsDelta ops.items }
-    ensures ok { IfOk result (λ deltas. IsSplit ops.items deltas.items) }
-    ensures err { IfErr result (λ fault. fault ≡ OpsFault.Memory) }
+    ensures { IfOk result (λ deltas. IsSplit ops.items deltas.items) }
 {
     let mut deltas = Vec::new(alloc);
     let mut part = Vec::new(alloc);

@@ -10,16 +10,15 @@ ghost use Rattle.rep_ops.specs.WellMade.{is_put as put_test, is_well_made as mad
 ghost use Rattle.rep_ops.specs.Writing.{Writes};
 
 use super::client_id::ClientId;
-use super::fault::OpsFault;
 use super::op::{Op, Put};
 use super::write_session::{write_change, write_text};
-use octets::{append_u32, append_u64};
+use octets::{NoMemory, append_u32, append_u64};
 
 /// The version of the format.
 const VERSION: u8 = 1;
 
 /// Writes a client.
-pub fn write_client(out: &mut Vec<u8>, client: &ClientId) -> Result<(), OpsFault>
+pub fn write_client(out: &mut Vec<u8>, client: &ClientId) -> Result<(), NoMemory>
     ensures { Writes (client_octets client.now) out.old.items out.new.items result }
 {
     let name = client.bytes();
@@ -29,7 +28,7 @@ pub fn write_client(out: &mut Vec<u8>, client: &ClientId) -> Result<(), OpsFault
 }
 
 /// Writes a message.
-fn write_put(out: &mut Vec<u8>, put: &Put) -> Result<(), OpsFault>
+fn write_put(out: &mut Vec<u8>, put: &Put) -> Result<(), NoMemory>
     requires { IsTrue (put_test put.now) }
     ensures { Writes (put_octets put.now) out.old.items out.new.items result }
 {
@@ -42,7 +41,7 @@ fn write_put(out: &mut Vec<u8>, put: &Put) -> Result<(), OpsFault>
 }
 
 /// Writes an operation.
-fn write_op(out: &mut Vec<u8>, op: &Op) -> Result<(), OpsFault>
+fn write_op(out: &mut Vec<u8>, op: &Op) -> Result<(), NoMemory>
     requires { IsTrue (made_test op.now) }
     ensures { Writes (op_octets op.now) out.old.items out.new.items result }
 {
@@ -81,7 +80,7 @@ fn write_op(out: &mut Vec<u8>, op: &Op) -> Result<(), OpsFault>
 }
 
 /// Writes operations one after the other.
-fn write_ops(out: &mut Vec<u8>, ops: &[Op]) -> Result<(), OpsFault>
+fn write_ops(out: &mut Vec<u8>, ops: &[Op]) -> Result<(), NoMemory>
     requires { AreWellMade ops.now }
     ensures { Writes (flat_map op_octets ops.now) out.old.items out.new.items result }
 {
@@ -92,7 +91,7 @@ fn write_ops(out: &mut Vec<u8>, ops: &[Op]) -> Result<(), OpsFault>
 }
 
 /// Writes the delta of these operations.
-pub fn write_delta(out: &mut Vec<u8>, ops: &[Op]) -> Result<(), OpsFault>
+pub fn write_delta(out: &mut Vec<u8>, ops: &[Op]) -> Result<(), NoMemory>
     requires made { AreWellMade ops.now }
     requires size { IsWithinLimit ops.now }
     ensures { Writes (spelling ops.now) out.old.items out.new.items result }

@@ -9,8 +9,7 @@ ghost use Rattle.rep_ops.specs.Ranges.{is_will, is_session, is_change};
 ghost use Rattle.rep_ops.specs.Sessions.{text_octets, flag_octet, presence_octet, phase_octet, table_octets, option_octets, topic_octets, subscription_octets, will_octets, will_topic_octets, exchange_octets, session_octets, change_octets};
 ghost use Rattle.rep_ops.specs.Writing.{Writes};
 
-use super::fault::OpsFault;
-use octets::{append_u16, append_u64};
+use octets::{NoMemory, append_u16, append_u64};
 use sn_session::{
     Outbound, Phase, Presence, Received, Session, SessionOp, Subscription, Subscriptions,
     TopicEntry, Topics, Will, WillTopic,
@@ -41,7 +40,7 @@ fn phase_code(phase: Phase) -> u8
 }
 
 /// Writes a text.
-pub fn write_text(out: &mut Vec<u8>, text: &[u8]) -> Result<(), OpsFault>
+pub fn write_text(out: &mut Vec<u8>, text: &[u8]) -> Result<(), NoMemory>
     requires { length text.now < 2 ^ 16 }
     ensures { Writes (text_octets text.now) out.old.items out.new.items result }
 {
@@ -51,7 +50,7 @@ pub fn write_text(out: &mut Vec<u8>, text: &[u8]) -> Result<(), OpsFault>
 }
 
 /// Writes a topic id.
-fn write_entry(out: &mut Vec<u8>, entry: &TopicEntry) -> Result<(), OpsFault>
+fn write_entry(out: &mut Vec<u8>, entry: &TopicEntry) -> Result<(), NoMemory>
     ensures { Writes (topic_octets entry.now) out.old.items out.new.items result }
 {
     append_u16(out, entry.id)?;
@@ -61,7 +60,7 @@ fn write_entry(out: &mut Vec<u8>, entry: &TopicEntry) -> Result<(), OpsFault>
 }
 
 /// Writes topic ids one after the other.
-fn write_entries(out: &mut Vec<u8>, entries: &[TopicEntry]) -> Result<(), OpsFault>
+fn write_entries(out: &mut Vec<u8>, entries: &[TopicEntry]) -> Result<(), NoMemory>
     ensures { Writes (flat_map topic_octets entries.now) out.old.items out.new.items result }
 {
     for entry in entries {
@@ -71,7 +70,7 @@ fn write_entries(out: &mut Vec<u8>, entries: &[TopicEntry]) -> Result<(), OpsFau
 }
 
 /// Writes topic ids.
-fn write_topics(out: &mut Vec<u8>, topics: &Topics) -> Result<(), OpsFault>
+fn write_topics(out: &mut Vec<u8>, topics: &Topics) -> Result<(), NoMemory>
     ensures { Writes (table_octets topic_octets topics.now) out.old.items out.new.items result }
 {
     append_u16(out, topics.len() as u16)?;
@@ -80,7 +79,7 @@ fn write_topics(out: &mut Vec<u8>, topics: &Topics) -> Result<(), OpsFault>
 }
 
 /// Writes a subscription.
-fn write_subscription(out: &mut Vec<u8>, entry: &Subscription) -> Result<(), OpsFault>
+fn write_subscription(out: &mut Vec<u8>, entry: &Subscription) -> Result<(), NoMemory>
     ensures { Writes (subscription_octets entry.now) out.old.items out.new.items result }
 {
     write_text(out, entry.filter.bytes())?;
@@ -89,7 +88,7 @@ fn write_subscription(out: &mut Vec<u8>, entry: &Subscription) -> Result<(), Ops
 }
 
 /// Writes subscriptions one after the other.
-fn write_each_subscription(out: &mut Vec<u8>, entries: &[Subscription]) -> Result<(), OpsFault>
+fn write_each_subscription(out: &mut Vec<u8>, entries: &[Subscription]) -> Result<(), NoMemory>
     ensures { Writes (flat_map subscription_octets entries.now) out.old.items out.new.items result }
 {
     for entry in entries {
@@ -99,7 +98,7 @@ fn write_each_subscription(out: &mut Vec<u8>, entries: &[Subscription]) -> Resul
 }
 
 /// Writes subscriptions.
-fn write_subscriptions(out: &mut Vec<u8>, entries: &Subscriptions) -> Result<(), OpsFault>
+fn write_subscriptions(out: &mut Vec<u8>, entries: &Subscriptions) -> Result<(), NoMemory>
     ensures { Writes (table_octets subscription_octets entries.now) out.old.items
         out.new.items result }
 {
@@ -109,7 +108,7 @@ fn write_subscriptions(out: &mut Vec<u8>, entries: &Subscriptions) -> Result<(),
 }
 
 /// Writes message ids one after the other.
-fn write_ids(out: &mut Vec<u8>, ids: &[u16]) -> Result<(), OpsFault>
+fn write_ids(out: &mut Vec<u8>, ids: &[u16]) -> Result<(), NoMemory>
     ensures { Writes (flat_map (big_bytes 2) ids.now) out.old.items out.new.items result }
 {
     for id in ids {
@@ -119,7 +118,7 @@ fn write_ids(out: &mut Vec<u8>, ids: &[u16]) -> Result<(), OpsFault>
 }
 
 /// Writes received message ids.
-fn write_received(out: &mut Vec<u8>, received: &Received) -> Result<(), OpsFault>
+fn write_received(out: &mut Vec<u8>, received: &Received) -> Result<(), NoMemory>
     ensures { Writes (table_octets (big_bytes 2) received.now) out.old.items out.new.items result }
 {
     append_u16(out, received.len() as u16)?;
@@ -128,7 +127,7 @@ fn write_received(out: &mut Vec<u8>, received: &Received) -> Result<(), OpsFault
 }
 
 /// Writes a will.
-fn write_will(out: &mut Vec<u8>, will: &Option<Will>) -> Result<(), OpsFault>
+fn write_will(out: &mut Vec<u8>, will: &Option<Will>) -> Result<(), NoMemory>
     requires { IsTrue (is_will will.now) }
     ensures { Writes (option_octets will_octets will.now) out.old.items out.new.items result }
 {
@@ -144,7 +143,7 @@ fn write_will(out: &mut Vec<u8>, will: &Option<Will>) -> Result<(), OpsFault>
 }
 
 /// Writes a will's topic.
-fn write_will_topic(out: &mut Vec<u8>, asked: &Option<WillTopic>) -> Result<(), OpsFault>
+fn write_will_topic(out: &mut Vec<u8>, asked: &Option<WillTopic>) -> Result<(), NoMemory>
     ensures { Writes (option_octets will_topic_octets asked.now) out.old.items
         out.new.items result }
 {
@@ -159,7 +158,7 @@ fn write_will_topic(out: &mut Vec<u8>, asked: &Option<WillTopic>) -> Result<(), 
 }
 
 /// Writes an exchange.
-fn write_exchange(out: &mut Vec<u8>, exchange: &Option<Outbound>) -> Result<(), OpsFault>
+fn write_exchange(out: &mut Vec<u8>, exchange: &Option<Outbound>) -> Result<(), NoMemory>
     ensures { Writes (option_octets exchange_octets exchange.now) out.old.items
         out.new.items result }
 {
@@ -176,7 +175,7 @@ fn write_exchange(out: &mut Vec<u8>, exchange: &Option<Outbound>) -> Result<(), 
 }
 
 /// Writes where the client is, and the numbers of a session.
-fn write_head(out: &mut Vec<u8>, session: &Session) -> Result<(), OpsFault>
+fn write_head(out: &mut Vec<u8>, session: &Session) -> Result<(), NoMemory>
     ensures { Writes ((presence_octet session.now.presence ∷ flag_octet session.now.clean ∷ []) ++
         big_bytes 2 session.now.duration ++ big_bytes 2 session.now.next_id) out.old.items
         out.new.items result }
@@ -188,7 +187,7 @@ fn write_head(out: &mut Vec<u8>, session: &Session) -> Result<(), OpsFault>
 }
 
 /// Writes a session.
-fn write_session(out: &mut Vec<u8>, session: &Session) -> Result<(), OpsFault>
+fn write_session(out: &mut Vec<u8>, session: &Session) -> Result<(), NoMemory>
     requires { IsTrue (is_session session.now) }
     ensures { Writes (session_octets session.now) out.old.items out.new.items result }
 {
@@ -202,7 +201,7 @@ fn write_session(out: &mut Vec<u8>, session: &Session) -> Result<(), OpsFault>
 }
 
 /// Writes a change of a session.
-pub fn write_change(out: &mut Vec<u8>, change: &SessionOp) -> Result<(), OpsFault>
+pub fn write_change(out: &mut Vec<u8>, change: &SessionOp) -> Result<(), NoMemory>
     requires { IsTrue (is_change change.now) }
     ensures { Writes (change_octets change.now) out.old.items out.new.items result }
 {

@@ -1,12 +1,5 @@
 -- Steps from one operation to the next.
-use Rattle.std.specs.Prelude.{ℕ, ◌-◌, ◌^◌, Bool, not, ◌&&◌, Option, min}
-use Rattle.rep_ops.specs.declared.op.Stamp.{Stamp}
-use Rattle.rep_model.specs.Keep.{is_below}
-use Rattle.rep_model.specs.Limits.{is_in_prefix}
-
--- whether a session operation of that name waits for earlier ones
-abbrev pub waits : Option Stamp → ℕ → Stamp × ℕ → Bool
-waits seen prefix name = not (is_below name.0 seen) && not (is_in_prefix seen prefix name)
+use Rattle.std.specs.Prelude.{ℕ, ◌-◌, ◌^◌, min}
 
 -- a count as eight octets have it
 abbrev pub capped : ℕ → ℕ

@@ -2,11 +2,11 @@
 
 ghost use Rattle.std.specs.Prelude.{◌≡◌, IfOk, [], length, List, ℕ};
 
-use super::fault::NoMemory;
 use super::ranges::{exceptions, ranges_of};
 use super::reading::visible_stamp;
 use super::replay::{count_parked, operations_in_order, replay};
 use super::waiting::waiting;
+use octets::NoMemory;
 use rep_model::{ClientView, Puts};
 use rep_ops::{ClientId, Op};
 use std::alloc::Global;

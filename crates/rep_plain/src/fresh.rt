@@ -14,9 +14,9 @@ ghost use Rattle.rep_plain.specs.Tables.{rows_of};
 ghost use Rattle.rep_plain.specs.inner.Tables.{groups_of};
 
 use super::entry::Entry;
-use super::fault::NoMemory;
 use super::news::push_copy;
 use super::table::{Table, own_ops};
+use octets::NoMemory;
 use rep_ops::{ClientId, Op};
 use std::alloc::Global;
 use std::collections::BTreeMap;
@@ -48,7 +48,7 @@ fn add_to_group(
         → IsGrown (rows_of table.now.entries) D (groups_of groups.old.entries)
         → OnOk result (IsGrown (rows_of table.now.entries) (D ++ op ∷ []) (groups_of groups.new.entries)) }
 {
-    let client = op.client().copy(alloc)?;
+    let client = op.client().copied(alloc)?;
     let mut ops = take_group(alloc, table, groups, &client)?;
     ops.push(op)?;
     groups.insert(client, ops)?;

@@ -9,10 +9,10 @@ ghost use Rattle.rep_plain.specs.inner.Steps.{must_stay};
 ghost use Rattle.rep_plain.specs.Tables.{rows_of, IsEntry, AreEntries};
 
 use super::entry::Entry;
-use super::fault::NoMemory;
 use super::news::push_copy;
 use super::ranges::{Range, is_covered, ranges_of};
 use super::table::Table;
+use octets::NoMemory;
 use rep_ops::{ClientId, Delta, Op, Stamp, deltas_of};
 use std::alloc::Global;
 

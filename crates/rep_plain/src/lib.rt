@@ -13,14 +13,12 @@
 //! - `entry`: a client's operations and what they come to.
 //! - `reading`, `replay`, `waiting`, `ranges`: visible stamp, prefix and session, messages that wait,
 //!   acknowledgements.
-//! - `fault`: want of memory.
 //!
 //! The definitions are in `specs/`: `Rows` (clients with their operations, and what a move makes of
 //! them), `Entries` and `Tables` (what the replica's table keeps), `Steps` (small steps of the loops).
 #![tactic(auto)]
 
 mod entry;
-mod fault;
 mod fresh;
 mod held;
 mod news;

@@ -9,9 +9,9 @@ ghost use Rattle.rep_plain.specs.inner.Rows.{AreRows};
 ghost use Rattle.rep_plain.specs.Tables.{rows_of};
 ghost use Rattle.rep_plain.specs.inner.Tables.{is_known, has_range, one_new, IsRefusalOf};
 
-use super::fault::NoMemory;
 use super::reading::{agrees, operation_at, put_at};
 use super::table::{Table, own_ops};
+use octets::NoMemory;
 use rep_model::TakeFault;
 use rep_ops::{ClientId, Op};
 use std::alloc::Global;
@@ -53,7 +53,7 @@ fn add_new(alloc: Global, table: &Table, news: &mut Vec<Op>, op: &Op) -> Result<
 fn conflict(alloc: Global, client: &ClientId) -> TakeFault
     ensures { (result ≡ TakeFault.Conflict client.now) ⊎ (result ≡ TakeFault.Memory) }
 {
-    match client.copy(alloc) {
+    match client.copied(alloc) {
         Ok(client) => TakeFault::Conflict { client },
         Err(_) => TakeFault::Memory,
     }
@@ -106,6 +106,6 @@ fn has_range(client: &ClientId, wanted: u8, range: (u64, u64), op: &Op) -> bool
 pub(crate) fn push_copy(alloc: Global, ops: &mut Vec<Op>, op: &Op) -> Result<(), NoMemory>
     ensures { OnOk result (ops.new.items ≡ ops.old.items ++ op.now ∷ []) }
 {
-    ops.push(op.copy(alloc)?)?;
+    ops.push(op.copied(alloc)?)?;
     Ok(())
 }

@@ -4,7 +4,7 @@ ghost use Rattle.std.specs.Prelude.{◌≡◌, ◌+◌, ℕ, List, ◌∷◌, If
 ghost use Rattle.std.specs.List.{filter_map, list_any};
 ghost use Rattle.rep_model.specs.Limits.{with_range, joined, size_of, above_a_gap};
 
-use super::fault::NoMemory;
+use octets::NoMemory;
 use rep_ops::{ClientId, Op};
 use std::alloc::Global;
 

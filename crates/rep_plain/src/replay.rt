@@ -8,9 +8,9 @@ ghost use Rattle.rep_ops.specs.Sets.{operations};
 ghost use Rattle.rep_model.specs.Views.{in_order, history_at, session_of, after_change};
 ghost use Rattle.std.specs.Prelude.{count_by};
 ghost use Rattle.std.specs.BTreeMap.{keys};
-ghost use Rattle.rep_plain.specs.Steps.{waits};
+ghost use Rattle.rep_plain.specs.inner.Steps.{waits};
 
-use super::fault::NoMemory;
+use octets::NoMemory;
 use rep_ops::{ClientId, Op, Stamp};
 use sn_session::{Session, SessionFault, SessionOp};
 use std::alloc::Global;
@@ -53,7 +53,7 @@ fn note_operation(
             counter,
             change,
         } if owner == client => {
-            known.insert((*stamp, *counter), change.copy(alloc)?)?;
+            known.insert((*stamp, *counter), change.copied(alloc)?)?;
         }
         _ => {}
     }
@@ -100,7 +100,7 @@ fn changed(
             }
         }
         None => match change {
-            SessionOp::Take(taken) => Ok(Some(taken.copy(alloc)?)),
+            SessionOp::Take(taken) => Ok(Some(taken.copied(alloc)?)),
             _ => Ok(None),
         },
     }

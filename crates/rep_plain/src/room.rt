@@ -10,8 +10,8 @@ ghost use Rattle.rep_plain.specs.Tables.{rows_of, HaveRoom};
 ghost use Rattle.rep_plain.specs.inner.Tables.{IsRoomier, AreMovable};
 
 use super::entry::Entry;
-use super::fault::NoMemory;
 use super::table::Table;
+use octets::NoMemory;
 use rep_ops::ClientId;
 use std::alloc::Global;
 
@@ -36,7 +36,7 @@ fn add_place(alloc: Global, table: &mut Table, client: &ClientId) -> Result<(), 
     ensures there { OnOk result (IsSome (find client_cmp client.now (rows_of table.new.entries))) }
 {
     if !table.contains_key(client) {
-        table.insert(client.copy(alloc)?, Entry::empty(alloc))?;
+        table.insert(client.copied(alloc)?, Entry::empty(alloc))?;
     }
     Ok(())
 }

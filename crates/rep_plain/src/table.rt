@@ -10,7 +10,7 @@ ghost use Rattle.rep_plain.specs.Tables.{rows_of};
 ghost use Rattle.rep_plain.specs.inner.Tables.{passed_by, too_many_pending, too_many_parked, too_many_exceptions};
 
 use super::entry::Entry;
-use super::fault::NoMemory;
+use octets::NoMemory;
 use rep_model::{Limit, MOST_CLIENTS, MOST_EXCEPTIONS, MOST_PARKED, MOST_PENDING};
 use rep_ops::{ClientId, Op};
 use std::alloc::Global;
@@ -86,7 +86,7 @@ pub(crate) fn named_clients(alloc: Global, table: &Table) -> Result<Vec<ClientId
     let mut clients = Vec::new(alloc);
     for (client, entry) in table {
         if !entry.ops.as_slice().is_empty() {
-            clients.push(client.copy(alloc)?)?;
+            clients.push(client.copied(alloc)?)?;
         }
     }
     Ok(clients)

@@ -8,8 +8,8 @@ ghost use Rattle.rep_ops.specs.Orders.{put_cmp};
 ghost use Rattle.rep_model.specs.Views.{in_order, pending};
 ghost use Rattle.rep_plain.specs.inner.Steps.{range_in, unacknowledged_by};
 
-use super::fault::NoMemory;
 use super::ranges::{Range, is_covered};
+use octets::NoMemory;
 use rep_model::Puts;
 use rep_ops::{ClientId, Op, Put};
 use std::alloc::Global;
@@ -58,7 +58,7 @@ fn note_put(
     match op {
         Op::Put { client: owner, put }
             if owner == client && !is_covered(ranges, put.seq, put.origin) => {
-            by_name.insert((put.seq, put.origin), put.copy(alloc)?)?;
+            by_name.insert((put.seq, put.origin), put.copied(alloc)?)?;
         }
         _ => {}
     }

@@ -14,6 +14,7 @@ use Rattle.std.specs.Str.{bytes_eq}
 use Rattle.std.specs.Ordering.{is_eq, eq_by_cmp}
 use Rattle.std.specs.FinMap.{find, put}
 use Rattle.std.specs.FinMap.Entries.{find-put}
+use Rattle.std.proofs.lemmas.Map.Views.{tells_apart}
 use Rattle.sn_topic.specs.Levels.{is_wildcard, has_wildcard, is_hash, is_plus, is_only, levels, begins_with_wildcard}
 use Rattle.sn_topic.specs.Matching.{is_match, levels_match, level_agrees, no_level, begins_with_dollar}
 use Rattle.sn_session.specs.Tables.{with_entry}
@@ -36,10 +37,15 @@ use Rattle.rep_state.proofs.Rows.{table_rows}
 use Rattle.rep_state.proofs.Walking.{names_from}
 use Rattle.rep_state.specs.declared.entry.Entry.{Entry}
 use Rattle.rep_state.specs.declared.places.Place.{Place}
+use Rattle.rep_state.specs.declared.log.Log.{Log}
+use Rattle.rep_state.specs.declared.change.Change.{Change}
+use Rattle.rep_state.specs.Logs.{session_on}
+use Rattle.rep_state.specs.inner.Staging.{applied}
 use Rattle.rep_state.specs.Tables.{arrivals, names_at, rows_of, ArePlaces, IsKept, IsTable}
 use Rattle.rep_state.specs.inner.Tables.{place_cmp}
 use Rattle.rep_state.specs.Interests.{mixed_with, mark_of, has_mark, AskWithin, SessionWithin, EntryWithin, AreMarked}
-use Rattle.rep_state.specs.inner.Interests.{marked, NoneMarked, IsPassed, IsSilent, AreSilent, IsNext}
+use Rattle.rep_state.specs.inner.Groups.{held_of, or_nothing_held}
+use Rattle.rep_state.specs.inner.Interests.{marked, AreMarksOf, noted, NoneMarked, IsPassed, IsSilent, AreSilent, IsNext}
 
 -- ---- a filter without wildcards asks for itself alone
 
@@ -233,6 +239,37 @@ marked_anew es new c e marks (p ∷ places) h is within = (one, marked_anew es n
     one : Q (marked c marks p)
     one = there (is_eq (client_cmp p.name c)) refl
 
+-- one that asks for what it asked for
+pub marked_as_before : (es new : List (List ℕ × Entry)) (c : List ℕ) (e : Entry) (places : List Place) → AreMarked es places → new ≡ put client_cmp c e es → e.seen.session ≡ (held_of c es).seen.session → AreMarked new places
+marked_as_before es new c e [] h is same = tt
+marked_as_before es new c e (p ∷ places) h is same = (one (eq_by_cmp client_cmp p.name c) refl, marked_as_before es new c e places h.1 is same)
+  where
+    found : (b : Bool) → eq_by_cmp client_cmp p.name c ≡ b → find client_cmp p.name new ≡ cond b (Some e) (find client_cmp p.name es)
+    found b t = ap (find client_cmp p.name) is ∙ find-put client_cmp client_total p.name c e es ∙ ap (λ b. cond b (Some e) (find client_cmp p.name es)) t
+
+    session : (o : Option Entry) → EntryWithin p.marks o → SessionWithin p.marks (or_nothing_held o).seen.session
+    session None w = tt
+    session (Some x) w = w
+
+    one : (b : Bool) → eq_by_cmp client_cmp p.name c ≡ b → EntryWithin p.marks (find client_cmp p.name new)
+    one true t =
+        let name = tells_apart client_exact p.name c t in
+        subst (EntryWithin p.marks) (sym (found true t)) (subst (SessionWithin p.marks) (sym same) (session (find client_cmp c es) (subst (λ k. EntryWithin p.marks (find client_cmp k es)) name h.0)))
+    one false t = subst (EntryWithin p.marks) (sym (found false t)) h.0
+
+-- the marks after a change
+pub marked_noted : (es new : List (List ℕ × Entry)) (c : List ℕ) (ch : Change) (marks : Option ℕ) (places : List Place) → AreMarked es places → new ≡ put client_cmp c (applied (held_of c es) ch) es → AreMarksOf ch.log marks → AreMarked new (noted c marks places)
+marked_noted es new c ch marks places h is are = by ch.log marks refl are
+  where
+    by : (log : Option Log) (marks : Option ℕ) → ch.log ≡ log → AreMarksOf log marks → AreMarked new (noted c marks places)
+    by None None e are = marked_as_before es new c (applied (held_of c es) ch) places h is (ap (session_on (held_of c es).seen.session) e)
+    by None (Some m) e are = some_none are
+      where
+        some_none : {P : Type 0} → Some m ≡ None → P
+        some_none p = cc
+    by (Some log) None e are = absurd are
+    by (Some log) (Some m) e are = marked_anew es new c (applied (held_of c es) ch) m places h is (subst (SessionWithin m) (sym (ap (session_on (held_of c es).seen.session) e)) are)
+
 -- marks move unmarked place
 pub places_marked : (entries : List (Vec ℕ Global × Entry)) (c : List ℕ) (marks : ℕ) (places : List Place) → ArePlaces entries places → ArePlaces entries (map (marked c marks) places)
 places_marked entries c marks places h = record { names = names places ∙ h.names; each = each places h.each }
@@ -255,6 +292,10 @@ places_marked entries c marks places h = record { names = names places ∙ h.nam
     each : (places : List Place) → AllByRecursion leads_to places → AllByRecursion leads_to (map (marked c marks) places)
     each [] h = tt
     each (p ∷ places) h = (leads p (is_eq (client_cmp p.name c)) h.0, each places h.1)
+
+pub places_noted : (entries : List (Vec ℕ Global × Entry)) (c : List ℕ) (marks : Option ℕ) (places : List Place) → ArePlaces entries places → ArePlaces entries (noted c marks places)
+places_noted entries c None places h = h
+places_noted entries c (Some m) places h = places_marked entries c m places h
 
 -- ---- the place of a client
 

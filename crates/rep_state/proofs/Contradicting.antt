@@ -1,7 +1,5 @@
 -- An operation against what is kept under its name.
 use Rattle.std.proofs.Common.{◌≡◌, ℕ, List, [], Option, IfSome, sym, ap, ◌∙◌, subst}
-use Rattle.std.specs.Map.{lookup}
-use Rattle.std.specs.BTreeMap.{is_at}
 use Rattle.std.specs.FinMap.{find}
 use Rattle.sn_session.specs.declared.change.SessionOp.{SessionOp}
 use Rattle.rep_ops.specs.declared.op.Stamp.{Stamp}
@@ -10,18 +8,17 @@ use Rattle.rep_ops.specs.declared.op.Op.{Op}
 use Rattle.rep_ops.specs.declared.op.Op.TheVariants.{Session as OfSession, Put as OfPut, Ack}
 use Rattle.rep_ops.specs.Orders.{operation_cmp, put_cmp, client_of}
 use Rattle.rep_ops.specs.Sets.{operation_at, put_at, Agrees}
-use Rattle.rep_plain.proofs.Maps.{lookup_is_find}
 use Rattle.rep_state.specs.declared.entry.Entry.{Entry}
 use Rattle.rep_state.specs.Entries.{row_of}
 use Rattle.rep_state.specs.Mail.{put_named}
 use Rattle.rep_state.specs.Origins.{ranges_in}
 use Rattle.rep_state.proofs.Client.{kept_operations, kept_puts}
 
-pub agrees_session : (e : Entry) (c : List ℕ) (s : Stamp) (k : ℕ) (x : SessionOp) (op : Op) (o : Option SessionOp) (B : Type 0) → op ≡ OfSession c s k x → o ≡ lookup (is_at (operation_cmp (s, k))) e.known.entries
+pub agrees_session : (e : Entry) (c : List ℕ) (s : Stamp) (k : ℕ) (x : SessionOp) (op : Op) (o : Option SessionOp) (B : Type 0) → op ≡ OfSession c s k x → o ≡ find operation_cmp (s, k) e.known
     → (B → IfSome o (λ (kept : SessionOp). kept ≡ x)) × (IfSome o (λ (kept : SessionOp). kept ≡ x) → B)
     → (B → Agrees (row_of (client_of op) e) op) × (Agrees (row_of (client_of op) e) op → B)
 agrees_session e c s k x op o B is h both =
-    let found : o ≡ operation_at c (row_of c e) (s, k) = h ∙ lookup_is_find operation_cmp (s, k) e.known.entries ∙ sym (ap (find operation_cmp (s, k)) (kept_operations c e.known.entries e.seen.pending (ranges_in e.acks))) in (
+    let found : o ≡ operation_at c (row_of c e) (s, k) = h ∙ sym (ap (find operation_cmp (s, k)) (kept_operations c e.known e.seen.pending (ranges_in e.acks))) in (
       λ b. subst (λ (op : Op). Agrees (row_of (client_of op) e) op) (sym is) (subst (λ (o : Option SessionOp). IfSome o (λ (kept : SessionOp). kept ≡ x)) found (both.0 b)),
       λ a. both.1 (subst (λ (o : Option SessionOp). IfSome o (λ (kept : SessionOp). kept ≡ x)) (sym found) (subst (λ (op : Op). Agrees (row_of (client_of op) e) op) is a)),
     )
@@ -30,7 +27,7 @@ pub agrees_put : (e : Entry) (c : List ℕ) (p : Put) (op : Op) (o : Option Put)
     → (B → IfSome o (λ (kept : Put). kept ≡ p)) × (IfSome o (λ (kept : Put). kept ≡ p) → B)
     → (B → Agrees (row_of (client_of op) e) op) × (Agrees (row_of (client_of op) e) op → B)
 agrees_put e c p op o B is h both =
-    let found : o ≡ put_at c (row_of c e) (p.seq, p.origin) = h ∙ sym (ap (find put_cmp (p.seq, p.origin)) (kept_puts c e.known.entries e.seen.pending (ranges_in e.acks))) in (
+    let found : o ≡ put_at c (row_of c e) (p.seq, p.origin) = h ∙ sym (ap (find put_cmp (p.seq, p.origin)) (kept_puts c e.known e.seen.pending (ranges_in e.acks))) in (
       λ b. subst (λ (op : Op). Agrees (row_of (client_of op) e) op) (sym is) (subst (λ (o : Option Put). IfSome o (λ (kept : Put). kept ≡ p)) found (both.0 b)),
       λ a. both.1 (subst (λ (o : Option Put). IfSome o (λ (kept : Put). kept ≡ p)) (sym found) (subst (λ (op : Op). Agrees (row_of (client_of op) e) op) is a)),
     )

@@ -12,14 +12,15 @@ use Rattle.rep_state.specs.Mail.{Rising, NoneCovered}
 use Rattle.rep_state.specs.Origins.{ranges_in, AreOrigins}
 use Rattle.rep_state.specs.Kept.{kept_ops}
 use Rattle.rep_state.specs.Entries.{AreChanges, AreMade, row_of, IsEntry}
+use Rattle.rep_state.specs.inner.Groups.{nothing_held}
 use Rattle.rep_state.proofs.Counts.{folded_as}
 
-pub empty_entry : (c : List ℕ) (e : Entry) → e.seen.stamp ≡ None → e.seen.prefix ≡ 0 → e.seen.session ≡ None → e.seen.pending ≡ [] → e.known.entries ≡ [] → e.acks ≡ [] → e.parked ≡ 0 → e.exceptions ≡ 0 → IsEntry c e
+pub empty_entry : (c : List ℕ) (e : Entry) → e.seen.stamp ≡ None → e.seen.prefix ≡ 0 → e.seen.session ≡ None → e.seen.pending ≡ [] → e.known ≡ [] → e.acks ≡ [] → e.parked ≡ 0 → e.exceptions ≡ 0 → IsEntry c e
 unfolding exceptions
 empty_entry c e stamp prefix session pending known acks none no_exception =
     let row : row_of c e ≡ [] = λ i. kept_ops c (known i) (pending i) (ranges_in (acks i)) in
     record {
-      folded = folded_as e.seen.stamp None e.seen.prefix 0 e.seen.session None e.known.entries [] stamp prefix session known (record { visible = refl; prefix = refl; session = refl; none_below = tt });
+      folded = folded_as e.seen.stamp None e.seen.prefix 0 e.seen.session None e.known [] stamp prefix session known (record { visible = refl; prefix = refl; session = refl; none_below = tt });
       ordered = subst (λ (es : List ((Stamp × ℕ) × SessionOp)). T (is_sorted operation_cmp es)) (sym known) tt;
       changes = subst AreChanges (sym known) tt;
       rising = subst Rising (sym pending) tt;
@@ -29,3 +30,7 @@ empty_entry c e stamp prefix session pending known acks none no_exception =
       parked = none ∙ sym (ap (λ (S : List Op). length (parked c S)) row);
       exceptions = no_exception ∙ sym (ap (λ (S : List Op). capped (exceptions c S)) row);
     }
+
+-- nothing is known of a client that has no place
+pub nothing_is : (c : List ℕ) → IsEntry c nothing_held
+nothing_is c = empty_entry c nothing_held refl refl refl refl refl refl refl refl

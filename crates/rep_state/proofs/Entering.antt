@@ -12,11 +12,11 @@ use Rattle.rep_state.proofs.Owning.{own_row}
 use Rattle.rep_state.proofs.Changes.{keeps_itself}
 
 pub seen_row : (c : List ℕ) (e : Entry) → IsEntry c e → e.seen ≡ view c (row_of c e)
-seen_row c e h = kept_view c e.known.entries e.seen.pending (ranges_in e.acks) e.seen.stamp e.seen.prefix e.seen.session h.folded.visible h.folded.prefix h.folded.session h.rising h.none_covered
+seen_row c e h = kept_view c e.known e.seen.pending (ranges_in e.acks) e.seen.stamp e.seen.prefix e.seen.session h.folded.visible h.folded.prefix h.folded.session h.rising h.none_covered
 
 pub own_entry : (c : List ℕ) (e : Entry) → IsEntry c e → IsOwn c (row_of c e)
-own_entry c e h = own_row c e.known.entries e.seen.pending e.acks h.changes h.made h.origins
+own_entry c e h = own_row c e.known e.seen.pending e.acks h.changes h.made h.origins
 
 -- nothing of it need be dropped
 pub keeps_row : (c : List ℕ) (e : Entry) → IsEntry c e → Same (row_of c e) (keep (row_of c e))
-keeps_row c e h = keeps_itself c e.known.entries e.seen.stamp h.folded.visible h.folded.none_below (ranges_in e.acks) e.seen.pending h.none_covered
+keeps_row c e h = keeps_itself c e.known e.seen.stamp h.folded.visible h.folded.none_below (ranges_in e.acks) e.seen.pending h.none_covered

@@ -14,6 +14,7 @@ use Rattle.rep_model.proofs.Lookup.{or_else}
 use Rattle.rep_model.proofs.Readers.{put_total, put_exact}
 use Rattle.rep_plain.proofs.Flat.{all_put}
 use Rattle.rep_state.specs.Mail.{Range, name_of, covers, Above, Rising, NoneCovered, named_puts, put_named, InOne, weave}
+use Rattle.rep_state.specs.Origins.{ranges_in, origins_after, ranges_on}
 use Rattle.rep_state.specs.Entries.{AreUnderNames, AreMade, NoneCoveredBelow, messages}
 use Rattle.rep_state.proofs.Rising.{IsApart, AreApart, weave_all}
 
@@ -32,6 +33,10 @@ less Greater p = absurd p
 
 some_none : {X P : Type 0} (x : X) → Some x ≡ None → P
 some_none x e = cc
+
+pub ranges_same : (origins : List (ℕ × List (ℕ × ℕ))) (acks : Option (List (ℕ × List (ℕ × ℕ)))) → ranges_in (origins_after origins acks) ≡ ranges_on (ranges_in origins) acks
+ranges_same origins None = refl
+ranges_same origins (Some more) = refl
 
 -- ---- what stands under a name
 

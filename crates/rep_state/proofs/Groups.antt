@@ -22,7 +22,7 @@ use Rattle.rep_state.specs.declared.entry.Entry.{Entry}
 use Rattle.rep_state.specs.declared.fresh.Fresh.{Fresh}
 use Rattle.rep_state.specs.Entries.{row_of, IsFresh, fresh_row}
 use Rattle.rep_state.specs.Tables.{rows_of, AreKept, IsKept}
-use Rattle.rep_state.specs.inner.Groups.{waiting_of, IsTaken, IsGroup, IsGroupOf, AreGroups, fresh_rows, IsRowOf, AreRowsOf}
+use Rattle.rep_state.specs.inner.Groups.{held_of, IsTaken, IsGroup, IsGroupOf, AreGroups, fresh_rows, IsRowOf, AreRowsOf}
 use Rattle.rep_state.proofs.Steps.{kept_step, kept_between}
 use Rattle.rep_state.proofs.Entering.{keeps_row}
 use Rattle.rep_state.proofs.Rows.{find_rows}
@@ -39,11 +39,11 @@ any_behind (x ∷ ops) op = refl
 
 -- the client of the operation
 pub group_more : (c : List ℕ) (es : List (List ℕ × Entry)) (D : List Op) (op : Op) (old new : Fresh) → same_client c (client_of op) ≡ true
-    → IsTaken c es D (fresh_row c (waiting_of c es) old)
-    → IsFresh (waiting_of c es) new × Same (fresh_row c (waiting_of c es) new) (keep (fresh_row c (waiting_of c es) old ++ op ∷ []))
+    → IsTaken c es D (fresh_row c (held_of c es) old)
+    → IsFresh c (held_of c es) new × Same (fresh_row c (held_of c es) new) (keep (fresh_row c (held_of c es) old ++ op ∷ []))
     → IsGroup c es (D ++ op ∷ []) new
 group_more c es D op old new mine taken more =
-    let w = waiting_of c es in
+    let w = held_of c es in
     let K = own c (rows_of es) in
     let all : of_client c (D ++ op ∷ []) ≡ of_client c D ++ op ∷ [] = behind c D op true mine in
     record {
@@ -65,7 +65,7 @@ group_apart c es D op o other h = at o h
     at None h = same ∙ h
     at (Some f) h = record {
       fresh_is = h.fresh_is;
-      taken = subst (λ ops. Same (fresh_row c (waiting_of c es) f) (keep (own c (rows_of es) ++ ops))) (sym same) h.taken;
+      taken = subst (λ ops. Same (fresh_row c (held_of c es) f) (keep (own c (rows_of es) ++ ops))) (sym same) h.taken;
       any = ap has_any same ∙ h.any;
     }
 
@@ -127,14 +127,14 @@ any_taken c es D ops mine all any taken =
 pub rows_of_groups : (es : List (List ℕ × Entry)) (D : List Op) (groups : List (List ℕ × Fresh)) → AreGroups es D groups → AreRowsOf es D (fresh_rows es groups)
 rows_of_groups es D groups h c = subst (IsRowOf c es D) (sym (find_fresh c groups)) (at (find client_cmp c groups) (h c))
   where
-    find_fresh : (c : List ℕ) (gs : List (List ℕ × Fresh)) → find client_cmp c (fresh_rows es gs) ≡ option_map (fresh_row c (waiting_of c es)) (find client_cmp c gs)
+    find_fresh : (c : List ℕ) (gs : List (List ℕ × Fresh)) → find client_cmp c (fresh_rows es gs) ≡ option_map (fresh_row c (held_of c es)) (find client_cmp c gs)
     find_fresh c [] = refl
     find_fresh c (g ∷ gs) =
-        elim (eq_by_cmp client_cmp c g.0) as (λ b. eq_by_cmp client_cmp c g.0 ≡ b → cond b (Some (fresh_row g.0 (waiting_of g.0 es) g.1)) (find client_cmp c (fresh_rows es gs)) ≡ option_map (fresh_row c (waiting_of c es)) (cond b (Some g.1) (find client_cmp c gs))) [
-          | true ↦ λ t. ap (λ d. Some (fresh_row d (waiting_of d es) g.1)) (sym (tells_apart client_exact c g.0 t))
+        elim (eq_by_cmp client_cmp c g.0) as (λ b. eq_by_cmp client_cmp c g.0 ≡ b → cond b (Some (fresh_row g.0 (held_of g.0 es) g.1)) (find client_cmp c (fresh_rows es gs)) ≡ option_map (fresh_row c (held_of c es)) (cond b (Some g.1) (find client_cmp c gs))) [
+          | true ↦ λ t. ap (λ d. Some (fresh_row d (held_of d es) g.1)) (sym (tells_apart client_exact c g.0 t))
           | false ↦ λ _. find_fresh c gs
         ] refl
 
-    at : (o : Option Fresh) → IsGroupOf c es D o → IsRowOf c es D (option_map (fresh_row c (waiting_of c es)) o)
+    at : (o : Option Fresh) → IsGroupOf c es D o → IsRowOf c es D (option_map (fresh_row c (held_of c es)) o)
     at None h = h
     at (Some f) h = (h.taken, h.any)

@@ -6,8 +6,10 @@ pub mod Client
 pub mod Steps
 pub mod One
 pub mod Acknowledged
+pub mod Sorting
 pub mod Copying
 pub mod Changes
+pub mod Changing
 pub mod Freshness
 pub mod Owning
 pub mod Counts

@@ -7,8 +7,6 @@ use Rattle.std.proofs.lemmas.Map.Views.{tells_apart}
 use Rattle.std.proofs.lemmas.Bool.Decides.{nat_tests}
 use Rattle.std.specs.FinMap.Entries.{is_some-find, by_order}
 use Rattle.rep_model.proofs.Greatest.{has, greatest-has, same_greatest}
-use Rattle.rep_plain.proofs.Maps.{insert_is_put}
-use Rattle.std.specs.BTreeMap.{insert_entry}
 use Rattle.std.specs.FinMap.{find, put}
 use Rattle.std.specs.FinMap.Entries.{find-where_key, find-put}
 use Rattle.sn_session.specs.declared.session.Session.{Session}
@@ -18,8 +16,8 @@ use Rattle.rep_ops.specs.Orders.{stamp_cmp, operation_cmp}
 use Rattle.rep_model.specs.Views.{greatest, greater, take_stamp, names, gapless, then_more, session_of, after_change}
 use Rattle.rep_model.specs.Keep.{is_below}
 use Rattle.rep_model.proofs.Readers.{operation_total, operation_exact, stamp_total, stamp_exact}
-use Rattle.rep_state.specs.Logs.{visible_in, history_in, IsFoldedOf, IsKeptIn}
-use Rattle.rep_state.specs.inner.Logs.{IsReplayed}
+use Rattle.rep_state.specs.Logs.{visible_in, history_in, IsFoldedOf}
+use Rattle.rep_state.specs.inner.Logs.{IsKeptIn, IsReplayed}
 
 Entry : Type 0
 Entry = (Stamp × ℕ) × SessionOp
@@ -202,8 +200,8 @@ module _ (s : Stamp) (k : ℕ) (x : SessionOp) (es : List ((Stamp × ℕ) × Ses
 
 -- ---- an operation that is not below the visible stamp
 
-insert_found : (name : Stamp × ℕ) (x : SessionOp) (es more : List ((Stamp × ℕ) × SessionOp)) → more ≡ insert_entry operation_cmp es name x → (q : Stamp × ℕ) → find operation_cmp q more ≡ find operation_cmp q ((name, x) ∷ es)
-insert_found name x es more is q = ap (find operation_cmp q) (is ∙ insert_is_put operation_cmp name x es) ∙ find-put operation_cmp operation_total q name x es
+insert_found : (name : Stamp × ℕ) (x : SessionOp) (es more : List ((Stamp × ℕ) × SessionOp)) → more ≡ put operation_cmp name x es → (q : Stamp × ℕ) → find operation_cmp q more ≡ find operation_cmp q ((name, x) ∷ es)
+insert_found name x es more is q = ap (find operation_cmp q) is ∙ find-put operation_cmp operation_total q name x es
 
 none_below_put : (stamp : Option Stamp) (name : Stamp × ℕ) (x : SessionOp) (es : List ((Stamp × ℕ) × SessionOp)) → is_below name.0 stamp ≡ false → NoneBelow stamp es → NoneBelow stamp (put operation_cmp name x es)
 none_below_put stamp name x [] here h = (here, tt)
@@ -223,7 +221,7 @@ kept_none_below stamp (e ∷ es) =
     ] refl
 
 module _ (s : Stamp) (k : ℕ) (x : SessionOp) (es more : List ((Stamp × ℕ) × SessionOp)) (stamp : Option Stamp) (visible : stamp ≡ visible_in es) (none : NoneBelow stamp es)
-    (high : is_below s stamp ≡ false) (is : more ≡ insert_entry operation_cmp es (s, k) x) where
+    (high : is_below s stamp ≡ false) (is : more ≡ put operation_cmp (s, k) x es) where
   abbrev grown : List ((Stamp × ℕ) × SessionOp)
   grown = ((s, k), x) ∷ es
 
@@ -240,7 +238,7 @@ module _ (s : Stamp) (k : ℕ) (x : SessionOp) (es more : List ((Stamp × ℕ) �
   none_below_take kept are = subst (NoneBelow (Some s)) (sym are) (kept_none_below (Some s) more)
 
   none_below_grown : NoneBelow stamp more
-  none_below_grown = subst (NoneBelow stamp) (sym (is ∙ insert_is_put operation_cmp (s, k) x es)) (none_below_put stamp (s, k) x es high none)
+  none_below_grown = subst (NoneBelow stamp) (sym is) (none_below_put stamp (s, k) x es high none)
 
   -- any other: the visible stamp stays
   pub kept_other : (k == 0) ≡ false → IsKeptIn grown more stamp

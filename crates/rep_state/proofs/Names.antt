@@ -1,5 +1,5 @@
 -- Messages in order, by their names; and new ones behind them.
-use Rattle.std.proofs.Common.{◌≡◌, ℕ, zero, suc, ◌+◌, ◌-◌, ◌<◌, ◌≤◌, ◌==◌, max, true, false, cond, if◌then◌else◌, List, [], ◌∷◌, ◌++◌, length, drop, get_or, slice_get, Option, Some, None, refl, sym, ap, ◌∙◌, subst, arith, Ordering, Less, Equal, Greater, nat_cmp, true≢false}
+use Rattle.std.proofs.Common.{◌≡◌, ℕ, zero, suc, ◌-◌, ◌≤◌, ◌==◌, max, true, false, cond, if◌then◌else◌, List, [], ◌∷◌, ◌++◌, length, drop, get_or, slice_get, Some, None, refl, sym, ap, ◌∙◌, subst, arith, Ordering, Less, Equal, Greater, nat_cmp, true≢false}
 use Rattle.std.proofs.lemmas.Bool.Decides.{nat_tests}
 use Rattle.std.proofs.lemmas.Option.{slice_get-get_or}
 use Rattle.std.specs.List.{AllByRecursion}
@@ -10,7 +10,7 @@ use Rattle.rep_ops.specs.declared.op.Put.{Put}
 use Rattle.rep_ops.specs.Orders.{put_cmp}
 use Rattle.rep_model.specs.Fresh.{largest}
 use Rattle.rep_model.proofs.Readers.{put_total}
-use Rattle.rep_state.specs.Mail.{name_of, goes_before, front_before, rest_from, weave, IsLess, Above, Rising, put_named}
+use Rattle.rep_state.specs.Mail.{name_of, goes_before, front_before, rest_from, weave, IsLess, Rising, put_named}
 use Rattle.rep_state.specs.inner.Mail.{are_behind}
 use Rattle.rep_state.specs.inner.Numbers.{seq_from}
 

@@ -18,7 +18,8 @@ use Rattle.rep_model.specs.Keep.{is_below, keep}
 use Rattle.rep_model.proofs.Lookup.{or_else, find_both}
 use Rattle.rep_model.proofs.Readers.{same_client-true, operation_exact, put_exact, operation_at_both, put_at_both, is_acknowledged_both}
 use Rattle.rep_model.proofs.Thin.{thin-same, visible-thin}
-use Rattle.rep_state.specs.Logs.{visible_in, IsKeptIn}
+use Rattle.rep_state.specs.Logs.{visible_in}
+use Rattle.rep_state.specs.inner.Logs.{IsKeptIn}
 use Rattle.rep_state.proofs.Logging.{NoneBelow, all_kept}
 use Rattle.rep_state.specs.Mail.{name_of, Range, covers, put_named}
 use Rattle.rep_state.specs.Kept.{of_log, of_mail, of_acks, kept_ops}

@@ -23,7 +23,7 @@ use Rattle.rep_model.proofs.Joins.{all-both, all-weaker}
 use Rattle.rep_plain.specs.Rows.{IsOwnOp, IsOwn}
 use Rattle.rep_plain.proofs.Counting.{all_found}
 use Rattle.rep_plain.proofs.Flat.{named_client}
-use Rattle.rep_state.specs.Logs.{IsKeptIn}
+use Rattle.rep_state.specs.inner.Logs.{IsKeptIn}
 use Rattle.rep_state.specs.Mail.{Range}
 use Rattle.rep_state.specs.Origins.{ranges_in, IsOrigin, AreOrigins}
 use Rattle.rep_state.specs.Kept.{of_log, of_mail, of_acks, kept_ops}

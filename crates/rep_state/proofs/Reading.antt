@@ -59,10 +59,10 @@ any_acks : (c : List ℕ) (os : List (ℕ × List (ℕ × ℕ))) → has_any (of
 any_acks c [] = refl
 any_acks c (o ∷ os) = ap has_any (acks_both c (map (λ r. (o.0, r)) o.1) (ranges_in os)) ∙ any_both (of_acks c (map (λ r. (o.0, r)) o.1)) (of_acks c (ranges_in os)) ∙ (λ i. any_origin c o.0 o.1 i || any_acks c os i)
 
-pub any_row : (c : List ℕ) (e : Entry) → has_any (row_of c e) ≡ (not (length e.known.entries == 0) || (not (length e.seen.pending == 0) || list_any (λ (o : ℕ × List (ℕ × ℕ)). not (length o.1 == 0)) e.acks))
+pub any_row : (c : List ℕ) (e : Entry) → has_any (row_of c e) ≡ (not (length e.known == 0) || (not (length e.seen.pending == 0) || list_any (λ (o : ℕ × List (ℕ × ℕ)). not (length o.1 == 0)) e.acks))
 any_row c e =
-    any_both (of_log c e.known.entries) (of_mail c e.seen.pending ++ of_acks c (ranges_in e.acks))
-    ∙ (λ i. any_log c e.known.entries i || (any_both (of_mail c e.seen.pending) (of_acks c (ranges_in e.acks)) ∙ (λ j. any_mail c e.seen.pending j || any_acks c e.acks j)) i)
+    any_both (of_log c e.known) (of_mail c e.seen.pending ++ of_acks c (ranges_in e.acks))
+    ∙ (λ i. any_log c e.known i || (any_both (of_mail c e.seen.pending) (of_acks c (ranges_in e.acks)) ∙ (λ j. any_mail c e.seen.pending j || any_acks c e.acks j)) i)
 
 pub any_ranges : (es : List (ℕ × Vec (ℕ × ℕ) Global)) → list_any (λ (v : Vec (ℕ × ℕ) Global). not (length v.items == 0)) (map (λ e. e.1) es) ≡ list_any (λ (o : ℕ × List (ℕ × ℕ)). not (length o.1 == 0)) (origins_of es)
 any_ranges [] = refl
@@ -120,17 +120,17 @@ module _ (c : List ℕ) (g : ℕ) where
   -- the greatest sequence number is that of a message that waits, or the end of a range
   pub largest_row : (e : Entry) → AreOrigins e.acks → largest (seq_of c g) (row_of c e) ≡ max (largest (seq_from g) e.seen.pending) (largest (λ (r : ℕ × ℕ). r.1) (ranges_at g e.acks))
   largest_row e h =
-      let all = largest_both (seq_of c g) (of_log c e.known.entries) (of_mail c e.seen.pending ++ of_acks c (ranges_in e.acks)) in
+      let all = largest_both (seq_of c g) (of_log c e.known) (of_mail c e.seen.pending ++ of_acks c (ranges_in e.acks)) in
       let mail = largest_both (seq_of c g) (of_mail c e.seen.pending) (of_acks c (ranges_in e.acks)) in
-      all ∙ (λ i. max (largest_log e.known.entries i) ((mail ∙ (λ j. max (largest_mail e.seen.pending j) (largest_acks e.acks h.sorted h.apart j))) i))
+      all ∙ (λ i. max (largest_log e.known i) ((mail ∙ (λ j. max (largest_mail e.seen.pending j) (largest_acks e.acks h.sorted h.apart j))) i))
       ∙ (let e : max 0 (max (largest (seq_from g) e.seen.pending) (largest (λ (r : ℕ × ℕ). r.1) (ranges_at g e.acks))) ≡ max (largest (seq_from g) e.seen.pending) (largest (λ (r : ℕ × ℕ). r.1) (ranges_at g e.acks)) = omega arith in e)
 
 names_keys : (es : List ((Stamp × ℕ) × SessionOp)) → largest (λ (name : Stamp × ℕ). name.0.epoch) (names es) ≡ largest epoch_of (keys_of es)
 names_keys [] = refl
 names_keys (e ∷ es) = ap (max e.0.0.epoch) (names_keys es)
 
-pub epoch_row : (c : List ℕ) (e : Entry) → greatest_epoch c (row_of c e) ≡ largest epoch_of (keys_of e.known.entries)
-epoch_row c e = ap (λ es. largest (λ (name : Stamp × ℕ). name.0.epoch) (names es)) (kept_operations c e.known.entries e.seen.pending (ranges_in e.acks)) ∙ names_keys e.known.entries
+pub epoch_row : (c : List ℕ) (e : Entry) → greatest_epoch c (row_of c e) ≡ largest epoch_of (keys_of e.known)
+epoch_row c e = ap (λ es. largest (λ (name : Stamp × ℕ). name.0.epoch) (names es)) (kept_operations c e.known e.seen.pending (ranges_in e.acks)) ∙ names_keys e.known
 
 -- ---- lists of entries
 

@@ -1,40 +1,47 @@
 -- What is staged of each client, and the entries that it makes.
-use Rattle.std.proofs.Common.{◌≡◌, ℕ, suc, ◌+◌, ◌==◌, ◌≤◌, eqb-true, Bool, true, false, cond, ◌&&◌, ◌||◌, nat_lt, List, [], ◌∷◌, ◌++◌, filter, length, count_by, Option, Some, None, is_some, IsSome, IsTrue, T, refl, sym, ap, ◌∙◌, subst, arith, Ordering, Less, Equal, Greater, Vec, Global}
-use Rattle.std.specs.List.{AllByRecursion, list_any}
+use Rattle.std.proofs.Common.{◌≡◌, ℕ, suc, ◌+◌, ◌==◌, ◌≤◌, eqb-true, Bool, true, false, cond, ◌&&◌, ◌||◌, nat_lt, List, [], ◌∷◌, ◌++◌, filter, length, count_by, Option, Some, None, is_some, IsSome, IsTrue, T, vec_capacity, refl, sym, ap, ◌∙◌, subst, arith, Ordering, Less, Equal, Greater, Vec, Global}
+use Rattle.std.specs.List.{AllByRecursion, filter_map, list_any}
 use Rattle.std.specs.Option.{option_map}
 use Rattle.std.specs.Ordering.{is_lt, is_eq, eq_by_cmp}
 use Rattle.std.specs.FinMap.{find, put, is_sorted}
 use Rattle.std.specs.FinMap.Entries.{below_all, find-put}
 use Rattle.std.proofs.lemmas.List.{length-append}
-use Rattle.std.proofs.lemmas.List.Elements.{filter-append}
+use Rattle.std.proofs.lemmas.List.Elements.{filter-append, filter_map-append}
 use Rattle.std.proofs.lemmas.List.Sums.{length-filter}
 use Rattle.rep_ops.specs.declared.op.Put.{Put}
 use Rattle.rep_ops.specs.declared.op.Op.{Op}
 use Rattle.rep_ops.specs.Orders.{client_cmp}
 use Rattle.rep_ops.specs.WellMade.{is_put}
 use Rattle.rep_model.proofs.Readers.{client_total, client_exact}
-use Rattle.rep_plain.specs.Rows.{own, or_nothing, moved}
+use Rattle.rep_plain.specs.Rows.{own, moved}
 use Rattle.rep_plain.specs.Steps.{capped}
 use Rattle.rep_plain.specs.inner.Tables.{passed_of}
 use Rattle.rep_plain.proofs.Flat.{all_put}
 use Rattle.rep_plain.proofs.Prepared.{all_filter}
+use Rattle.sn_session.specs.declared.change.SessionOp.{SessionOp}
+use Rattle.rep_ops.specs.declared.op.Stamp.{Stamp}
+use Rattle.rep_ops.specs.Orders.{operation_cmp}
+use Rattle.rep_model.specs.Limits.{parked, exceptions}
+use Rattle.rep_state.specs.declared.log.Log.{Log}
 use Rattle.rep_state.specs.declared.entry.Entry.{Entry}
 use Rattle.rep_state.specs.declared.change.Change.{Change}
-use Rattle.rep_state.specs.Mail.{Rising, is_left, front_before, rest_from, weave}
-use Rattle.rep_state.specs.Origins.{ranges_in}
-use Rattle.rep_state.specs.Entries.{AreMade, IsEntry, messages, row_of}
-use Rattle.rep_state.specs.inner.Groups.{waiting_of, or_no_message}
+use Rattle.rep_state.specs.Logs.{IsFolded, known_on}
+use Rattle.rep_state.specs.Mail.{Range, NoneCovered, is_left, front_before, rest_from, weave}
+use Rattle.rep_state.specs.Origins.{ranges_in, AreOrigins, origins_after, ranges_on}
+use Rattle.rep_state.specs.Kept.{of_log, of_mail, of_acks, kept_ops}
+use Rattle.rep_state.specs.Entries.{AreChanges, IsEntry, messages, row_of, whole_after, base_of, left_on}
 use Rattle.rep_state.specs.Tables.{rows_of, IsKept, AreKept}
+use Rattle.rep_state.specs.Staging.{staged_of, IsChange, IsLogFit, AreAcksFit, IsFit, range_of, base_in, planned_row, planned, IsReady, AreReady, AreStaged}
+use Rattle.rep_state.specs.inner.Groups.{held_of, base_at, or_nothing_held}
 use Rattle.rep_state.specs.inner.Tables.{IsRoomier, passed_by, too_many_pending, too_many_parked, too_many_exceptions}
-use Rattle.rep_state.specs.Staging.{left_after, applied, staged_of, IsChange, IsFit, plan_of, plans, waiting_in, planned, IsReady, AreReady, AreStaged}
-use Rattle.rep_state.specs.inner.Staging.{future, AreMovable, HaveRoom, AreWorkedOut}
-use Rattle.rep_state.proofs.Client.{kept_puts}
+use Rattle.rep_state.specs.inner.Staging.{applied, future, AreMovable, HaveRoom, AreWorkedOut}
+use Rattle.rep_state.proofs.Client.{kept_operations, kept_puts}
 use Rattle.rep_state.proofs.Rising.{front_rest, rising_weave, weave_all, values_named}
 use Rattle.rep_state.proofs.Changes.{none_covered}
-use Rattle.rep_state.proofs.Freshness.{rising_filter, are_apart, weave_none}
-use Rattle.rep_state.proofs.Counts.{parked_row, exceptions_row}
+use Rattle.rep_state.proofs.Freshness.{ranges_same, rising_filter, are_apart, weave_none}
 use Rattle.rep_state.proofs.Rows.{find_rows}
 use Rattle.rep_state.proofs.Placing.{move_last}
+use Rattle.rep_state.proofs.Working.{held_is, held_row}
 
 -- ---- how many are left
 
@@ -75,31 +82,72 @@ empty_woven ps (n ∷ ns) e = absurd (no_zero (length ns) (eqb-true (suc (length
 
 -- ---- the entry that a change makes
 
-pub entry_of : (c : List ℕ) (ps : List Put) (ch : Change) → IsChange ch → Rising ps → AreMade ps → IsFit ps (plan_of ch) → IsEntry c (applied ps ch)
-entry_of c ps ch h rising made fit =
-    let rs = ranges_in ch.entry.acks in
+-- its row is what is kept with the change
+pub row_applied : (c : List ℕ) (e : Entry) (ch : Change) → row_of c (applied e ch) ≡ planned_row c (base_of e) ch
+row_applied c e ch = ap (kept_ops c (known_on e.known ch.log) (left_on (base_of e) ch.news.items ch.acks)) (ranges_same e.acks ch.acks)
+
+pub folded_after : (c : List ℕ) (e : Entry) (log : Option Log) (room : ℕ) → IsEntry c e → IsLogFit e.known log room → IsFolded (whole_after e log)
+folded_after c e None room h fit = h.folded
+folded_after c e (Some log) room h fit = fit.0
+
+pub ordered_after : (c : List ℕ) (e : Entry) (log : Option Log) (room : ℕ) → IsEntry c e → IsLogFit e.known log room → T (is_sorted operation_cmp (known_on e.known log))
+ordered_after c e None room h fit = h.ordered
+ordered_after c e (Some log) room h fit = fit.1
+
+changes_after : (c : List ℕ) (e : Entry) (log : Option Log) (room : ℕ) → IsEntry c e → IsLogFit e.known log room → AreChanges (known_on e.known log)
+changes_after c e None room h fit = h.changes
+changes_after c e (Some log) room h fit = fit.2
+
+pub origins_fit : (c : List ℕ) (e : Entry) (acks : Option (List (ℕ × List (ℕ × ℕ)))) → IsEntry c e → AreAcksFit acks → AreOrigins (origins_after e.acks acks)
+origins_fit c e None h fit = h.origins
+origins_fit c e (Some acks) h fit = fit
+
+pub entry_of : (c : List ℕ) (e : Entry) (ch : Change) → IsEntry c e → IsChange ch → IsFit c (base_of e) ch → IsEntry c (applied e ch)
+entry_of c e ch h change fit =
+    let ps = e.seen.pending in
     let ns = ch.news.items in
-    let left = left_after ps ch in
+    let rs = ranges_on (ranges_in e.acks) ch.acks in
     record {
-      folded = h.folded;
-      ordered = h.ordered;
-      changes = h.changes;
-      rising = rising_filter (is_left rs) (weave ps ns) (rising_weave ps ns rising h.rising (are_apart ps ns fit.apart));
-      none_covered = none_covered rs (weave ps ns);
-      made = all_filter (λ (p : Put). IsTrue (is_put p)) (is_left rs) (weave ps ns) (weave_all (λ (p : Put). IsTrue (is_put p)) ps ns made h.made);
-      origins = h.origins;
-      parked = h.parked ∙ parked_row c ch.entry.known.entries left rs ch.entry.seen.stamp ch.entry.seen.prefix ch.entry.seen.session h.folded h.ordered;
-      exceptions = h.exceptions ∙ ap capped (exceptions_row c ch.entry.known.entries left ch.entry.acks h.origins);
+      folded = folded_after c e ch.log (vec_capacity ch.log_room) h fit.log;
+      ordered = ordered_after c e ch.log (vec_capacity ch.log_room) h fit.log;
+      changes = changes_after c e ch.log (vec_capacity ch.log_room) h fit.log;
+      rising = rising_filter (is_left rs) (weave ps ns) (rising_weave ps ns h.rising change.rising (are_apart ps ns fit.apart));
+      none_covered = subst (λ rs. NoneCovered rs (left_on (base_of e) ns ch.acks)) (sym (ranges_same e.acks ch.acks)) (none_covered rs (weave ps ns));
+      made = all_filter (λ (p : Put). IsTrue (is_put p)) (is_left rs) (weave ps ns) (weave_all (λ (p : Put). IsTrue (is_put p)) ps ns h.made change.made);
+      origins = origins_fit c e ch.acks h fit.acks;
+      parked = fit.parked ∙ sym (ap (λ S. length (parked c S)) (row_applied c e ch));
+      exceptions = fit.exceptions ∙ sym (ap (λ S. capped (exceptions c S)) (row_applied c e ch));
     }
 
 -- ---- entries and rows
 
-pub waiting_same : (c : List ℕ) (es : List (List ℕ × Entry)) → waiting_in c (own c (rows_of es)) ≡ waiting_of c es
-waiting_same c es = ap (λ o. waiting_in c (or_nothing o)) (find_rows c es) ∙ at (find client_cmp c es)
-  where
-    at : (o : Option Entry) → waiting_in c (or_nothing (option_map (row_of c) o)) ≡ or_no_message o
-    at None = refl
-    at (Some e) = ap messages (kept_puts c e.known.entries e.seen.pending (ranges_in e.acks)) ∙ values_named e.seen.pending
+log_ranges : (c : List ℕ) (es : List ((Stamp × ℕ) × SessionOp)) → filter_map range_of (of_log c es) ≡ []
+log_ranges c [] = refl
+log_ranges c (e ∷ es) = log_ranges c es
+
+mail_ranges : (c : List ℕ) (ps : List Put) → filter_map range_of (of_mail c ps) ≡ []
+mail_ranges c [] = refl
+mail_ranges c (p ∷ ps) = mail_ranges c ps
+
+acks_ranges : (c : List ℕ) (rs : List Range) → filter_map range_of (of_acks c rs) ≡ rs
+acks_ranges c [] = refl
+acks_ranges c (r ∷ rs) = ap (λ rest. r ∷ rest) (acks_ranges c rs)
+
+-- the ranges among what is kept
+kept_ranges : (c : List ℕ) (es : List ((Stamp × ℕ) × SessionOp)) (ps : List Put) (rs : List Range) → filter_map range_of (kept_ops c es ps rs) ≡ rs
+kept_ranges c es ps rs =
+    filter_map-append range_of (of_log c es) (of_mail c ps ++ of_acks c rs)
+    ∙ (λ i. log_ranges c es i ++ (filter_map-append range_of (of_mail c ps) (of_acks c rs) ∙ (λ j. mail_ranges c ps j ++ acks_ranges c rs j)) i)
+
+-- what a change builds on is read off the row
+base_row : (c : List ℕ) (e : Entry) → base_in c (row_of c e) ≡ base_of e
+base_row c e =
+    let rs = ranges_in e.acks in
+    let waits = ap messages (kept_puts c e.known e.seen.pending rs) ∙ values_named e.seen.pending in
+    λ i. record { known = kept_operations c e.known e.seen.pending rs i; waiting = waits i; ranges = kept_ranges c e.known e.seen.pending rs i }
+
+pub base_same : (c : List ℕ) (es : List (List ℕ × Entry)) → base_in c (own c (rows_of es)) ≡ base_at c es
+base_same c es = ap (base_in c) (sym (held_row c es)) ∙ base_row c (held_of c es)
 
 pub there_same : (c : List ℕ) (es : List (List ℕ × Entry)) → is_some (find client_cmp c (rows_of es)) ≡ is_some (find client_cmp c es)
 there_same c es = ap is_some (find_rows c es) ∙ at (find client_cmp c es)
@@ -108,11 +156,11 @@ there_same c es = ap is_some (find_rows c es) ∙ at (find client_cmp c es)
     at None = refl
     at (Some e) = refl
 
-pub planned_future : (rows : List (List ℕ × List Op)) (es : List (List ℕ × Entry)) → ((c : List ℕ) → own c rows ≡ own c (rows_of es)) → (gs : List (List ℕ × Change)) → planned rows (plans gs) ≡ rows_of (future es gs)
+pub planned_future : (rows : List (List ℕ × List Op)) (es : List (List ℕ × Entry)) → ((c : List ℕ) → own c rows ≡ own c (rows_of es)) → (gs : List (List ℕ × Change)) → planned rows gs ≡ rows_of (future es gs)
 planned_future rows es same [] = refl
 planned_future rows es same (g ∷ gs) =
-    let waits = ap (waiting_in g.0) (same g.0) ∙ waiting_same g.0 es in
-    λ i. (g.0, row_of g.0 (applied (waits i) g.1)) ∷ planned_future rows es same gs i
+    let row = ap (λ ops. planned_row g.0 (base_in g.0 ops) g.1) (same g.0) ∙ ap (λ base. planned_row g.0 base g.1) (base_same g.0 es) ∙ sym (row_applied g.0 (held_of g.0 es) g.1) in
+    λ i. (g.0, row i) ∷ planned_future rows es same gs i
 
 below_future : (es : List (List ℕ × Entry)) (c : List ℕ) (gs : List (List ℕ × Change)) → below_all client_cmp c (rows_of (future es gs)) ≡ below_all client_cmp c gs
 below_future es c [] = refl
@@ -122,9 +170,9 @@ sorted_future : (es : List (List ℕ × Entry)) (gs : List (List ℕ × Change))
 sorted_future es [] = refl
 sorted_future es (g ∷ gs) = λ i. below_future es g.0 gs i && sorted_future es gs i
 
-pub future_worked_out : (es : List (List ℕ × Entry)) (gs : List (List ℕ × Change)) → ((c : List ℕ) → Rising (waiting_of c es) × AreMade (waiting_of c es)) → AreWorkedOut es gs → AllByRecursion (λ f. IsEntry f.0 f.1) (future es gs)
-future_worked_out es [] waits h = tt
-future_worked_out es (g ∷ gs) waits h = let w = waits g.0 in (entry_of g.0 (waiting_of g.0 es) g.1 h.0.change_is w.0 w.1 h.0.fit, future_worked_out es gs waits h.1)
+pub future_worked_out : (es : List (List ℕ × Entry)) (gs : List (List ℕ × Change)) → ((c : List ℕ) → IsEntry c (held_of c es)) → AreWorkedOut es gs → AllByRecursion (λ f. IsEntry f.0 f.1) (future es gs)
+future_worked_out es [] held h = tt
+future_worked_out es (g ∷ gs) held h = (entry_of g.0 (held_of g.0 es) g.1 (held g.0) h.0.change_is h.0.fit, future_worked_out es gs held h.1)
 
 -- ---- limits
 
@@ -136,25 +184,25 @@ any_pending : (es : List (List ℕ × Entry)) (gs : List (List ℕ × Change)) �
 any_pending es [] h = refl
 any_pending es (g ∷ gs) h = λ i. nat_lt 16384 (h.0.counted i) || any_pending es gs h.1 i
 
-any_parked : (es : List (List ℕ × Entry)) (gs : List (List ℕ × Change)) → list_any (λ (g : List ℕ × Change). nat_lt 4096 g.1.entry.parked) gs ≡ list_any too_many_parked (future es gs)
+any_parked : (es : List (List ℕ × Entry)) (gs : List (List ℕ × Change)) → list_any (λ (g : List ℕ × Change). nat_lt 4096 g.1.parked) gs ≡ list_any too_many_parked (future es gs)
 any_parked es [] = refl
-any_parked es (g ∷ gs) = ap (λ b. nat_lt 4096 g.1.entry.parked || b) (any_parked es gs)
+any_parked es (g ∷ gs) = ap (λ b. nat_lt 4096 g.1.parked || b) (any_parked es gs)
 
-any_exceptions : (es : List (List ℕ × Entry)) (gs : List (List ℕ × Change)) → list_any (λ (g : List ℕ × Change). nat_lt 16384 g.1.entry.exceptions) gs ≡ list_any too_many_exceptions (future es gs)
+any_exceptions : (es : List (List ℕ × Entry)) (gs : List (List ℕ × Change)) → list_any (λ (g : List ℕ × Change). nat_lt 16384 g.1.exceptions) gs ≡ list_any too_many_exceptions (future es gs)
 any_exceptions es [] = refl
-any_exceptions es (g ∷ gs) = ap (λ b. nat_lt 16384 g.1.entry.exceptions || b) (any_exceptions es gs)
+any_exceptions es (g ∷ gs) = ap (λ b. nat_lt 16384 g.1.exceptions || b) (any_exceptions es gs)
 
 pub passed_future : (n : ℕ) (es : List (List ℕ × Entry)) (xs : List (Vec ℕ Global × Change)) → AreWorkedOut es (staged_of xs)
-    → passed_of n (list_any (λ (x : Vec ℕ Global × Change). nat_lt 16384 x.1.pending) xs) (list_any (λ (x : Vec ℕ Global × Change). nat_lt 4096 x.1.entry.parked) xs) (list_any (λ (x : Vec ℕ Global × Change). nat_lt 16384 x.1.entry.exceptions) xs) ≡ passed_by n (future es (staged_of xs))
+    → passed_of n (list_any (λ (x : Vec ℕ Global × Change). nat_lt 16384 x.1.pending) xs) (list_any (λ (x : Vec ℕ Global × Change). nat_lt 4096 x.1.parked) xs) (list_any (λ (x : Vec ℕ Global × Change). nat_lt 16384 x.1.exceptions) xs) ≡ passed_by n (future es (staged_of xs))
 passed_future n es xs h =
     let a = any_staged (λ ch. nat_lt 16384 ch.pending) xs ∙ any_pending es (staged_of xs) h in
-    let b = any_staged (λ ch. nat_lt 4096 ch.entry.parked) xs ∙ any_parked es (staged_of xs) in
-    let d = any_staged (λ ch. nat_lt 16384 ch.entry.exceptions) xs ∙ any_exceptions es (staged_of xs) in
+    let b = any_staged (λ ch. nat_lt 4096 ch.parked) xs ∙ any_parked es (staged_of xs) in
+    let d = any_staged (λ ch. nat_lt 16384 ch.exceptions) xs ∙ any_exceptions es (staged_of xs) in
     λ i. passed_of n (a i) (b i) (d i)
 
 unnamed_length : (test : List ℕ → Bool) (es : List (List ℕ × Entry)) (xs : List (Vec ℕ Global × Change)) → length (filter (λ (x : Vec ℕ Global × Change). test x.0.items) xs) ≡ length (filter (λ (row : List ℕ × List Op). test row.0) (rows_of (future es (staged_of xs))))
 unnamed_length test es [] = refl
-unnamed_length test es (x ∷ xs) = elim (test x.0.items) as (λ b. length (cond b (x ∷ filter (λ (x : Vec ℕ Global × Change). test x.0.items) xs) (filter (λ (x : Vec ℕ Global × Change). test x.0.items) xs)) ≡ length (cond b ((x.0.items, row_of x.0.items (applied (waiting_of x.0.items es) x.1)) ∷ filter (λ (row : List ℕ × List Op). test row.0) (rows_of (future es (staged_of xs)))) (filter (λ (row : List ℕ × List Op). test row.0) (rows_of (future es (staged_of xs)))))) [
+unnamed_length test es (x ∷ xs) = elim (test x.0.items) as (λ b. length (cond b (x ∷ filter (λ (x : Vec ℕ Global × Change). test x.0.items) xs) (filter (λ (x : Vec ℕ Global × Change). test x.0.items) xs)) ≡ length (cond b ((x.0.items, row_of x.0.items (applied (held_of x.0.items es) x.1)) ∷ filter (λ (row : List ℕ × List Op). test row.0) (rows_of (future es (staged_of xs)))) (filter (λ (row : List ℕ × List Op). test row.0) (rows_of (future es (staged_of xs)))))) [
   | true ↦ ap suc (unnamed_length test es xs)
   | false ↦ unnamed_length test es xs
 ]
@@ -168,11 +216,11 @@ changes_each : (es : List (List ℕ × Entry)) (gs : List (List ℕ × Change)) 
 changes_each es [] h = tt
 changes_each es (g ∷ gs) h = (h.0.change_is, changes_each es gs h.1)
 
-few_parked : (es : List (List ℕ × Entry)) (gs : List (List ℕ × Change)) → AreKept (future es gs) → AllByRecursion (λ g. g.1.entry.parked ≤ 4096) gs
+few_parked : (es : List (List ℕ × Entry)) (gs : List (List ℕ × Change)) → AreKept (future es gs) → AllByRecursion (λ g. g.1.parked ≤ 4096) gs
 few_parked es [] h = tt
 few_parked es (g ∷ gs) h = (h.0.parked, few_parked es gs h.1)
 
-few_exceptions : (es : List (List ℕ × Entry)) (gs : List (List ℕ × Change)) → AreKept (future es gs) → AllByRecursion (λ g. g.1.entry.exceptions ≤ 16384) gs
+few_exceptions : (es : List (List ℕ × Entry)) (gs : List (List ℕ × Change)) → AreKept (future es gs) → AllByRecursion (λ g. g.1.exceptions ≤ 16384) gs
 few_exceptions es [] h = tt
 few_exceptions es (g ∷ gs) h = (h.0.exceptions, few_exceptions es gs h.1)
 
@@ -184,18 +232,18 @@ are_staged es gs h sorted kept = record {
   exceptions = few_exceptions es gs kept;
 }
 
-pub are_ready : (es room : List (List ℕ × Entry)) (gs : List (List ℕ × Change)) → ((c : List ℕ) → own c (rows_of room) ≡ own c (rows_of es)) → HaveRoom room gs → AreWorkedOut es gs → AreKept (future es gs) → AreReady (rows_of room) (plans gs)
+pub are_ready : (es room : List (List ℕ × Entry)) (gs : List (List ℕ × Change)) → ((c : List ℕ) → own c (rows_of room) ≡ own c (rows_of es)) → HaveRoom room gs → AreWorkedOut es gs → AreKept (future es gs) → AreReady (rows_of room) gs
 are_ready es room [] same r h kept = tt
 are_ready es room (g ∷ gs) same r h kept =
-    let waits = ap (waiting_in g.0) (same g.0) ∙ waiting_same g.0 es in (
-      subst (λ ps. IsReady (is_some (find client_cmp g.0 (rows_of room))) ps (plan_of g.1)) (sym waits) (record { is_there = r.0; fit = h.0.fit; few = kept.0.pending }),
+    let base = ap (base_in g.0) (same g.0) ∙ base_same g.0 es in (
+      subst (λ base. IsReady (is_some (find client_cmp g.0 (rows_of room))) g.0 base g.1) (sym base) (record { is_there = r.0; fit = h.0.fit; few = kept.0.pending }),
       are_ready es room gs same r.1 h.1 kept.1,
     )
 
-pub are_movable : (es : List (List ℕ × Entry)) (gs : List (List ℕ × Change)) → AreReady (rows_of es) (plans gs) → AreMovable es gs
+pub are_movable : (es : List (List ℕ × Entry)) (gs : List (List ℕ × Change)) → AreReady (rows_of es) gs → AreMovable es gs
 are_movable es [] h = tt
 are_movable es (g ∷ gs) h = (
-  subst (λ there. IsReady there (waiting_of g.0 es) (plan_of g.1)) (there_same g.0 es) (subst (λ ps. IsReady (is_some (find client_cmp g.0 (rows_of es))) ps (plan_of g.1)) (waiting_same g.0 es) h.0),
+  subst (λ there. IsReady there g.0 (base_at g.0 es) g.1) (there_same g.0 es) (subst (λ base. IsReady (is_some (find client_cmp g.0 (rows_of es))) g.0 base g.1) (base_same g.0 es) h.0),
   are_movable es gs h.1,
 )
 
@@ -210,9 +258,9 @@ pub staged_last : (xs : List (Vec ℕ Global × Change)) (x : Vec ℕ Global × 
 staged_last [] x = refl
 staged_last (y ∷ xs) x = ap (λ rest. (y.0.items, y.1) ∷ rest) (staged_last xs x)
 
-pub future_last : (es : List (List ℕ × Entry)) (gs : List (List ℕ × Change)) (g : List ℕ × Change) → future es (gs ++ g ∷ []) ≡ future es gs ++ (g.0, applied (waiting_of g.0 es) g.1) ∷ []
+pub future_last : (es : List (List ℕ × Entry)) (gs : List (List ℕ × Change)) (g : List ℕ × Change) → future es (gs ++ g ∷ []) ≡ future es gs ++ (g.0, applied (held_of g.0 es) g.1) ∷ []
 future_last es [] g = refl
-future_last es (x ∷ gs) g = ap (λ rest. (x.0, applied (waiting_of x.0 es) x.1) ∷ rest) (future_last es gs g)
+future_last es (x ∷ gs) g = ap (λ rest. (x.0, applied (held_of x.0 es) x.1) ∷ rest) (future_last es gs g)
 
 all_front : {A : Type 0} (P : A → Type 0) (xs : List A) (x : A) → AllByRecursion P (xs ++ x ∷ []) → AllByRecursion P xs × P x
 all_front P [] x h = (tt, h.0)
@@ -251,12 +299,12 @@ sorted_front (g ∷ gs) x h =
     let rest = sorted_front gs x (second (below_all client_cmp g.0 (gs ++ x ∷ [])) (is_sorted client_cmp (gs ++ x ∷ [])) h) in
     (both (below_all client_cmp g.0 gs) (is_sorted client_cmp gs) below.0 rest.0, (below.1, rest.1))
 
-pub staged_front : (gs : List (List ℕ × Change)) (x : List ℕ × Change) → AreStaged (gs ++ x ∷ []) → AreStaged gs × AreOthers x.0 gs × IsChange x.1 × (x.1.entry.parked ≤ 4096) × (x.1.entry.exceptions ≤ 16384)
+pub staged_front : (gs : List (List ℕ × Change)) (x : List ℕ × Change) → AreStaged (gs ++ x ∷ []) → AreStaged gs × AreOthers x.0 gs × IsChange x.1 × (x.1.parked ≤ 4096) × (x.1.exceptions ≤ 16384)
 staged_front gs x h =
     let s = sorted_front gs x h.sorted in
     let e = all_front (λ (g : List ℕ × Change). IsChange g.1) gs x h.each in
-    let p = all_front (λ (g : List ℕ × Change). g.1.entry.parked ≤ 4096) gs x h.parked in
-    let n = all_front (λ (g : List ℕ × Change). g.1.entry.exceptions ≤ 16384) gs x h.exceptions in
+    let p = all_front (λ (g : List ℕ × Change). g.1.parked ≤ 4096) gs x h.parked in
+    let n = all_front (λ (g : List ℕ × Change). g.1.exceptions ≤ 16384) gs x h.exceptions in
     (record { sorted = s.0; each = e.0; parked = p.0; exceptions = n.0 }, s.1, e.1, p.1, n.1)
 
 found_other : (c q : List ℕ) (e : Entry) (es : List (List ℕ × Entry)) → eq_by_cmp client_cmp q c ≡ false → find client_cmp q (put client_cmp c e es) ≡ find client_cmp q es
@@ -264,40 +312,40 @@ found_other c q e es other = find-put client_cmp client_total q c e es ∙ ap (�
 
 future_other : (c : List ℕ) (e : Entry) (es : List (List ℕ × Entry)) (gs : List (List ℕ × Change)) → AreOthers c gs → future (put client_cmp c e es) gs ≡ future es gs
 future_other c e es [] h = refl
-future_other c e es (g ∷ gs) h = λ i. (g.0, applied (or_no_message (found_other c g.0 e es h.0 i)) g.1) ∷ future_other c e es gs h.1 i
+future_other c e es (g ∷ gs) h = λ i. (g.0, applied (or_nothing_held (found_other c g.0 e es h.0 i)) g.1) ∷ future_other c e es gs h.1 i
 
 movable_other : (c : List ℕ) (e : Entry) (es : List (List ℕ × Entry)) (gs : List (List ℕ × Change)) → AreOthers c gs → AreMovable es gs → AreMovable (put client_cmp c e es) gs
 movable_other c e es [] others h = tt
 movable_other c e es (g ∷ gs) others h = (
-  subst (λ (o : Option Entry). IsReady (is_some o) (or_no_message o) (plan_of g.1)) (sym (found_other c g.0 e es others.0)) h.0,
+  subst (λ (o : Option Entry). IsReady (is_some o) g.0 (base_of (or_nothing_held o)) g.1) (sym (found_other c g.0 e es others.0)) h.0,
   movable_other c e es gs others.1 h.1,
 )
 
-module _ (es new : List (List ℕ × Entry)) (gs rest : List (List ℕ × Change)) (c : List ℕ) (ch : Change) (all : gs ≡ rest ++ (c, ch) ∷ []) (is : new ≡ put client_cmp c (applied (waiting_of c es) ch) es) (staged : AreStaged gs) (movable : AreMovable es gs) where
-  front : AreStaged rest × AreOthers c rest × IsChange ch × (ch.entry.parked ≤ 4096) × (ch.entry.exceptions ≤ 16384)
+module _ (es new : List (List ℕ × Entry)) (gs rest : List (List ℕ × Change)) (c : List ℕ) (ch : Change) (all : gs ≡ rest ++ (c, ch) ∷ []) (is : new ≡ put client_cmp c (applied (held_of c es) ch) es) (staged : AreStaged gs) (movable : AreMovable es gs) where
+  front : AreStaged rest × AreOthers c rest × IsChange ch × (ch.parked ≤ 4096) × (ch.exceptions ≤ 16384)
   front = staged_front rest (c, ch) (subst AreStaged all staged)
 
-  ready : AreMovable es rest × IsReady (is_some (find client_cmp c es)) (waiting_of c es) (plan_of ch)
-  ready = all_front (λ (g : List ℕ × Change). IsReady (is_some (find client_cmp g.0 es)) (waiting_of g.0 es) (plan_of g.1)) rest (c, ch) (subst (AreMovable es) all movable)
+  ready : AreMovable es rest × IsReady (is_some (find client_cmp c es)) c (base_at c es) ch
+  ready = all_front (λ (g : List ℕ × Change). IsReady (is_some (find client_cmp g.0 es)) g.0 (base_at g.0 es) g.1) rest (c, ch) (subst (AreMovable es) all movable)
 
   pub last_change : IsChange ch
   last_change = front.2
 
-  pub last_ready : IsReady (is_some (find client_cmp c es)) (waiting_of c es) (plan_of ch)
+  pub last_ready : IsReady (is_some (find client_cmp c es)) c (base_at c es) ch
   last_ready = ready.1
 
   pub rest_staged : AreStaged rest
   rest_staged = front.0
 
   pub rest_movable : AreMovable new rest
-  rest_movable = subst (λ es. AreMovable es rest) (sym is) (movable_other c (applied (waiting_of c es) ch) es rest front.1 ready.0)
+  rest_movable = subst (λ es. AreMovable es rest) (sym is) (movable_other c (applied (held_of c es) ch) es rest front.1 ready.0)
 
   pub rest_moved : moved (rows_of new) (rows_of (future new rest)) ≡ moved (rows_of es) (rows_of (future es gs))
   rest_moved =
-      ap (λ fs. moved (rows_of new) (rows_of fs)) (ap (λ es. future es rest) is ∙ future_other c (applied (waiting_of c es) ch) es rest front.1)
-      ∙ move_last es new (future es gs) (future es rest) c (applied (waiting_of c es) ch) (ap (future es) all ∙ future_last es rest (c, ch)) is
+      ap (λ fs. moved (rows_of new) (rows_of fs)) (ap (λ es. future es rest) is ∙ future_other c (applied (held_of c es) ch) es rest front.1)
+      ∙ move_last es new (future es gs) (future es rest) c (applied (held_of c es) ch) (ap (future es) all ∙ future_last es rest (c, ch)) is
 
-  pub rest_kept : Rising (waiting_of c es) × AreMade (waiting_of c es) → AreKept es → AreKept new
-  rest_kept waits kept =
-      let e : IsKept c (applied (waiting_of c es) ch) = record { entry_is = entry_of c (waiting_of c es) ch front.2 waits.0 waits.1 ready.1.fit; pending = ready.1.few; parked = front.3; exceptions = front.4 } in
-      subst AreKept (sym is) (all_put client_cmp client_exact IsKept c (applied (waiting_of c es) ch) es e kept)
+  pub rest_kept : AreKept es → AreKept new
+  rest_kept kept =
+      let e : IsKept c (applied (held_of c es) ch) = record { entry_is = entry_of c (held_of c es) ch (held_is c es kept) front.2 ready.1.fit; pending = ready.1.few; parked = front.3; exceptions = front.4 } in
+      subst AreKept (sym is) (all_put client_cmp client_exact IsKept c (applied (held_of c es) ch) es e kept)

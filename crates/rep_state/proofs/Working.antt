@@ -1,6 +1,7 @@
 -- The entries that the groups of a delta make.
 use Rattle.std.proofs.Common.{◌≡◌, ℕ, Bool, true, false, cond, ◌&&◌, nat_le, if◌then◌else◌, List, [], ◌∷◌, ◌++◌, Option, Some, None, IsTrue, T, refl, sym, ap, ◌∙◌, subst, true≢false, append-nil, Ordering, Less, Equal, Greater}
 use Rattle.std.specs.List.{AllByRecursion}
+use Rattle.std.specs.Option.{option_map}
 use Rattle.std.specs.Ordering.{is_lt, is_eq, eq_by_cmp, ordering_reverse}
 use Rattle.std.specs.BTreeMap.{insert_entry}
 use Rattle.std.specs.FinMap.{find, is_sorted}
@@ -17,33 +18,41 @@ use Rattle.rep_ops.specs.WellMade.{is_well_made}
 use Rattle.rep_model.specs.Keep.{keep}
 use Rattle.rep_model.proofs.Joins.{same_trans, all-both, all-weaker}
 use Rattle.rep_model.proofs.Readers.{client_total, client_exact, same_client-true}
-use Rattle.rep_plain.specs.Rows.{flat, own, has_any, IsOwn, IsOwnOp}
+use Rattle.rep_plain.specs.Rows.{flat, own, or_nothing, has_any, IsOwn, IsOwnOp}
 use Rattle.rep_plain.specs.inner.Rows.{of_client}
 use Rattle.rep_plain.proofs.Counting.{all_found}
 use Rattle.rep_plain.proofs.Flat.{of_flat, found_own}
 use Rattle.rep_state.specs.declared.entry.Entry.{Entry}
 use Rattle.rep_state.specs.declared.fresh.Fresh.{Fresh}
-use Rattle.rep_state.specs.Mail.{Rising}
-use Rattle.rep_state.specs.Entries.{AreMade, IsFresh, fresh_row, IsStep}
+use Rattle.rep_state.specs.Entries.{row_of, IsEntry, IsFresh, fresh_row, IsStep}
 use Rattle.rep_state.specs.Tables.{rows_of, AreKept, IsKept, IsTable}
 use Rattle.rep_state.specs.inner.Tables.{AreWorkedOut}
-use Rattle.rep_state.specs.inner.Groups.{waiting_of, or_no_message, IsTaken, IsGroup, IsGroupOf, AreGroups, fresh_rows, IsRowOf, AreRowsOf}
+use Rattle.rep_state.specs.inner.Groups.{held_of, or_nothing_held, IsTaken, IsGroup, IsGroupOf, AreGroups, fresh_rows, IsRowOf, AreRowsOf}
 use Rattle.rep_plain.proofs.Maps.{insert_is_put}
 use Rattle.rep_state.proofs.Client.{itself}
 use Rattle.rep_state.proofs.Entering.{own_entry}
-use Rattle.rep_state.proofs.Rows.{table_rows}
+use Rattle.rep_state.proofs.Empty.{nothing_is}
+use Rattle.rep_state.proofs.Rows.{find_rows, table_rows}
 use Rattle.rep_state.proofs.Owning.{found_holds}
 use Rattle.rep_state.proofs.Groups.{group_more, group_apart, any_taken, own_keeps, same_kept_by_client, rows_of_groups}
 use Rattle.rep_state.proofs.Passing.{AreFresh}
 
--- ---- the messages that wait
+-- ---- what is held of a client
 
-pub waiting_is : (c : List ℕ) (es : List (List ℕ × Entry)) → AreKept es → Rising (waiting_of c es) × AreMade (waiting_of c es)
-waiting_is c es each = at (find client_cmp c es) refl
+pub held_is : (c : List ℕ) (es : List (List ℕ × Entry)) → AreKept es → IsEntry c (held_of c es)
+held_is c es each = at (find client_cmp c es) refl
   where
-    at : (o : Option Entry) → find client_cmp c es ≡ o → Rising (or_no_message o) × AreMade (or_no_message o)
-    at None e = (tt, tt)
-    at (Some x) e = let k = found_holds client_cmp client_exact IsKept c x es each e in (k.entry_is.rising, k.entry_is.made)
+    at : (o : Option Entry) → find client_cmp c es ≡ o → IsEntry c (or_nothing_held o)
+    at None e = nothing_is c
+    at (Some x) e = (found_holds client_cmp client_exact IsKept c x es each e).entry_is
+
+-- it is the client's row
+pub held_row : (c : List ℕ) (es : List (List ℕ × Entry)) → row_of c (held_of c es) ≡ own c (rows_of es)
+held_row c es = at (find client_cmp c es) ∙ sym (ap or_nothing (find_rows c es))
+  where
+    at : (o : Option Entry) → row_of c (or_nothing_held o) ≡ or_nothing (option_map (row_of c) o)
+    at None = refl
+    at (Some x) = refl
 
 -- ---- an operation names its client
 
@@ -77,8 +86,8 @@ nothing_taken c es D each none =
 pub group_added : (es : List (List ℕ × Entry)) (D : List Op) (op : Op) (groups mid new : List (List ℕ × Fresh)) (client : List ℕ) (old fresh : Fresh) → client ≡ client_of op
     → AreGroups es D groups
     → ((c : List ℕ) → is_eq (client_cmp client c) ≡ false → find client_cmp c mid ≡ find client_cmp c groups)
-    → IsTaken client es D (fresh_row client (waiting_of client es) old)
-    → IsStep client (waiting_of client es) old fresh op
+    → IsTaken client es D (fresh_row client (held_of client es) old)
+    → IsStep client (held_of client es) old fresh op
     → new ≡ insert_entry client_cmp mid client fresh
     → AreGroups es (D ++ op ∷ []) new
 group_added es D op groups mid new client old fresh is h others taken more entered q =
@@ -98,9 +107,9 @@ group_added es D op groups mid new client old fresh is h others taken more enter
     turned : is_eq (client_cmp client q) ≡ is_eq (client_cmp q client)
     turned = ap is_eq (client_total.antisymm client q) ∙ back (client_cmp q client)
 
-pub groups_fresh : (es : List (List ℕ × Entry)) (D : List Op) (groups : List (List ℕ × Fresh)) → AreGroups es D groups → T (is_sorted client_cmp groups) → AllByRecursion (λ g. IsFresh (waiting_of g.0 es) g.1) groups
+pub groups_fresh : (es : List (List ℕ × Entry)) (D : List Op) (groups : List (List ℕ × Fresh)) → AreGroups es D groups → T (is_sorted client_cmp groups) → AllByRecursion (λ g. IsFresh g.0 (held_of g.0 es) g.1) groups
 groups_fresh es D groups h sorted =
-    all-weaker (λ (g : List ℕ × Fresh). find client_cmp g.0 groups ≡ Some g.1) (λ (g : List ℕ × Fresh). IsFresh (waiting_of g.0 es) g.1)
+    all-weaker (λ (g : List ℕ × Fresh). find client_cmp g.0 groups ≡ Some g.1) (λ (g : List ℕ × Fresh). IsFresh g.0 (held_of g.0 es) g.1)
     (λ g found. (subst (IsGroupOf g.0 es D) found (h g.0)).fresh_is) groups (all_found client_cmp client_total groups sorted)
 
 below_fresh : (es : List (List ℕ × Entry)) (c : List ℕ) (gs : List (List ℕ × Fresh)) → below_all client_cmp c (fresh_rows es gs) ≡ below_all client_cmp c gs

@@ -1,5 +1,5 @@
 -- Session operations of one client under their names.
-use Rattle.std.specs.Prelude.{◌≡◌, ℕ, ◌-◌, false, not, cond, List, Option, None, length}
+use Rattle.std.specs.Prelude.{◌≡◌, ℕ, false, cond, List, [], ◌++◌, Option, None, Some, length}
 use Rattle.std.specs.List.{filter_map, AllByRecursion}
 use Rattle.std.specs.FinMap.{find}
 use Rattle.sn_session.specs.declared.session.Session.{Session}
@@ -25,11 +25,41 @@ pub record IsFoldedOf (stamp : Option Stamp) (count : ℕ) (made : Option Sessio
   pub session : made ≡ session_of (history_in es stamp)
   pub none_below : AllByRecursion (λ (e : (Stamp × ℕ) × SessionOp). is_below e.0.0 stamp ≡ false) es
 
--- what must be kept of the entries es is what the others have, and the stamp is the visible one
-pub record IsKeptIn (es others : List ((Stamp × ℕ) × SessionOp)) (stamp : Option Stamp) : Type 0 where
-  pub visible : stamp ≡ visible_in es
-  pub found : (name : Stamp × ℕ) → find operation_cmp name others ≡ cond (not (is_below name.0 stamp)) (find operation_cmp name es) None
+-- all session operations of a client, and what they come to
+pub record Whole : Type 0 where
+  pub stamp : Option Stamp
+  pub prefix : ℕ
+  pub session : Option Session
+  pub known : List ((Stamp × ℕ) × SessionOp)
 
--- the same of a log
-abbrev pub IsFolded : Log → Type 0
-IsFolded log = IsFoldedOf log.stamp log.prefix log.session log.known.entries
+abbrev pub IsFolded : Whole → Type 0
+IsFolded whole = IsFoldedOf whole.stamp whole.prefix whole.session whole.known
+
+-- of the operations that were there, those that stay where they are
+abbrev pub left_of : List ((Stamp × ℕ) × SessionOp) → Log → List ((Stamp × ℕ) × SessionOp)
+left_of known log = cond log.anew [] known
+
+-- all operations of a log, where those of a list were there
+abbrev pub all_of : List ((Stamp × ℕ) × SessionOp) → Log → List ((Stamp × ℕ) × SessionOp)
+all_of known log = left_of known log ++ log.more
+
+abbrev pub whole_of : List ((Stamp × ℕ) × SessionOp) → Log → Whole
+whole_of known log = record { stamp = log.stamp; prefix = log.prefix; session = log.session; known = all_of known log }
+
+-- ---- where a log may be staged; none leaves what was there
+
+abbrev pub stamp_on : Option Stamp → Option Log → Option Stamp
+stamp_on stamp None = stamp
+stamp_on stamp (Some log) = log.stamp
+
+abbrev pub prefix_on : ℕ → Option Log → ℕ
+prefix_on prefix None = prefix
+prefix_on prefix (Some log) = log.prefix
+
+abbrev pub session_on : Option Session → Option Log → Option Session
+session_on session None = session
+session_on session (Some log) = log.session
+
+abbrev pub known_on : List ((Stamp × ℕ) × SessionOp) → Option Log → List ((Stamp × ℕ) × SessionOp)
+known_on known None = known
+known_on known (Some log) = all_of known log

@@ -36,3 +36,13 @@ pub record AreOrigins (origins : List (ℕ × List (ℕ × ℕ))) : Type 0 where
 -- the acknowledgements above a gap, of the origins 1 to n
 unfoldable pub above_gaps : List (ℕ × List (ℕ × ℕ)) → ℕ → ℕ
 above_gaps origins n = sum_to (λ origin. above_a_gap (ranges_at origin origins)) n
+
+-- the ranges of each origin once others are in their place; none leaves them as they are
+abbrev pub origins_after : List (ℕ × List (ℕ × ℕ)) → Option (List (ℕ × List (ℕ × ℕ))) → List (ℕ × List (ℕ × ℕ))
+origins_after origins None = origins
+origins_after origins (Some more) = more
+
+-- the same of all ranges
+abbrev pub ranges_on : List Range → Option (List (ℕ × List (ℕ × ℕ))) → List Range
+ranges_on ranges None = ranges
+ranges_on ranges (Some origins) = ranges_in origins

@@ -12,7 +12,7 @@ ghost use Rattle.rep_state.specs.Kept.{of_acks};
 ghost use Rattle.rep_state.specs.Mail.{covers};
 ghost use Rattle.rep_state.specs.Origins.{origins_of, ranges_at, ranges_in, AreOrigins, above_gaps};
 
-use super::fault::NoMemory;
+use octets::NoMemory;
 use rep_ops::{ClientId, Op};
 use std::alloc::Global;
 use std::collections::BTreeMap;
@@ -101,7 +101,7 @@ impl Acks {
     }
 
     /// Equal acknowledgements.
-    pub fn copy(&self, alloc: Global) -> Result<Acks, NoMemory>
+    pub fn copied(&self, alloc: Global) -> Result<Acks, NoMemory>
         ensures { IfOk result (λ made. made ≡ self.now) }
     {
         let origins = copy_origins(alloc, &self.origins)?;
@@ -149,7 +149,7 @@ fn push_ack(
         ≡ kept.old.items ++ Ack client.now origin range.0 range.1 ∷ []) }
 {
     let op = Op::Ack {
-        client: client.copy(alloc)?,
+        client: client.copied(alloc)?,
         origin,
         first: range.0,
         last: range.1,

@@ -52,7 +52,7 @@ fn check_one(alloc: Global, table: &Table, op: &Op) -> Result<(), TakeFault>
 fn conflict(alloc: Global, client: &ClientId) -> TakeFault
     ensures { (result ≡ TakeFault.Conflict client.now) ⊎ (result ≡ TakeFault.Memory) }
 {
-    match client.copy(alloc) {
+    match client.copied(alloc) {
         Ok(client) => TakeFault::Conflict { client },
         Err(_) => TakeFault::Memory,
     }
@@ -81,7 +81,7 @@ fn agrees_with(entry: &Entry, op: &Op) -> bool
             counter,
             change,
             ..
-        } => match entry.known.get(&(*stamp, *counter)) {
+        } => match entry.known.get(*stamp, *counter) {
             Some(kept) => same_change(kept, change),
             None => true,
         },

@@ -1,17 +1,13 @@
 //! What the replica keeps of one client.
 
-ghost use Rattle.std.specs.Prelude.{◌≡◌, ◌||◌, ◌==◌, not, length, ℕ, List, [], None, count_by};
-ghost use Rattle.std.specs.BTreeMap.{keys};
+ghost use Rattle.std.specs.Prelude.{◌≡◌, ◌||◌, ◌==◌, not, length, ℕ, List, [], None};
 ghost use Rattle.rep_plain.specs.Rows.{has_any};
-ghost use Rattle.rep_plain.specs.Steps.{waits};
 
 use super::acks::Acks;
+use super::known::{Known, NamedOp};
 use rep_model::{ClientView, Puts};
-use rep_ops::{Put, Stamp};
-use sn_session::SessionOp;
+use rep_ops::Put;
 use std::alloc::Global;
-use std::cmp::Ordering;
-use std::collections::BTreeMap;
 
 /// What the replica keeps of one client. What its operations say is read off here, and nowhere worked out again.
 #[derive(Debug, Drop)]
@@ -19,7 +15,7 @@ pub struct Entry {
     /// The view: stamp, prefix and session of the operations below, and the messages that wait.
     pub(crate) seen: ClientView,
     /// The operations of the visible stamp, and those above it, which wait for their Take.
-    pub(crate) known: BTreeMap<(Stamp, u8), SessionOp>,
+    pub(crate) known: Known,
     /// What is acknowledged.
     pub(crate) acks: Acks,
     /// How many session operations wait for earlier ones.
@@ -30,13 +26,15 @@ pub struct Entry {
 
 impl Entry {
     ghost use Rattle.rep_state.specs.Entries.{IsEntry, row_of};
+    ghost use Rattle.rep_state.specs.inner.Groups.{nothing_held};
 
     /// The place of a client of which nothing is known.
-    pub fn empty(alloc: Global) -> Entry
+    pub(crate) fn empty(alloc: Global) -> Entry
         ensures entry { (c : List ℕ) → IsEntry c result }
         ensures row { (c : List ℕ) → row_of c result ≡ [] }
         ensures pending { result.seen.pending ≡ [] }
         ensures session { result.seen.session ≡ None }
+        ensures nothing { result ≡ nothing_held }
     {
         Entry {
             seen: ClientView {
@@ -45,7 +43,7 @@ impl Entry {
                 session: None,
                 pending: Puts::new(Vec::new(alloc)),
             },
-            known: BTreeMap::new(alloc),
+            known: Known::new(alloc),
             acks: Acks::new(alloc),
             parked: 0,
             exceptions: 0,
@@ -56,17 +54,17 @@ impl Entry {
     pub(crate) fn has_operations(&self) -> bool
         ensures { (c : List ℕ) → result ≡ has_any (row_of c self.now) }
     {
-        let log = any_change(&self.known);
+        let log = any_change(self.known.as_slice());
         let mail = any_put(self.seen.pending.as_slice());
         any_of(log, mail, self.acks.has_ranges())
     }
 }
 
 /// Whether there are operations.
-fn any_change(known: &BTreeMap<(Stamp, u8), SessionOp>) -> bool
-    ensures { result ≡ not (length known.now.entries == 0) }
+fn any_change(ops: &[NamedOp]) -> bool
+    ensures { result ≡ not (length ops.now == 0) }
 {
-    !(known.len() == 0)
+    !ops.is_empty()
 }
 
 /// Whether there are messages.
@@ -81,32 +79,4 @@ fn any_of(log: bool, mail: bool, acks: bool) -> bool
     ensures { result ≡ (log || (mail || acks)) }
 {
     log || mail || acks
-}
-
-/// How many of the operations wait for earlier ones.
-pub(crate) fn count_parked(
-    known: &BTreeMap<(Stamp, u8), SessionOp>,
-    visible: Option<Stamp>,
-    prefix: u16,
-) -> usize
-    ensures { result ≡ count_by (waits visible prefix) (keys known.now) }
-{
-    known
-        .keys()
-        .filter(|name| waits(**name, visible, prefix))
-        .count()
-}
-
-/// Whether an operation of that name waits for earlier ones.
-fn waits(name: (Stamp, u8), visible: Option<Stamp>, prefix: u16) -> bool
-    ensures { result ≡ waits visible prefix name }
-{
-    match visible {
-        None => true,
-        Some(seen) => match name.0.cmp(&seen) {
-            Ordering::Less => false,
-            Ordering::Equal => name.1 as u16 >= prefix,
-            Ordering::Greater => true,
-        },
-    }
 }

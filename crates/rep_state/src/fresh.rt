@@ -1,73 +1,68 @@
-//! What a delta changes of one client, operation by operation.
+//! What a delta changes of one client, operation by operation. What it does not touch is not copied.
 
-ghost use Rattle.std.specs.Prelude.{◌≡◌, ◌+◌, ◌==◌, ◌≤◌, ◌++◌, ◌∷◌, ◌||◌, [], ℕ, List, T, IsTrue, Some, None, false, is_some, length, count_by, vec_capacity, IfOk, OnOk};
+ghost use Rattle.std.specs.Prelude.{◌≡◌, ◌+◌, ◌==◌, ◌≤◌, ◌||◌, [], ℕ, List, IsTrue, false, is_some, length, vec_capacity, IfOk, OnOk};
 ghost use Rattle.std.specs.List.{list_any};
 ghost use Rattle.std.specs.FinMap.{find};
-ghost use Rattle.std.specs.BTreeMap.{keys, values};
-ghost use Rattle.rep_ops.specs.declared.op.Put.{Put};
+ghost use Rattle.std.specs.BTreeMap.{values};
 ghost use Rattle.rep_ops.specs.declared.op.Op.TheVariants.{Session as OfSession, Put as OfPut, Ack};
-ghost use Rattle.rep_ops.specs.Orders.{put_cmp};
-ghost use Rattle.rep_ops.specs.Sets.{Same};
+ghost use Rattle.rep_ops.specs.Orders.{operation_cmp, put_cmp};
 ghost use Rattle.rep_ops.specs.WellMade.{is_well_made};
-ghost use Rattle.rep_model.specs.Keep.{keep};
 ghost use Rattle.rep_plain.specs.Rows.{IsOwnOp};
-ghost use Rattle.rep_state.specs.Logs.{IsFolded};
+ghost use Rattle.rep_state.specs.declared.entry.Entry.{Entry as AnEntry};
+ghost use Rattle.rep_state.specs.Logs.{known_on, whole_of};
 ghost use Rattle.rep_state.specs.Mail.{covers, name_of, put_named, Rising};
-ghost use Rattle.rep_plain.specs.Steps.{capped, waits};
-ghost use Rattle.rep_state.specs.Origins.{ranges_in, above_gaps};
+ghost use Rattle.rep_state.specs.Origins.{ranges_in, origins_after};
+ghost use Rattle.rep_state.specs.Entries.{whole_after};
+ghost use Rattle.rep_state.specs.inner.Staging.{parked_on, exceptions_on, HasLogRoom};
 
 use super::acks::Acks;
 use super::change::Change;
-use super::entry::{Entry, count_parked};
-use super::fault::NoMemory;
+use super::entry::Entry;
+use super::known::{Known, NamedOp};
 use super::log::Log;
 use super::searching::find_put;
 use super::settling::count_settled;
-use rep_model::{ClientView, Puts};
+use octets::NoMemory;
+use rep_model::Puts;
 use rep_ops::{Op, Put, Stamp};
 use sn_session::SessionOp;
 use std::alloc::Global;
 use std::collections::BTreeMap;
 
-/// What a delta changes of one client: the log and the acknowledgements as they will be, and the messages that are new.
+/// What a delta changes of one client: the log and the acknowledgements as they will be, where something came for them, and the
+/// messages that are new.
 #[derive(Debug, Drop)]
 pub struct Fresh {
-    pub(crate) log: Log,
+    pub(crate) log: Option<Log>,
     pub(crate) news: BTreeMap<(u64, u8), Put>,
-    pub(crate) acks: Acks,
-    /// Whether acknowledgements are new.
-    pub(crate) told: bool,
+    pub(crate) acks: Option<Acks>,
 }
 
 impl Fresh {
-    ghost use Rattle.rep_state.specs.Entries.{IsEntry, row_of, IsFresh, fresh_row, IsStep};
-    ghost use Rattle.rep_state.specs.Staging.{applied, left_after, plan_of, IsChange, IsFit};
+    ghost use Rattle.rep_state.specs.Entries.{IsEntry, row_of, IsFresh, fresh_row, IsStep, base_of, left_on};
+    ghost use Rattle.rep_state.specs.Staging.{planned_row, IsChange, IsFit};
 
     /// A client of whom nothing is changed yet.
-    pub fn of(alloc: Global, entry: &Entry) -> Result<Fresh, NoMemory>
-        ensures fresh { (c : List ℕ) → IsEntry c entry.now
-            → IfOk result (IsFresh entry.now.seen.pending) }
-        ensures row { (c : List ℕ) → IsEntry c entry.now
-            → IfOk result (λ fresh. fresh_row c entry.now.seen.pending fresh ≡ row_of c entry.now) }
+    pub fn new(alloc: Global) -> Fresh
+        ensures fresh { (c : List ℕ) (entry : AnEntry) → IsEntry c entry → IsFresh c entry result }
+        ensures row { (c : List ℕ) (entry : AnEntry) → IsEntry c entry
+            → fresh_row c entry result ≡ row_of c entry }
     {
-        let log = Log::of(alloc, &entry.seen, &entry.known)?;
-        let acks = entry.acks.copy(alloc)?;
-        Ok(Fresh {
-            log,
+        Fresh {
+            log: None,
             news: BTreeMap::new(alloc),
-            acks,
-            told: false,
-        })
+            acks: None,
+        }
     }
 
-    /// One operation of the client more, where these messages waited before.
-    pub fn note(&mut self, alloc: Global, waiting: &[Put], op: &Op) -> Result<(), NoMemory>
-        requires folded { IsFolded self.old.log }
+    /// One operation more of the client, of whom this entry is held.
+    pub fn note(&mut self, alloc: Global, entry: &Entry, op: &Op) -> Result<(), NoMemory>
+        requires fresh { (c : List ℕ) × IsFresh c entry.now self.old }
         requires made { IsTrue (is_well_made op.now) }
         ensures { (c : List ℕ)
-            → IsFresh waiting.now self.old
+            → IsFresh c entry.now self.old
             → IsOwnOp c op.now
-            → OnOk result (IsStep c waiting.now self.old self.new op.now) }
+            → OnOk result (IsStep c entry.now self.old self.new op.now) }
     {
         match op {
             Op::Session {
@@ -75,14 +70,14 @@ impl Fresh {
                 counter,
                 change,
                 ..
-            } => self.note_session(alloc, *stamp, *counter, change),
-            Op::Put { put, .. } => self.note_put(alloc, waiting, put),
+            } => self.note_session(alloc, entry, (*stamp, *counter), change),
+            Op::Put { put, .. } => self.note_put(alloc, entry, put),
             Op::Ack {
                 origin,
                 first,
                 last,
                 ..
-            } => self.note_ack(alloc, *origin, *first, *last),
+            } => self.note_ack(alloc, entry, *origin, *first, *last),
         }
     }
 
@@ -90,126 +85,194 @@ impl Fresh {
     fn note_session(
         &mut self,
         alloc: Global,
-        stamp: Stamp,
-        counter: u8,
+        entry: &Entry,
+        name: (Stamp, u8),
         change: &SessionOp,
     ) -> Result<(), NoMemory>
-        requires { IsFolded self.old.log }
-        ensures { (c : List ℕ) (waiting : List Put)
-            → IsFresh waiting self.old
-            → IsTrue (is_well_made (OfSession c stamp counter change.now))
-            → OnOk result (IsStep c waiting self.old self.new (OfSession c stamp counter change.now)) }
+        requires { (c : List ℕ) × IsFresh c entry.now self.old }
+        ensures { (c : List ℕ)
+            → IsFresh c entry.now self.old
+            → IsTrue (is_well_made (OfSession c name.0 name.1 change.now))
+            → OnOk result (IsStep c entry.now self.old self.new
+            (OfSession c name.0 name.1 change.now)) }
     {
-        if self.log.known.contains_key(&(stamp, counter)) {
+        if is_known(&entry.known, &self.log, name) {
             return Ok(());
         }
-        let change = change.copy(alloc)?;
-        self.log.note(alloc, stamp, counter, change)?;
+        let change = change.copied(alloc)?;
+        let mut log = begun(alloc, entry, self.log.take())?;
+        log.note(alloc, &entry.known, name, change)?;
+        self.log = Some(log);
         Ok(())
     }
 
     /// The acknowledgements of the messages first to last of an origin more.
-    fn note_ack(&mut self, alloc: Global, origin: u8, first: u64, last: u64) -> Result<(), NoMemory>
+    fn note_ack(
+        &mut self,
+        alloc: Global,
+        entry: &Entry,
+        origin: u8,
+        first: u64,
+        last: u64,
+    ) -> Result<(), NoMemory>
         requires { (1 ≤ origin) × (1 ≤ first) × (first ≤ last) }
-        ensures { (c : List ℕ) (waiting : List Put)
-            → IsFresh waiting self.old
-            → OnOk result (IsStep c waiting self.old self.new (Ack c origin first last)) }
+        ensures { (c : List ℕ)
+            → IsFresh c entry.now self.old
+            → OnOk result (IsStep c entry.now self.old self.new (Ack c origin first last)) }
     {
-        self.acks.add(alloc, origin, first, last)?;
-        self.told = true;
+        let mut acks = taken(alloc, &entry.acks, self.acks.take())?;
+        acks.add(alloc, origin, first, last)?;
+        self.acks = Some(acks);
         Ok(())
     }
 
     /// A message more; one that is acknowledged, or there, changes nothing.
-    fn note_put(&mut self, alloc: Global, waiting: &[Put], put: &Put) -> Result<(), NoMemory>
+    fn note_put(&mut self, alloc: Global, entry: &Entry, put: &Put) -> Result<(), NoMemory>
         ensures { (c : List ℕ)
-            → IsFresh waiting.now self.old
+            → IsFresh c entry.now self.old
             → IsTrue (is_well_made (OfPut c put.now))
-            → OnOk result (IsStep c waiting.now self.old self.new (OfPut c put.now)) }
+            → OnOk result (IsStep c entry.now self.old self.new (OfPut c put.now)) }
     {
-        if self.has(waiting, put) {
+        if self.has(entry, put) {
             return Ok(());
         }
-        let put = put.copy(alloc)?;
+        let put = put.copied(alloc)?;
         self.news.insert((put.seq, put.origin), put)?;
         Ok(())
     }
 
     /// Whether a message of that name is acknowledged, waits, or is among the new ones.
-    fn has(&self, waiting: &[Put], put: &Put) -> bool
-        ensures { Rising waiting.now
-            → result ≡ (list_any (covers (name_of put.now)) (ranges_in self.now.acks)
-            || is_some (put_named (name_of put.now) waiting.now)
+    fn has(&self, entry: &Entry, put: &Put) -> bool
+        ensures { Rising entry.now.seen.pending
+            → result ≡ (list_any (covers (name_of put.now))
+            (ranges_in (origins_after entry.now.acks self.now.acks))
+            || is_some (put_named (name_of put.now) entry.now.seen.pending)
             || is_some (find put_cmp (name_of put.now) self.now.news.entries)) }
     {
-        self.acks.covers(put.seq, put.origin)
-            || find_put(waiting, put.seq, put.origin).is_some()
+        latest(&entry.acks, &self.acks).covers(put.seq, put.origin)
+            || find_put(entry.seen.pending.as_slice(), put.seq, put.origin).is_some()
             || self.news.contains_key(&(put.seq, put.origin))
     }
 
-    /// What is staged, where these messages waited before.
-    pub fn into_change(self, alloc: Global, waiting: &[Put]) -> Result<Change, NoMemory>
-        ensures change { IsFresh waiting.now self → IfOk result IsChange }
-        ensures fit { IsFresh waiting.now self
-            → IfOk result (λ change. IsFit waiting.now (plan_of change)) }
-        ensures counted { IsFresh waiting.now self
-            → IfOk result (λ change. change.pending ≡ length (left_after waiting.now change)) }
+    /// What is staged of the client, of whom this entry is held.
+    pub fn into_change(self, alloc: Global, entry: &Entry) -> Result<Change, NoMemory>
+        ensures change { (c : List ℕ) → IsFresh c entry.now self → IfOk result IsChange }
+        ensures fit { (c : List ℕ) → IsFresh c entry.now self
+            → IfOk result (IsFit c (base_of entry.now)) }
+        ensures counted { (c : List ℕ) → IsFresh c entry.now self
+            → IfOk result (λ change. change.pending
+            ≡ length (left_on (base_of entry.now) change.news.items change.acks)) }
         ensures row { (c : List ℕ) → IfOk result (λ change.
-            row_of c (applied waiting.now change) ≡ fresh_row c waiting.now self) }
+            planned_row c (base_of entry.now) change ≡ fresh_row c entry.now self) }
     {
-        let Fresh {
-            log,
-            news,
-            acks,
-            told,
-        } = self;
+        let Fresh { log, news, acks } = self;
         let news = into_puts(alloc, news)?;
+        let waiting = entry.seen.pending.as_slice();
         let room = room_for(alloc, waiting, news.as_slice())?;
-        let pending = count_settled(waiting, news.as_slice(), told, &acks)?;
-        let entry = without_messages(alloc, log, acks);
+        let told = acks.is_some();
+        let pending = count_settled(waiting, news.as_slice(), told, latest(&entry.acks, &acks))?;
+        let log_room = log_room_for(alloc, &entry.known, &log)?;
+        let parked = parked_with(entry, &log)?;
+        let exceptions = exceptions_with(entry, &acks);
         Ok(Change {
-            entry,
+            log,
+            log_room,
+            parked,
+            acks,
+            exceptions,
             news,
             room,
-            told,
+            none: Puts::new(Vec::new(alloc)),
             pending,
         })
     }
 }
 
-/// The entry of these session operations and acknowledgements.
-fn without_messages(alloc: Global, log: Log, acks: Acks) -> Entry
-    ensures seen { (result.seen.stamp ≡ log.stamp)
-        × (result.seen.prefix ≡ log.prefix)
-        × (result.seen.session ≡ log.session) }
-    ensures known { result.known.entries ≡ log.known.entries }
-    ensures acks { result.acks ≡ acks }
-    ensures parked { result.parked ≡ count_by (waits result.seen.stamp result.seen.prefix)
-        (keys result.known) }
-    ensures exceptions { result.exceptions ≡ capped (above_gaps result.acks 255) }
+/// Whether an operation of that name is there.
+fn is_known(known: &Known, log: &Option<Log>, name: (Stamp, u8)) -> bool
+    ensures { result ≡ is_some (find operation_cmp name (known_on known.now log.now)) }
 {
-    let Log {
-        stamp,
-        prefix,
-        session,
-        known,
-    } = log;
-    let parked = count_parked(&known, stamp, prefix);
-    let exceptions = acks.exceptions();
-    let pending = Puts::new(Vec::new(alloc));
-    let seen = ClientView {
-        stamp,
-        prefix,
-        session,
-        pending,
-    };
-    Entry {
-        seen,
-        known,
-        acks,
-        parked,
-        exceptions,
+    match log {
+        None => known.get(name.0, name.1).is_some(),
+        Some(log) => log.get(known, name.0, name.1).is_some(),
     }
+}
+
+/// The log that is changed, or else that of the entry, to be changed.
+fn begun(alloc: Global, entry: &Entry, log: Option<Log>) -> Result<Log, NoMemory>
+    ensures { IfOk result (λ made. whole_of entry.now.known made ≡ whole_after entry.now log) }
+{
+    match log {
+        Some(log) => Ok(log),
+        None => Log::of(alloc, &entry.seen),
+    }
+}
+
+/// The acknowledgements that are changed, or else those of the entry, to be changed.
+fn taken(alloc: Global, held: &Acks, acks: Option<Acks>) -> Result<Acks, NoMemory>
+    ensures { IfOk result (λ made. made ≡ origins_after held.now acks) }
+{
+    match acks {
+        Some(acks) => Ok(acks),
+        None => held.copied(alloc),
+    }
+}
+
+/// The acknowledgements that are changed, or else those of the entry.
+fn latest<'a>(held: &'a Acks, acks: &'a Option<Acks>) -> &'a Acks
+    ensures { result.now ≡ origins_after held.now acks.now }
+{
+    match acks {
+        Some(acks) => acks,
+        None => held,
+    }
+}
+
+/// How many session operations will wait for earlier ones.
+fn parked_with(entry: &Entry, log: &Option<Log>) -> Result<usize, NoMemory>
+    ensures { IfOk result (λ count. count ≡ parked_on entry.now log.now) }
+{
+    match log {
+        Some(log) => log.count_parked(&entry.known),
+        None => Ok(entry.parked),
+    }
+}
+
+/// How many acknowledgements will stand above a number that is not acknowledged.
+fn exceptions_with(entry: &Entry, acks: &Option<Acks>) -> u64
+    ensures { result ≡ exceptions_on entry.now acks.now }
+{
+    match acks {
+        Some(acks) => acks.exceptions(),
+        None => entry.exceptions,
+    }
+}
+
+/// Room for the session operations that are there and those behind them, and for half as many more, so that they seldom move;
+/// none where none comes behind them.
+fn log_room_for(alloc: Global, known: &Known, log: &Option<Log>) -> Result<Vec<NamedOp>, NoMemory>
+    ensures empty { IfOk result (λ room. room.items ≡ []) }
+    ensures room { IfOk result (λ room. HasLogRoom known.now log.now (vec_capacity room)) }
+{
+    match log {
+        Some(log) => {
+            if log.anew {
+                return Ok(Vec::new(alloc));
+            }
+            let count = with_half(known.as_slice().len(), log.more.as_slice().len())?;
+            Ok(Vec::with_capacity(alloc, count)?)
+        }
+        None => Ok(Vec::new(alloc)),
+    }
+}
+
+/// Both, and half as much more.
+fn with_half(count: usize, more: usize) -> Result<usize, NoMemory>
+    ensures { IfOk result (λ room. count + more ≤ room) }
+{
+    let count = count.checked_add(more).ok_or(NoMemory)?;
+    let room = count.checked_add(count / 2).ok_or(NoMemory)?;
+    Ok(room)
 }
 
 /// Room for the messages that wait and those that are new, and for half as many more, so that they seldom move; none where none
@@ -222,8 +285,7 @@ fn room_for(alloc: Global, waiting: &[Put], news: &[Put]) -> Result<Vec<Put>, No
     if news.is_empty() {
         return Ok(Vec::new(alloc));
     }
-    let count = waiting.len().checked_add(news.len()).ok_or(NoMemory)?;
-    let room = count.checked_add(count / 2).ok_or(NoMemory)?;
+    let room = with_half(waiting.len(), news.len())?;
     Ok(Vec::with_capacity(alloc, room)?)
 }
 

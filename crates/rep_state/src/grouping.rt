@@ -7,19 +7,18 @@ ghost use Rattle.std.specs.FinMap.{find, is_sorted};
 ghost use Rattle.rep_ops.specs.declared.op.Op.{Op};
 ghost use Rattle.rep_ops.specs.Orders.{client_cmp};
 ghost use Rattle.rep_ops.specs.WellMade.{is_well_made};
-ghost use Rattle.rep_plain.specs.Rows.{own};
 ghost use Rattle.rep_state.specs.Entries.{IsFresh, fresh_row};
 ghost use Rattle.rep_state.specs.Tables.{by_client, rows_of, AreKept};
 ghost use Rattle.rep_state.specs.Staging.{staged_of};
 ghost use Rattle.rep_state.specs.inner.Staging.{future, AreWorkedOut};
-ghost use Rattle.rep_state.specs.inner.Groups.{waiting_of, IsTaken, AreGroups, fresh_rows};
+ghost use Rattle.rep_state.specs.inner.Groups.{held_of, nothing_held, IsTaken, AreGroups, fresh_rows};
 
 use super::change::Change;
 use super::entry::Entry;
-use super::fault::NoMemory;
 use super::fresh::Fresh;
 use super::table::{Table, copy_octets, entry_of};
-use rep_ops::{ClientId, Op, Put};
+use octets::NoMemory;
+use rep_ops::{ClientId, Op};
 use std::alloc::Global;
 use std::collections::BTreeMap;
 
@@ -35,11 +34,12 @@ pub(crate) fn grown(
         AreGroups (by_client table.now.entries) ops.now groups.entries) }
     ensures sorted { IfOk result (λ groups. T (is_sorted client_cmp groups.entries)) }
     ensures fresh { IfOk result (λ groups. AllByRecursion
-        (λ g. IsFresh (waiting_of g.0 (by_client table.now.entries)) g.1) groups.entries) }
+        (λ g. IsFresh g.0 (held_of g.0 (by_client table.now.entries)) g.1) groups.entries) }
 {
+    let nothing = Entry::empty(alloc);
     let mut groups = BTreeMap::new(alloc);
     for op in ops {
-        add_to_group(alloc, table, &mut groups, op)?;
+        add_to_group(alloc, table, &nothing, &mut groups, op)?;
     }
     Ok(groups)
 }
@@ -48,10 +48,12 @@ pub(crate) fn grown(
 fn add_to_group(
     alloc: Global,
     table: &Table,
+    nothing: &Entry,
     groups: &mut BTreeMap<ClientId, Fresh>,
     op: &Op,
 ) -> Result<(), NoMemory>
     requires kept { AreKept (by_client table.now.entries) }
+    requires nothing { nothing.now ≡ nothing_held }
     requires made { IsTrue (is_well_made op.now) }
     requires groups { (D : List Op) × AreGroups (by_client table.now.entries) D groups.old.entries }
     ensures groups { (D : List Op)
@@ -60,60 +62,45 @@ fn add_to_group(
         (AreGroups (by_client table.now.entries) (D ++ op.now ∷ []) groups.new.entries) }
     ensures sorted { OnOk result (T (is_sorted client_cmp groups.new.entries)) }
 {
-    let client = op.client().copy(alloc)?;
-    let mut fresh = take_group(alloc, table, groups, &client)?;
-    fresh.note(alloc, waiting(table, &client), op)?;
+    let client = op.client().copied(alloc)?;
+    let mut fresh = take_group(alloc, table, groups, &client);
+    fresh.note(alloc, held(table, nothing, &client), op)?;
     groups.insert(client, fresh)?;
     Ok(())
 }
 
-/// Takes what is changed of a client out of the groups; what the table has of it, where nothing is changed yet.
+/// Takes what is changed of a client out of the groups; nothing is, where it has none.
 fn take_group(
     alloc: Global,
     table: &Table,
     groups: &mut BTreeMap<ClientId, Fresh>,
     client: &ClientId,
-) -> Result<Fresh, NoMemory>
+) -> Fresh
     requires kept { AreKept (by_client table.now.entries) }
     requires groups { (D : List Op) × AreGroups (by_client table.now.entries) D groups.old.entries }
-    ensures fresh { IfOk result (λ fresh.
-        IsFresh (waiting_of client.now (by_client table.now.entries)) fresh) }
+    ensures fresh { IsFresh client.now (held_of client.now (by_client table.now.entries)) result }
     ensures taken { (D : List Op)
         → AreGroups (by_client table.now.entries) D groups.old.entries
-        → IfOk result (λ fresh. IsTaken client.now (by_client table.now.entries) D
-        (fresh_row client.now (waiting_of client.now (by_client table.now.entries)) fresh)) }
+        → IsTaken client.now (by_client table.now.entries) D
+        (fresh_row client.now (held_of client.now (by_client table.now.entries)) result) }
     ensures others { (c : List ℕ)
         → is_eq (client_cmp client.now c) ≡ false
         → find client_cmp c groups.new.entries ≡ find client_cmp c groups.old.entries }
 {
     match groups.remove(client) {
-        Some(fresh) => Ok(fresh),
-        None => unchanged(alloc, table, client),
+        Some(fresh) => fresh,
+        None => Fresh::new(alloc),
     }
 }
 
-/// What the table has of a client, to be changed.
-fn unchanged(alloc: Global, table: &Table, client: &ClientId) -> Result<Fresh, NoMemory>
-    requires { AreKept (by_client table.now.entries) }
-    ensures fresh { IfOk result (λ fresh.
-        IsFresh (waiting_of client.now (by_client table.now.entries)) fresh) }
-    ensures row { IfOk result (λ fresh.
-        fresh_row client.now (waiting_of client.now (by_client table.now.entries)) fresh
-        ≡ own client.now (rows_of (by_client table.now.entries))) }
+/// What is held of the client: the entry of the table, or else the one where nothing is.
+fn held<'a>(table: &'a Table, nothing: &'a Entry, client: &ClientId) -> &'a Entry
+    requires { nothing.now ≡ nothing_held }
+    ensures { result.now ≡ held_of client.now (by_client table.now.entries) }
 {
     match entry_of(table, client.bytes()) {
-        Some(entry) => Fresh::of(alloc, entry),
-        None => Fresh::of(alloc, &Entry::empty(alloc)),
-    }
-}
-
-/// The messages that wait for the client.
-fn waiting<'a>(table: &'a Table, client: &ClientId) -> &'a [Put]
-    ensures { result.now ≡ waiting_of client.now (by_client table.now.entries) }
-{
-    match entry_of(table, client.bytes()) {
-        Some(entry) => entry.seen.pending.as_slice(),
-        None => &[],
+        Some(entry) => entry,
+        None => nothing,
     }
 }
 
@@ -124,16 +111,17 @@ pub(crate) fn worked_out(
     groups: BTreeMap<ClientId, Fresh>,
 ) -> Result<Vec<(Vec<u8>, Change)>, NoMemory>
     requires { AllByRecursion
-        (λ g. IsFresh (waiting_of g.0 (by_client table.now.entries)) g.1) groups.entries }
+        (λ g. IsFresh g.0 (held_of g.0 (by_client table.now.entries)) g.1) groups.entries }
     ensures rows { IfOk result (λ changes.
         rows_of (future (by_client table.now.entries) (staged_of changes.items))
         ≡ fresh_rows (by_client table.now.entries) groups.entries) }
     ensures worked_out { IfOk result (λ changes.
         AreWorkedOut (by_client table.now.entries) (staged_of changes.items)) }
 {
+    let nothing = Entry::empty(alloc);
     let mut made = Vec::with_capacity(alloc, groups.len())?;
     for (client, fresh) in groups {
-        push_change(alloc, table, &mut made, &client, fresh)?;
+        push_change(alloc, table, &nothing, &mut made, &client, fresh)?;
     }
     Ok(made)
 }
@@ -142,21 +130,23 @@ pub(crate) fn worked_out(
 fn push_change(
     alloc: Global,
     table: &Table,
+    nothing: &Entry,
     made: &mut Vec<(Vec<u8>, Change)>,
     client: &ClientId,
     fresh: Fresh,
 ) -> Result<(), NoMemory>
-    requires { IsFresh (waiting_of client.now (by_client table.now.entries)) fresh }
+    requires nothing { nothing.now ≡ nothing_held }
+    requires fresh { IsFresh client.now (held_of client.now (by_client table.now.entries)) fresh }
     ensures rows { OnOk result (rows_of (future (by_client table.now.entries)
         (staged_of made.new.items))
         ≡ rows_of (future (by_client table.now.entries) (staged_of made.old.items)) ++ (
           client.now,
-          fresh_row client.now (waiting_of client.now (by_client table.now.entries)) fresh,
+          fresh_row client.now (held_of client.now (by_client table.now.entries)) fresh,
         ) ∷ []) }
     ensures worked_out { AreWorkedOut (by_client table.now.entries) (staged_of made.old.items)
         → OnOk result (AreWorkedOut (by_client table.now.entries) (staged_of made.new.items)) }
 {
-    let change = fresh.into_change(alloc, waiting(table, client))?;
+    let change = fresh.into_change(alloc, held(table, nothing, client))?;
     let key = copy_octets(alloc, client.bytes())?;
     made.push((key, change))?;
     Ok(())

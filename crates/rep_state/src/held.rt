@@ -16,15 +16,15 @@ ghost use Rattle.rep_state.specs.Interests.{AreMarked};
 ghost use Rattle.rep_state.specs.inner.Interests.{AreSilent, IsNext};
 
 use super::entry::Entry;
-use super::fault::NoMemory;
 use super::interest::mark_of;
+use super::known::NamedOp;
 use super::places::{Place, client_at, names, next_marked};
 use super::table::{Table, entry_of, has_operations};
+use octets::NoMemory;
 use rep_ops::{ClientId, Delta, Op, Put, Stamp, deltas_of};
 use sn_session::SessionOp;
 use sn_topic::TopicName;
 use std::alloc::Global;
-use std::collections::BTreeMap;
 
 /// The clients that have operations, in ascending order, where so many have some.
 pub(crate) fn named_clients(
@@ -198,7 +198,7 @@ fn push_row(
 ) -> Result<(), NoMemory>
     ensures { OnOk result (kept.new.items ≡ kept.old.items ++ row_of client.now entry.now) }
 {
-    push_log(alloc, kept, client, &entry.known)?;
+    push_log(alloc, kept, client, entry.known.as_slice())?;
     push_mail(alloc, kept, client, entry.seen.pending.as_slice())?;
     entry.acks.push_to(alloc, kept, client)?;
     Ok(())
@@ -209,12 +209,12 @@ fn push_log(
     alloc: Global,
     kept: &mut Vec<Op>,
     client: &ClientId,
-    known: &BTreeMap<(Stamp, u8), SessionOp>,
+    ops: &[NamedOp],
 ) -> Result<(), NoMemory>
-    ensures { OnOk result (kept.new.items ≡ kept.old.items ++ of_log client.now known.now.entries) }
+    ensures { OnOk result (kept.new.items ≡ kept.old.items ++ of_log client.now ops.now) }
 {
-    for (name, change) in known {
-        push_session(alloc, kept, client, *name, change)?;
+    for op in ops {
+        push_session(alloc, kept, client, op.0, &op.1)?;
     }
     Ok(())
 }
@@ -231,10 +231,10 @@ fn push_session(
         ≡ kept.old.items ++ OfSession client.now name.0 name.1 change.now ∷ []) }
 {
     let op = Op::Session {
-        client: client.copy(alloc)?,
+        client: client.copied(alloc)?,
         stamp: name.0,
         counter: name.1,
-        change: change.copy(alloc)?,
+        change: change.copied(alloc)?,
     };
     kept.push(op)?;
     Ok(())
@@ -260,8 +260,8 @@ fn push_put(alloc: Global, kept: &mut Vec<Op>, client: &ClientId, put: &Put) -> 
     ensures { OnOk result (kept.new.items ≡ kept.old.items ++ OfPut client.now put.now ∷ []) }
 {
     let op = Op::Put {
-        client: client.copy(alloc)?,
-        put: put.copy(alloc)?,
+        client: client.copied(alloc)?,
+        put: put.copied(alloc)?,
     };
     kept.push(op)?;
     Ok(())

@@ -9,8 +9,12 @@
 //! what it makes of each client that it names, operation by operation (`Fresh`), where each may be new, may wait,
 //! may be below the visible stamp or acknowledged already, and after each of them what is held is exactly what must
 //! be kept of all that came; counts what the limits speak of; and makes places for new clients, and room for new
-//! messages. `commit` moves what was worked out into its places, and what waits there behind it (`Change`), for which no
-//! memory is needed.
+//! messages and session operations. `commit` moves what was worked out into its places, or behind what is there
+//! (`Change`), for which no memory is needed.
+//!
+//! What a delta does not touch of a client is not copied: a change has a log where a session operation came, and
+//! acknowledgements where one came; else those of the entry stay. A session operation that comes behind all that are
+//! there is moved behind them, so that a step costs the same however long the log is.
 //!
 //! - `replica`: the replica and what it promises (`Folded`, `Staged`).
 //! - `table`, `room`: the table of clients, the limits, room for fresh entries and their move.
@@ -21,32 +25,36 @@
 //! - `numbers`, `held`: the last numbers of a client; all clients in order, and what is kept of them.
 //! - `entry`, `fresh`: what is kept of a client, and what a delta changes of it.
 //! - `change`: that as it is staged, and its move into its place.
-//! - `log`: the session operations of a client, with the visible stamp, the prefix and the session.
+//! - `known`: session operations by their names.
+//! - `log`: those of a client as a delta changes them, with the visible stamp, the prefix and the session.
+//! - `replay`: the session that operations without a gap make.
 //! - `acks`: acknowledged numbers.
 //! - `searching`: a message by its name.
 //! - `weaving`, `settling`: messages that wait, with new ones in their places, without the acknowledged ones.
-//! - `fault`: want of memory.
+//! - `behind`: lists that are moved behind others.
 //!
 //! The definitions are in `specs/`: `Logs`, `Mail` and `Origins` (of session operations, messages and
-//! acknowledgements), `Kept` (all three as a list of operations), `Entries` (what holds of an entry, and of a
-//! change), `Tables` (of clients), `Groups` (the changes of a delta, client by client), `Staging` (the same as they are
-//! staged), `Numbers`. Lemmas that carry the step from one operation to the next are in `proofs/`: `Steps`, `One`,
-//! `Changes`; from a client to all of them: `Groups`, `Working`, `Passing`, `Fitting`, `Staging`; of places and moves:
-//! `Rows`, `Placing`, `Walking`.
+//! acknowledgements), `Kept` (all three as a list of operations), `Entries` (what holds of an entry, what a change builds
+//! on, and what holds of a change), `Tables` (of clients), `Groups` (the changes of a delta, client by client), `Staging`
+//! (the same as they are staged), `Numbers`. Lemmas that carry the step from one operation to the next are in `proofs/`:
+//! `Steps`, `One`, `Changes`, `Changing`; of names in order: `Sorting`; from a client to all of them: `Groups`, `Working`,
+//! `Passing`, `Fitting`, `Staging`; of places and moves: `Rows`, `Placing`, `Walking`.
 #![tactic(auto)]
 
 mod acks;
 mod agreeing;
+mod behind;
 mod change;
 mod entry;
-mod fault;
 mod fresh;
 mod grouping;
 mod held;
 mod interest;
+mod known;
 mod log;
 mod numbers;
 mod places;
+mod replay;
 mod replica;
 mod room;
 mod searching;
@@ -57,8 +65,9 @@ mod weaving;
 pub use acks::Acks;
 pub use change::Change;
 pub use entry::Entry;
-pub use fault::NoMemory;
 pub use fresh::Fresh;
+pub use known::Known;
 pub use log::Log;
+pub use octets::NoMemory;
 pub use rep_model::{ClientView, Limit, Puts, Replica, TakeFault};
 pub use replica::{Folded, Staged};

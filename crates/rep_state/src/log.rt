@@ -1,22 +1,32 @@
-//! The session operations of one client.
+//! The session operations of one client as a delta changes them.
 
-ghost use Rattle.std.specs.Prelude.{◌≡◌, ◌∷◌, ◌<◌, ◌-◌, filter, not, length, None, Some, Option, IfOk, OnOk, T, ℕ, List};
-ghost use Rattle.std.specs.BTreeMap.{insert_entry};
-ghost use Rattle.std.specs.FinMap.{find, is_sorted};
+ghost use Rattle.std.specs.Prelude.{◌≡◌, ◌+◌, ◌++◌, ◌∷◌, ◌<◌, ◌-◌, filter, not, length, true, None, Some, Option, IsTrue, IfOk, OnOk, T, ℕ, List, count_by};
+ghost use Rattle.std.specs.declared.cmp.Ordering.TheVariants.{Less};
+ghost use Rattle.std.specs.FinMap.{find, put, is_sorted};
+ghost use Rattle.std.specs.List.{AllByRecursion};
+ghost use Rattle.std.specs.Map.{keys_of};
+ghost use Rattle.std.specs.Option.{option_copied};
+ghost use Rattle.std.specs.Ordering.{is_lt};
+ghost use Rattle.rep_ops.specs.declared.op.Stamp.{Stamp as OfStamp};
 ghost use Rattle.rep_ops.specs.Orders.{operation_cmp};
+ghost use Rattle.sn_session.specs.declared.change.SessionOp.{SessionOp};
 ghost use Rattle.rep_model.specs.Keep.{is_below as below_test};
-ghost use Rattle.rep_model.specs.Views.{after_change, gapless, session_of};
-ghost use Rattle.rep_state.specs.Logs.{history_in, IsKeptIn};
-ghost use Rattle.rep_state.specs.inner.Logs.{IsReplayed};
+ghost use Rattle.rep_model.specs.Views.{session_of};
+ghost use Rattle.rep_plain.specs.inner.Steps.{waits};
+ghost use Rattle.rep_state.specs.Logs.{history_in};
+ghost use Rattle.rep_state.specs.inner.Logs.{IsKeptIn};
 
-use super::fault::NoMemory;
+use super::known::{Known, NamedOp, count_waiting, from_stamp};
+use super::replay::{find_among, go_on};
+use octets::NoMemory;
 use rep_model::ClientView;
 use rep_ops::Stamp;
-use sn_session::{Session, SessionFault, SessionOp};
+use sn_session::{Session, SessionOp};
 use std::alloc::Global;
-use std::collections::BTreeMap;
+use std::mem;
 
-/// The session operations of a client that are kept, and what they come to.
+/// The session operations of a client as they will be, and what they come to. Those that are there stay where they are, with more
+/// behind them, as long as each new one comes behind all; else they are given up, and those of them that stay are copied.
 #[derive(Debug, Drop)]
 pub struct Log {
     /// The visible stamp.
@@ -25,37 +35,10 @@ pub struct Log {
     pub prefix: u16,
     /// The session that these make.
     pub session: Option<Session>,
-    /// The operations of the visible stamp and those above it.
-    pub known: BTreeMap<(Stamp, u8), SessionOp>,
-}
-
-/// Equal operations.
-fn copy_known(
-    alloc: Global,
-    known: &BTreeMap<(Stamp, u8), SessionOp>,
-) -> Result<BTreeMap<(Stamp, u8), SessionOp>, NoMemory>
-    ensures { IfOk result (λ made. made.entries ≡ known.now.entries) }
-{
-    let mut made = BTreeMap::new(alloc);
-    for (name, change) in known {
-        add_copy(alloc, &mut made, *name, change)?;
-    }
-    Ok(made)
-}
-
-/// Enters an equal operation.
-fn add_copy(
-    alloc: Global,
-    made: &mut BTreeMap<(Stamp, u8), SessionOp>,
-    name: (Stamp, u8),
-    change: &SessionOp,
-) -> Result<(), NoMemory>
-    ensures { OnOk result (made.new.entries ≡ insert_entry operation_cmp made.old.entries name
-        change.now) }
-{
-    let change = change.copy(alloc)?;
-    made.insert(name, change)?;
-    Ok(())
+    /// Whether the operations that are there are given up.
+    pub anew: bool,
+    /// The operations behind those that are there, or all, where those are given up.
+    pub more: Known,
 }
 
 /// Whether the stamp is below the visible one.
@@ -68,126 +51,213 @@ fn is_below(stamp: Stamp, visible: Option<Stamp>) -> bool
     }
 }
 
-/// A session after one more operation; a Take begins it. One that finds its table full leaves it as it was.
-fn changed(
-    alloc: Global,
-    session: Option<Session>,
-    change: &SessionOp,
-) -> Result<Option<Session>, NoMemory>
-    ensures { IfOk result (λ made. made ≡ after_change session change.now) }
+/// An equal session, where there is one.
+fn copied_session(alloc: Global, session: &Option<Session>) -> Result<Option<Session>, NoMemory>
+    ensures { IfOk result (λ made. made ≡ session.now) }
 {
     match session {
-        Some(mut session) => {
-            match session.apply(alloc, change) {
-                Ok(()) | Err(SessionFault::Full) => Ok(Some(session)),
-                Err(SessionFault::Memory) => Err(NoMemory),
-            }
-        }
-        None => match change {
-            SessionOp::Take(taken) => Ok(Some(taken.copy(alloc)?)),
-            _ => Ok(None),
-        },
+        None => Ok(None),
+        Some(session) => Ok(Some(session.copied(alloc)?)),
     }
 }
 
-/// Goes on with a session of `from` operations as far as there is no gap.
-fn go_on(
-    alloc: Global,
-    known: &BTreeMap<(Stamp, u8), SessionOp>,
-    stamp: Stamp,
-    from: u16,
-    session: Option<Session>,
-) -> Result<(u16, Option<Session>), NoMemory>
-    requires { (from < 257) × IsReplayed (λ k. find operation_cmp (stamp, k) known.now.entries)
-        session from }
-    ensures prefix { IfOk result (λ made. made.0
-        ≡ length (history_in known.now.entries (Some stamp))) }
-    ensures session { IfOk result (λ made. made.1 ≡ session_of
-        (history_in known.now.entries (Some stamp))) }
+/// Whether an operation of that name comes behind all of these, which stand in order.
+fn comes_behind(ops: &[NamedOp], name: (Stamp, u8)) -> bool
+    requires { T (is_sorted operation_cmp ops.now) }
+    ensures { IsTrue result → AllByRecursion (λ op. operation_cmp op.0 name ≡ Less) ops.now }
 {
-    let mut session = session;
-    let mut prefix = from;
-    while prefix < 256 {
-        let Some(change) = known.get(&(stamp, prefix as u8)) else {
-            return Ok((prefix, session));
-        };
-        session = changed(alloc, session, change)?;
-        prefix += 1;
+    match ops.last() {
+        None => true,
+        Some(last) => goes_before(last.0, name),
     }
-    Ok((prefix, session))
 }
 
-/// Forgets what is below the stamp.
-fn forget_below(known: &mut BTreeMap<(Stamp, u8), SessionOp>, stamp: Stamp)
-    ensures kept { known.new.entries ≡ filter (λ e. not (below_test e.0.0 (Some stamp)))
-        known.old.entries }
-    ensures ordered { T (is_sorted operation_cmp known.new.entries) }
+/// Whether the first name goes before the second.
+fn goes_before(name: (Stamp, u8), other: (Stamp, u8)) -> bool
+    ensures { result ≡ is_lt (operation_cmp name other) }
 {
-    known.retain(|name, _| !(name.0 < stamp));
+    name.0.cmp(&other.0).then(name.1.cmp(&other.1)).is_lt()
 }
 
 impl Log {
-    ghost use Rattle.rep_state.specs.Logs.{IsFolded};
+    ghost use Rattle.rep_state.specs.Logs.{IsFolded, left_of, all_of, whole_of};
+    ghost use Rattle.rep_state.specs.inner.Logs.{whole_in};
 
-    /// The operations of a client, with what a view of it says of them.
-    pub fn of(
-        alloc: Global,
-        seen: &ClientView,
-        known: &BTreeMap<(Stamp, u8), SessionOp>,
-    ) -> Result<Log, NoMemory>
-        ensures known { IfOk result (λ log. log.known.entries ≡ known.now.entries) }
-        ensures seen { IfOk result (λ log.
-            (log.stamp ≡ seen.now.stamp)
-            × (log.prefix ≡ seen.now.prefix)
-            × (log.session ≡ seen.now.session)) }
+    /// A log that leaves all that is there, as this view says it.
+    pub(crate) fn of(alloc: Global, seen: &ClientView) -> Result<Log, NoMemory>
+        ensures { (known : List ((OfStamp × ℕ) × SessionOp))
+            → IfOk result (λ log. whole_of known log ≡ whole_in seen.now known) }
     {
-        let session = match &seen.session {
-            None => None,
-            Some(session) => Some(session.copy(alloc)?),
-        };
+        let session = copied_session(alloc, &seen.session)?;
         Ok(Log {
             stamp: seen.stamp,
             prefix: seen.prefix,
             session,
-            known: copy_known(alloc, known)?,
+            anew: false,
+            more: Known::new(alloc),
         })
     }
 
-    /// One operation more, of a name that is new.
-    pub fn note(
-        &mut self,
-        alloc: Global,
+    /// Of the operations that were there, those that are not given up.
+    fn left<'a>(&self, known: &'a Known) -> &'a [NamedOp]
+        ensures items { result.now ≡ left_of known.now self.now }
+        ensures ordered { T (is_sorted operation_cmp result.now) }
+    {
+        if self.anew { &[] } else { known.as_slice() }
+    }
+
+    /// The operation of that name.
+    pub(crate) fn get<'a>(
+        &'a self,
+        known: &'a Known,
         stamp: Stamp,
         counter: u8,
-        change: SessionOp,
-    ) -> Result<(), NoMemory>
-        requires folded { IsFolded self.old }
-        requires fresh { find operation_cmp (stamp, counter) self.old.known.entries ≡ None }
-        ensures folded { OnOk result (IsFolded self.new) }
-        ensures ordered { T (is_sorted operation_cmp self.old.known.entries)
-            → OnOk result (T (is_sorted operation_cmp self.new.known.entries)) }
-        ensures kept { OnOk result (IsKeptIn
-            (((stamp, counter), change) ∷ self.old.known.entries)
-            self.new.known.entries
-            self.new.stamp) }
+    ) -> Option<&'a SessionOp>
+        ensures { option_copied result
+            ≡ find operation_cmp (stamp, counter) (all_of known.now self.now) }
     {
-        if is_below(stamp, self.stamp) {
+        find_among(self.left(known), self.more.as_slice(), stamp, counter)
+    }
+
+    /// How many operations wait for earlier ones.
+    pub(crate) fn count_parked(&self, known: &Known) -> Result<usize, NoMemory>
+        ensures { IfOk result (λ count. count
+            ≡ count_by (waits self.now.stamp self.now.prefix) (keys_of (all_of known.now self.now))) }
+    {
+        let first = count_waiting(self.left(known), self.stamp, self.prefix);
+        let more = count_waiting(self.more.as_slice(), self.stamp, self.prefix);
+        let count = first.checked_add(more).ok_or(NoMemory)?;
+        Ok(count)
+    }
+
+    /// Gives up what was there, but for these, of which equal ones are made.
+    fn begin_anew(&mut self, alloc: Global, first: &[NamedOp]) -> Result<(), NoMemory>
+        requires { T (is_sorted operation_cmp (first.now ++ self.old.more)) }
+        ensures anew { OnOk result (self.new.anew ≡ true) }
+        ensures more { OnOk result (self.new.more ≡ first.now ++ self.old.more) }
+        ensures seen { OnOk result ((self.new.stamp ≡ self.old.stamp)
+            × (self.new.prefix ≡ self.old.prefix)
+            × (self.new.session ≡ self.old.session)) }
+    {
+        let more = mem::replace(&mut self.more, Known::new(alloc));
+        self.more = Known::joined(alloc, first, more)?;
+        self.anew = true;
+        Ok(())
+    }
+
+    /// Sees to it that an operation of that name comes behind all that was there and is not given up.
+    fn make_way(&mut self, alloc: Global, known: &Known, name: (Stamp, u8)) -> Result<(), NoMemory>
+        requires { T (is_sorted operation_cmp (all_of known.now self.old)) }
+        ensures same { OnOk result (all_of known.now self.new ≡ all_of known.now self.old) }
+        ensures behind { OnOk result (AllByRecursion (λ op. operation_cmp op.0 name ≡ Less)
+            (left_of known.now self.new)) }
+        ensures seen { OnOk result ((self.new.stamp ≡ self.old.stamp)
+            × (self.new.prefix ≡ self.old.prefix)
+            × (self.new.session ≡ self.old.session)) }
+    {
+        if comes_behind(self.left(known), name) {
             return Ok(());
         }
-        self.known.insert((stamp, counter), change)?;
-        if counter == 0 {
-            forget_below(&mut self.known, stamp);
-            let (prefix, session) = go_on(alloc, &self.known, stamp, 0, None)?;
-            self.stamp = Some(stamp);
-            self.prefix = prefix;
-            self.session = session;
+        self.begin_anew(alloc, self.left(known))?;
+        Ok(())
+    }
+
+    /// Enters an operation of a name that is new.
+    fn enter(
+        &mut self,
+        alloc: Global,
+        known: &Known,
+        name: (Stamp, u8),
+        change: SessionOp,
+    ) -> Result<(), NoMemory>
+        requires ordered { T (is_sorted operation_cmp (all_of known.now self.old)) }
+        requires fresh { find operation_cmp name (all_of known.now self.old) ≡ None }
+        ensures entered { OnOk result (all_of known.now self.new
+            ≡ put operation_cmp name change (all_of known.now self.old)) }
+        ensures seen { OnOk result ((self.new.stamp ≡ self.old.stamp)
+            × (self.new.prefix ≡ self.old.prefix)
+            × (self.new.session ≡ self.old.session)) }
+    {
+        self.make_way(alloc, known, name)?;
+        self.more.insert(name, change)?;
+        Ok(())
+    }
+
+    /// Forgets what is below the stamp. Of what was there, the rest alone is copied.
+    fn forget_below(&mut self, alloc: Global, known: &Known, stamp: Stamp) -> Result<(), NoMemory>
+        requires { T (is_sorted operation_cmp (all_of known.now self.old)) }
+        ensures { OnOk result (all_of known.now self.new
+            ≡ filter (λ e. not (below_test e.0.0 (Some stamp))) (all_of known.now self.old)) }
+    {
+        self.begin_anew(alloc, from_stamp(self.left(known), stamp))?;
+        self.more.forget_below(stamp);
+        Ok(())
+    }
+
+    /// One operation more, of a name that is new, where these were there.
+    pub(crate) fn note(
+        &mut self,
+        alloc: Global,
+        known: &Known,
+        name: (Stamp, u8),
+        change: SessionOp,
+    ) -> Result<(), NoMemory>
+        requires folded { IsFolded (whole_of known.now self.old) }
+        requires ordered { T (is_sorted operation_cmp (all_of known.now self.old)) }
+        requires fresh { find operation_cmp name (all_of known.now self.old) ≡ None }
+        ensures folded { OnOk result (IsFolded (whole_of known.now self.new)) }
+        ensures ordered { OnOk result (T (is_sorted operation_cmp (all_of known.now self.new))) }
+        ensures kept { OnOk result (IsKeptIn
+            ((name, change) ∷ all_of known.now self.old)
+            (all_of known.now self.new)
+            self.new.stamp) }
+    {
+        if is_below(name.0, self.stamp) {
+            return Ok(());
+        }
+        self.enter(alloc, known, name, change)?;
+        if name.1 == 0 {
+            self.take_up(alloc, known, name.0)?;
             return Ok(());
         }
         let Some(seen) = self.stamp else {
             return Ok(());
         };
         let session = self.session.take();
-        let (prefix, session) = go_on(alloc, &self.known, seen, self.prefix, session)?;
+        let (prefix, session) = go_on(
+            alloc,
+            self.left(known),
+            self.more.as_slice(),
+            seen,
+            self.prefix,
+            session,
+        )?;
+        self.prefix = prefix;
+        self.session = session;
+        Ok(())
+    }
+
+    /// Makes a stamp the visible one, whose Take is there.
+    fn take_up(&mut self, alloc: Global, known: &Known, stamp: Stamp) -> Result<(), NoMemory>
+        requires { T (is_sorted operation_cmp (all_of known.now self.old)) }
+        ensures kept { OnOk result (all_of known.now self.new
+            ≡ filter (λ e. not (below_test e.0.0 (Some stamp))) (all_of known.now self.old)) }
+        ensures stamp { OnOk result (self.new.stamp ≡ Some stamp) }
+        ensures prefix { OnOk result (self.new.prefix
+            ≡ length (history_in (all_of known.now self.new) (Some stamp))) }
+        ensures session { OnOk result (self.new.session
+            ≡ session_of (history_in (all_of known.now self.new) (Some stamp))) }
+    {
+        self.forget_below(alloc, known, stamp)?;
+        let (prefix, session) = go_on(
+            alloc,
+            self.left(known),
+            self.more.as_slice(),
+            stamp,
+            0,
+            None,
+        )?;
+        self.stamp = Some(stamp);
         self.prefix = prefix;
         self.session = session;
         Ok(())

@@ -7,13 +7,12 @@ ghost use Rattle.rep_state.specs.Entries.{row_of};
 ghost use Rattle.rep_state.specs.Mail.{Rising};
 ghost use Rattle.rep_state.specs.inner.Numbers.{epoch_of, seq_from};
 ghost use Rattle.rep_state.specs.Tables.{by_client, rows_of, AreKept};
-ghost use Rattle.std.specs.BTreeMap.{keys};
+ghost use Rattle.std.specs.Map.{keys_of};
 
 use super::entry::Entry;
+use super::known::NamedOp;
 use super::table::{Table, entry_of};
-use rep_ops::{ClientId, Put, Stamp};
-use sn_session::SessionOp;
-use std::collections::BTreeMap;
+use rep_ops::{ClientId, Put};
 
 /// The greatest epoch of the client, or 0.
 pub(crate) fn last_epoch(table: &Table, client: &ClientId) -> u64
@@ -21,7 +20,7 @@ pub(crate) fn last_epoch(table: &Table, client: &ClientId) -> u64
         ≡ greatest_epoch client.now (own client.now (rows_of (by_client table.now.entries))) }
 {
     match entry_of(table, client.bytes()) {
-        Some(entry) => greatest_epoch(&entry.known),
+        Some(entry) => greatest_epoch(entry.known.as_slice()),
         None => 0,
     }
 }
@@ -39,12 +38,14 @@ pub(crate) fn last_seq(table: &Table, client: &ClientId, gateway: u8) -> u64
 }
 
 /// The greatest epoch of the operations, or 0.
-fn greatest_epoch(known: &BTreeMap<(Stamp, u8), SessionOp>) -> u64
-    ensures { result ≡ largest epoch_of (keys known.now) }
+fn greatest_epoch(ops: &[NamedOp]) -> u64
+    ensures { result ≡ largest epoch_of (keys_of ops.now) }
 {
     let mut most = 0;
-    for name in known.keys() {
-        most = larger(name.0.epoch, most);
+    let mut i = ops.len();
+    while i > 0 {
+        i -= 1;
+        most = larger(ops[i].0.0.epoch, most);
     }
     most
 }

@@ -13,9 +13,9 @@ ghost use Rattle.rep_state.specs.inner.Tables.{place_cmp};
 ghost use Rattle.rep_state.specs.inner.Interests.{marked, NoneMarked, IsPassed};
 
 use super::entry::Entry;
-use super::fault::NoMemory;
 use super::interest::has_mark;
 use super::table::Table;
+use octets::NoMemory;
 use rep_ops::ClientId;
 use std::alloc::Global;
 
@@ -79,7 +79,7 @@ pub(crate) fn names(alloc: Global, places: &[Place]) -> Result<Vec<ClientId>, No
 {
     let mut names = Vec::with_capacity(alloc, places.len())?;
     for place in places {
-        names.push(place.name.copy(alloc)?)?;
+        names.push(place.name.copied(alloc)?)?;
     }
     Ok(names)
 }

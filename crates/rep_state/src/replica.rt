@@ -55,12 +55,13 @@ pub struct Staged {
 
 impl Model for Staged {
     ghost use Rattle.std.specs.Prelude.{List, ℕ, ◌≤◌};
-    ghost use Rattle.rep_state.specs.Staging.{Plan, plans, staged_of, AreStaged};
+    ghost use Rattle.rep_state.specs.declared.change.Change.{Change};
+    ghost use Rattle.rep_state.specs.Staging.{staged_of, AreStaged};
     ghost use Rattle.rep_model.specs.declared.fault.TheConstants.{MOST_CLIENTS};
 
-    ghost Value = { List (List ℕ × Plan) × ℕ };
+    ghost Value = { List (List ℕ × Change) × ℕ };
 
-    ghost view = { λ s. (plans (staged_of s.changes.items), s.named) };
+    ghost view = { λ s. (staged_of s.changes.items, s.named) };
 
     ghost invariant = { λ s. AreStaged (staged_of s.changes.items) × (s.named ≤ MOST_CLIENTS) };
 }

@@ -1,23 +1,26 @@
 //! Places for clients, and the move of what is staged into them.
 
-ghost use Rattle.std.specs.Prelude.{◌≡◌, IsSome, is_some, OnOk, List};
+ghost use Rattle.std.specs.Prelude.{◌≡◌, IsSome, IsTrue, is_some, IfOk, OnOk, List};
 ghost use Rattle.std.specs.FinMap.{find, put};
+ghost use Rattle.sn_session.specs.Tables.{is_ascending};
 ghost use Rattle.rep_ops.specs.Orders.{client_cmp};
 ghost use Rattle.rep_plain.specs.Rows.{moved};
 ghost use Rattle.rep_state.specs.Tables.{by_client, rows_of, AreKept, ArePlaces};
-ghost use Rattle.rep_state.specs.inner.Tables.{IsRoomier};
+ghost use Rattle.rep_state.specs.inner.Tables.{IsRoomier, place_cmp};
 ghost use Rattle.rep_state.specs.Interests.{AreMarked};
-ghost use Rattle.rep_state.specs.inner.Groups.{waiting_of};
-ghost use Rattle.rep_state.specs.Staging.{applied, staged_of, plan_of, IsChange, IsReady, AreStaged};
-ghost use Rattle.rep_state.specs.inner.Staging.{future, HaveRoom, AreMovable};
+ghost use Rattle.rep_state.specs.inner.Interests.{AreMarksOf, noted};
+ghost use Rattle.rep_state.specs.inner.Groups.{held_of, base_at};
+ghost use Rattle.rep_state.specs.Staging.{staged_of, IsChange, IsReady, AreStaged};
+ghost use Rattle.rep_state.specs.inner.Staging.{applied, future, HaveRoom, AreMovable};
 ghost use Rattle.rep_state.specs.declared.places.Place.{Place as AtPlace};
 
 use super::change::{Change, put_into};
 use super::entry::Entry;
-use super::fault::NoMemory;
 use super::interest::marks_of;
+use super::log::Log;
 use super::places::{Place, enter, mark_place};
 use super::table::{Table, copy_octets};
+use octets::NoMemory;
 use rep_ops::ClientId;
 use std::alloc::Global;
 
@@ -59,7 +62,7 @@ fn add_place(
     if table.contains_key(client) {
         return Ok(());
     }
-    let name = ClientId::new(alloc, client)?;
+    let name = named(alloc, client)?;
     let key = copy_octets(alloc, client)?;
     places.reserve(1)?;
     let index = table.len();
@@ -73,6 +76,16 @@ fn add_place(
         },
     );
     Ok(())
+}
+
+/// The client of these octets. Some client has them, so nothing but memory can be wanting.
+fn named(alloc: Global, client: &[u8]) -> Result<ClientId, NoMemory>
+    ensures { IfOk result (λ name. name ≡ client.now) }
+{
+    match ClientId::new(alloc, client) {
+        Ok(name) => Ok(name),
+        Err(_) => Err(NoMemory),
+    }
 }
 
 /// Moves the changes into their places, and notes what their clients may ask for.
@@ -94,9 +107,29 @@ pub(crate) fn move_in(
     ensures marks { AreMarked (by_client table.new.entries) places.new.items }
 {
     while let Some((client, change)) = changes.pop() {
-        let marks = marks_of(&change.entry.seen.session);
+        let marks = marks_with(&change.log);
         move_one(table, client.as_slice(), change);
-        mark_place(places, client.as_slice(), marks);
+        note_marks(places, client.as_slice(), marks);
+    }
+}
+
+/// The marks of what a client may ask for with a log, where one is staged.
+fn marks_with(log: &Option<Log>) -> Option<u64>
+    ensures { AreMarksOf log.now result }
+{
+    match log {
+        Some(log) => Some(marks_of(&log.session)),
+        None => None,
+    }
+}
+
+/// Notes the marks of what a client may ask for, where there are any.
+fn note_marks(places: &mut Vec<Place>, client: &[u8], marks: Option<u64>)
+    requires { IsTrue (is_ascending place_cmp places.old.items) }
+    ensures { places.new.items ≡ noted client.now marks places.old.items }
+{
+    if let Some(marks) = marks {
+        mark_place(places, client, marks);
     }
 }
 
@@ -106,11 +139,12 @@ fn move_one(table: &mut Table, client: &[u8], change: Change)
     requires kept { AreKept (by_client table.old.entries) }
     requires ready { IsReady
         (is_some (find client_cmp client.now (by_client table.old.entries)))
-        (waiting_of client.now (by_client table.old.entries))
-        (plan_of change) }
+        client.now
+        (base_at client.now (by_client table.old.entries))
+        change }
     ensures put { by_client table.new.entries
         ≡ put client_cmp client.now
-        (applied (waiting_of client.now (by_client table.old.entries)) change)
+        (applied (held_of client.now (by_client table.old.entries)) change)
         (by_client table.old.entries) }
     ensures places { (places : List AtPlace)
         → ArePlaces table.old.entries places → ArePlaces table.new.entries places }

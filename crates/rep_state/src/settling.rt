@@ -1,13 +1,14 @@
 //! The messages that wait for a client after a change, for which no memory is taken.
 
-ghost use Rattle.std.specs.Prelude.{◌≡◌, ◌+◌, ◌==◌, ◌≤◌, ◌++◌, [], false, vec_len, vec_capacity, filter, length, count_by, IfOk, IsTrue};
+ghost use Rattle.std.specs.Prelude.{◌≡◌, ◌+◌, ◌==◌, ◌≤◌, ◌++◌, [], false, vec_capacity, filter, length, count_by, IfOk, IsTrue};
 ghost use Rattle.rep_state.specs.Mail.{weave, is_left, NoneCovered, Rising};
 ghost use Rattle.rep_state.specs.inner.Mail.{are_behind};
 ghost use Rattle.rep_state.specs.Origins.{ranges_in};
 
 use super::acks::Acks;
-use super::fault::NoMemory;
+use super::behind::put_behind;
 use super::weaving::{goes_before, merge};
+use octets::NoMemory;
 use rep_ops::Put;
 use std::collections::VecDeque;
 
@@ -46,48 +47,9 @@ fn are_behind(last: &Put, news: &[Put]) -> bool
     }
 }
 
-/// Moves the messages behind the others, where there is room for them.
-fn move_behind(into: &mut Vec<Put>, mut more: Vec<Put>)
-    requires { vec_len into.old + vec_len more ≤ vec_capacity into.old }
-    ensures items { into.new.items ≡ into.old.items ++ more.items }
-    ensures len { vec_len into.new ≡ vec_len into.old + vec_len more }
-    ensures room { vec_capacity into.old ≤ vec_capacity into.new }
-{
-    match into.append(&mut more) {
-        Ok(()) => {}
-        Err(_) => unreachable!(),
-    }
-}
-
-/// The messages that wait with new ones behind them: where they are, if there is room for all, and else in the room of `room`, which
-/// is empty.
-fn put_behind(mut room: Vec<Put>, mut waiting: Vec<Put>, news: Vec<Put>) -> Vec<Put>
-    requires empty { room.items ≡ [] }
-    requires room { vec_len waiting + vec_len news ≤ vec_capacity room }
-    ensures { result.items ≡ waiting.items ++ news.items }
-{
-    if has_room(&waiting, news.len()) {
-        move_behind(&mut waiting, news);
-        return waiting;
-    }
-    move_behind(&mut room, waiting);
-    move_behind(&mut room, news);
-    room
-}
-
-/// Whether there is room for so many more.
-fn has_room(puts: &Vec<Put>, more: usize) -> bool
-    ensures { IsTrue result → vec_len puts.now + more ≤ vec_capacity puts.now }
-{
-    match puts.len().checked_add(more) {
-        Some(count) => count <= puts.capacity(),
-        None => false,
-    }
-}
-
 /// The messages that wait, and new ones. Where none is new nothing is moved, and where all come behind those that wait, these stay where
 /// they are as long as there is room.
-fn joined(room: Vec<Put>, waiting: Vec<Put>, news: Vec<Put>) -> Vec<Put>
+fn joined(room: Vec<Put>, mut waiting: Vec<Put>, news: Vec<Put>) -> Vec<Put>
     requires empty { room.items ≡ [] }
     requires room { (length news.items == 0) ≡ false
         → length waiting.items + length news.items ≤ vec_capacity room }
@@ -98,7 +60,8 @@ fn joined(room: Vec<Put>, waiting: Vec<Put>, news: Vec<Put>) -> Vec<Put>
         return waiting;
     }
     if come_behind(waiting.as_slice(), news.as_slice()) {
-        return put_behind(room, waiting, news);
+        put_behind(&mut waiting, news, room);
+        return waiting;
     }
     merge(room, VecDeque::from_vec(waiting), VecDeque::from_vec(news))
 }

@@ -11,8 +11,8 @@ ghost use Rattle.rep_state.specs.Tables.{by_client, rows_of};
 
 use super::change::Change;
 use super::entry::Entry;
-use super::fault::NoMemory;
 use indexmap::IndexMap;
+use octets::NoMemory;
 use rep_model::{Limit, MOST_CLIENTS, MOST_EXCEPTIONS, MOST_PARKED, MOST_PENDING};
 use std::alloc::Global;
 
@@ -49,8 +49,8 @@ pub(crate) fn copy_octets(alloc: Global, octets: &[u8]) -> Result<Vec<u8>, NoMem
 pub(crate) fn passed(count: usize, changes: &[(Vec<u8>, Change)]) -> Option<Limit>
     ensures { result ≡ passed_of count
         (list_any (λ g. nat_lt MOST_PENDING g.1.pending) changes.now)
-        (list_any (λ g. nat_lt MOST_PARKED g.1.entry.parked) changes.now)
-        (list_any (λ g. nat_lt MOST_EXCEPTIONS g.1.entry.exceptions) changes.now) }
+        (list_any (λ g. nat_lt MOST_PARKED g.1.parked) changes.now)
+        (list_any (λ g. nat_lt MOST_EXCEPTIONS g.1.exceptions) changes.now) }
 {
     let pending = any_pending(changes);
     let parked = any_parked(changes);
@@ -84,18 +84,16 @@ fn any_pending(changes: &[(Vec<u8>, Change)]) -> bool
 
 /// Whether too many session operations of one of the clients wait.
 fn any_parked(changes: &[(Vec<u8>, Change)]) -> bool
-    ensures { result ≡ list_any (λ g. nat_lt MOST_PARKED g.1.entry.parked) changes.now }
+    ensures { result ≡ list_any (λ g. nat_lt MOST_PARKED g.1.parked) changes.now }
 {
-    changes.iter().any(|row| row.1.entry.parked > MOST_PARKED)
+    changes.iter().any(|row| row.1.parked > MOST_PARKED)
 }
 
 /// Whether one of the clients has too many exceptions.
 fn any_exceptions(changes: &[(Vec<u8>, Change)]) -> bool
-    ensures { result ≡ list_any (λ g. nat_lt MOST_EXCEPTIONS g.1.entry.exceptions) changes.now }
+    ensures { result ≡ list_any (λ g. nat_lt MOST_EXCEPTIONS g.1.exceptions) changes.now }
 {
-    changes
-        .iter()
-        .any(|row| row.1.entry.exceptions > MOST_EXCEPTIONS)
+    changes.iter().any(|row| row.1.exceptions > MOST_EXCEPTIONS)
 }
 
 /// How many of the clients had no operations.

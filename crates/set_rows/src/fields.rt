@@ -3,6 +3,7 @@
 use crate::stop::Stop;
 use octets::Octets;
 use rep_ops::{ClientId, OpsFault, Stamp};
+use sn_session::Message;
 use sn_topic::{Filter, TopicFault, TopicName};
 use std::alloc::Global;
 
@@ -104,8 +105,16 @@ pub(crate) fn filter(alloc: Global, text: &str) -> Result<Filter, Stop> {
 }
 
 /// What a message says.
-pub(crate) fn body(alloc: Global, text: &str) -> Result<Octets, Stop> {
-    Ok(Octets::from_slice(alloc, word(text))?)
+pub(crate) fn body(alloc: Global, text: &str) -> Result<Message, Stop> {
+    message(Octets::from_slice(alloc, word(text))?)
+}
+
+/// The message of these octets.
+pub(crate) fn message(octets: Octets) -> Result<Message, Stop> {
+    match Message::new(octets) {
+        Some(message) => Ok(message),
+        None => Err(Stop::Message),
+    }
 }
 
 /// One of two words.

@@ -168,6 +168,7 @@ fn answer<R: Replica>(
     match play_line(alloc, text, row, names, line) {
         Ok(()) => Ok(()),
         Err(Stop::Line) => Ok(writeln!(text, "no such line: {line}")?),
+        Err(Stop::Message) => Ok(writeln!(text, "{}: {line}", Stop::Message)?),
         Err(Stop::Memory) => Err(Stop::Memory),
     }
 }

@@ -2,7 +2,7 @@
 
 use crate::changes::change;
 use crate::fields::{
-    body, client, count, message_number, number, octet, small_number, stamp, topic,
+    body, client, count, message, message_number, number, octet, small_number, stamp, topic,
 };
 use crate::stop::Stop;
 use octets::Octets;
@@ -92,12 +92,12 @@ pub(crate) fn put_ops(alloc: Global, ops: &mut Vec<Op>, fields: &[&str]) -> Resu
 fn large(
     alloc: Global,
     name: &str,
-    message: (u8, u64),
+    number: (u8, u64),
     about: &str,
     qos: u8,
     said: &[u8],
 ) -> Result<Op, Stop> {
-    let (origin, seq) = message;
+    let (origin, seq) = number;
     Ok(Op::Put {
         client: client(alloc, name)?,
         put: Put {
@@ -105,7 +105,7 @@ fn large(
             seq,
             topic: topic(alloc, about)?,
             qos,
-            body: Octets::from_slice(alloc, said)?,
+            body: message(Octets::from_slice(alloc, said)?)?,
         },
     })
 }

@@ -93,7 +93,7 @@ fn print_copy(alloc: Global, text: &mut String, view: &ClientView) -> Result<(),
     let Ok(copy) = view.copy(alloc) else {
         return Err(Stop::Memory);
     };
-    let Ok(messages) = copy.pending.copy(alloc) else {
+    let Ok(messages) = copy.pending.copied(alloc) else {
         return Err(Stop::Memory);
     };
     print_view(alloc, text, &copy)?;

@@ -1,5 +1,6 @@
 //! Why a line is not played.
 
+use octets::NoMemory;
 use std::alloc::{AllocError, AllocFailed};
 use thiserror::Error;
 
@@ -9,6 +10,9 @@ pub(crate) enum Stop {
     /// The line is none of the language.
     #[error("no such line")]
     Line,
+    /// The message has more than 4,096 octets, so that there is none of it.
+    #[error("a message of more than 4096 octets")]
+    Message,
     /// Memory ran out.
     #[error("out of memory")]
     Memory,
@@ -16,6 +20,12 @@ pub(crate) enum Stop {
 
 impl From<AllocError> for Stop {
     fn from(_error: AllocError) -> Stop {
+        Stop::Memory
+    }
+}
+
+impl From<NoMemory> for Stop {
+    fn from(_error: NoMemory) -> Stop {
         Stop::Memory
     }
 }

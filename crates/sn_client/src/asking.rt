@@ -7,9 +7,9 @@ ghost use Rattle.sn_client.specs.inner.Exchanges.{IsAsked};
 
 use crate::talk::{Awaited, Publication, Talk};
 use crate::words::{Command, Topic};
-use octets::{Octets, append_u16};
+use octets::{NoMemory, Octets, append_u16};
 use sn_frame::{Flags, Frame, Qos, TopicIdType, Will};
-use std::alloc::{AllocError, Global};
+use std::alloc::Global;
 
 /// The protocol id of MQTT-SN 1.2 (section 5.3.8).
 const PROTOCOL: u8 = 1;
@@ -94,7 +94,7 @@ pub(crate) fn begin(
     client: &str,
     command: &Command<'_>,
     msg_id: u16,
-) -> Result<Talk, AllocError>
+) -> Result<Talk, NoMemory>
     ensures { IfOk result (λ talk. IsAsked talk) }
 {
     let (frame, awaited) = match command {
@@ -135,7 +135,7 @@ fn connect(
     clean: bool,
     keep_alive: u16,
     will: bool,
-) -> Result<Talk, AllocError>
+) -> Result<Talk, NoMemory>
     ensures { IfOk result (λ talk. IsAsked talk) }
 {
     let client = Octets::from_slice(alloc, client.as_bytes())?;
@@ -149,7 +149,7 @@ fn connect(
 }
 
 /// A subscription (section 6.9).
-fn subscribe(alloc: Global, topic: Topic<'_>, qos: Qos, msg_id: u16) -> Result<Talk, AllocError>
+fn subscribe(alloc: Global, topic: Topic<'_>, qos: Qos, msg_id: u16) -> Result<Talk, NoMemory>
     ensures { IfOk result (λ talk. IsAsked talk) }
 {
     let frame = Frame::Subscribe {
@@ -161,7 +161,7 @@ fn subscribe(alloc: Global, topic: Topic<'_>, qos: Qos, msg_id: u16) -> Result<T
 }
 
 /// The end of a subscription (section 6.9).
-fn unsubscribe(alloc: Global, topic: Topic<'_>, msg_id: u16) -> Result<Talk, AllocError>
+fn unsubscribe(alloc: Global, topic: Topic<'_>, msg_id: u16) -> Result<Talk, NoMemory>
     ensures { IfOk result (λ talk. IsAsked talk) }
 {
     let frame = Frame::Unsubscribe {
@@ -180,7 +180,7 @@ fn publish(
     qos: Qos,
     retain: bool,
     msg_id: u16,
-) -> Result<Talk, AllocError>
+) -> Result<Talk, NoMemory>
     ensures { IfOk result (λ talk. IsAsked talk) }
 {
     let publication = Publication {
@@ -201,7 +201,7 @@ fn publish(
 }
 
 /// The topic field of a SUBSCRIBE.
-fn field(alloc: Global, topic: Topic<'_>) -> Result<Octets, AllocError> {
+fn field(alloc: Global, topic: Topic<'_>) -> Result<Octets, NoMemory> {
     match topic {
         Topic::Full(name) => Octets::from_slice(alloc, name.as_bytes()),
         Topic::Short(number) | Topic::Predefined(number) => {
@@ -226,7 +226,7 @@ pub(crate) fn told_will(
     alloc: Global,
     command: &Command<'_>,
     frame: &Frame,
-) -> Result<Option<Frame>, AllocError> {
+) -> Result<Option<Frame>, NoMemory> {
     let Command::Connect {
         will: Some(will),
         ..

@@ -8,6 +8,7 @@ use crate::talk::{Awaited, Outcome, Talk, acknowledgement};
 use crate::telling::{Hex, Told};
 use crate::wire::Wire;
 use crate::words::{Command, Settings};
+use octets::NoMemory;
 use sn_frame::{EncodeFault, Frame, decode, encode};
 use std::alloc::AllocError;
 use std::io;
@@ -56,6 +57,12 @@ impl From<EncodeFault> for Fault {
 
 impl From<AllocError> for Fault {
     fn from(_error: AllocError) -> Fault {
+        Fault::Memory
+    }
+}
+
+impl From<NoMemory> for Fault {
+    fn from(_error: NoMemory) -> Fault {
         Fault::Memory
     }
 }

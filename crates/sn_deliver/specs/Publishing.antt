@@ -1,5 +1,5 @@
 -- The rows of PUBLISH and PUBREL from a client (MQTT-SN 1.2 sections 6.6, 6.8 and 6.10).
-use Rattle.std.specs.Prelude.{ℕ, ◌/◌, ◌%◌, if◌then◌else◌, nat_lt, List, [], ◌∷◌, length, Option, Some, None}
+use Rattle.std.specs.Prelude.{ℕ, ◌/◌, ◌%◌, if◌then◌else◌, List, [], ◌∷◌, Option, Some, None}
 use Rattle.std.specs.Option.{option_map}
 use Rattle.sn_topic.specs.Table.{Entries, name_of}
 use Rattle.sn_session.specs.declared.session.Session.{Session}
@@ -15,7 +15,7 @@ use Rattle.sn_frame.specs.declared.flags.TopicIdType.{TopicIdType}
 use Rattle.sn_frame.specs.declared.flags.TopicIdType.TheVariants as kinds
 use Rattle.sn_frame.specs.declared.frame.Frame.TheVariants as frames
 use Rattle.sn_frame.specs.FlagBits.{qos_of, kind_of}
-use Rattle.rep_ops.specs.declared.size.TheConstants.{MAX_BODY}
+use Rattle.sn_session.specs.Messages.{is_too_long}
 use Rattle.sn_flow.specs.declared.config.Addr.{Addr}
 use Rattle.sn_flow.specs.Asking.{name_asked}
 use Rattle.sn_flow.specs.Drafts.{Drafted, nothing, changed, changed_if, put_all, sent}
@@ -47,7 +47,7 @@ topic_meant predefined s kinds.Reserved topic = Refused 3
 -- code 3, not supported, where the message has more than 4,096 octets
 abbrev pub within_limit : List ℕ → Meant → Meant
 within_limit body (Refused code) = Refused code
-within_limit body (Topic name) = if nat_lt MAX_BODY (length body) then Refused 3 else Topic name
+within_limit body (Topic name) = if is_too_long body then Refused 3 else Topic name
 
 -- what a PUBLISH is about
 abbrev pub publication_meant : Entries → Session → ℕ → ℕ → List ℕ → Meant

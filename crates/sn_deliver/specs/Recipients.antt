@@ -12,11 +12,12 @@ use Rattle.rep_model.specs.declared.view.ClientView.{ClientView}
 use Rattle.sn_flow.specs.declared.draft.NewPut.{NewPut}
 use Rattle.sn_flow.specs.Plans.{Seen}
 use Rattle.sn_flow.specs.Others.{is_up}
+use Rattle.sn_deliver.specs.declared.recipients.TheConstants.{MAX_PENDING}
 
 -- at this quality of service, where fewer than 1,024 messages wait for the client, and where it is Active, Asleep or Awake or gets
 -- the message at least once
 abbrev pub admitted : List Put → Presence → ℕ → Option ℕ
-admitted pending presence qos = if nat_lt (length pending) 1024 && (is_up presence || nat_lt 0 qos) then Some qos else None
+admitted pending presence qos = if nat_lt (length pending) MAX_PENDING && (is_up presence || nat_lt 0 qos) then Some qos else None
 
 -- the effective quality of service is the smaller of that of the publication and the one subscribed to
 abbrev pub qos_at : List Put → ℕ → Session → ℕ → Option ℕ

@@ -1,6 +1,6 @@
 //! PUBACK, PUBREC, PUBCOMP and REGACK of a client (MQTT-SN 1.2 sections 6.5, 6.6 and 6.10).
 
-ghost use Rattle.std.specs.Prelude.{◌≡◌, IfOk, IfErr, OnOk};
+ghost use Rattle.std.specs.Prelude.{◌≡◌, IfOk, OnOk};
 ghost use Rattle.std.specs.Option.{option_copied};
 ghost use Rattle.sn_deliver.specs.Acknowledging.{same_phase as is_same_phase, if_awaits as exchange_if_awaits, awaiting as exchange_awaiting, put_of as put_of_exchange, put_awaiting as put_of_awaiting, over as exchange_over, done as done_draft, told as told_draft, entry_by_kind as entry_of_kind, entry_if_normal as normal_entry, entry_published as published_entry, forgotten as forgotten_draft, puback_put as puback_draft_put, puback_of as puback_draft_of, puback as puback_draft, pubrel_sent as pubrel_sent_draft, released as released_draft, is_at_two as is_put_at_two, awaiting_pubrec as exchange_awaiting_pubrec, pubrec_again as pubrec_draft_again, pubrec_of as pubrec_draft_of, pubrec as pubrec_draft, pubcomp_of as pubcomp_draft_of, pubcomp as pubcomp_draft, registered as registered_draft, regack_put as regack_draft_put, regack_of as regack_draft_of, regack as regack_draft, acknowledge as acknowledged};
 
@@ -8,8 +8,9 @@ use super::delivery::send;
 use super::exchange::{message_of, open_exchange, put_named};
 use super::form::{Form, form_again};
 use super::peer::Peer;
+use octets::NoMemory;
 use rep_ops::Put;
-use sn_flow::{Draft, LocalChange, StepFault};
+use sn_flow::{Draft, LocalChange};
 use sn_frame::{Frame, TopicIdType};
 use sn_session::{Outbound, Phase, Session, SessionOp, TopicEntry};
 use sn_topic::{Predefined, TopicName};
@@ -84,9 +85,8 @@ fn put_awaiting<'a>(
 }
 
 /// And then the exchange is over.
-fn over(session: &Session, draft: &mut Draft) -> Result<(), StepFault>
-    ensures ok { OnOk result (draft.new ≡ exchange_over session.now draft.old) }
-    ensures err { IfErr result (λ fault. fault ≡ StepFault.Memory) }
+fn over(session: &Session, draft: &mut Draft) -> Result<(), NoMemory>
+    ensures { OnOk result (draft.new ≡ exchange_over session.now draft.old) }
 {
     draft.change(SessionOp::Outbound {
         exchange: None,
@@ -96,9 +96,8 @@ fn over(session: &Session, draft: &mut Draft) -> Result<(), StepFault>
 }
 
 /// The message is done with.
-fn done(alloc: Global, session: &Session, put: &Put) -> Result<Draft, StepFault>
-    ensures ok { IfOk result (λ draft. draft ≡ done_draft session.now put.now) }
-    ensures err { IfErr result (λ fault. fault ≡ StepFault.Memory) }
+fn done(alloc: Global, session: &Session, put: &Put) -> Result<Draft, NoMemory>
+    ensures { IfOk result (λ draft. draft ≡ done_draft session.now put.now) }
 {
     let mut draft = Draft::new(alloc);
     draft.ack(put.seq, put.origin)?;
@@ -107,13 +106,12 @@ fn done(alloc: Global, session: &Session, put: &Put) -> Result<Draft, StepFault>
 }
 
 /// And then the client has this id for the name, or has it no more.
-fn tell(alloc: Global, entry: &TopicEntry, known: bool, draft: &mut Draft) -> Result<(), StepFault>
-    ensures ok { OnOk result (draft.new ≡ told_draft entry.now known draft.old) }
-    ensures err { IfErr result (λ fault. fault ≡ StepFault.Memory) }
+fn tell(alloc: Global, entry: &TopicEntry, known: bool, draft: &mut Draft) -> Result<(), NoMemory>
+    ensures { OnOk result (draft.new ≡ told_draft entry.now known draft.old) }
 {
     draft.change(SessionOp::Register {
         id: entry.id,
-        name: entry.name.copy(alloc)?,
+        name: entry.name.copied(alloc)?,
         known,
     })?;
     Ok(())
@@ -160,10 +158,9 @@ fn forget(
     session: &Session,
     put: &Put,
     entry: Option<&TopicEntry>,
-) -> Result<Draft, StepFault>
-    ensures ok { IfOk result (λ draft. draft ≡ forgotten_draft session.now put.now
+) -> Result<Draft, NoMemory>
+    ensures { IfOk result (λ draft. draft ≡ forgotten_draft session.now put.now
         (option_copied entry.entry)) }
-    ensures err { IfErr result (λ fault. fault ≡ StepFault.Memory) }
 {
     match entry {
         None => done(alloc, session, put),
@@ -183,10 +180,9 @@ fn puback_put(
     session: &Session,
     code: u8,
     put: &Put,
-) -> Result<Draft, StepFault>
-    ensures ok { IfOk result (λ draft. draft ≡ puback_draft_put predefined.now session.now
+) -> Result<Draft, NoMemory>
+    ensures { IfOk result (λ draft. draft ≡ puback_draft_put predefined.now session.now
         code put.now) }
-    ensures err { IfErr result (λ fault. fault ≡ StepFault.Memory) }
 {
     if code == 0 {
         if put.qos == 1 {
@@ -211,10 +207,9 @@ fn puback_of(
     session: &Session,
     code: u8,
     put: Option<&Put>,
-) -> Result<Draft, StepFault>
-    ensures ok { IfOk result (λ draft. draft ≡ puback_draft_of predefined.now session.now code
+) -> Result<Draft, NoMemory>
+    ensures { IfOk result (λ draft. draft ≡ puback_draft_of predefined.now session.now code
         (option_copied put.entry)) }
-    ensures err { IfErr result (λ fault. fault ≡ StepFault.Memory) }
 {
     match put {
         None => Ok(Draft::new(alloc)),
@@ -230,32 +225,29 @@ fn puback(
     pending: &[Put],
     msg_id: u16,
     code: u8,
-) -> Result<Draft, StepFault>
-    ensures ok { IfOk result (λ draft. draft ≡ puback_draft predefined.now session.now pending.now
+) -> Result<Draft, NoMemory>
+    ensures { IfOk result (λ draft. draft ≡ puback_draft predefined.now session.now pending.now
         msg_id code) }
-    ensures err { IfErr result (λ fault. fault ≡ StepFault.Memory) }
 {
     let put = put_awaiting(session, pending, Phase::Published, msg_id);
     puback_of(alloc, predefined, session, code, put)
 }
 
 /// And then the PUBREL of the open exchange.
-fn send_pubrel(alloc: Global, peer: &Peer, msg_id: u16, draft: &mut Draft) -> Result<(), StepFault>
-    ensures ok { OnOk result (draft.new ≡ pubrel_sent_draft peer.now msg_id draft.old) }
-    ensures err { IfErr result (λ fault. fault ≡ StepFault.Memory) }
+fn send_pubrel(alloc: Global, peer: &Peer, msg_id: u16, draft: &mut Draft) -> Result<(), NoMemory>
+    ensures { OnOk result (draft.new ≡ pubrel_sent_draft peer.now msg_id draft.old) }
 {
     send(alloc, peer, &Frame::PubRel { msg_id }, draft)?;
     draft.note(LocalChange::Resent {
-        client: peer.client.copy(alloc)?,
+        client: peer.client.copied(alloc)?,
         moment: peer.moment,
     })?;
     Ok(())
 }
 
 /// The message is with the client, and the exchange waits for PUBCOMP.
-fn released(alloc: Global, session: &Session, exchange: Outbound) -> Result<Draft, StepFault>
-    ensures ok { IfOk result (λ draft. draft ≡ released_draft session.now exchange) }
-    ensures err { IfErr result (λ fault. fault ≡ StepFault.Memory) }
+fn released(alloc: Global, session: &Session, exchange: Outbound) -> Result<Draft, NoMemory>
+    ensures { IfOk result (λ draft. draft ≡ released_draft session.now exchange) }
 {
     let mut draft = Draft::new(alloc);
     draft.ack(exchange.seq, exchange.origin)?;
@@ -298,9 +290,8 @@ fn pubrec_again(
     peer: &Peer,
     msg_id: u16,
     exchange: Option<Outbound>,
-) -> Result<Draft, StepFault>
-    ensures ok { IfOk result (λ draft. draft ≡ pubrec_draft_again peer.now msg_id exchange) }
-    ensures err { IfErr result (λ fault. fault ≡ StepFault.Memory) }
+) -> Result<Draft, NoMemory>
+    ensures { IfOk result (λ draft. draft ≡ pubrec_draft_again peer.now msg_id exchange) }
 {
     let mut draft = Draft::new(alloc);
     match exchange {
@@ -318,10 +309,9 @@ fn pubrec_of(
     pending: &[Put],
     msg_id: u16,
     exchange: Option<Outbound>,
-) -> Result<Draft, StepFault>
-    ensures ok { IfOk result (λ draft. draft ≡ pubrec_draft_of peer.now session.now pending.now
+) -> Result<Draft, NoMemory>
+    ensures { IfOk result (λ draft. draft ≡ pubrec_draft_of peer.now session.now pending.now
         msg_id exchange) }
-    ensures err { IfErr result (λ fault. fault ≡ StepFault.Memory) }
 {
     match exchange {
         None => {
@@ -343,10 +333,9 @@ fn pubrec(
     session: &Session,
     pending: &[Put],
     msg_id: u16,
-) -> Result<Draft, StepFault>
-    ensures ok { IfOk result (λ draft. draft ≡ pubrec_draft peer.now session.now
+) -> Result<Draft, NoMemory>
+    ensures { IfOk result (λ draft. draft ≡ pubrec_draft peer.now session.now
         pending.now msg_id) }
-    ensures err { IfErr result (λ fault. fault ≡ StepFault.Memory) }
 {
     let exchange = awaiting_pubrec(session, pending, msg_id);
     pubrec_of(alloc, peer, session, pending, msg_id, exchange)
@@ -357,9 +346,8 @@ fn pubcomp_of(
     alloc: Global,
     session: &Session,
     exchange: Option<Outbound>,
-) -> Result<Draft, StepFault>
-    ensures ok { IfOk result (λ draft. draft ≡ pubcomp_draft_of session.now exchange) }
-    ensures err { IfErr result (λ fault. fault ≡ StepFault.Memory) }
+) -> Result<Draft, NoMemory>
+    ensures { IfOk result (λ draft. draft ≡ pubcomp_draft_of session.now exchange) }
 {
     let mut draft = Draft::new(alloc);
     if exchange.is_some() {
@@ -374,9 +362,8 @@ fn pubcomp(
     session: &Session,
     pending: &[Put],
     msg_id: u16,
-) -> Result<Draft, StepFault>
-    ensures ok { IfOk result (λ draft. draft ≡ pubcomp_draft session.now pending.now msg_id) }
-    ensures err { IfErr result (λ fault. fault ≡ StepFault.Memory) }
+) -> Result<Draft, NoMemory>
+    ensures { IfOk result (λ draft. draft ≡ pubcomp_draft session.now pending.now msg_id) }
 {
     let exchange = awaiting(session, pending, Phase::Released, msg_id);
     pubcomp_of(alloc, session, exchange)
@@ -387,10 +374,9 @@ fn registered(
     alloc: Global,
     session: &Session,
     entry: Option<&TopicEntry>,
-) -> Result<Draft, StepFault>
-    ensures ok { IfOk result (λ draft. draft ≡ registered_draft session.now
+) -> Result<Draft, NoMemory>
+    ensures { IfOk result (λ draft. draft ≡ registered_draft session.now
         (option_copied entry.entry)) }
-    ensures err { IfErr result (λ fault. fault ≡ StepFault.Memory) }
 {
     let mut draft = Draft::new(alloc);
     if let Some(entry) = entry {
@@ -401,9 +387,8 @@ fn registered(
 }
 
 /// REGACK with this code for this message.
-fn regack_put(alloc: Global, session: &Session, code: u8, put: &Put) -> Result<Draft, StepFault>
-    ensures ok { IfOk result (λ draft. draft ≡ regack_draft_put session.now code put.now) }
-    ensures err { IfErr result (λ fault. fault ≡ StepFault.Memory) }
+fn regack_put(alloc: Global, session: &Session, code: u8, put: &Put) -> Result<Draft, NoMemory>
+    ensures { IfOk result (λ draft. draft ≡ regack_draft_put session.now code put.now) }
 {
     if code == 0 {
         return registered(alloc, session, session.topic_named(&put.topic));
@@ -420,10 +405,9 @@ fn regack_of(
     session: &Session,
     code: u8,
     put: Option<&Put>,
-) -> Result<Draft, StepFault>
-    ensures ok { IfOk result (λ draft. draft ≡ regack_draft_of session.now code
+) -> Result<Draft, NoMemory>
+    ensures { IfOk result (λ draft. draft ≡ regack_draft_of session.now code
         (option_copied put.entry)) }
-    ensures err { IfErr result (λ fault. fault ≡ StepFault.Memory) }
 {
     match put {
         None => Ok(Draft::new(alloc)),
@@ -438,9 +422,8 @@ fn regack(
     pending: &[Put],
     msg_id: u16,
     code: u8,
-) -> Result<Draft, StepFault>
-    ensures ok { IfOk result (λ draft. draft ≡ regack_draft session.now pending.now msg_id code) }
-    ensures err { IfErr result (λ fault. fault ≡ StepFault.Memory) }
+) -> Result<Draft, NoMemory>
+    ensures { IfOk result (λ draft. draft ≡ regack_draft session.now pending.now msg_id code) }
 {
     let put = put_awaiting(session, pending, Phase::Registering, msg_id);
     regack_of(alloc, session, code, put)
@@ -455,10 +438,9 @@ pub fn acknowledge(
     session: &Session,
     pending: &[Put],
     frame: &Frame,
-) -> Result<Draft, StepFault>
-    ensures ok { IfOk result (λ draft. draft ≡ acknowledged predefined.now peer.now session.now
+) -> Result<Draft, NoMemory>
+    ensures { IfOk result (λ draft. draft ≡ acknowledged predefined.now peer.now session.now
         pending.now frame.now) }
-    ensures err { IfErr result (λ fault. fault ≡ StepFault.Memory) }
 {
     match frame {
         Frame::PubAck { msg_id, code, .. } => {

@@ -1,6 +1,6 @@
 //! Delivery: a client is sent the messages that wait for it (MQTT-SN 1.2 sections 6.6, 6.10 and 6.14).
 
-ghost use Rattle.std.specs.Prelude.{◌≡◌, ◌≤◌, IfOk, IfErr, OnOk};
+ghost use Rattle.std.specs.Prelude.{◌≡◌, ◌≤◌, IfOk, OnOk};
 ghost use Rattle.sn_frame.specs.Bodies.{IsMessage};
 ghost use Rattle.sn_frame.specs.Grammar.{total_of};
 ghost use Rattle.sn_flow.specs.Drafts.{sent};
@@ -13,16 +13,13 @@ use super::exchange::{
 };
 use super::form::{Form, form_of, publication};
 use super::peer::Peer;
-use octets::Octets;
+use octets::{NoMemory, Octets};
 use rep_ops::Put;
-use sn_flow::{Draft, LocalChange, StepFault};
+use sn_flow::{Draft, LocalChange};
 use sn_frame::Frame;
 use sn_session::{Outbound, Phase, Presence, Session, SessionOp};
 use sn_topic::{Predefined, TopicName};
 use std::alloc::Global;
-
-/// The most octets that a PUBLISH can carry.
-const MAX_BODY: usize = 65_526;
 
 /// The id that a client is told for a topic, and the change that the session needs for it, if it needs one.
 #[derive(Debug, Drop)]
@@ -49,12 +46,11 @@ fn begin(
     phase: Phase,
     frame: &Frame,
     draft: &mut Draft,
-) -> Result<(), StepFault>
+) -> Result<(), NoMemory>
     requires message { IsMessage frame.now }
     requires size { total_of frame.now ≤ 65535 }
-    ensures ok { OnOk result (draft.new ≡ begun peer.now session.now put.now phase frame.now
+    ensures { OnOk result (draft.new ≡ begun peer.now session.now put.now phase frame.now
         draft.old) }
-    ensures err { IfErr result (λ fault. fault ≡ StepFault.Memory) }
 {
     let exchange = Outbound {
         origin: put.origin,
@@ -68,31 +64,29 @@ fn begin(
     })?;
     send(alloc, peer, frame, draft)?;
     draft.note(LocalChange::Sent {
-        client: peer.client.copy(alloc)?,
+        client: peer.client.copied(alloc)?,
         moment: peer.moment,
     })?;
     Ok(())
 }
 
 /// And then this frame to the client.
-pub fn send(alloc: Global, peer: &Peer, frame: &Frame, draft: &mut Draft) -> Result<(), StepFault>
+pub fn send(alloc: Global, peer: &Peer, frame: &Frame, draft: &mut Draft) -> Result<(), NoMemory>
     requires message { IsMessage frame.now }
     requires size { total_of frame.now ≤ 65535 }
-    ensures ok { OnOk result (draft.new ≡ sent peer.now.address frame.now draft.old) }
-    ensures err { IfErr result (λ fault. fault ≡ StepFault.Memory) }
+    ensures { OnOk result (draft.new ≡ sent peer.now.address frame.now draft.old) }
 {
     match draft.send(alloc, peer.address, frame) {
         Ok(()) => Ok(()),
-        Err(_) => Err(StepFault::Memory),
+        Err(_) => Err(NoMemory),
     }
 }
 
 /// A new id of the name, which the client does not know yet.
-fn fresh_id(alloc: Global, name: &TopicName, id: u16) -> Result<ToldId, StepFault>
-    ensures ok { IfOk result (λ told. told ≡ fresh_told name.now id) }
-    ensures err { IfErr result (λ fault. fault ≡ StepFault.Memory) }
+fn fresh_id(alloc: Global, name: &TopicName, id: u16) -> Result<ToldId, NoMemory>
+    ensures { IfOk result (λ told. told ≡ fresh_told name.now id) }
 {
-    let name = name.copy(alloc)?;
+    let name = name.copied(alloc)?;
     Ok(ToldId {
         id,
         change: Some(SessionOp::Register {
@@ -108,9 +102,8 @@ fn id_to_tell(
     alloc: Global,
     session: &Session,
     name: &TopicName,
-) -> Result<Option<ToldId>, StepFault>
-    ensures ok { IfOk result (λ told. told ≡ told_for session.now name.now) }
-    ensures err { IfErr result (λ fault. fault ≡ StepFault.Memory) }
+) -> Result<Option<ToldId>, NoMemory>
+    ensures { IfOk result (λ told. told ≡ told_for session.now name.now) }
 {
     if let Some(entry) = session.topic_named(name) {
         return Ok(Some(ToldId {
@@ -133,10 +126,9 @@ fn register_first(
     put: &Put,
     told: Option<ToldId>,
     draft: &mut Draft,
-) -> Result<bool, StepFault>
-    ensures ok { IfOk result (λ stops. (stops, draft.new) ≡ registered_first peer.now session.now
+) -> Result<bool, NoMemory>
+    ensures { IfOk result (λ stops. (stops, draft.new) ≡ registered_first peer.now session.now
         put.now told draft.old) }
-    ensures err { IfErr result (λ fault. fault ≡ StepFault.Memory) }
 {
     let Some(told) = told else {
         draft.ack(put.seq, put.origin)?;
@@ -152,26 +144,6 @@ fn register_first(
     Ok(true)
 }
 
-/// The PUBLISH of a message, if it has one. No message has more than 4,096 octets, so a longer one is taken for want of
-/// memory.
-pub fn publication_in(
-    alloc: Global,
-    again: bool,
-    put: &Put,
-    msg_id: u16,
-    form: Form,
-) -> Result<Frame, StepFault>
-    ensures ok { IfOk result (λ frame. frame ≡ publication_of again put.now msg_id form) }
-    ensures message { IfOk result (λ frame. IsMessage frame) }
-    ensures size { IfOk result (λ frame. total_of frame ≤ 65535) }
-    ensures err { IfErr result (λ fault. fault ≡ StepFault.Memory) }
-{
-    if put.body.len() > MAX_BODY {
-        return Err(StepFault::Memory);
-    }
-    publication(alloc, again, put, msg_id, form)
-}
-
 /// And then the PUBLISH of a message whose topic has a form. At quality of service 0 it is done with, else an exchange
 /// begins. Answers whether Delivery stops.
 fn publish_now(
@@ -181,18 +153,17 @@ fn publish_now(
     put: &Put,
     form: Form,
     draft: &mut Draft,
-) -> Result<bool, StepFault>
-    ensures ok { IfOk result (λ stops. (stops, draft.new) ≡ published_now peer.now session.now
+) -> Result<bool, NoMemory>
+    ensures { IfOk result (λ stops. (stops, draft.new) ≡ published_now peer.now session.now
         put.now form draft.old) }
-    ensures err { IfErr result (λ fault. fault ≡ StepFault.Memory) }
 {
     if put.qos == 0 {
-        let frame = publication_in(alloc, false, put, 0, form)?;
+        let frame = publication(alloc, false, put, 0, form)?;
         send(alloc, peer, &frame, draft)?;
         draft.ack(put.seq, put.origin)?;
         return Ok(false);
     }
-    let frame = publication_in(alloc, false, put, session.next_id, form)?;
+    let frame = publication(alloc, false, put, session.next_id, form)?;
     begin(alloc, peer, session, put, Phase::Published, &frame, draft)?;
     Ok(true)
 }
@@ -205,10 +176,9 @@ fn deliver_by(
     put: &Put,
     form: Option<Form>,
     draft: &mut Draft,
-) -> Result<bool, StepFault>
-    ensures ok { IfOk result (λ stops. (stops, draft.new) ≡ delivered_by peer.now session.now
+) -> Result<bool, NoMemory>
+    ensures { IfOk result (λ stops. (stops, draft.new) ≡ delivered_by peer.now session.now
         put.now form draft.old) }
-    ensures err { IfErr result (λ fault. fault ≡ StepFault.Memory) }
 {
     match form {
         None => {
@@ -227,10 +197,9 @@ fn deliver_one(
     session: &Session,
     put: &Put,
     draft: &mut Draft,
-) -> Result<bool, StepFault>
-    ensures ok { IfOk result (λ stops. (stops, draft.new) ≡ delivered_one predefined.now peer.now
+) -> Result<bool, NoMemory>
+    ensures { IfOk result (λ stops. (stops, draft.new) ≡ delivered_one predefined.now peer.now
         session.now put.now draft.old) }
-    ensures err { IfErr result (λ fault. fault ≡ StepFault.Memory) }
 {
     let form = form_of(predefined, session, &put.topic);
     deliver_by(alloc, peer, session, put, form, draft)
@@ -242,9 +211,8 @@ fn none_left(
     peer: &Peer,
     session: &Session,
     draft: &mut Draft,
-) -> Result<(), StepFault>
-    ensures ok { OnOk result (draft.new ≡ with_none_left peer.now session.now draft.old) }
-    ensures err { IfErr result (λ fault. fault ≡ StepFault.Memory) }
+) -> Result<(), NoMemory>
+    ensures { OnOk result (draft.new ≡ with_none_left peer.now session.now draft.old) }
 {
     if !is_awake(session.presence) {
         return Ok(());
@@ -265,10 +233,9 @@ fn deliver(
     acks: &[(u64, u8)],
     pending: &[Put],
     draft: &mut Draft,
-) -> Result<(), StepFault>
-    ensures ok { OnOk result (draft.new ≡ delivered predefined.now peer.now session.now
+) -> Result<(), NoMemory>
+    ensures { OnOk result (draft.new ≡ delivered predefined.now peer.now session.now
         (left acks.now pending.now) draft.old) }
-    ensures err { IfErr result (λ fault. fault ≡ StepFault.Memory) }
 {
     let mut turn = 0;
     for put in pending {
@@ -290,10 +257,9 @@ pub fn deliver_left(
     session: &Session,
     pending: &[Put],
     draft: &mut Draft,
-) -> Result<(), StepFault>
-    ensures ok { OnOk result (draft.new ≡ delivered_left predefined.now peer.now session.now
+) -> Result<(), NoMemory>
+    ensures { OnOk result (draft.new ≡ delivered_left predefined.now peer.now session.now
         pending.now draft.old) }
-    ensures err { IfErr result (λ fault. fault ≡ StepFault.Memory) }
 {
     let acks = Vec::from_slice(alloc, draft.acks())?;
     deliver(
@@ -315,10 +281,9 @@ pub fn deliver_if(
     session: &Session,
     pending: &[Put],
     draft: &mut Draft,
-) -> Result<(), StepFault>
-    ensures ok { OnOk result (draft.new ≡ delivered_if predefined.now peer.now session.now
+) -> Result<(), NoMemory>
+    ensures { OnOk result (draft.new ≡ delivered_if predefined.now peer.now session.now
         pending.now draft.old) }
-    ensures err { IfErr result (λ fault. fault ≡ StepFault.Memory) }
 {
     if !is_served(session.presence) {
         return Ok(());
@@ -337,10 +302,9 @@ pub fn then_deliver(
     session: &Session,
     pending: &[Put],
     draft: &mut Draft,
-) -> Result<(), StepFault>
-    ensures ok { OnOk result (draft.new ≡ then_delivered predefined.now peer.now session.now
+) -> Result<(), NoMemory>
+    ensures { OnOk result (draft.new ≡ then_delivered predefined.now peer.now session.now
         pending.now draft.old) }
-    ensures err { IfErr result (λ fault. fault ≡ StepFault.Memory) }
 {
     if draft.changes().is_empty() {
         return deliver_if(alloc, predefined, peer, session, pending, draft);

@@ -1,6 +1,6 @@
 //! What time asks for: which client is due, and for what (MQTT-SN 1.2 sections 6.11, 6.13 and 6.14).
 
-ghost use Rattle.std.specs.Prelude.{◌≡◌, ◌≤◌, Option, None, IfOk, IfErr, IsTrue};
+ghost use Rattle.std.specs.Prelude.{◌≡◌, ◌≤◌, Option, None, IfOk, IsTrue};
 ghost use Rattle.std.specs.Option.{option_copied};
 ghost use Rattle.rep_model.specs.Views.{clients as clients_of};
 ghost use Rattle.sn_flow.specs.declared.config.Addr.{Addr as Address};
@@ -9,9 +9,10 @@ ghost use Rattle.sn_flow.specs.Bindings.{is_stamp_of as is_stamp_of_gateway};
 ghost use Rattle.sn_deliver.specs.Due.{elapsed as time_elapsed, patience as patience_for, is_silent as is_silent_client, is_overdue as is_client_overdue, due_again as due_once_more, due_exchange as due_of_exchange, due_delivery as delivery_due, due_by as due_by_exchange, due_at as due_at_address, due_session as due_of_session, due_view as due_of_view, first_due as first_client_due};
 
 use super::exchange::{is_awake, is_served, open_exchange};
+use octets::NoMemory;
 use rep_model::{ClientView, Replica};
 use rep_ops::{ClientId, Put, Stamp};
-use sn_flow::{Addr, Dialogs, StepFault, Timer, is_up};
+use sn_flow::{Addr, Dialogs, Timer, is_up};
 use sn_session::{Outbound, Session};
 use std::alloc::Global;
 
@@ -211,16 +212,15 @@ pub fn first_due<R: Replica>(
     replica: &R,
     dialogs: &Dialogs,
     now: u64,
-) -> Result<Option<(ClientId, Due)>, StepFault>
-    ensures ok { IfOk result (λ found.
+) -> Result<Option<(ClientId, Due)>, NoMemory>
+    ensures { IfOk result (λ found.
         found ≡ first_client_due gateway (seen_of (R.kept replica.now)) dialogs.now.local now
         (clients_of (R.kept replica.now))) }
-    ensures err { IfErr result (λ fault. fault ≡ StepFault.Memory) }
 {
     let mut place = 0;
     while let Some((behind, client, view)) = replica.client_at(place) {
         if let Some(reason) = due_view(gateway, dialogs, now, client, view) {
-            return Ok(Some((client.copy(alloc)?, reason)));
+            return Ok(Some((client.copied(alloc)?, reason)));
         }
         place = behind;
     }

@@ -1,20 +1,20 @@
 //! The open exchange of a client, and the messages that are left.
 
-ghost use Rattle.std.specs.Prelude.{◌≡◌, fold, OnOk, IfOk, IfErr};
+ghost use Rattle.std.specs.Prelude.{◌≡◌, fold, OnOk, IfOk};
 ghost use Rattle.std.specs.Option.{option_copied};
 ghost use Rattle.sn_session.specs.Session.{applied};
 ghost use Rattle.sn_flow.specs.Names.{name_of as name_of_put};
 ghost use Rattle.sn_deliver.specs.Exchanges.{so_far as session_so_far, same_name as is_same_name, is_done as is_done_name, is_left as is_left_put, put_named as named_put, put_left as left_put, message_of as message_of_exchange, is_open_in as is_open_in_phase, if_open as exchange_if_open, open_exchange as exchange_that_is_open, is_served as is_served_at, is_awake as is_awake_at};
 
+use octets::NoMemory;
 use rep_ops::Put;
-use sn_flow::{Draft, StepFault, apply};
+use sn_flow::{Draft, apply};
 use sn_session::{Outbound, Phase, Presence, Session, SessionOp};
 use std::alloc::Global;
 
 /// Changes the session by these operations, one after the other.
-fn apply_all(alloc: Global, session: &mut Session, changes: &[SessionOp]) -> Result<(), StepFault>
-    ensures ok { OnOk result (session.new ≡ fold applied session.old changes.now) }
-    ensures err { IfErr result (λ fault. fault ≡ StepFault.Memory) }
+fn apply_all(alloc: Global, session: &mut Session, changes: &[SessionOp]) -> Result<(), NoMemory>
+    ensures { OnOk result (session.new ≡ fold applied session.old changes.now) }
 {
     for change in changes {
         apply(session, alloc, change)?;
@@ -23,11 +23,10 @@ fn apply_all(alloc: Global, session: &mut Session, changes: &[SessionOp]) -> Res
 }
 
 /// The session as the step so far has changed it.
-pub fn so_far(alloc: Global, session: &Session, draft: &Draft) -> Result<Session, StepFault>
-    ensures ok { IfOk result (λ made. made ≡ session_so_far session.now draft.now) }
-    ensures err { IfErr result (λ fault. fault ≡ StepFault.Memory) }
+pub fn so_far(alloc: Global, session: &Session, draft: &Draft) -> Result<Session, NoMemory>
+    ensures { IfOk result (λ made. made ≡ session_so_far session.now draft.now) }
 {
-    let mut made = session.copy(alloc)?;
+    let mut made = session.copied(alloc)?;
     apply_all(alloc, &mut made, draft.changes())?;
     Ok(made)
 }

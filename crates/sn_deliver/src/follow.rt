@@ -1,6 +1,6 @@
 //! What follows a row: Resend or Delivery (MQTT-SN 1.2 sections 6.6, 6.10, 6.13 and 6.14).
 
-ghost use Rattle.std.specs.Prelude.{◌≡◌, IfOk, IfErr, OnOk};
+ghost use Rattle.std.specs.Prelude.{◌≡◌, IfOk, OnOk};
 ghost use Rattle.sn_flow.specs.Plans.{Gives, seen_of};
 ghost use Rattle.sn_flow.specs.Bound.{session_of};
 ghost use Rattle.sn_deliver.specs.Following.{peer_at as peer_there, followed_by as draft_followed_by, followed as followed_row, deliver_next as next_plan};
@@ -8,6 +8,7 @@ ghost use Rattle.sn_deliver.specs.Following.{peer_at as peer_there, followed_by 
 use super::delivery::then_deliver;
 use super::peer::Peer;
 use super::resend::then_resend;
+use octets::NoMemory;
 use rep_model::Replica;
 use rep_ops::{ClientId, Put};
 use sn_flow::{
@@ -18,13 +19,12 @@ use sn_topic::Predefined;
 use std::alloc::Global;
 
 /// The client at its address, at this moment.
-pub fn peer_at(alloc: Global, address: Addr, client: &ClientId, now: u64) -> Result<Peer, StepFault>
-    ensures ok { IfOk result (λ peer. peer ≡ peer_there address client.now now) }
-    ensures err { IfErr result (λ fault. fault ≡ StepFault.Memory) }
+pub fn peer_at(alloc: Global, address: Addr, client: &ClientId, now: u64) -> Result<Peer, NoMemory>
+    ensures { IfOk result (λ peer. peer ≡ peer_there address client.now now) }
 {
     Ok(Peer {
         address,
-        client: client.copy(alloc)?,
+        client: client.copied(alloc)?,
         moment: now,
     })
 }
@@ -38,10 +38,9 @@ fn follow_by(
     pending: &[Put],
     draft: &mut Draft,
     follow: &Follow,
-) -> Result<(), StepFault>
-    ensures ok { OnOk result (draft.new ≡ draft_followed_by predefined.now peer.now session.now
+) -> Result<(), NoMemory>
+    ensures { OnOk result (draft.new ≡ draft_followed_by predefined.now peer.now session.now
         pending.now draft.old follow.now) }
-    ensures err { IfErr result (λ fault. fault ≡ StepFault.Memory) }
 {
     match follow {
         Follow::Nothing => Ok(()),
@@ -58,11 +57,10 @@ fn follow_for<R: Replica>(
     peer: &Peer,
     draft: &mut Draft,
     follow: &Follow,
-) -> Result<(), StepFault>
-    ensures ok { OnOk result (draft.new ≡ draft_followed_by predefined.now peer.now
+) -> Result<(), NoMemory>
+    ensures { OnOk result (draft.new ≡ draft_followed_by predefined.now peer.now
         (session_of (seen_of (R.kept replica.now)) peer.now.client)
         ((seen_of (R.kept replica.now)).of peer.now.client).pending draft.old follow.now) }
-    ensures err { IfErr result (λ fault. fault ≡ StepFault.Memory) }
 {
     let empty = Session::empty(alloc);
     let nobody = unseen(alloc);
@@ -80,10 +78,9 @@ fn followed<R: Replica>(
     address: Addr,
     now: u64,
     row: Row,
-) -> Result<Row, StepFault>
-    ensures ok { IfOk result (λ made. made ≡ followed_row predefined.now
+) -> Result<Row, NoMemory>
+    ensures { IfOk result (λ made. made ≡ followed_row predefined.now
         (seen_of (R.kept replica.now)) address now row) }
-    ensures err { IfErr result (λ fault. fault ≡ StepFault.Memory) }
 {
     let Row {
         client,

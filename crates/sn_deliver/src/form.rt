@@ -1,11 +1,13 @@
 //! How a topic is named in a PUBLISH (MQTT-SN 1.2 sections 5.3.11 and 5.3.12).
 
-ghost use Rattle.std.specs.Prelude.{◌≡◌, ◌≤◌, IfOk, IfErr};
+ghost use Rattle.std.specs.Prelude.{◌≡◌, ◌≤◌, IfOk};
 ghost use Rattle.std.specs.Option.{option_copied};
+ghost use Rattle.sn_frame.specs.Bodies.{IsMessage};
+ghost use Rattle.sn_frame.specs.Grammar.{total_of};
 ghost use Rattle.sn_deliver.specs.Forms.{by_entry as entry_form, known_form as form_if_known, short_form as form_if_short, predefined_form as form_if_predefined, form_of as form_of_topic, form_again as form_of_topic_again, qos_bits as bits_of_qos, kind_bits as bits_of_kind, dup_bit as bit_of_dup, publication as publication_of};
 
+use octets::NoMemory;
 use rep_ops::Put;
-use sn_flow::StepFault;
 use sn_frame::{Flags, Frame, TopicIdType};
 use sn_session::{Session, TopicEntry};
 use sn_topic::{Predefined, TopicName};
@@ -140,17 +142,21 @@ pub fn publication(
     put: &Put,
     msg_id: u16,
     form: Form,
-) -> Result<Frame, StepFault>
+) -> Result<Frame, NoMemory>
     ensures ok { IfOk result (λ frame. frame ≡ publication_of again put.now msg_id form) }
-    ensures err { IfErr result (λ fault. fault ≡ StepFault.Memory) }
+    ensures message { IfOk result (λ frame. IsMessage frame) }
+    ensures size { IfOk result (λ frame. total_of frame ≤ 65535) }
 {
     let flags = Flags {
         bits: dup_bit(again) + qos_bits(put.qos) + kind_bits(form.kind),
     };
+    // A message has a size that fits every frame.
+    let _size = put.body.len();
+    let body = put.body.to_octets(alloc)?;
     Ok(Frame::Publish {
         flags,
         topic: form.topic,
         msg_id,
-        body: put.body.copy(alloc)?,
+        body,
     })
 }

@@ -40,10 +40,10 @@ pub use laws::{
     delivery_keeps, every_step, idle_lasts, one_exchange, puts_once, resent_with_dup,
     tick_is_quiet, tick_settles, ticks_end,
 };
-pub use meaning::{Meant, publication_meant};
+pub use meaning::{Meant, topic_meant};
 pub use peer::Peer;
 pub use publishing::{publish, publish_unconnected, pubrel};
-pub use recipients::{puts_for, puts_of_will};
+pub use recipients::{MAX_PENDING, puts_for, puts_of_will};
 pub use resend::then_resend;
 pub use rest::is_idle;
 pub use serve::{ack_in, publish_in, pubrel_in};

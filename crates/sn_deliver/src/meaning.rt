@@ -1,15 +1,14 @@
 //! What a PUBLISH of a client is about.
 
-ghost use Rattle.std.specs.Prelude.{◌≡◌, IfOk, IfErr};
+ghost use Rattle.std.specs.Prelude.{◌≡◌, IfOk};
 ghost use Rattle.std.specs.Option.{option_copied, option_map};
-ghost use Rattle.sn_deliver.specs.Publishing.{named as named_topic, entry_name, short_name as name_in_field, topic_meant as meant_topic, within_limit as meant_within, publication_meant as meant_publication};
+ghost use Rattle.sn_deliver.specs.Publishing.{named as named_topic, entry_name, short_name as name_in_field, topic_meant as meant_topic};
 ghost use Rattle.sn_flow.specs.Asking.{name_asked as name_in};
 ghost use Rattle.sn_session.specs.Topics.{topic_of};
 
-use octets::Octets;
-use rep_ops::MAX_BODY;
-use sn_flow::{StepFault, name_asked};
-use sn_frame::{Flags, TopicIdType};
+use octets::NoMemory;
+use sn_flow::name_asked;
+use sn_frame::TopicIdType;
 use sn_session::Session;
 use sn_topic::{Predefined, TopicName};
 use std::alloc::Global;
@@ -24,21 +23,19 @@ pub enum Meant {
 }
 
 /// The topic of this name.
-fn named(alloc: Global, name: Option<&TopicName>) -> Result<Meant, StepFault>
-    ensures ok { IfOk result (λ meant. meant ≡ named_topic (option_copied name.entry)) }
-    ensures err { IfErr result (λ fault. fault ≡ StepFault.Memory) }
+fn named(alloc: Global, name: Option<&TopicName>) -> Result<Meant, NoMemory>
+    ensures { IfOk result (λ meant. meant ≡ named_topic (option_copied name.entry)) }
 {
     match name {
         None => Ok(Meant::Refused(2)),
-        Some(name) => Ok(Meant::Topic(name.copy(alloc)?)),
+        Some(name) => Ok(Meant::Topic(name.copied(alloc)?)),
     }
 }
 
 /// The topic of an id of the session.
-fn by_entry(alloc: Global, session: &Session, id: u16) -> Result<Meant, StepFault>
-    ensures ok { IfOk result (λ meant. meant ≡ named_topic
+fn by_entry(alloc: Global, session: &Session, id: u16) -> Result<Meant, NoMemory>
+    ensures { IfOk result (λ meant. meant ≡ named_topic
         (option_map entry_name (topic_of id session.now.topics))) }
-    ensures err { IfErr result (λ fault. fault ≡ StepFault.Memory) }
 {
     match session.topic_of(id) {
         None => named(alloc, None),
@@ -47,9 +44,8 @@ fn by_entry(alloc: Global, session: &Session, id: u16) -> Result<Meant, StepFaul
 }
 
 /// The topic of a short name.
-fn by_short(alloc: Global, topic: u16) -> Result<Meant, StepFault>
-    ensures ok { IfOk result (λ meant. meant ≡ named_topic (name_in (name_in_field topic))) }
-    ensures err { IfErr result (λ fault. fault ≡ StepFault.Memory) }
+fn by_short(alloc: Global, topic: u16) -> Result<Meant, NoMemory>
+    ensures { IfOk result (λ meant. meant ≡ named_topic (name_in (name_in_field topic))) }
 {
     let octets = [(topic / 256) as u8, (topic % 256) as u8];
     match name_asked(alloc, &octets)? {
@@ -58,16 +54,16 @@ fn by_short(alloc: Global, topic: u16) -> Result<Meant, StepFault>
     }
 }
 
-/// The topic that a topic field of this type stands for.
-fn topic_meant(
+/// The topic that a topic field of this type stands for (MQTT-SN 1.2 section 5.3.11): `Refused` with code 2 where it stands for
+/// none, and with code 3 where the type has no meaning.
+pub fn topic_meant(
     alloc: Global,
     predefined: &Predefined,
     session: &Session,
     kind: TopicIdType,
     topic: u16,
-) -> Result<Meant, StepFault>
-    ensures ok { IfOk result (λ meant. meant ≡ meant_topic predefined.now session.now kind topic) }
-    ensures err { IfErr result (λ fault. fault ≡ StepFault.Memory) }
+) -> Result<Meant, NoMemory>
+    ensures { IfOk result (λ meant. meant ≡ meant_topic predefined.now session.now kind topic) }
 {
     match kind {
         TopicIdType::Normal => by_entry(alloc, session, topic),
@@ -75,37 +71,4 @@ fn topic_meant(
         TopicIdType::Short => by_short(alloc, topic),
         TopicIdType::Reserved => Ok(Meant::Refused(3)),
     }
-}
-
-/// Refuses a message of more than 4,096 octets.
-fn within_limit(body: &Octets, meant: Meant) -> Meant
-    ensures { result ≡ meant_within body.now meant }
-{
-    match meant {
-        Meant::Refused(code) => Meant::Refused(code),
-        Meant::Topic(name) => {
-            if body.len() > MAX_BODY {
-                Meant::Refused(3)
-            } else {
-                Meant::Topic(name)
-            }
-        }
-    }
-}
-
-/// What a PUBLISH with these flags, topic field and message is about.
-pub fn publication_meant(
-    alloc: Global,
-    predefined: &Predefined,
-    session: &Session,
-    flags: Flags,
-    topic: u16,
-    body: &Octets,
-) -> Result<Meant, StepFault>
-    ensures ok { IfOk result (λ meant. meant ≡ meant_publication predefined.now session.now
-        flags.bits topic body.now) }
-    ensures err { IfErr result (λ fault. fault ≡ StepFault.Memory) }
-{
-    let meant = topic_meant(alloc, predefined, session, flags.kind(), topic)?;
-    Ok(within_limit(body, meant))
 }

@@ -1,19 +1,19 @@
 //! PUBLISH and PUBREL from a client (MQTT-SN 1.2 sections 6.6, 6.8 and 6.10).
 
-ghost use Rattle.std.specs.Prelude.{◌≡◌, IfOk, IfErr, OnOk};
+ghost use Rattle.std.specs.Prelude.{◌≡◌, IfOk, OnOk};
 ghost use Rattle.sn_flow.specs.Plans.{seen_of};
 ghost use Rattle.sn_flow.specs.Drafts.{nothing, put_all, sent};
 ghost use Rattle.sn_frame.specs.declared.frame.Frame.TheVariants.{PubAck, PubRec};
 ghost use Rattle.sn_deliver.specs.Recipients.{puts_for as puts_for_all};
-ghost use Rattle.sn_deliver.specs.Publishing.{spread as spread_draft, spread_once as spread_once_draft, spread_twice as spread_twice_draft, publish_at as publish_draft_at, publish_meant as publish_draft_meant, publish as publish_draft, spread_meant as spread_draft_meant, publish_unconnected as unconnected_draft, release as release_change, pubrel as pubrel_draft};
+ghost use Rattle.sn_deliver.specs.Publishing.{spread as spread_draft, spread_once as spread_once_draft, spread_twice as spread_twice_draft, publish_at as publish_draft_at, publish_meant as publish_draft_meant, within_limit as meant_within, publish as publish_draft, spread_meant as spread_draft_meant, publish_unconnected as unconnected_draft, release as release_change, pubrel as pubrel_draft};
 
-use super::meaning::{Meant, publication_meant};
+use super::meaning::{Meant, topic_meant};
 use super::recipients::puts_for;
-use octets::Octets;
+use octets::{NoMemory, Octets};
 use rep_model::Replica;
-use sn_flow::{Addr, Draft, StepFault};
+use sn_flow::{Addr, Draft};
 use sn_frame::{Flags, Frame, Qos};
-use sn_session::{Session, SessionOp};
+use sn_session::{Message, Session, SessionOp};
 use sn_topic::{Predefined, TopicName};
 use std::alloc::Global;
 
@@ -23,11 +23,10 @@ fn puts_draft<R: Replica>(
     replica: &R,
     name: &TopicName,
     qos: u8,
-    body: &Octets,
-) -> Result<Draft, StepFault>
-    ensures ok { IfOk result (λ draft. draft ≡ put_all (puts_for_all (seen_of (R.kept replica.now))
+    body: &Message,
+) -> Result<Draft, NoMemory>
+    ensures { IfOk result (λ draft. draft ≡ put_all (puts_for_all (seen_of (R.kept replica.now))
         name.now qos body.now) nothing) }
-    ensures err { IfErr result (λ fault. fault ≡ StepFault.Memory) }
 {
     let puts = puts_for(alloc, replica, name, qos, body)?;
     let mut draft = Draft::new(alloc);
@@ -40,19 +39,17 @@ fn spread<R: Replica>(
     alloc: Global,
     replica: &R,
     name: &TopicName,
-    body: &Octets,
-) -> Result<Draft, StepFault>
-    ensures ok { IfOk result (λ draft. draft ≡ spread_draft (seen_of (R.kept replica.now))
+    body: &Message,
+) -> Result<Draft, NoMemory>
+    ensures { IfOk result (λ draft. draft ≡ spread_draft (seen_of (R.kept replica.now))
         name.now body.now) }
-    ensures err { IfErr result (λ fault. fault ≡ StepFault.Memory) }
 {
     puts_draft(alloc, replica, name, 0, body)
 }
 
 /// A PUBACK with this code.
-fn puback(alloc: Global, to: Addr, topic_id: u16, msg_id: u16, code: u8) -> Result<Draft, StepFault>
-    ensures ok { IfOk result (λ draft. draft ≡ sent to (PubAck topic_id msg_id code) nothing) }
-    ensures err { IfErr result (λ fault. fault ≡ StepFault.Memory) }
+fn puback(alloc: Global, to: Addr, topic_id: u16, msg_id: u16, code: u8) -> Result<Draft, NoMemory>
+    ensures { IfOk result (λ draft. draft ≡ sent to (PubAck topic_id msg_id code) nothing) }
 {
     let answer = Frame::PubAck {
         topic_id,
@@ -63,13 +60,12 @@ fn puback(alloc: Global, to: Addr, topic_id: u16, msg_id: u16, code: u8) -> Resu
 }
 
 /// And then a PUBREC.
-fn pubrec(alloc: Global, to: Addr, msg_id: u16, draft: &mut Draft) -> Result<(), StepFault>
-    ensures ok { OnOk result (draft.new ≡ sent to (PubRec msg_id) draft.old) }
-    ensures err { IfErr result (λ fault. fault ≡ StepFault.Memory) }
+fn pubrec(alloc: Global, to: Addr, msg_id: u16, draft: &mut Draft) -> Result<(), NoMemory>
+    ensures { OnOk result (draft.new ≡ sent to (PubRec msg_id) draft.old) }
 {
     match draft.send(alloc, to, &Frame::PubRec { msg_id }) {
         Ok(()) => Ok(()),
-        Err(_) => Err(StepFault::Memory),
+        Err(_) => Err(NoMemory),
     }
 }
 
@@ -80,12 +76,11 @@ fn spread_once<R: Replica>(
     to: Addr,
     topic_id: u16,
     msg_id: u16,
-    body: &Octets,
+    body: &Message,
     name: &TopicName,
-) -> Result<Draft, StepFault>
-    ensures ok { IfOk result (λ draft. draft ≡ spread_once_draft (seen_of (R.kept replica.now)) to
+) -> Result<Draft, NoMemory>
+    ensures { IfOk result (λ draft. draft ≡ spread_once_draft (seen_of (R.kept replica.now)) to
         topic_id msg_id body.now name.now) }
-    ensures err { IfErr result (λ fault. fault ≡ StepFault.Memory) }
 {
     let mut draft = puts_draft(alloc, replica, name, 1, body)?;
     let answer = Frame::PubAck {
@@ -95,7 +90,7 @@ fn spread_once<R: Replica>(
     };
     match draft.send(alloc, to, &answer) {
         Ok(()) => Ok(draft),
-        Err(_) => Err(StepFault::Memory),
+        Err(_) => Err(NoMemory),
     }
 }
 
@@ -107,12 +102,11 @@ fn spread_twice<R: Replica>(
     session: &Session,
     topic_id: u16,
     msg_id: u16,
-    body: &Octets,
+    body: &Message,
     name: &TopicName,
-) -> Result<Draft, StepFault>
-    ensures ok { IfOk result (λ draft. draft ≡ spread_twice_draft (seen_of (R.kept replica.now)) to
+) -> Result<Draft, NoMemory>
+    ensures { IfOk result (λ draft. draft ≡ spread_twice_draft (seen_of (R.kept replica.now)) to
         session.now topic_id msg_id body.now name.now) }
-    ensures err { IfErr result (λ fault. fault ≡ StepFault.Memory) }
 {
     if session.is_received(msg_id) {
         return Draft::reply(alloc, to, &Frame::PubRec { msg_id });
@@ -134,13 +128,12 @@ fn publish_at<R: Replica>(
     session: &Session,
     topic_id: u16,
     msg_id: u16,
-    body: &Octets,
+    body: &Message,
     name: &TopicName,
     qos: Qos,
-) -> Result<Draft, StepFault>
-    ensures ok { IfOk result (λ draft. draft ≡ publish_draft_at (seen_of (R.kept replica.now)) to
+) -> Result<Draft, NoMemory>
+    ensures { IfOk result (λ draft. draft ≡ publish_draft_at (seen_of (R.kept replica.now)) to
         session.now topic_id msg_id body.now name.now qos) }
-    ensures err { IfErr result (λ fault. fault ≡ StepFault.Memory) }
 {
     match qos {
         Qos::Zero => spread(alloc, replica, name, body),
@@ -150,7 +143,7 @@ fn publish_at<R: Replica>(
     }
 }
 
-/// A publication on what it is about.
+/// A publication on what its topic field is about. A message of more than 4,096 octets is refused.
 fn publish_meant<R: Replica>(
     alloc: Global,
     replica: &R,
@@ -161,16 +154,18 @@ fn publish_meant<R: Replica>(
     body: &Octets,
     qos: Qos,
     meant: Meant,
-) -> Result<Draft, StepFault>
-    ensures ok { IfOk result (λ draft. draft ≡ publish_draft_meant (seen_of (R.kept replica.now)) to
-        session.now topic_id msg_id body.now qos meant) }
-    ensures err { IfErr result (λ fault. fault ≡ StepFault.Memory) }
+) -> Result<Draft, NoMemory>
+    ensures { IfOk result (λ draft. draft ≡ publish_draft_meant (seen_of (R.kept replica.now)) to
+        session.now topic_id msg_id body.now qos (meant_within body.now meant)) }
 {
     match meant {
         Meant::Refused(code) => puback(alloc, to, topic_id, msg_id, code),
-        Meant::Topic(name) => publish_at(
-            alloc, replica, to, session, topic_id, msg_id, body, &name, qos,
-        ),
+        Meant::Topic(name) => match Message::new(body.copied(alloc)?) {
+            None => puback(alloc, to, topic_id, msg_id, 3),
+            Some(body) => publish_at(
+                alloc, replica, to, session, topic_id, msg_id, &body, &name, qos,
+            ),
+        },
     }
 }
 
@@ -186,12 +181,11 @@ pub fn publish<R: Replica>(
     topic: u16,
     msg_id: u16,
     body: &Octets,
-) -> Result<Draft, StepFault>
-    ensures ok { IfOk result (λ draft. draft ≡ publish_draft predefined.now
+) -> Result<Draft, NoMemory>
+    ensures { IfOk result (λ draft. draft ≡ publish_draft predefined.now
         (seen_of (R.kept replica.now)) to session.now flags.bits topic msg_id body.now) }
-    ensures err { IfErr result (λ fault. fault ≡ StepFault.Memory) }
 {
-    let meant = publication_meant(alloc, predefined, session, flags, topic, body)?;
+    let meant = topic_meant(alloc, predefined, session, flags.kind(), topic)?;
     publish_meant(
         alloc,
         replica,
@@ -205,20 +199,22 @@ pub fn publish<R: Replica>(
     )
 }
 
-/// A publication without a connection, on what it is about.
+/// A publication without a connection, on what its topic field is about. A message of more than 4,096 octets is for nobody.
 fn spread_meant<R: Replica>(
     alloc: Global,
     replica: &R,
     body: &Octets,
     meant: Meant,
-) -> Result<Draft, StepFault>
-    ensures ok { IfOk result (λ draft. draft ≡ spread_draft_meant (seen_of (R.kept replica.now))
-        body.now meant) }
-    ensures err { IfErr result (λ fault. fault ≡ StepFault.Memory) }
+) -> Result<Draft, NoMemory>
+    ensures { IfOk result (λ draft. draft ≡ spread_draft_meant (seen_of (R.kept replica.now))
+        body.now (meant_within body.now meant)) }
 {
     match meant {
         Meant::Refused(_) => Ok(Draft::new(alloc)),
-        Meant::Topic(name) => spread(alloc, replica, &name, body),
+        Meant::Topic(name) => match Message::new(body.copied(alloc)?) {
+            None => Ok(Draft::new(alloc)),
+            Some(body) => spread(alloc, replica, &name, &body),
+        },
     }
 }
 
@@ -231,13 +227,12 @@ pub fn publish_unconnected<R: Replica>(
     flags: Flags,
     topic: u16,
     body: &Octets,
-) -> Result<Draft, StepFault>
-    ensures ok { IfOk result (λ draft. draft ≡ unconnected_draft predefined.now
+) -> Result<Draft, NoMemory>
+    ensures { IfOk result (λ draft. draft ≡ unconnected_draft predefined.now
         (seen_of (R.kept replica.now)) flags.bits topic body.now) }
-    ensures err { IfErr result (λ fault. fault ≡ StepFault.Memory) }
 {
     let session = Session::empty(alloc);
-    let meant = publication_meant(alloc, predefined, &session, flags, topic, body)?;
+    let meant = topic_meant(alloc, predefined, &session, flags.kind(), topic)?;
     spread_meant(alloc, replica, body, meant)
 }
 
@@ -253,14 +248,13 @@ fn release(session: &Session, msg_id: u16) -> Option<SessionOp>
 }
 
 /// PUBREL: the client will not send the message of this id again. PUBCOMP is always the answer.
-pub fn pubrel(alloc: Global, to: Addr, session: &Session, msg_id: u16) -> Result<Draft, StepFault>
-    ensures ok { IfOk result (λ draft. draft ≡ pubrel_draft to session.now msg_id) }
-    ensures err { IfErr result (λ fault. fault ≡ StepFault.Memory) }
+pub fn pubrel(alloc: Global, to: Addr, session: &Session, msg_id: u16) -> Result<Draft, NoMemory>
+    ensures { IfOk result (λ draft. draft ≡ pubrel_draft to session.now msg_id) }
 {
     let mut draft = Draft::new(alloc);
     draft.change_if(release(session, msg_id))?;
     match draft.send(alloc, to, &Frame::PubComp { msg_id }) {
         Ok(()) => Ok(draft),
-        Err(_) => Err(StepFault::Memory),
+        Err(_) => Err(NoMemory),
     }
 }

@@ -1,22 +1,22 @@
 //! Who gets a publication, and at which quality of service (MQTT-SN 1.2 section 6.10). A publication goes from candidate to
 //! candidate, and passes over clients that are not subscribed to its topic.
 
-ghost use Rattle.std.specs.Prelude.{◌≡◌, filter, IfOk, IfErr};
+ghost use Rattle.std.specs.Prelude.{◌≡◌, filter, IfOk};
 ghost use Rattle.std.specs.Option.{option_map};
 ghost use Rattle.sn_flow.specs.Plans.{seen_of};
 ghost use Rattle.rep_model.specs.Views.{view};
 ghost use Rattle.sn_deliver.specs.Recipients.{admitted as qos_admitted, qos_at as qos_at_asked, qos_in as qos_in_session, qos_for as qos_for_view, message_for, put_for as put_for_client, puts_among as puts_among_clients, puts_for as puts_for_all, is_another as is_another_client, puts_of_will as puts_of_this_will};
 
-use octets::Octets;
+use octets::NoMemory;
 use rep_model::{ClientView, Replica};
 use rep_ops::{ClientId, Put};
-use sn_flow::{NewPut, StepFault, is_up};
-use sn_session::{Presence, Session, Will};
+use sn_flow::{NewPut, is_up};
+use sn_session::{Message, Presence, Session, Will};
 use sn_topic::TopicName;
 use std::alloc::Global;
 
 /// How many messages may wait for a client before it is no recipient any more.
-const MAX_PENDING: usize = 1024;
+pub const MAX_PENDING: usize = 1024;
 
 /// At this quality of service, where there is room and the client is there or gets the message at least once.
 fn admitted(pending: &[Put], presence: Presence, qos: u8) -> Option<u8>
@@ -61,22 +61,21 @@ fn put_at(
     alloc: Global,
     topic: &TopicName,
     qos: u8,
-    body: &Octets,
+    body: &Message,
     client: &ClientId,
     view: &ClientView,
-) -> Result<Option<NewPut>, StepFault>
-    ensures ok { IfOk result (λ put.
+) -> Result<Option<NewPut>, NoMemory>
+    ensures { IfOk result (λ put.
         put ≡ option_map (message_for topic.now body.now client.now)
         (qos_for_view topic.now qos view.now)) }
-    ensures err { IfErr result (λ fault. fault ≡ StepFault.Memory) }
 {
     match qos_for(topic, qos, view) {
         None => Ok(None),
         Some(qos) => Ok(Some(NewPut {
-            client: client.copy(alloc)?,
-            topic: topic.copy(alloc)?,
+            client: client.copied(alloc)?,
+            topic: topic.copied(alloc)?,
             qos,
-            body: body.copy(alloc)?,
+            body: body.copied(alloc)?,
         })),
     }
 }
@@ -88,11 +87,10 @@ pub fn puts_for<R: Replica>(
     replica: &R,
     topic: &TopicName,
     qos: u8,
-    body: &Octets,
-) -> Result<Vec<NewPut>, StepFault>
-    ensures ok { IfOk result (λ puts. puts.items ≡ puts_for_all (seen_of (R.kept replica.now))
+    body: &Message,
+) -> Result<Vec<NewPut>, NoMemory>
+    ensures { IfOk result (λ puts. puts.items ≡ puts_for_all (seen_of (R.kept replica.now))
         topic.now qos body.now) }
-    ensures err { IfErr result (λ fault. fault ≡ StepFault.Memory) }
 {
     let mut puts = Vec::new(alloc);
     let mut place = 0;
@@ -111,12 +109,11 @@ fn put_for<R: Replica>(
     replica: &R,
     topic: &TopicName,
     qos: u8,
-    body: &Octets,
+    body: &Message,
     client: &ClientId,
-) -> Result<Option<NewPut>, StepFault>
-    ensures ok { IfOk result (λ put. put ≡ put_for_client (seen_of (R.kept replica.now)) topic.now
+) -> Result<Option<NewPut>, NoMemory>
+    ensures { IfOk result (λ put. put ≡ put_for_client (seen_of (R.kept replica.now)) topic.now
         qos body.now client.now) }
-    ensures err { IfErr result (λ fault. fault ≡ StepFault.Memory) }
 {
     match replica.view_of(client) {
         None => Ok(None),
@@ -131,11 +128,10 @@ fn puts_among<R: Replica>(
     clients: Vec<ClientId>,
     topic: &TopicName,
     qos: u8,
-    body: &Octets,
-) -> Result<Vec<NewPut>, StepFault>
-    ensures ok { IfOk result (λ puts. puts.items ≡ puts_among_clients (seen_of (R.kept replica.now))
+    body: &Message,
+) -> Result<Vec<NewPut>, NoMemory>
+    ensures { IfOk result (λ puts. puts.items ≡ puts_among_clients (seen_of (R.kept replica.now))
         clients.items topic.now qos body.now) }
-    ensures err { IfErr result (λ fault. fault ≡ StepFault.Memory) }
 {
     let mut puts = Vec::new(alloc);
     for client in clients {
@@ -166,12 +162,13 @@ pub fn puts_of_will<R: Replica>(
     replica: &R,
     client: &ClientId,
     will: &Will,
-) -> Result<Vec<NewPut>, StepFault>
-    ensures ok { IfOk result (λ puts. puts.items ≡ puts_of_this_will (seen_of (R.kept replica.now))
+) -> Result<Vec<NewPut>, NoMemory>
+    ensures { IfOk result (λ puts. puts.items ≡ puts_of_this_will (seen_of (R.kept replica.now))
         client.now will.now) }
-    ensures err { IfErr result (λ fault. fault ≡ StepFault.Memory) }
 {
-    let mut clients = replica.clients(alloc)?;
+    let Ok(mut clients) = replica.clients(alloc) else {
+        return Err(NoMemory);
+    };
     leave_out(&mut clients, client);
     puts_among(
         alloc,

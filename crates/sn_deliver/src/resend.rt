@@ -1,44 +1,42 @@
 //! Resend: the frame of the open exchange is sent again, under the same message id (MQTT-SN 1.2 section 6.13).
 
-ghost use Rattle.std.specs.Prelude.{◌≡◌, ◌≤◌, IfOk, IfErr, OnOk};
+ghost use Rattle.std.specs.Prelude.{◌≡◌, ◌≤◌, IfOk, OnOk};
 ghost use Rattle.std.specs.Option.{option_copied};
 ghost use Rattle.sn_frame.specs.Bodies.{IsMessage};
 ghost use Rattle.sn_frame.specs.Grammar.{total_of};
 ghost use Rattle.sn_deliver.specs.Resending.{again as sent_again, given_up as exchange_given_up, register_by as registered_by, register_again as registered_again, publish_by as published_by, publish_again as published_again, resend_in as resent_in, resend as resent, resend_if as resent_if, resend_or_deliver as resent_or_delivered, then_resend as then_resent};
 
-use super::delivery::{deliver_if, deliver_left, publication_in, send};
+use super::delivery::{deliver_if, deliver_left, send};
 use super::exchange::{message_of, open_exchange, put_left, so_far};
-use super::form::{Form, form_again};
+use super::form::{Form, form_again, publication};
 use super::peer::Peer;
-use octets::Octets;
+use octets::{NoMemory, Octets};
 use rep_ops::Put;
-use sn_flow::{Draft, LocalChange, StepFault};
+use sn_flow::{Draft, LocalChange};
 use sn_frame::Frame;
 use sn_session::{Outbound, Phase, Session, SessionOp, TopicEntry};
 use sn_topic::Predefined;
 use std::alloc::Global;
 
 /// And then a frame of the exchange, again. Answers that it stops.
-fn again(alloc: Global, peer: &Peer, frame: &Frame, draft: &mut Draft) -> Result<bool, StepFault>
+fn again(alloc: Global, peer: &Peer, frame: &Frame, draft: &mut Draft) -> Result<bool, NoMemory>
     requires message { IsMessage frame.now }
     requires size { total_of frame.now ≤ 65535 }
-    ensures ok { IfOk result (λ stops. (stops, draft.new) ≡ sent_again peer.now frame.now
+    ensures { IfOk result (λ stops. (stops, draft.new) ≡ sent_again peer.now frame.now
         draft.old) }
-    ensures err { IfErr result (λ fault. fault ≡ StepFault.Memory) }
 {
     send(alloc, peer, frame, draft)?;
     draft.note(LocalChange::Resent {
-        client: peer.client.copy(alloc)?,
+        client: peer.client.copied(alloc)?,
         moment: peer.moment,
     })?;
     Ok(true)
 }
 
 /// And then the end of the exchange. Answers that Delivery follows.
-fn give_up(session: &Session, draft: &mut Draft) -> Result<bool, StepFault>
-    ensures ok { IfOk result (λ stops. (stops, draft.new) ≡ exchange_given_up session.now
+fn give_up(session: &Session, draft: &mut Draft) -> Result<bool, NoMemory>
+    ensures { IfOk result (λ stops. (stops, draft.new) ≡ exchange_given_up session.now
         draft.old) }
-    ensures err { IfErr result (λ fault. fault ≡ StepFault.Memory) }
 {
     draft.change(SessionOp::Outbound {
         exchange: None,
@@ -56,10 +54,9 @@ fn register_by(
     msg_id: u16,
     entry: Option<&TopicEntry>,
     draft: &mut Draft,
-) -> Result<bool, StepFault>
-    ensures ok { IfOk result (λ stops. (stops, draft.new) ≡ registered_by peer.now session.now
+) -> Result<bool, NoMemory>
+    ensures { IfOk result (λ stops. (stops, draft.new) ≡ registered_by peer.now session.now
         put.now msg_id (option_copied entry.entry) draft.old) }
-    ensures err { IfErr result (λ fault. fault ≡ StepFault.Memory) }
 {
     match entry {
         None => give_up(session, draft),
@@ -82,10 +79,9 @@ fn register_again(
     msg_id: u16,
     put: Option<&Put>,
     draft: &mut Draft,
-) -> Result<bool, StepFault>
-    ensures ok { IfOk result (λ stops. (stops, draft.new) ≡ registered_again peer.now session.now
+) -> Result<bool, NoMemory>
+    ensures { IfOk result (λ stops. (stops, draft.new) ≡ registered_again peer.now session.now
         msg_id (option_copied put.entry) draft.old) }
-    ensures err { IfErr result (λ fault. fault ≡ StepFault.Memory) }
 {
     match put {
         None => give_up(session, draft),
@@ -105,15 +101,14 @@ fn publish_by(
     msg_id: u16,
     form: Option<Form>,
     draft: &mut Draft,
-) -> Result<bool, StepFault>
-    ensures ok { IfOk result (λ stops. (stops, draft.new) ≡ published_by peer.now session.now
+) -> Result<bool, NoMemory>
+    ensures { IfOk result (λ stops. (stops, draft.new) ≡ published_by peer.now session.now
         put.now msg_id form draft.old) }
-    ensures err { IfErr result (λ fault. fault ≡ StepFault.Memory) }
 {
     match form {
         None => give_up(session, draft),
         Some(form) => {
-            let frame = publication_in(alloc, true, put, msg_id, form)?;
+            let frame = publication(alloc, true, put, msg_id, form)?;
             again(alloc, peer, &frame, draft)
         }
     }
@@ -128,10 +123,9 @@ fn publish_again(
     msg_id: u16,
     put: Option<&Put>,
     draft: &mut Draft,
-) -> Result<bool, StepFault>
-    ensures ok { IfOk result (λ stops. (stops, draft.new) ≡ published_again predefined.now peer.now
+) -> Result<bool, NoMemory>
+    ensures { IfOk result (λ stops. (stops, draft.new) ≡ published_again predefined.now peer.now
         session.now msg_id (option_copied put.entry) draft.old) }
-    ensures err { IfErr result (λ fault. fault ≡ StepFault.Memory) }
 {
     match put {
         None => give_up(session, draft),
@@ -152,10 +146,9 @@ fn resend_in(
     phase: Phase,
     put: Option<&Put>,
     draft: &mut Draft,
-) -> Result<bool, StepFault>
-    ensures ok { IfOk result (λ stops. (stops, draft.new) ≡ resent_in predefined.now peer.now
+) -> Result<bool, NoMemory>
+    ensures { IfOk result (λ stops. (stops, draft.new) ≡ resent_in predefined.now peer.now
         session.now msg_id phase (option_copied put.entry) draft.old) }
-    ensures err { IfErr result (λ fault. fault ≡ StepFault.Memory) }
 {
     match phase {
         Phase::Registering => register_again(alloc, peer, session, msg_id, put, draft),
@@ -173,10 +166,9 @@ fn resend(
     pending: &[Put],
     exchange: Outbound,
     draft: &mut Draft,
-) -> Result<(), StepFault>
-    ensures ok { OnOk result (draft.new ≡ resent predefined.now peer.now session.now pending.now
+) -> Result<(), NoMemory>
+    ensures { OnOk result (draft.new ≡ resent predefined.now peer.now session.now pending.now
         exchange draft.old) }
-    ensures err { IfErr result (λ fault. fault ≡ StepFault.Memory) }
 {
     let put = put_left(draft.acks(), pending, message_of(exchange));
     let stops = resend_in(
@@ -204,10 +196,9 @@ fn resend_if(
     pending: &[Put],
     exchange: Option<Outbound>,
     draft: &mut Draft,
-) -> Result<(), StepFault>
-    ensures ok { OnOk result (draft.new ≡ resent_if predefined.now peer.now session.now pending.now
+) -> Result<(), NoMemory>
+    ensures { OnOk result (draft.new ≡ resent_if predefined.now peer.now session.now pending.now
         exchange draft.old) }
-    ensures err { IfErr result (λ fault. fault ≡ StepFault.Memory) }
 {
     match exchange {
         None => deliver_if(alloc, predefined, peer, session, pending, draft),
@@ -223,10 +214,9 @@ fn resend_or_deliver(
     session: &Session,
     pending: &[Put],
     draft: &mut Draft,
-) -> Result<(), StepFault>
-    ensures ok { OnOk result (draft.new ≡ resent_or_delivered predefined.now peer.now session.now
+) -> Result<(), NoMemory>
+    ensures { OnOk result (draft.new ≡ resent_or_delivered predefined.now peer.now session.now
         pending.now draft.old) }
-    ensures err { IfErr result (λ fault. fault ≡ StepFault.Memory) }
 {
     let exchange = open_exchange(session, draft.acks(), pending);
     resend_if(alloc, predefined, peer, session, pending, exchange, draft)
@@ -241,10 +231,9 @@ pub fn then_resend(
     session: &Session,
     pending: &[Put],
     draft: &mut Draft,
-) -> Result<(), StepFault>
-    ensures ok { OnOk result (draft.new ≡ then_resent predefined.now peer.now session.now
+) -> Result<(), NoMemory>
+    ensures { OnOk result (draft.new ≡ then_resent predefined.now peer.now session.now
         pending.now draft.old) }
-    ensures err { IfErr result (λ fault. fault ≡ StepFault.Memory) }
 {
     if draft.changes().is_empty() {
         return resend_or_deliver(alloc, predefined, peer, session, pending, draft);

@@ -1,6 +1,6 @@
 //! Publications and acknowledgements as rows.
 
-ghost use Rattle.std.specs.Prelude.{◌≡◌, Some, IfOk, IfErr};
+ghost use Rattle.std.specs.Prelude.{◌≡◌, Some, IfOk};
 ghost use Rattle.sn_flow.specs.Plans.{seen_of};
 ghost use Rattle.sn_flow.specs.Bindings.{client_at as client_of};
 ghost use Rattle.sn_deliver.specs.Serving.{served as served_row, publish_of, publish_in as published_row, pubrel_of, pubrel_in as pubrel_row, acknowledged as acknowledged_draft, ack_of, ack_in as ack_row};
@@ -9,21 +9,19 @@ use super::acknowledging::acknowledge;
 use super::follow::peer_at;
 use super::peer::Peer;
 use super::publishing::{publish, publish_unconnected, pubrel};
-use octets::Octets;
+use octets::{NoMemory, Octets};
 use rep_model::Replica;
 use rep_ops::ClientId;
 use sn_flow::{
-    Addr, Config, Dialogs, Draft, Follow, Row, StepFault, heard_row, session_or, turn_away, unseen,
-    view_or,
+    Addr, Config, Dialogs, Draft, Follow, Row, heard_row, session_or, turn_away, unseen, view_or,
 };
 use sn_frame::{Flags, Frame, Qos};
 use sn_session::Session;
 use std::alloc::Global;
 
 /// A row of a bound client: it was heard of, and Delivery follows.
-fn served(alloc: Global, client: &ClientId, now: u64, draft: Draft) -> Result<Row, StepFault>
-    ensures ok { IfOk result (λ row. row ≡ served_row client.now now draft) }
-    ensures err { IfErr result (λ fault. fault ≡ StepFault.Memory) }
+fn served(alloc: Global, client: &ClientId, now: u64, draft: Draft) -> Result<Row, NoMemory>
+    ensures { IfOk result (λ row. row ≡ served_row client.now now draft) }
 {
     let row = Row::new(alloc, Follow::Delivery, client, draft)?;
     heard_row(alloc, Some(client), now, row)
@@ -41,11 +39,10 @@ fn publish_bound<R: Replica>(
     msg_id: u16,
     body: &Octets,
     now: u64,
-) -> Result<Row, StepFault>
-    ensures ok { IfOk result (λ row. row ≡ publish_of config.now.predefined
+) -> Result<Row, NoMemory>
+    ensures { IfOk result (λ row. row ≡ publish_of config.now.predefined
         (seen_of (R.kept replica.now)) from (Some client.now) flags.bits topic msg_id
         body.now now) }
-    ensures err { IfErr result (λ fault. fault ≡ StepFault.Memory) }
 {
     let empty = Session::empty(alloc);
     let session = session_or(replica, client, &empty);
@@ -75,11 +72,10 @@ fn publish_connected<R: Replica>(
     msg_id: u16,
     body: &Octets,
     now: u64,
-) -> Result<Row, StepFault>
-    ensures ok { IfOk result (λ row. row ≡ publish_of config.now.predefined
+) -> Result<Row, NoMemory>
+    ensures { IfOk result (λ row. row ≡ publish_of config.now.predefined
         (seen_of (R.kept replica.now)) from (client_of from dialogs.now.local.bindings) flags.bits
         topic msg_id body.now now) }
-    ensures err { IfErr result (λ fault. fault ≡ StepFault.Memory) }
 {
     match dialogs.client_at(from) {
         None => turn_away(alloc, from),
@@ -102,11 +98,10 @@ pub fn publish_in<R: Replica>(
     msg_id: u16,
     body: &Octets,
     now: u64,
-) -> Result<Row, StepFault>
-    ensures ok { IfOk result (λ row. row ≡ published_row config.now.predefined
+) -> Result<Row, NoMemory>
+    ensures { IfOk result (λ row. row ≡ published_row config.now.predefined
         (seen_of (R.kept replica.now)) dialogs.now.local from flags.bits topic msg_id
         body.now now) }
-    ensures err { IfErr result (λ fault. fault ≡ StepFault.Memory) }
 {
     match flags.qos() {
         Qos::MinusOne => Ok(Row::of_none(publish_unconnected(
@@ -131,10 +126,9 @@ fn pubrel_bound<R: Replica>(
     client: &ClientId,
     msg_id: u16,
     now: u64,
-) -> Result<Row, StepFault>
-    ensures ok { IfOk result (λ row. row ≡ pubrel_of (seen_of (R.kept replica.now)) from
+) -> Result<Row, NoMemory>
+    ensures { IfOk result (λ row. row ≡ pubrel_of (seen_of (R.kept replica.now)) from
         (Some client.now) msg_id now) }
-    ensures err { IfErr result (λ fault. fault ≡ StepFault.Memory) }
 {
     let empty = Session::empty(alloc);
     let session = session_or(replica, client, &empty);
@@ -150,10 +144,9 @@ pub fn pubrel_in<R: Replica>(
     from: Addr,
     msg_id: u16,
     now: u64,
-) -> Result<Row, StepFault>
-    ensures ok { IfOk result (λ row. row ≡ pubrel_row (seen_of (R.kept replica.now))
+) -> Result<Row, NoMemory>
+    ensures { IfOk result (λ row. row ≡ pubrel_row (seen_of (R.kept replica.now))
         dialogs.now.local from msg_id now) }
-    ensures err { IfErr result (λ fault. fault ≡ StepFault.Memory) }
 {
     match dialogs.client_at(from) {
         None => turn_away(alloc, from),
@@ -168,10 +161,9 @@ fn acknowledged<R: Replica>(
     replica: &R,
     peer: &Peer,
     frame: &Frame,
-) -> Result<Draft, StepFault>
-    ensures ok { IfOk result (λ draft. draft ≡ acknowledged_draft config.now.predefined
+) -> Result<Draft, NoMemory>
+    ensures { IfOk result (λ draft. draft ≡ acknowledged_draft config.now.predefined
         (seen_of (R.kept replica.now)) peer.now frame.now) }
-    ensures err { IfErr result (λ fault. fault ≡ StepFault.Memory) }
 {
     let empty = Session::empty(alloc);
     let nobody = unseen(alloc);
@@ -196,10 +188,9 @@ fn ack_bound<R: Replica>(
     client: &ClientId,
     frame: &Frame,
     now: u64,
-) -> Result<Row, StepFault>
-    ensures ok { IfOk result (λ row. row ≡ ack_of config.now.predefined
+) -> Result<Row, NoMemory>
+    ensures { IfOk result (λ row. row ≡ ack_of config.now.predefined
         (seen_of (R.kept replica.now)) from (Some client.now) frame.now now) }
-    ensures err { IfErr result (λ fault. fault ≡ StepFault.Memory) }
 {
     let peer = peer_at(alloc, from, client, now)?;
     let draft = acknowledged(alloc, config, replica, &peer, frame)?;
@@ -215,10 +206,9 @@ pub fn ack_in<R: Replica>(
     from: Addr,
     frame: &Frame,
     now: u64,
-) -> Result<Row, StepFault>
-    ensures ok { IfOk result (λ row. row ≡ ack_row config.now.predefined
+) -> Result<Row, NoMemory>
+    ensures { IfOk result (λ row. row ≡ ack_row config.now.predefined
         (seen_of (R.kept replica.now)) dialogs.now.local from frame.now now) }
-    ensures err { IfErr result (λ fault. fault ≡ StepFault.Memory) }
 {
     match dialogs.client_at(from) {
         None => turn_away(alloc, from),

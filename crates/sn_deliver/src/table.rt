@@ -1,6 +1,6 @@
 //! The step table: what a gateway does when a frame comes in.
 
-ghost use Rattle.std.specs.Prelude.{◌≡◌, IfOk, IfErr};
+ghost use Rattle.std.specs.Prelude.{◌≡◌, IfOk};
 ghost use Rattle.sn_frame.specs.Bodies.{IsMessage};
 ghost use Rattle.rep_ops.specs.ClientIds.{IsClientId};
 ghost use Rattle.sn_flow.specs.Plans.{Gives, seen_of};
@@ -10,6 +10,7 @@ ghost use Rattle.sn_deliver.specs.Steps.{row_for as defined_row, step as defined
 use super::follow::deliver_next;
 use super::serve::{ack_in, publish_in, pubrel_in};
 use super::waking::{client_id, wake};
+use octets::NoMemory;
 use rep_model::Replica;
 use sn_flow::{
     Addr, Config, Dialogs, Plan, Row, StepFault, connect, disconnect, other, register, subscribe,
@@ -29,11 +30,10 @@ fn connected<R: Replica>(
     duration: u16,
     client: &[u8],
     now: u64,
-) -> Result<Row, StepFault>
+) -> Result<Row, NoMemory>
     requires { IsClientId client.now }
-    ensures ok { IfOk result (λ row. row ≡ connect_row (seen_of (R.kept replica.now))
+    ensures { IfOk result (λ row. row ≡ connect_row (seen_of (R.kept replica.now))
         dialogs.now.local from flags.bits protocol duration client.now now) }
-    ensures err { IfErr result (λ fault. fault ≡ StepFault.Memory) }
 {
     let client = client_id(alloc, client)?;
     connect(
@@ -50,11 +50,10 @@ fn row_for<R: Replica>(
     from: Addr,
     frame: &Frame,
     now: u64,
-) -> Result<Row, StepFault>
+) -> Result<Row, NoMemory>
     requires { IsMessage frame.now }
-    ensures ok { IfOk result (λ row. row ≡ defined_row config.now.gateway config.now.predefined
+    ensures { IfOk result (λ row. row ≡ defined_row config.now.gateway config.now.predefined
         (seen_of (R.kept replica.now)) dialogs.now.local from frame.now now) }
-    ensures err { IfErr result (λ fault. fault ≡ StepFault.Memory) }
 {
     match frame {
         Frame::Connect {

@@ -1,6 +1,6 @@
 //! Tick: what a gateway does as time goes by (MQTT-SN 1.2 sections 6.1, 6.3, 6.11 and 6.13).
 
-ghost use Rattle.std.specs.Prelude.{◌≡◌, if◌then◌else◌, Some, fold, IfOk, IfErr, OnOk};
+ghost use Rattle.std.specs.Prelude.{◌≡◌, if◌then◌else◌, Some, fold, IfOk, OnOk};
 ghost use Rattle.rep_model.specs.Views.{clients as clients_of};
 ghost use Rattle.sn_flow.specs.declared.local.LocalChange.TheVariants.{Heard};
 ghost use Rattle.sn_flow.specs.Drafts.{moved};
@@ -11,6 +11,7 @@ ghost use Rattle.sn_deliver.specs.Ticking.{dialog_ended, dialogs_ended, needs_ti
 use super::due::{Due, elapsed, first_due, is_stamp_of};
 use super::follow::deliver_next;
 use super::recipients::puts_of_will;
+use octets::NoMemory;
 use rep_model::{ClientView, Replica};
 use rep_ops::ClientId;
 use sn_flow::{
@@ -25,9 +26,8 @@ use std::alloc::Global;
 pub(crate) const DIALOG_SECONDS: u64 = 60;
 
 /// And then no dialog at this address, where its CONNECT is a minute ago.
-fn end_dialog(draft: &mut Draft, now: u64, dialog: &WillDialog) -> Result<(), StepFault>
-    ensures ok { OnOk result (draft.new ≡ dialog_ended now draft.old dialog.now) }
-    ensures err { IfErr result (λ fault. fault ≡ StepFault.Memory) }
+fn end_dialog(draft: &mut Draft, now: u64, dialog: &WillDialog) -> Result<(), NoMemory>
+    ensures { OnOk result (draft.new ≡ dialog_ended now draft.old dialog.now) }
 {
     if elapsed(now, dialog.begun) >= DIALOG_SECONDS {
         draft.note(LocalChange::EndDialog {
@@ -38,9 +38,8 @@ fn end_dialog(draft: &mut Draft, now: u64, dialog: &WillDialog) -> Result<(), St
 }
 
 /// And then none of these dialogs that is a minute old.
-fn end_dialogs(draft: &mut Draft, now: u64, dialogs: &[WillDialog]) -> Result<(), StepFault>
-    ensures ok { OnOk result (draft.new ≡ dialogs_ended now dialogs.now draft.old) }
-    ensures err { IfErr result (λ fault. fault ≡ StepFault.Memory) }
+fn end_dialogs(draft: &mut Draft, now: u64, dialogs: &[WillDialog]) -> Result<(), NoMemory>
+    ensures { OnOk result (draft.new ≡ dialogs_ended now dialogs.now draft.old) }
 {
     for dialog in dialogs {
         end_dialog(draft, now, dialog)?;
@@ -81,15 +80,14 @@ fn begin_timer(
     now: u64,
     client: &ClientId,
     view: &ClientView,
-) -> Result<(), StepFault>
-    ensures ok { OnOk result (draft.new
+) -> Result<(), NoMemory>
+    ensures { OnOk result (draft.new
         ≡ (if is_in_need gateway dialogs.now.local.timers client.now view.now
         then moved (Heard client.now now) draft.old else draft.old)) }
-    ensures err { IfErr result (λ fault. fault ≡ StepFault.Memory) }
 {
     if needs_timer(gateway, dialogs, client, view) {
         draft.note(LocalChange::Heard {
-            client: client.copy(alloc)?,
+            client: client.copied(alloc)?,
             moment: now,
         })?;
     }
@@ -104,11 +102,10 @@ fn begin_timers<R: Replica>(
     replica: &R,
     dialogs: &Dialogs,
     now: u64,
-) -> Result<(), StepFault>
-    ensures ok { OnOk result (draft.new
+) -> Result<(), NoMemory>
+    ensures { OnOk result (draft.new
         ≡ timers_begun gateway (seen_of (R.kept replica.now)) dialogs.now.local.timers now
         (clients_of (R.kept replica.now)) draft.old) }
-    ensures err { IfErr result (λ fault. fault ≡ StepFault.Memory) }
 {
     let mut place = 0;
     while let Some((behind, client, view)) = replica.client_at(place) {
@@ -125,10 +122,9 @@ fn cleaned<R: Replica>(
     replica: &R,
     dialogs: &Dialogs,
     now: u64,
-) -> Result<Draft, StepFault>
-    ensures ok { IfOk result (λ draft. draft ≡ cleaned_draft gateway (seen_of (R.kept replica.now))
+) -> Result<Draft, NoMemory>
+    ensures { IfOk result (λ draft. draft ≡ cleaned_draft gateway (seen_of (R.kept replica.now))
         dialogs.now.local now) }
-    ensures err { IfErr result (λ fault. fault ≡ StepFault.Memory) }
 {
     let mut draft = Draft::new(alloc);
     end_dialogs(&mut draft, now, dialogs.dialogs())?;
@@ -160,9 +156,8 @@ fn advertise_to(
     gateway: u8,
     advertise: u16,
     to: Addr,
-) -> Result<(), StepFault>
-    ensures ok { OnOk result (draft.new ≡ advertised_to gateway advertise draft.old to) }
-    ensures err { IfErr result (λ fault. fault ≡ StepFault.Memory) }
+) -> Result<(), NoMemory>
+    ensures { OnOk result (draft.new ≡ advertised_to gateway advertise draft.old to) }
 {
     let frame = Frame::Advertise {
         gateway,
@@ -170,7 +165,7 @@ fn advertise_to(
     };
     match draft.send(alloc, to, &frame) {
         Ok(()) => Ok(()),
-        Err(_) => Err(StepFault::Memory),
+        Err(_) => Err(NoMemory),
     }
 }
 
@@ -181,10 +176,9 @@ fn advertise_all(
     gateway: u8,
     advertise: u16,
     field: &[Addr],
-) -> Result<(), StepFault>
-    ensures ok { OnOk result (draft.new ≡ fold (advertised_to gateway advertise) draft.old
+) -> Result<(), NoMemory>
+    ensures { OnOk result (draft.new ≡ fold (advertised_to gateway advertise) draft.old
         field.now) }
-    ensures err { IfErr result (λ fault. fault ≡ StepFault.Memory) }
 {
     for address in field {
         advertise_to(alloc, draft, gateway, advertise, *address)?;
@@ -200,10 +194,9 @@ fn advertised(
     field: &[Addr],
     now: u64,
     mut draft: Draft,
-) -> Result<Draft, StepFault>
-    ensures ok { IfOk result (λ made. made ≡ advertised_draft gateway advertise field.now
+) -> Result<Draft, NoMemory>
+    ensures { IfOk result (λ made. made ≡ advertised_draft gateway advertise field.now
         now draft) }
-    ensures err { IfErr result (λ fault. fault ≡ StepFault.Memory) }
 {
     advertise_all(alloc, &mut draft, gateway, advertise, field)?;
     draft.note(LocalChange::Advertised { moment: now })?;
@@ -216,10 +209,9 @@ fn will_puts<R: Replica>(
     replica: &R,
     client: &ClientId,
     will: &Option<Will>,
-) -> Result<Vec<NewPut>, StepFault>
-    ensures ok { IfOk result (λ puts. puts.items ≡ puts_of_the_will (seen_of (R.kept replica.now))
+) -> Result<Vec<NewPut>, NoMemory>
+    ensures { IfOk result (λ puts. puts.items ≡ puts_of_the_will (seen_of (R.kept replica.now))
         client.now will.now) }
-    ensures err { IfErr result (λ fault. fault ≡ StepFault.Memory) }
 {
     match will {
         None => Ok(Vec::new(alloc)),
@@ -234,10 +226,9 @@ fn lose<R: Replica>(
     client: &ClientId,
     session: &Session,
     draft: &mut Draft,
-) -> Result<(), StepFault>
-    ensures ok { OnOk result (draft.new ≡ lost_draft (seen_of (R.kept replica.now)) client.now
+) -> Result<(), NoMemory>
+    ensures { OnOk result (draft.new ≡ lost_draft (seen_of (R.kept replica.now)) client.now
         session.now draft.old) }
-    ensures err { IfErr result (λ fault. fault ≡ StepFault.Memory) }
 {
     let puts = will_puts(alloc, replica, client, &session.will)?;
     draft.put_all(puts)?;
@@ -246,7 +237,7 @@ fn lose<R: Replica>(
         duration: session.duration,
     })?;
     draft.note(LocalChange::Unbind {
-        client: client.copy(alloc)?,
+        client: client.copied(alloc)?,
     })?;
     Ok(())
 }
@@ -270,12 +261,11 @@ fn plan_loss<R: Replica>(
 }
 
 /// One try more: Resend follows.
-fn retried(alloc: Global, now: u64, mut draft: Draft, client: &ClientId) -> Result<Row, StepFault>
-    ensures ok { IfOk result (λ row. row ≡ retried_row now draft client.now) }
-    ensures err { IfErr result (λ fault. fault ≡ StepFault.Memory) }
+fn retried(alloc: Global, now: u64, mut draft: Draft, client: &ClientId) -> Result<Row, NoMemory>
+    ensures { IfOk result (λ row. row ≡ retried_row now draft client.now) }
 {
     draft.note(LocalChange::Retried {
-        client: client.copy(alloc)?,
+        client: client.copied(alloc)?,
         moment: now,
     })?;
     Row::new(alloc, Follow::Resend, client, draft)

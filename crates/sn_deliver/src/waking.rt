@@ -1,6 +1,6 @@
 //! Waking: a client comes back from sleep, here or at another gateway (MQTT-SN 1.2 sections 6.11 and 6.14).
 
-ghost use Rattle.std.specs.Prelude.{◌≡◌, ◌≤◌, length, IfOk, IfErr, OnOk};
+ghost use Rattle.std.specs.Prelude.{◌≡◌, ◌≤◌, length, IfOk, OnOk};
 ghost use Rattle.std.specs.Option.{option_copied};
 ghost use Rattle.rep_model.specs.Views.{view};
 ghost use Rattle.sn_flow.specs.Plans.{seen_of};
@@ -11,11 +11,11 @@ ghost use Rattle.sn_deliver.specs.Waking.{claimed as claimed_draft, has_nothing 
 
 use super::due::is_stamp_of;
 use super::exchange::open_exchange;
+use octets::NoMemory;
 use rep_model::{ClientView, Replica};
 use rep_ops::{ClientId, Put};
 use sn_flow::{
-    Addr, Config, Dialogs, Draft, Follow, Row, StepFault, bind_to, heard_row, turn_away, unseen,
-    view_or,
+    Addr, Config, Dialogs, Draft, Follow, Row, bind_to, heard_row, turn_away, unseen, view_or,
 };
 use sn_frame::Frame;
 use sn_session::{Presence, Session, SessionOp};
@@ -27,13 +27,12 @@ fn claimed(
     gateway: u8,
     view: &ClientView,
     session: &Session,
-) -> Result<Draft, StepFault>
-    ensures ok { IfOk result (λ draft. draft ≡ claimed_draft gateway view.now session.now) }
-    ensures err { IfErr result (λ fault. fault ≡ StepFault.Memory) }
+) -> Result<Draft, NoMemory>
+    ensures { IfOk result (λ draft. draft ≡ claimed_draft gateway view.now session.now) }
 {
     let mut draft = Draft::new(alloc);
     if !is_stamp_of(gateway, view.stamp) {
-        draft.change(SessionOp::Take(session.copy(alloc)?))?;
+        draft.change(SessionOp::Take(session.copied(alloc)?))?;
     }
     Ok(draft)
 }
@@ -46,13 +45,12 @@ fn has_nothing(session: &Session, pending: &[Put]) -> bool
 }
 
 /// And then PINGRESP.
-fn answer(alloc: Global, to: Addr, draft: &mut Draft) -> Result<(), StepFault>
-    ensures ok { OnOk result (draft.new ≡ answered_draft to draft.old) }
-    ensures err { IfErr result (λ fault. fault ≡ StepFault.Memory) }
+fn answer(alloc: Global, to: Addr, draft: &mut Draft) -> Result<(), NoMemory>
+    ensures { OnOk result (draft.new ≡ answered_draft to draft.old) }
 {
     match draft.send(alloc, to, &Frame::PingResp) {
         Ok(()) => Ok(()),
-        Err(_) => Err(StepFault::Memory),
+        Err(_) => Err(NoMemory),
     }
 }
 
@@ -64,9 +62,8 @@ fn from_sleep(
     session: &Session,
     idle: bool,
     mut draft: Draft,
-) -> Result<Row, StepFault>
-    ensures ok { IfOk result (λ row. row ≡ row_from_sleep to client.now session.now idle draft) }
-    ensures err { IfErr result (λ fault. fault ≡ StepFault.Memory) }
+) -> Result<Row, NoMemory>
+    ensures { IfOk result (λ row. row ≡ row_from_sleep to client.now session.now idle draft) }
 {
     if idle {
         answer(alloc, to, &mut draft)?;
@@ -87,9 +84,8 @@ fn from_wake(
     session: &Session,
     idle: bool,
     mut draft: Draft,
-) -> Result<Row, StepFault>
-    ensures ok { IfOk result (λ row. row ≡ row_from_wake to client.now session.now idle draft) }
-    ensures err { IfErr result (λ fault. fault ≡ StepFault.Memory) }
+) -> Result<Row, NoMemory>
+    ensures { IfOk result (λ row. row ≡ row_from_wake to client.now session.now idle draft) }
 {
     if !idle {
         return Row::new(alloc, Follow::Resend, client, draft);
@@ -108,9 +104,8 @@ fn from_activity(
     to: Addr,
     client: &ClientId,
     mut draft: Draft,
-) -> Result<Row, StepFault>
-    ensures ok { IfOk result (λ row. row ≡ row_of Delivery client.now (answered_draft to draft)) }
-    ensures err { IfErr result (λ fault. fault ≡ StepFault.Memory) }
+) -> Result<Row, NoMemory>
+    ensures { IfOk result (λ row. row ≡ row_of Delivery client.now (answered_draft to draft)) }
 {
     answer(alloc, to, &mut draft)?;
     Row::new(alloc, Follow::Delivery, client, draft)
@@ -124,10 +119,9 @@ fn woken_by(
     session: &Session,
     idle: bool,
     draft: Draft,
-) -> Result<Row, StepFault>
-    ensures ok { IfOk result (λ row. row ≡ row_by_state to client.now session.now idle draft
+) -> Result<Row, NoMemory>
+    ensures { IfOk result (λ row. row ≡ row_by_state to client.now session.now idle draft
         session.now.presence) }
-    ensures err { IfErr result (λ fault. fault ≡ StepFault.Memory) }
 {
     match session.presence {
         Presence::Active => from_activity(alloc, to, client, draft),
@@ -146,10 +140,9 @@ fn woken_view(
     client: &ClientId,
     view: &ClientView,
     now: u64,
-) -> Result<Row, StepFault>
-    ensures ok { IfOk result (λ row. row ≡ row_of_session gateway to client.now view.now now
+) -> Result<Row, NoMemory>
+    ensures { IfOk result (λ row. row ≡ row_of_session gateway to client.now view.now now
         view.now.session) }
-    ensures err { IfErr result (λ fault. fault ≡ StepFault.Memory) }
 {
     match &view.session {
         None => turn_away(alloc, to),
@@ -170,10 +163,9 @@ fn woken<R: Replica>(
     to: Addr,
     client: &ClientId,
     now: u64,
-) -> Result<Row, StepFault>
-    ensures ok { IfOk result (λ row. row ≡ woken_row gateway (seen_of (R.kept replica.now)) to
+) -> Result<Row, NoMemory>
+    ensures { IfOk result (λ row. row ≡ woken_row gateway (seen_of (R.kept replica.now)) to
         client.now now) }
-    ensures err { IfErr result (λ fault. fault ≡ StepFault.Memory) }
 {
     let nobody = unseen(alloc);
     let view = view_or(replica, client, &nobody);
@@ -188,10 +180,9 @@ fn wake_bound<R: Replica>(
     from: Addr,
     bound: Option<&ClientId>,
     now: u64,
-) -> Result<Row, StepFault>
-    ensures ok { IfOk result (λ row. row ≡ wake_row_of gateway (seen_of (R.kept replica.now)) from
+) -> Result<Row, NoMemory>
+    ensures { IfOk result (λ row. row ≡ wake_row_of gateway (seen_of (R.kept replica.now)) from
         (option_copied bound.entry) now) }
-    ensures err { IfErr result (λ fault. fault ≡ StepFault.Memory) }
 {
     match bound {
         None => turn_away(alloc, from),
@@ -211,11 +202,10 @@ fn wake_client<R: Replica>(
     bound: Option<&ClientId>,
     client: &[u8],
     now: u64,
-) -> Result<Row, StepFault>
+) -> Result<Row, NoMemory>
     requires { IsClientId client.now }
-    ensures ok { IfOk result (λ row. row ≡ heard_row_of (option_copied bound.entry) now
+    ensures { IfOk result (λ row. row ≡ heard_row_of (option_copied bound.entry) now
         (woken_row gateway (seen_of (R.kept replica.now)) from client.now now)) }
-    ensures err { IfErr result (λ fault. fault ≡ StepFault.Memory) }
 {
     let client = client_id(alloc, client)?;
     let row = woken(alloc, gateway, replica, from, &client, now)?;
@@ -223,14 +213,13 @@ fn wake_client<R: Replica>(
 }
 
 /// The client of this name.
-pub fn client_id(alloc: Global, octets: &[u8]) -> Result<ClientId, StepFault>
+pub fn client_id(alloc: Global, octets: &[u8]) -> Result<ClientId, NoMemory>
     requires { IsClientId octets.now }
-    ensures ok { IfOk result (λ id. id ≡ octets.now) }
-    ensures err { IfErr result (λ fault. fault ≡ StepFault.Memory) }
+    ensures { IfOk result (λ id. id ≡ octets.now) }
 {
     match ClientId::new(alloc, octets) {
         Ok(id) => Ok(id),
-        Err(_) => Err(StepFault::Memory),
+        Err(_) => Err(NoMemory),
     }
 }
 
@@ -244,11 +233,10 @@ pub fn wake<R: Replica>(
     from: Addr,
     client: &[u8],
     now: u64,
-) -> Result<Row, StepFault>
+) -> Result<Row, NoMemory>
     requires { length client.now ≤ 23 }
-    ensures ok { IfOk result (λ row. row ≡ wake_row config.now.gateway
+    ensures { IfOk result (λ row. row ≡ wake_row config.now.gateway
         (seen_of (R.kept replica.now)) dialogs.now.local from client.now now) }
-    ensures err { IfErr result (λ fault. fault ≡ StepFault.Memory) }
 {
     let bound = dialogs.client_at(from);
     if client.is_empty() {

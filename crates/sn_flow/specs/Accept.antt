@@ -9,6 +9,7 @@ use Rattle.sn_session.specs.Topics.{unknown}
 use Rattle.rep_ops.specs.declared.op.Put.{Put}
 use Rattle.rep_model.specs.declared.view.ClientView.{ClientView}
 use Rattle.sn_frame.specs.declared.frame.Frame.TheVariants as frames
+use Rattle.sn_flow.specs.declared.accept.TheConstants.{MAX_CLIENTS}
 use Rattle.sn_flow.specs.declared.accept.GivenWill.{GivenWill}
 use Rattle.sn_flow.specs.declared.accept.GivenWill.TheVariants.{AsItIs, Deleted, Replaced}
 use Rattle.sn_flow.specs.declared.local.Request.{Request}
@@ -58,4 +59,4 @@ accept request given v now =
 
 -- whether there is no room for the client: it is new, and 1,024 are there
 abbrev pub has_no_room : Seen → List ℕ → Bool
-has_no_room seen c = not (seen.is_there c) && nat_le 1024 (length seen.all)
+has_no_room seen c = not (seen.is_there c) && nat_le MAX_CLIENTS (length seen.all)

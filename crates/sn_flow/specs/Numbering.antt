@@ -12,6 +12,7 @@ use Rattle.rep_model.specs.declared.view.ClientView.{ClientView}
 use Rattle.rep_model.specs.Fresh.{one_more}
 use Rattle.sn_flow.specs.declared.draft.NewPut.{NewPut}
 use Rattle.sn_flow.specs.declared.plan.Plan.{Plan}
+use Rattle.sn_flow.specs.declared.numbering.TheConstants.{MAX_COUNTER}
 use Rattle.sn_flow.specs.Drafts.{Drafted}
 
 -- where the client's next session operation is written (epoch and counter), the epoch of its next Take, the session so far, and
@@ -52,7 +53,7 @@ taken c g session w = option_map (taken_at c g session w) w.next
 -- a change that is no Take; where 256 operations stand under the stamp, a Take of the session so far goes first
 abbrev pub counted : List ℕ → ℕ → SessionOp → Written → Option Written
 counted c g change w =
-    if nat_lt w.counter 256 then Some (another c g change w) else option_map (another c g change) (taken c g w.session w)
+    if nat_lt w.counter MAX_COUNTER then Some (another c g change w) else option_map (another c g change) (taken c g w.session w)
 
 -- one session operation more
 unfoldable pub write : List ℕ → ℕ → SessionOp → Written → Option Written
@@ -66,8 +67,8 @@ written c g (change ∷ rest) w = option_and_then (written c g rest) (write c g 
 
 -- the next counter of the visible stamp where that is the gateway's own; else none, so that a Take has to go first
 abbrev pub own_counter : ℕ → ℕ → Option Stamp → ℕ
-own_counter g prefix None = 256
-own_counter g prefix (Some stamp) = if stamp.gateway == g then prefix else 256
+own_counter g prefix None = MAX_COUNTER
+own_counter g prefix (Some stamp) = if stamp.gateway == g then prefix else MAX_COUNTER
 
 abbrev pub epoch_of : Option Stamp → ℕ
 epoch_of None = 0

@@ -4,6 +4,7 @@ use Rattle.sn_flow.specs.declared.config.Addr.{Addr}
 use Rattle.sn_flow.specs.declared.local.WillDialog.{WillDialog}
 use Rattle.sn_flow.specs.declared.local.LocalChange.{LocalChange}
 use Rattle.sn_flow.specs.declared.local.LocalChange.TheVariants.{Bind, Unbind, Time, Heard, Sent, Resent, Retried, Ask, EndDialog, Advertised}
+use Rattle.sn_flow.specs.declared.will_dialogs.TheConstants.{MAX_DIALOGS}
 use Rattle.sn_flow.specs.Bindings.{same_address}
 
 abbrev pub is_elsewhere : Addr → WillDialog → Bool
@@ -40,4 +41,4 @@ dialog_at a (dialog ∷ rest) = if same_address dialog.request.address a then So
 
 -- whether 1,024 other addresses have a dialog, so that there is no room for one more
 abbrev pub is_crowded : Addr → List WillDialog → Bool
-is_crowded a dialogs = nat_le 1024 (length (dialogs_elsewhere a dialogs))
+is_crowded a dialogs = nat_le MAX_DIALOGS (length (dialogs_elsewhere a dialogs))

@@ -6,7 +6,7 @@ use Rattle.sn_session.specs.declared.change.SessionOp.TheVariants.{WillTopic as 
 use Rattle.sn_frame.specs.declared.frame.Will.{Will}
 use Rattle.sn_frame.specs.declared.frame.Frame.TheVariants as frames
 use Rattle.sn_frame.specs.FlagBits.{qos_of}
-use Rattle.rep_ops.specs.declared.size.TheConstants.{MAX_BODY}
+use Rattle.sn_session.specs.Messages.{is_too_long}
 use Rattle.sn_flow.specs.declared.config.Addr.{Addr}
 use Rattle.sn_flow.specs.Asking.{qos_asked, name_asked}
 use Rattle.sn_flow.specs.Connection.{has_bit}
@@ -38,10 +38,14 @@ will_topic_update a (Some will) = topic_set a (topic_asked will)
 
 -- whether the will cannot have this message: there is no will, or the message has more than 4,096 octets
 abbrev pub has_no_place : Session → List ℕ → Bool
-has_no_place s message = nat_lt MAX_BODY (length message) || is_none s.will
+has_no_place s message = is_too_long message || is_none s.will
+
+-- the will has this message from now on
+abbrev pub message_accepted : Addr → List ℕ → Drafted
+message_accepted a message = sent a (frames.WillMsgResp 0) (changed (WillMsg message) nothing)
 
 -- WILLMSGUPD; code 3, not supported, where the will cannot have the message
 abbrev pub will_msg_update : Addr → Session → List ℕ → Drafted
 will_msg_update a s message =
     if has_no_place s message then sent a (frames.WillMsgResp 3) nothing
-    else sent a (frames.WillMsgResp 0) (changed (WillMsg message) nothing)
+    else message_accepted a message

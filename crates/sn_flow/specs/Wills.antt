@@ -5,7 +5,7 @@ use Rattle.sn_session.specs.declared.will.Will.{Will as SessionWill}
 use Rattle.sn_session.specs.declared.will.WillTopic.{WillTopic}
 use Rattle.sn_frame.specs.declared.frame.Will.{Will}
 use Rattle.sn_frame.specs.declared.frame.Frame.TheVariants as frames
-use Rattle.rep_ops.specs.declared.size.TheConstants.{MAX_BODY}
+use Rattle.sn_session.specs.Messages.{is_too_long}
 use Rattle.sn_flow.specs.declared.config.Addr.{Addr}
 use Rattle.sn_flow.specs.declared.accept.GivenWill.{GivenWill}
 use Rattle.sn_flow.specs.declared.accept.GivenWill.TheVariants.{Deleted, Replaced}
@@ -80,7 +80,7 @@ will_of topic message = record { topic = topic.topic; qos = topic.qos; retain = 
 -- the message that a dialog waits for; code 3, not supported, where it has more than 4,096 octets
 abbrev pub message_row : Seen → Request → WillTopic → List ℕ → ℕ → Row
 message_row seen request topic message now =
-    if nat_lt MAX_BODY (length message) then dismissed request not_supported
+    if is_too_long message then dismissed request not_supported
     else concluded seen request (Replaced (will_of topic message)) now
 
 -- WILLMSG at an address with a dialog

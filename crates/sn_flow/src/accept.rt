@@ -1,6 +1,6 @@
 //! How a client is accepted (MQTT-SN 1.2 sections 6.2 and 6.3).
 
-ghost use Rattle.std.specs.Prelude.{◌≡◌, IfOk, IfErr, OnOk};
+ghost use Rattle.std.specs.Prelude.{◌≡◌, IfOk, OnOk};
 ghost use Rattle.sn_flow.specs.Plans.{seen_of};
 ghost use Rattle.sn_flow.specs.Drafts.{acked_all};
 ghost use Rattle.sn_flow.specs.Accept.{will_after as will_from_then, unknowing as unknowing_session, going_on as session_going_on, accepted as accepted_session, cleared, accept as accept_draft, has_no_room as has_none};
@@ -8,8 +8,8 @@ ghost use Rattle.sn_flow.specs.Accept.{will_after as will_from_then, unknowing a
 use super::bound::bind_to;
 use super::codes::ACCEPTED;
 use super::draft::Draft;
-use super::fault::StepFault;
 use super::local::{LocalChange, Request};
+use octets::NoMemory;
 use rep_model::{ClientView, Replica};
 use rep_ops::{ClientId, Put};
 use sn_frame::Frame;
@@ -17,7 +17,7 @@ use sn_session::{Presence, Session, SessionOp, Will};
 use std::alloc::Global;
 
 /// How many clients a gateway admits.
-const MAX_CLIENTS: usize = 1024;
+pub const MAX_CLIENTS: usize = 1024;
 
 /// What becomes of the will of a session.
 #[derive(Debug, Drop)]
@@ -42,19 +42,17 @@ fn will_after(given: GivenWill, will: Option<Will>) -> Option<Will>
 }
 
 /// The session, in which the client knows none of the topic ids any more.
-fn unknowing(alloc: Global, session: &Session) -> Result<Session, StepFault>
-    ensures ok { IfOk result (λ made. made ≡ unknowing_session session.now) }
-    ensures err { IfErr result (λ fault. fault ≡ StepFault.Memory) }
+fn unknowing(alloc: Global, session: &Session) -> Result<Session, NoMemory>
+    ensures { IfOk result (λ made. made ≡ unknowing_session session.now) }
 {
-    let mut made = session.copy(alloc)?;
+    let mut made = session.copied(alloc)?;
     made.topics.forget();
     Ok(made)
 }
 
 /// The session that goes on; a clean one begins anew.
-fn going_on(alloc: Global, clean: bool, session: &Option<Session>) -> Result<Session, StepFault>
-    ensures ok { IfOk result (λ made. made ≡ session_going_on clean session.now) }
-    ensures err { IfErr result (λ fault. fault ≡ StepFault.Memory) }
+fn going_on(alloc: Global, clean: bool, session: &Option<Session>) -> Result<Session, NoMemory>
+    ensures { IfOk result (λ made. made ≡ session_going_on clean session.now) }
 {
     match session {
         Some(session) if !clean => unknowing(alloc, session),
@@ -68,9 +66,8 @@ fn accepted(
     request: &Request,
     given: GivenWill,
     session: &Option<Session>,
-) -> Result<Session, StepFault>
-    ensures ok { IfOk result (λ made. made ≡ accepted_session request.now given session.now) }
-    ensures err { IfErr result (λ fault. fault ≡ StepFault.Memory) }
+) -> Result<Session, NoMemory>
+    ensures { IfOk result (λ made. made ≡ accepted_session request.now given session.now) }
 {
     let Session {
         next_id,
@@ -95,9 +92,8 @@ fn accepted(
 }
 
 /// The names of these messages, if the session is clean.
-fn clear(draft: &mut Draft, clean: bool, waiting: &[Put]) -> Result<(), StepFault>
-    ensures ok { OnOk result (draft.new ≡ acked_all (cleared clean waiting.now) draft.old) }
-    ensures err { IfErr result (λ fault. fault ≡ StepFault.Memory) }
+fn clear(draft: &mut Draft, clean: bool, waiting: &[Put]) -> Result<(), NoMemory>
+    ensures { OnOk result (draft.new ≡ acked_all (cleared clean waiting.now) draft.old) }
 {
     if clean {
         draft.ack_all(waiting)?;
@@ -112,9 +108,8 @@ pub fn accept(
     given: GivenWill,
     view: &ClientView,
     now: u64,
-) -> Result<Draft, StepFault>
-    ensures ok { IfOk result (λ draft. draft ≡ accept_draft request.now given view.now now) }
-    ensures err { IfErr result (λ fault. fault ≡ StepFault.Memory) }
+) -> Result<Draft, NoMemory>
+    ensures { IfOk result (λ draft. draft ≡ accept_draft request.now given view.now now) }
 {
     let session = accepted(alloc, request, given, &view.session)?;
     let mut draft = Draft::new(alloc);
@@ -129,17 +124,14 @@ pub fn accept(
 }
 
 /// Whether there is no room for the client.
-pub fn has_no_room<R: Replica>(
-    alloc: Global,
-    replica: &R,
-    client: &ClientId,
-) -> Result<bool, StepFault>
-    ensures ok { IfOk result (λ none. none ≡ has_none (seen_of (R.kept replica.now)) client.now) }
-    ensures err { IfErr result (λ fault. fault ≡ StepFault.Memory) }
+pub fn has_no_room<R: Replica>(replica: &R, client: &ClientId) -> bool
+    ensures { result ≡ has_none (seen_of (R.kept replica.now)) client.now }
 {
     if replica.view_of(client).is_some() {
-        return Ok(false);
+        return false;
     }
-    let all = replica.clients(alloc)?;
-    Ok(all.len() >= MAX_CLIENTS)
+    match replica.client_at(MAX_CLIENTS - 1) {
+        Some(_) => true,
+        None => false,
+    }
 }

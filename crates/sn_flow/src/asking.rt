@@ -1,11 +1,11 @@
 //! What a frame asks for by its flags and its topic field (MQTT-SN 1.2 sections 5.3.4, 5.3.11 and 5.3.12).
 
-ghost use Rattle.std.specs.Prelude.{◌≡◌, IfOk, IfErr};
+ghost use Rattle.std.specs.Prelude.{◌≡◌, IfOk};
 ghost use Rattle.std.specs.Option.{option_copied};
 ghost use Rattle.sn_flow.specs.Asking.{qos_asked as qos_level, name_asked as name_in, in_full as filter_in_full, in_short as filter_in_short, by_id as filter_by_id, id_in as id_in_field, topics_asked as asked_topics};
 
 use super::codes::{INVALID_ID, NOT_SUPPORTED};
-use super::fault::StepFault;
+use octets::NoMemory;
 use sn_frame::{Qos, TopicIdType};
 use sn_topic::{Filter, Predefined, TopicFault, TopicName};
 use std::alloc::Global;
@@ -32,33 +32,30 @@ pub fn qos_asked(qos: Qos) -> Option<u8>
 }
 
 /// The topic name of these octets, if they are one.
-pub fn name_asked(alloc: Global, octets: &[u8]) -> Result<Option<TopicName>, StepFault>
-    ensures ok { IfOk result (λ name. name ≡ name_in octets.now) }
-    ensures err { IfErr result (λ fault. fault ≡ StepFault.Memory) }
+pub fn name_asked(alloc: Global, octets: &[u8]) -> Result<Option<TopicName>, NoMemory>
+    ensures { IfOk result (λ name. name ≡ name_in octets.now) }
 {
     match TopicName::new(alloc, octets) {
         Ok(name) => Ok(Some(name)),
-        Err(TopicFault::Memory) => Err(StepFault::Memory),
+        Err(TopicFault::Memory) => Err(NoMemory),
         Err(_) => Ok(None),
     }
 }
 
 /// The filter of these octets, if they are one.
-fn in_full(alloc: Global, octets: &[u8]) -> Result<Asked, StepFault>
-    ensures ok { IfOk result (λ asked. asked ≡ filter_in_full octets.now) }
-    ensures err { IfErr result (λ fault. fault ≡ StepFault.Memory) }
+fn in_full(alloc: Global, octets: &[u8]) -> Result<Asked, NoMemory>
+    ensures { IfOk result (λ asked. asked ≡ filter_in_full octets.now) }
 {
     match Filter::new(alloc, octets) {
         Ok(filter) => Ok(Asked::Topics(filter)),
-        Err(TopicFault::Memory) => Err(StepFault::Memory),
+        Err(TopicFault::Memory) => Err(NoMemory),
         Err(_) => Ok(Asked::Refused(NOT_SUPPORTED)),
     }
 }
 
 /// The name of two octets, which has no wildcard.
-fn in_short(alloc: Global, octets: &[u8]) -> Result<Asked, StepFault>
-    ensures ok { IfOk result (λ asked. asked ≡ filter_in_short octets.now) }
-    ensures err { IfErr result (λ fault. fault ≡ StepFault.Memory) }
+fn in_short(alloc: Global, octets: &[u8]) -> Result<Asked, NoMemory>
+    ensures { IfOk result (λ asked. asked ≡ filter_in_short octets.now) }
 {
     match name_asked(alloc, octets)? {
         None => Ok(Asked::Refused(NOT_SUPPORTED)),
@@ -67,9 +64,8 @@ fn in_short(alloc: Global, octets: &[u8]) -> Result<Asked, StepFault>
 }
 
 /// The name that a predefined id stands for.
-fn by_id(alloc: Global, name: Option<&TopicName>) -> Result<Asked, StepFault>
-    ensures ok { IfOk result (λ asked. asked ≡ filter_by_id (option_copied name.entry)) }
-    ensures err { IfErr result (λ fault. fault ≡ StepFault.Memory) }
+fn by_id(alloc: Global, name: Option<&TopicName>) -> Result<Asked, NoMemory>
+    ensures { IfOk result (λ asked. asked ≡ filter_by_id (option_copied name.entry)) }
 {
     match name {
         None => Ok(Asked::Refused(INVALID_ID)),
@@ -93,9 +89,8 @@ pub fn topics_asked(
     predefined: &Predefined,
     kind: TopicIdType,
     field: &[u8],
-) -> Result<Asked, StepFault>
-    ensures ok { IfOk result (λ asked. asked ≡ asked_topics predefined.now kind field.now) }
-    ensures err { IfErr result (λ fault. fault ≡ StepFault.Memory) }
+) -> Result<Asked, NoMemory>
+    ensures { IfOk result (λ asked. asked ≡ asked_topics predefined.now kind field.now) }
 {
     match kind {
         TopicIdType::Normal => in_full(alloc, field),

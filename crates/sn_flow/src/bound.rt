@@ -1,6 +1,6 @@
 //! What rows say of a client that is bound, or becomes so, and what they read of it.
 
-ghost use Rattle.std.specs.Prelude.{◌≡◌, IfOk, IfErr, OnOk};
+ghost use Rattle.std.specs.Prelude.{◌≡◌, IfOk, OnOk};
 ghost use Rattle.std.specs.Option.{option_copied};
 ghost use Rattle.sn_session.specs.Session.{empty_session};
 ghost use Rattle.rep_model.specs.Views.{view, unseen as unseen_view};
@@ -9,8 +9,8 @@ ghost use Rattle.sn_flow.specs.Bound.{bound_to, heard_of, session_of as session_
 
 use super::config::Addr;
 use super::draft::Draft;
-use super::fault::StepFault;
 use super::local::{LocalChange, Timer};
+use octets::NoMemory;
 use rep_model::{ClientView, Puts, Replica};
 use rep_ops::ClientId;
 use sn_session::Session;
@@ -23,16 +23,15 @@ pub fn bind_to(
     address: Addr,
     client: &ClientId,
     now: u64,
-) -> Result<(), StepFault>
-    ensures ok { OnOk result (draft.new ≡ bound_to address client.now now draft.old) }
-    ensures err { IfErr result (λ fault. fault ≡ StepFault.Memory) }
+) -> Result<(), NoMemory>
+    ensures { OnOk result (draft.new ≡ bound_to address client.now now draft.old) }
 {
     draft.note(LocalChange::Bind {
         address,
-        client: client.copy(alloc)?,
+        client: client.copied(alloc)?,
     })?;
     let timer = Timer {
-        client: client.copy(alloc)?,
+        client: client.copied(alloc)?,
         heard: now,
         sent: now,
         tries: 0,
@@ -47,13 +46,12 @@ pub fn hear_of(
     draft: &mut Draft,
     client: Option<&ClientId>,
     now: u64,
-) -> Result<(), StepFault>
-    ensures ok { OnOk result (draft.new ≡ heard_of (option_copied client.entry) now draft.old) }
-    ensures err { IfErr result (λ fault. fault ≡ StepFault.Memory) }
+) -> Result<(), NoMemory>
+    ensures { OnOk result (draft.new ≡ heard_of (option_copied client.entry) now draft.old) }
 {
     if let Some(client) = client {
         draft.note(LocalChange::Heard {
-            client: client.copy(alloc)?,
+            client: client.copied(alloc)?,
             moment: now,
         })?;
     }

@@ -1,7 +1,7 @@
 //! What a gateway is told, and what it sends.
 
 use super::fault::StepFault;
-use octets::{Octets, Sequence};
+use octets::{NoMemory, Octets, Sequence};
 use sn_topic::Predefined;
 use std::alloc::Global;
 
@@ -32,12 +32,11 @@ impl Config {
     ghost use Rattle.sn_flow.specs.declared.fault.StepFault.TheVariants.{Memory};
 
     /// An equal configuration.
-    pub fn copy(&self, alloc: Global) -> Result<Config, StepFault>
-        ensures ok { IfOk result (λ made. made ≡ self.now) }
-        ensures err { IfErr result (λ fault. fault ≡ Memory) }
+    pub fn copied(&self, alloc: Global) -> Result<Config, NoMemory>
+        ensures { IfOk result (λ made. made ≡ self.now) }
     {
-        let Ok(predefined) = self.predefined.copy(alloc) else {
-            return Err(StepFault::Memory);
+        let Ok(predefined) = self.predefined.copied(alloc) else {
+            return Err(NoMemory);
         };
         Ok(Config {
             gateway: self.gateway,
@@ -45,6 +44,14 @@ impl Config {
             field: Sequence::new(Vec::from_slice(alloc, self.field.as_slice())?),
             predefined,
         })
+    }
+
+    /// The same, where want of memory is a fault of this crate.
+    pub fn copy(&self, alloc: Global) -> Result<Config, StepFault>
+        ensures ok { IfOk result (λ made. made ≡ self.now) }
+        ensures err { IfErr result (λ fault. fault ≡ StepFault.Memory) }
+    {
+        Ok(self.copied(alloc)?)
     }
 }
 

@@ -1,6 +1,6 @@
 //! CONNECT and DISCONNECT (MQTT-SN 1.2 sections 6.2, 6.12 and 6.14).
 
-ghost use Rattle.std.specs.Prelude.{◌≡◌, Some, IfOk, IfErr};
+ghost use Rattle.std.specs.Prelude.{◌≡◌, Some, IfOk};
 ghost use Rattle.std.specs.Option.{option_copied};
 ghost use Rattle.rep_model.specs.Views.{view};
 ghost use Rattle.sn_flow.specs.Plans.{seen_of};
@@ -12,9 +12,9 @@ use super::bound::{session_or, unseen, view_or};
 use super::codes::{CONGESTION, NOT_SUPPORTED};
 use super::config::Addr;
 use super::draft::Draft;
-use super::fault::StepFault;
 use super::local::{Awaited, Dialogs, LocalChange, Request, WillDialog};
 use super::row::{Follow, Row, heard_row, turn_away};
+use octets::NoMemory;
 use rep_model::{ClientView, Replica};
 use rep_ops::ClientId;
 use sn_frame::{Flags, Frame};
@@ -43,14 +43,13 @@ fn request_of(
     flags: Flags,
     duration: u16,
     client: &ClientId,
-) -> Result<Request, StepFault>
-    ensures ok { IfOk result (λ request. request ≡ asked_request address flags.bits duration
+) -> Result<Request, NoMemory>
+    ensures { IfOk result (λ request. request ≡ asked_request address flags.bits duration
         client.now) }
-    ensures err { IfErr result (λ fault. fault ≡ StepFault.Memory) }
 {
     Ok(Request {
         address,
-        client: client.copy(alloc)?,
+        client: client.copied(alloc)?,
         clean: is_clean(flags),
         duration,
     })
@@ -65,15 +64,14 @@ fn refusal_of<R: Replica>(
     client: &ClientId,
     flags: Flags,
     protocol: u8,
-) -> Result<Option<u8>, StepFault>
-    ensures ok { IfOk result (λ code. code ≡ refused_by (seen_of (R.kept replica.now))
+) -> Result<Option<u8>, NoMemory>
+    ensures { IfOk result (λ code. code ≡ refused_by (seen_of (R.kept replica.now))
         dialogs.now.local.dialogs from client.now flags.bits protocol) }
-    ensures err { IfErr result (λ fault. fault ≡ StepFault.Memory) }
 {
     if protocol != PROTOCOL {
         return Ok(Some(NOT_SUPPORTED));
     }
-    if has_no_room(alloc, replica, client)? {
+    if has_no_room(replica, client) {
         return Ok(Some(CONGESTION));
     }
     if has_will(flags) && dialogs.is_crowded(from) {
@@ -83,9 +81,8 @@ fn refusal_of<R: Replica>(
 }
 
 /// Asks the client for the topic of its will.
-fn ask_topic(alloc: Global, request: Request, now: u64) -> Result<Draft, StepFault>
-    ensures ok { IfOk result (λ draft. draft ≡ asked_topic request now) }
-    ensures err { IfErr result (λ fault. fault ≡ StepFault.Memory) }
+fn ask_topic(alloc: Global, request: Request, now: u64) -> Result<Draft, NoMemory>
+    ensures { IfOk result (λ draft. draft ≡ asked_topic request now) }
 {
     let to = request.address;
     let dialog = WillDialog {
@@ -106,11 +103,10 @@ fn welcomed(
     will: bool,
     view: &ClientView,
     now: u64,
-) -> Result<Row, StepFault>
-    ensures ok { IfOk result (λ row. row ≡ welcome_row request will view.now now) }
-    ensures err { IfErr result (λ fault. fault ≡ StepFault.Memory) }
+) -> Result<Row, NoMemory>
+    ensures { IfOk result (λ row. row ≡ welcome_row request will view.now now) }
 {
-    let client = request.client.copy(alloc)?;
+    let client = request.client.copied(alloc)?;
     if will {
         let draft = ask_topic(alloc, request, now)?;
         Row::new(alloc, Follow::Nothing, &client, draft)
@@ -128,9 +124,8 @@ fn connect_row(
     view: &ClientView,
     now: u64,
     refusal: Option<u8>,
-) -> Result<Row, StepFault>
-    ensures ok { IfOk result (λ row. row ≡ refused_or_welcome request will view.now now refusal) }
-    ensures err { IfErr result (λ fault. fault ≡ StepFault.Memory) }
+) -> Result<Row, NoMemory>
+    ensures { IfOk result (λ row. row ≡ refused_or_welcome request will view.now now refusal) }
 {
     match refusal {
         Some(code) => {
@@ -152,10 +147,9 @@ pub fn connect<R: Replica>(
     duration: u16,
     client: &ClientId,
     now: u64,
-) -> Result<Row, StepFault>
-    ensures ok { IfOk result (λ row. row ≡ connected_row (seen_of (R.kept replica.now))
+) -> Result<Row, NoMemory>
+    ensures { IfOk result (λ row. row ≡ connected_row (seen_of (R.kept replica.now))
         dialogs.now.local from flags.bits protocol duration client.now now) }
-    ensures err { IfErr result (λ fault. fault ≡ StepFault.Memory) }
 {
     let refusal = refusal_of(alloc, replica, dialogs, from, client, flags, protocol)?;
     let request = request_of(alloc, from, flags, duration, client)?;
@@ -166,9 +160,8 @@ pub fn connect<R: Replica>(
 }
 
 /// The client says good-bye: its session stays as it is.
-fn leave(alloc: Global, to: Addr, client: &ClientId, session: &Session) -> Result<Draft, StepFault>
-    ensures ok { IfOk result (λ draft. draft ≡ leave_draft to client.now session.now) }
-    ensures err { IfErr result (λ fault. fault ≡ StepFault.Memory) }
+fn leave(alloc: Global, to: Addr, client: &ClientId, session: &Session) -> Result<Draft, NoMemory>
+    ensures { IfOk result (λ draft. draft ≡ leave_draft to client.now session.now) }
 {
     let mut draft = Draft::new(alloc);
     draft.change(SessionOp::Presence {
@@ -176,16 +169,15 @@ fn leave(alloc: Global, to: Addr, client: &ClientId, session: &Session) -> Resul
         duration: session.duration,
     })?;
     draft.note(LocalChange::Unbind {
-        client: client.copy(alloc)?,
+        client: client.copied(alloc)?,
     })?;
     draft.send(alloc, to, &Frame::Disconnect { duration: None })?;
     Ok(draft)
 }
 
 /// The client falls asleep for a duration, and keeps its address.
-fn fall_asleep(alloc: Global, to: Addr, duration: u16) -> Result<Draft, StepFault>
-    ensures ok { IfOk result (λ draft. draft ≡ sleep_draft to duration) }
-    ensures err { IfErr result (λ fault. fault ≡ StepFault.Memory) }
+fn fall_asleep(alloc: Global, to: Addr, duration: u16) -> Result<Draft, NoMemory>
+    ensures { IfOk result (λ draft. draft ≡ sleep_draft to duration) }
 {
     let mut draft = Draft::new(alloc);
     draft.change(SessionOp::Presence {
@@ -203,10 +195,9 @@ fn disconnect_draft(
     client: &ClientId,
     session: &Session,
     duration: Option<u16>,
-) -> Result<Draft, StepFault>
-    ensures ok { IfOk result (λ draft. draft ≡ drafted_disconnect to client.now
+) -> Result<Draft, NoMemory>
+    ensures { IfOk result (λ draft. draft ≡ drafted_disconnect to client.now
         session.now duration) }
-    ensures err { IfErr result (λ fault. fault ≡ StepFault.Memory) }
 {
     match duration {
         Some(duration) if duration != 0 => fall_asleep(alloc, to, duration),
@@ -222,10 +213,9 @@ fn disconnect_bound<R: Replica>(
     client: &ClientId,
     duration: Option<u16>,
     now: u64,
-) -> Result<Row, StepFault>
-    ensures ok { IfOk result (λ row. row ≡ disconnect_row_of (seen_of (R.kept replica.now)) from
+) -> Result<Row, NoMemory>
+    ensures { IfOk result (λ row. row ≡ disconnect_row_of (seen_of (R.kept replica.now)) from
         (Some client.now) duration now) }
-    ensures err { IfErr result (λ fault. fault ≡ StepFault.Memory) }
 {
     let empty = Session::empty(alloc);
     let session = session_or(replica, client, &empty);
@@ -243,10 +233,9 @@ pub fn disconnect<R: Replica>(
     from: Addr,
     duration: Option<u16>,
     now: u64,
-) -> Result<Row, StepFault>
-    ensures ok { IfOk result (λ row. row ≡ disconnected_row (seen_of (R.kept replica.now))
+) -> Result<Row, NoMemory>
+    ensures { IfOk result (λ row. row ≡ disconnected_row (seen_of (R.kept replica.now))
         dialogs.now.local from duration now) }
-    ensures err { IfErr result (λ fault. fault ≡ StepFault.Memory) }
 {
     match dialogs.client_at(from) {
         None => turn_away(alloc, from),

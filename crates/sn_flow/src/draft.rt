@@ -1,17 +1,16 @@
 //! What a row of the step table says.
 
-ghost use Rattle.std.specs.Prelude.{◌≡◌, ◌≤◌, ◌++◌, [], map, OnOk, IfOk, IfErr, IsTrue, ◌↔◌, Err};
+ghost use Rattle.std.specs.Prelude.{◌≡◌, ◌≤◌, ◌++◌, [], map, OnOk, IfOk, IsTrue, ◌↔◌, Err};
 ghost use Rattle.sn_flow.specs.Names.{name_of};
 ghost use Rattle.sn_frame.specs.Bodies.{IsMessage};
 ghost use Rattle.sn_frame.specs.Grammar.{total_of};
 
 use super::config::{Addr, Send};
-use super::fault::StepFault;
 use super::local::LocalChange;
-use octets::Octets;
+use octets::{NoMemory, Octets};
 use rep_ops::{ClientId, Put};
 use sn_frame::{Frame, encode};
-use sn_session::SessionOp;
+use sn_session::{Message, SessionOp};
 use sn_topic::TopicName;
 use std::alloc::{AllocError, Global};
 use std::marker::Model;
@@ -26,8 +25,8 @@ pub struct NewPut {
     pub topic: TopicName,
     /// At which quality of service the client gets it: 0, 1 or 2.
     pub qos: u8,
-    /// The octets published.
-    pub body: Octets,
+    /// What is published.
+    pub body: Message,
 }
 
 /// What a step does, before its operations have names. Contracts see the five lists (`Drafted`).
@@ -65,11 +64,10 @@ impl Draft {
     }
 
     /// A step that sends this frame and does nothing else.
-    pub fn reply(alloc: Global, to: Addr, frame: &Frame) -> Result<Draft, StepFault>
+    pub fn reply(alloc: Global, to: Addr, frame: &Frame) -> Result<Draft, NoMemory>
         requires message { IsMessage frame.now }
         requires size { total_of frame.now ≤ 65535 }
-        ensures ok { IfOk result (λ draft. draft ≡ sent to frame.now nothing) }
-        ensures err { IfErr result (λ fault. fault ≡ StepFault.Memory) }
+        ensures { IfOk result (λ draft. draft ≡ sent to frame.now nothing) }
     {
         let mut draft = Draft::new(alloc);
         draft.send(alloc, to, frame)?;
@@ -146,15 +144,14 @@ impl Draft {
     }
 
     /// And then this frame.
-    pub fn send(&mut self, alloc: Global, to: Addr, frame: &Frame) -> Result<(), StepFault>
+    pub fn send(&mut self, alloc: Global, to: Addr, frame: &Frame) -> Result<(), NoMemory>
         requires message { IsMessage frame.now }
         requires size { total_of frame.now ≤ 65535 }
-        ensures ok { OnOk result (self.new ≡ sent to frame.now self.old) }
-        ensures err { result ≡ Err StepFault.Exhausted → ⊥ }
+        ensures { OnOk result (self.new ≡ sent to frame.now self.old) }
     {
         let mut bytes = Vec::new(alloc);
         if encode(alloc, frame, &mut bytes).is_err() {
-            return Err(StepFault::Memory);
+            return Err(NoMemory);
         }
         let bytes = Octets::new(bytes)?;
         self.sends.push(Send { to, bytes })?;

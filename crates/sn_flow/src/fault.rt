@@ -4,10 +4,7 @@ ghost use Rattle.std.specs.Prelude.{◌≡◌};
 ghost use Rattle.sn_flow.specs.declared.fault.StepFault.TheVariants.{Memory};
 ghost use Rattle.sn_flow.specs.Faults.{number_of};
 
-use rep_model::TakeFault;
-use rep_ops::OpsFault;
-use sn_session::SessionFault;
-use sn_topic::TopicFault;
+use octets::NoMemory;
 use std::alloc::{AllocError, AllocFailed};
 use thiserror::Error;
 
@@ -42,43 +39,18 @@ impl From<AllocError> for StepFault {
     }
 }
 
+impl From<NoMemory> for StepFault {
+    ghost from_gives = { λ _ e. e ≡ Memory };
+
+    fn from(_error: NoMemory) -> StepFault {
+        StepFault::Memory
+    }
+}
+
 impl<T: Drop> From<AllocFailed<T>> for StepFault {
     ghost from_gives = { λ _ e. e ≡ Memory };
 
     fn from(_error: AllocFailed<T>) -> StepFault {
-        StepFault::Memory
-    }
-}
-
-impl From<OpsFault> for StepFault {
-    ghost from_gives = { λ _ e. e ≡ Memory };
-
-    fn from(_error: OpsFault) -> StepFault {
-        StepFault::Memory
-    }
-}
-
-impl From<SessionFault> for StepFault {
-    ghost from_gives = { λ _ e. e ≡ Memory };
-
-    fn from(_error: SessionFault) -> StepFault {
-        StepFault::Memory
-    }
-}
-
-// A step only copies topics, and a copy is refused for want of memory alone.
-impl From<TopicFault> for StepFault {
-    ghost from_gives = { λ _ e. e ≡ Memory };
-
-    fn from(_error: TopicFault) -> StepFault {
-        StepFault::Memory
-    }
-}
-
-impl From<TakeFault> for StepFault {
-    ghost from_gives = { λ _ e. e ≡ Memory };
-
-    fn from(_error: TakeFault) -> StepFault {
         StepFault::Memory
     }
 }

@@ -44,7 +44,7 @@ mod will_dialogs;
 mod will_update;
 mod wills;
 
-pub use accept::GivenWill;
+pub use accept::{GivenWill, MAX_CLIENTS};
 pub use asking::{name_asked, qos_asked};
 pub use bindings::is_owned;
 pub use bound::{bind_to, hear_of, session_or, unseen, view_or};
@@ -57,7 +57,7 @@ pub use laws::{
     reads_back, rows_make_no_message, stays_flush,
 };
 pub use local::{Awaited, Binding, Dialogs, LocalChange, Request, Timer, WillDialog};
-pub use numbering::apply;
+pub use numbering::{MAX_COUNTER, apply};
 pub use others::{can_wake, is_up, other};
 pub use plan::{Plan, plan_of, plan_of_puts, plan_without};
 pub use request_laws::{
@@ -65,4 +65,5 @@ pub use request_laws::{
 };
 pub use row::{Follow, Row, heard_row, plan_of_row, quiet, stray, turn_away};
 pub use topic_rows::{register, subscribe, unsubscribe};
+pub use will_dialogs::MAX_DIALOGS;
 pub use wills::{will_msg, will_msg_update, will_topic, will_topic_update};

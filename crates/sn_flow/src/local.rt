@@ -1,15 +1,14 @@
 //! What a gateway knows that is in no set of operations.
 
-ghost use Rattle.std.specs.Prelude.{◌≡◌, length, IfOk, IfErr, OnOk};
+ghost use Rattle.std.specs.Prelude.{◌≡◌, length, IfOk, OnOk};
 ghost use Rattle.std.specs.Option.{option_copied};
 
 use super::bindings::{address_of, client_at, keep_bindings};
 use super::changes::commit_all;
 use super::config::Addr;
-use super::fault::StepFault;
 use super::timers::{keep_timers, timer_of};
 use super::will_dialogs::{dialog_at, is_crowded};
-use octets::Sequence;
+use octets::{NoMemory, Sequence};
 use rep_model::Replica;
 use rep_ops::ClientId;
 use sn_session::WillTopic;
@@ -49,13 +48,12 @@ pub struct Request {
 
 impl Request {
     /// An equal request.
-    pub fn copy(&self, alloc: Global) -> Result<Request, StepFault>
-        ensures ok { IfOk result (λ made. made ≡ self.now) }
-        ensures err { IfErr result (λ fault. fault ≡ StepFault.Memory) }
+    pub fn copied(&self, alloc: Global) -> Result<Request, NoMemory>
+        ensures { IfOk result (λ made. made ≡ self.now) }
     {
         Ok(Request {
             address: self.address,
-            client: self.client.copy(alloc)?,
+            client: self.client.copied(alloc)?,
             clean: self.clean,
             duration: self.duration,
         })

@@ -1,13 +1,15 @@
 //! From a draft to operations under names of the gateway's own.
 
-ghost use Rattle.std.specs.Prelude.{◌≡◌, ℕ, ◌<◌, ◌∷◌, ◌++◌, [], Some, OnOk, IfOk, IfErr, map};
+ghost use Rattle.std.specs.Prelude.{◌≡◌, ℕ, ◌<◌, ◌∷◌, ◌++◌, [], Some, OnOk, IfOk, map};
 ghost use Rattle.rep_model.specs.Fresh.{one_more as next_number, next_seq};
 ghost use Rattle.sn_session.specs.Session.{applied};
+ghost use Rattle.sn_flow.specs.declared.numbering.TheConstants.{MAX_COUNTER};
 ghost use Rattle.sn_flow.specs.Numbering.{with_puts, ack_of};
 ghost use Rattle.sn_flow.specs.inner.Plans.{Becomes};
 
 use super::draft::NewPut;
 use super::fault::StepFault;
+use octets::NoMemory;
 use rep_model::{ClientView, Replica};
 use rep_ops::{ClientId, Op, Put, Stamp};
 use sn_session::{Session, SessionFault, SessionOp};
@@ -15,7 +17,7 @@ use std::alloc::{AllocError, Global};
 use std::marker::Model;
 
 /// How many operations stand under one stamp.
-const MAX_COUNTER: u16 = 256;
+pub const MAX_COUNTER: u16 = 256;
 
 /// Where the client's next session operation is written, and what is written.
 #[derive(Drop)]
@@ -36,13 +38,12 @@ impl Model for Writer {
 }
 
 /// Changes the session. An operation that finds its table full leaves it as it was.
-pub fn apply(session: &mut Session, alloc: Global, change: &SessionOp) -> Result<(), StepFault>
-    ensures ok { OnOk result (session.new ≡ applied session.old change.now) }
-    ensures err { IfErr result (λ fault. fault ≡ StepFault.Memory) }
+pub fn apply(session: &mut Session, alloc: Global, change: &SessionOp) -> Result<(), NoMemory>
+    ensures { OnOk result (session.new ≡ applied session.old change.now) }
 {
     match session.apply(alloc, change) {
         Ok(()) | Err(SessionFault::Full) => Ok(()),
-        Err(SessionFault::Memory) => Err(StepFault::Memory),
+        Err(SessionFault::Memory) => Err(NoMemory),
     }
 }
 
@@ -70,13 +71,12 @@ impl Writer {
         gateway: u8,
         view: &ClientView,
         next: Option<u64>,
-    ) -> Result<Writer, StepFault>
-        ensures ok { IfOk result (λ writer. writer ≡ start_of gateway view.now next) }
-        ensures err { IfErr result (λ fault. fault ≡ StepFault.Memory) }
+    ) -> Result<Writer, NoMemory>
+        ensures { IfOk result (λ writer. writer ≡ start_of gateway view.now next) }
     {
         let session = match &view.session {
             None => Session::empty(alloc),
-            Some(session) => session.copy(alloc)?,
+            Some(session) => session.copied(alloc)?,
         };
         let (epoch, counter) = match view.stamp {
             None => (0, MAX_COUNTER),
@@ -126,12 +126,12 @@ impl Writer {
         client: &ClientId,
         change: SessionOp,
     ) -> Result<(), StepFault>
-        requires { self.old.counter < 256 }
+        requires { self.old.counter < MAX_COUNTER }
         ensures { Becomes result self.new (Some (another client.now gateway change self.old)) }
     {
         apply(&mut self.session, alloc, &change)?;
         let op = Op::Session {
-            client: client.copy(alloc)?,
+            client: client.copied(alloc)?,
             stamp: Stamp {
                 epoch: self.epoch,
                 gateway,
@@ -157,9 +157,9 @@ impl Writer {
         let Some(epoch) = self.next else {
             return Err(StepFault::Exhausted);
         };
-        self.session = session.copy(alloc)?;
+        self.session = session.copied(alloc)?;
         let op = Op::Session {
-            client: client.copy(alloc)?,
+            client: client.copied(alloc)?,
             stamp: Stamp { epoch, gateway },
             counter: 0,
             change: SessionOp::Take(session),
@@ -183,7 +183,7 @@ impl Writer {
         ensures { Becomes result self.new (counted client.now gateway change self.old) }
     {
         if self.counter >= MAX_COUNTER {
-            let session = self.session.copy(alloc)?;
+            let session = self.session.copied(alloc)?;
             self.take(alloc, gateway, client, session)?;
         }
         self.another(alloc, gateway, client, change)
@@ -261,13 +261,12 @@ pub fn append_acks(
     client: &ClientId,
     acks: &[(u64, u8)],
     ops: &mut Vec<Op>,
-) -> Result<(), StepFault>
-    ensures ok { OnOk result (ops.new.items ≡ ops.old.items ++ map (ack_of client.now) acks.now) }
-    ensures err { IfErr result (λ fault. fault ≡ StepFault.Memory) }
+) -> Result<(), NoMemory>
+    ensures { OnOk result (ops.new.items ≡ ops.old.items ++ map (ack_of client.now) acks.now) }
 {
     for (seq, origin) in acks {
         let ack = Op::Ack {
-            client: client.copy(alloc)?,
+            client: client.copied(alloc)?,
             origin: *origin,
             first: *seq,
             last: *seq,

@@ -1,15 +1,14 @@
 //! Frames that no other row is for, and which clients are there.
 
-ghost use Rattle.std.specs.Prelude.{◌≡◌, IfOk, IfErr};
+ghost use Rattle.std.specs.Prelude.{◌≡◌, IfOk};
 ghost use Rattle.sn_flow.specs.Others.{searched as searched_row, other as other_row, is_up as is_up_at, can_wake as can_wake_at};
 ghost use Rattle.rep_model.specs.Views.{view};
 
 use super::config::{Addr, Config};
 use super::draft::Draft;
-use super::fault::StepFault;
 use super::local::Dialogs;
 use super::row::{Row, quiet, stray};
-use octets::Octets;
+use octets::{NoMemory, Octets};
 use rep_model::Replica;
 use rep_ops::ClientId;
 use sn_frame::Frame;
@@ -17,9 +16,8 @@ use sn_session::Presence;
 use std::alloc::Global;
 
 /// A SEARCHGW.
-fn searched(alloc: Global, config: &Config, to: Addr) -> Result<Row, StepFault>
-    ensures ok { IfOk result (λ row. row ≡ searched_row config.now.gateway to) }
-    ensures err { IfErr result (λ fault. fault ≡ StepFault.Memory) }
+fn searched(alloc: Global, config: &Config, to: Addr) -> Result<Row, NoMemory>
+    ensures { IfOk result (λ row. row ≡ searched_row config.now.gateway to) }
 {
     let address = Octets::new(Vec::new(alloc))?;
     let answer = Frame::GwInfo {
@@ -39,10 +37,9 @@ pub fn other(
     from: Addr,
     frame: &Frame,
     now: u64,
-) -> Result<Row, StepFault>
-    ensures ok { IfOk result (λ row. row ≡ other_row config.now.gateway dialogs.now.local from
+) -> Result<Row, NoMemory>
+    ensures { IfOk result (λ row. row ≡ other_row config.now.gateway dialogs.now.local from
         frame.now now) }
-    ensures err { IfErr result (λ fault. fault ≡ StepFault.Memory) }
 {
     match frame {
         Frame::SearchGw { .. } => searched(alloc, config, from),

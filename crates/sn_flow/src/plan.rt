@@ -1,6 +1,6 @@
 //! The plan of a step.
 
-ghost use Rattle.std.specs.Prelude.{◌≡◌, ◌++◌, map, IfOk, IfErr};
+ghost use Rattle.std.specs.Prelude.{◌≡◌, ◌++◌, map, IfOk};
 ghost use Rattle.std.specs.Option.{option_map};
 ghost use Rattle.rep_model.specs.Views.{view};
 ghost use Rattle.rep_model.specs.Fresh.{next_epoch, next_seq};
@@ -12,7 +12,7 @@ use super::draft::Draft;
 use super::fault::StepFault;
 use super::local::LocalChange;
 use super::numbering::{Writer, append_acks, number_puts};
-use octets::Sequence;
+use octets::{NoMemory, Sequence};
 use rep_model::Replica;
 use rep_ops::{ClientId, Op};
 use std::alloc::Global;
@@ -34,10 +34,9 @@ fn writer_of<R: Replica>(
     gateway: u8,
     replica: &R,
     client: &ClientId,
-) -> Result<Writer, StepFault>
-    ensures ok { IfOk result (λ writer. writer ≡ start_of gateway
+) -> Result<Writer, NoMemory>
+    ensures { IfOk result (λ writer. writer ≡ start_of gateway
         (view client.now (R.kept replica.now)) (next_epoch client.now (R.kept replica.now))) }
-    ensures err { IfErr result (λ fault. fault ≡ StepFault.Memory) }
 {
     let next = replica.next_epoch(client);
     match replica.view_of(client) {

@@ -1,6 +1,6 @@
 //! REGISTER (MQTT-SN 1.2 section 6.5), and the topic id of a name.
 
-ghost use Rattle.std.specs.Prelude.{◌≡◌, IfOk, IfErr};
+ghost use Rattle.std.specs.Prelude.{◌≡◌, IfOk};
 ghost use Rattle.sn_frame.specs.declared.frame.Frame.TheVariants.{RegAck};
 ghost use Rattle.sn_flow.specs.Drafts.{nothing, sent};
 ghost use Rattle.sn_flow.specs.Registration.{entry_id as id_of_entry, new_id as id_anew, id_for as id_of, registered as registered_draft, register_name as name_draft, register as register_draft};
@@ -9,7 +9,7 @@ use super::asking::name_asked;
 use super::codes::{ACCEPTED, CONGESTION, NOT_SUPPORTED};
 use super::config::Addr;
 use super::draft::Draft;
-use super::fault::StepFault;
+use octets::NoMemory;
 use sn_frame::Frame;
 use sn_session::{Session, SessionOp, TopicEntry};
 use sn_topic::TopicName;
@@ -25,9 +25,8 @@ pub struct NamedId {
 }
 
 /// The id of an entry of the name, which the client knows from now on.
-fn entry_id(alloc: Global, name: &TopicName, entry: &TopicEntry) -> Result<NamedId, StepFault>
-    ensures ok { IfOk result (λ named. named ≡ id_of_entry name.now entry.now) }
-    ensures err { IfErr result (λ fault. fault ≡ StepFault.Memory) }
+fn entry_id(alloc: Global, name: &TopicName, entry: &TopicEntry) -> Result<NamedId, NoMemory>
+    ensures { IfOk result (λ named. named ≡ id_of_entry name.now entry.now) }
 {
     if entry.known {
         return Ok(NamedId {
@@ -39,11 +38,10 @@ fn entry_id(alloc: Global, name: &TopicName, entry: &TopicEntry) -> Result<Named
 }
 
 /// A new id of the name.
-fn new_id(alloc: Global, name: &TopicName, id: u16) -> Result<NamedId, StepFault>
-    ensures ok { IfOk result (λ named. named ≡ id_anew name.now id) }
-    ensures err { IfErr result (λ fault. fault ≡ StepFault.Memory) }
+fn new_id(alloc: Global, name: &TopicName, id: u16) -> Result<NamedId, NoMemory>
+    ensures { IfOk result (λ named. named ≡ id_anew name.now id) }
 {
-    let name = name.copy(alloc)?;
+    let name = name.copied(alloc)?;
     Ok(NamedId {
         id,
         change: Some(SessionOp::Register {
@@ -60,9 +58,8 @@ pub fn id_for(
     alloc: Global,
     session: &Session,
     name: &TopicName,
-) -> Result<Option<NamedId>, StepFault>
-    ensures ok { IfOk result (λ named. named ≡ id_of session.now name.now) }
-    ensures err { IfErr result (λ fault. fault ≡ StepFault.Memory) }
+) -> Result<Option<NamedId>, NoMemory>
+    ensures { IfOk result (λ named. named ≡ id_of session.now name.now) }
 {
     if let Some(entry) = session.topic_named(name) {
         return Ok(Some(entry_id(alloc, name, entry)?));
@@ -79,9 +76,8 @@ fn registered(
     to: Addr,
     msg_id: u16,
     named: Option<NamedId>,
-) -> Result<Draft, StepFault>
-    ensures ok { IfOk result (λ draft. draft ≡ registered_draft to msg_id named) }
-    ensures err { IfErr result (λ fault. fault ≡ StepFault.Memory) }
+) -> Result<Draft, NoMemory>
+    ensures { IfOk result (λ draft. draft ≡ registered_draft to msg_id named) }
 {
     match named {
         None => refuse(alloc, to, msg_id, CONGESTION),
@@ -100,9 +96,8 @@ fn registered(
 }
 
 /// Refuses a REGISTER by this code.
-fn refuse(alloc: Global, to: Addr, msg_id: u16, code: u8) -> Result<Draft, StepFault>
-    ensures ok { IfOk result (λ draft. draft ≡ sent to (RegAck 0 msg_id code) nothing) }
-    ensures err { IfErr result (λ fault. fault ≡ StepFault.Memory) }
+fn refuse(alloc: Global, to: Addr, msg_id: u16, code: u8) -> Result<Draft, NoMemory>
+    ensures { IfOk result (λ draft. draft ≡ sent to (RegAck 0 msg_id code) nothing) }
 {
     let answer = Frame::RegAck {
         topic_id: 0,
@@ -120,9 +115,8 @@ pub fn register(
     session: &Session,
     msg_id: u16,
     name: &[u8],
-) -> Result<Draft, StepFault>
-    ensures ok { IfOk result (λ draft. draft ≡ register_draft to session.now msg_id name.now) }
-    ensures err { IfErr result (λ fault. fault ≡ StepFault.Memory) }
+) -> Result<Draft, NoMemory>
+    ensures { IfOk result (λ draft. draft ≡ register_draft to session.now msg_id name.now) }
 {
     match name_asked(alloc, name)? {
         None => refuse(alloc, to, msg_id, NOT_SUPPORTED),

@@ -1,6 +1,6 @@
 //! A row of the step table: its client, its draft, and what follows it.
 
-ghost use Rattle.std.specs.Prelude.{◌≡◌, IfOk, IfErr};
+ghost use Rattle.std.specs.Prelude.{◌≡◌, IfOk};
 ghost use Rattle.std.specs.Option.{option_copied};
 ghost use Rattle.sn_flow.specs.Plans.{Gives, seen_of};
 ghost use Rattle.sn_flow.specs.Rows.{heard_row as row_heard, plan_of_row as plan_with_row, quiet as nothing_done, turned_away, stray as stray_row};
@@ -10,6 +10,7 @@ use super::config::Addr;
 use super::draft::Draft;
 use super::fault::StepFault;
 use super::plan::{Plan, plan_of, plan_of_puts};
+use octets::NoMemory;
 use rep_model::Replica;
 use rep_ops::ClientId;
 use sn_frame::Frame;
@@ -47,12 +48,11 @@ impl Row {
         follow: Follow,
         client: &ClientId,
         draft: Draft,
-    ) -> Result<Row, StepFault>
-        ensures ok { IfOk result (λ row. row ≡ row_of follow client.now draft) }
-        ensures err { IfErr result (λ fault. fault ≡ StepFault.Memory) }
+    ) -> Result<Row, NoMemory>
+        ensures { IfOk result (λ row. row ≡ row_of follow client.now draft) }
     {
         Ok(Row {
-            client: Some(client.copy(alloc)?),
+            client: Some(client.copied(alloc)?),
             draft,
             follow,
         })
@@ -76,9 +76,8 @@ pub fn heard_row(
     bound: Option<&ClientId>,
     now: u64,
     mut row: Row,
-) -> Result<Row, StepFault>
-    ensures ok { IfOk result (λ heard. heard ≡ row_heard (option_copied bound.entry) now row) }
-    ensures err { IfErr result (λ fault. fault ≡ StepFault.Memory) }
+) -> Result<Row, NoMemory>
+    ensures { IfOk result (λ heard. heard ≡ row_heard (option_copied bound.entry) now row) }
 {
     hear_of(alloc, &mut row.draft, bound, now)?;
     Ok(row)
@@ -112,23 +111,16 @@ pub fn quiet(alloc: Global) -> Row
 }
 
 /// A frame that asks for a binding, from an address that has none.
-pub fn turn_away(alloc: Global, to: Addr) -> Result<Row, StepFault>
-    ensures ok { IfOk result (λ row. row ≡ turned_away to) }
-    ensures err { IfErr result (λ fault. fault ≡ StepFault.Memory) }
+pub fn turn_away(alloc: Global, to: Addr) -> Result<Row, NoMemory>
+    ensures { IfOk result (λ row. row ≡ turned_away to) }
 {
     let draft = Draft::reply(alloc, to, &Frame::Disconnect { duration: None })?;
     Ok(Row::of_none(draft))
 }
 
 /// A frame that nothing waits for: a bound client was heard of, another address is turned away.
-pub fn stray(
-    alloc: Global,
-    from: Addr,
-    bound: Option<&ClientId>,
-    now: u64,
-) -> Result<Row, StepFault>
-    ensures ok { IfOk result (λ row. row ≡ stray_row from (option_copied bound.entry) now) }
-    ensures err { IfErr result (λ fault. fault ≡ StepFault.Memory) }
+pub fn stray(alloc: Global, from: Addr, bound: Option<&ClientId>, now: u64) -> Result<Row, NoMemory>
+    ensures { IfOk result (λ row. row ≡ stray_row from (option_copied bound.entry) now) }
 {
     match bound {
         None => turn_away(alloc, from),

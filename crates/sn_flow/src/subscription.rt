@@ -1,6 +1,6 @@
 //! SUBSCRIBE and UNSUBSCRIBE (MQTT-SN 1.2 section 6.9).
 
-ghost use Rattle.std.specs.Prelude.{◌≡◌, IfOk, IfErr};
+ghost use Rattle.std.specs.Prelude.{◌≡◌, IfOk};
 ghost use Rattle.sn_frame.specs.FlagBits.{kind_of};
 ghost use Rattle.sn_flow.specs.Drafts.{nothing, sent};
 ghost use Rattle.sn_flow.specs.Subscription.{suback as suback_of, refused, fixed_id as fixed, id_in_full as id_of_filter, id_asked as id_asked_for, subscribe_change as change_for, subscribed as subscribed_draft, subscribe_to as draft_to, subscribe_asked as draft_asked, subscribe as subscribe_draft, unsubscribe_change as end_of, unsubscribe_asked as end_asked, unsubscribe as unsubscribe_draft};
@@ -9,8 +9,8 @@ use super::asking::{Asked, id_in, name_asked, qos_asked, topics_asked};
 use super::codes::{ACCEPTED, CONGESTION, NOT_SUPPORTED};
 use super::config::Addr;
 use super::draft::Draft;
-use super::fault::StepFault;
 use super::registration::{NamedId, id_for};
+use octets::NoMemory;
 use sn_frame::{Flags, Frame, TopicIdType};
 use sn_session::{Session, SessionOp};
 use sn_topic::{Filter, Predefined, TopicName};
@@ -34,9 +34,8 @@ fn suback(flags: Flags, topic_id: u16, msg_id: u16, code: u8) -> Frame
 }
 
 /// Refuses a SUBSCRIBE by this code.
-fn refuse(alloc: Global, to: Addr, flags: Flags, msg_id: u16, code: u8) -> Result<Draft, StepFault>
-    ensures ok { IfOk result (λ draft. draft ≡ refused to flags.bits msg_id code) }
-    ensures err { IfErr result (λ fault. fault ≡ StepFault.Memory) }
+fn refuse(alloc: Global, to: Addr, flags: Flags, msg_id: u16, code: u8) -> Result<Draft, NoMemory>
+    ensures { IfOk result (λ draft. draft ≡ refused to flags.bits msg_id code) }
 {
     Draft::reply(alloc, to, &suback(flags, 0, msg_id, code))
 }
@@ -53,9 +52,8 @@ fn id_in_full(
     alloc: Global,
     session: &Session,
     name: &Option<TopicName>,
-) -> Result<Option<NamedId>, StepFault>
-    ensures ok { IfOk result (λ named. named ≡ id_of_filter session.now name.now) }
-    ensures err { IfErr result (λ fault. fault ≡ StepFault.Memory) }
+) -> Result<Option<NamedId>, NoMemory>
+    ensures { IfOk result (λ named. named ≡ id_of_filter session.now name.now) }
 {
     match name {
         None => Ok(Some(fixed_id(0))),
@@ -70,9 +68,8 @@ fn id_asked(
     kind: TopicIdType,
     field: &[u8],
     filter: &Filter,
-) -> Result<Option<NamedId>, StepFault>
-    ensures ok { IfOk result (λ named. named ≡ id_asked_for session.now kind field.now filter.now) }
-    ensures err { IfErr result (λ fault. fault ≡ StepFault.Memory) }
+) -> Result<Option<NamedId>, NoMemory>
+    ensures { IfOk result (λ named. named ≡ id_asked_for session.now kind field.now filter.now) }
 {
     match kind {
         TopicIdType::Normal => {
@@ -104,10 +101,9 @@ fn subscribed(
     filter: Filter,
     qos: u8,
     named: Option<NamedId>,
-) -> Result<Draft, StepFault>
-    ensures ok { IfOk result (λ draft. draft ≡ subscribed_draft to session.now flags.bits msg_id
+) -> Result<Draft, NoMemory>
+    ensures { IfOk result (λ draft. draft ≡ subscribed_draft to session.now flags.bits msg_id
         filter qos named) }
-    ensures err { IfErr result (λ fault. fault ≡ StepFault.Memory) }
 {
     match named {
         None => refuse(alloc, to, flags, msg_id, CONGESTION),
@@ -132,10 +128,9 @@ fn subscribe_to(
     field: &[u8],
     filter: Filter,
     qos: u8,
-) -> Result<Draft, StepFault>
-    ensures ok { IfOk result (λ draft. draft ≡ draft_to to session.now flags.bits msg_id field.now
+) -> Result<Draft, NoMemory>
+    ensures { IfOk result (λ draft. draft ≡ draft_to to session.now flags.bits msg_id field.now
         filter qos) }
-    ensures err { IfErr result (λ fault. fault ≡ StepFault.Memory) }
 {
     if session.subscriptions.has_no_room(&filter) {
         return refuse(alloc, to, flags, msg_id, CONGESTION);
@@ -154,10 +149,9 @@ fn subscribe_asked(
     field: &[u8],
     asked: Asked,
     qos: u8,
-) -> Result<Draft, StepFault>
-    ensures ok { IfOk result (λ draft. draft ≡ draft_asked to session.now flags.bits msg_id
+) -> Result<Draft, NoMemory>
+    ensures { IfOk result (λ draft. draft ≡ draft_asked to session.now flags.bits msg_id
         field.now asked qos) }
-    ensures err { IfErr result (λ fault. fault ≡ StepFault.Memory) }
 {
     match asked {
         Asked::Refused(code) => refuse(alloc, to, flags, msg_id, code),
@@ -177,10 +171,9 @@ pub fn subscribe(
     flags: Flags,
     msg_id: u16,
     field: &[u8],
-) -> Result<Draft, StepFault>
-    ensures ok { IfOk result (λ draft. draft ≡ subscribe_draft predefined.now to session.now
+) -> Result<Draft, NoMemory>
+    ensures { IfOk result (λ draft. draft ≡ subscribe_draft predefined.now to session.now
         flags.bits msg_id field.now) }
-    ensures err { IfErr result (λ fault. fault ≡ StepFault.Memory) }
 {
     let Some(qos) = qos_asked(flags.qos()) else {
         return refuse(alloc, to, flags, msg_id, NOT_SUPPORTED);
@@ -219,10 +212,9 @@ pub fn unsubscribe(
     flags: Flags,
     msg_id: u16,
     field: &[u8],
-) -> Result<Draft, StepFault>
-    ensures ok { IfOk result (λ draft. draft ≡ unsubscribe_draft predefined.now to session.now
+) -> Result<Draft, NoMemory>
+    ensures { IfOk result (λ draft. draft ≡ unsubscribe_draft predefined.now to session.now
         flags.bits msg_id field.now) }
-    ensures err { IfErr result (λ fault. fault ≡ StepFault.Memory) }
 {
     let asked = topics_asked(alloc, predefined, flags.kind(), field)?;
     let mut draft = Draft::new(alloc);

@@ -1,16 +1,16 @@
 //! REGISTER, SUBSCRIBE and UNSUBSCRIBE of a bound client (MQTT-SN 1.2 sections 6.5 and 6.9).
 
-ghost use Rattle.std.specs.Prelude.{◌≡◌, Some, IfOk, IfErr};
+ghost use Rattle.std.specs.Prelude.{◌≡◌, Some, IfOk};
 ghost use Rattle.sn_flow.specs.Plans.{seen_of};
 ghost use Rattle.sn_flow.specs.TopicRows.{register_of, register as register_row, subscribe_of, subscribe as subscribe_row, unsubscribe_of, unsubscribe as unsubscribe_row};
 
 use super::bound::session_or;
 use super::config::{Addr, Config};
-use super::fault::StepFault;
 use super::local::Dialogs;
 use super::registration::register as draft_register;
 use super::row::{Follow, Row, heard_row, turn_away};
 use super::subscription::{subscribe as draft_subscribe, unsubscribe as draft_unsubscribe};
+use octets::NoMemory;
 use rep_model::Replica;
 use rep_ops::ClientId;
 use sn_frame::Flags;
@@ -26,10 +26,9 @@ fn register_bound<R: Replica>(
     msg_id: u16,
     name: &[u8],
     now: u64,
-) -> Result<Row, StepFault>
-    ensures ok { IfOk result (λ row. row ≡ register_of (seen_of (R.kept replica.now)) from
+) -> Result<Row, NoMemory>
+    ensures { IfOk result (λ row. row ≡ register_of (seen_of (R.kept replica.now)) from
         (Some client.now) msg_id name.now now) }
-    ensures err { IfErr result (λ fault. fault ≡ StepFault.Memory) }
 {
     let empty = Session::empty(alloc);
     let session = session_or(replica, client, &empty);
@@ -47,10 +46,9 @@ pub fn register<R: Replica>(
     msg_id: u16,
     name: &[u8],
     now: u64,
-) -> Result<Row, StepFault>
-    ensures ok { IfOk result (λ row. row ≡ register_row (seen_of (R.kept replica.now))
+) -> Result<Row, NoMemory>
+    ensures { IfOk result (λ row. row ≡ register_row (seen_of (R.kept replica.now))
         dialogs.now.local from msg_id name.now now) }
-    ensures err { IfErr result (λ fault. fault ≡ StepFault.Memory) }
 {
     match dialogs.client_at(from) {
         None => turn_away(alloc, from),
@@ -69,10 +67,9 @@ fn subscribe_bound<R: Replica>(
     msg_id: u16,
     topic: &[u8],
     now: u64,
-) -> Result<Row, StepFault>
-    ensures ok { IfOk result (λ row. row ≡ subscribe_of config.now.predefined
+) -> Result<Row, NoMemory>
+    ensures { IfOk result (λ row. row ≡ subscribe_of config.now.predefined
         (seen_of (R.kept replica.now)) from (Some client.now) flags.bits msg_id topic.now now) }
-    ensures err { IfErr result (λ fault. fault ≡ StepFault.Memory) }
 {
     let empty = Session::empty(alloc);
     let session = session_or(replica, client, &empty);
@@ -100,10 +97,9 @@ pub fn subscribe<R: Replica>(
     msg_id: u16,
     topic: &[u8],
     now: u64,
-) -> Result<Row, StepFault>
-    ensures ok { IfOk result (λ row. row ≡ subscribe_row config.now.predefined
+) -> Result<Row, NoMemory>
+    ensures { IfOk result (λ row. row ≡ subscribe_row config.now.predefined
         (seen_of (R.kept replica.now)) dialogs.now.local from flags.bits msg_id topic.now now) }
-    ensures err { IfErr result (λ fault. fault ≡ StepFault.Memory) }
 {
     match dialogs.client_at(from) {
         None => turn_away(alloc, from),
@@ -124,10 +120,9 @@ fn unsubscribe_bound<R: Replica>(
     msg_id: u16,
     topic: &[u8],
     now: u64,
-) -> Result<Row, StepFault>
-    ensures ok { IfOk result (λ row. row ≡ unsubscribe_of config.now.predefined
+) -> Result<Row, NoMemory>
+    ensures { IfOk result (λ row. row ≡ unsubscribe_of config.now.predefined
         (seen_of (R.kept replica.now)) from (Some client.now) flags.bits msg_id topic.now now) }
-    ensures err { IfErr result (λ fault. fault ≡ StepFault.Memory) }
 {
     let empty = Session::empty(alloc);
     let session = session_or(replica, client, &empty);
@@ -155,10 +150,9 @@ pub fn unsubscribe<R: Replica>(
     msg_id: u16,
     topic: &[u8],
     now: u64,
-) -> Result<Row, StepFault>
-    ensures ok { IfOk result (λ row. row ≡ unsubscribe_row config.now.predefined
+) -> Result<Row, NoMemory>
+    ensures { IfOk result (λ row. row ≡ unsubscribe_row config.now.predefined
         (seen_of (R.kept replica.now)) dialogs.now.local from flags.bits msg_id topic.now now) }
-    ensures err { IfErr result (λ fault. fault ≡ StepFault.Memory) }
 {
     match dialogs.client_at(from) {
         None => turn_away(alloc, from),

@@ -9,7 +9,7 @@ use super::config::Addr;
 use super::local::WillDialog;
 
 /// How many addresses can be in a will dialog.
-const MAX_DIALOGS: usize = 1024;
+pub const MAX_DIALOGS: usize = 1024;
 
 /// Whether a dialog is of another address.
 fn is_elsewhere(address: Addr, dialog: &WillDialog) -> bool

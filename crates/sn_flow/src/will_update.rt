@@ -1,18 +1,16 @@
 //! WILLTOPICUPD and WILLMSGUPD (MQTT-SN 1.2 section 6.4).
 
-ghost use Rattle.std.specs.Prelude.{◌≡◌, IfOk, IfErr};
+ghost use Rattle.std.specs.Prelude.{◌≡◌, IfOk, if◌then◌else◌, None, Some};
 ghost use Rattle.sn_flow.specs.Connection.{has_bit};
-ghost use Rattle.sn_flow.specs.WillUpdate.{topic_from as topic_of_parts, topic_asked as topic_asked_for, topic_accepted, topic_set, has_no_place as is_without_place, will_topic_update as topic_update, will_msg_update as message_update};
+ghost use Rattle.sn_flow.specs.WillUpdate.{topic_from as topic_of_parts, topic_asked as topic_asked_for, topic_accepted, topic_set, message_accepted, has_no_place as is_without_place, will_topic_update as topic_update, will_msg_update as message_update};
 
 use super::asking::{name_asked, qos_asked};
 use super::codes::{ACCEPTED, NOT_SUPPORTED};
 use super::config::Addr;
 use super::draft::Draft;
-use super::fault::StepFault;
-use octets::Octets;
-use rep_ops::MAX_BODY;
+use octets::{NoMemory, Octets};
 use sn_frame::{Flags, Frame, Will};
-use sn_session::{Session, SessionOp, WillTopic};
+use sn_session::{Message, Session, SessionOp, WillTopic};
 use sn_topic::TopicName;
 use std::alloc::Global;
 
@@ -34,18 +32,16 @@ fn topic_from(name: Option<TopicName>, qos: Option<u8>, retain: bool) -> Option<
 }
 
 /// The topic that is asked for with these flags and octets.
-pub fn topic_asked(alloc: Global, will: &Will) -> Result<Option<WillTopic>, StepFault>
-    ensures ok { IfOk result (λ topic. topic ≡ topic_asked_for will.now) }
-    ensures err { IfErr result (λ fault. fault ≡ StepFault.Memory) }
+pub fn topic_asked(alloc: Global, will: &Will) -> Result<Option<WillTopic>, NoMemory>
+    ensures { IfOk result (λ topic. topic ≡ topic_asked_for will.now) }
 {
     let name = name_asked(alloc, will.topic.as_slice())?;
     Ok(topic_from(name, qos_asked(will.flags.qos()), is_retained(will.flags)))
 }
 
 /// The will has this topic from now on, or none.
-fn accept_topic(alloc: Global, to: Addr, topic: Option<WillTopic>) -> Result<Draft, StepFault>
-    ensures ok { IfOk result (λ draft. draft ≡ topic_accepted to topic) }
-    ensures err { IfErr result (λ fault. fault ≡ StepFault.Memory) }
+fn accept_topic(alloc: Global, to: Addr, topic: Option<WillTopic>) -> Result<Draft, NoMemory>
+    ensures { IfOk result (λ draft. draft ≡ topic_accepted to topic) }
 {
     let mut draft = Draft::new(alloc);
     draft.change(SessionOp::WillTopic(topic))?;
@@ -54,9 +50,8 @@ fn accept_topic(alloc: Global, to: Addr, topic: Option<WillTopic>) -> Result<Dra
 }
 
 /// Gives the will this topic; refuses where there is none.
-fn set_topic(alloc: Global, to: Addr, topic: Option<WillTopic>) -> Result<Draft, StepFault>
-    ensures ok { IfOk result (λ draft. draft ≡ topic_set to topic) }
-    ensures err { IfErr result (λ fault. fault ≡ StepFault.Memory) }
+fn set_topic(alloc: Global, to: Addr, topic: Option<WillTopic>) -> Result<Draft, NoMemory>
+    ensures { IfOk result (λ draft. draft ≡ topic_set to topic) }
 {
     match topic {
         None => Draft::reply(
@@ -72,9 +67,8 @@ fn set_topic(alloc: Global, to: Addr, topic: Option<WillTopic>) -> Result<Draft,
 
 /// WILLTOPICUPD: the client gives its will another topic, or deletes it. WILLTOPICRESP says whether it is done: a topic
 /// that is no name, or a quality of service of bits 11, is refused.
-pub fn will_topic_update(alloc: Global, to: Addr, will: &Option<Will>) -> Result<Draft, StepFault>
-    ensures ok { IfOk result (λ draft. draft ≡ topic_update to will.now) }
-    ensures err { IfErr result (λ fault. fault ≡ StepFault.Memory) }
+pub fn will_topic_update(alloc: Global, to: Addr, will: &Option<Will>) -> Result<Draft, NoMemory>
+    ensures { IfOk result (λ draft. draft ≡ topic_update to will.now) }
 {
     match will {
         None => accept_topic(alloc, to, None),
@@ -85,11 +79,25 @@ pub fn will_topic_update(alloc: Global, to: Addr, will: &Option<Will>) -> Result
     }
 }
 
-/// Whether the will cannot have this message: there is no will, or the message is too long.
-fn has_no_place(session: &Session, message: &[u8]) -> bool
-    ensures { result ≡ is_without_place session.now message.now }
+/// The message that the will gets; nothing where there is no will, or the message is too long.
+fn message_for(alloc: Global, session: &Session, octets: &[u8]) -> Result<Option<Message>, NoMemory>
+    ensures { IfOk result (λ message. message ≡ (if is_without_place session.now octets.now
+        then None else Some octets.now)) }
 {
-    message.len() > MAX_BODY || session.will.is_none()
+    if session.will.is_none() {
+        return Ok(None);
+    }
+    Ok(Message::new(Octets::from_slice(alloc, octets)?))
+}
+
+/// The will has this message from now on.
+fn accept_message(alloc: Global, to: Addr, message: Message) -> Result<Draft, NoMemory>
+    ensures { IfOk result (λ draft. draft ≡ message_accepted to message) }
+{
+    let mut draft = Draft::new(alloc);
+    draft.change(SessionOp::WillMsg(message))?;
+    draft.send(alloc, to, &Frame::WillMsgResp { code: ACCEPTED })?;
+    Ok(draft)
 }
 
 /// WILLMSGUPD: the client gives its will another message. WILLMSGRESP says whether it is done: a message of more than
@@ -99,21 +107,17 @@ pub fn will_msg_update(
     to: Addr,
     session: &Session,
     message: &[u8],
-) -> Result<Draft, StepFault>
-    ensures ok { IfOk result (λ draft. draft ≡ message_update to session.now message.now) }
-    ensures err { IfErr result (λ fault. fault ≡ StepFault.Memory) }
+) -> Result<Draft, NoMemory>
+    ensures { IfOk result (λ draft. draft ≡ message_update to session.now message.now) }
 {
-    if has_no_place(session, message) {
-        return Draft::reply(
+    match message_for(alloc, session, message)? {
+        Some(message) => accept_message(alloc, to, message),
+        None => Draft::reply(
             alloc,
             to,
             &Frame::WillMsgResp {
                 code: NOT_SUPPORTED,
             },
-        );
+        ),
     }
-    let mut draft = Draft::new(alloc);
-    draft.change(SessionOp::WillMsg(Octets::from_slice(alloc, message)?))?;
-    draft.send(alloc, to, &Frame::WillMsgResp { code: ACCEPTED })?;
-    Ok(draft)
 }

@@ -1,6 +1,6 @@
 //! WILLTOPIC and WILLMSG (MQTT-SN 1.2 sections 6.2 and 6.3), and their updates of a bound client (section 6.4).
 
-ghost use Rattle.std.specs.Prelude.{◌≡◌, Some, IfOk, IfErr};
+ghost use Rattle.std.specs.Prelude.{◌≡◌, Some, IfOk};
 ghost use Rattle.std.specs.Option.{option_copied};
 ghost use Rattle.sn_flow.specs.Plans.{seen_of};
 ghost use Rattle.sn_flow.specs.Wills.{dismissed, concluded as concluded_row, ask_message as asked_message, topic_given as given_topic, topic_row as row_of_topic, topic_in as row_of_topic_in, will_topic as will_topic_row, will_of as will_with, message_row as row_of_message, message_in as row_of_message_in, will_msg as will_msg_row, topic_update_of, will_topic_update as topic_update_row, message_update_of, will_msg_update as message_update_row};
@@ -10,23 +10,21 @@ use super::bound::{session_or, unseen, view_or};
 use super::codes::{CONGESTION, NOT_SUPPORTED};
 use super::config::Addr;
 use super::draft::Draft;
-use super::fault::StepFault;
 use super::local::{Awaited, Dialogs, LocalChange, Request, WillDialog};
 use super::row::{Follow, Row, heard_row, stray, turn_away};
 use super::will_update::{
     topic_asked, will_msg_update as draft_message, will_topic_update as draft_topic,
 };
-use octets::Octets;
+use octets::{NoMemory, Octets};
 use rep_model::Replica;
-use rep_ops::{ClientId, MAX_BODY};
+use rep_ops::ClientId;
 use sn_frame::{Frame, Will};
-use sn_session::{Session, Will as SessionWill, WillTopic};
+use sn_session::{Message, Session, Will as SessionWill, WillTopic};
 use std::alloc::Global;
 
 /// Ends a dialog without a connection.
-fn dismiss(alloc: Global, request: &Request, code: u8) -> Result<Row, StepFault>
-    ensures ok { IfOk result (λ row. row ≡ dismissed request.now code) }
-    ensures err { IfErr result (λ fault. fault ≡ StepFault.Memory) }
+fn dismiss(alloc: Global, request: &Request, code: u8) -> Result<Row, NoMemory>
+    ensures { IfOk result (λ row. row ≡ dismissed request.now code) }
 {
     let to = request.address;
     let mut draft = Draft::new(alloc);
@@ -42,12 +40,11 @@ fn concluded<R: Replica>(
     request: &Request,
     given: GivenWill,
     now: u64,
-) -> Result<Row, StepFault>
-    ensures ok { IfOk result (λ row. row ≡ concluded_row (seen_of (R.kept replica.now)) request.now
+) -> Result<Row, NoMemory>
+    ensures { IfOk result (λ row. row ≡ concluded_row (seen_of (R.kept replica.now)) request.now
         given now) }
-    ensures err { IfErr result (λ fault. fault ≡ StepFault.Memory) }
 {
-    if has_no_room(alloc, replica, &request.client)? {
+    if has_no_room(replica, &request.client) {
         return dismiss(alloc, request, CONGESTION);
     }
     let unseen = unseen(alloc);
@@ -57,13 +54,12 @@ fn concluded<R: Replica>(
 }
 
 /// Asks the client for the message of its will.
-fn ask_message(alloc: Global, dialog: &WillDialog, topic: WillTopic) -> Result<Row, StepFault>
-    ensures ok { IfOk result (λ row. row ≡ asked_message dialog.now topic) }
-    ensures err { IfErr result (λ fault. fault ≡ StepFault.Memory) }
+fn ask_message(alloc: Global, dialog: &WillDialog, topic: WillTopic) -> Result<Row, NoMemory>
+    ensures { IfOk result (λ row. row ≡ asked_message dialog.now topic) }
 {
     let to = dialog.request.address;
     let goes_on = WillDialog {
-        request: dialog.request.copy(alloc)?,
+        request: dialog.request.copied(alloc)?,
         begun: dialog.begun,
         awaited: Awaited::Message(topic),
     };
@@ -78,9 +74,8 @@ fn topic_given(
     alloc: Global,
     dialog: &WillDialog,
     topic: Option<WillTopic>,
-) -> Result<Row, StepFault>
-    ensures ok { IfOk result (λ row. row ≡ given_topic dialog.now topic) }
-    ensures err { IfErr result (λ fault. fault ≡ StepFault.Memory) }
+) -> Result<Row, NoMemory>
+    ensures { IfOk result (λ row. row ≡ given_topic dialog.now topic) }
 {
     match topic {
         None => dismiss(alloc, &dialog.request, NOT_SUPPORTED),
@@ -95,10 +90,9 @@ fn topic_row<R: Replica>(
     dialog: &WillDialog,
     will: &Option<Will>,
     now: u64,
-) -> Result<Row, StepFault>
-    ensures ok { IfOk result (λ row. row ≡ row_of_topic (seen_of (R.kept replica.now)) dialog.now
+) -> Result<Row, NoMemory>
+    ensures { IfOk result (λ row. row ≡ row_of_topic (seen_of (R.kept replica.now)) dialog.now
         will.now now) }
-    ensures err { IfErr result (λ fault. fault ≡ StepFault.Memory) }
 {
     match will {
         None => concluded(alloc, replica, &dialog.request, GivenWill::Deleted, now),
@@ -118,10 +112,9 @@ fn topic_in<R: Replica>(
     dialog: &WillDialog,
     will: &Option<Will>,
     now: u64,
-) -> Result<Row, StepFault>
-    ensures ok { IfOk result (λ row. row ≡ row_of_topic_in (seen_of (R.kept replica.now)) from
+) -> Result<Row, NoMemory>
+    ensures { IfOk result (λ row. row ≡ row_of_topic_in (seen_of (R.kept replica.now)) from
         (option_copied bound.entry) dialog.now will.now now dialog.now.awaited) }
-    ensures err { IfErr result (λ fault. fault ≡ StepFault.Memory) }
 {
     match &dialog.awaited {
         Awaited::Topic => {
@@ -141,10 +134,9 @@ pub fn will_topic<R: Replica>(
     from: Addr,
     will: &Option<Will>,
     now: u64,
-) -> Result<Row, StepFault>
-    ensures ok { IfOk result (λ row. row ≡ will_topic_row (seen_of (R.kept replica.now))
+) -> Result<Row, NoMemory>
+    ensures { IfOk result (λ row. row ≡ will_topic_row (seen_of (R.kept replica.now))
         dialogs.now.local from will.now now) }
-    ensures err { IfErr result (λ fault. fault ≡ StepFault.Memory) }
 {
     let bound = dialogs.client_at(from);
     match dialogs.dialog_at(from) {
@@ -154,16 +146,15 @@ pub fn will_topic<R: Replica>(
 }
 
 /// The will of this topic with this message.
-fn will_of(alloc: Global, topic: &WillTopic, message: &[u8]) -> Result<SessionWill, StepFault>
-    ensures ok { IfOk result (λ will. will ≡ will_with topic.now message.now) }
-    ensures err { IfErr result (λ fault. fault ≡ StepFault.Memory) }
+fn will_of(alloc: Global, topic: &WillTopic, message: Message) -> Result<SessionWill, NoMemory>
+    ensures { IfOk result (λ will. will ≡ will_with topic.now message) }
 {
-    let topic = topic.copy(alloc)?;
+    let topic = topic.copied(alloc)?;
     Ok(SessionWill {
         topic: topic.topic,
         qos: topic.qos,
         retain: topic.retain,
-        message: Octets::from_slice(alloc, message)?,
+        message,
     })
 }
 
@@ -175,14 +166,13 @@ fn message_row<R: Replica>(
     topic: &WillTopic,
     message: &[u8],
     now: u64,
-) -> Result<Row, StepFault>
-    ensures ok { IfOk result (λ row. row ≡ row_of_message (seen_of (R.kept replica.now)) request.now
+) -> Result<Row, NoMemory>
+    ensures { IfOk result (λ row. row ≡ row_of_message (seen_of (R.kept replica.now)) request.now
         topic.now message.now now) }
-    ensures err { IfErr result (λ fault. fault ≡ StepFault.Memory) }
 {
-    if message.len() > MAX_BODY {
+    let Some(message) = Message::new(Octets::from_slice(alloc, message)?) else {
         return dismiss(alloc, request, NOT_SUPPORTED);
-    }
+    };
     let will = will_of(alloc, topic, message)?;
     concluded(alloc, replica, request, GivenWill::Replaced(will), now)
 }
@@ -196,10 +186,9 @@ fn message_in<R: Replica>(
     dialog: &WillDialog,
     message: &[u8],
     now: u64,
-) -> Result<Row, StepFault>
-    ensures ok { IfOk result (λ row. row ≡ row_of_message_in (seen_of (R.kept replica.now)) from
+) -> Result<Row, NoMemory>
+    ensures { IfOk result (λ row. row ≡ row_of_message_in (seen_of (R.kept replica.now)) from
         (option_copied bound.entry) dialog.now.request message.now now dialog.now.awaited) }
-    ensures err { IfErr result (λ fault. fault ≡ StepFault.Memory) }
 {
     match &dialog.awaited {
         Awaited::Topic => stray(alloc, from, bound, now),
@@ -219,10 +208,9 @@ pub fn will_msg<R: Replica>(
     from: Addr,
     message: &[u8],
     now: u64,
-) -> Result<Row, StepFault>
-    ensures ok { IfOk result (λ row. row ≡ will_msg_row (seen_of (R.kept replica.now))
+) -> Result<Row, NoMemory>
+    ensures { IfOk result (λ row. row ≡ will_msg_row (seen_of (R.kept replica.now))
         dialogs.now.local from message.now now) }
-    ensures err { IfErr result (λ fault. fault ≡ StepFault.Memory) }
 {
     let bound = dialogs.client_at(from);
     match dialogs.dialog_at(from) {
@@ -238,9 +226,8 @@ fn update_topic(
     client: &ClientId,
     will: &Option<Will>,
     now: u64,
-) -> Result<Row, StepFault>
-    ensures ok { IfOk result (λ row. row ≡ topic_update_of from (Some client.now) will.now now) }
-    ensures err { IfErr result (λ fault. fault ≡ StepFault.Memory) }
+) -> Result<Row, NoMemory>
+    ensures { IfOk result (λ row. row ≡ topic_update_of from (Some client.now) will.now now) }
 {
     let draft = draft_topic(alloc, from, will)?;
     let row = Row::new(alloc, Follow::Delivery, client, draft)?;
@@ -254,9 +241,8 @@ pub fn will_topic_update(
     from: Addr,
     will: &Option<Will>,
     now: u64,
-) -> Result<Row, StepFault>
-    ensures ok { IfOk result (λ row. row ≡ topic_update_row dialogs.now.local from will.now now) }
-    ensures err { IfErr result (λ fault. fault ≡ StepFault.Memory) }
+) -> Result<Row, NoMemory>
+    ensures { IfOk result (λ row. row ≡ topic_update_row dialogs.now.local from will.now now) }
 {
     match dialogs.client_at(from) {
         None => turn_away(alloc, from),
@@ -272,10 +258,9 @@ fn update_message<R: Replica>(
     client: &ClientId,
     message: &[u8],
     now: u64,
-) -> Result<Row, StepFault>
-    ensures ok { IfOk result (λ row. row ≡ message_update_of (seen_of (R.kept replica.now)) from
+) -> Result<Row, NoMemory>
+    ensures { IfOk result (λ row. row ≡ message_update_of (seen_of (R.kept replica.now)) from
         (Some client.now) message.now now) }
-    ensures err { IfErr result (λ fault. fault ≡ StepFault.Memory) }
 {
     let empty = Session::empty(alloc);
     let session = session_or(replica, client, &empty);
@@ -292,10 +277,9 @@ pub fn will_msg_update<R: Replica>(
     from: Addr,
     message: &[u8],
     now: u64,
-) -> Result<Row, StepFault>
-    ensures ok { IfOk result (λ row. row ≡ message_update_row (seen_of (R.kept replica.now))
+) -> Result<Row, NoMemory>
+    ensures { IfOk result (λ row. row ≡ message_update_row (seen_of (R.kept replica.now))
         dialogs.now.local from message.now now) }
-    ensures err { IfErr result (λ fault. fault ≡ StepFault.Memory) }
 {
     match dialogs.client_at(from) {
         None => turn_away(alloc, from),

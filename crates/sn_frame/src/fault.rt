@@ -4,6 +4,7 @@ ghost use Rattle.std.specs.Prelude.{◌≡◌};
 ghost use Rattle.sn_frame.specs.declared.fault.FrameFault.TheVariants as frame_faults;
 ghost use Rattle.sn_frame.specs.declared.fault.EncodeFault.TheVariants as encode_faults;
 
+use octets::NoMemory;
 use std::alloc::AllocError;
 use thiserror::Error;
 
@@ -73,10 +74,26 @@ impl From<AllocError> for FrameFault {
     }
 }
 
+impl From<NoMemory> for FrameFault {
+    ghost from_gives = { λ _ e. e ≡ frame_faults.Memory };
+
+    fn from(_e: NoMemory) -> FrameFault {
+        FrameFault::Memory
+    }
+}
+
 impl From<AllocError> for EncodeFault {
     ghost from_gives = { λ _ e. e ≡ encode_faults.Memory };
 
     fn from(_e: AllocError) -> EncodeFault {
+        EncodeFault::Memory
+    }
+}
+
+impl From<NoMemory> for EncodeFault {
+    ghost from_gives = { λ _ e. e ≡ encode_faults.Memory };
+
+    fn from(_e: NoMemory) -> EncodeFault {
         EncodeFault::Memory
     }
 }

@@ -3,6 +3,7 @@ pub mod Tables
 pub mod Topics
 pub mod Subscriptions
 pub mod Received
+pub mod Messages
 pub mod Wills
 pub mod Session
 pub mod inner

@@ -3,6 +3,7 @@ use Rattle.std.specs.Prelude.{◌≤◌, Bool, true, ◌&&◌, List, [], ◌∷�
 use Rattle.std.specs.declared.cmp.Ordering.{Ordering}
 use Rattle.std.specs.declared.cmp.Ordering.TheVariants.{Less, Equal, Greater}
 use Rattle.std.specs.Ordering.{is_lt}
+use Rattle.sn_session.specs.declared.table.TheConstants.{MAX_ENTRIES}
 
 -- each entry comes before the next one
 abbrev pub is_ascending : {E : Type 0} → (E → E → Ordering) → List E → Bool
@@ -12,11 +13,11 @@ is_ascending cmp (a ∷ b ∷ rest) = is_lt (cmp a b) && is_ascending cmp (b ∷
 
 -- a list that is a table
 abbrev pub IsTable : {E : Type 0} → (E → E → Ordering) → List E → Type 0
-IsTable cmp entries = IsTrue (is_ascending cmp entries) × (length entries ≤ 256)
+IsTable cmp entries = IsTrue (is_ascending cmp entries) × (length entries ≤ MAX_ENTRIES)
 
 -- no entry can be added
 abbrev pub is_table_full : {E : Type 0} → List E → Bool
-is_table_full entries = nat_le 256 (length entries)
+is_table_full entries = nat_le MAX_ENTRIES (length entries)
 
 -- the first, second or third, where the first is less than the second, equal or greater
 abbrev pub by_order : {A : Type 0} → Ordering → A → A → A → A

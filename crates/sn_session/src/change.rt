@@ -1,14 +1,15 @@
 //! The operations that change a session.
 
-ghost use Rattle.std.specs.Prelude.{◌≡◌, ◌↔◌, IfOk, IfErr, OnOk, OnErr, IsErrOf, IsTrue};
+ghost use Rattle.std.specs.Prelude.{◌≡◌, ◌↔◌, IfOk, OnOk, OnErr, IsErrOf, IsTrue};
 ghost use Rattle.sn_session.specs.Session.{applied, is_full, is_take};
 
+use super::message::Message;
 use crate::fault::SessionFault;
 use crate::outbound::Outbound;
 use crate::presence::Presence;
 use crate::session::Session;
 use crate::will::{WillTopic, set_message, set_topic};
-use octets::Octets;
+use octets::NoMemory;
 use sn_topic::{Filter, TopicName};
 use std::alloc::Global;
 
@@ -40,7 +41,7 @@ pub enum SessionOp {
     /// The will has another topic, or there is none from now on.
     WillTopic(Option<WillTopic>),
     /// The will, if there is one, has another message.
-    WillMsg(Octets),
+    WillMsg(Message),
     /// The client sent a message of quality of service 2 under this id.
     Received {
         id: u16,
@@ -65,31 +66,32 @@ impl SessionOp {
     }
 
     /// An equal operation.
-    pub fn copy(&self, alloc: Global) -> Result<SessionOp, SessionFault>
-        ensures ok { IfOk result (λ made. made ≡ self.now) }
-        ensures err { IfErr result (λ fault. fault ≡ SessionFault.Memory) }
+    pub fn copied(&self, alloc: Global) -> Result<SessionOp, NoMemory>
+        ensures { IfOk result (λ made. made ≡ self.now) }
     {
         match self {
-            SessionOp::Take(taken) => Ok(SessionOp::Take(taken.copy(alloc)?)),
+            SessionOp::Take(taken) => Ok(SessionOp::Take(taken.copied(alloc)?)),
             SessionOp::Presence { presence, duration } => Ok(SessionOp::Presence {
                 presence: *presence,
                 duration: *duration,
             }),
             SessionOp::Register { id, name, known } => Ok(SessionOp::Register {
                 id: *id,
-                name: name.copy(alloc)?,
+                name: name.copied(alloc)?,
                 known: *known,
             }),
             SessionOp::Subscribe { filter, qos } => Ok(SessionOp::Subscribe {
-                filter: filter.copy(alloc)?,
+                filter: filter.copied(alloc)?,
                 qos: *qos,
             }),
             SessionOp::Unsubscribe { filter } => Ok(SessionOp::Unsubscribe {
-                filter: filter.copy(alloc)?,
+                filter: filter.copied(alloc)?,
             }),
             SessionOp::WillTopic(None) => Ok(SessionOp::WillTopic(None)),
-            SessionOp::WillTopic(Some(asked)) => Ok(SessionOp::WillTopic(Some(asked.copy(alloc)?))),
-            SessionOp::WillMsg(message) => Ok(SessionOp::WillMsg(message.copy(alloc)?)),
+            SessionOp::WillTopic(Some(asked)) => Ok(SessionOp::WillTopic(Some(asked.copied(
+                alloc,
+            )?))),
+            SessionOp::WillMsg(message) => Ok(SessionOp::WillMsg(message.copied(alloc)?)),
             SessionOp::Received { id } => Ok(SessionOp::Received { id: *id }),
             SessionOp::Released { id } => Ok(SessionOp::Released { id: *id }),
             SessionOp::Outbound { exchange, next_id } => Ok(SessionOp::Outbound {
@@ -128,7 +130,7 @@ impl Session {
     {
         match change {
             SessionOp::Take(taken) => {
-                *self = taken.copy(alloc)?;
+                *self = taken.copied(alloc)?;
                 Ok(())
             }
             SessionOp::Presence { presence, duration } => {
@@ -142,8 +144,8 @@ impl Session {
                 self.subscriptions.remove(filter);
                 Ok(())
             }
-            SessionOp::WillTopic(asked) => set_topic(&mut self.will, alloc, asked),
-            SessionOp::WillMsg(message) => set_message(&mut self.will, alloc, message),
+            SessionOp::WillTopic(asked) => Ok(set_topic(&mut self.will, alloc, asked)?),
+            SessionOp::WillMsg(message) => Ok(set_message(&mut self.will, alloc, message)?),
             SessionOp::Received { id } => self.received.add(*id),
             SessionOp::Released { id } => {
                 self.received.remove(*id);

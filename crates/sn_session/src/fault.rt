@@ -4,7 +4,7 @@ ghost use Rattle.std.specs.Prelude.{◌≡◌};
 ghost use Rattle.sn_session.specs.Fault.{number_of};
 ghost use Rattle.sn_session.specs.declared.fault.SessionFault.TheVariants as faults;
 
-use sn_topic::TopicFault;
+use octets::NoMemory;
 use std::alloc::AllocError;
 use thiserror::Error;
 
@@ -39,11 +39,10 @@ impl From<AllocError> for SessionFault {
     }
 }
 
-// A session only copies topics, and a copy is refused for want of memory alone.
-impl From<TopicFault> for SessionFault {
+impl From<NoMemory> for SessionFault {
     ghost from_gives = { λ _ e. e ≡ faults.Memory };
 
-    fn from(_error: TopicFault) -> SessionFault {
+    fn from(_error: NoMemory) -> SessionFault {
         SessionFault::Memory
     }
 }

@@ -9,6 +9,7 @@
 //! - `presence`: where the client is.
 //! - `topics`, `subscriptions`, `received`: the tables of a session. Each has at most 256 entries in strictly
 //!   ascending order, so that equal tables are equal lists; `table` is what they share.
+//! - `message`: what is published.
 //! - `will`: the will and what is said of it.
 //! - `outbound`: the exchange by which a message is handed to the client.
 //! - `fault`: why an operation is refused.
@@ -16,6 +17,7 @@
 
 mod change;
 mod fault;
+mod message;
 mod outbound;
 mod presence;
 mod received;
@@ -27,10 +29,12 @@ mod will;
 
 pub use change::SessionOp;
 pub use fault::SessionFault;
+pub use message::{MAX_MESSAGE, Message};
 pub use outbound::{Outbound, Phase};
 pub use presence::Presence;
 pub use received::Received;
 pub use session::Session;
 pub use subscriptions::{Subscription, Subscriptions};
+pub use table::MAX_ENTRIES;
 pub use topics::{TopicEntry, Topics};
 pub use will::{Will, WillTopic};

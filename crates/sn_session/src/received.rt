@@ -1,13 +1,15 @@
 //! The message ids that a client sent at quality of service 2 and has not released.
 
-ghost use Rattle.std.specs.Prelude.{◌≡◌, ◌==◌, ◌<◌, ◌≤◌, ◌↔◌, [], length, IfOk, IfErr, MatchOption, OnOk, OnErr, IsErrOf, IsTrue, false};
+ghost use Rattle.std.specs.Prelude.{◌≡◌, ◌==◌, ◌<◌, ◌≤◌, ◌↔◌, [], length, IfOk, MatchOption, OnOk, OnErr, IsErrOf, IsTrue, false};
 ghost use Rattle.std.specs.Ordering.{nat_cmp};
+ghost use Rattle.sn_session.specs.declared.table.TheConstants.{MAX_ENTRIES};
 ghost use Rattle.sn_session.specs.Tables.{IsTable, is_ascending as ascending_test};
 ghost use Rattle.sn_session.specs.inner.Tables.{IsPlace};
 ghost use Rattle.sn_session.specs.Received.{with_received, without_received, is_received, id_has_no_room};
 
 use crate::fault::SessionFault;
 use crate::table::{MAX_ENTRIES, insert_at};
+use octets::NoMemory;
 use std::alloc::Global;
 use std::marker::Model;
 
@@ -61,7 +63,7 @@ impl Received {
     /// How many ids there are, at most 256.
     pub fn len(&self) -> usize
         ensures count { result ≡ length self.now }
-        ensures limit { result ≤ 256 }
+        ensures limit { result ≤ MAX_ENTRIES }
     {
         self.ids.len()
     }
@@ -117,9 +119,8 @@ impl Received {
     }
 
     /// An equal table.
-    pub fn copy(&self, alloc: Global) -> Result<Received, SessionFault>
-        ensures ok { IfOk result (λ made. made ≡ self.now) }
-        ensures err { IfErr result (λ fault. fault ≡ SessionFault.Memory) }
+    pub fn copied(&self, alloc: Global) -> Result<Received, NoMemory>
+        ensures { IfOk result (λ made. made ≡ self.now) }
     {
         Ok(Received {
             ids: Vec::from_slice(alloc, self.ids.as_slice())?,

@@ -13,6 +13,7 @@ use crate::received::Received;
 use crate::subscriptions::Subscriptions;
 use crate::topics::{TopicEntry, Topics};
 use crate::will::Will;
+use octets::NoMemory;
 use sn_topic::{Filter, TopicName};
 use std::alloc::Global;
 
@@ -111,24 +112,31 @@ impl Session {
     }
 
     /// An equal session.
-    pub fn copy(&self, alloc: Global) -> Result<Session, SessionFault>
-        ensures ok { IfOk result (λ made. made ≡ self.now) }
-        ensures err { IfErr result (λ fault. fault ≡ SessionFault.Memory) }
+    pub fn copied(&self, alloc: Global) -> Result<Session, NoMemory>
+        ensures { IfOk result (λ made. made ≡ self.now) }
     {
         let will = match &self.will {
             None => None,
-            Some(will) => Some(will.copy(alloc)?),
+            Some(will) => Some(will.copied(alloc)?),
         };
         Ok(Session {
             presence: self.presence,
             clean: self.clean,
             duration: self.duration,
             next_id: self.next_id,
-            topics: self.topics.copy(alloc)?,
-            subscriptions: self.subscriptions.copy(alloc)?,
+            topics: self.topics.copied(alloc)?,
+            subscriptions: self.subscriptions.copied(alloc)?,
             will,
-            received: self.received.copy(alloc)?,
+            received: self.received.copied(alloc)?,
             outbound: self.outbound,
         })
+    }
+
+    /// The same, where want of memory is a fault of this crate.
+    pub fn copy(&self, alloc: Global) -> Result<Session, SessionFault>
+        ensures ok { IfOk result (λ made. made ≡ self.now) }
+        ensures err { IfErr result (λ fault. fault ≡ SessionFault.Memory) }
+    {
+        Ok(self.copied(alloc)?)
     }
 }

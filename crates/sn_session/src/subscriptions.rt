@@ -1,12 +1,14 @@
 //! The subscriptions of a session.
 
-ghost use Rattle.std.specs.Prelude.{◌≡◌, ◌==◌, ◌<◌, ◌≤◌, ◌↔◌, [], length, IfOk, IfErr, IfSome, MatchOption, OnOk, OnErr, IsErrOf, IsTrue, false, Some, is_none};
+ghost use Rattle.std.specs.Prelude.{◌≡◌, ◌==◌, ◌<◌, ◌≤◌, ◌↔◌, [], length, IfOk, IfSome, MatchOption, OnOk, OnErr, IsErrOf, IsTrue, false, Some, is_none};
+ghost use Rattle.sn_session.specs.declared.table.TheConstants.{MAX_ENTRIES};
 ghost use Rattle.sn_session.specs.Tables.{IsTable, is_ascending as ascending_test};
 ghost use Rattle.sn_session.specs.inner.Tables.{IsPlace};
 ghost use Rattle.sn_session.specs.Subscriptions.{filter_cmp, subscription_cmp, with_subscription, without_filter, subscription_of, qos_of, filter_has_no_room, asked_qos, subscribed_qos, or_greater as greater_test, IsGreatest};
 
 use crate::fault::SessionFault;
 use crate::table::{MAX_ENTRIES, insert_at};
+use octets::NoMemory;
 use sn_topic::{Filter, TopicName, matches};
 use std::alloc::{AllocError, Global};
 use std::cmp::Ordering;
@@ -23,12 +25,11 @@ pub struct Subscription {
 
 impl Subscription {
     /// An equal subscription.
-    pub fn copy(&self, alloc: Global) -> Result<Subscription, SessionFault>
-        ensures ok { IfOk result (λ made. made ≡ self.now) }
-        ensures err { IfErr result (λ fault. fault ≡ SessionFault.Memory) }
+    pub fn copied(&self, alloc: Global) -> Result<Subscription, NoMemory>
+        ensures { IfOk result (λ made. made ≡ self.now) }
     {
         Ok(Subscription {
-            filter: self.filter.copy(alloc)?,
+            filter: self.filter.copied(alloc)?,
             qos: self.qos,
         })
     }
@@ -86,7 +87,7 @@ impl Subscriptions {
     /// How many entries there are, at most 256.
     pub fn len(&self) -> usize
         ensures count { result ≡ length self.now }
-        ensures limit { result ≤ 256 }
+        ensures limit { result ≤ MAX_ENTRIES }
     {
         self.entries.len()
     }
@@ -150,7 +151,7 @@ impl Subscriptions {
                 entry.qos = qos;
             }
             Err(at) => {
-                let filter = filter.copy(alloc)?;
+                let filter = filter.copied(alloc)?;
                 let entry = Subscription { filter, qos };
                 insert_at(&mut self.entries, at, entry)?;
             }
@@ -171,13 +172,14 @@ impl Subscriptions {
     }
 
     /// An equal table.
-    pub fn copy(&self, alloc: Global) -> Result<Subscriptions, SessionFault>
-        ensures ok { IfOk result (λ made. made ≡ self.now) }
-        ensures err { IfErr result (λ fault. fault ≡ SessionFault.Memory) }
+    pub fn copied(&self, alloc: Global) -> Result<Subscriptions, NoMemory>
+        ensures { IfOk result (λ made. made ≡ self.now) }
     {
         let mut entries = Vec::with_capacity(alloc, self.entries.len())?;
         for entry in self.entries.as_slice() {
-            entries.push(entry.copy(alloc)?).map_err(AllocError::from)?;
+            entries
+                .push(entry.copied(alloc)?)
+                .map_err(AllocError::from)?;
         }
         Ok(Subscriptions { entries })
     }

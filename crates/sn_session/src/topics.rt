@@ -1,13 +1,15 @@
 //! The topic ids of a session.
 
-ghost use Rattle.std.specs.Prelude.{◌≡◌, ◌==◌, ◌<◌, ◌≤◌, ◌↔◌, [], ◌∷◌, length, is_some, IfOk, IfErr, IfSome, MatchOption, OnOk, OnErr, IsErrOf, IsTrue, false, map, option_copied};
+ghost use Rattle.std.specs.Prelude.{◌≡◌, ◌==◌, ◌<◌, ◌≤◌, ◌↔◌, [], ◌∷◌, length, is_some, IfOk, IfSome, MatchOption, OnOk, OnErr, IsErrOf, IsTrue, false, map, option_copied};
 ghost use Rattle.std.specs.Ordering.{nat_cmp};
+ghost use Rattle.sn_session.specs.declared.table.TheConstants.{MAX_ENTRIES};
 ghost use Rattle.sn_session.specs.Tables.{IsTable, is_ascending as ascending_test};
 ghost use Rattle.sn_session.specs.inner.Tables.{IsPlace};
 ghost use Rattle.sn_session.specs.Topics.{topic_cmp, unknown, with_topic, topic_of, topic_named, topic_id, topic_has_no_room, free_id, least_unused, IsLeastUnused, IsLeastIdOf};
 
 use crate::fault::SessionFault;
 use crate::table::{MAX_ENTRIES, insert_at};
+use octets::NoMemory;
 use sn_topic::TopicName;
 use std::alloc::{AllocError, Global};
 use std::marker::Model;
@@ -25,13 +27,12 @@ pub struct TopicEntry {
 
 impl TopicEntry {
     /// An equal entry.
-    pub fn copy(&self, alloc: Global) -> Result<TopicEntry, SessionFault>
-        ensures ok { IfOk result (λ made. made ≡ self.now) }
-        ensures err { IfErr result (λ fault. fault ≡ SessionFault.Memory) }
+    pub fn copied(&self, alloc: Global) -> Result<TopicEntry, NoMemory>
+        ensures { IfOk result (λ made. made ≡ self.now) }
     {
         Ok(TopicEntry {
             id: self.id,
-            name: self.name.copy(alloc)?,
+            name: self.name.copied(alloc)?,
             known: self.known,
         })
     }
@@ -85,7 +86,7 @@ impl Topics {
     /// How many entries there are, at most 256.
     pub fn len(&self) -> usize
         ensures count { result ≡ length self.now }
-        ensures limit { result ≤ 256 }
+        ensures limit { result ≤ MAX_ENTRIES }
     {
         self.entries.len()
     }
@@ -150,7 +151,7 @@ impl Topics {
         if self.has_no_room(id) {
             return Err(SessionFault::Full);
         }
-        let name = name.copy(alloc)?;
+        let name = name.copied(alloc)?;
         let entry = TopicEntry { id, name, known };
         match place(self.entries.as_slice(), id) {
             Ok(at) => self.entries[at] = entry,
@@ -179,13 +180,14 @@ impl Topics {
     }
 
     /// An equal table.
-    pub fn copy(&self, alloc: Global) -> Result<Topics, SessionFault>
-        ensures ok { IfOk result (λ made. made ≡ self.now) }
-        ensures err { IfErr result (λ fault. fault ≡ SessionFault.Memory) }
+    pub fn copied(&self, alloc: Global) -> Result<Topics, NoMemory>
+        ensures { IfOk result (λ made. made ≡ self.now) }
     {
         let mut entries = Vec::with_capacity(alloc, self.entries.len())?;
         for entry in self.entries.as_slice() {
-            entries.push(entry.copy(alloc)?).map_err(AllocError::from)?;
+            entries
+                .push(entry.copied(alloc)?)
+                .map_err(AllocError::from)?;
         }
         Ok(Topics { entries })
     }
@@ -239,7 +241,7 @@ fn is_ascending(entries: &[TopicEntry]) -> bool
 
 /// The least id from 1 on that is not in use, of entries whose ids ascend.
 fn least_unused(entries: &[TopicEntry]) -> u16
-    requires { length entries.now < 256 }
+    requires { length entries.now < MAX_ENTRIES }
     ensures value { result ≡ least_unused 1 entries.now }
     ensures limit { result ≤ 257 }
 {

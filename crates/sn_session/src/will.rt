@@ -1,10 +1,10 @@
 //! The will of a client: what is published when the client is lost (MQTT-SN 1.2 section 6.3).
 
-ghost use Rattle.std.specs.Prelude.{◌≡◌, IfOk, IfErr, OnOk, OnErr};
+ghost use Rattle.std.specs.Prelude.{◌≡◌, IfOk, OnOk, OnErr};
 ghost use Rattle.sn_session.specs.Wills.{with_will_topic, with_will_message};
 
-use crate::fault::SessionFault;
-use octets::Octets;
+use super::message::Message;
+use octets::NoMemory;
 use sn_topic::TopicName;
 use std::alloc::Global;
 
@@ -29,17 +29,16 @@ pub struct Will {
     /// Whether it is to be retained.
     pub retain: bool,
     /// What is published.
-    pub message: Octets,
+    pub message: Message,
 }
 
 impl WillTopic {
     /// An equal value.
-    pub fn copy(&self, alloc: Global) -> Result<WillTopic, SessionFault>
-        ensures ok { IfOk result (λ made. made ≡ self.now) }
-        ensures err { IfErr result (λ fault. fault ≡ SessionFault.Memory) }
+    pub fn copied(&self, alloc: Global) -> Result<WillTopic, NoMemory>
+        ensures { IfOk result (λ made. made ≡ self.now) }
     {
         Ok(WillTopic {
-            topic: self.topic.copy(alloc)?,
+            topic: self.topic.copied(alloc)?,
             qos: self.qos,
             retain: self.retain,
         })
@@ -48,15 +47,14 @@ impl WillTopic {
 
 impl Will {
     /// An equal will.
-    pub fn copy(&self, alloc: Global) -> Result<Will, SessionFault>
-        ensures ok { IfOk result (λ made. made ≡ self.now) }
-        ensures err { IfErr result (λ fault. fault ≡ SessionFault.Memory) }
+    pub fn copied(&self, alloc: Global) -> Result<Will, NoMemory>
+        ensures { IfOk result (λ made. made ≡ self.now) }
     {
         Ok(Will {
-            topic: self.topic.copy(alloc)?,
+            topic: self.topic.copied(alloc)?,
             qos: self.qos,
             retain: self.retain,
-            message: self.message.copy(alloc)?,
+            message: self.message.copied(alloc)?,
         })
     }
 }
@@ -67,23 +65,22 @@ pub fn set_topic(
     will: &mut Option<Will>,
     alloc: Global,
     asked: &Option<WillTopic>,
-) -> Result<(), SessionFault>
+) -> Result<(), NoMemory>
     ensures ok { OnOk result (will.new ≡ with_will_topic asked.now will.old) }
     ensures err { OnErr result (will.new ≡ will.old) }
-    ensures memory { IfErr result (λ fault. fault ≡ SessionFault.Memory) }
 {
     let Some(asked) = asked else {
         *will = None;
         return Ok(());
     };
-    let topic = asked.topic.copy(alloc)?;
+    let topic = asked.topic.copied(alloc)?;
     match will {
         None => {
             *will = Some(Will {
                 topic,
                 qos: asked.qos,
                 retain: asked.retain,
-                message: Octets::new(Vec::new(alloc))?,
+                message: Message::empty(alloc)?,
             });
         }
         Some(will) => {
@@ -99,15 +96,14 @@ pub fn set_topic(
 pub fn set_message(
     will: &mut Option<Will>,
     alloc: Global,
-    message: &Octets,
-) -> Result<(), SessionFault>
+    message: &Message,
+) -> Result<(), NoMemory>
     ensures ok { OnOk result (will.new ≡ with_will_message message.now will.old) }
     ensures err { OnErr result (will.new ≡ will.old) }
-    ensures memory { IfErr result (λ fault. fault ≡ SessionFault.Memory) }
 {
     match will {
         None => {}
-        Some(will) => will.message = message.copy(alloc)?,
+        Some(will) => will.message = message.copied(alloc)?,
     }
     Ok(())
 }

@@ -1,10 +1,11 @@
 -- which octets are topic names and which are filters
 use Rattle.std.specs.Prelude.{ℕ, ◌<◌, ◌≤◌, Bool, ◌&&◌, not, nat_lt, nat_le, List, length, IsTrue, IsFalse}
+use Rattle.sn_topic.specs.declared.level.TheConstants.{MAX_TOPIC}
 use Rattle.sn_topic.specs.Levels.{has_wildcard, levels, wildcards_stand_alone}
 
 -- a topic has 1 to 256 octets
 abbrev pub IsTopicSize : List ℕ → Type 0
-IsTopicSize octets = (0 < length octets) × (length octets ≤ 256)
+IsTopicSize octets = (0 < length octets) × (length octets ≤ MAX_TOPIC)
 
 -- a topic name has no wildcard
 abbrev pub IsName : List ℕ → Type 0
@@ -16,7 +17,7 @@ IsFilter octets = IsTopicSize octets × IsTrue (wildcards_stand_alone (levels oc
 
 -- `IsTopicSize` as a test
 abbrev pub is_topic_size : List ℕ → Bool
-is_topic_size octets = nat_lt 0 (length octets) && nat_le (length octets) 256
+is_topic_size octets = nat_lt 0 (length octets) && nat_le (length octets) MAX_TOPIC
 
 -- `IsName` as a test
 abbrev pub is_name : List ℕ → Bool

@@ -4,6 +4,7 @@ ghost use Rattle.std.specs.Prelude.{◌≡◌};
 ghost use Rattle.sn_topic.specs.Fault.{number_of};
 ghost use Rattle.sn_topic.specs.declared.fault.TopicFault.TheVariants as faults;
 
+use octets::NoMemory;
 use std::alloc::{AllocError, AllocFailed};
 use thiserror::Error;
 
@@ -41,6 +42,14 @@ impl From<AllocError> for TopicFault {
     ghost from_gives = { λ _ e. e ≡ faults.Memory };
 
     fn from(_e: AllocError) -> TopicFault {
+        TopicFault::Memory
+    }
+}
+
+impl From<NoMemory> for TopicFault {
+    ghost from_gives = { λ _ e. e ≡ faults.Memory };
+
+    fn from(_e: NoMemory) -> TopicFault {
         TopicFault::Memory
     }
 }

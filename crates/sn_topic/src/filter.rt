@@ -2,11 +2,12 @@
 
 ghost use Rattle.std.specs.Prelude.{◌≡◌, ◌≢◌, ◌<◌, ◌↔◌, [], length, Err, IfOk, IfErr, IsErrOf, IsFalse};
 ghost use Rattle.sn_topic.specs.Levels.{levels, has_wildcard as any_wildcard, begins_with_wildcard as wildcard_first, wildcards_stand_alone as stand_test};
+ghost use Rattle.sn_topic.specs.declared.level.TheConstants.{MAX_TOPIC};
 ghost use Rattle.sn_topic.specs.Topics.{IsTopicSize, IsFilter};
 
 use crate::fault::TopicFault;
-use crate::level::{MAX_SIZE, begins_with_wildcard, has_wildcard, wildcards_stand_alone};
-use octets::Octets;
+use crate::level::{MAX_TOPIC, begins_with_wildcard, has_wildcard, wildcards_stand_alone};
+use octets::{NoMemory, Octets};
 use std::alloc::Global;
 use std::marker::Model;
 
@@ -33,7 +34,7 @@ impl Filter {
     pub fn new(alloc: Global, octets: &[u8]) -> Result<Filter, TopicFault>
         ensures ok { IfOk result (λ filter. (filter ≡ octets.now) × IsFilter octets.now) }
         ensures empty { IsErrOf result TopicFault.Empty ↔ (octets.now ≡ []) }
-        ensures too_long { IsErrOf result TopicFault.TooLong ↔ (256 < length octets.now) }
+        ensures too_long { IsErrOf result TopicFault.TooLong ↔ (MAX_TOPIC < length octets.now) }
         ensures wildcard { IsErrOf result TopicFault.Wildcard
             ↔ (IsTopicSize octets.now × IsFalse (stand_test (levels octets.now))) }
         ensures memory { IsErrOf result TopicFault.Memory → IsFilter octets.now }
@@ -42,7 +43,7 @@ impl Filter {
         if octets.is_empty() {
             return Err(TopicFault::Empty);
         }
-        if octets.len() > MAX_SIZE {
+        if octets.len() > MAX_TOPIC {
             return Err(TopicFault::TooLong);
         }
         if !wildcards_stand_alone(octets) {
@@ -75,12 +76,19 @@ impl Filter {
     }
 
     /// An equal filter.
-    pub fn copy(&self, alloc: Global) -> Result<Filter, TopicFault>
-        ensures equal { IfOk result (λ filter. filter ≡ self.now) }
-        ensures memory { IfErr result (λ fault. fault ≡ TopicFault.Memory) }
+    pub fn copied(&self, alloc: Global) -> Result<Filter, NoMemory>
+        ensures { IfOk result (λ filter. filter ≡ self.now) }
     {
-        let octets = self.octets.copy(alloc)?;
+        let octets = self.octets.copied(alloc)?;
         Ok(Filter { octets })
+    }
+
+    /// The same, where want of memory is a fault of this crate.
+    pub fn copy(&self, alloc: Global) -> Result<Filter, TopicFault>
+        ensures ok { IfOk result (λ filter. filter ≡ self.now) }
+        ensures err { IfErr result (λ fault. fault ≡ TopicFault.Memory) }
+    {
+        Ok(self.copied(alloc)?)
     }
 }
 

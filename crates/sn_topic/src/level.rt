@@ -4,7 +4,7 @@ ghost use Rattle.std.specs.Prelude.{◌≡◌, ◌<◌, ◌∷◌, [], ◌==◌,
 ghost use Rattle.sn_topic.specs.Levels.{levels, is_wildcard as wildcard_test, has_wildcard as any_wildcard, begins_with_wildcard as wildcard_first, is_plus as plus_test, is_hash as hash_test, asks_for_one as one_test, wildcards_stand_alone as stand_test};
 
 /// The most octets that a topic may have.
-pub const MAX_SIZE: usize = 256;
+pub const MAX_TOPIC: usize = 256;
 
 /// Whether an octet is `+` or `#`.
 fn is_wildcard(octet: u8) -> bool

@@ -16,6 +16,7 @@ mod predefined;
 
 pub use fault::TopicFault;
 pub use filter::Filter;
+pub use level::MAX_TOPIC;
 pub use matching::matches;
 pub use name::TopicName;
 pub use predefined::Predefined;

@@ -2,11 +2,12 @@
 
 ghost use Rattle.std.specs.Prelude.{◌≡◌, ◌≢◌, ◌<◌, ◌↔◌, [], length, Err, IfOk, IfErr, IsErrOf, IsTrue};
 ghost use Rattle.sn_topic.specs.Levels.{has_wildcard as any_wildcard};
+ghost use Rattle.sn_topic.specs.declared.level.TheConstants.{MAX_TOPIC};
 ghost use Rattle.sn_topic.specs.Topics.{IsTopicSize, IsName};
 
 use crate::fault::TopicFault;
-use crate::level::{MAX_SIZE, has_wildcard};
-use octets::Octets;
+use crate::level::{MAX_TOPIC, has_wildcard};
+use octets::{NoMemory, Octets};
 use std::alloc::Global;
 use std::marker::Model;
 
@@ -32,7 +33,7 @@ impl TopicName {
     pub fn new(alloc: Global, octets: &[u8]) -> Result<TopicName, TopicFault>
         ensures ok { IfOk result (λ name. (name ≡ octets.now) × IsName octets.now) }
         ensures empty { IsErrOf result TopicFault.Empty ↔ (octets.now ≡ []) }
-        ensures too_long { IsErrOf result TopicFault.TooLong ↔ (256 < length octets.now) }
+        ensures too_long { IsErrOf result TopicFault.TooLong ↔ (MAX_TOPIC < length octets.now) }
         ensures wildcard { IsErrOf result TopicFault.Wildcard
             ↔ (IsTopicSize octets.now × IsTrue (any_wildcard octets.now)) }
         ensures memory { IsErrOf result TopicFault.Memory → IsName octets.now }
@@ -41,7 +42,7 @@ impl TopicName {
         if octets.is_empty() {
             return Err(TopicFault::Empty);
         }
-        if octets.len() > MAX_SIZE {
+        if octets.len() > MAX_TOPIC {
             return Err(TopicFault::TooLong);
         }
         if has_wildcard(octets) {
@@ -60,12 +61,19 @@ impl TopicName {
     }
 
     /// An equal name.
-    pub fn copy(&self, alloc: Global) -> Result<TopicName, TopicFault>
-        ensures equal { IfOk result (λ name. name ≡ self.now) }
-        ensures memory { IfErr result (λ fault. fault ≡ TopicFault.Memory) }
+    pub fn copied(&self, alloc: Global) -> Result<TopicName, NoMemory>
+        ensures { IfOk result (λ name. name ≡ self.now) }
     {
-        let octets = self.octets.copy(alloc)?;
+        let octets = self.octets.copied(alloc)?;
         Ok(TopicName { octets })
+    }
+
+    /// The same, where want of memory is a fault of this crate.
+    pub fn copy(&self, alloc: Global) -> Result<TopicName, TopicFault>
+        ensures ok { IfOk result (λ name. name ≡ self.now) }
+        ensures err { IfErr result (λ fault. fault ≡ TopicFault.Memory) }
+    {
+        Ok(self.copied(alloc)?)
     }
 }
 

@@ -6,6 +6,7 @@ ghost use Rattle.sn_topic.specs.Table.{has_id as id_test, is_table as table_test
 
 use crate::fault::TopicFault;
 use crate::name::TopicName;
+use octets::NoMemory;
 use std::alloc::Global;
 use std::marker::Model;
 
@@ -77,15 +78,22 @@ impl Predefined {
     }
 
     /// An equal table.
-    pub fn copy(&self, alloc: Global) -> Result<Predefined, TopicFault>
-        ensures equal { IfOk result (λ table. table ≡ self.now) }
-        ensures memory { IfErr result (λ fault. fault ≡ TopicFault.Memory) }
+    pub fn copied(&self, alloc: Global) -> Result<Predefined, NoMemory>
+        ensures { IfOk result (λ table. table ≡ self.now) }
     {
         let mut entries = Vec::with_capacity(alloc, self.entries.len())?;
         for (id, name) in &self.entries {
-            entries.push((*id, name.copy(alloc)?))?;
+            entries.push((*id, name.copied(alloc)?))?;
         }
         Ok(Predefined { entries })
+    }
+
+    /// The same, where want of memory is a fault of this crate.
+    pub fn copy(&self, alloc: Global) -> Result<Predefined, TopicFault>
+        ensures ok { IfOk result (λ table. table ≡ self.now) }
+        ensures err { IfErr result (λ fault. fault ≡ TopicFault.Memory) }
+    {
+        Ok(self.copied(alloc)?)
     }
 }
 

@@ -2,7 +2,7 @@
 
 use octets::Octets;
 use rep_ops::{ClientId, Delta, Op, Put, Stamp};
-use sn_session::{Presence, Session, SessionOp};
+use sn_session::{Message, Presence, Session, SessionOp};
 use sn_topic::TopicName;
 use std::alloc::Global;
 use std::test::Fail;
@@ -46,6 +46,9 @@ fn session_op(alloc: Global, client: ClientId, number: u64) -> Op {
 
 /// A message.
 fn message(alloc: Global, client: ClientId, origin: u8, seq: u64) -> Result<Op, Fail> {
+    let Some(body) = Message::new(Octets::from_slice(alloc, b"x")?) else {
+        return Err(Fail::new("a message of one octet is too long"));
+    };
     Ok(Op::Put {
         client,
         put: Put {
@@ -53,7 +56,7 @@ fn message(alloc: Global, client: ClientId, origin: u8, seq: u64) -> Result<Op, 
             seq,
             topic: TopicName::new(alloc, b"t")?,
             qos: 1,
-            body: Octets::from_slice(alloc, b"x")?,
+            body,
         },
     })
 }

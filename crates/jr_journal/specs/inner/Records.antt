@@ -1,12 +1,10 @@
 -- The bytes of a slot: a header, then records with one seal among them.
-use Rattle.std.specs.Prelude.{◌≡◌, ◌≤◌, List, length, Result, Ok, Err}
+use Rattle.std.specs.Prelude.{◌≡◌, ◌≤◌, List, length, Option, Some, None, Ok}
 use Rattle.rep_ops.specs.declared.op.Op.{Op}
 use Rattle.rep_ops.specs.declared.fault.OpsFault.{OpsFault}
 use Rattle.rep_ops.specs.declared.fault.OpsFault.TheVariants as faults
 use Rattle.rep_ops.specs.Reading.{reading}
 use Rattle.rep_ops.specs.Spelling.{max_octets}
-use Rattle.jr_journal.specs.declared.fault.JournalFault.{JournalFault}
-use Rattle.jr_journal.specs.declared.fault.JournalFault.TheVariants.{Memory}
 use Rattle.jr_journal.specs.declared.piece.Piece.{Piece}
 use Rattle.jr_journal.specs.declared.piece.Piece.TheVariants.{Bad}
 use Rattle.jr_journal.specs.Records.{delta_bytes}
@@ -17,6 +15,6 @@ pub record IsReadable (delta : List Op) : Type 0 where
   pub limit : length (delta_bytes delta) ≤ max_octets
 
 -- what a delta that is refused stands for: want of memory says nothing of it
-abbrev pub refusal : OpsFault → Result Piece JournalFault
-refusal faults.Memory = Err Memory
-refusal fault = Ok Bad
+abbrev pub refusal : OpsFault → Option Piece
+refusal faults.Memory = None
+refusal fault = Some Bad

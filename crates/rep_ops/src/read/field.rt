@@ -5,12 +5,12 @@ ghost use Rattle.std.specs.Int.{w16, w32, w64};
 ghost use Rattle.rep_ops.specs.Ranges.{is_topic_id as id_test};
 ghost use Rattle.rep_ops.specs.Reading.{Gives, octet_at, octets_at, number_at, is_counted as counted_test, ranged, client_at, topic_at, body_at};
 
-use crate::client_id::ClientId;
+use crate::client_id::{ClientId, MAX_CLIENT_ID};
 use crate::fault::OpsFault;
 use crate::range::is_topic_id;
-use crate::size::MAX_BODY;
 use octets::{Octets, read_u16, read_u32, read_u64};
-use sn_topic::TopicName;
+use sn_session::{MAX_MESSAGE, Message};
+use sn_topic::{MAX_TOPIC, TopicName};
 use std::alloc::Global;
 
 /// An octet.
@@ -113,7 +113,7 @@ pub fn read_client(alloc: Global, bytes: &[u8]) -> Result<(ClientId, &[u8]), Ops
     ensures { Gives (λ x. (x.0, x.1.now)) result (client_at bytes.now) }
 {
     let (size, rest) = read_octet(bytes)?;
-    if size == 0 || size > 23 {
+    if size == 0 || size as usize > MAX_CLIENT_ID {
         return Err(OpsFault::Kind);
     }
     let (name, rest) = read_octets(size as usize, rest)?;
@@ -126,7 +126,7 @@ pub fn read_topic(alloc: Global, bytes: &[u8]) -> Result<(TopicName, &[u8]), Ops
     ensures { Gives (λ x. (x.0, x.1.now)) result (topic_at bytes.now) }
 {
     let (size, rest) = read_two(bytes)?;
-    if size == 0 || size > 256 {
+    if size == 0 || size as usize > MAX_TOPIC {
         return Err(OpsFault::Kind);
     }
     let (name, rest) = read_octets(size as usize, rest)?;
@@ -135,13 +135,17 @@ pub fn read_topic(alloc: Global, bytes: &[u8]) -> Result<(TopicName, &[u8]), Ops
 
 /// A message.
 #[tactic(auto, unfolding(crate::specs::Reading::body_at))]
-pub fn read_body(alloc: Global, bytes: &[u8]) -> Result<(Octets, &[u8]), OpsFault>
+pub fn read_body(alloc: Global, bytes: &[u8]) -> Result<(Message, &[u8]), OpsFault>
     ensures { Gives (λ x. (x.0, x.1.now)) result (body_at bytes.now) }
 {
     let (size, rest) = read_two(bytes)?;
-    if size as usize > MAX_BODY {
+    if size as usize > MAX_MESSAGE {
         return Err(OpsFault::Kind);
     }
     let (body, rest) = read_octets(size as usize, rest)?;
-    Ok((Octets::from_slice(alloc, body)?, rest))
+    let body = Octets::from_slice(alloc, body)?;
+    match Message::new(body) {
+        Some(message) => Ok((message, rest)),
+        None => Err(OpsFault::Kind),
+    }
 }

@@ -9,7 +9,7 @@ use super::field::{
 };
 use crate::fault::OpsFault;
 use sn_session::{Outbound, Phase, Presence, Subscription, TopicEntry, Will, WillTopic};
-use sn_topic::Filter;
+use sn_topic::{Filter, MAX_TOPIC};
 use std::alloc::Global;
 
 /// A flag, 0 or 1.
@@ -61,7 +61,7 @@ pub fn read_filter(alloc: Global, bytes: &[u8]) -> Result<(Filter, &[u8]), OpsFa
     ensures { Gives (λ x. (x.0, x.1.now)) result (filter_at bytes.now) }
 {
     let (size, rest) = read_two(bytes)?;
-    if size == 0 || size > 256 {
+    if size == 0 || size as usize > MAX_TOPIC {
         return Err(OpsFault::Kind);
     }
     let (name, rest) = read_octets(size as usize, rest)?;

@@ -2,24 +2,22 @@
 
 ghost use Rattle.std.specs.Prelude.{◌≡◌, ◌≤◌, nat_le, []};
 ghost use Rattle.std.specs.Int.{w16};
+ghost use Rattle.sn_session.specs.declared.table.TheConstants.{MAX_ENTRIES};
 ghost use Rattle.rep_ops.specs.Reading.{Gives, ranged, number_at, many_at, entry_at, subscription_at, topics_at, subscriptions_at, received_at};
 
 use super::field::read_two;
 use super::part::{read_entry, read_subscription};
 use crate::fault::OpsFault;
-use sn_session::{Received, Subscription, Subscriptions, TopicEntry, Topics};
+use sn_session::{MAX_ENTRIES, Received, Subscription, Subscriptions, TopicEntry, Topics};
 use std::alloc::Global;
-
-/// The most entries of a table.
-const MAX_ENTRIES: u16 = 256;
 
 /// How many entries a table has.
 fn read_count(bytes: &[u8]) -> Result<(u16, &[u8]), OpsFault>
-    ensures { Gives (λ x. (x.0, x.1.now)) result (ranged (λ n. nat_le n 256) (number_at w16)
+    ensures { Gives (λ x. (x.0, x.1.now)) result (ranged (λ n. nat_le n MAX_ENTRIES) (number_at w16)
         bytes.now) }
 {
     let (count, rest) = read_two(bytes)?;
-    if count > MAX_ENTRIES {
+    if count as usize > MAX_ENTRIES {
         return Err(OpsFault::Kind);
     }
     Ok((count, rest))

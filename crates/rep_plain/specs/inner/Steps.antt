@@ -7,7 +7,7 @@ use Rattle.rep_ops.specs.declared.op.Op.{Op}
 use Rattle.rep_ops.specs.declared.op.Op.TheVariants.{Session as OfSession, Put as OfPut, Ack}
 use Rattle.rep_ops.specs.Sets.{same_client, puts}
 use Rattle.rep_model.specs.Keep.{is_below}
-use Rattle.rep_model.specs.Limits.{joined, above_a_gap, sum_to}
+use Rattle.rep_model.specs.Limits.{is_in_prefix, joined, above_a_gap, sum_to}
 use Rattle.rep_plain.specs.declared.ranges.Range.{Range}
 
 -- the first, or else the second
@@ -42,3 +42,7 @@ abbrev pub must_stay : Option Stamp → List Range → Op → Bool
 must_stay seen ranges (OfSession c stamp counter change) = not (is_below stamp seen)
 must_stay seen ranges (OfPut c put) = not (list_any (covers (put.seq, put.origin)) ranges)
 must_stay seen ranges (Ack c origin first last) = true
+
+-- whether a session operation of that name waits for earlier ones
+abbrev pub waits : Option Stamp → ℕ → Stamp × ℕ → Bool
+waits seen prefix name = not (is_below name.0 seen) && not (is_in_prefix seen prefix name)

@@ -1,7 +1,6 @@
 -- What a delta changes of each client that it names.
 use Rattle.std.specs.Prelude.{◌≡◌, ℕ, true, List, [], ◌++◌, map, Option, Some, None}
 use Rattle.std.specs.FinMap.{find}
-use Rattle.rep_ops.specs.declared.op.Put.{Put}
 use Rattle.rep_ops.specs.declared.op.Op.{Op}
 use Rattle.rep_ops.specs.Orders.{client_cmp}
 use Rattle.rep_ops.specs.Sets.{Same}
@@ -10,16 +9,29 @@ use Rattle.rep_plain.specs.Rows.{own, has_any}
 use Rattle.rep_plain.specs.inner.Rows.{of_client}
 use Rattle.rep_state.specs.declared.entry.Entry.{Entry}
 use Rattle.rep_state.specs.declared.fresh.Fresh.{Fresh}
-use Rattle.rep_state.specs.Entries.{IsFresh, fresh_row}
+use Rattle.rep_state.specs.Entries.{IsFresh, fresh_row, Base, base_of}
 use Rattle.rep_state.specs.Tables.{rows_of}
 
-abbrev pub or_no_message : Option Entry → List Put
-or_no_message None = []
-or_no_message (Some entry) = entry.seen.pending
+-- the place of a client of which nothing is known
+abbrev pub nothing_held : Entry
+nothing_held = record {
+  seen = record { stamp = None; prefix = 0; session = None; pending = [] };
+  known = [];
+  acks = [];
+  parked = 0;
+  exceptions = 0;
+}
 
--- the messages that wait for the client
-abbrev pub waiting_of : List ℕ → List (List ℕ × Entry) → List Put
-waiting_of c es = or_no_message (find client_cmp c es)
+abbrev pub or_nothing_held : Option Entry → Entry
+or_nothing_held None = nothing_held
+or_nothing_held (Some entry) = entry
+
+-- what is held of the client
+abbrev pub held_of : List ℕ → List (List ℕ × Entry) → Entry
+held_of c es = or_nothing_held (find client_cmp c es)
+
+abbrev pub base_at : List ℕ → List (List ℕ × Entry) → Base
+base_at c es = base_of (held_of c es)
 
 -- what must be kept of the client once the operations of a list are taken
 abbrev pub IsTaken : List ℕ → List (List ℕ × Entry) → List Op → List Op → Type 0
@@ -27,8 +39,8 @@ IsTaken c es D ops = Same ops (keep (own c (rows_of es) ++ of_client c D))
 
 -- a client's group: the list has operations of the client, and they are taken
 pub record IsGroup (c : List ℕ) (es : List (List ℕ × Entry)) (D : List Op) (fresh : Fresh) : Type 0 where
-  pub fresh_is : IsFresh (waiting_of c es) fresh
-  pub taken : IsTaken c es D (fresh_row c (waiting_of c es) fresh)
+  pub fresh_is : IsFresh c (held_of c es) fresh
+  pub taken : IsTaken c es D (fresh_row c (held_of c es) fresh)
   pub any : has_any (of_client c D) ≡ true
 
 abbrev pub IsGroupOf : List ℕ → List (List ℕ × Entry) → List Op → Option Fresh → Type 0
@@ -41,7 +53,7 @@ AreGroups es D groups = (c : List ℕ) → IsGroupOf c es D (find client_cmp c g
 
 -- what is kept of each client once its group is taken
 abbrev pub fresh_rows : List (List ℕ × Entry) → List (List ℕ × Fresh) → List (List ℕ × List Op)
-fresh_rows es groups = map (λ g. (g.0, fresh_row g.0 (waiting_of g.0 es) g.1)) groups
+fresh_rows es groups = map (λ g. (g.0, fresh_row g.0 (held_of g.0 es) g.1)) groups
 
 abbrev pub IsRowOf : List ℕ → List (List ℕ × Entry) → List Op → Option (List Op) → Type 0
 IsRowOf c es D None = of_client c D ≡ []

@@ -1,17 +1,29 @@
 -- Which topics a client's filters may ask for, told by a few marks.
-use Rattle.std.specs.Prelude.{◌≡◌, ℕ, ◌+◌, false, cond, ⊤, List, ◌∷◌, ◌++◌, drop, Option, Some, None}
+use Rattle.std.specs.Prelude.{◌≡◌, ℕ, false, cond, ⊤, map, List, ◌∷◌, ◌++◌, drop, Option, Some, None}
 use Rattle.std.specs.List.{AllByRecursion}
 use Rattle.std.specs.Ordering.{is_eq}
 use Rattle.std.specs.FinMap.{find}
 use Rattle.rep_ops.specs.Orders.{client_cmp}
 use Rattle.rep_model.specs.Asking.{is_subscribed}
+use Rattle.rep_state.specs.declared.log.Log.{Log}
 use Rattle.rep_state.specs.declared.entry.Entry.{Entry}
 use Rattle.rep_state.specs.declared.places.Place.{Place}
-use Rattle.rep_state.specs.Interests.{has_mark}
+use Rattle.rep_state.specs.Interests.{has_mark, SessionWithin}
 
 -- the place with other marks, where it is that of the client
 abbrev pub marked : List ℕ → ℕ → Place → Place
 marked c marks p = cond (is_eq (client_cmp p.name c)) (record { name = p.name; index = p.index; marks = marks }) p
+
+-- the marks of the session of a log, where there is a log
+abbrev pub AreMarksOf : Option Log → Option ℕ → Type 0
+AreMarksOf None marks = marks ≡ None
+AreMarksOf (Some log) None = ⊥
+AreMarksOf (Some log) (Some marks) = SessionWithin marks log.session
+
+-- the places with other marks for the client, where there are any
+abbrev pub noted : List ℕ → Option ℕ → List Place → List Place
+noted c None places = places
+noted c (Some marks) places = map (marked c marks) places
 
 -- none of these places has the mark
 abbrev pub NoneMarked : ℕ → List Place → Type 0

@@ -7,8 +7,8 @@ use crate::fault::FrameFault;
 use crate::flags::Flags;
 use crate::frame::{Frame, Will};
 use byteorder::{BigEndian, ByteOrder};
-use octets::Octets;
-use std::alloc::{AllocError, Global};
+use octets::{NoMemory, Octets};
+use std::alloc::Global;
 
 /// The number in two octets.
 pub(super) fn number(high: u8, low: u8) -> u16
@@ -78,7 +78,7 @@ pub(super) fn subscription(alloc: Global, body: &[u8]) -> Result<(Flags, u16, Oc
 }
 
 /// A will's flags and topic, or nothing.
-pub(super) fn optional_will(alloc: Global, body: &[u8]) -> Result<Option<Will>, AllocError>
+pub(super) fn optional_will(alloc: Global, body: &[u8]) -> Result<Option<Will>, NoMemory>
     ensures { IfOk result (λ will. will ≡ read_will body.now) }
 {
     match body {

@@ -10,14 +10,14 @@ use Rattle.gw_world.proofs.running.new_node.Goals as goal
 
 pub want_of_memory-requires : goal.want_of_memory-requires
 want_of_memory-requires g c =
-    only_memory_new c.in_ok-copy.field-0 _ (told c.in-Err.fault) (ap (λ (d : MemoryState). image d.slots) c.new.ensures)
+    only_memory_new c.in_ok-copied.field-0 _ (told c.in-Err.fault) (ap (λ (d : MemoryState). image d.slots) c.new.ensures)
     (c.in-Err.ensures.fault tt)
     (c.in-Err.ensures.blameless tt (unplanned _ _ c.new.ensures) (sym c.starved-in-Err.ensures ∙ c.if-starved-2.false)).0
 
 pub returns-else-starved-clause-ok : goal.returns-else-starved-clause-ok
 returns-else-starved-clause-ok g c =
     let empty = ap (λ (d : MemoryState). image d.slots) c.new.ensures in
-    opened_new (state_of g.R.Replica.kept c.in-Ok.node) c.in_ok-copy.field-0 _ empty
+    opened_new (state_of g.R.Replica.kept c.in-Ok.node) c.in_ok-copied.field-0 _ empty
     (record {
       starts = c.in-Ok.ensures.starts;
       keeps = c.in-Ok.ensures.keeps tt;
@@ -26,13 +26,13 @@ returns-else-starved-clause-ok g c =
       known = c.in-Ok.ensures.known tt;
       planned = c.in-Ok.ensures.quiet tt (unplanned _ _ c.new.ensures) (sym c.starved.ensures ∙ c.if-starved.false) ∙ ap (λ (d : MemoryState). Some d.plan) c.new.ensures;
     })
-    (c.in-Ok.ensures.none tt (empty_records c.in_ok-copy.field-0.gateway _ empty))
-    ∙ ap (λ (config : Config). new_gateway config) c.in_ok-copy.ensures.ok
+    (c.in-Ok.ensures.none tt (empty_records c.in_ok-copied.field-0.gateway _ empty))
+    ∙ ap (λ (config : Config). new_gateway config) c.in_ok-copied.ensures
 
 pub returns-else-starved-clause-lasts : goal.returns-else-starved-clause-lasts
 returns-else-starved-clause-lasts g c =
     let empty = ap (λ (d : MemoryState). image d.slots) c.new.ensures in
-    lasts_new (state_of g.R.Replica.kept c.in-Ok.node) c.in_ok-copy.field-0 _ tt empty (c.in-Ok.ensures.found tt)
+    lasts_new (state_of g.R.Replica.kept c.in-Ok.node) c.in_ok-copied.field-0 _ tt empty (c.in-Ok.ensures.found tt)
     (record {
       starts = c.in-Ok.ensures.starts;
       keeps = c.in-Ok.ensures.keeps tt;
@@ -45,7 +45,7 @@ returns-else-starved-clause-lasts g c =
 pub returns-else-starved-clause-calm : goal.returns-else-starved-clause-calm
 returns-else-starved-clause-calm g c =
     let empty = ap (λ (d : MemoryState). image d.slots) c.new.ensures in
-    calm_new (state_of g.R.Replica.kept c.in-Ok.node) c.in_ok-copy.field-0 _ empty (c.in-Ok.ensures.found tt) (sym c.starved.ensures ∙ c.if-starved.false)
+    calm_new (state_of g.R.Replica.kept c.in-Ok.node) c.in_ok-copied.field-0 _ empty (c.in-Ok.ensures.found tt) (sym c.starved.ensures ∙ c.if-starved.false)
     (record {
       starts = c.in-Ok.ensures.starts;
       keeps = c.in-Ok.ensures.keeps tt;

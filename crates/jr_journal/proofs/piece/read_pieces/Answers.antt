@@ -6,7 +6,7 @@ use Rattle.jr_journal.proofs.Loop.{IsSoFar, goes_on, seals, stops_at_end, stops_
 use Rattle.jr_journal.proofs.piece.read_pieces.Goals as goal
 
 pub behind_record-left-requires : goal.behind_record-left-requires
-behind_record-left-requires c = record_inside c.in-Some.tag.now c.in-Some.rest.now c.in-Whole.delta c.in-Whole.size (sym c.in_ok-delta.ensures.ok ∙ c.in-Whole.is)
+behind_record-left-requires c = record_inside c.in-Some.tag.now c.in-Some.rest.now c.in-Whole.delta c.in-Whole.size (sym c.in_ok-delta.ensures ∙ c.in-Whole.is)
 
 pub reading-preserved-in-Whole : goal.reading-preserved-in-Whole
 reading-preserved-in-Whole c =
@@ -17,7 +17,7 @@ reading-preserved-in-Whole c =
     let rest = c.in-Some.rest.now in
     let d = c.in-Whole.delta in
     let n = c.in-Whole.size in
-    let is : piece_at tag rest ≡ Whole d n = sym c.in_ok-delta.ensures.ok ∙ c.in-Whole.is in
+    let is : piece_at tag rest ≡ Whole d n = sym c.in_ok-delta.ensures ∙ c.in-Whole.is in
     let inside : 4 + n ≤ length rest = record_inside tag rest d n is in
     let size : length c.behind_record-left.result.now ≡ length (drop (4 + n) rest) = ap length c.behind_record-left.ensures in
     let left : length rest + 1 ≡ length c.reading.left.now = c.in-Some.ensures.cases.1 in
@@ -37,7 +37,7 @@ returns-then-sealed-clause-ok c =
     let tag = c.in-Some.tag.now in
     let rest = c.in-Some.rest.now in
     let flag : made c.reading.deltas c.reading.sealed whole true ≡ made c.reading.deltas true whole true = ap (λ s. made c.reading.deltas s whole true) c.if-sealed.true in
-    c.found_until.ensures ∙ (flag ∙ stops_sealed total c.reading.deltas whole tag rest (sym c.in_ok-delta.ensures.ok ∙ c.in-Seal.is)
+    c.found_until.ensures ∙ (flag ∙ stops_sealed total c.reading.deltas whole tag rest (sym c.in_ok-delta.ensures ∙ c.in-Seal.is)
     (at_flag total c.reading.deltas c.reading.sealed true whole (tag ∷ rest) c.if-sealed.true (at_front total c.reading.deltas c.reading.sealed whole c.reading.left.now tag rest c.in-Some.ensures.cases.0 c.reading.invariant.so_far)))
 
 pub reading-preserved : goal.reading-preserved
@@ -52,7 +52,7 @@ reading-preserved c =
     record {
       inside = omega arith;
       so_far =
-          seals total c.reading.deltas whole more tag rest (sym c.in_ok-delta.ensures.ok ∙ c.in-Seal.is) (omega arith)
+          seals total c.reading.deltas whole more tag rest (sym c.in_ok-delta.ensures ∙ c.in-Seal.is) (omega arith)
           (at_flag total c.reading.deltas c.reading.sealed false whole (tag ∷ rest) c.if-sealed.false (at_front total c.reading.deltas c.reading.sealed whole c.reading.left.now tag rest c.in-Some.ensures.cases.0 c.reading.invariant.so_far));
     }
 
@@ -62,7 +62,7 @@ returns-in-Torn-clause-ok c =
     let whole = length c.args.bytes.now - length c.reading.left.now in
     let tag = c.in-Some.tag.now in
     let rest = c.in-Some.rest.now in
-    c.found_until-in-Torn.ensures ∙ stops_torn total c.reading.deltas c.reading.sealed whole tag rest (sym c.in_ok-delta.ensures.ok ∙ c.in-Torn.is)
+    c.found_until-in-Torn.ensures ∙ stops_torn total c.reading.deltas c.reading.sealed whole tag rest (sym c.in_ok-delta.ensures ∙ c.in-Torn.is)
     (at_front total c.reading.deltas c.reading.sealed whole c.reading.left.now tag rest c.in-Some.ensures.cases.0 c.reading.invariant.so_far)
 
 pub returns-in-Bad-clause-ok : goal.returns-in-Bad-clause-ok
@@ -71,7 +71,7 @@ returns-in-Bad-clause-ok c =
     let whole = length c.args.bytes.now - length c.reading.left.now in
     let tag = c.in-Some.tag.now in
     let rest = c.in-Some.rest.now in
-    c.found_until-in-Bad.ensures ∙ stops_bad total c.reading.deltas c.reading.sealed whole tag rest (sym c.in_ok-delta.ensures.ok ∙ c.in-Bad.is)
+    c.found_until-in-Bad.ensures ∙ stops_bad total c.reading.deltas c.reading.sealed whole tag rest (sym c.in_ok-delta.ensures ∙ c.in-Bad.is)
     (at_front total c.reading.deltas c.reading.sealed whole c.reading.left.now tag rest c.in-Some.ensures.cases.0 c.reading.invariant.so_far)
 
 pub returns-clause-ok : goal.returns-clause-ok

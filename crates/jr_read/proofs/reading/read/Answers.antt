@@ -11,7 +11,7 @@ pub places_of-requires : goal.places_of-requires
 places_of-requires c =
     let gateway = c.args.gateway in
     let i = slots_of c.args.first.now c.args.second.now in
-    let image_is = c.in_ok-disk.ensures.ok in
+    let image_is = c.in_ok-disk.ensures in
     let opened = c.in_ok-opened.opened in
     let h = c.in_ok-opened.ensures in
     subst (λ (xs : List ℕ). AreAll (drop 13 xs) c.as_slice.result.now) (sym c.octets_of-octets.ensures)

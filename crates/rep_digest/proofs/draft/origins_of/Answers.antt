@@ -6,8 +6,8 @@ pub note_acknowledged-requires : goal.note_acknowledged-requires
 note_acknowledged-requires c = ([], [], c.new-origins.ensures.items ∙ drafted_none)
 
 pub note_waiting-requires : goal.note_waiting-requires
-note_waiting-requires c = (c.args.acks.now, [], c.in_ok-note_acknowledged.ensures.ok [] [] (c.new-origins.ensures.items ∙ drafted_none))
+note_waiting-requires c = (c.args.acks.now, [], c.in_ok-note_acknowledged.ensures [] [] (c.new-origins.ensures.items ∙ drafted_none))
 
-pub returns-clause-ok : goal.returns-clause-ok
-returns-clause-ok c =
-    c.new.ensures ∙ c.in_ok-note_waiting.ensures.ok c.args.acks.now [] (c.in_ok-note_acknowledged.ensures.ok [] [] (c.new-origins.ensures.items ∙ drafted_none))
+pub returns : goal.returns
+returns c =
+    c.new.ensures ∙ c.in_ok-note_waiting.ensures c.args.acks.now [] (c.in_ok-note_acknowledged.ensures [] [] (c.new-origins.ensures.items ∙ drafted_none))

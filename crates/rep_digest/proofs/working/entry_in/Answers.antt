@@ -5,5 +5,5 @@ use Rattle.rep_digest.proofs.working.entry_in.Goals as goal
 
 pub returns-in_ok-entry_of-in-None : goal.returns-in_ok-entry_of-in-None
 returns-in_ok-entry_of-in-None g c =
-    c.in_ok-entry_of-in-None.ensures.ok
+    c.in_ok-entry_of-in-None.ensures
     ∙ ap (λ v. drafted_entry c.args.client.now v c.args.acks.now) (c.unseen.ensures ∙ sym (unnamed-unseen c.args.client.now (g.R.Replica.kept c.args.replica.now) c.in-None.ensures))

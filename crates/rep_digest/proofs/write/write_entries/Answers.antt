@@ -8,4 +8,4 @@ use Rattle.rep_digest.proofs.write.write_entries.Goals as goal
 pub returns-in_err-write_entry : goal.returns-in_err-write_entry
 returns-in_err-write_entry c =
     let p = err_from_is_err_and c.from_residual.result c.from_residual.ensures.1 in
-    rw (p.1, p.2) (c.in_err-write_entry.ensures.0, keeps_through c.args.out.now.items (flat_map entry_octets (take c.loop-entry.entry-index c.args.entries.now)) c.loop-entry.out.items c.write_entry.new.out.items c.loop-entry.invariant c.in_err-write_entry.ensures.1)
+    rw p.1 (keeps_through c.args.out.now.items (flat_map entry_octets (take c.loop-entry.entry-index c.args.entries.now)) c.loop-entry.out.items c.write_entry.new.out.items c.loop-entry.invariant c.in_err-write_entry.ensures)

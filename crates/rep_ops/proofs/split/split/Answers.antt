@@ -38,8 +38,8 @@ pub invariant_of-push-then-not-is_empty : goal.invariant_of-push-then-not-is_emp
 invariant_of-push-then-not-is_empty c =
     part_delta c.args.ops.items c.loop-op.deltas.items c.loop-op.part.items c.loop-op.op-iterator.rest.items c.loop-op.size c.requires c.loop-op.invariant
 
-pub returns-clause-ok : goal.returns-clause-ok
-returns-clause-ok c =
+pub returns : goal.returns
+returns c =
     let part = c.loop-op.part.items in
     let rest = c.loop-op.op-iterator.rest.items in
     let deltas = c.loop-op.deltas.items in

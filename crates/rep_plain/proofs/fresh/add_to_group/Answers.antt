@@ -23,7 +23,7 @@ returns c =
     let client = c.in_ok-client.client in
     let mid = c.take_group.new.groups.entries in
     let new = c.insert.new.self.entries in
-    let is : client ≡ client_of op = c.in_ok-client.ensures.ok ∙ c.client.ensures in
+    let is : client ≡ client_of op = c.in_ok-client.ensures ∙ c.client.ensures in
     let now = c.in_ok-insert.ensures.updates.0 q in
     elim (is_eq (client_cmp client q)) as (λ b. is_eq (client_cmp client q) ≡ b → find client_cmp q (groups_of new) ≡ grown q rows (D ++ op ∷ [])) [
       | true ↦ λ t.

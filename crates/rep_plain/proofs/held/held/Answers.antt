@@ -11,4 +11,4 @@ deltas_of-requires c = subst AreWellMade (sym c.in_ok-kept.ensures) (kept_made (
 pub returns : goal.returns
 returns c =
     let same = c.in_ok-kept.ensures ∙ kept_flat (rows_of c.args.table.now.entries) c.requires.rows in
-    subst (λ S. AreDeltasOf S c.in_ok-deltas_of.field-0.items) same c.in_ok-deltas_of.ensures.ok
+    subst (λ S. AreDeltasOf S c.in_ok-deltas_of.field-0.items) same c.in_ok-deltas_of.ensures

@@ -10,7 +10,7 @@ returns-in_ok-insert-clause-roomier c =
     let client = c.args.client.now in
     let old = c.args.table.now.entries in
     let e = c.empty.result in
-    let is = c.in_ok-insert.ensures.entries ∙ ap (λ k. insert_entry client_cmp old k e) c.in_ok-copy.ensures.ok in
+    let is = c.in_ok-insert.ensures.entries ∙ ap (λ k. insert_entry client_cmp old k e) c.in_ok-copied.ensures in
     let absent = none_there (lookup (is_at (client_cmp client)) old) (sym c.contains_key.ensures ∙ c.if-not-contains_key.true) in
     roomier_place old c.insert.new.self.entries client e is absent c.empty.ensures.ops
     (entry_empty client e c.empty.ensures.ops (c.empty.ensures.worked_out client) c.empty.ensures.open.0 c.empty.ensures.open.1 c.empty.ensures.open.2)
@@ -18,7 +18,7 @@ returns-in_ok-insert-clause-roomier c =
 pub returns-in_ok-insert-clause-there : goal.returns-in_ok-insert-clause-there
 returns-in_ok-insert-clause-there c =
     let old = c.args.table.now.entries in
-    let is = c.in_ok-insert.ensures.entries ∙ ap (λ k. insert_entry client_cmp old k c.empty.result) c.in_ok-copy.ensures.ok in
+    let is = c.in_ok-insert.ensures.entries ∙ ap (λ k. insert_entry client_cmp old k c.empty.result) c.in_ok-copied.ensures in
     place_there old c.insert.new.self.entries c.args.client.now c.empty.result is
 
 pub returns-else-not-contains_key-clause-there : goal.returns-else-not-contains_key-clause-there

@@ -10,5 +10,5 @@ pub returns-in_ok-insert-in-Put : goal.returns-in_ok-insert-in-Put
 returns-in_ok-insert-in-Put c =
     let free : list_any (covers (c.in-Put.put.seq, c.in-Put.put.origin)) c.args.ranges.now ≡ false = search rules in
     λ S h. c.in_ok-insert-in-Put.ensures.entries
-    ∙ ap (λ v. insert_entry put_cmp c.args.by_name.now.entries (c.in-Put.put.seq, c.in-Put.put.origin) v) c.in_ok-copy-in-Put.ensures.ok
+    ∙ ap (λ v. insert_entry put_cmp c.args.by_name.now.entries (c.in-Put.put.seq, c.in-Put.put.origin) v) c.in_ok-copied-in-Put.ensures
     ∙ entered_put c.args.client.now c.in-Put.owner c.in-Put.put c.args.op.now c.args.ranges.now S c.args.by_name.now.entries c.in-Put.is (sym c.eq.ensures ∙ c.if-eq.true) free h

@@ -4,10 +4,10 @@ use Rattle.rep_state.proofs.Contradicting.{agrees_session, agrees_put}
 use Rattle.rep_state.proofs.agreeing.agrees_with.Goals as goal
 
 pub returns-in-Some : goal.returns-in-Some
-returns-in-Some c = agrees_session c.args.entry.now c.in-Session.client c.in-Session.stamp c.in-Session.counter c.in-Session.change c.args.op.now (Some c.in-Some.kept.now) (IsTrue c.same_change.result) c.in-Session.is c.in-Some.ensures.value c.same_change.ensures
+returns-in-Some c = agrees_session c.args.entry.now c.in-Session.client c.in-Session.stamp c.in-Session.counter c.in-Session.change c.args.op.now (Some c.in-Some.kept.now) (IsTrue c.same_change.result) c.in-Session.is c.in-Some.ensures c.same_change.ensures
 
 pub returns-in-None : goal.returns-in-None
-returns-in-None c = agrees_session c.args.entry.now c.in-Session.client c.in-Session.stamp c.in-Session.counter c.in-Session.change c.args.op.now None (IsTrue true) c.in-Session.is c.in-None.ensures.value (λ _. tt, λ _. refl)
+returns-in-None c = agrees_session c.args.entry.now c.in-Session.client c.in-Session.stamp c.in-Session.counter c.in-Session.change c.args.op.now None (IsTrue true) c.in-Session.is c.in-None.ensures (λ _. tt, λ _. refl)
 
 pub returns-in-Some-find_put : goal.returns-in-Some-find_put
 returns-in-Some-find_put c =

@@ -1,6 +1,6 @@
-use Rattle.std.proofs.Common.{◌≡◌, ◌++◌}
+use Rattle.std.proofs.Common.{◌≡◌, ◌++◌, take}
 use Rattle.rep_state.specs.Kept.{of_log}
 use Rattle.rep_state.proofs.held.push_log.Given as goal
 
-abbrev pub invariant-loop-name : goal.invariant-loop-name
-invariant-loop-name l = l.kept.items ++ of_log l.client l.name-iterator ≡ l.fn.kept.items ++ of_log l.client l.known.entries
+abbrev pub invariant-loop-op : goal.invariant-loop-op
+invariant-loop-op l = l.kept.items ≡ l.fn.kept.items ++ of_log l.client (take l.op-index l.ops)

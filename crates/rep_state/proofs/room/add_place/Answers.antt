@@ -35,7 +35,7 @@ returns-clause-places c =
     let absent = none_there (lookup (λ (j : Vec ℕ Global). bytes_eq client j.items) old) (sym c.contains_key.ensures ∙ c.if-contains_key.false) in
     let none = ap (λ k. lookup (λ (j : Vec ℕ Global). bytes_eq k j.items) old) c.in_ok-key.ensures ∙ absent in
     places_with old new c.args.places.now.items c.enter.new.places.items key e p c.requires.places none c.in_ok-insert.ensures.entries is
-    (c.in_ok-name.ensures.ok.0 ∙ sym c.in_ok-key.ensures) c.len-index.ensures.len
+    (c.in_ok-name.ensures ∙ sym c.in_ok-key.ensures) c.len-index.ensures.len
     (c.enter.ensures ∙ ap (with_entry place_cmp p) c.in_ok-reserve.ensures.items)
 
 pub returns-clause-marks : goal.returns-clause-marks
@@ -48,7 +48,7 @@ returns-clause-marks c =
     let is : by_client new ≡ put client_cmp client e (by_client old) = put_by_client c.in_ok-key.key e old new c.in_ok-insert.ensures.entries ∙ ap (λ k. put client_cmp k e (by_client old)) c.in_ok-key.ensures in
     let absent = none_there (find client_cmp client (by_client old)) (ap is_some (sym (found_by_client client old)) ∙ sym c.contains_key.ensures ∙ c.if-contains_key.false) in
     marked_with (by_client old) (by_client new) c.args.places.now.items c.enter.new.places.items client e p c.requires.marks is c.empty.ensures.session
-    (ap (λ k. find client_cmp k (by_client old)) c.in_ok-name.ensures.ok.0 ∙ absent)
+    (ap (λ k. find client_cmp k (by_client old)) c.in_ok-name.ensures ∙ absent)
     (c.enter.ensures ∙ ap (with_entry place_cmp p) c.in_ok-reserve.ensures.items)
 
 pub returns-clause-roomier : goal.returns-clause-roomier

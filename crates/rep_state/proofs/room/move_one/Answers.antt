@@ -1,12 +1,14 @@
-use Rattle.std.proofs.Common.{◌≡◌, is_some, None, true≢false, sym, ap, subst, ◌∙◌, List}
+use Rattle.std.proofs.Common.{◌≡◌, is_some, None, true≢false, sym, ap, subst, ◌∙◌}
 use Rattle.std.specs.FinMap.{find, put}
 use Rattle.rep_ops.specs.Orders.{client_cmp}
-use Rattle.rep_ops.specs.declared.op.Put.{Put}
+use Rattle.rep_state.specs.declared.entry.Entry.{Entry}
+use Rattle.rep_state.specs.Entries.{base_of}
 use Rattle.rep_model.proofs.Readers.{client_exact}
 use Rattle.rep_state.specs.Tables.{by_client, IsKept}
 use Rattle.rep_state.proofs.Owning.{found_holds}
-use Rattle.rep_state.specs.inner.Groups.{or_no_message}
-use Rattle.rep_state.specs.Staging.{applied, IsFit, plan_of}
+use Rattle.rep_state.specs.inner.Groups.{or_nothing_held}
+use Rattle.rep_state.specs.Staging.{IsFit}
+use Rattle.rep_state.specs.inner.Staging.{applied}
 use Rattle.rep_state.proofs.Rows.{written_by_client, found_by_client}
 use Rattle.rep_state.proofs.Indexed.{places_written}
 use Rattle.rep_state.proofs.room.move_one.Goals as goal
@@ -23,7 +25,7 @@ put_into-requires-clause-fit c =
     let client = c.args.client.now in
     let old = c.args.table.now.entries in
     let found = sym (found_by_client client old) ∙ sym c.in-Some.ensures.value in
-    subst (λ (ps : List Put). IsFit ps (plan_of c.args.change)) (ap or_no_message found) c.requires.ready.fit
+    (client, subst (λ (e : Entry). IsFit client (base_of e) c.args.change) (ap or_nothing_held found) c.requires.ready.fit)
 
 pub put_into-requires-clause-rising : goal.put_into-requires-clause-rising
 put_into-requires-clause-rising c =
@@ -41,7 +43,7 @@ returns-clause-put c =
     let found = sym (found_by_client client old) ∙ sym c.in-Some.ensures.value in
     let there = ap is_some (found_by_client client old) ∙ c.requires.ready.is_there in
     written_by_client client e old (c.get_mut.follows.lender e).entries there wrote.0
-    ∙ ap (λ x. put client_cmp client x (by_client old)) (c.put_into.ensures ∙ sym (ap (λ ps. applied ps c.args.change) (ap or_no_message found)))
+    ∙ ap (λ x. put client_cmp client x (by_client old)) (c.put_into.ensures ∙ sym (ap (λ e. applied e c.args.change) (ap or_nothing_held found)))
 
 pub returns-clause-places : goal.returns-clause-places
 returns-clause-places c =

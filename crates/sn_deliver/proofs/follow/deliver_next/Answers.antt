@@ -1,4 +1,4 @@
 use Rattle.sn_deliver.proofs.follow.deliver_next.Goals as goal
 
 pub returns : goal.returns
-returns g c = rw c.in_ok-row.ensures.ok at c.plan_of_row.ensures
+returns g c = rw c.in_ok-row.ensures at c.plan_of_row.ensures

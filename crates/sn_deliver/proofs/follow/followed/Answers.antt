@@ -2,7 +2,7 @@ use Rattle.sn_flow.specs.Plans.{seen_of}
 use Rattle.sn_deliver.proofs.Following.{followed-at}
 use Rattle.sn_deliver.proofs.follow.followed.Goals as goal
 
-pub returns-in_ok-follow_for-in-Some-clause-ok : goal.returns-in_ok-follow_for-in-Some-clause-ok
-returns-in_ok-follow_for-in-Some-clause-ok g c =
+pub returns-in_ok-follow_for-in-Some : goal.returns-in_ok-follow_for-in-Some
+returns-in_ok-follow_for-in-Some g c =
     followed-at c.args.predefined.now (seen_of (g.R.Replica.kept c.args.replica.now)) c.args.address c.args.now c.args.row c.in-Some.client c.in_ok-peer-in-Some.peer c.follow_for.new.draft
-    c.in-Some.is c.in_ok-peer-in-Some.ensures.ok c.in_ok-follow_for-in-Some.ensures.ok
+    c.in-Some.is c.in_ok-peer-in-Some.ensures c.in_ok-follow_for-in-Some.ensures

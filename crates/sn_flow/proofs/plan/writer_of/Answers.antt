@@ -6,8 +6,8 @@ use Rattle.sn_flow.specs.Numbering.{start_of}
 use Rattle.rep_model.proofs.Named.{unnamed-unseen}
 use Rattle.sn_flow.proofs.plan.writer_of.Goals as goal
 
-pub returns-in-None-clause-ok : goal.returns-in-None-clause-ok
-returns-in-None-clause-ok g c =
+pub returns-in-None : goal.returns-in-None
+returns-in-None g c =
     let kept = g.R.Replica.kept c.args.replica.now in
     let unnamed = unnamed-unseen c.args.client.now kept c.in-None.ensures in
     c.start_unseen.ensures c.args.gateway

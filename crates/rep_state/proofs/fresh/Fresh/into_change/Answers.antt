@@ -1,68 +1,61 @@
-use Rattle.std.proofs.Common.{◌≡◌, ℕ, ◌+◌, ◌==◌, ◌≤◌, false, length, vec_capacity, List, T, filter, sym, subst, ◌∙◌}
-use Rattle.std.specs.FinMap.{is_sorted}
+use Rattle.std.proofs.Common.{◌≡◌, ℕ, ◌+◌, ◌==◌, ◌≤◌, false, length, vec_capacity, List, filter, sym, ap, subst, ◌∙◌}
 use Rattle.rep_ops.specs.declared.op.Put.{Put}
-use Rattle.rep_ops.specs.Orders.{operation_cmp}
 use Rattle.rep_state.specs.Mail.{Rising, NoneCovered, InOne, is_left, weave}
-use Rattle.rep_state.specs.Origins.{ranges_in, AreOrigins}
-use Rattle.rep_state.specs.Kept.{kept_ops}
-use Rattle.rep_state.specs.Entries.{AreChanges, AreMade, messages}
-use Rattle.rep_state.proofs.Counts.{folded_as}
-use Rattle.rep_state.proofs.Freshness.{rising_messages, made_messages, none_woven}
+use Rattle.rep_state.specs.Origins.{ranges_in, ranges_on}
+use Rattle.rep_state.specs.Entries.{AreMade, base_of, row_on}
+use Rattle.rep_state.proofs.Changing.{log_fits, acks_fit, parked_fit, exceptions_fit, none_is}
+use Rattle.rep_state.proofs.Freshness.{ranges_same, rising_messages, made_messages, none_woven}
 use Rattle.rep_state.proofs.fresh.Fresh.into_change.Goals as goal
 
 pub returns-clause-change : goal.returns-clause-change
 returns-clause-change c =
-    λ fresh.
+    λ client fresh.
     let f = c.args.self in
-    let e = c.without_messages-entry.result in
-    let seen = c.without_messages-entry.ensures.seen in
-    let known = c.without_messages-entry.ensures.known in
-    let acks = c.without_messages-entry.ensures.acks in
     let news = c.in_ok-news.ensures in
     record {
-      folded = folded_as e.seen.stamp f.log.stamp e.seen.prefix f.log.prefix e.seen.session f.log.session e.known.entries f.log.known.entries seen.0 seen.1 seen.2 known fresh.folded;
-      ordered = subst (λ es. T (is_sorted operation_cmp es)) (sym known) fresh.ordered;
-      changes = subst AreChanges (sym known) fresh.changes;
-      origins = subst AreOrigins (sym acks) fresh.origins;
       rising = subst Rising (sym news) (rising_messages f.news.entries fresh.under fresh.sorted);
       made = subst AreMade (sym news) (made_messages f.news.entries fresh.made);
-      parked = c.without_messages-entry.ensures.parked;
-      exceptions = c.without_messages-entry.ensures.exceptions;
       blank = c.in_ok-room.ensures.empty;
+      log_blank = c.in_ok-log_room.ensures.empty;
     }
 
 pub returns-clause-fit : goal.returns-clause-fit
 returns-clause-fit c =
-    λ fresh.
+    λ client fresh.
     let f = c.args.self in
-    let waiting = c.args.waiting.now in
-    let acks = c.without_messages-entry.ensures.acks in
+    let e = c.args.entry.now in
+    let h = fresh.entry_is in
+    let waiting = e.seen.pending in
     let news = c.in_ok-news.ensures in
     record {
       apart = subst (λ (ns : List Put). (q : ℕ × ℕ) → InOne q waiting ns) (sym news) fresh.apart;
-      room = subst (λ (ns : List Put). (length ns == 0) ≡ false → length waiting + length ns ≤ vec_capacity c.in_ok-room.room) c.as_slice.ensures.value c.in_ok-room.ensures.room;
-      untold = λ told. subst (λ (ns : List Put). NoneCovered (ranges_in c.without_messages-entry.result.acks) (weave waiting ns)) (sym news)
-          (subst (λ (origins : List (ℕ × List (ℕ × ℕ))). NoneCovered (ranges_in origins) (weave waiting (messages f.news.entries))) (sym acks)
-          (none_woven (ranges_in f.acks) waiting f.news.entries (fresh.none_waits told) (fresh.none_comes told)));
+      room = subst (λ (ps : List Put). (length c.in_ok-news.news.items == 0) ≡ false → length ps + length c.in_ok-news.news.items ≤ vec_capacity c.in_ok-room.room) c.as_slice-waiting.ensures
+          (subst (λ (ns : List Put). (length ns == 0) ≡ false → length c.as_slice-waiting.result.now + length ns ≤ vec_capacity c.in_ok-room.room) c.as_slice.ensures.value c.in_ok-room.ensures.room);
+      untold = λ none. subst (λ (ns : List Put). NoneCovered (ranges_in e.acks) (weave waiting ns)) (sym news) (none_woven (ranges_in e.acks) waiting f.news.entries h.none_covered (fresh.none_comes none));
+      log = log_fits client e h f.log (vec_capacity c.in_ok-log_room.log_room) fresh.folded fresh.ordered fresh.changes c.in_ok-log_room.ensures.room;
+      acks = acks_fit client e h f.acks fresh.origins;
+      parked = c.in_ok-parked.ensures ∙ parked_fit client e h f.log c.in_ok-news.news.items f.acks fresh.folded fresh.ordered;
+      exceptions = c.exceptions_with-exceptions.ensures ∙ exceptions_fit client e h f.log c.in_ok-news.news.items f.acks fresh.origins;
     }
 
 pub returns-clause-counted : goal.returns-clause-counted
 returns-clause-counted c =
-    λ fresh.
+    λ client fresh.
     let f = c.args.self in
-    let waiting = c.args.waiting.now in
-    let acks = c.without_messages-entry.ensures.acks in
-    let value = c.as_slice-2.ensures.value in
-    c.in_ok-pending.ensures (λ told. subst (λ (ns : List Put). NoneCovered (ranges_in f.acks) (weave waiting ns)) (sym (value ∙ c.in_ok-news.ensures))
-    (none_woven (ranges_in f.acks) waiting f.news.entries (fresh.none_waits told) (fresh.none_comes told)))
-    ∙ (λ i. length (filter (is_left (ranges_in (sym acks i))) (weave waiting (value i))))
+    let e = c.args.entry.now in
+    let ps = e.seen.pending in
+    let ns = c.in_ok-news.news.items in
+    let rs = ranges_in c.latest.result.now in
+    let all : weave c.as_slice-waiting.result.now c.as_slice-2.result.now ≡ weave ps ns = λ i. weave (c.as_slice-waiting.ensures i) (c.as_slice-2.ensures.value i) in
+    let acks = ap ranges_in c.latest.ensures ∙ ranges_same e.acks f.acks in
+    c.in_ok-pending.ensures (λ told.
+    let none = none_is f.acks (sym c.is_some-told.ensures ∙ told) in
+    subst (NoneCovered rs) (sym all) (subst (λ rs. NoneCovered rs (weave ps ns)) (sym (acks ∙ ap (ranges_on (ranges_in e.acks)) none))
+    (subst (λ (ns : List Put). NoneCovered (ranges_in e.acks) (weave ps ns)) (sym c.in_ok-news.ensures) (none_woven (ranges_in e.acks) ps f.news.entries fresh.entry_is.none_covered (fresh.none_comes none)))))
+    ∙ (λ i. length (filter (is_left (acks i)) (all i)))
 
 pub returns-clause-row : goal.returns-clause-row
 returns-clause-row c =
     λ client.
     let f = c.args.self in
-    let waiting = c.args.waiting.now in
-    let known = c.without_messages-entry.ensures.known in
-    let acks = c.without_messages-entry.ensures.acks in
-    let news = c.in_ok-news.ensures in
-    λ i. kept_ops client (known i) (filter (is_left (ranges_in (acks i))) (weave waiting (news i))) (ranges_in (acks i))
+    ap (λ (ns : List Put). row_on client (base_of c.args.entry.now) f.log ns f.acks) c.in_ok-news.ensures

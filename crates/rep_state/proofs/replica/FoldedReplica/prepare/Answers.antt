@@ -7,11 +7,11 @@ use Rattle.rep_plain.specs.inner.Rows.{count_new}
 use Rattle.rep_state.specs.Tables.{by_client, rows_of}
 use Rattle.rep_state.specs.inner.Tables.{passed_by}
 use Rattle.rep_state.specs.inner.Groups.{AreGroups}
-use Rattle.rep_state.specs.Staging.{staged_of, plans, planned}
+use Rattle.rep_state.specs.Staging.{staged_of, planned}
 use Rattle.rep_state.specs.inner.Staging.{future, HaveRoom, AreWorkedOut}
 use Rattle.rep_state.proofs.Rows.{table_rows}
 use Rattle.rep_state.proofs.Placing.{roomier_itself}
-use Rattle.rep_state.proofs.Working.{waiting_is, are_fresh, fresh_rows_of}
+use Rattle.rep_state.proofs.Working.{held_is, are_fresh, fresh_rows_of}
 use Rattle.rep_state.proofs.Fitting.{own_room, kept_after, first_passed_both, counted_after, fresh_fit}
 use Rattle.rep_state.proofs.Staging.{planned_future, future_worked_out, passed_future, count_future, are_staged, are_ready}
 use Rattle.rep_state.proofs.replica.FoldedReplica.prepare.Goals as goal
@@ -34,7 +34,7 @@ returns-in-Some-clause-fault c =
     let sorted = c.in_ok-groups.ensures.sorted in
     let is = c.in_ok-changes.ensures.rows in
     let out = c.in_ok-changes.ensures.worked_out in
-    let worked = future_worked_out es gs (λ q. waiting_is q es t.each) out in
+    let worked = future_worked_out es gs (λ q. held_is q es t.each) out in
     let fresh = are_fresh es n t D made fs groups h sorted is worked in
     let rows = fresh_rows_of es n t D made fs groups h sorted is worked in
     let new = c.count_new.ensures ∙ count_future (λ q. not (has_any (own q (rows_of es)))) es c.as_slice.result.now ∙ ap (λ xs. count_new (rows_of es) (rows_of (future es (staged_of xs)))) c.as_slice.ensures.value in
@@ -60,7 +60,7 @@ invariant_of-result c =
     let sorted = c.in_ok-groups.ensures.sorted in
     let is = c.in_ok-changes.ensures.rows in
     let out = c.in_ok-changes.ensures.worked_out in
-    let worked = future_worked_out es gs (λ q. waiting_is q es t.each) out in
+    let worked = future_worked_out es gs (λ q. held_is q es t.each) out in
     let fresh = are_fresh es n t D made fs groups h sorted is worked in
     let rows = fresh_rows_of es n t D made fs groups h sorted is worked in
     let new = c.count_new.ensures ∙ count_future (λ q. not (has_any (own q (rows_of es)))) es c.as_slice.result.now ∙ ap (λ xs. count_new (rows_of es) (rows_of (future es (staged_of xs)))) c.as_slice.ensures.value in
@@ -86,7 +86,7 @@ returns-clause-fits c =
     let sorted = c.in_ok-groups.ensures.sorted in
     let is = c.in_ok-changes.ensures.rows in
     let out = c.in_ok-changes.ensures.worked_out in
-    let worked = future_worked_out es gs (λ q. waiting_is q es t.each) out in
+    let worked = future_worked_out es gs (λ q. held_is q es t.each) out in
     let fresh = are_fresh es n t D made fs groups h sorted is worked in
     let rows = fresh_rows_of es n t D made fs groups h sorted is worked in
     let new = c.count_new.ensures ∙ count_future (λ q. not (has_any (own q (rows_of es)))) es c.as_slice.result.now ∙ ap (λ xs. count_new (rows_of es) (rows_of (future es (staged_of xs)))) c.as_slice.ensures.value in
@@ -112,7 +112,7 @@ returns-clause-ready c =
     let sorted = c.in_ok-groups.ensures.sorted in
     let is = c.in_ok-changes.ensures.rows in
     let out = c.in_ok-changes.ensures.worked_out in
-    let worked = future_worked_out es gs (λ q. waiting_is q es t.each) out in
+    let worked = future_worked_out es gs (λ q. held_is q es t.each) out in
     let fresh = are_fresh es n t D made fs groups h sorted is worked in
     let rows = fresh_rows_of es n t D made fs groups h sorted is worked in
     let new = c.count_new.ensures ∙ count_future (λ q. not (has_any (own q (rows_of es)))) es c.as_slice.result.now ∙ ap (λ xs. count_new (rows_of es) (rows_of (future es (staged_of xs)))) c.as_slice.ensures.value in
@@ -144,7 +144,7 @@ returns-clause-taken c =
     let sorted = c.in_ok-groups.ensures.sorted in
     let is = c.in_ok-changes.ensures.rows in
     let out = c.in_ok-changes.ensures.worked_out in
-    let worked = future_worked_out es gs (λ q. waiting_is q es t.each) out in
+    let worked = future_worked_out es gs (λ q. held_is q es t.each) out in
     let fresh = are_fresh es n t D made fs groups h sorted is worked in
     let rows = fresh_rows_of es n t D made fs groups h sorted is worked in
     let new = c.count_new.ensures ∙ count_future (λ q. not (has_any (own q (rows_of es)))) es c.as_slice.result.now ∙ ap (λ xs. count_new (rows_of es) (rows_of (future es (staged_of xs)))) c.as_slice.ensures.value in
@@ -152,5 +152,5 @@ returns-clause-taken c =
     let room = by_client c.make_room.new.table.entries in
     let r = c.in_ok-make_room.ensures.roomier in
     let is-planned = planned_future (rows_of room) es (own_room es n t D fs fresh rows room r) gs in
-    subst (λ K. IsKeptOf (K ++ D) (flat (moved (rows_of room) (planned (rows_of room) (plans gs))))) (ap flat c.self.view_is)
+    subst (λ K. IsKeptOf (K ++ D) (flat (moved (rows_of room) (planned (rows_of room) gs)))) (ap flat c.self.view_is)
     (subst (λ rs. IsKeptOf (K ++ D) (flat (moved (rows_of room) rs))) (sym is-planned) (kept_after es n t D fs fresh rows room r))

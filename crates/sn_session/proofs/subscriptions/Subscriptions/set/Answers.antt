@@ -28,16 +28,16 @@ returns-in-Ok-clause-ok c =
 pub invariant_of-self-in-Continue-branch-2 : goal.invariant_of-self-in-Continue-branch-2
 invariant_of-self-in-Continue-branch-2 c =
     let entry : Subscription = record { filter = c.in_ok-filter-in-Err.filter; qos = c.args.qos } in
-    let place = rw (c.as_slice.ensures.value, ← c.in_ok-filter-in-Err.ensures.equal) at c.in-Err.ensures in
+    let place = rw (c.as_slice.ensures.value, ← c.in_ok-filter-in-Err.ensures) at c.in-Err.ensures in
     let P : List Subscription → Type 0 = λ entries. filter_has_no_room c.args.filter.now entries ≡ false in
-    let free = rw (← c.in_ok-filter-in-Err.ensures.equal) at (subst P (sym c.self.view_is) (sym c.if-has_no_room.ensures)) in
+    let free = rw (← c.in_ok-filter-in-Err.ensures) at (subst P (sym c.self.view_is) (sym c.if-has_no_room.ensures)) in
     rw c.in_ok-insert_at-in-Err.ensures.ok (insert_table _ _ entry c.self.invariant place.0 (room _ _ _ place.1 free) place.1)
 
 pub returns-in_ok-insert_at-in-Err-clause-ok : goal.returns-in_ok-insert_at-in-Err-clause-ok
 returns-in_ok-insert_at-in-Err-clause-ok c =
     let entry : Subscription = record { filter = c.in_ok-filter-in-Err.filter; qos = c.args.qos } in
-    let place = rw (c.as_slice.ensures.value, ← c.in_ok-filter-in-Err.ensures.equal) at c.in-Err.ensures in
-    rw (c.in_ok-insert_at-in-Err.ensures.ok, ← c.in_ok-filter-in-Err.ensures.equal, ← c.self.view_is) (insert_is c.self.inside.entries.items c.in-Err.at entry place.1)
+    let place = rw (c.as_slice.ensures.value, ← c.in_ok-filter-in-Err.ensures) at c.in-Err.ensures in
+    rw (c.in_ok-insert_at-in-Err.ensures.ok, ← c.in_ok-filter-in-Err.ensures, ← c.self.view_is) (insert_is c.self.inside.entries.items c.in-Err.at entry place.1)
 
 -- memory runs out only for a filter that is new
 pub returns-in_err-filter-in-Err-clause-absent : goal.returns-in_err-filter-in-Err-clause-absent

@@ -12,7 +12,7 @@ pub returns-in-Ok-clause-ok : goal.returns-in-Ok-clause-ok
 returns-in-Ok-clause-ok c =
     let entry : TopicEntry = record { id = c.args.id; name = c.in_ok-name.name; known = c.args.known } in
     let is = set_is c.self.inside.entries.items c.in-Ok.at entry (rw c.as_slice.ensures.value at c.in-Ok.ensures.1) in
-    rw (← c.in_ok-name.ensures.equal, ← c.self.view_is) is
+    rw (← c.in_ok-name.ensures, ← c.self.view_is) is
 
 -- the entry is new
 pub invariant_of-self-in-Continue-branch-2 : goal.invariant_of-self-in-Continue-branch-2
@@ -26,4 +26,4 @@ pub returns-in_ok-insert_at-in-Err-clause-ok : goal.returns-in_ok-insert_at-in-E
 returns-in_ok-insert_at-in-Err-clause-ok c =
     let entry : TopicEntry = record { id = c.args.id; name = c.in_ok-name.name; known = c.args.known } in
     let place = rw c.as_slice.ensures.value at c.in-Err.ensures in
-    rw (c.in_ok-insert_at-in-Err.ensures.ok, ← c.in_ok-name.ensures.equal, ← c.self.view_is) (insert_is c.self.inside.entries.items c.in-Err.at entry place.1)
+    rw (c.in_ok-insert_at-in-Err.ensures.ok, ← c.in_ok-name.ensures, ← c.self.view_is) (insert_is c.self.inside.entries.items c.in-Err.at entry place.1)

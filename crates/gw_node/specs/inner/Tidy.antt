@@ -1,0 +1,54 @@
+-- Which addresses and timers are of clients that the gateway owns.
+use Rattle.std.specs.Prelude.{ℕ, Bool, true, false, ◌&&◌, ◌||◌, ◌==◌, ◌≡◌, not, List, ◌++◌, is_none}
+use Rattle.std.specs.List.{list_all}
+use Rattle.rep_ops.specs.declared.op.Op.{Op}
+use Rattle.rep_ops.specs.declared.op.Op.TheVariants.{Session as OfSession, Put as OfPut, Ack}
+use Rattle.rep_model.specs.Keep.{IsKeptOf}
+use Rattle.sn_flow.specs.declared.local.LocalChange.{LocalChange}
+use Rattle.sn_flow.specs.declared.local.LocalChange.TheVariants.{Bind, Unbind, Time, Heard, Sent, Resent, Retried, Ask, EndDialog, Advertised}
+use Rattle.sn_flow.specs.Plans.{Seen, seen_of}
+use Rattle.sn_flow.specs.Locals.{Local}
+use Rattle.sn_flow.specs.Bindings.{address_of, is_owned, has_owned}
+use Rattle.sn_flow.specs.Timers.{timer_of, times_owned}
+
+-- whether each address and each timer is of a client that the gateway owns
+abbrev pub are_owned : ℕ → Seen → Local → Bool
+are_owned g seen local = list_all (has_owned g seen) local.bindings && list_all (times_owned g seen) local.timers
+
+-- the same before these operations, of which `kept` is what must be kept behind them
+pub record WereOwned (g : ℕ) (kept ops : List Op) (local : Local) : Type 0 where
+  pub before : List Op
+  pub taken : IsKeptOf (before ++ ops) kept
+  pub owned : are_owned g (seen_of before) local ≡ true
+
+-- the same, where it is known
+abbrev pub tidied : Bool → ℕ → List Op → Local → Bool
+tidied known g kept local = not known || are_owned g (seen_of kept) local
+
+-- whether the client has neither an address nor a timer
+abbrev pub is_stranger : List ℕ → Local → Bool
+is_stranger c local = is_none (address_of c local.bindings) && is_none (timer_of c local.timers)
+
+-- whether the gateway owns the client, or knows nothing of it
+abbrev pub is_left : ℕ → Seen → Local → List ℕ → Bool
+is_left g seen local c = is_owned g seen c || is_stranger c local
+
+-- whether the operation leaves the gateway all clients of which it knows an address or a timer: it is no Take, or one of a client
+-- that the gateway owns, or of a stranger
+abbrev pub leaves_all : ℕ → Seen → Local → Op → Bool
+leaves_all g seen local (OfSession c stamp counter change) = not (counter == 0) || is_left g seen local c
+leaves_all g seen local (OfPut c put) = true
+leaves_all g seen local (Ack c origin first last) = true
+
+-- whether an address or a timer that the change notes is of a client that the gateway owns
+abbrev pub notes_owned : ℕ → Seen → LocalChange → Bool
+notes_owned g seen (Bind a c) = is_owned g seen c
+notes_owned g seen (Unbind c) = true
+notes_owned g seen (Time timer) = is_owned g seen timer.client
+notes_owned g seen (Heard c now) = is_owned g seen c
+notes_owned g seen (Sent c now) = is_owned g seen c
+notes_owned g seen (Resent c now) = is_owned g seen c
+notes_owned g seen (Retried c now) = is_owned g seen c
+notes_owned g seen (Ask dialog) = true
+notes_owned g seen (EndDialog a) = true
+notes_owned g seen (Advertised now) = true

@@ -1,5 +1,0 @@
-use Rattle.std.proofs.Common.{◌≡◌, take}
-use Rattle.rep_model.proofs.view.Puts.copy.Given as goal
-
-abbrev pub invariant-loop-put : goal.invariant-loop-put
-invariant-loop-put l = l.items.items ≡ take l.put-index l.put-items
