@@ -14,12 +14,8 @@ trap 'rm -rf "$work"' EXIT
 millions=${1:-10}
 deltas=${2:-200}
 records=${3:-1000000}
-program=$top/crates/codec_bench/out/codec_bench
-# rt builds nothing anew where the program is that of the sources.
-if ! (cd "$top/crates/codec_bench" && rt run <stdin >"$work/built" 2>&1); then
-    tail -n 20 "$work/built"
-    exit 1
-fi
+. "$top/bench/built.sh"
+program=$(built codec_bench "$top/crates/codec_bench/stdin")
 for name in frames deltas; do
     gcc -O2 -Wall -o "$work/$name" "$top/bench/$name.c"
 done

@@ -10,12 +10,8 @@ top=$(cd "$(dirname "$0")/.." && pwd)
 work=$(mktemp -d)
 trap 'rm -rf "$work"' EXIT
 rounds=${1:-20}
-program=$top/crates/codec_bench/out/codec_bench
-# rt builds nothing anew where the program is that of the sources.
-if ! (cd "$top/crates/codec_bench" && rt run <stdin >"$work/built" 2>&1); then
-    tail -n 20 "$work/built"
-    exit 1
-fi
+. "$top/bench/built.sh"
+program=$(built codec_bench "$top/crates/codec_bench/stdin")
 echo "load $(cut -d ' ' -f 1-3 /proc/loadavg 2>/dev/null || echo unknown), $(nproc) processors"
 for _ in 1 2 3; do
     python3 "$top/bench/seconds.py" "$program" "digests 0" "$work/printed" >>"$work/without"

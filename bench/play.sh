@@ -9,10 +9,8 @@ work=$(mktemp -d)
 trap 'rm -rf "$work"' EXIT
 python3 "$top/bench/script.py" "$@" >"$work/script"
 events=$(grep -vc '^gateway' "$work/script")
-program=$top/crates/gw_sim/out/gw_sim
-if [ ! -x "$program" ] || [ -n "$(find "$top/crates" -name out -prune -o -name '*.rt' -newer "$program" -print | head -n 1)" ]; then
-    (cd "$top/crates/gw_sim" && rt run <"$work/script" >/dev/null) || true
-fi
+. "$top/bench/built.sh"
+program=$(built gw_sim "$work/script")
 start=$(date +%s.%N)
 status=0
 "$program" <"$work/script" >"$work/printed" || status=$?

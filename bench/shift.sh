@@ -11,11 +11,8 @@ top=$(cd "$(dirname "$0")/.." && pwd)
 rounds=${1:-20}
 work=$(mktemp -d)
 trap 'rm -rf "$work"' EXIT
-program=$top/crates/shift_bench/out/shift_bench
-if ! (cd "$top/crates/shift_bench" && rt run <stdin >"$work/built" 2>&1); then
-    tail -n 20 "$work/built"
-    exit 1
-fi
+. "$top/bench/built.sh"
+program=$(built shift_bench "$top/crates/shift_bench/stdin")
 echo "load $(cut -d ' ' -f 1-3 /proc/loadavg 2>/dev/null || echo unknown), $(nproc) processors"
 for name in "search $rounds" "sleep 1"; do
     for threads in 0 1 2 4 8; do

@@ -4,9 +4,10 @@
 Usage: bench/steps.py PROGRAM [--clients N] [--waiting N] [--past N] [--sleepers N] [--records N] [--seconds S] [--only WORD]
        (gw_sim; 1024, 1024, 20000, 1000, 20000 and 0.3 where nothing is said; WORD is one of idle, waits, past, tick, spread, opening)
 
-A script that builds up is played without and with the events that are measured, in turn, three times; the best times count, and what
-building up takes is taken off. As many events are played as take S seconds, where they change nothing that they depend on. Processor
-time is counted, and not the time that passes. A figure has the reading of its line and the printing of its answer in it: what these
+A script that builds up is played without and with the events that are measured, in turn, five times; the best times count, and what
+building up takes is taken off. As many events are played as take S seconds, and as long as building up takes, where they change nothing
+that they depend on: else a figure would be a small part of the difference of two long runs. Processor time is counted, and not the
+time that passes. A figure has the reading of its line and the printing of its answer in it: what these
 take is about what a SEARCHGW takes, which is told first.
 """
 import argparse
@@ -20,7 +21,7 @@ from sessions import frame
 
 # the ports of who publishes and of the first client; how often an event is repeated at most
 PUBLISHER, FIRST = 60000, 1
-MOST = 200000
+MOST = 1000000
 
 
 def at(port: int, now: int, octets: str) -> str:
@@ -108,7 +109,7 @@ class Bench:
     def __init__(self, program: str, least: float) -> None:
         self.program, self.least = program, least
 
-    def fixed(self, cases: list, times: int = 3) -> list:
+    def fixed(self, cases: list, times: int = 5) -> list:
         """Microseconds of an event of each case: the best of so many runs, in turn."""
         rounds = [[case.times(self.program) for case in cases] for _ in range(times)]
         best = [[min(each) for each in zip(*times)] for times in zip(*rounds)]
@@ -120,10 +121,10 @@ class Bench:
         while True:
             case = Case(setup, [event] * count, last)
             without, used = case.times(self.program)
-            took = used - without
-            if took >= self.least or count >= MOST:
+            took, least = used - without, max(self.least, without)
+            if took >= least or count >= MOST:
                 return case
-            growth = self.least / took * 1.2 if took > self.least / 20 else 16
+            growth = least / took * 1.2 if took > least / 20 else 16
             count = min(int(count * growth) + 1, MOST)
 
     def repeated(self, setups: list, event: str, last: str) -> list:

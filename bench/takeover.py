@@ -4,7 +4,8 @@
 Usage: bench/takeover.py PROGRAM [CLIENTS] [FEW]      (100 and 10 where nothing is said)
 
 The story is that of examples/takeover.script. CLIENTS clients that fall asleep at one gateway and wake at another are timed beside
-the same number of clients that are FEW to a pair of gateways, in turn, three times; the best counts.
+the same number of clients that are FEW to a pair of gateways, in turn, seven times; the best counts. What a run of the gateways
+without events takes, which is the start of a process, is taken off; the rate with it is told as well.
 """
 import sys
 
@@ -43,12 +44,13 @@ def script(clients: int, apiece: int) -> str:
 def main() -> None:
     program = sys.argv[1]
     clients, few = ([int(word) for word in sys.argv[2:]] + [100, 10][len(sys.argv) - 2 :])[:2]
-    scripts = [script(clients, clients), script(clients, few)]
-    best = [min(times) for times in zip(*([seconds(program, text) for text in scripts] for _ in range(3)))]
-    rates = [16 * clients / time for time in best]
+    scripts = [script(clients, clients), script(clients, few), "gateway 1\ngateway 2\n"]
+    *best, start = [min(times) for times in zip(*([seconds(program, text) for text in scripts] for _ in range(7)))]
+    rates = [16 * clients / (time - start) for time in best]
     print(f"{16 * clients} events of {clients} clients that sleep at one gateway and wake at another, journals in memory")
     print(f"  all at two gateways {rates[0]:.0f} events per second, {few} to a pair of gateways {rates[1]:.0f},"
           f" {rates[1] / rates[0]:.2f} times as many")
+    print(f"  with the start of the process, {1000 * start:.1f} milliseconds, {16 * clients / best[0]:.0f} events per second")
 
 
 main()

@@ -30,7 +30,8 @@ use Rattle.sn_frame.specs.FlagBits.{qos_of, kind_of}
 use Rattle.rep_ops.specs.declared.op.Put.{Put}
 use Rattle.rep_ops.specs.declared.op.Op.{Op}
 use Rattle.rep_ops.specs.Making.{AreWellMade}
-use Rattle.rep_ops.specs.Ranges.{is_topic_id, is_topic, is_qos, is_message, is_will, is_will_topic, is_exchange, is_session}
+use Rattle.sn_session.specs.Levels.{is_qos}
+use Rattle.rep_ops.specs.Ranges.{is_topic_id, is_topic, is_message, is_will, is_will_topic, is_exchange, is_session}
 use Rattle.rep_model.specs.declared.view.ClientView.{ClientView}
 use Rattle.rep_model.specs.Views.{view, clients}
 use Rattle.sn_flow.specs.declared.config.Addr.{Addr}

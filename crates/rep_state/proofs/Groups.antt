@@ -37,20 +37,20 @@ any_behind : (ops : List Op) (op : Op) → has_any (ops ++ op ∷ []) ≡ true
 any_behind [] op = refl
 any_behind (x ∷ ops) op = refl
 
--- the client of the operation
-pub group_more : (c : List ℕ) (es : List (List ℕ × Entry)) (D : List Op) (op : Op) (old new : Fresh) → same_client c (client_of op) ≡ true
-    → IsTaken c es D (fresh_row c (held_of c es) old)
-    → IsFresh c (held_of c es) new × Same (fresh_row c (held_of c es) new) (keep (fresh_row c (held_of c es) old ++ op ∷ []))
+-- the client of the operation, of whom these must be kept so far
+pub group_more : (c : List ℕ) (es : List (List ℕ × Entry)) (D : List Op) (op : Op) (ops : List Op) (new : Fresh) → same_client c (client_of op) ≡ true
+    → IsTaken c es D ops
+    → IsFresh c (held_of c es) new × Same (fresh_row c (held_of c es) new) (keep (ops ++ op ∷ []))
     → IsGroup c es (D ++ op ∷ []) new
-group_more c es D op old new mine taken more =
+group_more c es D op ops new mine taken more =
     let w = held_of c es in
     let K = own c (rows_of es) in
     let all : of_client c (D ++ op ∷ []) ≡ of_client c D ++ op ∷ [] = behind c D op true mine in
     record {
       fresh_is = more.0;
-      taken = subst (λ ops. Same (fresh_row c w new) (keep (K ++ ops))) (sym all)
-          (subst (λ ops. Same (fresh_row c w new) (keep ops)) (append_assoc K (of_client c D) (op ∷ []))
-          (kept_step (K ++ of_client c D) (op ∷ []) (fresh_row c w old) (fresh_row c w new) taken more.1));
+      taken = subst (λ said. Same (fresh_row c w new) (keep (K ++ said))) (sym all)
+          (subst (λ said. Same (fresh_row c w new) (keep said)) (append_assoc K (of_client c D) (op ∷ []))
+          (kept_step (K ++ of_client c D) (op ∷ []) ops (fresh_row c w new) taken more.1));
       any = ap has_any all ∙ any_behind (of_client c D) op;
     }
 

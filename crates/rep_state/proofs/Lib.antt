@@ -1,4 +1,5 @@
 mod Names
+pub mod Newcomers
 pub mod Logging
 pub mod Moving
 pub mod Rising
@@ -11,6 +12,7 @@ pub mod Copying
 pub mod Changes
 pub mod Changing
 pub mod Freshness
+pub mod Gathering
 pub mod Owning
 pub mod Counts
 pub mod Entering

@@ -1,10 +1,9 @@
 -- The entries that the groups of a delta make.
-use Rattle.std.proofs.Common.{◌≡◌, ℕ, Bool, true, false, cond, ◌&&◌, nat_le, if◌then◌else◌, List, [], ◌∷◌, ◌++◌, Option, Some, None, IsTrue, T, refl, sym, ap, ◌∙◌, subst, true≢false, append-nil, Ordering, Less, Equal, Greater}
+use Rattle.std.proofs.Common.{◌≡◌, ℕ, Bool, true, false, cond, ◌&&◌, nat_le, if◌then◌else◌, List, [], ◌∷◌, ◌++◌, Option, Some, None, IsTrue, T, refl, sym, ap, ◌∙◌, subst, true≢false, append-nil}
 use Rattle.std.specs.List.{AllByRecursion}
 use Rattle.std.specs.Option.{option_map}
-use Rattle.std.specs.Ordering.{is_lt, is_eq, eq_by_cmp, ordering_reverse}
-use Rattle.std.specs.BTreeMap.{insert_entry}
-use Rattle.std.specs.FinMap.{find, is_sorted}
+use Rattle.std.specs.Ordering.{is_lt, eq_by_cmp}
+use Rattle.std.specs.FinMap.{find, put, is_sorted}
 use Rattle.std.specs.FinMap.Entries.{below_all, find-put}
 use Rattle.std.proofs.lemmas.Map.Text.{is_eq-slice_cmp}
 use Rattle.std.proofs.lemmas.Map.Views.{tells_apart}
@@ -20,15 +19,15 @@ use Rattle.rep_model.proofs.Joins.{same_trans, all-both, all-weaker}
 use Rattle.rep_model.proofs.Readers.{client_total, client_exact, same_client-true}
 use Rattle.rep_plain.specs.Rows.{flat, own, or_nothing, has_any, IsOwn, IsOwnOp}
 use Rattle.rep_plain.specs.inner.Rows.{of_client}
+use Rattle.rep_plain.proofs.Kept.{made_rows}
 use Rattle.rep_plain.proofs.Counting.{all_found}
 use Rattle.rep_plain.proofs.Flat.{of_flat, found_own}
 use Rattle.rep_state.specs.declared.entry.Entry.{Entry}
 use Rattle.rep_state.specs.declared.fresh.Fresh.{Fresh}
-use Rattle.rep_state.specs.Entries.{row_of, IsEntry, IsFresh, fresh_row, IsStep}
+use Rattle.rep_state.specs.Entries.{row_of, IsEntry, IsFresh, fresh_row}
 use Rattle.rep_state.specs.Tables.{rows_of, AreKept, IsKept, IsTable}
 use Rattle.rep_state.specs.inner.Tables.{AreWorkedOut}
 use Rattle.rep_state.specs.inner.Groups.{held_of, or_nothing_held, IsTaken, IsGroup, IsGroupOf, AreGroups, fresh_rows, IsRowOf, AreRowsOf}
-use Rattle.rep_plain.proofs.Maps.{insert_is_put}
 use Rattle.rep_state.proofs.Client.{itself}
 use Rattle.rep_state.proofs.Entering.{own_entry}
 use Rattle.rep_state.proofs.Empty.{nothing_is}
@@ -83,29 +82,19 @@ nothing_taken c es D each none =
     subst (λ rest. Same ops (keep (ops ++ rest))) (sym none) (subst (λ S. Same ops (keep S)) (sym (append-nil ops)) (own_keeps c es each))
 
 -- an operation more in the group of its client
-pub group_added : (es : List (List ℕ × Entry)) (D : List Op) (op : Op) (groups mid new : List (List ℕ × Fresh)) (client : List ℕ) (old fresh : Fresh) → client ≡ client_of op
+pub group_added : (es : List (List ℕ × Entry)) (D : List Op) (op : Op) (groups new : List (List ℕ × Fresh)) (client : List ℕ) (ops : List Op) (fresh : Fresh) → client ≡ client_of op
     → AreGroups es D groups
-    → ((c : List ℕ) → is_eq (client_cmp client c) ≡ false → find client_cmp c mid ≡ find client_cmp c groups)
-    → IsTaken client es D (fresh_row client (held_of client es) old)
-    → IsStep client (held_of client es) old fresh op
-    → new ≡ insert_entry client_cmp mid client fresh
+    → IsTaken client es D ops
+    → IsFresh client (held_of client es) fresh × Same (fresh_row client (held_of client es) fresh) (keep (ops ++ op ∷ []))
+    → new ≡ put client_cmp client fresh groups
     → AreGroups es (D ++ op ∷ []) new
-group_added es D op groups mid new client old fresh is h others taken more entered q =
-    subst (IsGroupOf q es (D ++ op ∷ [])) (sym (ap (find client_cmp q) (entered ∙ insert_is_put client_cmp client fresh mid) ∙ find-put client_cmp client_total q client fresh mid))
-    (elim (eq_by_cmp client_cmp q client) as (λ b. eq_by_cmp client_cmp q client ≡ b → IsGroupOf q es (D ++ op ∷ []) (cond b (Some fresh) (find client_cmp q mid))) [
+group_added es D op groups new client ops fresh is h taken more entered q =
+    subst (IsGroupOf q es (D ++ op ∷ [])) (sym (ap (find client_cmp q) entered ∙ find-put client_cmp client_total q client fresh groups))
+    (elim (eq_by_cmp client_cmp q client) as (λ b. eq_by_cmp client_cmp q client ≡ b → IsGroupOf q es (D ++ op ∷ []) (cond b (Some fresh) (find client_cmp q groups))) [
       | true ↦ λ t. subst (λ x. IsGroup x es (D ++ op ∷ []) fresh) (sym (tells_apart client_exact q client t))
-          (group_more client es D op old fresh (ap (same_client client) (sym is) ∙ itself client) taken more)
-      | false ↦ λ f. subst (IsGroupOf q es (D ++ op ∷ [])) (sym (others q (turned ∙ f)))
-          (group_apart q es D op (find client_cmp q groups) (ap (same_client q) (sym is) ∙ sym (is_eq-slice_cmp q client) ∙ f) (h q))
+          (group_more client es D op ops fresh (ap (same_client client) (sym is) ∙ itself client) taken more)
+      | false ↦ λ f. group_apart q es D op (find client_cmp q groups) (ap (same_client q) (sym is) ∙ sym (is_eq-slice_cmp q client) ∙ f) (h q)
     ] refl)
-  where
-    back : (r : Ordering) → is_eq (ordering_reverse r) ≡ is_eq r
-    back Less = refl
-    back Equal = refl
-    back Greater = refl
-
-    turned : is_eq (client_cmp client q) ≡ is_eq (client_cmp q client)
-    turned = ap is_eq (client_total.antisymm client q) ∙ back (client_cmp q client)
 
 pub groups_fresh : (es : List (List ℕ × Entry)) (D : List Op) (groups : List (List ℕ × Fresh)) → AreGroups es D groups → T (is_sorted client_cmp groups) → AllByRecursion (λ g. IsFresh g.0 (held_of g.0 es) g.1) groups
 groups_fresh es D groups h sorted =
@@ -148,14 +137,6 @@ module _ (es : List (List ℕ × Entry)) (n : ℕ) (t : IsTable es n) (D : List 
       }
 
 -- ---- what is held
-
-own_made : (c : List ℕ) (ops : List Op) → IsOwn c ops → AreWellMade ops
-own_made c [] h = tt
-own_made c (op ∷ ops) h = (h.0.1, own_made c ops h.1)
-
-made_rows : (rows : List (List ℕ × List Op)) → AllByRecursion (λ row. IsOwn row.0 row.1) rows → AreWellMade (flat rows)
-made_rows [] h = tt
-made_rows (row ∷ rows) h = all-both (λ op. IsTrue (is_well_made op)) row.1 (flat rows) (own_made row.0 row.1 h.0) (made_rows rows h.1)
 
 module _ (es : List (List ℕ × Entry)) (n : ℕ) (t : IsTable es n) where
   pub made_flat : AreWellMade (flat (rows_of es))

@@ -89,7 +89,7 @@ row_on c base log news acks = kept_ops c (known_on base.known log) (left_on base
 -- ---- a change, operation by operation
 
 abbrev pub fresh_row : List ℕ → Entry → Fresh → List Op
-fresh_row c entry fresh = row_on c (base_of entry) fresh.log (messages fresh.news.entries) fresh.acks
+fresh_row c entry fresh = row_on c (base_of entry) fresh.log (messages fresh.news) fresh.acks
 
 -- the log is folded; new messages stand under their names, and none of them waits already; acknowledged ranges do not touch,
 -- and where none is new they have no message
@@ -98,12 +98,12 @@ pub record IsFresh (c : List ℕ) (entry : Entry) (fresh : Fresh) : Type 0 where
   pub folded : IsFolded (whole_after entry fresh.log)
   pub ordered : T (is_sorted operation_cmp (known_on entry.known fresh.log))
   pub changes : AreChanges (known_on entry.known fresh.log)
-  pub sorted : T (is_sorted put_cmp fresh.news.entries)
-  pub under : AreUnderNames fresh.news.entries
-  pub made : AllByRecursion (λ (e : (ℕ × ℕ) × Put). IsTrue (is_put e.1)) fresh.news.entries
-  pub apart : (name : ℕ × ℕ) → InOne name entry.seen.pending (messages fresh.news.entries)
+  pub sorted : T (is_sorted put_cmp fresh.news)
+  pub under : AreUnderNames fresh.news
+  pub made : AllByRecursion (λ (e : (ℕ × ℕ) × Put). IsTrue (is_put e.1)) fresh.news
+  pub apart : (name : ℕ × ℕ) → InOne name entry.seen.pending (messages fresh.news)
   pub origins : AreOrigins (origins_after entry.acks fresh.acks)
-  pub none_comes : fresh.acks ≡ None → NoneCoveredBelow (ranges_in entry.acks) fresh.news.entries
+  pub none_comes : fresh.acks ≡ None → NoneCoveredBelow (ranges_in entry.acks) fresh.news
 
 -- one operation more of the client: the change stays one, and what it keeps is what must be kept of what it kept and the operation
 abbrev pub IsStep : List ℕ → Entry → Fresh → Fresh → Op → Type 0

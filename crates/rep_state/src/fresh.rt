@@ -3,7 +3,6 @@
 ghost use Rattle.std.specs.Prelude.{◌≡◌, ◌+◌, ◌==◌, ◌≤◌, ◌||◌, [], ℕ, List, IsTrue, false, is_some, length, vec_capacity, IfOk, OnOk};
 ghost use Rattle.std.specs.List.{list_any};
 ghost use Rattle.std.specs.FinMap.{find};
-ghost use Rattle.std.specs.BTreeMap.{values};
 ghost use Rattle.rep_ops.specs.declared.op.Op.TheVariants.{Session as OfSession, Put as OfPut, Ack};
 ghost use Rattle.rep_ops.specs.Orders.{operation_cmp, put_cmp};
 ghost use Rattle.rep_ops.specs.WellMade.{is_well_made};
@@ -20,6 +19,7 @@ use super::change::Change;
 use super::entry::Entry;
 use super::known::{Known, NamedOp};
 use super::log::Log;
+use super::news::News;
 use super::searching::find_put;
 use super::settling::count_settled;
 use octets::NoMemory;
@@ -27,14 +27,13 @@ use rep_model::Puts;
 use rep_ops::{Op, Put, Stamp};
 use sn_session::SessionOp;
 use std::alloc::Global;
-use std::collections::BTreeMap;
 
 /// What a delta changes of one client: the log and the acknowledgements as they will be, where something came for them, and the
 /// messages that are new.
 #[derive(Debug, Drop)]
 pub struct Fresh {
     pub(crate) log: Option<Log>,
-    pub(crate) news: BTreeMap<(u64, u8), Put>,
+    pub(crate) news: News,
     pub(crate) acks: Option<Acks>,
 }
 
@@ -50,7 +49,7 @@ impl Fresh {
     {
         Fresh {
             log: None,
-            news: BTreeMap::new(alloc),
+            news: News::new(alloc),
             acks: None,
         }
     }
@@ -128,6 +127,7 @@ impl Fresh {
 
     /// A message more; one that is acknowledged, or there, changes nothing.
     fn note_put(&mut self, alloc: Global, entry: &Entry, put: &Put) -> Result<(), NoMemory>
+        requires { (c : List ℕ) × IsFresh c entry.now self.old }
         ensures { (c : List ℕ)
             → IsFresh c entry.now self.old
             → IsTrue (is_well_made (OfPut c put.now))
@@ -137,7 +137,7 @@ impl Fresh {
             return Ok(());
         }
         let put = put.copied(alloc)?;
-        self.news.insert((put.seq, put.origin), put)?;
+        self.news.insert(put)?;
         Ok(())
     }
 
@@ -147,11 +147,11 @@ impl Fresh {
             → result ≡ (list_any (covers (name_of put.now))
             (ranges_in (origins_after entry.now.acks self.now.acks))
             || is_some (put_named (name_of put.now) entry.now.seen.pending)
-            || is_some (find put_cmp (name_of put.now) self.now.news.entries)) }
+            || is_some (find put_cmp (name_of put.now) self.now.news)) }
     {
         latest(&entry.acks, &self.acks).covers(put.seq, put.origin)
             || find_put(entry.seen.pending.as_slice(), put.seq, put.origin).is_some()
-            || self.news.contains_key(&(put.seq, put.origin))
+            || self.news.has(put.seq, put.origin)
     }
 
     /// What is staged of the client, of whom this entry is held.
@@ -166,7 +166,7 @@ impl Fresh {
             planned_row c (base_of entry.now) change ≡ fresh_row c entry.now self) }
     {
         let Fresh { log, news, acks } = self;
-        let news = into_puts(alloc, news)?;
+        let news = news.into_puts();
         let waiting = entry.seen.pending.as_slice();
         let room = room_for(alloc, waiting, news.as_slice())?;
         let told = acks.is_some();
@@ -287,12 +287,4 @@ fn room_for(alloc: Global, waiting: &[Put], news: &[Put]) -> Result<Vec<Put>, No
     }
     let room = with_half(waiting.len(), news.len())?;
     Ok(Vec::with_capacity(alloc, room)?)
-}
-
-/// The messages in the order of their names.
-fn into_puts(alloc: Global, news: BTreeMap<(u64, u8), Put>) -> Result<Vec<Put>, NoMemory>
-    ensures { IfOk result (λ puts. puts.items ≡ values news) }
-{
-    let puts = news.into_values().collect(alloc)?;
-    Ok(puts)
 }

@@ -1,17 +1,17 @@
 //! What a delta changes of each client that it names.
 
-ghost use Rattle.std.specs.Prelude.{◌≡◌, ◌++◌, ◌∷◌, [], IsTrue, IfOk, OnOk, ℕ, List, T, false};
-ghost use Rattle.std.specs.Ordering.{is_eq};
+ghost use Rattle.std.specs.Prelude.{◌≡◌, ◌++◌, ◌∷◌, [], IsTrue, IfOk, OnOk, List, T};
 ghost use Rattle.std.specs.List.{AllByRecursion};
-ghost use Rattle.std.specs.FinMap.{find, is_sorted};
+ghost use Rattle.std.specs.FinMap.{is_sorted};
+ghost use Rattle.sn_session.specs.inner.Tables.{IsPlace};
 ghost use Rattle.rep_ops.specs.declared.op.Op.{Op};
-ghost use Rattle.rep_ops.specs.Orders.{client_cmp};
+ghost use Rattle.rep_ops.specs.Orders.{client_cmp, client_of};
 ghost use Rattle.rep_ops.specs.WellMade.{is_well_made};
-ghost use Rattle.rep_state.specs.Entries.{IsFresh, fresh_row};
+ghost use Rattle.rep_state.specs.Entries.{IsEntry, IsFresh, fresh_row};
 ghost use Rattle.rep_state.specs.Tables.{by_client, rows_of, AreKept};
 ghost use Rattle.rep_state.specs.Staging.{staged_of};
 ghost use Rattle.rep_state.specs.inner.Staging.{future, AreWorkedOut};
-ghost use Rattle.rep_state.specs.inner.Groups.{held_of, nothing_held, IsTaken, AreGroups, fresh_rows};
+ghost use Rattle.rep_state.specs.inner.Groups.{held_of, nothing_held, IsBegun, AreGroups, fresh_rows};
 
 use super::change::Change;
 use super::entry::Entry;
@@ -20,24 +20,23 @@ use super::table::{Table, copy_octets, entry_of};
 use octets::NoMemory;
 use rep_ops::{ClientId, Op};
 use std::alloc::Global;
-use std::collections::BTreeMap;
+use std::cmp::Ordering;
 
-/// For each client that the operations name: what they change of it.
-pub(crate) fn grown(
-    alloc: Global,
-    table: &Table,
-    ops: &[Op],
-) -> Result<BTreeMap<ClientId, Fresh>, NoMemory>
+/// A client, and what is changed of it.
+pub(crate) type Group = (ClientId, Fresh);
+
+/// For each client that the operations name: what they change of it, in the order of the clients.
+pub(crate) fn grown(alloc: Global, table: &Table, ops: &[Op]) -> Result<Vec<Group>, NoMemory>
     requires kept { AreKept (by_client table.now.entries) }
     requires made { AllByRecursion (λ op. IsTrue (is_well_made op)) ops.now }
     ensures groups { IfOk result (λ groups.
-        AreGroups (by_client table.now.entries) ops.now groups.entries) }
-    ensures sorted { IfOk result (λ groups. T (is_sorted client_cmp groups.entries)) }
+        AreGroups (by_client table.now.entries) ops.now groups.items) }
+    ensures sorted { IfOk result (λ groups. T (is_sorted client_cmp groups.items)) }
     ensures fresh { IfOk result (λ groups. AllByRecursion
-        (λ g. IsFresh g.0 (held_of g.0 (by_client table.now.entries)) g.1) groups.entries) }
+        (λ g. IsFresh g.0 (held_of g.0 (by_client table.now.entries)) g.1) groups.items) }
 {
     let nothing = Entry::empty(alloc);
-    let mut groups = BTreeMap::new(alloc);
+    let mut groups = Vec::with_capacity(alloc, 1)?;
     for op in ops {
         add_to_group(alloc, table, &nothing, &mut groups, op)?;
     }
@@ -49,48 +48,69 @@ fn add_to_group(
     alloc: Global,
     table: &Table,
     nothing: &Entry,
-    groups: &mut BTreeMap<ClientId, Fresh>,
+    groups: &mut Vec<Group>,
     op: &Op,
 ) -> Result<(), NoMemory>
     requires kept { AreKept (by_client table.now.entries) }
     requires nothing { nothing.now ≡ nothing_held }
     requires made { IsTrue (is_well_made op.now) }
-    requires groups { (D : List Op) × AreGroups (by_client table.now.entries) D groups.old.entries }
+    requires groups { (D : List Op) × AreGroups (by_client table.now.entries) D groups.old.items }
+    requires sorted { T (is_sorted client_cmp groups.old.items) }
     ensures groups { (D : List Op)
-        → AreGroups (by_client table.now.entries) D groups.old.entries
+        → AreGroups (by_client table.now.entries) D groups.old.items
         → OnOk result
-        (AreGroups (by_client table.now.entries) (D ++ op.now ∷ []) groups.new.entries) }
-    ensures sorted { OnOk result (T (is_sorted client_cmp groups.new.entries)) }
+        (AreGroups (by_client table.now.entries) (D ++ op.now ∷ []) groups.new.items) }
+    ensures sorted { OnOk result (T (is_sorted client_cmp groups.new.items)) }
 {
-    let client = op.client().copied(alloc)?;
-    let mut fresh = take_group(alloc, table, groups, &client);
-    fresh.note(alloc, held(table, nothing, &client), op)?;
-    groups.insert(client, fresh)?;
-    Ok(())
+    let client = op.client();
+    let entry = held(table, nothing, client);
+    match place_of(groups.as_slice(), client) {
+        Ok(at) => {
+            groups[at].1.note(alloc, entry, op)?;
+            Ok(())
+        }
+        Err(at) => {
+            let group = begun(alloc, entry, op)?;
+            groups.insert(at, group)?;
+            Ok(())
+        }
+    }
 }
 
-/// Takes what is changed of a client out of the groups; nothing is, where it has none.
-fn take_group(
-    alloc: Global,
-    table: &Table,
-    groups: &mut BTreeMap<ClientId, Fresh>,
-    client: &ClientId,
-) -> Fresh
-    requires kept { AreKept (by_client table.now.entries) }
-    requires groups { (D : List Op) × AreGroups (by_client table.now.entries) D groups.old.entries }
-    ensures fresh { IsFresh client.now (held_of client.now (by_client table.now.entries)) result }
-    ensures taken { (D : List Op)
-        → AreGroups (by_client table.now.entries) D groups.old.entries
-        → IsTaken client.now (by_client table.now.entries) D
-        (fresh_row client.now (held_of client.now (by_client table.now.entries)) result) }
-    ensures others { (c : List ℕ)
-        → is_eq (client_cmp client.now c) ≡ false
-        → find client_cmp c groups.new.entries ≡ find client_cmp c groups.old.entries }
+/// The group of a client with its first operation.
+fn begun(alloc: Global, entry: &Entry, op: &Op) -> Result<Group, NoMemory>
+    requires entry { IsEntry (client_of op.now) entry.now }
+    requires made { IsTrue (is_well_made op.now) }
+    ensures client { IfOk result (λ group. group.0 ≡ client_of op.now) }
+    ensures fresh { IfOk result (λ group. IsBegun (client_of op.now) entry.now group.1 op.now) }
 {
-    match groups.remove(client) {
-        Some(fresh) => fresh,
-        None => Fresh::new(alloc),
+    let mut fresh = Fresh::new(alloc);
+    fresh.note(alloc, entry, op)?;
+    Ok((op.client().copied(alloc)?, fresh))
+}
+
+/// Where the group of a client stands among groups in order, or where it would go. A delta's operations are in the order of their
+/// clients, so the last group is looked at first.
+fn place_of(groups: &[Group], client: &ClientId) -> Result<usize, usize>
+    requires { T (is_sorted client_cmp groups.now) }
+    ensures { IsPlace (λ group. client_cmp group.0 client.now) groups.now result }
+{
+    match groups.last() {
+        None => Err(0),
+        Some(last) => match last.0.cmp(client) {
+            Ordering::Less => Err(groups.len()),
+            Ordering::Equal => Ok(groups.len() - 1),
+            Ordering::Greater => search(groups, client),
+        },
     }
+}
+
+/// The same by binary search.
+fn search(groups: &[Group], client: &ClientId) -> Result<usize, usize>
+    requires { T (is_sorted client_cmp groups.now) }
+    ensures { IsPlace (λ group. client_cmp group.0 client.now) groups.now result }
+{
+    groups.binary_search_by(|group| group.0.cmp(client))
 }
 
 /// What is held of the client: the entry of the table, or else the one where nothing is.
@@ -108,13 +128,13 @@ fn held<'a>(table: &'a Table, nothing: &'a Entry, client: &ClientId) -> &'a Entr
 pub(crate) fn worked_out(
     alloc: Global,
     table: &Table,
-    groups: BTreeMap<ClientId, Fresh>,
+    groups: Vec<Group>,
 ) -> Result<Vec<(Vec<u8>, Change)>, NoMemory>
     requires { AllByRecursion
-        (λ g. IsFresh g.0 (held_of g.0 (by_client table.now.entries)) g.1) groups.entries }
+        (λ g. IsFresh g.0 (held_of g.0 (by_client table.now.entries)) g.1) groups.items }
     ensures rows { IfOk result (λ changes.
         rows_of (future (by_client table.now.entries) (staged_of changes.items))
-        ≡ fresh_rows (by_client table.now.entries) groups.entries) }
+        ≡ fresh_rows (by_client table.now.entries) groups.items) }
     ensures worked_out { IfOk result (λ changes.
         AreWorkedOut (by_client table.now.entries) (staged_of changes.items)) }
 {

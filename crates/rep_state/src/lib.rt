@@ -29,7 +29,7 @@
 //! - `log`: those of a client as a delta changes them, with the visible stamp, the prefix and the session.
 //! - `replay`: the session that operations without a gap make.
 //! - `acks`: acknowledged numbers.
-//! - `searching`: a message by its name.
+//! - `searching`, `news`: a message by its name; those that are new, in the order of their names.
 //! - `weaving`, `settling`: messages that wait, with new ones in their places, without the acknowledged ones.
 //! - `behind`: lists that are moved behind others.
 //!
@@ -37,8 +37,8 @@
 //! acknowledgements), `Kept` (all three as a list of operations), `Entries` (what holds of an entry, what a change builds
 //! on, and what holds of a change), `Tables` (of clients), `Groups` (the changes of a delta, client by client), `Staging`
 //! (the same as they are staged), `Numbers`. Lemmas that carry the step from one operation to the next are in `proofs/`:
-//! `Steps`, `One`, `Changes`, `Changing`; of names in order: `Sorting`; from a client to all of them: `Groups`, `Working`,
-//! `Passing`, `Fitting`, `Staging`; of places and moves: `Rows`, `Placing`, `Walking`.
+//! `Steps`, `One`, `Changes`, `Changing`; of names in order: `Sorting`, `Gathering`, `Newcomers`; from a client to all of
+//! them: `Groups`, `Working`, `Passing`, `Fitting`, `Staging`; of places and moves: `Rows`, `Placing`, `Walking`.
 #![tactic(auto)]
 
 mod acks;
@@ -52,6 +52,7 @@ mod held;
 mod interest;
 mod known;
 mod log;
+mod news;
 mod numbers;
 mod places;
 mod replay;
@@ -68,6 +69,7 @@ pub use entry::Entry;
 pub use fresh::Fresh;
 pub use known::Known;
 pub use log::Log;
+pub use news::News;
 pub use octets::NoMemory;
 pub use rep_model::{ClientView, Limit, Puts, Replica, TakeFault};
 pub use replica::{Folded, Staged};

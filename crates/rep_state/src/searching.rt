@@ -10,7 +10,7 @@ ghost use Rattle.rep_state.specs.Mail.{name_of, put_named, Rising};
 use rep_ops::Put;
 
 /// Where a message of that name stands among messages in order, or where it would go. The time is logarithmic.
-fn place_of_name(puts: &[Put], seq: u64, origin: u8) -> Result<usize, usize>
+pub(crate) fn place_of_name(puts: &[Put], seq: u64, origin: u8) -> Result<usize, usize>
     ensures place { Rising puts.now
         → IsPlace (λ put. put_cmp (name_of put) (seq, origin)) puts.now result }
     ensures bound { IsSearchInRange result (length puts.now) }

@@ -185,7 +185,7 @@ fn puback_put(
         code put.now) }
 {
     if code == 0 {
-        if put.qos == 1 {
+        if put.qos.number() == 1 {
             return done(alloc, session, put);
         }
         return Ok(Draft::new(alloc));
@@ -269,7 +269,7 @@ fn is_at_two(put: Option<&Put>) -> bool
 {
     match put {
         None => false,
-        Some(put) => put.qos == 2,
+        Some(put) => put.qos.number() == 2,
     }
 }
 

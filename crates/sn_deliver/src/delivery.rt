@@ -1,6 +1,7 @@
 //! Delivery: a client is sent the messages that wait for it (MQTT-SN 1.2 sections 6.6, 6.10 and 6.14).
 
 ghost use Rattle.std.specs.Prelude.{◌≡◌, ◌≤◌, IfOk, OnOk};
+ghost use Rattle.sn_frame.specs.declared.frame.TheConstants.{MAX_FRAME};
 ghost use Rattle.sn_frame.specs.Bodies.{IsMessage};
 ghost use Rattle.sn_frame.specs.Grammar.{total_of};
 ghost use Rattle.sn_flow.specs.Drafts.{sent};
@@ -48,7 +49,7 @@ fn begin(
     draft: &mut Draft,
 ) -> Result<(), NoMemory>
     requires message { IsMessage frame.now }
-    requires size { total_of frame.now ≤ 65535 }
+    requires size { total_of frame.now ≤ MAX_FRAME }
     ensures { OnOk result (draft.new ≡ begun peer.now session.now put.now phase frame.now
         draft.old) }
 {
@@ -73,7 +74,7 @@ fn begin(
 /// And then this frame to the client.
 pub fn send(alloc: Global, peer: &Peer, frame: &Frame, draft: &mut Draft) -> Result<(), NoMemory>
     requires message { IsMessage frame.now }
-    requires size { total_of frame.now ≤ 65535 }
+    requires size { total_of frame.now ≤ MAX_FRAME }
     ensures { OnOk result (draft.new ≡ sent peer.now.address frame.now draft.old) }
 {
     match draft.send(alloc, peer.address, frame) {
@@ -157,7 +158,7 @@ fn publish_now(
     ensures { IfOk result (λ stops. (stops, draft.new) ≡ published_now peer.now session.now
         put.now form draft.old) }
 {
-    if put.qos == 0 {
+    if put.qos.number() == 0 {
         let frame = publication(alloc, false, put, 0, form)?;
         send(alloc, peer, &frame, draft)?;
         draft.ack(put.seq, put.origin)?;

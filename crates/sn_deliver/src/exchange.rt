@@ -111,7 +111,7 @@ fn is_open_in(session: &Session, phase: Phase, put: Option<&Put>) -> bool
         },
         Phase::Published => match put {
             None => false,
-            Some(put) => 0 < put.qos,
+            Some(put) => 0 < put.qos.number(),
         },
         Phase::Released => true,
     }

@@ -2,6 +2,7 @@
 
 ghost use Rattle.std.specs.Prelude.{◌≡◌, ◌≤◌, IfOk};
 ghost use Rattle.std.specs.Option.{option_copied};
+ghost use Rattle.sn_frame.specs.declared.frame.TheConstants.{MAX_FRAME};
 ghost use Rattle.sn_frame.specs.Bodies.{IsMessage};
 ghost use Rattle.sn_frame.specs.Grammar.{total_of};
 ghost use Rattle.sn_deliver.specs.Forms.{by_entry as entry_form, known_form as form_if_known, short_form as form_if_short, predefined_form as form_if_predefined, form_of as form_of_topic, form_again as form_of_topic_again, qos_bits as bits_of_qos, kind_bits as bits_of_kind, dup_bit as bit_of_dup, publication as publication_of};
@@ -9,7 +10,7 @@ ghost use Rattle.sn_deliver.specs.Forms.{by_entry as entry_form, known_form as f
 use octets::NoMemory;
 use rep_ops::Put;
 use sn_frame::{Flags, Frame, TopicIdType};
-use sn_session::{Session, TopicEntry};
+use sn_session::{QosLevel, Session, TopicEntry};
 use sn_topic::{Predefined, TopicName};
 use std::alloc::Global;
 
@@ -101,13 +102,13 @@ pub fn form_again(predefined: &Predefined, session: &Session, name: &TopicName) 
 }
 
 /// The bits of a quality of service of 0, 1 or 2.
-fn qos_bits(qos: u8) -> u8
+fn qos_bits(qos: QosLevel) -> u8
     ensures value { result ≡ bits_of_qos qos }
     ensures limit { result ≤ 64 }
 {
-    if qos == 0 {
+    if qos.number() == 0 {
         0
-    } else if qos == 1 {
+    } else if qos.number() == 1 {
         32
     } else {
         64
@@ -145,7 +146,7 @@ pub fn publication(
 ) -> Result<Frame, NoMemory>
     ensures ok { IfOk result (λ frame. frame ≡ publication_of again put.now msg_id form) }
     ensures message { IfOk result (λ frame. IsMessage frame) }
-    ensures size { IfOk result (λ frame. total_of frame ≤ 65535) }
+    ensures size { IfOk result (λ frame. total_of frame ≤ MAX_FRAME) }
 {
     let flags = Flags {
         bits: dup_bit(again) + qos_bits(put.qos) + kind_bits(form.kind),

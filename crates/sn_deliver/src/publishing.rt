@@ -13,7 +13,7 @@ use octets::{NoMemory, Octets};
 use rep_model::Replica;
 use sn_flow::{Addr, Draft};
 use sn_frame::{Flags, Frame, Qos};
-use sn_session::{Message, Session, SessionOp};
+use sn_session::{Message, QosLevel, Session, SessionOp};
 use sn_topic::{Predefined, TopicName};
 use std::alloc::Global;
 
@@ -22,7 +22,7 @@ fn puts_draft<R: Replica>(
     alloc: Global,
     replica: &R,
     name: &TopicName,
-    qos: u8,
+    qos: QosLevel,
     body: &Message,
 ) -> Result<Draft, NoMemory>
     ensures { IfOk result (λ draft. draft ≡ put_all (puts_for_all (seen_of (R.kept replica.now))
@@ -44,7 +44,7 @@ fn spread<R: Replica>(
     ensures { IfOk result (λ draft. draft ≡ spread_draft (seen_of (R.kept replica.now))
         name.now body.now) }
 {
-    puts_draft(alloc, replica, name, 0, body)
+    puts_draft(alloc, replica, name, QosLevel::zero(), body)
 }
 
 /// A PUBACK with this code.
@@ -82,7 +82,7 @@ fn spread_once<R: Replica>(
     ensures { IfOk result (λ draft. draft ≡ spread_once_draft (seen_of (R.kept replica.now)) to
         topic_id msg_id body.now name.now) }
 {
-    let mut draft = puts_draft(alloc, replica, name, 1, body)?;
+    let mut draft = puts_draft(alloc, replica, name, QosLevel::one(), body)?;
     let answer = Frame::PubAck {
         topic_id,
         msg_id,
@@ -114,7 +114,7 @@ fn spread_twice<R: Replica>(
     if session.received.has_no_room(msg_id) {
         return puback(alloc, to, topic_id, msg_id, 1);
     }
-    let mut draft = puts_draft(alloc, replica, name, 2, body)?;
+    let mut draft = puts_draft(alloc, replica, name, QosLevel::two(), body)?;
     draft.change(SessionOp::Received { id: msg_id })?;
     pubrec(alloc, to, msg_id, &mut draft)?;
     Ok(draft)

@@ -11,7 +11,7 @@ use octets::NoMemory;
 use rep_model::{ClientView, Replica};
 use rep_ops::{ClientId, Put};
 use sn_flow::{NewPut, is_up};
-use sn_session::{Message, Presence, Session, Will};
+use sn_session::{Message, Presence, QosLevel, Session, Will};
 use sn_topic::TopicName;
 use std::alloc::Global;
 
@@ -19,10 +19,10 @@ use std::alloc::Global;
 pub const MAX_PENDING: usize = 1024;
 
 /// At this quality of service, where there is room and the client is there or gets the message at least once.
-fn admitted(pending: &[Put], presence: Presence, qos: u8) -> Option<u8>
+fn admitted(pending: &[Put], presence: Presence, qos: QosLevel) -> Option<QosLevel>
     ensures { result ≡ qos_admitted pending.now presence qos }
 {
-    if pending.len() < MAX_PENDING && (is_up(presence) || 0 < qos) {
+    if pending.len() < MAX_PENDING && (is_up(presence) || 0 < qos.number()) {
         Some(qos)
     } else {
         None
@@ -30,14 +30,14 @@ fn admitted(pending: &[Put], presence: Presence, qos: u8) -> Option<u8>
 }
 
 /// At the smaller of the two qualities of service.
-fn qos_at(pending: &[Put], qos: u8, session: &Session, asked: u8) -> Option<u8>
+fn qos_at(pending: &[Put], qos: QosLevel, session: &Session, asked: QosLevel) -> Option<QosLevel>
     ensures { result ≡ qos_at_asked pending.now qos session.now asked }
 {
     admitted(pending, session.presence, qos.min(asked))
 }
 
 /// At the quality of service that the client subscribed to, at most.
-fn qos_in(pending: &[Put], topic: &TopicName, qos: u8, session: &Session) -> Option<u8>
+fn qos_in(pending: &[Put], topic: &TopicName, qos: QosLevel, session: &Session) -> Option<QosLevel>
     ensures { result ≡ qos_in_session pending.now topic.now qos session.now }
 {
     match session.subscribed_qos(topic) {
@@ -47,7 +47,7 @@ fn qos_in(pending: &[Put], topic: &TopicName, qos: u8, session: &Session) -> Opt
 }
 
 /// The quality of service at which a client gets the publication; nothing where it is no recipient.
-fn qos_for(topic: &TopicName, qos: u8, view: &ClientView) -> Option<u8>
+fn qos_for(topic: &TopicName, qos: QosLevel, view: &ClientView) -> Option<QosLevel>
     ensures { result ≡ qos_for_view topic.now qos view.now }
 {
     match &view.session {
@@ -60,7 +60,7 @@ fn qos_for(topic: &TopicName, qos: u8, view: &ClientView) -> Option<u8>
 fn put_at(
     alloc: Global,
     topic: &TopicName,
-    qos: u8,
+    qos: QosLevel,
     body: &Message,
     client: &ClientId,
     view: &ClientView,
@@ -86,7 +86,7 @@ pub fn puts_for<R: Replica>(
     alloc: Global,
     replica: &R,
     topic: &TopicName,
-    qos: u8,
+    qos: QosLevel,
     body: &Message,
 ) -> Result<Vec<NewPut>, NoMemory>
     ensures { IfOk result (λ puts. puts.items ≡ puts_for_all (seen_of (R.kept replica.now))
@@ -108,7 +108,7 @@ fn put_for<R: Replica>(
     alloc: Global,
     replica: &R,
     topic: &TopicName,
-    qos: u8,
+    qos: QosLevel,
     body: &Message,
     client: &ClientId,
 ) -> Result<Option<NewPut>, NoMemory>
@@ -127,7 +127,7 @@ fn puts_among<R: Replica>(
     replica: &R,
     clients: Vec<ClientId>,
     topic: &TopicName,
-    qos: u8,
+    qos: QosLevel,
     body: &Message,
 ) -> Result<Vec<NewPut>, NoMemory>
     ensures { IfOk result (λ puts. puts.items ≡ puts_among_clients (seen_of (R.kept replica.now))

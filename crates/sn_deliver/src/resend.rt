@@ -2,6 +2,7 @@
 
 ghost use Rattle.std.specs.Prelude.{◌≡◌, ◌≤◌, IfOk, OnOk};
 ghost use Rattle.std.specs.Option.{option_copied};
+ghost use Rattle.sn_frame.specs.declared.frame.TheConstants.{MAX_FRAME};
 ghost use Rattle.sn_frame.specs.Bodies.{IsMessage};
 ghost use Rattle.sn_frame.specs.Grammar.{total_of};
 ghost use Rattle.sn_deliver.specs.Resending.{again as sent_again, given_up as exchange_given_up, register_by as registered_by, register_again as registered_again, publish_by as published_by, publish_again as published_again, resend_in as resent_in, resend as resent, resend_if as resent_if, resend_or_deliver as resent_or_delivered, then_resend as then_resent};
@@ -21,7 +22,7 @@ use std::alloc::Global;
 /// And then a frame of the exchange, again. Answers that it stops.
 fn again(alloc: Global, peer: &Peer, frame: &Frame, draft: &mut Draft) -> Result<bool, NoMemory>
     requires message { IsMessage frame.now }
-    requires size { total_of frame.now ≤ 65535 }
+    requires size { total_of frame.now ≤ MAX_FRAME }
     ensures { IfOk result (λ stops. (stops, draft.new) ≡ sent_again peer.now frame.now
         draft.old) }
 {

@@ -3,6 +3,7 @@
 ghost use Rattle.std.specs.Prelude.{◌≡◌, ◌≤◌, length, IfOk, OnOk};
 ghost use Rattle.std.specs.Option.{option_copied};
 ghost use Rattle.rep_model.specs.Views.{view};
+ghost use Rattle.sn_frame.specs.declared.frame.TheConstants.{MAX_CLIENT_ID};
 ghost use Rattle.sn_flow.specs.Plans.{seen_of};
 ghost use Rattle.sn_flow.specs.declared.row.Follow.TheVariants.{Delivery};
 ghost use Rattle.sn_flow.specs.Rows.{row_of, heard_row as heard_row_of};
@@ -234,7 +235,7 @@ pub fn wake<R: Replica>(
     client: &[u8],
     now: u64,
 ) -> Result<Row, NoMemory>
-    requires { length client.now ≤ 23 }
+    requires { length client.now ≤ MAX_CLIENT_ID }
     ensures { IfOk result (λ row. row ≡ wake_row config.now.gateway
         (seen_of (R.kept replica.now)) dialogs.now.local from client.now now) }
 {

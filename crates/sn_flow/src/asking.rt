@@ -7,6 +7,7 @@ ghost use Rattle.sn_flow.specs.Asking.{qos_asked as qos_level, name_asked as nam
 use super::codes::{INVALID_ID, NOT_SUPPORTED};
 use octets::NoMemory;
 use sn_frame::{Qos, TopicIdType};
+use sn_session::QosLevel;
 use sn_topic::{Filter, Predefined, TopicFault, TopicName};
 use std::alloc::Global;
 
@@ -20,13 +21,13 @@ pub enum Asked {
 }
 
 /// The quality of service that is asked for, if it is 0, 1 or 2.
-pub fn qos_asked(qos: Qos) -> Option<u8>
+pub fn qos_asked(qos: Qos) -> Option<QosLevel>
     ensures { result ≡ qos_level qos }
 {
     match qos {
-        Qos::Zero => Some(0),
-        Qos::One => Some(1),
-        Qos::Two => Some(2),
+        Qos::Zero => Some(QosLevel::zero()),
+        Qos::One => Some(QosLevel::one()),
+        Qos::Two => Some(QosLevel::two()),
         Qos::MinusOne => None,
     }
 }

@@ -2,6 +2,7 @@
 
 ghost use Rattle.std.specs.Prelude.{◌≡◌, ◌≤◌, ◌++◌, [], map, OnOk, IfOk, IsTrue, ◌↔◌, Err};
 ghost use Rattle.sn_flow.specs.Names.{name_of};
+ghost use Rattle.sn_frame.specs.declared.frame.TheConstants.{MAX_FRAME};
 ghost use Rattle.sn_frame.specs.Bodies.{IsMessage};
 ghost use Rattle.sn_frame.specs.Grammar.{total_of};
 
@@ -10,7 +11,7 @@ use super::local::LocalChange;
 use octets::{NoMemory, Octets};
 use rep_ops::{ClientId, Put};
 use sn_frame::{Frame, encode};
-use sn_session::{Message, SessionOp};
+use sn_session::{Message, QosLevel, SessionOp};
 use sn_topic::TopicName;
 use std::alloc::{AllocError, Global};
 use std::marker::Model;
@@ -24,7 +25,7 @@ pub struct NewPut {
     /// The name that it was published under.
     pub topic: TopicName,
     /// At which quality of service the client gets it: 0, 1 or 2.
-    pub qos: u8,
+    pub qos: QosLevel,
     /// What is published.
     pub body: Message,
 }
@@ -66,7 +67,7 @@ impl Draft {
     /// A step that sends this frame and does nothing else.
     pub fn reply(alloc: Global, to: Addr, frame: &Frame) -> Result<Draft, NoMemory>
         requires message { IsMessage frame.now }
-        requires size { total_of frame.now ≤ 65535 }
+        requires size { total_of frame.now ≤ MAX_FRAME }
         ensures { IfOk result (λ draft. draft ≡ sent to frame.now nothing) }
     {
         let mut draft = Draft::new(alloc);
@@ -146,7 +147,7 @@ impl Draft {
     /// And then this frame.
     pub fn send(&mut self, alloc: Global, to: Addr, frame: &Frame) -> Result<(), NoMemory>
         requires message { IsMessage frame.now }
-        requires size { total_of frame.now ≤ 65535 }
+        requires size { total_of frame.now ≤ MAX_FRAME }
         ensures { OnOk result (self.new ≡ sent to frame.now self.old) }
     {
         let mut bytes = Vec::new(alloc);

@@ -12,7 +12,7 @@ use super::draft::Draft;
 use super::registration::{NamedId, id_for};
 use octets::NoMemory;
 use sn_frame::{Flags, Frame, TopicIdType};
-use sn_session::{Session, SessionOp};
+use sn_session::{QosLevel, Session, SessionOp};
 use sn_topic::{Filter, Predefined, TopicName};
 use std::alloc::Global;
 
@@ -82,7 +82,7 @@ fn id_asked(
 }
 
 /// The change of the session, where the filter is new or had another quality of service.
-fn subscribe_change(filter: Filter, qos: u8, before: Option<u8>) -> Option<SessionOp>
+fn subscribe_change(filter: Filter, qos: QosLevel, before: Option<QosLevel>) -> Option<SessionOp>
     ensures { result ≡ change_for filter qos before }
 {
     match before {
@@ -99,7 +99,7 @@ fn subscribed(
     flags: Flags,
     msg_id: u16,
     filter: Filter,
-    qos: u8,
+    qos: QosLevel,
     named: Option<NamedId>,
 ) -> Result<Draft, NoMemory>
     ensures { IfOk result (λ draft. draft ≡ subscribed_draft to session.now flags.bits msg_id
@@ -127,7 +127,7 @@ fn subscribe_to(
     msg_id: u16,
     field: &[u8],
     filter: Filter,
-    qos: u8,
+    qos: QosLevel,
 ) -> Result<Draft, NoMemory>
     ensures { IfOk result (λ draft. draft ≡ draft_to to session.now flags.bits msg_id field.now
         filter qos) }
@@ -148,7 +148,7 @@ fn subscribe_asked(
     msg_id: u16,
     field: &[u8],
     asked: Asked,
-    qos: u8,
+    qos: QosLevel,
 ) -> Result<Draft, NoMemory>
     ensures { IfOk result (λ draft. draft ≡ draft_asked to session.now flags.bits msg_id
         field.now asked qos) }

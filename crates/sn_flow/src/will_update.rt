@@ -10,7 +10,7 @@ use super::config::Addr;
 use super::draft::Draft;
 use octets::{NoMemory, Octets};
 use sn_frame::{Flags, Frame, Will};
-use sn_session::{Message, Session, SessionOp, WillTopic};
+use sn_session::{Message, QosLevel, Session, SessionOp, WillTopic};
 use sn_topic::TopicName;
 use std::alloc::Global;
 
@@ -22,7 +22,7 @@ fn is_retained(flags: Flags) -> bool
 }
 
 /// The topic of a will, where its name and its quality of service are valid.
-fn topic_from(name: Option<TopicName>, qos: Option<u8>, retain: bool) -> Option<WillTopic>
+fn topic_from(name: Option<TopicName>, qos: Option<QosLevel>, retain: bool) -> Option<WillTopic>
     ensures { result ≡ topic_of_parts name qos retain }
 {
     match (name, qos) {

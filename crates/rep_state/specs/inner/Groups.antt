@@ -1,5 +1,5 @@
 -- What a delta changes of each client that it names.
-use Rattle.std.specs.Prelude.{◌≡◌, ℕ, true, List, [], ◌++◌, map, Option, Some, None}
+use Rattle.std.specs.Prelude.{◌≡◌, ℕ, true, List, [], ◌∷◌, ◌++◌, map, Option, Some, None}
 use Rattle.std.specs.FinMap.{find}
 use Rattle.rep_ops.specs.declared.op.Op.{Op}
 use Rattle.rep_ops.specs.Orders.{client_cmp}
@@ -9,7 +9,7 @@ use Rattle.rep_plain.specs.Rows.{own, has_any}
 use Rattle.rep_plain.specs.inner.Rows.{of_client}
 use Rattle.rep_state.specs.declared.entry.Entry.{Entry}
 use Rattle.rep_state.specs.declared.fresh.Fresh.{Fresh}
-use Rattle.rep_state.specs.Entries.{IsFresh, fresh_row, Base, base_of}
+use Rattle.rep_state.specs.Entries.{row_of, IsFresh, fresh_row, Base, base_of}
 use Rattle.rep_state.specs.Tables.{rows_of}
 
 -- the place of a client of which nothing is known
@@ -36,6 +36,10 @@ base_at c es = base_of (held_of c es)
 -- what must be kept of the client once the operations of a list are taken
 abbrev pub IsTaken : List ℕ → List (List ℕ × Entry) → List Op → List Op → Type 0
 IsTaken c es D ops = Same ops (keep (own c (rows_of es) ++ of_client c D))
+
+-- what a first operation changes of the client
+abbrev pub IsBegun : List ℕ → Entry → Fresh → Op → Type 0
+IsBegun c entry fresh op = IsFresh c entry fresh × Same (fresh_row c entry fresh) (keep (row_of c entry ++ op ∷ []))
 
 -- a client's group: the list has operations of the client, and they are taken
 pub record IsGroup (c : List ℕ) (es : List (List ℕ × Entry)) (D : List Op) (fresh : Fresh) : Type 0 where

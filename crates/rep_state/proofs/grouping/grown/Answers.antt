@@ -10,8 +10,8 @@ use Rattle.rep_state.proofs.grouping.grown.Goals as goal
 
 pub loop-op-init : goal.loop-op-init
 loop-op-init c = (
-  λ q. subst (λ (gs : List (List ℕ × Fresh)). IsGroupOf q (by_client c.args.table.now.entries) [] (find client_cmp q gs)) (sym c.new-groups.ensures.empty) refl,
-  subst (λ (gs : List (List ℕ × Fresh)). T (is_sorted client_cmp gs)) (sym c.new-groups.ensures.empty) tt,
+  λ q. subst (λ (gs : List (List ℕ × Fresh)). IsGroupOf q (by_client c.args.table.now.entries) [] (find client_cmp q gs)) (sym c.in_ok-groups.ensures.items) refl,
+  subst (λ (gs : List (List ℕ × Fresh)). T (is_sorted client_cmp gs)) (sym c.in_ok-groups.ensures.items) tt,
 )
 
 pub add_to_group-requires-clause-groups : goal.add_to_group-requires-clause-groups
@@ -23,16 +23,16 @@ loop-op-preserved c =
     let ops = c.args.ops.now in
     let done = take c.loop-op.op-index ops in
     let is = take_more ops c.loop-op.op-index c.op-item.result c.loop-op-test.true ∙ ap (λ op. done ++ op ∷ []) (sym c.op-item.is) in
-    (subst (λ D. AreGroups es D c.add_to_group.new.groups.entries) (sym is) (c.in_ok-add_to_group.ensures.groups done c.loop-op.invariant.0), c.in_ok-add_to_group.ensures.sorted)
+    (subst (λ D. AreGroups es D c.add_to_group.new.groups.items) (sym is) (c.in_ok-add_to_group.ensures.groups done c.loop-op.invariant.0), c.in_ok-add_to_group.ensures.sorted)
 
 pub returns-clause-groups : goal.returns-clause-groups
 returns-clause-groups c =
     let ops = c.args.ops.now in
     let all : take c.loop-op.op-index ops ≡ ops = take_all c.loop-op.op-index ops (omega arith) in
-    subst (λ D. AreGroups (by_client c.args.table.now.entries) D c.loop-op.groups.entries) all c.loop-op.invariant.0
+    subst (λ D. AreGroups (by_client c.args.table.now.entries) D c.loop-op.groups.items) all c.loop-op.invariant.0
 
 pub returns-clause-sorted : goal.returns-clause-sorted
 returns-clause-sorted c = c.loop-op.invariant.1
 
 pub returns-clause-fresh : goal.returns-clause-fresh
-returns-clause-fresh c = groups_fresh (by_client c.args.table.now.entries) (take c.loop-op.op-index c.args.ops.now) c.loop-op.groups.entries c.loop-op.invariant.0 c.loop-op.invariant.1
+returns-clause-fresh c = groups_fresh (by_client c.args.table.now.entries) (take c.loop-op.op-index c.args.ops.now) c.loop-op.groups.items c.loop-op.invariant.0 c.loop-op.invariant.1

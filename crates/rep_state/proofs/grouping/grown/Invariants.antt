@@ -6,4 +6,4 @@ use Rattle.rep_state.specs.inner.Groups.{AreGroups}
 use Rattle.rep_state.proofs.grouping.grown.Given as goal
 
 abbrev pub invariant-loop-op : goal.invariant-loop-op
-invariant-loop-op l = AreGroups (by_client l.table.entries) (take l.op-index l.ops) l.groups.entries × T (is_sorted client_cmp l.groups.entries)
+invariant-loop-op l = AreGroups (by_client l.table.entries) (take l.op-index l.ops) l.groups.items × T (is_sorted client_cmp l.groups.items)

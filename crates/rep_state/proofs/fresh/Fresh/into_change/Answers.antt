@@ -11,10 +11,10 @@ pub returns-clause-change : goal.returns-clause-change
 returns-clause-change c =
     λ client fresh.
     let f = c.args.self in
-    let news = c.in_ok-news.ensures in
+    let news = c.into_puts-news.ensures in
     record {
-      rising = subst Rising (sym news) (rising_messages f.news.entries fresh.under fresh.sorted);
-      made = subst AreMade (sym news) (made_messages f.news.entries fresh.made);
+      rising = subst Rising (sym news) (rising_messages f.news fresh.under fresh.sorted);
+      made = subst AreMade (sym news) (made_messages f.news fresh.made);
       blank = c.in_ok-room.ensures.empty;
       log_blank = c.in_ok-log_room.ensures.empty;
     }
@@ -26,16 +26,16 @@ returns-clause-fit c =
     let e = c.args.entry.now in
     let h = fresh.entry_is in
     let waiting = e.seen.pending in
-    let news = c.in_ok-news.ensures in
+    let news = c.into_puts-news.ensures in
     record {
       apart = subst (λ (ns : List Put). (q : ℕ × ℕ) → InOne q waiting ns) (sym news) fresh.apart;
-      room = subst (λ (ps : List Put). (length c.in_ok-news.news.items == 0) ≡ false → length ps + length c.in_ok-news.news.items ≤ vec_capacity c.in_ok-room.room) c.as_slice-waiting.ensures
+      room = subst (λ (ps : List Put). (length c.into_puts-news.result.items == 0) ≡ false → length ps + length c.into_puts-news.result.items ≤ vec_capacity c.in_ok-room.room) c.as_slice-waiting.ensures
           (subst (λ (ns : List Put). (length ns == 0) ≡ false → length c.as_slice-waiting.result.now + length ns ≤ vec_capacity c.in_ok-room.room) c.as_slice.ensures.value c.in_ok-room.ensures.room);
-      untold = λ none. subst (λ (ns : List Put). NoneCovered (ranges_in e.acks) (weave waiting ns)) (sym news) (none_woven (ranges_in e.acks) waiting f.news.entries h.none_covered (fresh.none_comes none));
+      untold = λ none. subst (λ (ns : List Put). NoneCovered (ranges_in e.acks) (weave waiting ns)) (sym news) (none_woven (ranges_in e.acks) waiting f.news h.none_covered (fresh.none_comes none));
       log = log_fits client e h f.log (vec_capacity c.in_ok-log_room.log_room) fresh.folded fresh.ordered fresh.changes c.in_ok-log_room.ensures.room;
       acks = acks_fit client e h f.acks fresh.origins;
-      parked = c.in_ok-parked.ensures ∙ parked_fit client e h f.log c.in_ok-news.news.items f.acks fresh.folded fresh.ordered;
-      exceptions = c.exceptions_with-exceptions.ensures ∙ exceptions_fit client e h f.log c.in_ok-news.news.items f.acks fresh.origins;
+      parked = c.in_ok-parked.ensures ∙ parked_fit client e h f.log c.into_puts-news.result.items f.acks fresh.folded fresh.ordered;
+      exceptions = c.exceptions_with-exceptions.ensures ∙ exceptions_fit client e h f.log c.into_puts-news.result.items f.acks fresh.origins;
     }
 
 pub returns-clause-counted : goal.returns-clause-counted
@@ -44,18 +44,18 @@ returns-clause-counted c =
     let f = c.args.self in
     let e = c.args.entry.now in
     let ps = e.seen.pending in
-    let ns = c.in_ok-news.news.items in
+    let ns = c.into_puts-news.result.items in
     let rs = ranges_in c.latest.result.now in
     let all : weave c.as_slice-waiting.result.now c.as_slice-2.result.now ≡ weave ps ns = λ i. weave (c.as_slice-waiting.ensures i) (c.as_slice-2.ensures.value i) in
     let acks = ap ranges_in c.latest.ensures ∙ ranges_same e.acks f.acks in
     c.in_ok-pending.ensures (λ told.
     let none = none_is f.acks (sym c.is_some-told.ensures ∙ told) in
     subst (NoneCovered rs) (sym all) (subst (λ rs. NoneCovered rs (weave ps ns)) (sym (acks ∙ ap (ranges_on (ranges_in e.acks)) none))
-    (subst (λ (ns : List Put). NoneCovered (ranges_in e.acks) (weave ps ns)) (sym c.in_ok-news.ensures) (none_woven (ranges_in e.acks) ps f.news.entries fresh.entry_is.none_covered (fresh.none_comes none)))))
+    (subst (λ (ns : List Put). NoneCovered (ranges_in e.acks) (weave ps ns)) (sym c.into_puts-news.ensures) (none_woven (ranges_in e.acks) ps f.news fresh.entry_is.none_covered (fresh.none_comes none)))))
     ∙ (λ i. length (filter (is_left (acks i)) (all i)))
 
 pub returns-clause-row : goal.returns-clause-row
 returns-clause-row c =
     λ client.
     let f = c.args.self in
-    ap (λ (ns : List Put). row_on client (base_of c.args.entry.now) f.log ns f.acks) c.in_ok-news.ensures
+    ap (λ (ns : List Put). row_on client (base_of c.args.entry.now) f.log ns f.acks) c.into_puts-news.ensures

@@ -15,7 +15,7 @@ use Rattle.rep_state.proofs.fresh.Fresh.new.Goals as goal
 pub returns-clause-fresh : goal.returns-clause-fresh
 returns-clause-fresh c =
     λ client entry e.
-    let none = c.new.ensures.empty in
+    let none = c.new.ensures in
     record {
       entry_is = e;
       folded = e.folded;
@@ -34,7 +34,7 @@ returns-clause-row c =
     λ client entry e.
     let waiting = entry.seen.pending in
     let rs = ranges_in entry.acks in
-    let pending = ap (λ (es : List ((ℕ × ℕ) × Put)). filter (is_left rs) (weave waiting (messages es))) c.new.ensures.empty
+    let pending = ap (λ (es : List ((ℕ × ℕ) × Put)). filter (is_left rs) (weave waiting (messages es))) c.new.ensures
     ∙ ap (filter (is_left rs)) (weave_none waiting)
     ∙ left_all rs waiting e.none_covered in
     ap (λ ps. kept_ops client entry.known ps rs) pending

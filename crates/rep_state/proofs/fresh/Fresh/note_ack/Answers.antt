@@ -27,7 +27,7 @@ returns c =
         origins = c.in_ok-add.ensures.origins;
         none_comes = λ is. some_none c.add.new.self is;
       },
-      ack_more client (known_on e.known f.log) (stamp_on e.seen.stamp f.log) fresh.folded.visible fresh.folded.none_below (ranges_on (ranges_in e.acks) f.acks) (ranges_in c.add.new.self) (weave e.seen.pending (messages f.news.entries)) r
+      ack_more client (known_on e.known f.log) (stamp_on e.seen.stamp f.log) fresh.folded.visible fresh.folded.none_below (ranges_on (ranges_in e.acks) f.acks) (ranges_in c.add.new.self) (weave e.seen.pending (messages f.news)) r
           (λ q. c.in_ok-add.ensures.covers q ∙ ap (λ rs. list_any (covers q) rs || covers q r) were),
     )
   where

@@ -1,11 +1,9 @@
 use Rattle.std.proofs.Common.{◌≡◌, true, false, ◌||◌, is_some, sym, ap, ◌∙◌}
 use Rattle.std.specs.List.{list_any}
-use Rattle.std.specs.BTreeMap.{insert_entry}
 use Rattle.std.specs.FinMap.{find, put as place}
 use Rattle.rep_ops.specs.Orders.{put_cmp}
 use Rattle.rep_ops.specs.declared.op.Put.{Put}
 use Rattle.rep_model.proofs.Lookup.{or_else}
-use Rattle.rep_plain.proofs.Maps.{insert_is_put}
 use Rattle.rep_state.specs.Logs.{stamp_on, known_on}
 use Rattle.rep_state.specs.Mail.{name_of, covers, put_named, weave}
 use Rattle.rep_state.specs.Origins.{ranges_in, ranges_on}
@@ -20,7 +18,7 @@ returns-then-has c =
     λ client fresh own.
     let f = c.args.self.now in
     let e = c.args.entry.now in
-    let es = f.news.entries in
+    let es = f.news in
     let waiting = e.seen.pending in
     let p = c.args.put.now in
     let rs = ranges_on (ranges_in e.acks) f.acks in
@@ -37,8 +35,8 @@ returns c =
     λ client fresh own.
     let f = c.args.self.now in
     let e = c.args.entry.now in
-    let es = f.news.entries in
-    let new = c.insert.new.self.entries in
+    let es = f.news in
+    let new = c.insert.new.self in
     let waiting = e.seen.pending in
     let p = c.args.put.now in
     let rs = ranges_on (ranges_in e.acks) f.acks in
@@ -47,7 +45,7 @@ returns c =
     let known : ((cov || is_some (put_named (name_of p) waiting)) || is_some (find put_cmp (name_of p) es)) ≡ false = sym (c.has.ensures fresh.entry_is.rising ∙ same) ∙ c.if-has.false in
     let none = not_there cov (put_named (name_of p) waiting) (find put_cmp (name_of p) es) known in
     let free = not_covered cov (put_named (name_of p) waiting) (find put_cmp (name_of p) es) known in
-    let is : new ≡ place put_cmp (name_of p) p es = c.in_ok-insert.ensures.entries ∙ ap (λ (x : Put). insert_entry put_cmp es (name_of x) x) c.in_ok-put.ensures ∙ insert_is_put put_cmp (name_of p) p es in
+    let is : new ≡ place put_cmp (name_of p) p es = c.in_ok-insert.ensures ∙ ap (λ (x : Put). place put_cmp (name_of x) x es) c.in_ok-put.ensures in
     let apart = apart_more waiting es new p fresh.under fresh.apart none.0 is in (
       record {
         entry_is = fresh.entry_is;

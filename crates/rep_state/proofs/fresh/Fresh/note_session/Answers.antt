@@ -18,10 +18,10 @@ returns-then-is_known c =
     let f = c.args.self.now in
     let e = c.args.entry.now in
     let rs = ranges_on (ranges_in e.acks) f.acks in
-    let ps = weave e.seen.pending (messages f.news.entries) in
+    let ps = weave e.seen.pending (messages f.news) in
     let there : is_some (find operation_cmp c.args.name (known_on e.known f.log)) ≡ true = sym c.is_known.ensures ∙ c.if-is_known.true in (
       fresh,
-      session_skipped client (known_on e.known f.log) (stamp_on e.seen.stamp f.log) fresh.folded.visible fresh.folded.none_below c.args.name.0 c.args.name.1 c.args.change.now (left_on (base_of e) (messages f.news.entries) f.acks) rs there (none_covered rs ps),
+      session_skipped client (known_on e.known f.log) (stamp_on e.seen.stamp f.log) fresh.folded.visible fresh.folded.none_below c.args.name.0 c.args.name.1 c.args.change.now (left_on (base_of e) (messages f.news) f.acks) rs there (none_covered rs ps),
     )
 
 pub note-requires-clause-folded : goal.note-requires-clause-folded
@@ -55,7 +55,7 @@ returns c =
     let log = c.note.new.self in
     let more = all_of e.known log in
     let rs = ranges_on (ranges_in e.acks) f.acks in
-    let ps = weave e.seen.pending (messages f.news.entries) in
+    let ps = weave e.seen.pending (messages f.news) in
     let is : whole_of e.known c.in_ok-log.log ≡ whole_after e f.log = c.in_ok-log.ensures ∙ ap (whole_after e) c.take.ensures.value in
     let absent : find operation_cmp (s, k) es ≡ None = none_there (find operation_cmp (s, k) es) (sym c.is_known.ensures ∙ c.if-is_known.false) in
     let kept : IsKeptIn (((s, k), x) ∷ es) more log.stamp =
@@ -73,5 +73,5 @@ returns c =
         origins = fresh.origins;
         none_comes = fresh.none_comes;
       },
-      session_step client s k x es more log.stamp (left_on (base_of e) (messages f.news.entries) f.acks) rs kept absent (none_covered rs ps),
+      session_step client s k x es more log.stamp (left_on (base_of e) (messages f.news) f.acks) rs kept absent (none_covered rs ps),
     )
