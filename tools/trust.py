@@ -70,8 +70,8 @@ PARTS = [
       "gw_node::Node::open", "gw_node::opening_laws", "gw_node::Node::frame", "gw_node::Node::take", "gw_node::Node::tick",
       "gw_node::Node::compact", "gw_node::Node::reopen", "field_laws::stored"],
      ["jr_journal/journal/Journal", "jr_journal/memory/MemoryDisk", "jr_journal/memory/impl Model for MemoryDisk",
-      "jr_journal/fault/JournalFault", "gw_world/Calm/IsCalm", "gw_world/Drives/opened", "gw_world/Drives/new_drive",
-      "gw_world/Drives/with_record", "gw_world/Drives/compacted", "gw_world/Drives/left_by", "gw_world/Steps/records_left",
+      "jr_journal/fault/JournalFault", "gw_node/Standing/Stands", "gw_node/Standing/Lasts", "gw_node/Drives/opened", "gw_node/Drives/new_drive",
+      "gw_node/Drives/with_record", "gw_node/Drives/compacted", "gw_node/Drives/left_by", "gw_world/Steps/records_left",
       "gw_node/Taking/StandsFor", "rep_model/Roomy/IsRoomy"]),
     ("The bytes",
      "Frames, deltas, digests and the messages of a link have one spelling each that is written, and no octets are read as two "

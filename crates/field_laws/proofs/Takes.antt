@@ -16,7 +16,7 @@ use Rattle.sn_flow.specs.declared.config.Config.{Config}
 use Rattle.sn_flow.proofs.Lists.{all-append, all-weaken}
 use Rattle.gw_world.specs.declared.event.Event.{Event}
 use Rattle.gw_world.specs.declared.event.Answer.{Answer}
-use Rattle.gw_world.specs.Gateways.{Gateway, new_gateway}
+use Rattle.gw_node.specs.Gateways.{Gateway, new_gateway}
 use Rattle.gw_world.specs.Field.{Field, new_field, failing, After, Run}
 use Rattle.gw_node.specs.Keeping.{Keeps}
 use Rattle.field_laws.specs.Takes.{IsTakeAtZero}

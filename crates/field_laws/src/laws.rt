@@ -20,7 +20,7 @@ ghost use Rattle.gw_node.specs.Occasions.{Occasion};
 ghost use Rattle.gw_node.specs.declared.refusal.Refusal.TheVariants as refusals;
 ghost use Rattle.gw_world.specs.declared.event.Event.{Event};
 ghost use Rattle.gw_world.specs.declared.event.Answer.{Answer};
-ghost use Rattle.gw_world.specs.Gateways.{Gateway, with_refused};
+ghost use Rattle.gw_node.specs.Gateways.{Gateway, with_refused};
 ghost use Rattle.gw_world.specs.Field.{Field, new_field, IsAt, After, Run, gateway_of};
 ghost use Rattle.gw_node.specs.Keeping.{Keeps};
 ghost use Rattle.gw_node.specs.Taking.{ops_of, StandsFor};
@@ -29,7 +29,7 @@ ghost use Rattle.jr_journal.specs.Records.{records};
 ghost use Rattle.rep_model.specs.Keep.{keep};
 ghost use Rattle.rep_model.specs.Views.{view};
 ghost use Rattle.gw_world.specs.Whole.{made_by};
-ghost use Rattle.gw_world.specs.Steps.{IsPlan, IsTooMuch, OwnStep};
+ghost use Rattle.gw_node.specs.Event.{IsPlan, IsTooMuch, OwnStep};
 ghost use Rattle.field_laws.specs.OwnPlans.{AreNumbered, IsTooLong};
 ghost use Rattle.field_laws.specs.Takes.{IsTakeAtZero};
 

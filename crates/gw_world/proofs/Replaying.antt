@@ -19,9 +19,10 @@ use Rattle.gw_world.specs.declared.event.Event.{Event}
 use Rattle.gw_world.specs.declared.event.Event.TheVariants.{Frame, Tick, Take, Answer as Asks, WriteFails, Compact, Restart, Show}
 use Rattle.gw_world.specs.declared.event.Answer.{Answer}
 use Rattle.gw_world.specs.declared.event.Answer.TheVariants.{Node, Views, Records, Nothing}
-use Rattle.gw_world.specs.Gateways.{Gateway, new_gateway}
+use Rattle.gw_node.specs.Gateways.{Gateway, new_gateway}
 use Rattle.gw_world.specs.Field.{Field, new_field, IsAt, changed, failing, shown, Steps, Asked, After, Run}
-use Rattle.gw_world.specs.Steps.{OwnStep, TakeStep, AnswerStep, CompactStep, records_left, restarted}
+use Rattle.gw_world.specs.Steps.{AnswerStep, records_left, restarted}
+use Rattle.gw_node.specs.Event.{OwnStep, TakeStep, CompactStep}
 use Rattle.gw_world.specs.Telling.{Said, Shown, Read, told}
 use Rattle.gw_world.proofs.Determined.{IsAgreed, own-one, take-one, compact-one, asked-one}
 use Rattle.gw_world.proofs.Rooms.{HasRoom, own-room, take-room, compact-room, failing-room, restart-room}

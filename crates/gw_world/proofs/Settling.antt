@@ -18,9 +18,10 @@ use Rattle.gw_node.specs.declared.out.Out.{Out}
 use Rattle.gw_node.specs.declared.refusal.Refusal.{Refusal}
 use Rattle.gw_node.specs.Parts.{said}
 use Rattle.gw_node.specs.Occasions.{Datagram, Clock}
-use Rattle.gw_world.specs.Gateways.{Gateway}
+use Rattle.gw_node.specs.Gateways.{Gateway}
 use Rattle.gw_world.specs.Field.{Field, new_field, changed, failing, After, Run, shown}
-use Rattle.gw_world.specs.Steps.{TakeStep, restarted}
+use Rattle.gw_world.specs.Steps.{restarted}
+use Rattle.gw_node.specs.Event.{TakeStep}
 use Rattle.gw_world.specs.Whole.{listed, everything, HasTakenAll, Arranges, NoneFails}
 use Rattle.gw_world.proofs.Consistency.{WholeField, start-taken, field-whole, parts-consistent}
 use Rattle.gw_world.proofs.Failures.{AreWell, after-well, start-well}

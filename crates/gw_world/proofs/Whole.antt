@@ -15,8 +15,9 @@ use Rattle.sn_flow.specs.Flush.{AreFlush, stamp_of}
 use Rattle.sn_flow.proofs.Lists.{all-append, all-weaken}
 use Rattle.sn_flow.proofs.Names.{plan-own}
 use Rattle.sn_flow.proofs.Stepping.{step-new_operation, step-new_put}
-use Rattle.gw_world.specs.Gateways.{Gateway}
-use Rattle.gw_world.specs.Steps.{HaveName, IsWritable}
+use Rattle.gw_node.specs.Gateways.{Gateway}
+use Rattle.gw_node.specs.Event.{HaveName}
+use Rattle.gw_node.specs.Plans.{IsWritable}
 use Rattle.gw_world.specs.Steady.{IsKnown}
 use Rattle.gw_world.specs.Whole.{number_of}
 use Rattle.gw_world.proofs.Alone.{turned, some-is, delta-stands, stands-left, stands-right, stands-contains}

@@ -17,9 +17,11 @@ ghost use Rattle.gw_node.specs.declared.out.Out.{Out};
 ghost use Rattle.gw_node.specs.declared.fault.NodeFault.TheVariants as faults;
 ghost use Rattle.gw_node.specs.declared.refusal.Refusal.TheVariants as refusals;
 ghost use Rattle.gw_node.specs.Occasions.{Occasion};
-ghost use Rattle.gw_world.specs.Gateways.{Gateway};
+ghost use Rattle.gw_node.specs.Gateways.{Gateway};
 ghost use Rattle.gw_world.specs.Field.{Field, new_field, IsAt, IsDeltaAt, After, Run, gateway_of, peer_of, shown};
-ghost use Rattle.gw_world.specs.Steps.{IsWritable, IsPlan, OwnStep, TakeStep, AnswerStep};
+ghost use Rattle.gw_world.specs.Steps.{AnswerStep};
+ghost use Rattle.gw_node.specs.Event.{IsPlan, OwnStep, TakeStep};
+ghost use Rattle.gw_node.specs.Plans.{IsWritable};
 ghost use Rattle.gw_world.specs.Steady.{IsSteady};
 ghost use Rattle.gw_world.specs.Whole.{listed, everything, number_of, IsHome, AreMadeOnce, made_by, MayMake, NoneFails, told, brought, HasTakenAll};
 

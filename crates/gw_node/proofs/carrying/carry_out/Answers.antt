@@ -40,7 +40,8 @@ returns-in-Ok-write_if_made g c =
           (subst (λ (ops : List Op). IsDeltaOf ops delta) c.into_vec.ensures c.in-Ok.ensures.ok)
           c.in_ok-staged.ensures.fits
           (subst (λ (kept : List Op). IsKeptOf (g.R.Replica.kept c.args.node.now.replica ++ delta) kept) (sym c.commit.ensures) c.in_ok-staged.ensures.taken)
-          (subst (λ (made : Option (List Op)). WrittenIfMade c.args.node.now.journal made (Ok c.in-Ok-write_if_made.field-0) c.write_if_made.new.journal) given_is c.in-Ok-write_if_made.ensures));
+          (subst (λ (made : Option (List Op)). WrittenIfMade c.args.node.now.journal made (Ok c.in-Ok-write_if_made.field-0) c.write_if_made.new.journal) given_is c.in-Ok-write_if_made.ensures)
+          c.in_ok-staged.ensures.writable);
       answer = answer_is ∙ ap (λ (made : Option (List Op)). record (only_sends c.args.plan.sends) { made = made }) (sym made_is);
     }
 

@@ -1,4 +1,4 @@
--- The disk under a gateway as the field sees it.
+-- The disk under a gateway as its operator believes it.
 use Rattle.std.specs.Prelude.{◌≡◌, ℕ, ◌+◌, Bool, true, false, nat_lt, if◌then◌else◌, length, List, [], ◌∷◌, Option, Some, None}
 use Rattle.rep_ops.specs.declared.op.Op.{Op}
 use Rattle.jr_journal.specs.declared.disk.Slot.{Slot}
@@ -68,10 +68,6 @@ arranged bytes sync drive = record drive { plan = Some (if sync then KeepBack el
 -- what is left where the gateway stops: of each slot the synced bytes, and the first so many of those that are not
 abbrev pub left_by : ℕ → Drive → Image
 left_by kept drive = after_crash kept kept drive.slots
-
--- it stops, and its journal is opened where it had been left
-abbrev pub opened_again : ℕ → ℕ → Drive → Drive
-opened_again gateway kept drive = opened gateway drive.plan (left_by kept drive)
 
 -- an image has more records than are synced
 abbrev pub has_more : ℕ → Drive → Image → Bool
