@@ -7,7 +7,7 @@ use octets::Octets;
 use rep_model::Replica;
 use rep_ops::{ClientId, Delta, Op, OpsFault, Put, Stamp};
 use rep_plain::Plain;
-use sn_session::{Message, Session, SessionOp};
+use sn_session::{Message, QosLevel, Session, SessionOp};
 use sn_topic::TopicName;
 use std::alloc::Global;
 
@@ -89,7 +89,7 @@ pub fn put(alloc: Global, client: u16, message: u16) -> Result<Op, OpsFault> {
         origin: 1 + (message % ORIGINS) as u8,
         seq: 1 + u64::from(message / ORIGINS),
         topic: TopicName::new(alloc, b"field/soil")?,
-        qos: 1,
+        qos: QosLevel::one(),
         body: body(alloc, client.wrapping_add(message))?,
     };
     Ok(Op::Put {

@@ -4,7 +4,7 @@
 use crate::numbers::Numbers;
 use octets::Octets;
 use rep_ops::{ClientId, Op, OpsFault, Put, Stamp};
-use sn_session::{Message, Presence, Session, SessionOp};
+use sn_session::{Message, Presence, QosLevel, Session, SessionOp};
 use sn_topic::TopicName;
 use std::alloc::{AllocError, Global};
 
@@ -100,7 +100,7 @@ fn put(alloc: Global, client: u8, seq: u64, numbers: &mut Numbers) -> Result<Op,
         origin: 1,
         seq,
         topic,
-        qos: client % 3,
+        qos: level(client),
         body: body(alloc, numbers)?,
     };
     Ok(Op::Put {
@@ -125,4 +125,13 @@ fn ack(alloc: Global, client: u8, first: u64) -> Result<Op, OpsFault> {
         first,
         last: first.saturating_add(4),
     })
+}
+
+/// A quality of service, by turns.
+fn level(client: u8) -> QosLevel {
+    match client % 3 {
+        0 => QosLevel::zero(),
+        1 => QosLevel::one(),
+        _ => QosLevel::two(),
+    }
 }

@@ -5,10 +5,10 @@ use Rattle.std.proofs.lemmas.Option.{none-some, same_Some}
 use Rattle.rep_ops.specs.declared.op.Op.{Op}
 use Rattle.rep_ops.specs.Sets.{Same}
 use Rattle.rep_model.proofs.Joins.{same_refl}
-use Rattle.sn_flow.specs.declared.config.Config.{Config}
-use Rattle.sn_flow.specs.declared.plan.Plan.{Plan}
-use Rattle.sn_flow.specs.Flush.{AreFlush}
-use Rattle.sn_flow.specs.Locals.{after_all}
+use Rattle.sn_local.specs.declared.config.Config.{Config}
+use Rattle.sn_plan.specs.declared.plan.Plan.{Plan}
+use Rattle.sn_plan.specs.Flush.{AreFlush}
+use Rattle.sn_local.specs.Locals.{after_all}
 use Rattle.plan_laws.specs.BoundUp.{IsUp}
 use Rattle.plan_laws.proofs.BoundBehind.{step-up, tick-up, taken-up}
 use Rattle.gw_node.specs.declared.out.Out.{Out}

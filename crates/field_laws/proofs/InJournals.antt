@@ -12,7 +12,7 @@ use Rattle.rep_model.proofs.Readers.{operation_at_both, put_at_both, is_acknowle
 use Rattle.rep_model.proofs.Thin.{same_kept, thin-same}
 use Rattle.jr_journal.specs.Disk.{Image}
 use Rattle.jr_journal.specs.Records.{records}
-use Rattle.sn_flow.specs.declared.config.Config.{Config}
+use Rattle.sn_local.specs.declared.config.Config.{Config}
 use Rattle.gw_node.specs.declared.out.Out.{Out}
 use Rattle.gw_node.specs.declared.refusal.Refusal.{Refusal}
 use Rattle.gw_node.specs.Occasions.{Occasion, Datagram, Clock}

@@ -1,10 +1,11 @@
 -- What a document says of each key, and which key is the first that it says nothing good of.
 use Rattle.std.specs.Prelude.{◌≡◌, ℕ, ℤ, pos, negsuc, ◌&&◌, nat_le, List, [], ◌∷◌, Option, Some, None, option_and_then, option_map, if◌then◌else◌, codes, string_bytes}
-use Rattle.sn_flow.specs.declared.config.Addr.{Addr}
+use Rattle.sn_local.specs.declared.config.Addr.{Addr}
 use Rattle.sn_topic.specs.Topics.{is_name}
 use Rattle.sn_topic.specs.Table.{Entries, is_table}
 use Rattle.toml.specs.Data.{Data, Items, no_items, item, Members, get_member, as_str, as_integer, as_array, as_table}
 use Rattle.toml.specs.Parse.{parse_document}
+use Rattle.gw_shift.specs.declared.shift.TheConstants.{MAX_STEPS}
 use Rattle.gw_main.specs.declared.fault.Key.{Key}
 use Rattle.gw_main.specs.declared.fault.Key.TheVariants as keys
 use Rattle.gw_main.specs.declared.fault.SettingsFault.{SettingsFault}
@@ -84,7 +85,7 @@ abbrev pub workers_in : Members → Option ℕ
 workers_in members = number_in 1 8 (Some 2) (at keys.Workers members)
 
 abbrev pub steps_in : Members → Option ℕ
-steps_in members = number_in 1 4096 (Some 4096) (at keys.Steps members)
+steps_in members = number_in 1 MAX_STEPS (Some MAX_STEPS) (at keys.Steps members)
 
 abbrev pub advertise_in : Members → Option ℕ
 advertise_in members = number_in 0 65535 (Some 0) (at keys.Advertise members)

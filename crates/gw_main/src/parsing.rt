@@ -9,6 +9,7 @@ use super::fault::{Key, SettingsFault};
 use super::keys::{address_at, number_at, text_at};
 use super::lists::{addresses_at, predefined_at};
 use super::options::Settings;
+use gw_shift::MAX_STEPS;
 use std::alloc::Global;
 use toml::Table;
 
@@ -42,7 +43,7 @@ fn settings_of(alloc: Global, table: &Table) -> Result<Settings, SettingsFault>
     let link = address_at(table, Key::Link)?;
     let journal = text_at(alloc, table, Key::Journal)?;
     let workers = number_at(table, Key::Workers, 1, 8, Some(2))?;
-    let steps = number_at(table, Key::Steps, 1, 4096, Some(4096))?;
+    let steps = number_at(table, Key::Steps, 1, MAX_STEPS, Some(MAX_STEPS))?;
     let advertise = number_at(table, Key::Advertise, 0, 65_535, Some(0))?;
     let field = addresses_at(alloc, table, Key::Field)?;
     let peers = addresses_at(alloc, table, Key::Peers)?;

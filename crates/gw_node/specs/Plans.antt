@@ -8,8 +8,8 @@ use Rattle.rep_model.specs.declared.fault.Limit.{Limit}
 use Rattle.rep_model.specs.declared.fault.TakeFault.TheVariants as take_faults
 use Rattle.rep_model.specs.Keep.{IsKeptOf}
 use Rattle.rep_model.specs.Taking.{Fits, IsFaultOf}
-use Rattle.sn_flow.specs.declared.plan.Plan.{Plan}
-use Rattle.sn_flow.specs.Plans.{seen_of}
+use Rattle.sn_plan.specs.declared.plan.Plan.{Plan}
+use Rattle.sn_local.specs.Seen.{seen_of}
 use Rattle.jr_journal.specs.declared.disk.Disk.{Ghosts}
 use Rattle.gw_node.specs.declared.refusal.Refusal.{Refusal}
 use Rattle.gw_node.specs.declared.refusal.Refusal.TheVariants as refusals

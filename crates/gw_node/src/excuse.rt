@@ -1,6 +1,7 @@
 //! What a client is told where its frame came to nothing for want of a disk.
 
 ghost use Rattle.std.specs.Prelude.{◌≡◌, ◌≤◌, IfOk, IfSome};
+ghost use Rattle.sn_frame.specs.declared.frame.TheConstants.{MAX_FRAME};
 ghost use Rattle.sn_frame.specs.Bodies.{IsMessage};
 ghost use Rattle.sn_frame.specs.Grammar.{total_of};
 ghost use Rattle.gw_node.specs.Excuses.{accepts as would_accept, unpublished as unpublished_of, excuse_of as defined_excuse, excuses as defined_excuses};
@@ -40,7 +41,7 @@ fn unpublished(qos: Qos, topic: u16, msg_id: u16) -> Option<Frame>
 /// The refusal of a frame, in the place of these datagrams.
 fn excuse_of(frame: &Frame, sends: &[Send]) -> Option<Frame>
     ensures excuse { result ≡ defined_excuse frame.now sends.now }
-    ensures sound { IfSome result (λ excuse. IsMessage excuse × (total_of excuse ≤ 65535)) }
+    ensures sound { IfSome result (λ excuse. IsMessage excuse × (total_of excuse ≤ MAX_FRAME)) }
 {
     match frame {
         Frame::Register { msg_id, .. } => Some(Frame::RegAck {

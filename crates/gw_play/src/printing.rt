@@ -290,7 +290,7 @@ fn print_put(alloc: Global, text: &mut String, put: &Put) -> Result<(), AllocErr
 {
     let seq = put.seq;
     let origin = put.origin;
-    let qos = put.qos;
+    let qos = put.qos.number();
     let topic = hexadecimal(alloc, put.topic.bytes())?;
     let body = hexadecimal(alloc, put.body.as_slice())?;
     writeln!(text, "  put {seq}.{origin} {qos} {topic} {body}")

@@ -72,7 +72,7 @@ fn print_subscription(
         subscription.now) }
 {
     let filter = hexadecimal(alloc, subscription.filter.bytes())?;
-    let qos = subscription.qos;
+    let qos = subscription.qos.number();
     writeln!(text, "  sub {filter} {qos}")
 }
 
@@ -90,7 +90,7 @@ fn print_will(alloc: Global, text: &mut String, will: &Option<Will>) -> Result<(
 fn print_one_will(alloc: Global, text: &mut String, will: &Will) -> Result<(), AllocError>
     ensures { OnOk result (string_bytes text.new ≡ string_bytes text.old ++ will_line will.now) }
 {
-    let qos = will.qos;
+    let qos = will.qos.number();
     let topic = hexadecimal(alloc, will.topic.bytes())?;
     let message = hexadecimal(alloc, will.message.as_slice())?;
     writeln!(text, "  will {qos} {topic} {message}")

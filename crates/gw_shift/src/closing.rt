@@ -2,6 +2,7 @@
 
 ghost use Rattle.std.specs.Prelude.{◌≡◌, ◌↔◌, ◌≤◌, ◌-◌, IsTrue, MatchOption, slice_get, length};
 ghost use Rattle.rep_ops.specs.declared.op.Op.{Op};
+ghost use Rattle.gw_shift.specs.declared.shift.TheConstants.{MAX_STEPS};
 ghost use Rattle.gw_shift.specs.Closing.{StandsIn, has_number, is_held, AreOwn, AreKnown, HaveOpening, IsStrangeIn, IsStrange, taken_by};
 ghost use Rattle.gw_shift.specs.inner.Closing.{AllStand, EachStands, IsElsewhere, AreApart};
 
@@ -184,7 +185,7 @@ pub(crate) fn first_stranger(history: &[Entry], passes: &[Pass]) -> Option<u64>
 
 /// How many calls the passes hold.
 fn count(passes: &[Pass]) -> u64
-    requires { taken_by passes.now ≤ 4096 }
+    requires { taken_by passes.now ≤ MAX_STEPS }
     ensures { result ≡ taken_by passes.now }
 {
     let mut total = 0;
@@ -199,7 +200,7 @@ fn count(passes: &[Pass]) -> u64
 /// How many calls the passes hold of a history.
 #[tactic(auto, using(crate::proofs::Counting::no_more))]
 pub(crate) fn taken(history: &[Entry], passes: &[Pass]) -> u64
-    requires few { length history.now ≤ 4096 }
+    requires few { length history.now ≤ MAX_STEPS }
     requires known { AreKnown history.now passes.now }
     ensures { result ≡ taken_by passes.now }
 {

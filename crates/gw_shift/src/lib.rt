@@ -35,4 +35,4 @@ pub use entry::Entry;
 pub use fault::{CallFault, CloseFault, ShiftFault};
 pub use laws::{strangers_are_not_known, unused_passes_may_go};
 pub use pass::Pass;
-pub use shift::Shift;
+pub use shift::{MAX_STEPS, Shift};

@@ -3,6 +3,7 @@
 ghost use Rattle.std.specs.Prelude.{◌≡◌, ◌≤◌, vec_len, vec_capacity};
 ghost use Rattle.std.specs.Arc.{arc_value};
 ghost use Rattle.gw_node.specs.Parts.{state_of};
+ghost use Rattle.gw_shift.specs.declared.shift.TheConstants.{MAX_STEPS};
 ghost use Rattle.gw_shift.specs.Legal.{IsLegal};
 
 use super::ended::Ended;
@@ -26,7 +27,7 @@ pub struct Locked<R: Replica, D: Disk> {
     pub(crate) steps: u64,
     pub ghost most: { vec_len history ≤ steps },
     pub ghost room: { steps ≤ vec_capacity history },
-    pub ghost few: { steps ≤ 4096 },
+    pub ghost few: { steps ≤ MAX_STEPS },
     pub ghost legal: { ∥ IsLegal (arc_value opening).items history.items
         (state_of R.kept node) ∥₁ },
 }

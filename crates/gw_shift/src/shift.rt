@@ -5,6 +5,7 @@ ghost use Rattle.std.specs.Arc.{arc_value};
 ghost use Rattle.rep_ops.specs.declared.op.Op.{Op};
 ghost use Rattle.rep_model.specs.Held.{IsHeld};
 ghost use Rattle.gw_node.specs.Parts.{state_of};
+ghost use Rattle.gw_shift.specs.declared.shift.TheConstants.{MAX_STEPS};
 ghost use Rattle.gw_shift.specs.Legal.{IsLegal};
 ghost use Rattle.gw_shift.specs.Passes.{Climb, fresh};
 ghost use Rattle.gw_shift.specs.Calling.{Made, NotMade, MayNotTell};
@@ -23,6 +24,9 @@ use rep_ops::Delta;
 use std::alloc::Global;
 use std::sync::{Arc, Mutex, Wait};
 
+/// The most calls of one shift.
+pub const MAX_STEPS: u64 = 4096;
+
 /// A node under a lock, with the history of its calls. Threads share it by reference.
 #[derive(Drop)]
 pub struct Shift<R: Replica, D: Disk> {
@@ -39,7 +43,7 @@ fn begun<R: Replica, D: Disk>(
     requires held { IsHeld (state_of R.kept node).kept (arc_value opening).items }
     requires empty { history.items ≡ [] }
     requires room { steps ≤ vec_capacity history }
-    requires few { steps ≤ 4096 }
+    requires few { steps ≤ MAX_STEPS }
 {
     Locked {
         node,
@@ -60,7 +64,7 @@ impl<R: Replica, D: Disk + Drop> Shift<R, D> {
         steps: u64,
     ) -> Result<(Shift<R, D>, Vec<Pass>), (Node<R, D>, ShiftFault)>
         requires some { 0 < passes }
-        requires steps { (0 < steps) × (steps ≤ 4096) }
+        requires steps { (0 < steps) × (steps ≤ MAX_STEPS) }
         ensures ok { IfOk result (λ r. (opening : List (List Op))
             × IsHeld (state_of R.kept node).kept opening × (r.1.items ≡ fresh opening passes)) }
         ensures err { IfErr result (λ refused. (refused.0 ≡ node) × (refused.1 ≡ refusals.Memory)) }
@@ -151,7 +155,7 @@ impl<R: Replica, D: Disk + Drop> Shift<R, D> {
     /// Ends the shift: the gateway comes back, with what it had to keep at the opening and the history of all its calls. Of which
     /// calls these are only `Ended::close` tells.
     pub fn end(self) -> Ended<R, D>
-        ensures few { length result.history.items ≤ 4096 }
+        ensures few { length result.history.items ≤ MAX_STEPS }
         // The calls that come back were answered one after the other, from the opening to the node that comes back.
         ensures legal { ∥ IsLegal (arc_value result.opening).items result.history.items
             (state_of R.kept result.node) ∥₁ }

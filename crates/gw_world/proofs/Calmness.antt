@@ -28,7 +28,7 @@ use Rattle.jr_journal.specs.Memory.{MemoryState, empty_disk, crashed_disk, faili
 use Rattle.jr_journal.specs.Opening.{recovered, reads_first, is_quiet}
 use Rattle.jr_journal.specs.Journals.{other, emptied, after_append, last_generation, AppendedAs, Opens}
 use Rattle.jr_journal.specs.Parts.{disk_of, slot_of, generation_of, gateway_of}
-use Rattle.sn_flow.specs.declared.config.Config.{Config}
+use Rattle.sn_local.specs.declared.config.Config.{Config}
 use Rattle.gw_node.specs.declared.out.Out.{Out}
 use Rattle.gw_node.specs.declared.refusal.Refusal.{Refusal}
 use Rattle.gw_node.specs.declared.refusal.Refusal.TheVariants as refusals

@@ -12,10 +12,10 @@ use Rattle.rep_ops.specs.Spelling.{spelling, IsWithinLimit}
 use Rattle.rep_model.specs.Limits.{first_passed}
 use Rattle.rep_digest.specs.Digests.{digest}
 use Rattle.rep_digest.specs.Spelling.{IsWithinLimit as IsDigestWithinLimit}
-use Rattle.sn_flow.specs.declared.plan.Plan.{Plan}
-use Rattle.sn_flow.specs.Plans.{seen_of}
-use Rattle.sn_flow.specs.Locals.{after_all}
-use Rattle.sn_flow.specs.declared.config.Send.{Send}
+use Rattle.sn_plan.specs.declared.plan.Plan.{Plan}
+use Rattle.sn_local.specs.Seen.{seen_of}
+use Rattle.sn_local.specs.Locals.{after_all}
+use Rattle.sn_local.specs.declared.config.Send.{Send}
 use Rattle.jr_journal.specs.declared.disk.Plan.{Plan as Failure}
 use Rattle.sn_deliver.specs.Steps.{step}
 use Rattle.gw_node.specs.declared.out.Out.{Out}

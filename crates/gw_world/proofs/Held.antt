@@ -16,7 +16,7 @@ use Rattle.rep_model.proofs.Named.{is_named-counts, clients-counts}
 use Rattle.rep_model.proofs.Fresh.{next_epoch-counts, next_seq-counts}
 use Rattle.rep_model.proofs.Limits.{first_passed-more}
 use Rattle.rep_model.proofs.Readers.{operation_at_keep, put_at_keep}
-use Rattle.sn_flow.specs.Plans.{seen_of}
+use Rattle.sn_local.specs.Seen.{seen_of}
 use Rattle.gw_world.specs.Steps.{HaveName, IsConflict, IsTakable}
 use Rattle.gw_node.specs.Keeping.{Keeps}
 

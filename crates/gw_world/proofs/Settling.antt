@@ -8,7 +8,7 @@ use Rattle.rep_ops.specs.Sets.{operation_at, put_at, is_acknowledged, Stands, Wi
 use Rattle.rep_model.proofs.Joins.{all-moved, same-elements, same_sym, same_trans, within-standing}
 use Rattle.rep_model.proofs.Named.{clients-thin}
 use Rattle.rep_model.proofs.Thin.{thin-same, view-thin}
-use Rattle.sn_flow.specs.declared.config.Config.{Config}
+use Rattle.sn_local.specs.declared.config.Config.{Config}
 use Rattle.sn_flow.proofs.Lists.{all-append}
 use Rattle.gw_world.specs.declared.event.Event.{Event}
 use Rattle.gw_world.specs.declared.event.Event.TheVariants.{Frame, Tick, Take, Answer as Asks, WriteFails, Compact, Restart, Show}

@@ -9,11 +9,11 @@ use Rattle.rep_ops.specs.Sets.{operation_at, put_at, Same}
 use Rattle.rep_ops.specs.Deltas.{IsDelta}
 use Rattle.rep_ops.specs.Making.{IsDeltaOf}
 use Rattle.rep_model.specs.Taking.{AllAgree}
-use Rattle.sn_flow.specs.declared.config.Config.{Config}
-use Rattle.sn_flow.specs.declared.plan.Plan.{Plan}
-use Rattle.sn_flow.specs.Plans.{seen_of}
-use Rattle.sn_flow.specs.Own.{IsOfDraft}
-use Rattle.sn_flow.specs.Flush.{IsFlush, AreFlush}
+use Rattle.sn_local.specs.declared.config.Config.{Config}
+use Rattle.sn_plan.specs.declared.plan.Plan.{Plan}
+use Rattle.sn_local.specs.Seen.{seen_of}
+use Rattle.sn_plan.specs.Own.{IsOfDraft}
+use Rattle.sn_plan.specs.Flush.{IsFlush, AreFlush}
 use Rattle.sn_deliver.proofs.Drafting.{step-drafted, tick-drafted}
 use Rattle.sn_flow.proofs.Stepping.{step-fits, step-flush, step-new_operation, step-new_put}
 use Rattle.sn_flow.proofs.Flushness.{flush-start, flush-taken}

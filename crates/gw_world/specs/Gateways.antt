@@ -3,8 +3,8 @@
 -- as the gateway goes on.
 use Rattle.std.specs.Prelude.{Bool, true, false, ◌++◌, ℕ, ◌+◌, ◌==◌, if◌then◌else◌, List, [], ◌∷◌, Option, Some, None}
 use Rattle.rep_ops.specs.declared.op.Op.{Op}
-use Rattle.sn_flow.specs.declared.config.Config.{Config}
-use Rattle.sn_flow.specs.Locals.{Local, no_local}
+use Rattle.sn_local.specs.declared.config.Config.{Config}
+use Rattle.sn_local.specs.Locals.{Local, no_local}
 use Rattle.gw_world.specs.Drives.{Drive, new_drive}
 
 pub record Gateway : Type 0 where

@@ -2,8 +2,8 @@
 use Rattle.std.specs.Prelude.{ℕ, List}
 use Rattle.std.specs.List.{AllByRecursion}
 use Rattle.rep_ops.specs.declared.op.Op.{Op}
-use Rattle.sn_flow.specs.Own.{AddsNone}
-use Rattle.sn_flow.specs.Flush.{AreFlush}
+use Rattle.sn_plan.specs.Own.{AddsNone}
+use Rattle.sn_plan.specs.Flush.{AreFlush}
 use Rattle.gw_world.specs.Gateways.{Gateway}
 use Rattle.gw_world.specs.Field.{Field, IsAt}
 

@@ -10,6 +10,12 @@ use octets::{NoMemory, append_u32};
 use rep_ops::Delta;
 use std::alloc::Global;
 
+/// How many bytes of a delta are made room for at first. Most deltas need no more, so that the list is seldom moved as it grows.
+const FIRST_ROOM: usize = 256;
+
+/// How many bytes stand before a record's delta: its tag and its length.
+const BEFORE: usize = 5;
+
 /// The bytes of a delta.
 #[tactic(auto, using(crate::proofs::Readable::readable, crate::proofs::Readable::spelled))]
 fn bytes_of(alloc: Global, delta: &Delta) -> Result<Vec<u8>, NoMemory>
@@ -18,7 +24,7 @@ fn bytes_of(alloc: Global, delta: &Delta) -> Result<Vec<u8>, NoMemory>
     ensures size { IfOk result (λ body. length body.items ≤ max_octets) }
 {
     let _ops = delta.ops();
-    let mut body = Vec::new(alloc);
+    let mut body = Vec::with_capacity(alloc, FIRST_ROOM)?;
     delta.append_to(&mut body)?;
     Ok(body)
 }
@@ -29,7 +35,8 @@ pub(crate) fn record_of(alloc: Global, delta: &Delta) -> Result<Vec<u8>, NoMemor
     ensures readable { OnOk result (IsReadable delta.now) }
 {
     let body = bytes_of(alloc, delta)?;
-    let mut bytes = Vec::from_slice(alloc, &[RECORD])?;
+    let mut bytes = Vec::with_capacity(alloc, body.len() + BEFORE)?;
+    bytes.push(RECORD)?;
     append_u32(&mut bytes, body.len() as u32)?;
     bytes.extend_from_slice(&body)?;
     Ok(bytes)

@@ -3,7 +3,7 @@
 use crate::clients::{exchange, session, will};
 use crate::shown::{message, name};
 use rep_ops::{Op, Put};
-use sn_session::{Message, Outbound, Presence, SessionOp, WillTopic};
+use sn_session::{Message, Outbound, Presence, QosLevel, SessionOp, WillTopic};
 use std::alloc::{AllocError, Global};
 
 /// The lines of an operation.
@@ -48,7 +48,7 @@ pub(crate) fn operation(alloc: Global, text: &mut String, op: &Op) -> Result<(),
 pub(crate) fn waiting(alloc: Global, text: &mut String, put: &Put) -> Result<(), AllocError> {
     let seq = put.seq;
     let origin = put.origin;
-    let qos = put.qos;
+    let qos = put.qos.number();
     let topic = name(alloc, put.topic.bytes())?;
     let body = message(alloc, put.body.as_slice())?;
     writeln!(
@@ -119,10 +119,10 @@ pub(crate) fn subscribed(
     alloc: Global,
     text: &mut String,
     filter: &[u8],
-    qos: u8,
+    qos: QosLevel,
 ) -> Result<(), AllocError> {
     let filter = name(alloc, filter)?;
-    writeln!(text, "subscribed to {filter} qos {qos}")
+    writeln!(text, "subscribed to {filter} qos {}", qos.number())
 }
 
 /// The client no longer asks for topics.

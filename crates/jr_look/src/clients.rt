@@ -5,7 +5,7 @@ use crate::shown::{message, name};
 use rep_model::{ClientView, Replica};
 use rep_ops::ClientId;
 use rep_state::Folded;
-use sn_session::{Outbound, Phase, Session, Will};
+use sn_session::{Outbound, Phase, QosLevel, Session, Will};
 use std::alloc::{AllocError, Global};
 
 /// The lines of all clients.
@@ -115,12 +115,12 @@ pub(crate) fn will(
     alloc: Global,
     text: &mut String,
     topic: &[u8],
-    qos: u8,
+    qos: QosLevel,
     retain: bool,
 ) -> Result<(), AllocError> {
     let topic = name(alloc, topic)?;
     let word = if retain { ", retained" } else { "" };
-    writeln!(text, "a will on {topic} qos {qos}{word}")
+    writeln!(text, "a will on {topic} qos {}{word}", qos.number())
 }
 
 /// A line for each message id that was received.

@@ -4,7 +4,7 @@ use crate::changes::presence_word;
 use crate::clients::phase_word;
 use crate::shown::quoted;
 use rep_ops::{Op, Put};
-use sn_session::{Message, Outbound, Presence, Session, SessionOp, Will, WillTopic};
+use sn_session::{Message, Outbound, Presence, QosLevel, Session, SessionOp, Will, WillTopic};
 use sn_topic::{Filter, TopicName};
 use std::alloc::{AllocError, Global};
 
@@ -61,7 +61,7 @@ pub(crate) fn operation(alloc: Global, text: &mut String, op: &Op) -> Result<(),
 pub(crate) fn waiting(alloc: Global, text: &mut String, put: &Put) -> Result<(), AllocError> {
     let seq = put.seq;
     let origin = put.origin;
-    let qos = put.qos;
+    let qos = put.qos.number();
     let topic = quoted(alloc, put.topic.bytes())?;
     let body = quoted(alloc, put.body.as_slice())?;
     write!(
@@ -127,10 +127,10 @@ fn subscribed(
     alloc: Global,
     text: &mut String,
     filter: &Filter,
-    qos: u8,
+    qos: QosLevel,
 ) -> Result<(), AllocError> {
     let filter = quoted(alloc, filter.bytes())?;
-    write!(text, "\"filter\":{filter},\"qos\":{qos}")
+    write!(text, "\"filter\":{filter},\"qos\":{}", qos.number())
 }
 
 /// The client no longer asks for topics.
@@ -149,7 +149,7 @@ fn will_topic(
         None => text.push_str("\"will_topic\",\"topic\":null"),
         Some(told) => {
             let topic = quoted(alloc, told.topic.bytes())?;
-            let qos = told.qos;
+            let qos = told.qos.number();
             let retain = told.retain;
             write!(
                 text,
@@ -242,7 +242,7 @@ fn will(alloc: Global, text: &mut String, told: &Option<Will>) -> Result<(), All
         return text.push_str("null");
     };
     let topic = quoted(alloc, told.topic.bytes())?;
-    let qos = told.qos;
+    let qos = told.qos.number();
     let retain = told.retain;
     let body = quoted(alloc, told.message.as_slice())?;
     write!(

@@ -2,6 +2,7 @@
 
 ghost use Rattle.std.specs.Prelude.{◌≡◌, ℕ, ◌+◌, ◌++◌, ◌∷◌, List, [], drop, false, true, IfOk, OnOk, IfErr, MatchOption};
 ghost use Rattle.rep_ops.specs.declared.op.Op.{Op};
+ghost use Rattle.rep_ops.specs.Making.{AreWellMade};
 ghost use Rattle.rep_model.specs.Views.{view, clients, is_named};
 ghost use Rattle.rep_model.specs.Fresh.{next_epoch, next_seq};
 ghost use Rattle.rep_model.specs.Keep.{IsKeptOf};
@@ -96,8 +97,9 @@ pub trait Replica: Drop {
 
     /// The operations that must be kept, in the order of their names, as deltas that are as full as they
     /// can be: a new one begins where the next operation does not fit. Where nothing must be kept there is
-    /// no delta. Want of memory is the only fault.
+    /// no delta. Want of memory is the only fault. Whatever is kept is well made.
     fn held(&self, alloc: Global) -> Result<Vec<Delta>, TakeFault>
         ensures ok { IfOk result (λ deltas. IsHeld (kept self.now) deltas.items) }
+        ensures made { AreWellMade (kept self.now) }
         ensures err { IfErr result (λ fault. fault ≡ Memory) };
 }

@@ -9,13 +9,13 @@ use Rattle.sn_session.specs.declared.change.SessionOp.{SessionOp}
 use Rattle.rep_ops.specs.ClientIds.{IsClientId}
 use Rattle.rep_ops.specs.declared.op.Op.{Op}
 use Rattle.rep_ops.specs.declared.op.Op.TheVariants.{Session as OfSession, Put as OfPut, Ack}
-use Rattle.rep_ops.specs.Reading.{Reader, both, by_first, ranged, octet_at, number_at, is_counted, client_at, topic_at, body_at, change_at, session_op_of, session_op_at, put_op_of, put_op_at, ack_of, range_at, ack_at, of_kind_at, op_at}
+use Rattle.rep_ops.specs.Reading.{Reader, both, by_first, ranged, octet_at, number_at, is_counted, client_at, topic_at, qos_at, body_at, change_at, session_op_of, session_op_at, put_op_of, put_op_at, ack_of, range_at, ack_at, of_kind_at, op_at}
 use Rattle.rep_ops.specs.Spelling.{client_octets, put_octets, op_octets}
 use Rattle.rep_ops.specs.Sessions.{text_octets, change_octets}
 use Rattle.rep_ops.specs.Values.{IsValue}
 use Rattle.rep_ops.specs.WellMade.{is_well_made}
 use Rattle.rep_ops.proofs.Laws.{IsBytes, Taken, IsStable, Law, bind_ok, bind_stable, by_first_law, both_law, made_law, ranged_law, octet_law, wide64, number_law}
-use Rattle.rep_ops.proofs.Fields.{one_octet, IsOctet, client_law, topic_law, body_law}
+use Rattle.rep_ops.proofs.Fields.{one_octet, IsOctet, client_law, topic_law, IsQos, qos_law, body_law}
 use Rattle.rep_ops.proofs.Parts.{IsEight, eight_law, IsOne, one_law}
 use Rattle.rep_ops.proofs.Changes.{FitsChange, change_law}
 
@@ -96,7 +96,7 @@ abbrev put_text : PutParts → List ℕ
 put_text x = client_octets x.0 ++ (one_octet x.1.0 ++ (to_be_bytes w64 x.1.1.0 ++ (text_octets x.1.1.1.0 ++ (one_octet x.1.1.1.1.0 ++ text_octets x.1.1.1.1.1))))
 
 abbrev FitsPutParts : PutParts → Type 0
-FitsPutParts x = IsClientId x.0 × (IsOne x.1.0 × (IsEight x.1.1.0 × (IsName x.1.1.1.0 × ((IsOctet x.1.1.1.1.0 × (nat_le x.1.1.1.1.0 2 ≡ true)) × (length x.1.1.1.1.1 ≤ 4096)))))
+FitsPutParts x = IsClientId x.0 × (IsOne x.1.0 × (IsEight x.1.1.0 × (IsName x.1.1.1.0 × (IsQos x.1.1.1.1.0 × (length x.1.1.1.1.1 ≤ 4096)))))
 
 put_over : (x : PutParts) → FitsPutParts x → (put_text x ≡ tail_octets (put_op_of x)) × FitsPutOp (put_op_of x)
 put_over x h = (
@@ -123,12 +123,12 @@ put_back (OfPut c p) h =
 put_op_law : Law put_op_at tail_octets FitsPutOp
 unfolding put_op_at
 put_op_law =
-    made_law put_op_of (both client_at (both (ranged is_counted octet_at) (both (ranged is_counted (number_at w64)) (both topic_at (both (ranged (λ n. nat_le n 2) octet_at) body_at))))) put_text FitsPutParts
+    made_law put_op_of (both client_at (both (ranged is_counted octet_at) (both (ranged is_counted (number_at w64)) (both topic_at (both qos_at body_at))))) put_text FitsPutParts
     (both_law client_at client_octets IsClientId client_law
-    (both (ranged is_counted octet_at) (both (ranged is_counted (number_at w64)) (both topic_at (both (ranged (λ n. nat_le n 2) octet_at) body_at)))) _ _ (both_law (ranged is_counted octet_at) one_octet IsOne one_law
-    (both (ranged is_counted (number_at w64)) (both topic_at (both (ranged (λ n. nat_le n 2) octet_at) body_at))) _ _ (both_law (ranged is_counted (number_at w64)) (to_be_bytes w64) IsEight eight_law
-    (both topic_at (both (ranged (λ n. nat_le n 2) octet_at) body_at)) _ _ (both_law topic_at text_octets IsName topic_law
-    (both (ranged (λ n. nat_le n 2) octet_at) body_at) _ _ (both_law (ranged (λ n. nat_le n 2) octet_at) one_octet (λ n. IsOctet n × (nat_le n 2 ≡ true)) (ranged_law (λ n. nat_le n 2) octet_at one_octet IsOctet octet_law)
+    (both (ranged is_counted octet_at) (both (ranged is_counted (number_at w64)) (both topic_at (both qos_at body_at)))) _ _ (both_law (ranged is_counted octet_at) one_octet IsOne one_law
+    (both (ranged is_counted (number_at w64)) (both topic_at (both qos_at body_at))) _ _ (both_law (ranged is_counted (number_at w64)) (to_be_bytes w64) IsEight eight_law
+    (both topic_at (both qos_at body_at)) _ _ (both_law topic_at text_octets IsName topic_law
+    (both qos_at body_at) _ _ (both_law qos_at one_octet IsQos qos_law
     body_at text_octets (λ t. length t ≤ 4096) body_law)))))
     tail_octets FitsPutOp put_over put_back
 

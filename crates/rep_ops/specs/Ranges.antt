@@ -1,6 +1,7 @@
 -- Which values of a session and of a change are in range. The order and the size of a session's tables are their types' own.
 use Rattle.std.specs.Prelude.{ℕ, Bool, true, ◌&&◌, nat_le, List, length, Option, Some, None}
 use Rattle.std.specs.List.{list_all}
+use Rattle.sn_session.specs.Levels.{is_qos}
 use Rattle.sn_session.specs.declared.message.TheConstants.{MAX_MESSAGE}
 use Rattle.sn_session.specs.declared.session.Session.{Session}
 use Rattle.sn_session.specs.declared.topics.TopicEntry.{TopicEntry}
@@ -14,10 +15,6 @@ use Rattle.sn_session.specs.declared.change.SessionOp.TheVariants.{Take, Presenc
 -- topic ids 0 and 65,535 are reserved
 abbrev pub is_topic_id : ℕ → Bool
 is_topic_id id = nat_le 1 id && nat_le id 65534
-
--- the quality of service is 0 to 2
-abbrev pub is_qos : ℕ → Bool
-is_qos qos = nat_le qos 2
 
 -- a message has at most 4,096 octets
 abbrev pub is_message : List ℕ → Bool

@@ -28,7 +28,8 @@ use Rattle.sn_session.specs.declared.message.TheConstants.{MAX_MESSAGE}
 use Rattle.rep_ops.specs.declared.op.Op.{Op}
 use Rattle.rep_ops.specs.declared.op.Op.TheVariants.{Session as OfSession, Put as OfPut, Ack}
 use Rattle.rep_ops.specs.Orders.{name_cmp}
-use Rattle.rep_ops.specs.Ranges.{is_topic_id, is_qos}
+use Rattle.sn_session.specs.Levels.{is_qos}
+use Rattle.rep_ops.specs.Ranges.{is_topic_id}
 use Rattle.rep_ops.specs.Sets.{same_client}
 use Rattle.rep_ops.specs.Spelling.{max_octets}
 
@@ -275,7 +276,7 @@ abbrev pub put_op_of : List ℕ × (ℕ × (ℕ × (List ℕ × (ℕ × List ℕ
 put_op_of x = OfPut x.0 (record { origin = x.1.0; seq = x.1.1.0; topic = x.1.1.1.0; qos = x.1.1.1.1.0; body = x.1.1.1.1.1 })
 
 unfoldable pub put_op_at : Reader Op
-put_op_at = made put_op_of (both client_at (both (ranged is_counted octet_at) (both (ranged is_counted (number_at w64)) (both topic_at (both (ranged (λ n. nat_le n 2) octet_at) body_at)))))
+put_op_at = made put_op_of (both client_at (both (ranged is_counted octet_at) (both (ranged is_counted (number_at w64)) (both topic_at (both qos_at body_at)))))
 
 abbrev pub ack_of : List ℕ × (ℕ × (ℕ × ℕ)) → Op
 ack_of x = Ack x.0 x.1.0 x.1.1.0 x.1.1.1

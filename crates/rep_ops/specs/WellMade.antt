@@ -1,9 +1,9 @@
 -- Which operations a delta may hold.
-use Rattle.std.specs.Prelude.{ℕ, ◌==◌, Bool, ◌&&◌, if◌then◌else◌, nat_le, nat_lt, length}
+use Rattle.std.specs.Prelude.{ℕ, ◌==◌, Bool, ◌&&◌, if◌then◌else◌, nat_le, nat_lt}
 use Rattle.sn_session.specs.declared.change.SessionOp.{SessionOp}
 use Rattle.sn_session.specs.Session.{is_take}
-use Rattle.rep_ops.specs.Ranges.{is_change}
-use Rattle.sn_session.specs.declared.message.TheConstants.{MAX_MESSAGE}
+use Rattle.sn_session.specs.Levels.{is_qos}
+use Rattle.rep_ops.specs.Ranges.{is_change, is_message}
 use Rattle.rep_ops.specs.declared.op.Stamp.{Stamp}
 use Rattle.rep_ops.specs.declared.op.Put.{Put}
 use Rattle.rep_ops.specs.declared.op.Op.{Op}
@@ -19,7 +19,7 @@ is_counted counter change = if is_take change then counter == 0 else nat_lt 0 co
 
 -- a message has an origin, a sequence number, a quality of service of 0 to 2 and at most 4,096 octets
 abbrev pub is_put : Put → Bool
-is_put put = nat_le 1 put.origin && nat_le 1 put.seq && nat_le put.qos 2 && nat_le (length put.body) MAX_MESSAGE
+is_put put = nat_le 1 put.origin && nat_le 1 put.seq && is_qos put.qos && is_message put.body
 
 abbrev pub is_well_made : Op → Bool
 is_well_made (OfSession client stamp counter change) = is_stamp stamp && is_counted counter change && is_change change

@@ -5,7 +5,7 @@ ghost use Rattle.rep_ops.specs.Orders.{stamp_cmp, client_of};
 
 use super::client_id::ClientId;
 use octets::NoMemory;
-use sn_session::{Message, SessionOp};
+use sn_session::{Message, QosLevel, SessionOp};
 use sn_topic::TopicName;
 use std::alloc::Global;
 use std::cmp::Ordering;
@@ -29,8 +29,8 @@ pub struct Put {
     pub seq: u64,
     /// The name that it was published under.
     pub topic: TopicName,
-    /// Its quality of service, 0 to 2.
-    pub qos: u8,
+    /// Its quality of service.
+    pub qos: QosLevel,
     /// What was published.
     pub body: Message,
 }

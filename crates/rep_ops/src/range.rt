@@ -21,7 +21,7 @@ fn is_will(will: &Option<Will>) -> bool
 {
     match will {
         None => true,
-        Some(will) => will.qos <= 2 && will.message.len() <= MAX_MESSAGE,
+        Some(will) => will.qos.number() <= 2 && will.message.len() <= MAX_MESSAGE,
     }
 }
 
@@ -31,7 +31,7 @@ fn is_will_topic(asked: &Option<WillTopic>) -> bool
 {
     match asked {
         None => true,
-        Some(asked) => asked.qos <= 2,
+        Some(asked) => asked.qos.number() <= 2,
     }
 }
 
@@ -56,7 +56,7 @@ fn are_topics(entries: &[TopicEntry]) -> bool
 fn are_subscriptions(entries: &[Subscription]) -> bool
     ensures { result ≡ list_all subscription_test entries.now }
 {
-    entries.iter().all(|entry| entry.qos <= 2)
+    entries.iter().all(|entry| entry.qos.number() <= 2)
 }
 
 /// Whether the values of a session are in range.
@@ -77,7 +77,7 @@ pub fn is_change(change: &SessionOp) -> bool
     match change {
         SessionOp::Take(session) => is_session(session),
         SessionOp::Register { id, .. } => is_topic_id(*id),
-        SessionOp::Subscribe { qos, .. } => *qos <= 2,
+        SessionOp::Subscribe { qos, .. } => qos.number() <= 2,
         SessionOp::WillTopic(asked) => is_will_topic(asked),
         SessionOp::WillMsg(message) => message.len() <= MAX_MESSAGE,
         SessionOp::Outbound { exchange, next_id } => *next_id >= 1 && is_exchange(exchange),

@@ -37,7 +37,7 @@ fn is_counted(counter: u8, change: &SessionOp) -> bool
 fn is_put(put: &Put) -> bool
     ensures { result ≡ put_test put.now }
 {
-    put.origin >= 1 && put.seq >= 1 && put.qos <= 2 && put.body.len() <= MAX_MESSAGE
+    put.origin >= 1 && put.seq >= 1 && put.qos.number() <= 2 && put.body.len() <= MAX_MESSAGE
 }
 
 /// Whether a delta may hold the operation.

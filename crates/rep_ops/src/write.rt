@@ -35,7 +35,7 @@ fn write_put(out: &mut Vec<u8>, put: &Put) -> Result<(), NoMemory>
     out.push(put.origin)?;
     append_u64(out, put.seq)?;
     write_text(out, put.topic.bytes())?;
-    out.push(put.qos)?;
+    out.push(put.qos.number())?;
     write_text(out, put.body.as_slice())?;
     Ok(())
 }

@@ -83,7 +83,7 @@ fn write_subscription(out: &mut Vec<u8>, entry: &Subscription) -> Result<(), NoM
     ensures { Writes (subscription_octets entry.now) out.old.items out.new.items result }
 {
     write_text(out, entry.filter.bytes())?;
-    out.push(entry.qos)?;
+    out.push(entry.qos.number())?;
     Ok(())
 }
 
@@ -134,7 +134,7 @@ fn write_will(out: &mut Vec<u8>, will: &Option<Will>) -> Result<(), NoMemory>
     match will {
         None => out.push(0)?,
         Some(will) => {
-            out.extend_from_slice(&[1, will.qos, will.retain as u8])?;
+            out.extend_from_slice(&[1, will.qos.number(), will.retain as u8])?;
             write_text(out, will.topic.bytes())?;
             write_text(out, will.message.as_slice())?;
         }
@@ -150,7 +150,7 @@ fn write_will_topic(out: &mut Vec<u8>, asked: &Option<WillTopic>) -> Result<(), 
     match asked {
         None => out.push(0)?,
         Some(asked) => {
-            out.extend_from_slice(&[1, asked.qos, asked.retain as u8])?;
+            out.extend_from_slice(&[1, asked.qos.number(), asked.retain as u8])?;
             write_text(out, asked.topic.bytes())?;
         }
     }
@@ -223,7 +223,7 @@ pub fn write_change(out: &mut Vec<u8>, change: &SessionOp) -> Result<(), NoMemor
         SessionOp::Subscribe { filter, qos } => {
             out.push(3)?;
             write_text(out, filter.bytes())?;
-            out.push(*qos)?;
+            out.push(qos.number())?;
         }
         SessionOp::Unsubscribe { filter } => {
             out.push(4)?;

@@ -78,3 +78,8 @@ own_made c (op ∷ ops) h = (h.0.1, own_made c ops h.1)
 pub kept_made : (rows : List (List ℕ × List Op)) → AllByRecursion (λ row. IsOwn row.0 row.1) rows → AreWellMade (kept_rows rows)
 kept_made [] h = tt
 kept_made (row ∷ rows) h = both_made (keep row.1) (kept_rows rows) (all_filter (λ op. IsTrue (is_well_made op)) (is_kept row.1) row.1 (own_made row.0 row.1 h.0)) (kept_made rows h.1)
+
+-- what rows hold is well made
+pub made_rows : (rows : List (List ℕ × List Op)) → AllByRecursion (λ row. IsOwn row.0 row.1) rows → AreWellMade (flat rows)
+made_rows [] h = tt
+made_rows (row ∷ rows) h = both_made row.1 (flat rows) (own_made row.0 row.1 h.0) (made_rows rows h.1)

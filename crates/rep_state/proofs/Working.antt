@@ -20,6 +20,7 @@ use Rattle.rep_model.proofs.Joins.{same_trans, all-both, all-weaker}
 use Rattle.rep_model.proofs.Readers.{client_total, client_exact, same_client-true}
 use Rattle.rep_plain.specs.Rows.{flat, own, or_nothing, has_any, IsOwn, IsOwnOp}
 use Rattle.rep_plain.specs.inner.Rows.{of_client}
+use Rattle.rep_plain.proofs.Kept.{made_rows}
 use Rattle.rep_plain.proofs.Counting.{all_found}
 use Rattle.rep_plain.proofs.Flat.{of_flat, found_own}
 use Rattle.rep_state.specs.declared.entry.Entry.{Entry}
@@ -148,14 +149,6 @@ module _ (es : List (List ℕ × Entry)) (n : ℕ) (t : IsTable es n) (D : List 
       }
 
 -- ---- what is held
-
-own_made : (c : List ℕ) (ops : List Op) → IsOwn c ops → AreWellMade ops
-own_made c [] h = tt
-own_made c (op ∷ ops) h = (h.0.1, own_made c ops h.1)
-
-made_rows : (rows : List (List ℕ × List Op)) → AllByRecursion (λ row. IsOwn row.0 row.1) rows → AreWellMade (flat rows)
-made_rows [] h = tt
-made_rows (row ∷ rows) h = all-both (λ op. IsTrue (is_well_made op)) row.1 (flat rows) (own_made row.0 row.1 h.0) (made_rows rows h.1)
 
 module _ (es : List (List ℕ × Entry)) (n : ℕ) (t : IsTable es n) where
   pub made_flat : AreWellMade (flat (rows_of es))

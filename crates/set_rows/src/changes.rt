@@ -1,6 +1,6 @@
 //! Changes of a session as fields of a line.
 
-use crate::fields::{body, filter, is_first, message_number, octet, small_number, topic};
+use crate::fields::{body, filter, is_first, level, message_number, small_number, topic};
 use crate::stop::Stop;
 use sn_session::{Outbound, Phase, Presence, Session, SessionOp, WillTopic};
 use std::alloc::Global;
@@ -85,7 +85,7 @@ fn subscribed(alloc: Global, rest: &[&str]) -> Result<SessionOp, Stop> {
     let [asked, qos] = rest else {
         return Err(Stop::Line);
     };
-    let qos = octet(qos)?;
+    let qos = level(qos)?;
     Ok(SessionOp::Subscribe {
         filter: filter(alloc, asked)?,
         qos,
@@ -107,7 +107,7 @@ fn will_topic(alloc: Global, rest: &[&str]) -> Result<SessionOp, Stop> {
     match rest {
         ["none"] => Ok(SessionOp::WillTopic(None)),
         [name, qos, kept] => {
-            let qos = octet(qos)?;
+            let qos = level(qos)?;
             let retain = is_first(kept, "retained", "fleeting")?;
             Ok(SessionOp::WillTopic(Some(WillTopic {
                 topic: topic(alloc, name)?,

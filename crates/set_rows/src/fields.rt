@@ -3,7 +3,7 @@
 use crate::stop::Stop;
 use octets::Octets;
 use rep_ops::{ClientId, OpsFault, Stamp};
-use sn_session::Message;
+use sn_session::{Message, QosLevel};
 use sn_topic::{Filter, TopicFault, TopicName};
 use std::alloc::Global;
 
@@ -33,6 +33,14 @@ pub(crate) fn octet(text: &str) -> Result<u8, Stop> {
     match text.parse::<u8>() {
         Ok(number) => Ok(number),
         Err(_) => Err(Stop::Line),
+    }
+}
+
+/// A quality of service: 0, 1 or 2.
+pub(crate) fn level(text: &str) -> Result<QosLevel, Stop> {
+    match QosLevel::new(octet(text)?) {
+        Some(qos) => Ok(qos),
+        None => Err(Stop::Line),
     }
 }
 

@@ -2,12 +2,12 @@
 
 use crate::changes::change;
 use crate::fields::{
-    body, client, count, message, message_number, number, octet, small_number, stamp, topic,
+    body, client, count, level, message, message_number, number, octet, small_number, stamp, topic,
 };
 use crate::stop::Stop;
 use octets::Octets;
 use rep_ops::{ClientId, Op, OpsFault, Put, Stamp};
-use sn_session::Session;
+use sn_session::{QosLevel, Session};
 use std::alloc::Global;
 
 /// `op CLIENT EPOCH.GATEWAY COUNTER CHANGE`: a change of a session.
@@ -61,7 +61,7 @@ pub(crate) fn put_op(alloc: Global, fields: &[&str]) -> Result<Op, Stop> {
         return Err(Stop::Line);
     };
     let (origin, seq) = message_number(message)?;
-    let qos = octet(qos)?;
+    let qos = level(qos)?;
     Ok(Op::Put {
         client: client(alloc, name)?,
         put: Put {
@@ -79,7 +79,7 @@ pub(crate) fn put_ops(alloc: Global, ops: &mut Vec<Op>, fields: &[&str]) -> Resu
     let [name, origin, first, last, about, qos, size] = fields else {
         return Err(Stop::Line);
     };
-    let (origin, qos, size) = (octet(origin)?, octet(qos)?, count(size)?);
+    let (origin, qos, size) = (octet(origin)?, level(qos)?, count(size)?);
     let (first, last) = (number(first)?, number(last)?);
     let said = vec![in alloc; b'a'; size]?;
     for seq in first..=last {
@@ -94,7 +94,7 @@ fn large(
     name: &str,
     number: (u8, u64),
     about: &str,
-    qos: u8,
+    qos: QosLevel,
     said: &[u8],
 ) -> Result<Op, Stop> {
     let (origin, seq) = number;

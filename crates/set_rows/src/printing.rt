@@ -3,7 +3,9 @@
 use crate::words::{kind_word, known_word, phase_word, presence_word, retain_word, word};
 use rep_model::ClientView;
 use rep_ops::{Delta, Op, Put};
-use sn_session::{Outbound, Session, SessionOp, Subscription, TopicEntry, Will, WillTopic};
+use sn_session::{
+    Outbound, QosLevel, Session, SessionOp, Subscription, TopicEntry, Will, WillTopic,
+};
 use std::alloc::{AllocError, Global};
 
 /// The operations of a delta, behind a line with their number.
@@ -55,7 +57,7 @@ fn print_op(alloc: Global, text: &mut String, op: &Op) -> Result<(), AllocError>
 
 /// The rest of a message's line.
 fn print_put(alloc: Global, text: &mut String, put: &Put) -> Result<(), AllocError> {
-    let (origin, seq, qos) = (put.origin, put.seq, put.qos);
+    let (origin, seq, qos) = (put.origin, put.seq, put.qos.number());
     let topic = word(alloc, put.topic.bytes())?;
     let body = word(alloc, put.body.as_slice())?;
     writeln!(text, "{origin}.{seq} {topic} {qos} {body}")
@@ -118,10 +120,10 @@ fn print_filter(
     alloc: Global,
     text: &mut String,
     filter: &[u8],
-    qos: u8,
+    qos: QosLevel,
 ) -> Result<(), AllocError> {
     let filter = word(alloc, filter)?;
-    writeln!(text, "{filter} {qos}")
+    writeln!(text, "{filter} {}", qos.number())
 }
 
 /// A will's topic.
@@ -134,7 +136,7 @@ fn print_will_topic(
         None => text.push_str("will none\n"),
         Some(asked) => {
             let topic = word(alloc, asked.topic.bytes())?;
-            let (qos, kept) = (asked.qos, retain_word(asked.retain));
+            let (qos, kept) = (asked.qos.number(), retain_word(asked.retain));
             writeln!(text, "will {topic} {qos} {kept}")
         }
     }
@@ -202,7 +204,7 @@ fn print_filters(
 fn print_will(alloc: Global, text: &mut String, will: &Will) -> Result<(), AllocError> {
     let topic = word(alloc, will.topic.bytes())?;
     let message = word(alloc, will.message.as_slice())?;
-    let (qos, kept) = (will.qos, retain_word(will.retain));
+    let (qos, kept) = (will.qos.number(), retain_word(will.retain));
     writeln!(text, "  will {topic} {qos} {kept} {message}")
 }
 

@@ -144,7 +144,7 @@ pub(crate) fn qos_of(
         return Err(Stop::Line);
     };
     match session.subscription(&filter(alloc, asked)?) {
-        Some(qos) => Ok(writeln!(text, "filter {asked} at {qos}")?),
+        Some(qos) => Ok(writeln!(text, "filter {asked} at {}", qos.number())?),
         None => Ok(writeln!(text, "no filter {asked}")?),
     }
 }
@@ -160,7 +160,7 @@ pub(crate) fn asked_qos(
         return Err(Stop::Line);
     };
     match session.subscribed_qos(&topic(alloc, name)?) {
-        Some(qos) => Ok(writeln!(text, "{name} is asked for at {qos}")?),
+        Some(qos) => Ok(writeln!(text, "{name} is asked for at {}", qos.number())?),
         None => Ok(writeln!(text, "{name} is not asked for")?),
     }
 }

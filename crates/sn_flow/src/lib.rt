@@ -20,50 +20,32 @@
 #![tactic(auto)]
 
 mod accept;
-mod asking;
-mod bindings;
-mod bound;
-mod changes;
-mod codes;
-mod config;
 mod connection;
-mod draft;
-mod fault;
 mod laws;
-mod local;
-mod numbering;
-mod others;
-mod plan;
 mod registration;
 mod request_laws;
-mod row;
 mod subscription;
-mod timers;
 mod topic_rows;
-mod will_dialogs;
 mod will_update;
 mod wills;
 
 pub use accept::{GivenWill, MAX_CLIENTS};
-pub use asking::{name_asked, qos_asked};
-pub use bindings::is_owned;
-pub use bound::{bind_to, hear_of, session_or, unseen, view_or};
-pub use config::{Addr, Config, Send};
 pub use connection::{connect, disconnect};
-pub use draft::{Draft, NewPut};
-pub use fault::StepFault;
 pub use laws::{
     adds_none, every_row, fresh_names, messages_wait, one_binding, only_acknowledged, own_names,
     reads_back, rows_make_no_message, stays_flush,
 };
-pub use local::{Awaited, Binding, Dialogs, LocalChange, Request, Timer, WillDialog};
-pub use numbering::{MAX_COUNTER, apply};
-pub use others::{can_wake, is_up, other};
-pub use plan::{Plan, plan_of, plan_of_puts, plan_without};
 pub use request_laws::{
     given_id_stands, requests_keep_messages, subscribe_lasts, unsubscribe_ends,
 };
-pub use row::{Follow, Row, heard_row, plan_of_row, quiet, stray, turn_away};
+pub use sn_local::{
+    Addr, Awaited, Binding, Config, Dialogs, LocalChange, MAX_DIALOGS, Request, Send, StepFault,
+    Timer, WillDialog, is_owned,
+};
+pub use sn_plan::{
+    Draft, Follow, MAX_COUNTER, NewPut, Plan, Row, apply, bind_to, can_wake, hear_of, heard_row,
+    is_up, name_asked, other, plan_of, plan_of_puts, plan_of_row, plan_without, qos_asked, quiet,
+    session_or, stray, turn_away, unseen, view_or,
+};
 pub use topic_rows::{register, subscribe, unsubscribe};
-pub use will_dialogs::MAX_DIALOGS;
 pub use wills::{will_msg, will_msg_update, will_topic, will_topic_update};

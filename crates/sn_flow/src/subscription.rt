@@ -2,17 +2,17 @@
 
 ghost use Rattle.std.specs.Prelude.{◌≡◌, IfOk};
 ghost use Rattle.sn_frame.specs.FlagBits.{kind_of};
-ghost use Rattle.sn_flow.specs.Drafts.{nothing, sent};
+ghost use Rattle.sn_plan.specs.Drafts.{nothing, sent};
 ghost use Rattle.sn_flow.specs.Subscription.{suback as suback_of, refused, fixed_id as fixed, id_in_full as id_of_filter, id_asked as id_asked_for, subscribe_change as change_for, subscribed as subscribed_draft, subscribe_to as draft_to, subscribe_asked as draft_asked, subscribe as subscribe_draft, unsubscribe_change as end_of, unsubscribe_asked as end_asked, unsubscribe as unsubscribe_draft};
 
-use super::asking::{Asked, id_in, name_asked, qos_asked, topics_asked};
-use super::codes::{ACCEPTED, CONGESTION, NOT_SUPPORTED};
-use super::config::Addr;
-use super::draft::Draft;
 use super::registration::{NamedId, id_for};
 use octets::NoMemory;
 use sn_frame::{Flags, Frame, TopicIdType};
-use sn_session::{Session, SessionOp};
+use sn_local::Addr;
+use sn_plan::{
+    ACCEPTED, Asked, CONGESTION, Draft, NOT_SUPPORTED, id_in, name_asked, qos_asked, topics_asked,
+};
+use sn_session::{QosLevel, Session, SessionOp};
 use sn_topic::{Filter, Predefined, TopicName};
 use std::alloc::Global;
 
@@ -82,7 +82,7 @@ fn id_asked(
 }
 
 /// The change of the session, where the filter is new or had another quality of service.
-fn subscribe_change(filter: Filter, qos: u8, before: Option<u8>) -> Option<SessionOp>
+fn subscribe_change(filter: Filter, qos: QosLevel, before: Option<QosLevel>) -> Option<SessionOp>
     ensures { result ≡ change_for filter qos before }
 {
     match before {
@@ -99,7 +99,7 @@ fn subscribed(
     flags: Flags,
     msg_id: u16,
     filter: Filter,
-    qos: u8,
+    qos: QosLevel,
     named: Option<NamedId>,
 ) -> Result<Draft, NoMemory>
     ensures { IfOk result (λ draft. draft ≡ subscribed_draft to session.now flags.bits msg_id
@@ -127,7 +127,7 @@ fn subscribe_to(
     msg_id: u16,
     field: &[u8],
     filter: Filter,
-    qos: u8,
+    qos: QosLevel,
 ) -> Result<Draft, NoMemory>
     ensures { IfOk result (λ draft. draft ≡ draft_to to session.now flags.bits msg_id field.now
         filter qos) }
@@ -148,7 +148,7 @@ fn subscribe_asked(
     msg_id: u16,
     field: &[u8],
     asked: Asked,
-    qos: u8,
+    qos: QosLevel,
 ) -> Result<Draft, NoMemory>
     ensures { IfOk result (λ draft. draft ≡ draft_asked to session.now flags.bits msg_id
         field.now asked qos) }

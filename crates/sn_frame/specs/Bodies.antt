@@ -6,6 +6,7 @@ use Rattle.sn_frame.specs.declared.flags.TopicIdType.TheVariants as kinds
 use Rattle.sn_frame.specs.declared.frame.Frame.{Frame}
 use Rattle.sn_frame.specs.declared.frame.Frame.TheVariants as frames
 use Rattle.sn_frame.specs.declared.frame.Will.{Will}
+use Rattle.sn_frame.specs.declared.frame.TheConstants.{MAX_CLIENT_ID}
 use Rattle.sn_frame.specs.declared.msg_type.MsgType.{MsgType}
 use Rattle.sn_frame.specs.declared.msg_type.MsgType.TheVariants as types
 use Rattle.sn_frame.specs.FlagBits.{kind_of}
@@ -89,10 +90,10 @@ IsTopicField kinds.Reserved topic = Unit {0}
 
 -- its parts have sizes that the message allows
 abbrev pub IsMessage : Frame → Type 0
-IsMessage (frames.Connect flags protocol duration client) = (1 ≤ length client) × (length client ≤ 23)
+IsMessage (frames.Connect flags protocol duration client) = (1 ≤ length client) × (length client ≤ MAX_CLIENT_ID)
 IsMessage (frames.Subscribe flags msg_id topic) = IsTopicField (kind_of flags.bits) topic
 IsMessage (frames.Unsubscribe flags msg_id topic) = IsTopicField (kind_of flags.bits) topic
-IsMessage (frames.PingReq client) = length client ≤ 23
+IsMessage (frames.PingReq client) = length client ≤ MAX_CLIENT_ID
 IsMessage f = Unit {0}
 
 -- a number of two octets

@@ -2,6 +2,7 @@
 use Rattle.std.specs.Prelude.{◌≡◌, ℕ, ◌+◌, ◌≤◌, nat_le, if◌then◌else◌, ◌⊎◌, List, ◌∷◌, ◌++◌, length}
 use Rattle.byteorder.specs.Endian.{big_bytes}
 use Rattle.sn_frame.specs.declared.frame.Frame.{Frame}
+use Rattle.sn_frame.specs.declared.frame.TheConstants.{MAX_FRAME}
 use Rattle.sn_frame.specs.Bodies.{type_of, body_of, IsMessage}
 use Rattle.sn_frame.specs.Types.{octet_of}
 
@@ -16,7 +17,7 @@ long_form kind body = (1 ∷ big_bytes 2 (length body + 4)) ++ kind ∷ body
 -- The octets are a type's octet and a body, in one of the forms, and the total fits its place.
 abbrev pub IsFramed : List ℕ → ℕ → List ℕ → Type 0
 IsFramed bytes kind body =
-    ((length body + 2 ≤ 255) × (bytes ≡ short_form kind body)) ⊎ ((length body + 4 ≤ 65535) × (bytes ≡ long_form kind body))
+    ((length body + 2 ≤ 255) × (bytes ≡ short_form kind body)) ⊎ ((length body + 4 ≤ MAX_FRAME) × (bytes ≡ long_form kind body))
 
 -- The octets spell the frame.
 pub record Spells (bytes : List ℕ) (f : Frame) : Type 0 where

@@ -1,11 +1,12 @@
 //! From a frame to its octets (MQTT-SN 1.2 sections 5.2 and 5.4).
 
 ghost use Rattle.std.specs.Prelude.{◌≡◌, ◌<◌, ◌+◌, ◌^◌, length, ◌++◌, ◌↔◌, ◌⊎◌, OnOk, OnErr, Err};
+ghost use Rattle.sn_frame.specs.declared.frame.TheConstants.{MAX_FRAME};
 ghost use Rattle.sn_frame.specs.Bodies.{IsMessage};
 ghost use Rattle.sn_frame.specs.Grammar.{Spells, spelling, total_of};
 
 use crate::fault::EncodeFault;
-use crate::frame::Frame;
+use crate::frame::{Frame, MAX_FRAME};
 use crate::msg_type::MsgType;
 use std::alloc::{AllocError, Global};
 
@@ -19,7 +20,7 @@ use parts::octets_of;
 const SHORT_BODY: usize = 253;
 
 /// The most octets that a body behind a Length of three octets has.
-const LONG_BODY: usize = 65_531;
+const LONG_BODY: usize = MAX_FRAME - 4;
 
 /// Appends the canonical spelling of a frame: Length has one octet wherever the total fits 255.
 pub fn encode(alloc: Global, frame: &Frame, out: &mut Vec<u8>) -> Result<(), EncodeFault>
@@ -31,8 +32,8 @@ pub fn encode(alloc: Global, frame: &Frame, out: &mut Vec<u8>) -> Result<(), Enc
 
     // TooLong is said of frames that are too long and of no other, and of all of them unless memory runs out.
     ensures too_long { result ≡ Err EncodeFault.TooLong → IsMessage frame.now
-        × (65535 < total_of frame.now) }
-    ensures refused { IsMessage frame.now → 65535 < total_of frame.now
+        × (MAX_FRAME < total_of frame.now) }
+    ensures refused { IsMessage frame.now → MAX_FRAME < total_of frame.now
         → (result ≡ Err EncodeFault.TooLong) ⊎ (result ≡ Err EncodeFault.Memory) }
 
     ensures err { OnErr result (out.new.items ≡ out.old.items) }

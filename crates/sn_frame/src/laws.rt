@@ -2,6 +2,7 @@
 
 ghost use Rattle.std.specs.Prelude.{◌≡◌, ℕ, ◌≤◌, List};
 ghost use Rattle.sn_frame.specs.declared.frame.Frame.{Frame};
+ghost use Rattle.sn_frame.specs.declared.frame.TheConstants.{MAX_FRAME};
 ghost use Rattle.sn_frame.specs.declared.fault.FrameFault.{FrameFault};
 ghost use Rattle.sn_frame.specs.declared.fault.FrameFault.TheVariants as frame_faults;
 ghost use Rattle.sn_frame.specs.Bodies.{IsMessage, IsValue};
@@ -14,7 +15,7 @@ pub fn one_meaning()
     ensures one { (bytes : List ℕ) (f g : Frame) → IsValue f → IsValue g → Spells bytes f
         → Spells bytes g → f ≡ g }
     ensures canonical { (bytes : List ℕ) (f : Frame) → Spells bytes f → Spells (spelling f) f }
-    ensures spelled { (f : Frame) → IsMessage f → total_of f ≤ 65535 → Spells (spelling f) f }
+    ensures spelled { (f : Frame) → IsMessage f → total_of f ≤ MAX_FRAME → Spells (spelling f) f }
 {}
 
 /// A datagram is refused for one reason alone, and none but want of memory refuses a datagram that

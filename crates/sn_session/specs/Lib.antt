@@ -4,6 +4,7 @@ pub mod Topics
 pub mod Subscriptions
 pub mod Received
 pub mod Messages
+pub mod Levels
 pub mod Wills
 pub mod Session
 pub mod inner

@@ -7,6 +7,7 @@ use super::message::Message;
 use crate::fault::SessionFault;
 use crate::outbound::Outbound;
 use crate::presence::Presence;
+use crate::qos_level::QosLevel;
 use crate::session::Session;
 use crate::will::{WillTopic, set_message, set_topic};
 use octets::NoMemory;
@@ -32,7 +33,7 @@ pub enum SessionOp {
     /// The client asks for these topics, at this quality of service at most.
     Subscribe {
         filter: Filter,
-        qos: u8,
+        qos: QosLevel,
     },
     /// The client no longer asks for these topics.
     Unsubscribe {

@@ -9,7 +9,7 @@
 //! - `presence`: where the client is.
 //! - `topics`, `subscriptions`, `received`: the tables of a session. Each has at most 256 entries in strictly
 //!   ascending order, so that equal tables are equal lists; `table` is what they share.
-//! - `message`: what is published.
+//! - `message`: what is published; `qos_level`: how often it is to arrive.
 //! - `will`: the will and what is said of it.
 //! - `outbound`: the exchange by which a message is handed to the client.
 //! - `fault`: why an operation is refused.
@@ -20,6 +20,7 @@ mod fault;
 mod message;
 mod outbound;
 mod presence;
+mod qos_level;
 mod received;
 mod session;
 mod subscriptions;
@@ -32,6 +33,7 @@ pub use fault::SessionFault;
 pub use message::{MAX_MESSAGE, Message};
 pub use outbound::{Outbound, Phase};
 pub use presence::Presence;
+pub use qos_level::QosLevel;
 pub use received::Received;
 pub use session::Session;
 pub use subscriptions::{Subscription, Subscriptions};

@@ -9,6 +9,7 @@ ghost use Rattle.sn_session.specs.Received.{is_received};
 use crate::fault::SessionFault;
 use crate::outbound::Outbound;
 use crate::presence::Presence;
+use crate::qos_level::QosLevel;
 use crate::received::Received;
 use crate::subscriptions::Subscriptions;
 use crate::topics::{TopicEntry, Topics};
@@ -90,14 +91,14 @@ impl Session {
     }
 
     /// The quality of service of a filter that the client subscribed to.
-    pub fn subscription(&self, filter: &Filter) -> Option<u8>
+    pub fn subscription(&self, filter: &Filter) -> Option<QosLevel>
         ensures { result ≡ qos_of filter.now self.now.subscriptions }
     {
         self.subscriptions.qos_of(filter)
     }
 
     /// The greatest quality of service of the filters that ask for a topic; nothing where none does.
-    pub fn subscribed_qos(&self, name: &TopicName) -> Option<u8>
+    pub fn subscribed_qos(&self, name: &TopicName) -> Option<QosLevel>
         ensures value { result ≡ subscribed_qos name.now self.now.subscriptions }
         ensures greatest { IfSome result (IsGreatest (asked_qos name.now self.now.subscriptions)) }
     {

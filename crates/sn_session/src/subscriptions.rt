@@ -7,6 +7,7 @@ ghost use Rattle.sn_session.specs.inner.Tables.{IsPlace};
 ghost use Rattle.sn_session.specs.Subscriptions.{filter_cmp, subscription_cmp, with_subscription, without_filter, subscription_of, qos_of, filter_has_no_room, asked_qos, subscribed_qos, or_greater as greater_test, IsGreatest};
 
 use crate::fault::SessionFault;
+use crate::qos_level::QosLevel;
 use crate::table::{MAX_ENTRIES, insert_at};
 use octets::NoMemory;
 use sn_topic::{Filter, TopicName, matches};
@@ -19,8 +20,8 @@ use std::marker::Model;
 pub struct Subscription {
     /// Which topics.
     pub filter: Filter,
-    /// The greatest quality of service at which it wants them, 0 to 2.
-    pub qos: u8,
+    /// The greatest quality of service at which it wants them.
+    pub qos: QosLevel,
 }
 
 impl Subscription {
@@ -100,7 +101,7 @@ impl Subscriptions {
     }
 
     /// The quality of service of a filter. The time is logarithmic.
-    pub fn qos_of(&self, filter: &Filter) -> Option<u8>
+    pub fn qos_of(&self, filter: &Filter) -> Option<QosLevel>
         ensures { result ≡ qos_of filter.now self.now }
     {
         let entries = self.entries.as_slice();
@@ -118,7 +119,7 @@ impl Subscriptions {
     }
 
     /// The greatest quality of service of the filters that ask for a topic; nothing where none does.
-    pub fn subscribed_qos(&self, name: &TopicName) -> Option<u8>
+    pub fn subscribed_qos(&self, name: &TopicName) -> Option<QosLevel>
         ensures value { result ≡ subscribed_qos name.now self.now }
         ensures greatest { IfSome result (IsGreatest (asked_qos name.now self.now)) }
     {
@@ -133,7 +134,7 @@ impl Subscriptions {
 
     /// Sets the subscription of a filter. `Full` exactly where it would be the 257th; on an error the table is as it
     /// was. A filter that is there takes no memory.
-    pub fn set(&mut self, alloc: Global, filter: &Filter, qos: u8) -> Result<(), SessionFault>
+    pub fn set(&mut self, alloc: Global, filter: &Filter, qos: QosLevel) -> Result<(), SessionFault>
         ensures ok { OnOk result (self.new ≡ with_subscription
             (record { filter = filter.now; qos = qos }) self.old) }
         ensures err { OnErr result (self.new ≡ self.old) }
@@ -214,8 +215,8 @@ fn is_ascending(entries: &[Subscription]) -> bool
     true
 }
 
-/// The greater of a number so far, if there is one, and another.
-fn or_greater(so_far: Option<u8>, qos: u8) -> u8
+/// The greater of a level so far, if there is one, and another.
+fn or_greater(so_far: Option<QosLevel>, qos: QosLevel) -> QosLevel
     ensures { Some result ≡ greater_test so_far qos }
 {
     match so_far {

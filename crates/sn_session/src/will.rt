@@ -4,6 +4,7 @@ ghost use Rattle.std.specs.Prelude.{◌≡◌, IfOk, OnOk, OnErr};
 ghost use Rattle.sn_session.specs.Wills.{with_will_topic, with_will_message};
 
 use super::message::Message;
+use super::qos_level::QosLevel;
 use octets::NoMemory;
 use sn_topic::TopicName;
 use std::alloc::Global;
@@ -13,8 +14,8 @@ use std::alloc::Global;
 pub struct WillTopic {
     /// Where the will is published.
     pub topic: TopicName,
-    /// Its quality of service, 0 to 2.
-    pub qos: u8,
+    /// Its quality of service.
+    pub qos: QosLevel,
     /// Whether it is to be retained.
     pub retain: bool,
 }
@@ -24,8 +25,8 @@ pub struct WillTopic {
 pub struct Will {
     /// Where it is published.
     pub topic: TopicName,
-    /// Its quality of service, 0 to 2.
-    pub qos: u8,
+    /// Its quality of service.
+    pub qos: QosLevel,
     /// Whether it is to be retained.
     pub retain: bool,
     /// What is published.

@@ -1,6 +1,7 @@
 //! The threads of one shift.
 
 ghost use Rattle.std.specs.Prelude.{◌<◌, ◌≤◌};
+ghost use Rattle.gw_shift.specs.declared.shift.TheConstants.{MAX_STEPS};
 
 use crate::late::Inlet;
 use crate::stop::Stop;
@@ -10,7 +11,7 @@ use gw_main::options::Settings;
 use gw_node::Node;
 use gw_run::{End, MOST_ACCEPTED, Phase, Pool, Seat, Stage, sit, tick_all};
 use gw_serve::{Cause, serve};
-use gw_shift::{Closed, Pass, Shift};
+use gw_shift::{Closed, MAX_STEPS, Pass, Shift};
 use gw_wire::{Mouth, OpenGate, Wire};
 use jr_journal::Disk;
 use rep_model::Replica;
@@ -88,9 +89,9 @@ fn has_first<T: Clock>(rt: &T, inlet: &mut Inlet) -> bool {
 
 /// How many calls a shift has.
 fn steps_of(settings: &Settings) -> u64
-    ensures { (0 < result) × (result ≤ 4096) }
+    ensures { (0 < result) × (result ≤ MAX_STEPS) }
 {
-    u64::from(settings.steps).clamp(1, 4_096)
+    u64::from(settings.steps).clamp(1, MAX_STEPS)
 }
 
 /// So many passes serve, one ticks, and the others are for links.

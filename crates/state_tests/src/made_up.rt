@@ -2,7 +2,7 @@
 
 use octets::Octets;
 use rep_ops::{ClientId, Delta, Op, Put, Stamp};
-use sn_session::{Message, Presence, Session, SessionOp};
+use sn_session::{Message, Presence, QosLevel, Session, SessionOp};
 use sn_topic::TopicName;
 use std::alloc::Global;
 use std::test::Fail;
@@ -55,7 +55,7 @@ fn message(alloc: Global, client: ClientId, origin: u8, seq: u64) -> Result<Op, 
             origin,
             seq,
             topic: TopicName::new(alloc, b"t")?,
-            qos: 1,
+            qos: QosLevel::one(),
             body,
         },
     })

@@ -14,10 +14,10 @@ use Rattle.jr_journal.specs.declared.fault.JournalFault.TheVariants.{Foreign}
 use Rattle.jr_journal.specs.Records.{records}
 use Rattle.jr_journal.specs.declared.disk.Plan.{Plan as Failure}
 use Rattle.jr_journal.specs.Journals.{last_generation}
-use Rattle.sn_flow.specs.declared.config.Config.{Config}
-use Rattle.sn_flow.specs.Locals.{Local, after_all, owned, no_local}
-use Rattle.sn_flow.specs.declared.plan.Plan.{Plan}
-use Rattle.sn_flow.specs.Plans.{seen_of}
+use Rattle.sn_local.specs.declared.config.Config.{Config}
+use Rattle.sn_local.specs.Locals.{Local, after_all, owned, no_local}
+use Rattle.sn_plan.specs.declared.plan.Plan.{Plan}
+use Rattle.sn_local.specs.Seen.{seen_of}
 use Rattle.gw_node.specs.declared.out.Out.{Out}
 use Rattle.gw_node.specs.declared.refusal.Refusal.{Refusal}
 use Rattle.gw_node.specs.declared.refusal.Refusal.TheVariants as refusals

@@ -7,6 +7,7 @@ use super::field::{
     read_body, read_client, read_counted_eight, read_counted_octet, read_eight, read_octet,
     read_topic,
 };
+use super::part::level_of;
 use super::session::read_change;
 use crate::fault::OpsFault;
 use crate::op::{Op, Put, Stamp};
@@ -32,7 +33,7 @@ fn read_session_op(alloc: Global, bytes: &[u8]) -> Result<(Op, &[u8]), OpsFault>
 }
 
 /// The put behind its kind.
-#[tactic(auto, unfolding(crate::specs::Reading::put_op_at))]
+#[tactic(auto, unfolding(crate::specs::Reading::put_op_at, crate::specs::Reading::qos_at))]
 fn read_put(alloc: Global, bytes: &[u8]) -> Result<(Op, &[u8]), OpsFault>
     ensures { Gives (λ x. (x.0, x.1.now)) result (put_op_at bytes.now) }
 {
@@ -40,10 +41,8 @@ fn read_put(alloc: Global, bytes: &[u8]) -> Result<(Op, &[u8]), OpsFault>
     let (origin, rest) = read_counted_octet(rest)?;
     let (seq, rest) = read_counted_eight(rest)?;
     let (topic, rest) = read_topic(alloc, rest)?;
-    let (qos, rest) = read_octet(rest)?;
-    if qos > 2 {
-        return Err(OpsFault::Kind);
-    }
+    let (number, rest) = read_octet(rest)?;
+    let qos = level_of(number)?;
     let (body, rest) = read_body(alloc, rest)?;
     let put = Put {
         origin,

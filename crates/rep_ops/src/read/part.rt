@@ -1,14 +1,15 @@
 //! The parts of a session.
 
-ghost use Rattle.std.specs.Prelude.{◌≡◌};
-ghost use Rattle.rep_ops.specs.Reading.{Gives, flag_at, presence_at, phase_at, filter_at, qos_at, entry_at, subscription_at, will_topic_at, will_at, exchange_at, some_will_at, some_topic_at, some_exchange_at};
+ghost use Rattle.std.specs.Prelude.{◌≡◌, true, false, IfOk, IfErr};
+ghost use Rattle.sn_session.specs.Levels.{is_qos};
+ghost use Rattle.rep_ops.specs.Reading.{Gives, flag_at, presence_at, phase_at, filter_at, entry_at, subscription_at, will_topic_at, will_at, exchange_at, some_will_at, some_topic_at, some_exchange_at};
 
 use super::field::{
     read_body, read_counted_eight, read_counted_octet, read_octet, read_octets, read_topic,
     read_topic_id, read_two,
 };
 use crate::fault::OpsFault;
-use sn_session::{Outbound, Phase, Presence, Subscription, TopicEntry, Will, WillTopic};
+use sn_session::{Outbound, Phase, Presence, QosLevel, Subscription, TopicEntry, Will, WillTopic};
 use sn_topic::{Filter, MAX_TOPIC};
 use std::alloc::Global;
 
@@ -68,16 +69,15 @@ pub fn read_filter(alloc: Global, bytes: &[u8]) -> Result<(Filter, &[u8]), OpsFa
     Ok((Filter::new(alloc, name)?, rest))
 }
 
-/// A quality of service.
-#[tactic(auto, unfolding(crate::specs::Reading::qos_at))]
-fn read_qos(bytes: &[u8]) -> Result<(u8, &[u8]), OpsFault>
-    ensures { Gives (λ x. (x.0, x.1.now)) result (qos_at bytes.now) }
+/// The quality of service of this number.
+pub fn level_of(number: u8) -> Result<QosLevel, OpsFault>
+    ensures ok { IfOk result (λ qos. (qos ≡ number) × (is_qos number ≡ true)) }
+    ensures err { IfErr result (λ fault. (fault ≡ OpsFault.Kind) × (is_qos number ≡ false)) }
 {
-    let (qos, rest) = read_octet(bytes)?;
-    if qos > 2 {
-        return Err(OpsFault::Kind);
+    match QosLevel::new(number) {
+        Some(qos) => Ok(qos),
+        None => Err(OpsFault::Kind),
     }
-    Ok((qos, rest))
 }
 
 /// A topic id and its name.
@@ -92,21 +92,23 @@ pub fn read_entry(alloc: Global, bytes: &[u8]) -> Result<(TopicEntry, &[u8]), Op
 }
 
 /// A subscription.
-#[tactic(auto, unfolding(crate::specs::Reading::subscription_at))]
+#[tactic(auto, unfolding(crate::specs::Reading::subscription_at, crate::specs::Reading::qos_at))]
 pub fn read_subscription(alloc: Global, bytes: &[u8]) -> Result<(Subscription, &[u8]), OpsFault>
     ensures { Gives (λ x. (x.0, x.1.now)) result (subscription_at bytes.now) }
 {
     let (filter, rest) = read_filter(alloc, bytes)?;
-    let (qos, rest) = read_qos(rest)?;
+    let (number, rest) = read_octet(rest)?;
+    let qos = level_of(number)?;
     Ok((Subscription { filter, qos }, rest))
 }
 
 /// A will's topic.
-#[tactic(auto, unfolding(crate::specs::Reading::will_topic_at))]
+#[tactic(auto, unfolding(crate::specs::Reading::will_topic_at, crate::specs::Reading::qos_at))]
 fn read_will_topic(alloc: Global, bytes: &[u8]) -> Result<(WillTopic, &[u8]), OpsFault>
     ensures { Gives (λ x. (x.0, x.1.now)) result (will_topic_at bytes.now) }
 {
-    let (qos, rest) = read_qos(bytes)?;
+    let (number, rest) = read_octet(bytes)?;
+    let qos = level_of(number)?;
     let (retain, rest) = read_flag(rest)?;
     let (topic, rest) = read_topic(alloc, rest)?;
     let asked = WillTopic { topic, qos, retain };

@@ -8,6 +8,7 @@ use Rattle.sn_frame.specs.declared.flags.TopicIdType.TheVariants as kinds
 use Rattle.sn_frame.specs.declared.frame.Frame.{Frame}
 use Rattle.sn_frame.specs.declared.frame.Frame.TheVariants as frames
 use Rattle.sn_frame.specs.declared.frame.Will.{Will}
+use Rattle.sn_frame.specs.declared.frame.TheConstants.{MAX_CLIENT_ID}
 use Rattle.sn_frame.specs.declared.msg_type.MsgType.{MsgType}
 use Rattle.sn_frame.specs.declared.msg_type.MsgType.TheVariants as types
 use Rattle.sn_frame.specs.FlagBits.{kind_of}
@@ -74,7 +75,7 @@ read_gw_info body = None
 -- CONNECT: flags, protocol, duration, client of 1 to 23 octets
 abbrev pub read_connect : List ℕ → Option Frame
 read_connect (bits ∷ protocol ∷ high ∷ low ∷ client) =
-    if nat_le 1 (length client) && nat_le (length client) 23 then Some (frames.Connect (record { bits = bits }) protocol (number high low) client)
+    if nat_le 1 (length client) && nat_le (length client) MAX_CLIENT_ID then Some (frames.Connect (record { bits = bits }) protocol (number high low) client)
     else None
 read_connect body = None
 
@@ -95,7 +96,7 @@ read_sub_ack body = None
 
 -- PINGREQ: client of at most 23 octets
 abbrev pub read_ping_req : List ℕ → Option Frame
-read_ping_req body = if nat_le (length body) 23 then Some (frames.PingReq body) else None
+read_ping_req body = if nat_le (length body) MAX_CLIENT_ID then Some (frames.PingReq body) else None
 
 -- DISCONNECT: nothing, or duration
 abbrev pub read_disconnect : List ℕ → Option Frame

@@ -5,7 +5,7 @@ ghost use Rattle.sn_frame.specs.inner.Reading.{Gives, read_advertise, read_gw_in
 use crate::decoder::parts::number;
 use crate::fault::FrameFault;
 use crate::flags::Flags;
-use crate::frame::Frame;
+use crate::frame::{Frame, MAX_CLIENT_ID};
 use octets::Octets;
 use std::alloc::Global;
 
@@ -42,14 +42,13 @@ pub(super) fn connect(alloc: Global, body: &[u8]) -> Result<Frame, FrameFault>
     ensures { Gives (read_connect body.now) result }
 {
     match body {
-        [bits, protocol, high, low, client @ ..] if (1..=23).contains(&client.len()) => Ok(
-            Frame::Connect {
+        [bits, protocol, high, low, client @ ..] if (1..=MAX_CLIENT_ID).contains(&client.len()) =>
+            Ok(Frame::Connect {
                 flags: Flags { bits: *bits },
                 protocol: *protocol,
                 duration: number(*high, *low),
                 client: Octets::from_slice(alloc, client)?,
-            },
-        ),
+            }),
         _ => Err(FrameFault::Body),
     }
 }
@@ -102,7 +101,7 @@ pub(super) fn sub_ack(body: &[u8]) -> Result<Frame, FrameFault>
 pub(super) fn ping_req(alloc: Global, body: &[u8]) -> Result<Frame, FrameFault>
     ensures { Gives (read_ping_req body.now) result }
 {
-    if body.len() > 23 {
+    if body.len() > MAX_CLIENT_ID {
         return Err(FrameFault::Body);
     }
     Ok(Frame::PingReq {

@@ -8,7 +8,7 @@ use crate::encoder::parts::{
     ids_and_code, joined, number_body, octets_of, optional_duration, optional_will, subscription,
 };
 use crate::flags::Flags;
-use crate::frame::Frame;
+use crate::frame::{Frame, MAX_CLIENT_ID};
 use crate::msg_type::MsgType;
 use octets::Octets;
 use std::alloc::{AllocError, Global};
@@ -18,11 +18,11 @@ pub(super) fn is_message(frame: &Frame) -> bool
     ensures { IsTrue result ↔ IsMessage frame.now }
 {
     match frame {
-        Frame::Connect { client, .. } => (1..=23).contains(&client.len()),
+        Frame::Connect { client, .. } => (1..=MAX_CLIENT_ID).contains(&client.len()),
         Frame::Subscribe { flags, topic, .. } | Frame::Unsubscribe { flags, topic, .. } => {
             flags.kind().fits(topic.as_slice())
         }
-        Frame::PingReq { client } => client.len() <= 23,
+        Frame::PingReq { client } => client.len() <= MAX_CLIENT_ID,
         _ => true,
     }
 }

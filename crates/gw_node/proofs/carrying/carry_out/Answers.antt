@@ -3,7 +3,7 @@ use Rattle.std.proofs.lemmas.Result.{err_from_is_err_and}
 use Rattle.rep_ops.specs.declared.op.Op.{Op}
 use Rattle.rep_ops.specs.Making.{AreApart, IsDeltaOf}
 use Rattle.rep_model.specs.Keep.{IsKeptOf}
-use Rattle.sn_flow.specs.Locals.{after_all}
+use Rattle.sn_local.specs.Locals.{after_all}
 use Rattle.gw_node.specs.declared.out.Out.{Out}
 use Rattle.gw_node.specs.Parts.{state_of, only_sends}
 use Rattle.gw_node.specs.inner.Writing.{WrittenIfMade, refusal_of}

@@ -1,6 +1,6 @@
 -- What it holds where it was opened on an empty disk.
 use Rattle.std.proofs.Common.{Some, sym, ap, ◌∙◌}
-use Rattle.sn_flow.specs.declared.config.Config.{Config}
+use Rattle.sn_local.specs.declared.config.Config.{Config}
 use Rattle.jr_journal.specs.Disk.{image}
 use Rattle.jr_journal.specs.Memory.{MemoryState}
 use Rattle.gw_node.specs.Parts.{state_of, told}
