@@ -2,6 +2,7 @@
 """What single steps of a gateway cost: ratios, each measured in one run of this program, with the goal beside it.
 
 Usage: bench/steps.py PROGRAM [--clients N] [--waiting N] [--past N] [--sleepers N] [--records N] [--seconds S] [--only WORD]
+                      [--instructions]
        (gw_sim; 1024, 1024, 20000, 1000, 20000 and 0.3 where nothing is said; WORD is one of idle, waits, past, tick, spread, opening)
 
 A script that builds up is played without and with the events that are measured, in turn, five times; the best times count, and what
@@ -9,8 +10,12 @@ building up takes is taken off. As many events are played as take S seconds, and
 that they depend on: else a figure would be a small part of the difference of two long runs. Processor time is counted, and not the
 time that passes. A figure has the reading of its line and the printing of its answer in it: what these
 take is about what a SEARCHGW takes, which is told first.
+
+With --instructions each script is played once under valgrind, and instructions are counted in the place of time: they are the same
+each time, whatever else the machine does, but say nothing of memory that is far away. It takes some minutes.
 """
 import argparse
+import re
 import resource
 import subprocess
 import sys
@@ -78,17 +83,32 @@ def text(*parts: list) -> str:
     return "\n".join(["gateway 1"] + [line for part in parts for line in part]) + "\n"
 
 
-def run(program: str, script: str) -> tuple:
-    """The processor time of one run, and the last line that was printed."""
-    before = resource.getrusage(resource.RUSAGE_CHILDREN)
+def played(words: list, script: str) -> subprocess.CompletedProcess:
     with tempfile.TemporaryFile("w+") as lines:
         lines.write(script)
         lines.seek(0)
-        done = subprocess.run([program], stdin=lines, stdout=subprocess.PIPE, text=True, check=True)
-    after = resource.getrusage(resource.RUSAGE_CHILDREN)
+        done = subprocess.run(words, stdin=lines, capture_output=True, text=True, check=True)
     assert "refused" not in done.stdout, done.stdout[:200]
-    used = after.ru_utime + after.ru_stime - before.ru_utime - before.ru_stime
-    return used, done.stdout.rstrip("\n").rsplit("\n", 1)[-1]
+    return done
+
+
+def last_of(done: subprocess.CompletedProcess) -> str:
+    return done.stdout.rstrip("\n").rsplit("\n", 1)[-1]
+
+
+def seconds(program: str, script: str) -> tuple:
+    """The processor time of one run, and the last line that was printed."""
+    before = resource.getrusage(resource.RUSAGE_CHILDREN)
+    done = played([program], script)
+    after = resource.getrusage(resource.RUSAGE_CHILDREN)
+    return after.ru_utime + after.ru_stime - before.ru_utime - before.ru_stime, last_of(done)
+
+
+def instructions(program: str, script: str) -> tuple:
+    """The instructions of one run, and the last line that was printed."""
+    done = played(["valgrind", "--tool=cachegrind", "--cache-sim=no", "--cachegrind-out-file=/dev/null", program], script)
+    count = re.search(r"I +refs: +([\d,]+)", done.stderr)
+    return int(count.group(1).replace(",", "")), last_of(done)
 
 
 class Case:
@@ -97,8 +117,8 @@ class Case:
     def __init__(self, setup: list, events: list, last: str) -> None:
         self.setup, self.events, self.last = setup, events, last
 
-    def times(self, program: str) -> tuple:
-        """Seconds without the events and with them."""
+    def uses(self, run, program: str) -> tuple:
+        """What a run takes without the events and with them."""
         without, _ = run(program, text(self.setup))
         used, last = run(program, text(self.setup, self.events))
         assert last.startswith(self.last), f"{self.events[-1]}: {last} and not {self.last}"
@@ -106,12 +126,16 @@ class Case:
 
 
 class Bench:
+    """By time. A figure is microseconds of an event."""
+
+    unit, places, times = "us", 2, 5
+
     def __init__(self, program: str, least: float) -> None:
         self.program, self.least = program, least
 
-    def fixed(self, cases: list, times: int = 5) -> list:
-        """Microseconds of an event of each case: the best of so many runs, in turn."""
-        rounds = [[case.times(self.program) for case in cases] for _ in range(times)]
+    def fixed(self, cases: list, times: int = 0) -> list:
+        """The figure of an event of each case: the best of so many runs, in turn."""
+        rounds = [[case.uses(seconds, self.program) for case in cases] for _ in range(times or self.times)]
         best = [[min(each) for each in zip(*times)] for times in zip(*rounds)]
         return [1e6 * (used - without) / len(case.events) for (without, used), case in zip(best, cases)]
 
@@ -120,7 +144,7 @@ class Bench:
         count = 1
         while True:
             case = Case(setup, [event] * count, last)
-            without, used = case.times(self.program)
+            without, used = case.uses(seconds, self.program)
             took, least = used - without, max(self.least, without)
             if took >= least or count >= MOST:
                 return case
@@ -132,24 +156,43 @@ class Bench:
         return self.fixed([self.many(setup, event, last) for setup in setups])
 
 
+class Counted(Bench):
+    """By instructions. A figure is instructions of an event."""
+
+    unit, places = "instructions", 0
+
+    def fixed(self, cases: list, times: int = 0) -> list:
+        both = [case.uses(instructions, self.program) for case in cases]
+        return [(used - without) / len(case.events) for (without, used), case in zip(both, cases)]
+
+    def many(self, setup: list, event: str, last: str) -> Case:
+        return Case(setup, [event] * (2 if event.startswith("restart") else max(200, len(setup))), last)
+
+
 LOST = "lost in what else the machine does"
 
 
-def rate(what: str, micros: float, count: int, unit: str) -> None:
-    """How many a second, where there is no goal."""
-    took = f"{micros / 1000:.2f} ms, {count / micros * 1e6:,.0f} {unit} per second (no goal)" if micros > 0 else LOST
-    print(f"  {what}: {took}", flush=True)
+def rate(bench: Bench, what: str, figure: float, count: int, unit: str) -> None:
+    """What one of so many takes, where there is no goal; by time also how many a second."""
+    if figure <= 0:
+        print(f"  {what}: {LOST}", flush=True)
+    elif bench.unit == "us":
+        print(f"  {what}: {figure / 1000:.2f} ms, {count / figure * 1e6:,.0f} {unit} per second (no goal)", flush=True)
+    else:
+        print(f"  {what}: {figure / count:,.0f} {bench.unit} for each of the {unit} (no goal)", flush=True)
 
 
-def told(what: str, few: str, many: str, micros: list, goal: float, free: float = 0.0) -> None:
+def told(bench: Bench, what: str, few: str, many: str, figures: list, goal: float, free: float = 0.0) -> None:
     """A ratio and its goal; what takes fewer microseconds than `free` meets it, too."""
-    words = f"  {what}: {few} {micros[0]:.2f} us, {many} {micros[1]:.2f} us"
+    free = free if bench.unit == "us" else 0
+    one, other = (f"{figure:,.{bench.places}f} {bench.unit}" for figure in figures)
+    words = f"  {what}: {few} {one}, {many} {other}"
     wanted = f"goal {goal}" + (f" or under {free:g} us" if free else "")
-    if min(micros) <= 0:
+    if min(figures) <= 0:
         print(f"{words}, {wanted}: {LOST}", flush=True)
         return
-    ratio = micros[1] / micros[0]
-    print(f"{words}, ratio {ratio:.2f}, {wanted}: {'met' if ratio <= goal or micros[1] < free else 'MISSED'}", flush=True)
+    ratio = figures[1] / figures[0]
+    print(f"{words}, ratio {ratio:.2f}, {wanted}: {'met' if ratio <= goal or figures[1] < free else 'MISSED'}", flush=True)
 
 
 def sleepers(count: int) -> list:
@@ -182,27 +225,27 @@ def accepted(port: int) -> str:
 def bench_idle(bench: Bench, asked: argparse.Namespace) -> None:
     few, many = "at 10 clients", f"at {asked.clients:,}"
     both = [idle(10), idle(asked.clients)]
-    told("PINGREQ", few, many, bench.repeated(both, at(FIRST, 1, PING), ponged(FIRST)), 1.5)
-    told("PUBLISH at 1 that nobody subscribes to", few, many, bench.repeated(both, publish(FIRST, NOBODY, 1, 0), accepted(FIRST)), 1.5)
+    told(bench, "PINGREQ", few, many, bench.repeated(both, at(FIRST, 1, PING), ponged(FIRST)), 1.5)
+    told(bench, "PUBLISH at 1 that nobody subscribes to", few, many, bench.repeated(both, publish(FIRST, NOBODY, 1, 0), accepted(FIRST)), 1.5)
     cases = [Case(others(sleepers(9), 10, clients), to_each(9, 100), "delta ") for clients in (10, asked.clients)]
-    told("PUBLISH at 1 to one sleeper", few, many, bench.fixed(cases), 1.5)
+    told(bench, "PUBLISH at 1 to one sleeper", few, many, bench.fixed(cases), 1.5)
 
 
 def bench_waits(bench: Bench, asked: argparse.Namespace) -> None:
     few, many = "with none waiting", f"with {asked.waiting:,}"
     one = sleepers(1)
     both = [one, one + to_each(1, asked.waiting)]
-    told("PINGREQ of another client", few, many, bench.repeated(both, at(PUBLISHER, 2, PING), ponged(PUBLISHER)), 2)
+    told(bench, "PINGREQ of another client", few, many, bench.repeated(both, at(PUBLISHER, 2, PING), ponged(PUBLISHER)), 2)
     nobody = publish(PUBLISHER, NOBODY, 1, 0)
-    told("PUBLISH of another client that nobody subscribes to", few, many, bench.repeated(both, nobody, accepted(PUBLISHER)), 2)
+    told(bench, "PUBLISH of another client that nobody subscribes to", few, many, bench.repeated(both, nobody, accepted(PUBLISHER)), 2)
     changes = [subscribe(FIRST, NOBODY, number % 2) for number in range(400)]
-    told("SUBSCRIBE of the client itself", few, many, bench.fixed([Case(setup, changes, "delta ") for setup in both]), 2)
+    told(bench, "SUBSCRIBE of the client itself", few, many, bench.fixed([Case(setup, changes, "delta ") for setup in both]), 2)
     forty, more = sleepers(40), 100
     behind = [forty, forty + to_each(40, max(asked.waiting - more, 0))]
-    told("PUBLISH to the client, up to that many", few, many, bench.fixed([Case(setup, to_each(40, more), "delta ") for setup in behind], 7), 2)
+    told(bench, "PUBLISH to the client, up to that many", few, many, bench.fixed([Case(setup, to_each(40, more), "delta ") for setup in behind], 7), 2)
     acks = [puback(FIRST, topic_of(0), message) for message in range(more)]
     cases = [Case(awake(count), acks, "delta ") for count in (more + 1, asked.waiting)]
-    told("PUBACK, and the next message is sent", f"up to {more + 1}", many, bench.fixed(cases), 2)
+    told(bench, "PUBACK, and the next message is sent", f"up to {more + 1}", many, bench.fixed(cases), 2)
 
 
 def awake(waiting: int) -> list:
@@ -224,28 +267,28 @@ def bench_past(bench: Bench, asked: argparse.Namespace) -> None:
     few, many = "behind none", f"behind {asked.past:,}"
     begun = [connect(0, FIRST), subscribe(FIRST, b"ab", 1)]
     both = [begun, begun + handed_over(0, asked.past) + [puback(FIRST, b"ab", asked.past - 1)]]
-    told("PINGREQ", few, many, bench.repeated(both, at(FIRST, 1, PING), ponged(FIRST)), 1.1)
-    told("PUBLISH at 1 that nobody subscribes to", few, many, bench.repeated(both, publish(FIRST, NOBODY, 1, 0), accepted(FIRST)), 1.1)
+    told(bench, "PINGREQ", few, many, bench.repeated(both, at(FIRST, 1, PING), ponged(FIRST)), 1.1)
+    told(bench, "PUBLISH at 1 that nobody subscribes to", few, many, bench.repeated(both, publish(FIRST, NOBODY, 1, 0), accepted(FIRST)), 1.1)
     count = max(asked.past // 4, 1)
     cases = [Case(begun + handed_over(0, first), handed_over(first, count), "delta ") for first in (2, asked.past)]
-    told("PUBLISH at 1 to oneself, and PUBACK", few, many, bench.fixed(cases), 1.1)
+    told(bench, "PUBLISH at 1 to oneself, and PUBACK", few, many, bench.fixed(cases), 1.1)
 
 
 def bench_tick(bench: Bench, asked: argparse.Namespace) -> None:
     both = [idle(10), idle(asked.clients)]
-    told("a tick with nothing due", "at 10 clients", f"at {asked.clients:,}", bench.repeated(both, "tick 1 1", "quiet"), 1.5, 1.0)
+    told(bench, "a tick with nothing due", "at 10 clients", f"at {asked.clients:,}", bench.repeated(both, "tick 1 1", "quiet"), 1.5, 1.0)
 
 
 def bench_spread(bench: Bench, asked: argparse.Namespace) -> None:
     count = asked.sleepers
     setup = [line for client in range(count) for line in sleeper(client, b"ab")] + publisher(count)
-    micros = bench.fixed([Case(setup, [publish(PUBLISHER, b"ab", 1, message) for message in range(16)], "delta ")])[0]
-    rate(f"a PUBLISH at 1 to {count:,} sleepers", micros, count, "messages")
+    figure = bench.fixed([Case(setup, [publish(PUBLISHER, b"ab", 1, message) for message in range(16)], "delta ")])[0]
+    rate(bench, f"a PUBLISH at 1 to {count:,} sleepers", figure, count, "messages")
 
 
 def opened(bench: Bench, what: str, setup: list) -> None:
-    micros = bench.repeated([setup], "restart 1 all", f"records {len(setup)}")[0]
-    rate(f"a journal of {len(setup):,} records, {what}", micros, len(setup), "records")
+    figure = bench.repeated([setup], "restart 1 all", f"records {len(setup)}")[0]
+    rate(bench, f"a journal of {len(setup):,} records, {what}", figure, len(setup), "records")
 
 
 def bench_opening(bench: Bench, asked: argparse.Namespace) -> None:
@@ -274,10 +317,11 @@ def main() -> int:
         words.add_argument(name, type=int, default=number)
     words.add_argument("--seconds", type=float, default=0.3)
     words.add_argument("--only", choices=[word for word, _, _ in PARTS])
+    words.add_argument("--instructions", action="store_true")
     asked = words.parse_args()
-    bench = Bench(asked.program, asked.seconds)
-    micros = bench.repeated([idle(10)], at(FIRST, 1, SEARCH), f"to {FIRST} 030201")[0]
-    print(f"single steps of a gateway; a SEARCHGW takes {micros:.2f} us with its line and its answer", flush=True)
+    bench = (Counted if asked.instructions else Bench)(asked.program, asked.seconds)
+    figure = bench.repeated([idle(10)], at(FIRST, 1, SEARCH), f"to {FIRST} 030201")[0]
+    print(f"single steps of a gateway; a SEARCHGW takes {figure:,.{bench.places}f} {bench.unit} with its line and its answer", flush=True)
     for word, what, part in PARTS:
         if asked.only in (None, word):
             print(what, flush=True)

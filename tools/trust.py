@@ -55,8 +55,8 @@ PARTS = [
      "always answer that memory ran out.",
      ["sn_deliver::step", "sn_deliver::tick", "sn_flow::connect", "sn_flow::disconnect", "sn_flow::will_topic", "sn_flow::will_msg",
       "sn_flow::will_topic_update", "sn_flow::will_msg_update", "sn_flow::register", "sn_flow::subscribe", "sn_flow::unsubscribe",
-      "sn_flow::other", "plan_laws::every_plan", "plan_laws::bound_up"],
-     ["sn_deliver/Steps/step", "sn_deliver/Ticking/tick", "sn_flow/Locals/after_all", "sn_flow/Locals/owned"]),
+      "sn_plan::other", "plan_laws::every_plan", "plan_laws::bound_up"],
+     ["sn_deliver/Steps/step", "sn_deliver/Ticking/tick", "sn_local/Locals/after_all", "sn_local/Locals/owned"]),
     ("The disk",
      "What a gateway makes or takes is written and synced before it is answered. After every crash its journal gives what counts as "
      "all that was answered for, or that and the one record that was being written; amid a compaction, the old records or all that "
@@ -70,8 +70,8 @@ PARTS = [
       "gw_node::Node::open", "gw_node::opening_laws", "gw_node::Node::frame", "gw_node::Node::take", "gw_node::Node::tick",
       "gw_node::Node::compact", "gw_node::Node::reopen", "field_laws::stored"],
      ["jr_journal/journal/Journal", "jr_journal/memory/MemoryDisk", "jr_journal/memory/impl Model for MemoryDisk",
-      "jr_journal/fault/JournalFault", "gw_world/Calm/IsCalm", "gw_world/Drives/opened", "gw_world/Drives/new_drive",
-      "gw_world/Drives/with_record", "gw_world/Drives/compacted", "gw_world/Drives/left_by", "gw_world/Steps/records_left",
+      "jr_journal/fault/JournalFault", "gw_node/Standing/Stands", "gw_node/Standing/Lasts", "gw_node/Drives/opened", "gw_node/Drives/new_drive",
+      "gw_node/Drives/with_record", "gw_node/Drives/compacted", "gw_node/Drives/left_by", "gw_world/Steps/records_left",
       "gw_node/Taking/StandsFor", "rep_model/Roomy/IsRoomy"]),
     ("The bytes",
      "Frames, deltas, digests and the messages of a link have one spelling each that is written, and no octets are read as two "

@@ -5,10 +5,10 @@ use Rattle.std.proofs.lemmas.Option.{none-some, same_Some}
 use Rattle.rep_ops.specs.declared.op.Op.{Op}
 use Rattle.rep_ops.specs.Sets.{Same}
 use Rattle.rep_model.proofs.Joins.{same_refl}
-use Rattle.sn_flow.specs.declared.config.Config.{Config}
-use Rattle.sn_flow.specs.declared.plan.Plan.{Plan}
-use Rattle.sn_flow.specs.Flush.{AreFlush}
-use Rattle.sn_flow.specs.Locals.{after_all}
+use Rattle.sn_local.specs.declared.config.Config.{Config}
+use Rattle.sn_plan.specs.declared.plan.Plan.{Plan}
+use Rattle.sn_plan.specs.Flush.{AreFlush}
+use Rattle.sn_local.specs.Locals.{after_all}
 use Rattle.plan_laws.specs.BoundUp.{IsUp}
 use Rattle.plan_laws.proofs.BoundBehind.{step-up, tick-up, taken-up}
 use Rattle.gw_node.specs.declared.out.Out.{Out}
@@ -20,10 +20,11 @@ use Rattle.gw_world.specs.declared.event.Event.{Event}
 use Rattle.gw_world.specs.declared.event.Event.TheVariants.{Frame, Tick, Take, Answer as Asks, WriteFails, Compact, Restart, Show}
 use Rattle.gw_world.specs.declared.event.Answer.{Answer}
 use Rattle.gw_world.specs.declared.event.Answer.TheVariants.{Node, Views, Records, Nothing}
-use Rattle.gw_world.specs.Gateways.{Gateway, new_gateway}
+use Rattle.gw_node.specs.Gateways.{Gateway, new_gateway}
 use Rattle.gw_world.specs.Field.{Field, new_field, IsAt, failing, After, Run}
 use Rattle.gw_world.specs.Steady.{IsKnown}
-use Rattle.gw_world.specs.Steps.{IsUnchanged, IsTorn, IsMade, IsPlan, OwnStep, TakeStep, CompactStep, restarted}
+use Rattle.gw_world.specs.Steps.{restarted}
+use Rattle.gw_node.specs.Event.{NothingHappens, IsTorn, IsMade, IsPlan, OwnStep, TakeStep, CompactStep}
 use Rattle.gw_world.proofs.Consistency.{FlushField, WholeField, steady-is, after-sound, start-whole}
 use Rattle.gw_world.proofs.Failures.{DueField, after-due, start-due}
 use Rattle.gw_world.proofs.Each.{all-at}
@@ -63,7 +64,7 @@ module _ (field : Field) (s : FlushField field) (w : WholeField field) (all : Ar
   up-here : IsUp n old.taken old.local
   up-here = subst (λ k. IsUp k old.taken old.local) own-number (all i old at.1)
 
-  same-up : (next : Gateway) (made : List (List Op)) → IsUnchanged old next made → GatewayUp next
+  same-up : (next : Gateway) (made : List (List Op)) → NothingHappens old next made → GatewayUp next
   same-up next made u = subst GatewayUp (sym u.same) (all i old at.1)
 
   made-up : (occasion : Occasion) (now : ℕ) (plan : Plan) → IsPlan old occasion now (Some plan) → (ops : List Op) → plan.ops ≡ ops

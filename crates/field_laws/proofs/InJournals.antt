@@ -12,7 +12,7 @@ use Rattle.rep_model.proofs.Readers.{operation_at_both, put_at_both, is_acknowle
 use Rattle.rep_model.proofs.Thin.{same_kept, thin-same}
 use Rattle.jr_journal.specs.Disk.{Image}
 use Rattle.jr_journal.specs.Records.{records}
-use Rattle.sn_flow.specs.declared.config.Config.{Config}
+use Rattle.sn_local.specs.declared.config.Config.{Config}
 use Rattle.gw_node.specs.declared.out.Out.{Out}
 use Rattle.gw_node.specs.declared.refusal.Refusal.{Refusal}
 use Rattle.gw_node.specs.Occasions.{Occasion, Datagram, Clock}
@@ -24,10 +24,10 @@ use Rattle.gw_world.specs.declared.event.Event.{Event}
 use Rattle.gw_world.specs.declared.event.Event.TheVariants.{Frame, Tick, Take, Answer as Asks, WriteFails, Compact, Restart, Show}
 use Rattle.gw_world.specs.declared.event.Answer.{Answer}
 use Rattle.gw_world.specs.declared.event.Answer.TheVariants.{Node, Views, Records, Nothing}
-use Rattle.gw_world.specs.Gateways.{Gateway, with_refused}
+use Rattle.gw_node.specs.Gateways.{Gateway, with_refused}
 use Rattle.gw_world.specs.Field.{Field, new_field, IsAt, changed, After, Run, gateway_of}
 use Rattle.gw_world.specs.Events.{made_of}
-use Rattle.gw_world.specs.Steps.{OwnStep}
+use Rattle.gw_node.specs.Event.{OwnStep}
 use Rattle.gw_world.specs.Whole.{everything, made_by, MayMake}
 use Rattle.gw_world.proofs.Catching.{Later, run-later, later-now}
 use Rattle.gw_world.proofs.Consistency.{WholeField, after-sound, field-sound, run-sound}

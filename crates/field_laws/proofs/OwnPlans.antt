@@ -8,9 +8,9 @@ use Rattle.rep_ops.specs.declared.fault.OpsFault.TheVariants as ops_faults
 use Rattle.rep_ops.specs.Deltas.{IsDelta}
 use Rattle.rep_ops.specs.Making.{AreApart, AreWellMade, IsRefusal}
 use Rattle.rep_ops.specs.WellMade.{is_well_made}
-use Rattle.sn_flow.specs.declared.config.Config.{Config}
-use Rattle.sn_flow.specs.declared.plan.Plan.{Plan}
-use Rattle.sn_flow.specs.Flush.{AreFlush}
+use Rattle.sn_local.specs.declared.config.Config.{Config}
+use Rattle.sn_plan.specs.declared.plan.Plan.{Plan}
+use Rattle.sn_plan.specs.Flush.{AreFlush}
 use Rattle.sn_flow.proofs.Lists.{all-append}
 use Rattle.plan_laws.specs.KeepsWell.{AreAsked, KeepsWell}
 use Rattle.plan_laws.proofs.Steps.{Makes, step-makes, tick-makes, after-asked}
@@ -23,9 +23,11 @@ use Rattle.gw_world.specs.declared.event.Event.{Event}
 use Rattle.gw_world.specs.declared.event.Event.TheVariants.{Frame, Tick, Take, Answer as Asks, WriteFails, Compact, Restart, Show}
 use Rattle.gw_world.specs.declared.event.Answer.{Answer}
 use Rattle.gw_world.specs.declared.event.Answer.TheVariants.{Node, Views, Records, Nothing}
-use Rattle.gw_world.specs.Gateways.{Gateway, new_gateway, with_refused}
+use Rattle.gw_node.specs.Gateways.{Gateway, new_gateway, with_refused}
 use Rattle.gw_world.specs.Field.{Field, new_field, IsAt, failing, After, Run}
-use Rattle.gw_world.specs.Steps.{IsUnchanged, IsTorn, IsMade, IsPlan, IsTooMuch, OwnStep, TakeStep, CompactStep, has_refused, restarted}
+use Rattle.gw_node.specs.Drives.{left_by, has_more}
+use Rattle.gw_world.specs.Steps.{restarted}
+use Rattle.gw_node.specs.Event.{NothingHappens, IsTorn, IsMade, IsPlan, IsTooMuch, OwnStep, TakeStep, CompactStep}
 use Rattle.gw_world.proofs.Consistency.{FlushField, WholeField, after-sound, start-whole}
 use Rattle.gw_world.proofs.Failures.{DueAs, DueField, after-due, start-due}
 use Rattle.gw_world.proofs.Each.{all-at}
@@ -80,7 +82,7 @@ module _ (field : Field) (s : FlushField field) (all : AreWell field.gateways) (
   makes-here : (occasion : Occasion) (now : ℕ) (plan : Plan) → IsPlan old occasion now (Some plan) → Makes plan
   makes-here occasion now plan h = plan-makes old keeps-own occasion now plan h
 
-  same-well : (next : Gateway) (made : List (List Op)) → IsUnchanged old next made → Well next
+  same-well : (next : Gateway) (made : List (List Op)) → NothingHappens old next made → Well next
   same-well next made u = subst Well (sym u.same) (all i old at.1)
 
   made-well : (plan : Plan) → Makes plan → (ops : List Op) (delta : Option (List Op)) (next : Gateway) (made : List (List Op)) → IsMade ops old plan delta next made → Well next
@@ -156,7 +158,7 @@ back-made false S refused h k = h
 restart-well : (kept : ℕ) (old : Gateway) (deltas : List (List Op)) → AllByRecursion IsDelta deltas → DueAs deltas old → Well old → Well (restarted kept old)
 restart-well kept old deltas proper due w = record {
   numbered = w.numbered;
-  made = back-made (has_refused kept old) old.taken old.refused w.made (refused-made deltas old proper due);
+  made = back-made (has_more old.config.gateway old.drive (left_by kept old.drive)) old.taken old.refused w.made (refused-made deltas old proper due);
   asked = tt;
 }
 

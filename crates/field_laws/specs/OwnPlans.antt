@@ -4,8 +4,8 @@ use Rattle.std.specs.List.{AllByRecursion}
 use Rattle.rep_ops.specs.declared.op.Op.{Op}
 use Rattle.rep_ops.specs.Making.{IsDeltaOf}
 use Rattle.rep_ops.specs.Spelling.{spelling, max_octets}
-use Rattle.sn_flow.specs.declared.config.Config.{Config}
-use Rattle.sn_flow.specs.declared.plan.Plan.{Plan}
+use Rattle.sn_local.specs.declared.config.Config.{Config}
+use Rattle.sn_plan.specs.declared.plan.Plan.{Plan}
 
 -- gateways have numbers from 1 on
 abbrev pub AreNumbered : List Config → Type 0

@@ -1,7 +1,7 @@
 -- The first bad key.
 use Rattle.std.proofs.Common.{◌≡◌, ℕ, List, Option, Some, None, sym, subst, ap}
 use Rattle.toml.specs.Data.{Members}
-use Rattle.sn_flow.specs.declared.config.Addr.{Addr}
+use Rattle.sn_local.specs.declared.config.Addr.{Addr}
 use Rattle.sn_topic.specs.Table.{Entries}
 use Rattle.gw_main.specs.declared.fault.Key.{Key}
 use Rattle.gw_main.specs.declared.fault.Key.TheVariants as keys

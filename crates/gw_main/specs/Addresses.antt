@@ -1,6 +1,6 @@
 -- Addresses as `a.b.c.d:port`.
 use Rattle.std.specs.Prelude.{ℕ, ◌+◌, ◌*◌, ◌==◌, List, take, drop, position, Option, Some, None, option_and_then, option_map}
-use Rattle.sn_flow.specs.declared.config.Addr.{Addr}
+use Rattle.sn_local.specs.declared.config.Addr.{Addr}
 use Rattle.gw_main.specs.Numbers.{number_of}
 
 -- what stands before the first place of an octet, and what stands behind it

@@ -1,6 +1,6 @@
 -- What a gateway is told by its settings, and the number by which a refused opening is told.
 use Rattle.std.specs.Prelude.{ℕ}
-use Rattle.sn_flow.specs.declared.config.Config.{Config}
+use Rattle.sn_local.specs.declared.config.Config.{Config}
 use Rattle.jr_journal.specs.declared.fault.JournalFault.{JournalFault}
 use Rattle.jr_journal.specs.declared.fault.JournalFault.TheVariants as journal
 use Rattle.gw_node.specs.declared.refusal.Refusal.{Refusal}

@@ -1,6 +1,6 @@
 -- What a document says of each key, and which key is the first that it says nothing good of.
 use Rattle.std.specs.Prelude.{◌≡◌, ℕ, ℤ, pos, negsuc, ◌&&◌, nat_le, List, [], ◌∷◌, Option, Some, None, option_and_then, option_map, if◌then◌else◌, codes, string_bytes}
-use Rattle.sn_flow.specs.declared.config.Addr.{Addr}
+use Rattle.sn_local.specs.declared.config.Addr.{Addr}
 use Rattle.sn_topic.specs.Topics.{is_name}
 use Rattle.sn_topic.specs.Table.{Entries, is_table}
 use Rattle.toml.specs.Data.{Data, Items, no_items, item, Members, get_member, as_str, as_integer, as_array, as_table}

@@ -9,8 +9,8 @@ use Rattle.rep_model.specs.Taking.{Fits}
 use Rattle.sn_frame.specs.declared.frame.Frame.{Frame}
 use Rattle.sn_frame.specs.Bodies.{IsValue}
 use Rattle.sn_frame.specs.Grammar.{Spells}
-use Rattle.sn_flow.specs.declared.config.Addr.{Addr}
-use Rattle.sn_flow.specs.declared.plan.Plan.{Plan}
+use Rattle.sn_local.specs.declared.config.Addr.{Addr}
+use Rattle.sn_plan.specs.declared.plan.Plan.{Plan}
 use Rattle.jr_journal.specs.declared.disk.Disk.{Ghosts}
 use Rattle.jr_journal.specs.declared.fault.JournalFault.{JournalFault}
 use Rattle.jr_journal.specs.declared.fault.JournalFault.TheVariants as faults
@@ -23,7 +23,7 @@ use Rattle.gw_node.specs.Parts.{State, is_halted, IsUnchanged, only_sends}
 use Rattle.gw_node.specs.Writing.{IsWritten}
 use Rattle.gw_node.specs.inner.Writing.{WrittenAs, WrittenIfAny, refusal_of}
 use Rattle.gw_node.specs.Excuses.{excuses}
-use Rattle.gw_node.specs.Plans.{IsMisfit, Makes}
+use Rattle.gw_node.specs.Plans.{IsMisfit, IsWritable, Makes}
 use Rattle.gw_node.specs.Calls.{OwnCall, TakeCall, IsNoted}
 use Rattle.gw_node.specs.inner.Handling.{HaveNoDelta, planned_for, ticked, CarriedOut, Answers}
 
@@ -49,9 +49,9 @@ module _ {D : Type 0} {G : Ghosts D} where
   left old new (op ∷ ops) (faults.BadRecord slot at) runs config kept local records is fits h = absurd h
 
   -- operations that became a delta
-  pub makes : (ops : List Op) (delta : List Op) (old new : State G) → ops ≢ [] → IsDeltaOf ops delta → Fits old.kept delta → IsKeptOf (old.kept ++ delta) new.kept → IsWritten old.journal delta new.journal → Makes ops (Some delta) old new
-  makes [] delta old new some is_delta fits kept written = absurd (some refl)
-  makes (op ∷ ops) delta old new some is_delta fits kept written = (is_delta, fits, kept, written)
+  pub makes : (ops : List Op) (delta : List Op) (old new : State G) → ops ≢ [] → IsDeltaOf ops delta → Fits old.kept delta → IsKeptOf (old.kept ++ delta) new.kept → IsWritten old.journal delta new.journal → IsWritable delta → Makes ops (Some delta) old new
+  makes [] delta old new some is_delta fits kept written writable = absurd (some refl)
+  makes (op ∷ ops) delta old new some is_delta fits kept written writable = (is_delta, fits, kept, written, writable)
 
   -- operations that make no delta
   pub no_delta : (old new : State G) (plan : Plan) (excuse : Out) (refusal : Refusal) → HaveNoDelta plan.ops refusal → IsUnchanged old new → CarriedOut old plan excuse (Err refusal) new

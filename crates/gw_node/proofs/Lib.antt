@@ -8,5 +8,9 @@ pub mod Taken
 pub mod Started
 pub mod Reopened
 pub mod Failing
+pub mod Held
+pub mod Splits
+pub mod Standing
+pub mod Leading
 mod Resting
 mod Owned

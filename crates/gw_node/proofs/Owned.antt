@@ -12,15 +12,15 @@ use Rattle.rep_model.specs.Views.{greatest, take_stamp, names, visible}
 use Rattle.rep_model.specs.Keep.{IsKeptOf}
 use Rattle.rep_model.proofs.Readers.{same_client-true}
 use Rattle.rep_model.proofs.Thin.{visible-thin, thin-between}
-use Rattle.sn_flow.specs.declared.local.Binding.{Binding}
-use Rattle.sn_flow.specs.declared.local.Timer.{Timer}
-use Rattle.sn_flow.specs.declared.local.LocalChange.{LocalChange}
-use Rattle.sn_flow.specs.declared.local.LocalChange.TheVariants.{Bind, Unbind, Time, Heard, Sent, Resent, Retried, Ask, EndDialog, Advertised}
-use Rattle.sn_flow.specs.Plans.{Seen, seen_of}
-use Rattle.sn_flow.specs.Locals.{Local, after_all, owned}
-use Rattle.sn_flow.specs.Bindings.{binding_cmp, is_apart, is_of_other, binding_change, bindings_after, address_of, is_stamp_of, is_owned, has_owned}
-use Rattle.sn_flow.specs.Timers.{timer_cmp, timer_of, heard_at, sent_at, resent_at, retried_at, timer_change, timers_after, times_owned}
-use Rattle.sn_flow.proofs.Entries.{same_client-itself}
+use Rattle.sn_local.specs.declared.local.Binding.{Binding}
+use Rattle.sn_local.specs.declared.local.Timer.{Timer}
+use Rattle.sn_local.specs.declared.local.LocalChange.{LocalChange}
+use Rattle.sn_local.specs.declared.local.LocalChange.TheVariants.{Bind, Unbind, Time, Heard, Sent, Resent, Retried, Ask, EndDialog, Advertised}
+use Rattle.sn_local.specs.Seen.{Seen, seen_of}
+use Rattle.sn_local.specs.Locals.{Local, after_all, owned}
+use Rattle.sn_local.specs.Bindings.{binding_cmp, is_apart, is_of_other, binding_change, bindings_after, address_of, is_stamp_of, is_owned, has_owned}
+use Rattle.sn_local.specs.Timers.{timer_cmp, timer_of, heard_at, sent_at, resent_at, retried_at, timer_change, timers_after, times_owned}
+use Rattle.sn_local.proofs.Entries.{same_client-itself}
 use Rattle.sn_flow.proofs.Entered.{all-entered, all-filtered}
 use Rattle.gw_node.specs.inner.Tidy.{are_owned, WereOwned, tidied, is_stranger, leaves_all, notes_owned}
 

@@ -10,7 +10,7 @@ use Rattle.rep_ops.specs.Sets.{operation_of, operation_at, put_of, put_at, ackno
 use Rattle.rep_ops.proofs.Joined.{rising_ascending}
 use Rattle.rep_ops.proofs.Rising.{rising_apart}
 use Rattle.rep_ops.proofs.Sets.{IsIn, find_of, operation_exact, put_exact, operations_single, puts_single, any_in}
-use Rattle.sn_flow.proofs.Entries.{same_client-itself}
+use Rattle.sn_local.proofs.Entries.{same_client-itself}
 use Rattle.rep_model.specs.Taking.{AllAgree}
 use Rattle.rep_model.proofs.Joins.{all-weaker}
 use Rattle.rep_model.proofs.Agreeing.{consistent-together}

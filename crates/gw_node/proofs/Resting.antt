@@ -2,10 +2,11 @@
 use Rattle.std.proofs.Common.{◌≡◌, ℕ, ◌≤◌, false, true, List, [], Option, Some, None, Result, Ok, Err, IfOk, IfErr, refl, sym, ap, ◌∙◌, subst}
 use Rattle.rep_ops.specs.declared.op.Op.{Op}
 use Rattle.rep_ops.specs.Making.{AreApart}
-use Rattle.sn_flow.specs.declared.config.Config.{Config}
-use Rattle.sn_flow.specs.Drafts.{nothing}
-use Rattle.sn_flow.specs.Locals.{Local}
-use Rattle.sn_flow.specs.Plans.{seen_of, plan_without}
+use Rattle.sn_local.specs.declared.config.Config.{Config}
+use Rattle.sn_plan.specs.Drafts.{nothing}
+use Rattle.sn_local.specs.Locals.{Local}
+use Rattle.sn_local.specs.Seen.{seen_of}
+use Rattle.sn_plan.specs.Plans.{plan_without}
 use Rattle.sn_deliver.specs.Rest.{is_idle}
 use Rattle.sn_deliver.proofs.Idle.{idle_tick, idle_before}
 use Rattle.jr_journal.specs.declared.disk.Disk.{Ghosts}

@@ -6,8 +6,8 @@ use Rattle.rep_ops.specs.declared.op.Op.{Op}
 use Rattle.rep_model.specs.Keep.{CountsAs, IsKeptOf}
 use Rattle.rep_model.specs.Taking.{Fits}
 use Rattle.rep_model.proofs.Joins.{counts-join}
-use Rattle.sn_flow.specs.declared.config.Config.{Config}
-use Rattle.sn_flow.specs.Locals.{no_local}
+use Rattle.sn_local.specs.declared.config.Config.{Config}
+use Rattle.sn_local.specs.Locals.{no_local}
 use Rattle.rep_model.specs.declared.replica.Replica.{Ghosts as Promises}
 use Rattle.jr_journal.specs.declared.disk.Disk.{Ghosts}
 use Rattle.jr_journal.specs.declared.fault.JournalFault.{JournalFault}

@@ -360,7 +360,7 @@ module _ {D : Type 0} {G : Ghosts D} where
   made [] None old new h = taken_nothing old new (same old new h.0 h.1)
   made [] (Some delta) old new h = absurd h
   made (op ∷ ops) None old new h = absurd h
-  made (op ∷ ops) (Some delta) old new (is_delta, fits, kept, written) = more old new delta is_delta.delta fits kept written
+  made (op ∷ ops) (Some delta) old new (is_delta, fits, kept, written, writable) = more old new delta is_delta.delta fits kept written
 
   pub own_carries_on : (old new : State G) (occasion : Occasion) (now : ℕ) (answer : Result Out Refusal) → OwnCall old occasion now answer new → OwnCarriesOn old occasion now answer new
   own_carries_on old new occasion now (Ok out) (runs, (plan, is_plan, h)) = made plan.ops out.made old new h.made

@@ -12,9 +12,9 @@ use Rattle.rep_digest.specs.declared.entry.ClientEntry.{ClientEntry}
 use Rattle.rep_digest.specs.Digests.{digest}
 use Rattle.rep_digest.specs.Answers.{IsAnswer}
 use Rattle.rep_digest.specs.Spelling.{spelling, IsWithinLimit}
-use Rattle.sn_flow.specs.declared.plan.Plan.{Plan}
-use Rattle.sn_flow.specs.Plans.{seen_of}
-use Rattle.sn_flow.specs.Locals.{after_all, owned}
+use Rattle.sn_plan.specs.declared.plan.Plan.{Plan}
+use Rattle.sn_local.specs.Seen.{seen_of}
+use Rattle.sn_local.specs.Locals.{after_all, owned}
 use Rattle.jr_journal.specs.declared.disk.Disk.{Ghosts}
 use Rattle.jr_journal.specs.declared.fault.JournalFault.TheVariants as journal_faults
 use Rattle.jr_journal.specs.declared.journal.Journal.{Journal}

@@ -3,7 +3,7 @@ use Rattle.std.specs.Prelude.{ℕ, List, [], ◌++◌, Option, Some, None, Resul
 use Rattle.rep_ops.specs.declared.op.Op.{Op}
 use Rattle.rep_ops.specs.Making.{IsDeltaOf}
 use Rattle.rep_model.specs.Taking.{AllAgree}
-use Rattle.sn_flow.specs.declared.plan.Plan.{Plan}
+use Rattle.sn_plan.specs.declared.plan.Plan.{Plan}
 use Rattle.jr_journal.specs.declared.disk.Disk.{Ghosts}
 use Rattle.gw_node.specs.declared.out.Out.{Out}
 use Rattle.gw_node.specs.declared.refusal.Refusal.{Refusal}

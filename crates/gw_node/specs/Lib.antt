@@ -8,6 +8,10 @@ pub mod Keeping
 pub mod Taking
 pub mod Carrying
 pub mod Opening
+pub mod Drives
+pub mod Gateways
+pub mod Event
+pub mod Standing
 pub mod Failures
 pub mod Arranging
 pub mod inner

@@ -6,11 +6,11 @@ use Rattle.sn_frame.specs.declared.fault.FrameFault.TheVariants as frame_faults
 use Rattle.sn_frame.specs.Bodies.{IsValue}
 use Rattle.sn_frame.specs.Grammar.{Spells}
 use Rattle.sn_frame.specs.Faults.{IsFirstFault}
-use Rattle.sn_flow.specs.declared.config.Addr.{Addr}
-use Rattle.sn_flow.specs.declared.config.Config.{Config}
-use Rattle.sn_flow.specs.declared.plan.Plan.{Plan}
-use Rattle.sn_flow.specs.Plans.{Seen}
-use Rattle.sn_flow.specs.Locals.{Local}
+use Rattle.sn_local.specs.declared.config.Addr.{Addr}
+use Rattle.sn_local.specs.declared.config.Config.{Config}
+use Rattle.sn_plan.specs.declared.plan.Plan.{Plan}
+use Rattle.sn_local.specs.Seen.{Seen}
+use Rattle.sn_local.specs.Locals.{Local}
 use Rattle.sn_deliver.specs.Steps.{step}
 use Rattle.sn_deliver.specs.Ticking.{tick}
 

@@ -2,8 +2,8 @@
 use Rattle.std.specs.Prelude.{◌≡◌, ◌≢◌, ◌⊎◌, ◌≤◌, ◌<◌, ℕ, true, false, IsTrue, List, [], ◌∷◌, ◌++◌, length, Some, None, take, slice_get, Result, Ok, Err}
 use Rattle.rep_ops.specs.declared.op.Op.{Op}
 use Rattle.rep_model.specs.Taking.{Fits}
-use Rattle.sn_flow.specs.declared.config.Config.{Config}
-use Rattle.sn_flow.specs.Locals.{no_local}
+use Rattle.sn_local.specs.declared.config.Config.{Config}
+use Rattle.sn_local.specs.Locals.{no_local}
 use Rattle.jr_journal.specs.declared.disk.Disk.{Ghosts}
 use Rattle.jr_journal.specs.Disk.{Slots, Image, image}
 use Rattle.jr_journal.specs.Records.{records}

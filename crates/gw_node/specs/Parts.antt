@@ -5,9 +5,9 @@ use Rattle.std.specs.declared.sync.Arc.{Arc}
 use Rattle.std.specs.declared.alloc.Global.{Global}
 use Rattle.rep_ops.specs.declared.op.Op.{Op}
 use Rattle.rep_model.specs.declared.replica.Replica.{Ghosts as Promises}
-use Rattle.sn_flow.specs.declared.config.Config.{Config}
-use Rattle.sn_flow.specs.declared.config.Send.{Send}
-use Rattle.sn_flow.specs.Locals.{Local}
+use Rattle.sn_local.specs.declared.config.Config.{Config}
+use Rattle.sn_local.specs.declared.config.Send.{Send}
+use Rattle.sn_local.specs.Locals.{Local}
 use Rattle.jr_journal.specs.declared.disk.Disk.{Ghosts}
 use Rattle.jr_journal.specs.declared.journal.Journal.{Journal}
 use Rattle.jr_journal.specs.Parts.{disk_of as disk_under, gateway_of, slot_of, generation_of, is_halted as is_stopped}

@@ -4,12 +4,14 @@ use Rattle.rep_ops.specs.declared.op.Op.{Op}
 use Rattle.rep_ops.specs.declared.fault.OpsFault.{OpsFault}
 use Rattle.rep_ops.specs.declared.fault.OpsFault.TheVariants as ops_faults
 use Rattle.rep_ops.specs.Making.{IsDeltaOf, IsRefusal}
+use Rattle.rep_ops.specs.Spelling.{IsWithinLimit}
+use Rattle.rep_ops.specs.Values.{AreValues}
 use Rattle.rep_model.specs.declared.fault.Limit.{Limit}
 use Rattle.rep_model.specs.declared.fault.TakeFault.TheVariants as take_faults
 use Rattle.rep_model.specs.Keep.{IsKeptOf}
 use Rattle.rep_model.specs.Taking.{Fits, IsFaultOf}
-use Rattle.sn_flow.specs.declared.plan.Plan.{Plan}
-use Rattle.sn_flow.specs.Plans.{seen_of}
+use Rattle.sn_plan.specs.declared.plan.Plan.{Plan}
+use Rattle.sn_local.specs.Seen.{seen_of}
 use Rattle.jr_journal.specs.declared.disk.Disk.{Ghosts}
 use Rattle.gw_node.specs.declared.refusal.Refusal.{Refusal}
 use Rattle.gw_node.specs.declared.refusal.Refusal.TheVariants as refusals
@@ -36,10 +38,15 @@ IsMisfit kept delta (refusals.Journal fault) = ⊥
 abbrev pub MakeNoDelta : List Op → Type 0
 MakeNoDelta ops = (fault : OpsFault) × (fault ≢ ops_faults.Memory) × IsRefusal ops fault
 
+-- the delta can be written: its numbers fit their octets, and together they are not too many
+pub record IsWritable (delta : List Op) : Type 0 where
+  pub values : AreValues delta
+  pub limit : IsWithinLimit delta
+
 -- the operations, if there are any, became one delta, which is in the journal and taken
 abbrev pub Makes : {D : Type 0} {G : Ghosts D} → List Op → Option (List Op) → State G → State G → Type 0
 Makes [] None old new = (new.kept ≡ old.kept) × IsUntouched old.journal new.journal
 Makes [] (Some delta) old new = ⊥
 Makes (op ∷ ops) None old new = ⊥
 Makes (op ∷ ops) (Some delta) old new =
-    IsDeltaOf (op ∷ ops) delta × Fits old.kept delta × IsKeptOf (old.kept ++ delta) new.kept × IsWritten old.journal delta new.journal
+    IsDeltaOf (op ∷ ops) delta × Fits old.kept delta × IsKeptOf (old.kept ++ delta) new.kept × IsWritten old.journal delta new.journal × IsWritable delta

@@ -6,7 +6,7 @@ use Rattle.jr_journal.specs.declared.fault.JournalFault.TheVariants as faults
 use Rattle.jr_journal.specs.declared.journal.Journal.{Journal}
 use Rattle.jr_journal.specs.Disk.{at, image}
 use Rattle.jr_journal.specs.Records.{written, base_bytes, slot_content, generation_in, records}
-use Rattle.jr_journal.specs.Journals.{other, Leaves, LeavesOneMore, LeavesEither, after_append, AppendedAs, emptied, last_generation}
+use Rattle.jr_journal.specs.Journals.{other, Leaves, LeavesOneMore, LeavesEither, after_append, IsStruck, AppendedAs, emptied, last_generation}
 use Rattle.jr_journal.specs.Parts.{disk_of, gateway_of, slot_of, generation_of, is_halted}
 
 -- The delta is the last record: synced, so that every crash leaves it.
@@ -32,6 +32,8 @@ pub record IsFailed {D : Type 0} {G : Ghosts D} (old : Journal D G) (delta : Lis
   pub halts : is_halted new ≡ true
   pub cause : G.failures (disk_of old) < G.failures (disk_of new)
   pub starved : G.starved (disk_of old) ≡ true → G.starved (disk_of new) ≡ true
+  -- it is as one of the failures leaves it
+  pub struck : IsStruck G.honest (G.slots (disk_of old)) (slot_of old) (written delta) (G.slots (disk_of new))
   pub torn : G.honest → LeavesOneMore (gateway_of old) (G.slots (disk_of new)) (records (gateway_of old) (image (G.slots (disk_of old)))) delta
   -- where it is known which failure is arranged, it is this one
   pub known : G.honest → G.starved (disk_of new) ≡ false → AppendedAs (G.outlook (disk_of old)) (G.slots (disk_of old)) (slot_of old) (written delta) (Err faults.Disk) (G.slots (disk_of new)) (G.outlook (disk_of new))

@@ -8,7 +8,7 @@ ghost use Rattle.rep_ops.specs.Spelling.{IsWithinLimit};
 ghost use Rattle.rep_model.specs.Taking.{Fits};
 ghost use Rattle.rep_model.specs.Keep.{IsKeptOf};
 ghost use Rattle.gw_node.specs.Parts.{state_of, IsUnchanged, only_sends};
-ghost use Rattle.gw_node.specs.Plans.{IsMisfit};
+ghost use Rattle.gw_node.specs.Plans.{IsMisfit, IsWritable};
 ghost use Rattle.gw_node.specs.inner.Writing.{WrittenAs, WrittenIfMade, WrittenIfAny, refusal_of};
 ghost use Rattle.gw_node.specs.Calls.{TakeCall, IsDone};
 ghost use Rattle.gw_node.specs.inner.Handling.{HaveNoDelta, CarriedOut};
@@ -48,6 +48,7 @@ pub(crate) fn prepare<R: Replica>(
 ) -> Result<R::Staged, Refusal>
     ensures unchanged { R.kept replica.new ≡ R.kept replica.old }
     ensures delta { IsDelta delta.now }
+    ensures writable { IsWritable delta.now }
     ensures fits { OnOk result (Fits (R.kept replica.old) delta.now) }
     ensures ready { IfOk result (λ staged. R.ready replica.new staged) }
     ensures taken { IfOk result (λ staged. IsKeptOf (R.kept replica.old ++ delta.now)

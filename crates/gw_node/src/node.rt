@@ -47,6 +47,7 @@ impl<R: Replica, D: Disk + Drop> Node<R, D> {
     ghost use Rattle.jr_journal.specs.Faults.{is_fresh, fault_of};
     ghost use Rattle.jr_journal.specs.Opening.{recovered, is_quiet, LeavesNoMore};
     ghost use Rattle.gw_node.specs.declared.fault.NodeFault.TheVariants as faults;
+    ghost use Rattle.gw_node.specs.declared.step.Step.TheVariants as steps;
     ghost use Rattle.gw_node.specs.Occasions.{Datagram, Clock};
     ghost use Rattle.gw_node.specs.Parts.{state_of, told, said, is_halted as is_stopped, disk_of, records_of};
     ghost use Rattle.gw_node.specs.Calls.{OwnCall, TakeCall, ViewCall, DigestCall, AnswerCall, CompactCall, StepCall};
@@ -54,6 +55,7 @@ impl<R: Replica, D: Disk + Drop> Node<R, D> {
     ghost use Rattle.gw_node.specs.Taking.{ops_of, StandsFor, HasTaken};
     ghost use Rattle.gw_node.specs.Opening.{IsStarted, FitInTurn, MayRefuse, IsDiskFault, IsOpenFault, LeavesSlots, GoesOnIn, ReopenCall};
     ghost use Rattle.gw_node.specs.Carrying.{CarriesOn, OwnCarriesOn, TakesNothing, ReopenCarriesOn, StepCarriesOn};
+    ghost use Rattle.gw_node.specs.Standing.{EventOn};
 
     /// Opens a gateway on the disk of its journal, and takes what the journal holds; nothing of that is written again. The
     /// gateway begins without bindings, dialogs and timers.
@@ -149,6 +151,8 @@ impl<R: Replica, D: Disk + Drop> Node<R, D> {
             (said result) (state_of R.kept self.new) }
         ensures taken { OwnCarriesOn (state_of R.kept self.old) (Datagram from bytes.now) now
             (said result) (state_of R.kept self.new) }
+        ensures event { EventOn (state_of R.kept self.old) (steps.Frame from bytes.now now)
+            (said result) (state_of R.kept self.new) }
     {
         one(handle_frame(alloc, self, from, bytes, now))
     }
@@ -166,6 +170,8 @@ impl<R: Replica, D: Disk + Drop> Node<R, D> {
             (state_of R.kept self.new) }
         ensures taken { CarriesOn (state_of R.kept self.old) delta.now (said result)
             (state_of R.kept self.new) }
+        ensures event { EventOn (state_of R.kept self.old) (steps.Take delta.now) (said result)
+            (state_of R.kept self.new) }
     {
         one(take_in(alloc, self, delta))
     }
@@ -180,6 +186,8 @@ impl<R: Replica, D: Disk + Drop> Node<R, D> {
             (state_of R.kept self.new) }
         ensures taken { OwnCarriesOn (state_of R.kept self.old) Clock now (said result)
             (state_of R.kept self.new) }
+        ensures event { EventOn (state_of R.kept self.old) (steps.Tick now) (said result)
+            (state_of R.kept self.new) }
     {
         one(handle_tick(alloc, self, now))
     }
@@ -187,7 +195,9 @@ impl<R: Replica, D: Disk + Drop> Node<R, D> {
     /// Somebody asks for a client's view: `view` of the answer, or none where nothing names the client. A halted node
     /// answers too. The only fault is `Memory`.
     pub fn view(&self, alloc: Global, client: &ClientId) -> Answer
-        ensures { ViewCall (state_of R.kept self.now) client.now (said result)
+        ensures call { ViewCall (state_of R.kept self.now) client.now (said result)
+            (state_of R.kept self.now) }
+        ensures event { EventOn (state_of R.kept self.now) (steps.View client.now) (said result)
             (state_of R.kept self.now) }
     {
         one(handle_view(alloc, self, client))
@@ -196,7 +206,10 @@ impl<R: Replica, D: Disk + Drop> Node<R, D> {
     /// A gateway asks for the digest: `digest` of the answer. A halted node answers too. The faults: `Full` where the digest
     /// would be longer than 8,388,608 octets, or `Memory`.
     pub fn digest(&self, alloc: Global) -> Answer
-        ensures { DigestCall (state_of R.kept self.now) (said result) (state_of R.kept self.now) }
+        ensures call { DigestCall (state_of R.kept self.now) (said result)
+            (state_of R.kept self.now) }
+        ensures event { EventOn (state_of R.kept self.now) steps.Digest (said result)
+            (state_of R.kept self.now) }
     {
         one(handle_digest(alloc, self))
     }
@@ -205,7 +218,9 @@ impl<R: Replica, D: Disk + Drop> Node<R, D> {
     /// does not cover. With them that gateway has what it would have with all that this one has. A halted node answers too.
     /// The only fault is `Memory`.
     pub fn answer(&self, alloc: Global, digest: &Digest) -> Answer
-        ensures { AnswerCall (state_of R.kept self.now) digest.now (said result)
+        ensures call { AnswerCall (state_of R.kept self.now) digest.now (said result)
+            (state_of R.kept self.now) }
+        ensures event { EventOn (state_of R.kept self.now) (steps.Answer digest.now) (said result)
             (state_of R.kept self.now) }
     {
         one(handle_answer(alloc, self, digest))
@@ -222,6 +237,8 @@ impl<R: Replica, D: Disk + Drop> Node<R, D> {
         ensures call { CompactCall (state_of R.kept self.old) (said result)
             (state_of R.kept self.new) }
         ensures taken { TakesNothing (state_of R.kept self.old) (state_of R.kept self.new) }
+        ensures event { EventOn (state_of R.kept self.old) steps.Compact (said result)
+            (state_of R.kept self.new) }
     {
         one(handle_compact(alloc, self))
     }
@@ -236,6 +253,8 @@ impl<R: Replica, D: Disk + Drop> Node<R, D> {
             (state_of R.kept self.new) }
         ensures taken { ReopenCarriesOn (state_of R.kept self.old) (said result)
             (state_of R.kept self.new) }
+        ensures event { EventOn (state_of R.kept self.old) steps.Reopen (said result)
+            (state_of R.kept self.new) }
     {
         one(handle_reopen(alloc, self))
     }
@@ -246,6 +265,8 @@ impl<R: Replica, D: Disk + Drop> Node<R, D> {
         ensures call { StepCall (state_of R.kept self.old) step.now (said result.0)
             (state_of R.kept self.new) }
         ensures taken { StepCarriesOn (state_of R.kept self.old) step.now (said result.0)
+            (state_of R.kept self.new) }
+        ensures event { EventOn (state_of R.kept self.old) step.now (said result.0)
             (state_of R.kept self.new) }
         ensures second { said result.1 ≡ said result.0 }
         ensures third { said result.2 ≡ said result.0 }

@@ -3,7 +3,7 @@
 ghost use Rattle.std.specs.Prelude.{◌≡◌, [], length, IfOk, IfErr, IfSome, OnOk};
 ghost use Rattle.std.specs.Arc.{arc_value};
 ghost use Rattle.jr_journal.specs.Parts.{disk_of as disk_under};
-ghost use Rattle.sn_flow.specs.Locals.{no_local};
+ghost use Rattle.sn_local.specs.Locals.{no_local};
 ghost use Rattle.gw_node.specs.Parts.{told, state_of, records_of, only_sends};
 ghost use Rattle.gw_node.specs.inner.Writing.{refusal_of};
 ghost use Rattle.gw_node.specs.Keeping.{Keeps};

@@ -2,8 +2,8 @@
 
 ghost use Rattle.std.specs.Prelude.{◌≡◌, true, length};
 ghost use Rattle.std.specs.List.{list_all};
-ghost use Rattle.sn_flow.specs.Plans.{seen_of};
-ghost use Rattle.sn_flow.specs.Locals.{after_all, owned, IsRoomFor};
+ghost use Rattle.sn_local.specs.Seen.{seen_of};
+ghost use Rattle.sn_local.specs.Locals.{after_all, owned, IsRoomFor};
 ghost use Rattle.gw_node.specs.inner.Tidy.{WereOwned, are_owned as each_is_owned, is_stranger as stranger_test, is_left as left_test, leaves_all as leaves_test, notes_owned as owner_test};
 
 use octets::Sequence;

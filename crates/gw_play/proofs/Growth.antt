@@ -15,7 +15,7 @@ use Rattle.std.proofs.lemmas.Bool.{eq-eqb, eqb-true}
 use Rattle.std.proofs.lemmas.List.Elements.{All-nil, All-push}
 use Rattle.std.proofs.lemmas.List.Folds.{list_any_at}
 use Rattle.std.proofs.lemmas.List.Quantifiers.{all_pairs_push}
-use Rattle.sn_flow.specs.declared.config.Config.{Config}
+use Rattle.sn_local.specs.declared.config.Config.{Config}
 use Rattle.gw_play.specs.declared.command.Command.TheVariants as commands
 use Rattle.gw_play.specs.Scripts.{Adds, config_of, has_gateway, Extends, IsScriptOf}
 use Rattle.gw_play.specs.inner.Scripts.{AreGateways, IsBadLine}

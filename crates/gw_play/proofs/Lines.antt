@@ -17,7 +17,7 @@ use Rattle.gw_play.specs.Octets.{IsHex}
 use Rattle.sn_topic.specs.Topics.{IsName}
 use Rattle.hex.specs.Hex.{decode_of}
 use Rattle.hex.specs.declared.error.FromHexError.TheVariants.{OddLength}
-use Rattle.sn_flow.specs.declared.config.Addr.{Addr}
+use Rattle.sn_local.specs.declared.config.Addr.{Addr}
 
 -- the word of a text
 abbrev word_at : List ℕ → Option Word

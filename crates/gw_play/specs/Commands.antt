@@ -1,7 +1,7 @@
 -- The lines of a script.
 use Rattle.std.specs.Prelude.{◌≡◌, Bool, true, false, ℕ, ◌-◌, ◌^◌, ◌==◌, ◌⊎◌, List, [], ◌∷◌, codes}
 use Rattle.std.specs.List.{slice_split}
-use Rattle.sn_flow.specs.declared.config.Addr.{Addr}
+use Rattle.sn_local.specs.declared.config.Addr.{Addr}
 use Rattle.gw_world.specs.declared.event.Event.TheVariants as events
 use Rattle.gw_play.specs.declared.command.Command.{Command}
 use Rattle.gw_play.specs.declared.command.Command.TheVariants as commands

@@ -10,7 +10,7 @@ use Rattle.rep_ops.specs.declared.op.Op.{Op}
 use Rattle.rep_ops.specs.declared.op.Put.{Put}
 use Rattle.rep_ops.specs.declared.op.Stamp.{Stamp}
 use Rattle.rep_model.specs.declared.view.ClientView.{ClientView}
-use Rattle.sn_flow.specs.declared.config.Send.{Send}
+use Rattle.sn_local.specs.declared.config.Send.{Send}
 use Rattle.gw_world.specs.declared.event.Answer.{Answer}
 use Rattle.gw_world.specs.declared.event.Answer.TheVariants as answers
 use Rattle.gw_node.specs.declared.out.Out.{Out}

@@ -2,7 +2,7 @@
 use Rattle.std.specs.Prelude.{◌≡◌, ◌≢◌, ◌==◌, ℕ, ◌-◌, ◌⊎◌, Bool, false, List, [], ◌∷◌, ◌++◌, position, slice_get, slice_set, Some, IsTrue}
 use Rattle.std.specs.List.{list_any}
 use Rattle.sn_topic.specs.Table.{is_table}
-use Rattle.sn_flow.specs.declared.config.Config.{Config}
+use Rattle.sn_local.specs.declared.config.Config.{Config}
 use Rattle.gw_play.specs.declared.command.Command.{Command}
 use Rattle.gw_play.specs.declared.command.Command.TheVariants as commands
 use Rattle.gw_play.specs.declared.script.Script.{Script}

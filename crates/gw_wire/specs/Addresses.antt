@@ -4,7 +4,7 @@ use Rattle.std.specs.Net.Addr.{IsIpv4OfBits}
 use Rattle.std.specs.Net.Socket.{v4_ip, v4_port}
 use Rattle.std.specs.declared.net.socket_addr.SocketAddr.{SocketAddr}
 use Rattle.std.specs.declared.net.socket_addr.SocketAddr.TheVariants.{V4, V6}
-use Rattle.sn_flow.specs.declared.config.Addr.{Addr}
+use Rattle.sn_local.specs.declared.config.Addr.{Addr}
 
 -- the system's address is one of IPv4, with this host and this port
 abbrev pub IsAddress : Addr → SocketAddr → Type 0

@@ -14,9 +14,9 @@ use Rattle.rep_ops.proofs.Rising.{rising_apart}
 use Rattle.rep_ops.proofs.Sets.{IsIn, at_in, any_in, one_of_name}
 use Rattle.rep_model.proofs.Joins.{within-left}
 use Rattle.rep_model.proofs.Readers.{operation_at_both, put_at_both, is_acknowledged_both}
-use Rattle.sn_flow.specs.Own.{IsFresh}
-use Rattle.sn_flow.proofs.Entries.{same_client-itself, none_or}
-use Rattle.gw_world.specs.Steps.{HaveName}
+use Rattle.sn_plan.specs.Own.{IsFresh}
+use Rattle.sn_local.proofs.Entries.{same_client-itself, none_or}
+use Rattle.gw_node.specs.Event.{HaveName}
 use Rattle.gw_node.proofs.Occurring.{is_there, operation_occurs, put_occurs}
 
 pub some-is : {X : Type 0} (o : Option X) → is_some o ≡ true → (x : X) × (o ≡ Some x)

@@ -10,7 +10,7 @@ use Rattle.rep_model.specs.Keep.{keep, CountsAs}
 use Rattle.rep_model.proofs.Joins.{all-moved, all-both, same_sym, same_trans, same-absorbed, same-elements}
 use Rattle.rep_model.proofs.Thin.{thin-left, thin-right, thin-same, same_kept}
 use Rattle.rep_digest.proofs.Completing.{completed}
-use Rattle.sn_flow.specs.declared.config.Config.{Config}
+use Rattle.sn_local.specs.declared.config.Config.{Config}
 use Rattle.gw_world.specs.declared.event.Event.{Event}
 use Rattle.gw_world.specs.declared.event.Event.TheVariants.{Frame, Tick, Take, Answer as Asks, WriteFails, Compact, Restart, Show}
 use Rattle.gw_world.specs.declared.event.Answer.{Answer}
@@ -19,9 +19,10 @@ use Rattle.gw_node.specs.declared.out.Out.{Out}
 use Rattle.gw_node.specs.declared.refusal.Refusal.{Refusal}
 use Rattle.gw_node.specs.Parts.{said}
 use Rattle.gw_node.specs.Occasions.{Datagram, Clock}
-use Rattle.gw_world.specs.Gateways.{Gateway}
+use Rattle.gw_node.specs.Gateways.{Gateway}
 use Rattle.gw_world.specs.Field.{Field, new_field, IsAt, failing, After, Run}
-use Rattle.gw_world.specs.Steps.{TakeStep, AnswerStep, restarted}
+use Rattle.gw_world.specs.Steps.{AnswerStep, restarted}
+use Rattle.gw_node.specs.Event.{TakeStep}
 use Rattle.gw_world.specs.Whole.{listed, everything, brought}
 use Rattle.gw_world.proofs.Answering.{answered, deltas-same}
 use Rattle.gw_world.proofs.Consistency.{WholeField, field-sound, run-sound, whole-asked, parts-consistent}

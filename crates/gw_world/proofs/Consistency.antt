@@ -12,7 +12,7 @@ use Rattle.rep_ops.specs.Sets.{Stands, IsConsistent, Agrees}
 use Rattle.rep_model.specs.Keep.{keep}
 use Rattle.rep_model.specs.Taking.{AllAgree}
 use Rattle.rep_model.proofs.Joins.{all-moved}
-use Rattle.sn_flow.specs.declared.config.Config.{Config}
+use Rattle.sn_local.specs.declared.config.Config.{Config}
 use Rattle.sn_flow.proofs.Lists.{all-weaken}
 use Rattle.gw_world.specs.declared.event.Event.{Event}
 use Rattle.gw_world.specs.declared.event.Event.TheVariants.{Frame, Tick, Take, Answer as Asks, WriteFails, Compact, Restart, Show}
@@ -24,15 +24,17 @@ use Rattle.gw_node.specs.Parts.{said}
 use Rattle.gw_node.specs.declared.refusal.Refusal.TheVariants as refusals
 use Rattle.gw_node.specs.declared.fault.NodeFault.TheVariants as faults
 use Rattle.gw_node.specs.Occasions.{Occasion, Datagram, Clock}
-use Rattle.gw_world.specs.Gateways.{Gateway, new_gateway}
+use Rattle.gw_node.specs.Gateways.{Gateway, new_gateway}
 use Rattle.gw_world.specs.Field.{Field, new_field, IsAt, IsDeltaAt, changed, failing, After, Run}
-use Rattle.gw_world.specs.Steps.{HaveName, IsWritable, IsConflict, OwnStep, TakeStep, AnswerStep, CompactStep, restarted}
+use Rattle.gw_world.specs.Steps.{AnswerStep, restarted}
+use Rattle.gw_node.specs.Event.{HaveName, IsConflict, OwnStep, TakeStep, CompactStep}
+use Rattle.gw_node.specs.Plans.{IsWritable}
 use Rattle.gw_world.specs.Steady.{IsKnown, IsSteady}
 use Rattle.gw_world.specs.Whole.{everything, IsHome}
 use Rattle.gw_world.proofs.Alone.{stands-alone, agrees-alone}
 use Rattle.gw_world.proofs.Answering.{answered, all-answered}
 use Rattle.gw_world.proofs.Each.{all-at, all-places, each-all}
-use Rattle.gw_world.proofs.Held.{agrees_with_kept}
+use Rattle.gw_node.proofs.Held.{agrees_with_kept}
 use Rattle.gw_world.proofs.Numbers.{First, place_of-first, first-number, first-place_of}
 use Rattle.gw_world.proofs.Steadiness.{Still, Stepped, Fed, still, own-moves, own-writable, take-moves, compact-still, restart-moves, restart-still, AreAllFlush, flush-moved, flush-fed, flush-back, start-flush, no-conflict}
 use Rattle.gw_world.proofs.Whole.{IsHeld, Whole, held-alike, held-known, whole-silent, whole-still, whole-stepped, whole-back, whole-joined}

@@ -12,10 +12,10 @@ use Rattle.rep_ops.specs.Spelling.{spelling, IsWithinLimit}
 use Rattle.rep_model.specs.Limits.{first_passed}
 use Rattle.rep_digest.specs.Digests.{digest}
 use Rattle.rep_digest.specs.Spelling.{IsWithinLimit as IsDigestWithinLimit}
-use Rattle.sn_flow.specs.declared.plan.Plan.{Plan}
-use Rattle.sn_flow.specs.Plans.{seen_of}
-use Rattle.sn_flow.specs.Locals.{after_all}
-use Rattle.sn_flow.specs.declared.config.Send.{Send}
+use Rattle.sn_plan.specs.declared.plan.Plan.{Plan}
+use Rattle.sn_local.specs.Seen.{seen_of}
+use Rattle.sn_local.specs.Locals.{after_all}
+use Rattle.sn_local.specs.declared.config.Send.{Send}
 use Rattle.jr_journal.specs.declared.disk.Plan.{Plan as Failure}
 use Rattle.sn_deliver.specs.Steps.{step}
 use Rattle.gw_node.specs.declared.out.Out.{Out}
@@ -27,10 +27,11 @@ use Rattle.gw_node.specs.Parts.{only_sends}
 use Rattle.jr_journal.specs.declared.fault.JournalFault.{JournalFault}
 use Rattle.jr_journal.specs.declared.fault.JournalFault.TheVariants.{Foreign}
 use Rattle.jr_journal.specs.Journals.{last_generation}
-use Rattle.gw_world.specs.Drives.{GoesOut, with_record, torn, generation, compacted, torn_base}
-use Rattle.gw_world.specs.Gateways.{Gateway}
-use Rattle.gw_world.specs.Steps.{IsUnchanged, IsTorn, IsGivenUp, IsRefused, IsMade, IsCarriedOut, IsPlan, IsTooMuch, HasNoDelta, OwnStep, TakeStep, AnswerStep, CompactStep}
-use Rattle.gw_world.proofs.Splits.{delta-one, answer-one, held-one}
+use Rattle.gw_node.specs.Drives.{GoesOut, with_record, torn, generation, compacted, torn_base}
+use Rattle.gw_node.specs.Gateways.{Gateway}
+use Rattle.gw_world.specs.Steps.{AnswerStep}
+use Rattle.gw_node.specs.Event.{NothingHappens, IsTorn, IsDropped, IsRefused, IsMade, IsCarriedOut, IsPlan, IsTooMuch, HasNoDelta, OwnStep, TakeStep, CompactStep}
+use Rattle.gw_node.proofs.Splits.{delta-one, answer-one, held-one}
 
 -- ---- operations that make a delta
 
@@ -114,25 +115,25 @@ IsAgreed answer = (client : List ℕ) → answer ≡ Err (refusals.Conflict clie
 abbrev pub Alike : Result Out Refusal → Result Out Refusal → Gateway → Gateway → List (List Op) → List (List Op) → Type 0
 Alike a b new next made mades = (a ≡ b) × (new ≡ next) × (made ≡ mades)
 
-alike-still : (old : Gateway) (a b c : Result Out Refusal) (new next : Gateway) (made mades : List (List Op)) → a ≡ c → b ≡ c → IsUnchanged old new made → IsUnchanged old next mades → Alike a b new next made mades
+alike-still : (old : Gateway) (a b c : Result Out Refusal) (new next : Gateway) (made mades : List (List Op)) → a ≡ c → b ≡ c → NothingHappens old new made → NothingHappens old next mades → Alike a b new next made mades
 alike-still old a b c new next made mades e f u v = (e ∙ sym f, u.same ∙ sym v.same, u.none ∙ sym v.none)
 
 -- by the plan, if there is one
 abbrev IsFull : Gateway → Plan → Result Out Refusal → Gateway → List (List Op) → Type 0
-IsFull old plan answer new made = (answer ≡ Err refusals.Full) × (IsTooMuch old plan refusals.Full ⊎ HasNoDelta plan) × IsUnchanged old new made
+IsFull old plan answer new made = (answer ≡ Err refusals.Full) × (IsTooMuch old plan refusals.Full ⊎ HasNoDelta plan) × NothingHappens old new made
 
 abbrev IsDone : Gateway → Plan → Result Out Refusal → Gateway → List (List Op) → Type 0
 IsDone old plan answer new made = (out : Out) × (answer ≡ Ok out) × IsCarriedOut old plan out new made
 
 abbrev IsLeft : Gateway → Occasion → Plan → Result Out Refusal → Gateway → List (List Op) → Type 0
-IsLeft old occasion plan answer new made = (excuse : Out) × (answer ≡ Err (refusals.Disk excuse)) × IsGivenUp old occasion plan excuse new made
+IsLeft old occasion plan answer new made = (excuse : Out) × (answer ≡ Err (refusals.Disk excuse)) × IsDropped old occasion plan excuse new made
 
 abbrev Planned : Gateway → Occasion → Option Plan → Result Out Refusal → Gateway → List (List Op) → Type 0
-Planned old occasion None answer new made = (answer ≡ Err refusals.Exhausted) × IsUnchanged old new made
+Planned old occasion None answer new made = (answer ≡ Err refusals.Exhausted) × NothingHappens old new made
 Planned old occasion (Some plan) answer new made = IsFull old plan answer new made ⊎ (IsDone old plan answer new made ⊎ IsLeft old occasion plan answer new made)
 
 abbrev NotRead : Gateway → Occasion → Result Out Refusal → Gateway → List (List Op) → Type 0
-NotRead old occasion answer new made = (fault : FrameFault) × IsNoFrame occasion fault × (answer ≡ Err (refusals.Frame fault)) × IsUnchanged old new made
+NotRead old occasion answer new made = (fault : FrameFault) × IsNoFrame occasion fault × (answer ≡ Err (refusals.Frame fault)) × NothingHappens old new made
 
 abbrev Read : Gateway → Occasion → ℕ → Result Out Refusal → Gateway → List (List Op) → Type 0
 Read old occasion now answer new made = (p : Option Plan) × IsPlan old occasion now p × Planned old occasion p answer new made
@@ -141,7 +142,7 @@ abbrev Goes : Gateway → Occasion → ℕ → Result Out Refusal → Gateway �
 Goes old occasion now answer new made = (old.drive.halted ≡ false) × (NotRead old occasion answer new made ⊎ Read old occasion now answer new made)
 
 abbrev Halts : Gateway → Result Out Refusal → Gateway → List (List Op) → Type 0
-Halts old answer new made = (old.drive.halted ≡ true) × (answer ≡ Err refusals.Halted) × IsUnchanged old new made
+Halts old answer new made = (old.drive.halted ≡ true) × (answer ≡ Err refusals.Halted) × NothingHappens old new made
 
 own-way : (old : Gateway) (occasion : Occasion) (now : ℕ) (answer : Result Out Refusal) (new : Gateway) (made : List (List Op)) → IsAgreed answer → OwnStep old occasion now answer new made
     → Halts old answer new made ⊎ Goes old occasion now answer new made
@@ -156,7 +157,7 @@ own-way old occasion now (Err (refusals.Journal fault)) new made agreed h = absu
 own-way old occasion now (Err refusals.Memory) new made agreed h = absurd h
 
 -- a plan that could not be written is neither too much nor carried out
-left-full : (old : Gateway) (occasion : Occasion) (plan : Plan) (excuse : Out) (new : Gateway) (made : List (List Op)) → IsGivenUp old occasion plan excuse new made → IsTooMuch old plan refusals.Full ⊎ HasNoDelta plan → ⊥
+left-full : (old : Gateway) (occasion : Occasion) (plan : Plan) (excuse : Out) (new : Gateway) (made : List (List Op)) → IsDropped old occasion plan excuse new made → IsTooMuch old plan refusals.Full ⊎ HasNoDelta plan → ⊥
 left-full old occasion plan excuse new made h (inl k) =
     let same : k.0 ≡ h.delta = delta-one plan.ops k.0 h.delta k.1 h.is_delta in
     none-some k.2.1.0 (sym h.torn.takable.room ∙ ap (λ (x : List Op). first_passed (old.taken ++ x)) (sym same) ∙ k.2.1.1)
@@ -179,7 +180,7 @@ torn-one old d e new next made mades same h k =
     let failure : h.failure ≡ k.failure = same_Some h.failure k.failure (sym h.planned ∙ k.planned) in
     (h.halted ∙ (λ t. record old { refused = same t; drive = torn (failure t) (same t) old.drive }) ∙ sym k.halted, h.none ∙ sym k.none)
 
-left-one : (old : Gateway) (occasion : Occasion) (plan : Plan) (a b : Out) (new next : Gateway) (made mades : List (List Op)) → IsGivenUp old occasion plan a new made → IsGivenUp old occasion plan b next mades
+left-one : (old : Gateway) (occasion : Occasion) (plan : Plan) (a b : Out) (new next : Gateway) (made mades : List (List Op)) → IsDropped old occasion plan a new made → IsDropped old occasion plan b next mades
     → (a ≡ b) × (new ≡ next) × (made ≡ mades)
 left-one old occasion plan a b new next made mades h k =
     let same : h.delta ≡ k.delta = delta-one plan.ops h.delta k.delta h.is_delta k.is_delta in
@@ -231,7 +232,7 @@ own-one old occasion now a b new next made mades room f g h k =
 -- ---- a delta
 
 abbrev Refuses : Gateway → List Op → Result Out Refusal → Gateway → List (List Op) → Type 0
-Refuses old delta answer new made = (answer ≡ Err refusals.Full) × IsRefused old.taken delta refusals.Full × IsUnchanged old new made
+Refuses old delta answer new made = (answer ≡ Err refusals.Full) × IsRefused old.taken delta refusals.Full × NothingHappens old new made
 
 abbrev Takes : Gateway → List Op → Result Out Refusal → Gateway → List (List Op) → Type 0
 Takes old delta answer new made = (out : Out) × (answer ≡ Ok out) × TakeStep old delta (Ok out) new made

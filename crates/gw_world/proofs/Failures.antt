@@ -5,10 +5,10 @@ use Rattle.std.proofs.lemmas.Option.{none-some, same_Some, slice_get-map}
 use Rattle.rep_ops.specs.declared.op.Op.{Op}
 use Rattle.rep_ops.specs.Deltas.{IsDelta}
 use Rattle.rep_ops.specs.Sets.{Same}
-use Rattle.sn_flow.specs.declared.config.Config.{Config}
-use Rattle.sn_flow.specs.declared.plan.Plan.{Plan}
-use Rattle.sn_flow.specs.Plans.{seen_of}
-use Rattle.sn_flow.specs.Own.{IsOfDraft}
+use Rattle.sn_local.specs.declared.config.Config.{Config}
+use Rattle.sn_plan.specs.declared.plan.Plan.{Plan}
+use Rattle.sn_local.specs.Seen.{seen_of}
+use Rattle.sn_plan.specs.Own.{IsOfDraft}
 use Rattle.gw_node.specs.declared.out.Out.{Out}
 use Rattle.gw_node.specs.declared.refusal.Refusal.{Refusal}
 use Rattle.gw_node.specs.declared.refusal.Refusal.TheVariants as refusals
@@ -18,10 +18,11 @@ use Rattle.gw_world.specs.declared.event.Event.{Event}
 use Rattle.gw_world.specs.declared.event.Event.TheVariants.{Frame, Tick, Take, Answer as Asks, WriteFails, Compact, Restart, Show}
 use Rattle.gw_world.specs.declared.event.Answer.{Answer}
 use Rattle.gw_world.specs.declared.event.Answer.TheVariants.{Node, Views, Records, Nothing}
-use Rattle.gw_world.specs.Gateways.{Gateway, new_gateway}
-use Rattle.gw_world.specs.Drives.{noted}
+use Rattle.gw_node.specs.Gateways.{Gateway, new_gateway}
+use Rattle.gw_node.specs.Drives.{noted}
 use Rattle.gw_world.specs.Field.{Field, new_field, After, failing}
-use Rattle.gw_world.specs.Steps.{IsUnchanged, IsTorn, IsMade, OwnStep, TakeStep, CompactStep, restarted}
+use Rattle.gw_world.specs.Steps.{restarted}
+use Rattle.gw_node.specs.Event.{NothingHappens, IsTorn, IsMade, OwnStep, TakeStep, CompactStep}
 use Rattle.gw_world.specs.Whole.{Arranges}
 use Rattle.gw_world.proofs.Each.{set-cases}
 use Rattle.gw_world.proofs.Steadiness.{plan-drafted}
@@ -73,7 +74,7 @@ due-set gs i next deltas made d one = λ j gateway there. elim (set-cases i j gs
 
 -- ---- one step
 
-still-refuses : (old new : Gateway) (made : List (List Op)) → IsUnchanged old new made → (deltas : List (List Op)) → IsDue deltas old → IsDue deltas new
+still-refuses : (old new : Gateway) (made : List (List Op)) → NothingHappens old new made → (deltas : List (List Op)) → IsDue deltas old → IsDue deltas new
 still-refuses old new made u deltas d = subst (λ (g : Gateway). IsDue deltas g) (sym u.same) d
 
 made-refuses : (old : Gateway) (plan : Plan) (ops : List Op) (delta : Option (List Op)) (new : Gateway) (made : List (List Op)) → IsMade ops old plan delta new made → new.refused ≡ old.refused
@@ -205,7 +206,7 @@ well-set gs i next w one j g there = elim (set-cases i j gs next g there) [
   | inr other ↦ w j g other
 ]
 
-well-still : (old new : Gateway) (made : List (List Op)) → IsUnchanged old new made → IsWell old → IsWell new
+well-still : (old new : Gateway) (made : List (List Op)) → NothingHappens old new made → IsWell old → IsWell new
 well-still old new made u w = subst IsWell (sym u.same) w
 
 never-torn : (old : Gateway) (delta : List Op) (new : Gateway) (made : List (List Op)) → IsTorn old delta new made → IsWell old → ⊥

@@ -1,9 +1,13 @@
 -- Deltas join the list, one after the other.
 use Rattle.std.proofs.Common.{◌≡◌, List, [], ◌∷◌, ◌++◌, ap, ◌∙◌, append_assoc}
 use Rattle.rep_ops.specs.declared.op.Op.{Op}
-use Rattle.gw_world.specs.Steps.{IsWritable}
+use Rattle.gw_node.specs.Plans.{IsWritable}
 use Rattle.gw_world.specs.inner.Events.{Join}
-use Rattle.gw_world.proofs.Calmness.{all_push}
+use Rattle.std.specs.List.{AllByRecursion}
+
+pub all_push : {X : Type 0} (P : X → Type 0) (xs : List X) (x : X) → AllByRecursion P xs → P x → AllByRecursion P (xs ++ x ∷ [])
+all_push P [] x h p = (p, tt)
+all_push P (y ∷ xs) x h p = (h.0, all_push P xs x h.1 p)
 
 pub join_more : (deltas done mid next : List (List Op)) (delta : List Op) → Join deltas done mid → IsWritable delta → next ≡ mid ++ delta ∷ [] → Join deltas (done ++ delta ∷ []) next
 join_more deltas done mid next delta (writable, is) one e =

@@ -1,8 +1,7 @@
-pub mod Held
-pub mod Calmness
+pub mod Going
+pub mod Opened
 pub mod Joining
 pub mod Moving
-pub mod Shown
 pub mod Fields
 pub mod Numbers
 pub mod Steadiness
@@ -14,7 +13,6 @@ pub mod Failures
 pub mod Consistency
 pub mod Writing
 pub mod Settling
-pub mod Splits
 pub mod Rooms
 pub mod Determined
 pub mod Replaying

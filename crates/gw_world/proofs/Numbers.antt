@@ -1,7 +1,8 @@
 -- The gateway of a number: the first that has it, before and after one gateway became another.
 use Rattle.std.proofs.Common.{◌≡◌, ℕ, zero, suc, ◌+◌, ◌==◌, true, false, ◌⊎◌, if◌then◌else◌, List, [], ◌∷◌, set, slice_get, Some, refl, sym, ap, ◌∙◌, subst, true≢false, inl, inr, arith, eqb-true, eq-eqb}
 use Rattle.std.proofs.lemmas.Option.{none-some, same_Some}
-use Rattle.gw_world.specs.Gateways.{Gateway, place_from, place_of}
+use Rattle.gw_world.specs.Places.{place_from, place_of}
+use Rattle.gw_node.specs.Gateways.{Gateway}
 
 abbrev pub First : ℕ → List Gateway → ℕ → Type 0
 First n [] j = ⊥

@@ -6,7 +6,7 @@ use Rattle.std.specs.declared.alloc.Global.{Global}
 use Rattle.std.proofs.lemmas.Option.{none-some, same_Some}
 use Rattle.std.proofs.lemmas.List.Elements.{All-contains_itself, recursion_from_All}
 use Rattle.rep_ops.specs.declared.op.Op.{Op}
-use Rattle.sn_flow.specs.declared.config.Config.{Config}
+use Rattle.sn_local.specs.declared.config.Config.{Config}
 use Rattle.sn_flow.proofs.Lists.{all-weaken}
 use Rattle.gw_node.specs.declared.out.Out.{Out}
 use Rattle.gw_node.specs.declared.refusal.Refusal.{Refusal}
@@ -19,9 +19,10 @@ use Rattle.gw_world.specs.declared.event.Event.{Event}
 use Rattle.gw_world.specs.declared.event.Event.TheVariants.{Frame, Tick, Take, Answer as Asks, WriteFails, Compact, Restart, Show}
 use Rattle.gw_world.specs.declared.event.Answer.{Answer}
 use Rattle.gw_world.specs.declared.event.Answer.TheVariants.{Node, Views, Records, Nothing}
-use Rattle.gw_world.specs.Gateways.{Gateway, new_gateway}
+use Rattle.gw_node.specs.Gateways.{Gateway, new_gateway}
 use Rattle.gw_world.specs.Field.{Field, new_field, IsAt, changed, failing, shown, Steps, Asked, After, Run}
-use Rattle.gw_world.specs.Steps.{OwnStep, TakeStep, AnswerStep, CompactStep, records_left, restarted}
+use Rattle.gw_world.specs.Steps.{AnswerStep, records_left, restarted}
+use Rattle.gw_node.specs.Event.{OwnStep, TakeStep, CompactStep}
 use Rattle.gw_world.specs.Telling.{Said, Shown, Read, told}
 use Rattle.gw_world.proofs.Determined.{IsAgreed, own-one, take-one, compact-one, asked-one}
 use Rattle.gw_world.proofs.Rooms.{HasRoom, own-room, take-room, compact-room, failing-room, restart-room}

@@ -2,21 +2,23 @@
 use Rattle.std.proofs.Common.{◌≡◌, ℕ, Bool, true, false, true≢false, List, [], ◌∷◌, ◌++◌, append-nil, Option, Some, None, Result, Ok, Err, refl, sym, ap, ◌∙◌, subst}
 use Rattle.rep_ops.specs.declared.op.Op.{Op}
 use Rattle.rep_model.specs.Limits.{first_passed}
-use Rattle.sn_flow.specs.declared.plan.Plan.{Plan}
+use Rattle.sn_plan.specs.declared.plan.Plan.{Plan}
 use Rattle.gw_node.specs.declared.out.Out.{Out}
 use Rattle.gw_node.specs.declared.refusal.Refusal.{Refusal}
 use Rattle.gw_node.specs.declared.refusal.Refusal.TheVariants as refusals
 use Rattle.gw_node.specs.Occasions.{Occasion}
-use Rattle.gw_world.specs.Gateways.{Gateway, with_refused}
+use Rattle.gw_node.specs.Gateways.{Gateway, with_refused}
 use Rattle.gw_world.specs.Field.{failing}
-use Rattle.gw_world.specs.Steps.{IsUnchanged, IsTorn, IsMade, OwnStep, TakeStep, CompactStep, has_refused, restarted}
+use Rattle.gw_node.specs.Drives.{left_by, has_more}
+use Rattle.gw_world.specs.Steps.{restarted}
+use Rattle.gw_node.specs.Event.{NothingHappens, IsTorn, IsMade, OwnStep, TakeStep, CompactStep}
 
 pub record HasRoom (gateway : Gateway) : Type 0 where
   pub now : first_passed gateway.taken ≡ None
   pub back : first_passed (gateway.taken ++ gateway.refused) ≡ None
   pub runs : gateway.drive.halted ≡ false → gateway.refused ≡ []
 
-still-room : (old new : Gateway) (made : List (List Op)) → IsUnchanged old new made → HasRoom old → HasRoom new
+still-room : (old new : Gateway) (made : List (List Op)) → NothingHappens old new made → HasRoom old → HasRoom new
 still-room old new made u r = subst HasRoom (sym u.same) r
 
 torn-room : (old : Gateway) (delta : List Op) (new : Gateway) (made : List (List Op)) → IsTorn old delta new made → HasRoom old → HasRoom new
@@ -75,5 +77,5 @@ room-back false S refused now back = now
 
 pub restart-room : (kept : ℕ) (old : Gateway) → HasRoom old → HasRoom (restarted kept old)
 restart-room kept old r =
-    let room = room-back (has_refused kept old) old.taken old.refused r.now r.back in
+    let room = room-back (has_more old.config.gateway old.drive (left_by kept old.drive)) old.taken old.refused r.now r.back in
     record { now = room; back = nothing-more (restarted kept old).taken [] refl room; runs = λ _. refl }

@@ -8,7 +8,7 @@ use Rattle.rep_ops.specs.Sets.{operation_at, put_at, is_acknowledged, Stands, Wi
 use Rattle.rep_model.proofs.Joins.{all-moved, same-elements, same_sym, same_trans, within-standing}
 use Rattle.rep_model.proofs.Named.{clients-thin}
 use Rattle.rep_model.proofs.Thin.{thin-same, view-thin}
-use Rattle.sn_flow.specs.declared.config.Config.{Config}
+use Rattle.sn_local.specs.declared.config.Config.{Config}
 use Rattle.sn_flow.proofs.Lists.{all-append}
 use Rattle.gw_world.specs.declared.event.Event.{Event}
 use Rattle.gw_world.specs.declared.event.Event.TheVariants.{Frame, Tick, Take, Answer as Asks, WriteFails, Compact, Restart, Show}
@@ -18,9 +18,10 @@ use Rattle.gw_node.specs.declared.out.Out.{Out}
 use Rattle.gw_node.specs.declared.refusal.Refusal.{Refusal}
 use Rattle.gw_node.specs.Parts.{said}
 use Rattle.gw_node.specs.Occasions.{Datagram, Clock}
-use Rattle.gw_world.specs.Gateways.{Gateway}
+use Rattle.gw_node.specs.Gateways.{Gateway}
 use Rattle.gw_world.specs.Field.{Field, new_field, changed, failing, After, Run, shown}
-use Rattle.gw_world.specs.Steps.{TakeStep, restarted}
+use Rattle.gw_world.specs.Steps.{restarted}
+use Rattle.gw_node.specs.Event.{TakeStep}
 use Rattle.gw_world.specs.Whole.{listed, everything, HasTakenAll, Arranges, NoneFails}
 use Rattle.gw_world.proofs.Consistency.{WholeField, start-taken, field-whole, parts-consistent}
 use Rattle.gw_world.proofs.Failures.{AreWell, after-well, start-well}

@@ -9,11 +9,11 @@ use Rattle.rep_ops.specs.Sets.{operation_at, put_at, Same}
 use Rattle.rep_ops.specs.Deltas.{IsDelta}
 use Rattle.rep_ops.specs.Making.{IsDeltaOf}
 use Rattle.rep_model.specs.Taking.{AllAgree}
-use Rattle.sn_flow.specs.declared.config.Config.{Config}
-use Rattle.sn_flow.specs.declared.plan.Plan.{Plan}
-use Rattle.sn_flow.specs.Plans.{seen_of}
-use Rattle.sn_flow.specs.Own.{IsOfDraft}
-use Rattle.sn_flow.specs.Flush.{IsFlush, AreFlush}
+use Rattle.sn_local.specs.declared.config.Config.{Config}
+use Rattle.sn_plan.specs.declared.plan.Plan.{Plan}
+use Rattle.sn_local.specs.Seen.{seen_of}
+use Rattle.sn_plan.specs.Own.{IsOfDraft}
+use Rattle.sn_plan.specs.Flush.{IsFlush, AreFlush}
 use Rattle.sn_deliver.proofs.Drafting.{step-drafted, tick-drafted}
 use Rattle.sn_flow.proofs.Stepping.{step-fits, step-flush, step-new_operation, step-new_put}
 use Rattle.sn_flow.proofs.Flushness.{flush-start, flush-taken}
@@ -21,9 +21,12 @@ use Rattle.gw_node.specs.declared.out.Out.{Out}
 use Rattle.gw_node.specs.declared.refusal.Refusal.{Refusal}
 use Rattle.gw_node.specs.declared.refusal.Refusal.TheVariants as refusals
 use Rattle.gw_node.specs.Occasions.{Occasion, Datagram, Clock}
-use Rattle.gw_world.specs.Gateways.{Gateway, new_gateway, with_refused}
+use Rattle.gw_node.specs.Gateways.{Gateway, new_gateway, with_refused}
 use Rattle.gw_world.specs.Field.{Field, IsAt}
-use Rattle.gw_world.specs.Steps.{HaveName, IsUnchanged, IsTorn, IsWritable, IsMade, IsPlan, OwnStep, TakeStep, CompactStep, has_refused, restarted}
+use Rattle.gw_node.specs.Drives.{left_by, has_more}
+use Rattle.gw_world.specs.Steps.{restarted}
+use Rattle.gw_node.specs.Event.{HaveName, NothingHappens, IsTorn, IsMade, IsPlan, OwnStep, TakeStep, CompactStep}
+use Rattle.gw_node.specs.Plans.{IsWritable}
 use Rattle.gw_world.specs.Events.{made_of}
 use Rattle.gw_world.specs.Steady.{IsKnown, IsSteady}
 use Rattle.gw_world.proofs.Numbers.{First, place_of-first, first-number, first-set}
@@ -46,7 +49,7 @@ pub record Stepped (old new : Gateway) (made : List (List Op)) : Type 0 where
   pub taken : new.taken ≡ old.taken ++ delta
   pub one : made ≡ delta ∷ []
 
-pub still : (old new : Gateway) (made : List (List Op)) → IsUnchanged old new made → Still old new made
+pub still : (old new : Gateway) (made : List (List Op)) → NothingHappens old new made → Still old new made
 still old new made u = record { config = ap (λ (x : Gateway). x.config) u.same; taken = ap (λ (x : Gateway). x.taken) u.same; none = u.none }
 
 -- a gateway that took this, and made nothing
@@ -74,7 +77,7 @@ compact-still old new (Err refusals.Memory) h = absurd h
 -- a restart leaves it, or brings back what was refused
 pub restart-moves : (kept : ℕ) (old : Gateway) → Still old (restarted kept old) [] ⊎ Fed old old.refused (restarted kept old) []
 restart-moves kept old =
-    elim (has_refused kept old) as (λ b. has_refused kept old ≡ b → Still old (restarted kept old) [] ⊎ Fed old old.refused (restarted kept old) []) [
+    elim (has_more old.config.gateway old.drive (left_by kept old.drive)) as (λ b. has_more old.config.gateway old.drive (left_by kept old.drive) ≡ b → Still old (restarted kept old) [] ⊎ Fed old old.refused (restarted kept old) []) [
       | true ↦ λ e. inr (record { config = refl; taken = ap (λ (b : Bool). with_refused b old.taken old.refused) e; none = refl })
       | false ↦ λ e. inl (record { config = refl; taken = ap (λ (b : Bool). with_refused b old.taken old.refused) e; none = refl })
     ] refl
@@ -85,7 +88,7 @@ nothing-back false S refused none = refl
 
 -- where nothing was refused it leaves it
 pub restart-still : (kept : ℕ) (old : Gateway) → old.refused ≡ [] → Still old (restarted kept old) []
-restart-still kept old none = record { config = refl; taken = nothing-back (has_refused kept old) old.taken old.refused none; none = refl }
+restart-still kept old none = record { config = refl; taken = nothing-back (has_more old.config.gateway old.drive (left_by kept old.drive)) old.taken old.refused none; none = refl }
 
 made-moves : (old : Gateway) (plan : Plan) (ops : List Op) (delta : Option (List Op)) (new : Gateway) (made : List (List Op)) → IsOfDraft old.config.gateway (seen_of old.taken) plan → plan.ops ≡ ops → IsMade ops old plan delta new made → Still old new made ⊎ Stepped old new made
 made-moves old plan [] None new made p e h = inl (record { config = ap (λ (x : Gateway). x.config) h.1; taken = ap (λ (x : Gateway). x.taken) h.1; none = h.0 })

@@ -10,7 +10,7 @@ use Rattle.rep_ops.specs.declared.op.Op.TheVariants.{Session as OfSession, Put a
 use Rattle.rep_ops.specs.Deltas.{IsDelta}
 use Rattle.rep_ops.specs.Splitting.{all_of}
 use Rattle.rep_model.proofs.Joins.{all-moved}
-use Rattle.sn_flow.specs.declared.config.Config.{Config}
+use Rattle.sn_local.specs.declared.config.Config.{Config}
 use Rattle.sn_flow.proofs.Lists.{all-append}
 use Rattle.gw_world.specs.declared.event.Event.{Event}
 use Rattle.gw_world.specs.declared.event.Event.TheVariants.{Frame, Tick, Take, Answer as Asks, WriteFails, Compact, Restart, Show}
@@ -21,9 +21,10 @@ use Rattle.gw_node.specs.declared.refusal.Refusal.{Refusal}
 use Rattle.gw_node.specs.declared.refusal.Refusal.TheVariants as refusals
 use Rattle.gw_node.specs.Parts.{said}
 use Rattle.gw_node.specs.Occasions.{Occasion, Datagram, Clock}
-use Rattle.gw_world.specs.Gateways.{Gateway}
+use Rattle.gw_node.specs.Gateways.{Gateway}
 use Rattle.gw_world.specs.Field.{Field, new_field, IsAt, changed, failing, After, Run, peer_of}
-use Rattle.gw_world.specs.Steps.{OwnStep, TakeStep, AnswerStep, CompactStep, restarted}
+use Rattle.gw_world.specs.Steps.{AnswerStep, restarted}
+use Rattle.gw_node.specs.Event.{OwnStep, TakeStep, CompactStep}
 use Rattle.gw_world.specs.Events.{made_of, answered_of}
 use Rattle.gw_world.specs.Whole.{everything, number_of, AreMadeOnce, made_by, MayMake, Arranges, NoneFails, told, brought_by, brought}
 use Rattle.gw_world.proofs.Alone.{delta-place, contains_at}
@@ -108,7 +109,7 @@ telling-own W field ts t n i old next made s at occasion now answer h =
     (telling-moved W field ts t i old next made at.1 n s (place_of-first n i field.gateways at.0) (own-moves old occasion now answer next made h))
 
 -- a delivery tells of nothing that was made
-take-told : (old next : Gateway) (delta : List Op) (answer : Result Out Refusal) (made : List (List Op)) → TakeStep old delta answer next made → (made ≡ []) × (made_of answer ≡ []) × (answered_of answer ≡ [])
+pub take-told : (old next : Gateway) (delta : List Op) (answer : Result Out Refusal) (made : List (List Op)) → TakeStep old delta answer next made → (made ≡ []) × (made_of answer ≡ []) × (answered_of answer ≡ [])
 take-told old next delta (Ok out) made h = (h.2, ap (λ (o : Out). made_of (Ok o)) h.0, ap (λ (o : Out). o.answer) h.0)
 take-told old next delta (Err (refusals.Conflict client)) made h = (h.1.none, refl, refl)
 take-told old next delta (Err refusals.Full) made h = (h.1.none, refl, refl)

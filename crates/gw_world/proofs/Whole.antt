@@ -8,15 +8,16 @@ use Rattle.rep_ops.specs.declared.op.Op.TheVariants.{Session as OfSession, Put a
 use Rattle.rep_ops.specs.Deltas.{IsDelta}
 use Rattle.rep_ops.specs.Sets.{operation_at, put_at, Stands}
 use Rattle.rep_model.proofs.Joins.{all-moved}
-use Rattle.sn_flow.specs.declared.plan.Plan.{Plan}
-use Rattle.sn_flow.specs.Plans.{seen_of}
-use Rattle.sn_flow.specs.Own.{IsOwn, IsFresh, IsOfDraft}
-use Rattle.sn_flow.specs.Flush.{AreFlush, stamp_of}
+use Rattle.sn_plan.specs.declared.plan.Plan.{Plan}
+use Rattle.sn_local.specs.Seen.{seen_of}
+use Rattle.sn_plan.specs.Own.{IsOwn, IsFresh, IsOfDraft}
+use Rattle.sn_plan.specs.Flush.{AreFlush, stamp_of}
 use Rattle.sn_flow.proofs.Lists.{all-append, all-weaken}
 use Rattle.sn_flow.proofs.Names.{plan-own}
 use Rattle.sn_flow.proofs.Stepping.{step-new_operation, step-new_put}
-use Rattle.gw_world.specs.Gateways.{Gateway}
-use Rattle.gw_world.specs.Steps.{HaveName, IsWritable}
+use Rattle.gw_node.specs.Gateways.{Gateway}
+use Rattle.gw_node.specs.Event.{HaveName}
+use Rattle.gw_node.specs.Plans.{IsWritable}
 use Rattle.gw_world.specs.Steady.{IsKnown}
 use Rattle.gw_world.specs.Whole.{number_of}
 use Rattle.gw_world.proofs.Alone.{turned, some-is, delta-stands, stands-left, stands-right, stands-contains}

@@ -13,10 +13,11 @@ use Rattle.gw_node.specs.declared.out.Out.{Out}
 use Rattle.gw_node.specs.declared.refusal.Refusal.{Refusal}
 use Rattle.gw_node.specs.Parts.{said}
 use Rattle.gw_node.specs.Occasions.{Datagram, Clock}
-use Rattle.gw_world.specs.Gateways.{Gateway}
-use Rattle.sn_flow.specs.declared.config.Config.{Config}
+use Rattle.gw_node.specs.Gateways.{Gateway}
+use Rattle.sn_local.specs.declared.config.Config.{Config}
 use Rattle.gw_world.specs.Field.{Field, new_field, IsAt, changed, failing, After, Run, gateway_of}
-use Rattle.gw_world.specs.Steps.{TakeStep, AnswerStep, restarted}
+use Rattle.gw_world.specs.Steps.{AnswerStep, restarted}
+use Rattle.gw_node.specs.Event.{TakeStep}
 use Rattle.gw_world.specs.Whole.{everything, number_of}
 use Rattle.gw_world.proofs.Answering.{answered, all-answered}
 use Rattle.gw_world.proofs.Each.{all-at, EachOf, each-weaken, each-grown, each-all, all-each}

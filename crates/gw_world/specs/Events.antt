@@ -1,6 +1,5 @@
--- What an event does to what the gateways keep, and to their disks. `olds` and `news` have for each gateway what its replica keeps in the
--- place of what it has taken.
-use Rattle.std.specs.Prelude.{◌-◌, List, [], Result, Ok, Err}
+-- The deltas that an answer brings.
+use Rattle.std.specs.Prelude.{List, [], Result, Ok, Err}
 use Rattle.std.specs.Option.{option_to_list}
 use Rattle.rep_ops.specs.declared.op.Op.{Op}
 use Rattle.gw_node.specs.declared.out.Out.{Out}

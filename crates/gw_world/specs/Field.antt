@@ -3,7 +3,7 @@ use Rattle.std.specs.Prelude.{Bool, ◌≡◌, ◌⊎◌, ℕ, ◌-◌, ◌≤�
 use Rattle.rep_ops.specs.declared.op.Op.{Op}
 use Rattle.rep_model.specs.declared.view.ClientView.{ClientView}
 use Rattle.rep_model.specs.Views.{view, clients}
-use Rattle.sn_flow.specs.declared.config.Config.{Config}
+use Rattle.sn_local.specs.declared.config.Config.{Config}
 use Rattle.gw_world.specs.declared.event.Event.{Event}
 use Rattle.gw_world.specs.declared.event.Event.TheVariants.{Frame, Tick, Take, Answer as Asks, WriteFails, Compact, Restart, Show}
 use Rattle.gw_world.specs.declared.event.Answer.{Answer}
@@ -12,9 +12,11 @@ use Rattle.gw_node.specs.declared.refusal.Refusal.{Refusal}
 use Rattle.gw_node.specs.Parts.{said}
 use Rattle.gw_world.specs.declared.event.Answer.TheVariants.{Node, Views, Records, Nothing}
 use Rattle.gw_node.specs.Occasions.{Occasion, Datagram, Clock}
-use Rattle.gw_world.specs.Drives.{arranged}
-use Rattle.gw_world.specs.Gateways.{Gateway, new_gateway, place_of}
-use Rattle.gw_world.specs.Steps.{OwnStep, TakeStep, AnswerStep, CompactStep, records_left, restarted}
+use Rattle.gw_node.specs.Drives.{arranged}
+use Rattle.gw_world.specs.Places.{place_of}
+use Rattle.gw_node.specs.Gateways.{Gateway, new_gateway}
+use Rattle.gw_world.specs.Steps.{AnswerStep, records_left, restarted}
+use Rattle.gw_node.specs.Event.{OwnStep, TakeStep, CompactStep}
 
 -- the gateways, and the deltas made or answered, in the order of making
 pub record Field : Type 0 where

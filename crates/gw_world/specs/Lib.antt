@@ -1,12 +1,10 @@
 pub mod Faults
-pub mod Drives
-pub mod Gateways
+pub mod Places
 pub mod Steps
 pub mod Worlds
 pub mod Events
 pub mod Field
 pub mod Keeping
-pub mod Calm
 pub mod Steady
 pub mod Whole
 pub mod Telling

@@ -2,26 +2,28 @@
 use Rattle.std.specs.Prelude.{◌≡◌, ℕ, ◌+◌, List, map, take, Some, slice_get}
 use Rattle.rep_ops.specs.declared.op.Op.{Op}
 use Rattle.rep_model.specs.Views.{view}
-use Rattle.sn_flow.specs.declared.config.Config.{Config}
+use Rattle.sn_local.specs.declared.config.Config.{Config}
 use Rattle.gw_world.specs.declared.event.Event.{Event}
 use Rattle.gw_world.specs.declared.event.Answer.{Answer}
 use Rattle.gw_world.specs.declared.world.WorldFault.{WorldFault}
 use Rattle.gw_world.specs.declared.world.WorldFault.TheVariants as stops
-use Rattle.gw_world.specs.Gateways.{Gateway}
+use Rattle.jr_journal.specs.declared.disk.Disk.{Ghosts}
+use Rattle.gw_node.specs.Gateways.{Gateway}
+use Rattle.gw_node.specs.Parts.{State}
 use Rattle.gw_world.specs.Keeping.{AreShown}
 use Rattle.gw_world.specs.Field.{Field, new_field, Run, NamesNoGateway, NamesNoDelta}
 
 -- The events led the field, from its start, to these answers and deltas; and there is a node for each of its gateways, in the
--- order of the configs. `held` is the gateway that a node is, with what its replica keeps in the place of what was taken: it has
--- the config, the local state and the disk of its gateway; what is kept counts as what that has made and taken, and so do the records that a
--- crash now leaves of the disk. So each node shows of every client the view of its gateway's set.
-pub record IsWorld {N : Type 0} (held : N → Gateway) (configs : List Config) (events : List Event) (answers : List Answer) (deltas : List (List Op)) (nodes : List N) : Type 0 where
+-- order of the configs, that stands for it. `held` is what a node is: it has the config, the local state and the disk of its gateway; what
+-- its replica keeps counts as what that has made and taken, and so do the records that a crash now leaves of the disk. So each node shows of
+-- every client the view of its gateway's set.
+pub record IsWorld {N D : Type 0} {G : Ghosts D} (held : N → State G) (configs : List Config) (events : List Event) (answers : List Answer) (deltas : List (List Op)) (nodes : List N) : Type 0 where
   pub field : Field
   pub run : Run (new_field configs) events answers field
   pub listed : deltas ≡ field.deltas
   pub shown : AreShown field.gateways (map held nodes)
   pub views : (i : ℕ) (gateway : Gateway) (node : N) → slice_get field.gateways i ≡ Some gateway → slice_get nodes i ≡ Some node
-      → (c : List ℕ) → view c (held node).taken ≡ view c gateway.taken
+      → (c : List ℕ) → view c (held node).kept ≡ view c gateway.taken
 
 -- the events before the k-th, counted from 0, led the field to this
 pub record Before (configs : List Config) (events : List Event) (k : ℕ) (field : Field) (event : Event) : Type 0 where

@@ -1,7 +1,7 @@
 //! A law of a field: nothing but the events fixes a run.
 
 ghost use Rattle.std.specs.Prelude.{◌≡◌, ◌≢◌, List, map};
-ghost use Rattle.sn_flow.specs.declared.config.Config.{Config};
+ghost use Rattle.sn_local.specs.declared.config.Config.{Config};
 ghost use Rattle.gw_world.specs.declared.event.Event.{Event};
 ghost use Rattle.gw_world.specs.declared.event.Answer.{Answer};
 ghost use Rattle.gw_world.specs.declared.world.WorldFault.{WorldFault};

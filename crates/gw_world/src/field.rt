@@ -5,14 +5,9 @@ ghost use Rattle.std.specs.List.{AllByRecursion};
 ghost use Rattle.rep_model.specs.Views.{view as view_by};
 ghost use Rattle.gw_node.specs.declared.refusal.Refusal.TheVariants as refusals;
 ghost use Rattle.gw_node.specs.Parts.{state_of, told, said, disk_of, records_of};
-ghost use Rattle.gw_node.specs.Occasions.{Datagram, Clock};
-ghost use Rattle.gw_world.specs.Calm.{IsCalm, keeping};
-ghost use Rattle.gw_world.specs.inner.Calm.{IsFed, StaysCalm};
-ghost use Rattle.gw_world.specs.inner.Plans.{OwnKept, TakeKept, CompactKept, IsRestarted, IsArranged, IsAnswered, AskKept};
-ghost use Rattle.gw_world.specs.inner.Events.{OwnAt, TakeAt, CompactAt, RestartAt, FailAt, IsSafe};
+ghost use Rattle.gw_node.specs.declared.step.Step.TheVariants as steps;
+ghost use Rattle.gw_world.specs.inner.Events.{IsFed, GoesOn, StartsAgain, FailsNext, IsStood, IsAnswered, AskKept, place_in, Moves, StepsAt};
 ghost use Rattle.gw_world.specs.Field.{shown};
-ghost use Rattle.gw_world.specs.Gateways.{place_of as gateway_place};
-ghost use Rattle.gw_world.specs.Steps.{records_left};
 
 use super::world::WorldFault;
 use gw_node::{Node, NodeFault, Out};
@@ -27,7 +22,7 @@ use std::sync::Arc;
 
 /// The place of the gateway of this number.
 pub fn place_of<R: Replica>(nodes: &[Node<R, MemoryDisk>], number: u8) -> Option<usize>
-    ensures place { result ≡ gateway_place number (map (λ node. keeping R.kept node) nodes.now) }
+    ensures place { result ≡ place_in number 0 (map (λ node. state_of R.kept node) nodes.now) }
     ensures within { IfSome result (λ place. place < length nodes.now) }
 {
     for place in 0..nodes.len() {
@@ -66,9 +61,8 @@ fn frame_to<R: Replica>(
     bytes: &[u8],
     now: u64,
 ) -> Result<Result<Arc<Out>, NodeFault>, WorldFault>
-    requires { IsCalm (state_of R.kept node.old) }
-    ensures ok { IfOk result (λ answer. StaysCalm (λ old new. OwnKept old (Datagram from bytes.now)
-        now (said answer) new) (state_of R.kept node.old) (state_of R.kept node.new)) }
+    ensures ok { IfOk result (λ answer. GoesOn (state_of R.kept node.old)
+        (steps.Frame from bytes.now now) (said answer) (state_of R.kept node.new)) }
     ensures err { IfErr result (λ fault. fault ≡ WorldFault.Memory) }
 {
     let answer = node.frame(alloc, from, bytes, now);
@@ -81,9 +75,8 @@ fn tick_to<R: Replica>(
     node: &mut Node<R, MemoryDisk>,
     now: u64,
 ) -> Result<Result<Arc<Out>, NodeFault>, WorldFault>
-    requires { IsCalm (state_of R.kept node.old) }
-    ensures ok { IfOk result (λ answer. StaysCalm (λ old new. OwnKept old Clock now (said answer)
-        new) (state_of R.kept node.old) (state_of R.kept node.new)) }
+    ensures ok { IfOk result (λ answer. GoesOn (state_of R.kept node.old) (steps.Tick now)
+        (said answer) (state_of R.kept node.new)) }
     ensures err { IfErr result (λ fault. fault ≡ WorldFault.Memory) }
 {
     let answer = node.tick(alloc, now);
@@ -96,9 +89,8 @@ fn take_to<R: Replica>(
     node: &mut Node<R, MemoryDisk>,
     delta: &Delta,
 ) -> Result<Result<Arc<Out>, NodeFault>, WorldFault>
-    requires { IsCalm (state_of R.kept node.old) }
-    ensures ok { IfOk result (λ answer. StaysCalm (λ old new. TakeKept old delta.now (said answer)
-        new) (state_of R.kept node.old) (state_of R.kept node.new)) }
+    ensures ok { IfOk result (λ answer. GoesOn (state_of R.kept node.old) (steps.Take delta.now)
+        (said answer) (state_of R.kept node.new)) }
     ensures err { IfErr result (λ fault. fault ≡ WorldFault.Memory) }
 {
     let answer = node.take(alloc, delta);
@@ -110,9 +102,8 @@ fn compact_in<R: Replica>(
     alloc: Global,
     node: &mut Node<R, MemoryDisk>,
 ) -> Result<Result<Arc<Out>, NodeFault>, WorldFault>
-    requires { IsCalm (state_of R.kept node.old) }
-    ensures ok { IfOk result (λ answer. StaysCalm (λ old new. CompactKept old (said answer) new)
-        (state_of R.kept node.old) (state_of R.kept node.new)) }
+    ensures ok { IfOk result (λ answer. GoesOn (state_of R.kept node.old) steps.Compact
+        (said answer) (state_of R.kept node.new)) }
     ensures err { IfErr result (λ fault. fault ≡ WorldFault.Memory) }
 {
     let answer = node.compact(alloc);
@@ -121,9 +112,7 @@ fn compact_in<R: Replica>(
 
 /// The next write of a gateway is to fail.
 fn fail_in<R: Replica>(node: &mut Node<R, MemoryDisk>, bytes: u64, sync: bool)
-    requires { IsCalm (state_of R.kept node.old) }
-    ensures { StaysCalm (λ old new. IsArranged bytes sync old new) (state_of R.kept node.old)
-        (state_of R.kept node.new) }
+    ensures { FailsNext (state_of R.kept node.old) bytes sync (state_of R.kept node.new) }
 {
     node.fail_next(bytes as usize, sync);
 }
@@ -137,12 +126,9 @@ pub fn frame_at<R: Replica>(
     bytes: &[u8],
     now: u64,
 ) -> Result<Result<Arc<Out>, NodeFault>, WorldFault>
-    requires place { place < vec_len nodes.old }
-    requires calm { AllByRecursion (λ node. IsCalm (state_of R.kept node)) nodes.old.items }
-    ensures calm { OnOk result (AllByRecursion (λ node. IsCalm (state_of R.kept node))
-        nodes.new.items) }
-    ensures ok { IfOk result (λ answer. OwnAt (map (λ node. keeping R.kept node) nodes.old.items)
-        place (Datagram from bytes.now) now (said answer) (map (λ node. keeping R.kept node)
+    requires { place < vec_len nodes.old }
+    ensures ok { IfOk result (λ answer. StepsAt (map (λ node. state_of R.kept node) nodes.old.items)
+        place (steps.Frame from bytes.now now) (said answer) (map (λ node. state_of R.kept node)
         nodes.new.items)) }
     ensures err { IfErr result (λ fault. fault ≡ WorldFault.Memory) }
 {
@@ -157,12 +143,9 @@ pub fn tick_at<R: Replica>(
     place: usize,
     now: u64,
 ) -> Result<Result<Arc<Out>, NodeFault>, WorldFault>
-    requires place { place < vec_len nodes.old }
-    requires calm { AllByRecursion (λ node. IsCalm (state_of R.kept node)) nodes.old.items }
-    ensures calm { OnOk result (AllByRecursion (λ node. IsCalm (state_of R.kept node))
-        nodes.new.items) }
-    ensures ok { IfOk result (λ answer. OwnAt (map (λ node. keeping R.kept node) nodes.old.items)
-        place Clock now (said answer) (map (λ node. keeping R.kept node) nodes.new.items)) }
+    requires { place < vec_len nodes.old }
+    ensures ok { IfOk result (λ answer. StepsAt (map (λ node. state_of R.kept node) nodes.old.items)
+        place (steps.Tick now) (said answer) (map (λ node. state_of R.kept node) nodes.new.items)) }
     ensures err { IfErr result (λ fault. fault ≡ WorldFault.Memory) }
 {
     let node = &mut nodes[place];
@@ -176,12 +159,10 @@ pub fn take_at<R: Replica>(
     place: usize,
     delta: &Delta,
 ) -> Result<Result<Arc<Out>, NodeFault>, WorldFault>
-    requires place { place < vec_len nodes.old }
-    requires calm { AllByRecursion (λ node. IsCalm (state_of R.kept node)) nodes.old.items }
-    ensures calm { OnOk result (AllByRecursion (λ node. IsCalm (state_of R.kept node))
-        nodes.new.items) }
-    ensures ok { IfOk result (λ answer. TakeAt (map (λ node. keeping R.kept node) nodes.old.items)
-        place delta.now (said answer) (map (λ node. keeping R.kept node) nodes.new.items)) }
+    requires { place < vec_len nodes.old }
+    ensures ok { IfOk result (λ answer. StepsAt (map (λ node. state_of R.kept node) nodes.old.items)
+        place (steps.Take delta.now) (said answer) (map (λ node. state_of R.kept node)
+        nodes.new.items)) }
     ensures err { IfErr result (λ fault. fault ≡ WorldFault.Memory) }
 {
     let node = &mut nodes[place];
@@ -194,12 +175,9 @@ pub fn compact_at<R: Replica>(
     nodes: &mut Vec<Node<R, MemoryDisk>>,
     place: usize,
 ) -> Result<Result<Arc<Out>, NodeFault>, WorldFault>
-    requires place { place < vec_len nodes.old }
-    requires calm { AllByRecursion (λ node. IsCalm (state_of R.kept node)) nodes.old.items }
-    ensures calm { OnOk result (AllByRecursion (λ node. IsCalm (state_of R.kept node))
-        nodes.new.items) }
-    ensures ok { IfOk result (λ answer. CompactAt (map (λ node. keeping R.kept node)
-        nodes.old.items) place (said answer) (map (λ node. keeping R.kept node) nodes.new.items)) }
+    requires { place < vec_len nodes.old }
+    ensures ok { IfOk result (λ answer. StepsAt (map (λ node. state_of R.kept node) nodes.old.items)
+        place steps.Compact (said answer) (map (λ node. state_of R.kept node) nodes.new.items)) }
     ensures err { IfErr result (λ fault. fault ≡ WorldFault.Memory) }
 {
     let node = &mut nodes[place];
@@ -213,11 +191,10 @@ pub fn fail_at<R: Replica>(
     bytes: u64,
     sync: bool,
 )
-    requires place { place < vec_len nodes.old }
-    requires calm { AllByRecursion (λ node. IsCalm (state_of R.kept node)) nodes.old.items }
-    ensures calm { AllByRecursion (λ node. IsCalm (state_of R.kept node)) nodes.new.items }
-    ensures done { FailAt (map (λ node. keeping R.kept node) nodes.old.items) place bytes sync
-        (map (λ node. keeping R.kept node) nodes.new.items) }
+    requires { place < vec_len nodes.old }
+    ensures { Moves (map (λ node. state_of R.kept node) nodes.old.items) place
+        (λ old new. FailsNext old bytes sync new) (map (λ node. state_of R.kept node)
+        nodes.new.items) }
 {
     let node = &mut nodes[place];
     fail_in(node, bytes, sync)
@@ -245,14 +222,9 @@ fn open_again<R: Replica>(
     node: Node<R, MemoryDisk>,
     left: u64,
 ) -> Result<Node<R, MemoryDisk>, WorldFault>
-    requires calm { IsCalm (state_of R.kept node) }
-    requires safe { IsSafe (keeping R.kept node) }
-    ensures calm { IfOk result (λ new. IsCalm (state_of R.kept new)) }
-    ensures configured { IfOk result (λ new. (keeping R.kept new).config
-        ≡ (keeping R.kept node).config) }
-    ensures ok { IfOk result (λ new. IsRestarted left (keeping R.kept node) (keeping R.kept new)) }
-    ensures records { IfOk result (λ new. records_of new ≡ records_left left
-        (keeping R.kept node)) }
+    requires { IsStood (state_of R.kept node) }
+    ensures ok { IfOk result (λ new. StartsAgain (state_of R.kept node) left (records_of new)
+        (state_of R.kept new)) }
     ensures err { IfErr result (λ fault. fault ≡ WorldFault.Memory) }
 {
     let (config, mut disk) = node.into_parts();
@@ -282,12 +254,10 @@ pub fn restart_at<R: Replica>(
     left: u64,
 ) -> Result<u64, WorldFault>
     requires place { place < vec_len nodes.old }
-    requires calm { AllByRecursion (λ node. IsCalm (state_of R.kept node)) nodes.old.items }
-    requires safe { AllByRecursion IsSafe (map (λ node. keeping R.kept node) nodes.old.items) }
-    ensures calm { OnOk result (AllByRecursion (λ node. IsCalm (state_of R.kept node))
-        nodes.new.items) }
-    ensures ok { IfOk result (λ count. RestartAt (map (λ node. keeping R.kept node) nodes.old.items)
-        place left count (map (λ node. keeping R.kept node) nodes.new.items)) }
+    requires stood { AllByRecursion IsStood (map (λ node. state_of R.kept node) nodes.old.items) }
+    ensures ok { IfOk result (λ count. Moves (map (λ node. state_of R.kept node) nodes.old.items)
+        place (λ old new. StartsAgain old left count new) (map (λ node. state_of R.kept node)
+        nodes.new.items)) }
     ensures err { IfErr result (λ fault. fault ≡ WorldFault.Memory) }
 {
     let old = nodes.remove(place);
@@ -304,7 +274,7 @@ fn answer_of<R: Replica>(
     digest: &Digest,
 ) -> Result<Arc<Out>, WorldFault>
     ensures ok { IfOk result (λ out.
-        IsAnswered digest.now (keeping R.kept peer.now).taken (said (Ok out))) }
+        IsAnswered digest.now (state_of R.kept peer.now).kept (said (Ok out))) }
     ensures err { IfErr result (λ fault. fault ≡ WorldFault.Memory) }
 {
     match peer.answer(alloc, digest) {
@@ -320,7 +290,7 @@ pub fn ask<R: Replica>(
     peer: &Node<R, MemoryDisk>,
 ) -> Result<Result<Arc<Out>, NodeFault>, WorldFault>
     ensures ok { IfOk result (λ answer.
-        AskKept (keeping R.kept asker.now).taken (keeping R.kept peer.now).taken (said answer)) }
+        AskKept (state_of R.kept asker.now).kept (state_of R.kept peer.now).kept (said answer)) }
     ensures err { IfErr result (λ fault. fault ≡ WorldFault.Memory) }
 {
     match asker.digest(alloc) {
@@ -339,7 +309,7 @@ fn view_of<R: Replica>(
     node: &Node<R, MemoryDisk>,
     client: &ClientId,
 ) -> Result<ClientView, WorldFault>
-    ensures ok { IfOk result (λ seen. seen ≡ view_by client.now (keeping R.kept node.now).taken) }
+    ensures ok { IfOk result (λ seen. seen ≡ view_by client.now (state_of R.kept node.now).kept) }
     ensures err { IfErr result (λ fault. fault ≡ WorldFault.Memory) }
 {
     match node.view(alloc, client) {
@@ -356,7 +326,7 @@ pub fn show_at<R: Replica>(
     alloc: Global,
     node: &Node<R, MemoryDisk>,
 ) -> Result<Sequence<(ClientId, ClientView)>, WorldFault>
-    ensures ok { IfOk result (λ views. views ≡ shown (keeping R.kept node.now).taken) }
+    ensures ok { IfOk result (λ views. views ≡ shown (state_of R.kept node.now).kept) }
     ensures err { IfErr result (λ fault. fault ≡ WorldFault.Memory) }
 {
     let Ok(clients) = node.clients(alloc) else {

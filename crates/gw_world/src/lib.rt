@@ -4,9 +4,9 @@
 //! events come one after the other, and the result is what each gateway answered, what deltas were made or answered, and the
 //! gateways as they then are. A disk may fail in any write, after any number of bytes. A gateway may write its journal anew, and it
 //! may stop and be opened again from what its disk then has: its set stays, and what it refused when the disk failed is in it whole, or
-//! not at all. What `run` must give is defined in `specs/` over sets of operations: `Gateways` and `Field` (a field, and
-//! what events may do to it), `Drives` (the disk under a gateway: which bytes its two slots have), `Steps` (what one event may do
-//! at one gateway), `Worlds` (the result). No journal, map or cache stands there, and of a replica only what it keeps.
+//! not at all. What `run` must give is defined over sets of operations: what a call does to one gateway in `gw_node` (`Event`,
+//! `Gateways`, `Drives`), the rest here in `specs/`: `Field` (a field, and what events may do to it), `Places`, `Steps` (a gateway stops and
+//! is opened again, a digest goes to a peer), `Worlds` (the result), `Keeping` (nodes and the gateways that they stand for).
 //!
 //! - `event`: what can happen (`Event`), and what is answered (`Answer`).
 //! - `world`: the result of a run (`World`), or why there is none (`WorldFault`).

@@ -2,14 +2,13 @@
 
 ghost use Rattle.std.specs.Prelude.{◌≡◌, ◌++◌, ◌∷◌, [], ◌<◌, List, MatchOption, IfOk, IfErr, OnOk, length, map, vec_len};
 ghost use Rattle.std.specs.List.{AllByRecursion};
-ghost use Rattle.gw_node.specs.Occasions.{Datagram, Clock};
+ghost use Rattle.gw_node.specs.declared.step.Step.TheVariants as steps;
 ghost use Rattle.gw_node.specs.Parts.{state_of, said};
-ghost use Rattle.gw_world.specs.Calm.{IsCalm, keeping};
 ghost use Rattle.gw_world.specs.Events.{made_of, answered_of};
-ghost use Rattle.gw_world.specs.inner.Events.{Join, OwnAnswered, TakeAnswered, CompactAnswered, RestartAnswered, FailAnswered, AskAnswered, PeerAnswered, ShowAnswered, IsListed, EventAt, EventKept, NoPeer, IsMissing, IsStopKept, IsSafe, IsLed, PlayedKept, StopsKept};
-ghost use Rattle.gw_world.specs.Gateways.{new_gateway};
-ghost use Rattle.gw_world.specs.Keeping.{Lasts};
-ghost use Rattle.gw_world.specs.Steps.{IsWritable};
+ghost use Rattle.gw_world.specs.inner.Events.{Join, OwnAnswered, StepAnswered, RestartAnswered, FailAnswered, AskAnswered, PeerAnswered, ShowAnswered, IsListed, EventAt, EventPlayed, NoPeer, IsMissing, IsStopped, IsStood, IsLed, Played, StopsRun};
+ghost use Rattle.gw_node.specs.Gateways.{new_gateway};
+ghost use Rattle.gw_world.specs.Keeping.{IsShown, AreShown};
+ghost use Rattle.gw_node.specs.Plans.{IsWritable};
 ghost use Rattle.gw_world.specs.Worlds.{IsWorld, IsStop};
 ghost use Rattle.rep_ops.specs.declared.op.Op.{Op};
 
@@ -94,12 +93,9 @@ fn play_frame<R: Replica>(
     bytes: &[u8],
     now: u64,
 ) -> Result<Answer, WorldFault>
-    requires place { place < vec_len nodes.old }
-    requires calm { AllByRecursion (λ node. IsCalm (state_of R.kept node)) nodes.old.items }
-    ensures calm { OnOk result (AllByRecursion (λ node. IsCalm (state_of R.kept node))
-        nodes.new.items) }
-    ensures ok { IfOk result (OwnAnswered (map (λ node. keeping R.kept node) nodes.old.items)
-        deltas.old.items place (Datagram from bytes.now) now (map (λ node. keeping R.kept node)
+    requires { place < vec_len nodes.old }
+    ensures ok { IfOk result (OwnAnswered (map (λ node. state_of R.kept node) nodes.old.items)
+        deltas.old.items place (steps.Frame from bytes.now now) (map (λ node. state_of R.kept node)
         nodes.new.items) deltas.new.items) }
     ensures err { IfErr result (λ fault. fault ≡ WorldFault.Memory) }
 {
@@ -116,12 +112,9 @@ fn play_tick<R: Replica>(
     place: usize,
     now: u64,
 ) -> Result<Answer, WorldFault>
-    requires place { place < vec_len nodes.old }
-    requires calm { AllByRecursion (λ node. IsCalm (state_of R.kept node)) nodes.old.items }
-    ensures calm { OnOk result (AllByRecursion (λ node. IsCalm (state_of R.kept node))
-        nodes.new.items) }
-    ensures ok { IfOk result (OwnAnswered (map (λ node. keeping R.kept node) nodes.old.items)
-        deltas.old.items place Clock now (map (λ node. keeping R.kept node) nodes.new.items)
+    requires { place < vec_len nodes.old }
+    ensures ok { IfOk result (OwnAnswered (map (λ node. state_of R.kept node) nodes.old.items)
+        deltas.old.items place (steps.Tick now) (map (λ node. state_of R.kept node) nodes.new.items)
         deltas.new.items) }
     ensures err { IfErr result (λ fault. fault ≡ WorldFault.Memory) }
 {
@@ -137,12 +130,9 @@ fn play_take<R: Replica>(
     place: usize,
     delta: &Delta,
 ) -> Result<Answer, WorldFault>
-    requires place { place < vec_len nodes.old }
-    requires calm { AllByRecursion (λ node. IsCalm (state_of R.kept node)) nodes.old.items }
-    ensures calm { OnOk result (AllByRecursion (λ node. IsCalm (state_of R.kept node))
-        nodes.new.items) }
-    ensures ok { IfOk result (TakeAnswered (map (λ node. keeping R.kept node) nodes.old.items) place
-        delta.now (map (λ node. keeping R.kept node) nodes.new.items)) }
+    requires { place < vec_len nodes.old }
+    ensures ok { IfOk result (StepAnswered (map (λ node. state_of R.kept node) nodes.old.items)
+        place (steps.Take delta.now) (map (λ node. state_of R.kept node) nodes.new.items)) }
     ensures err { IfErr result (λ fault. fault ≡ WorldFault.Memory) }
 {
     Ok(Answer::Node(take_at(alloc, nodes, place, delta)?))
@@ -154,12 +144,9 @@ fn play_compact<R: Replica>(
     nodes: &mut Vec<Node<R, MemoryDisk>>,
     place: usize,
 ) -> Result<Answer, WorldFault>
-    requires place { place < vec_len nodes.old }
-    requires calm { AllByRecursion (λ node. IsCalm (state_of R.kept node)) nodes.old.items }
-    ensures calm { OnOk result (AllByRecursion (λ node. IsCalm (state_of R.kept node))
-        nodes.new.items) }
-    ensures ok { IfOk result (CompactAnswered (map (λ node. keeping R.kept node) nodes.old.items)
-        place (map (λ node. keeping R.kept node) nodes.new.items)) }
+    requires { place < vec_len nodes.old }
+    ensures ok { IfOk result (StepAnswered (map (λ node. state_of R.kept node) nodes.old.items)
+        place steps.Compact (map (λ node. state_of R.kept node) nodes.new.items)) }
     ensures err { IfErr result (λ fault. fault ≡ WorldFault.Memory) }
 {
     Ok(Answer::Node(compact_at(alloc, nodes, place)?))
@@ -173,12 +160,9 @@ fn play_restart<R: Replica>(
     keep: u64,
 ) -> Result<Answer, WorldFault>
     requires place { place < vec_len nodes.old }
-    requires calm { AllByRecursion (λ node. IsCalm (state_of R.kept node)) nodes.old.items }
-    requires safe { AllByRecursion IsSafe (map (λ node. keeping R.kept node) nodes.old.items) }
-    ensures calm { OnOk result (AllByRecursion (λ node. IsCalm (state_of R.kept node))
-        nodes.new.items) }
-    ensures ok { IfOk result (RestartAnswered (map (λ node. keeping R.kept node) nodes.old.items)
-        place keep (map (λ node. keeping R.kept node) nodes.new.items)) }
+    requires stood { AllByRecursion IsStood (map (λ node. state_of R.kept node) nodes.old.items) }
+    ensures ok { IfOk result (RestartAnswered (map (λ node. state_of R.kept node) nodes.old.items)
+        place keep (map (λ node. state_of R.kept node) nodes.new.items)) }
     ensures err { IfErr result (λ fault. fault ≡ WorldFault.Memory) }
 {
     Ok(Answer::Records(restart_at(alloc, nodes, place, keep)?))
@@ -191,11 +175,9 @@ fn play_fail<R: Replica>(
     bytes: u64,
     sync: bool,
 ) -> Answer
-    requires place { place < vec_len nodes.old }
-    requires calm { AllByRecursion (λ node. IsCalm (state_of R.kept node)) nodes.old.items }
-    ensures calm { AllByRecursion (λ node. IsCalm (state_of R.kept node)) nodes.new.items }
-    ensures done { FailAnswered (map (λ node. keeping R.kept node) nodes.old.items) place bytes sync
-        (map (λ node. keeping R.kept node) nodes.new.items) result }
+    requires { place < vec_len nodes.old }
+    ensures { FailAnswered (map (λ node. state_of R.kept node) nodes.old.items) place bytes sync
+        (map (λ node. state_of R.kept node) nodes.new.items) result }
 {
     fail_at(nodes, place, bytes, sync);
     Answer::Nothing
@@ -211,7 +193,7 @@ fn play_ask<R: Replica>(
 ) -> Result<Answer, WorldFault>
     requires place { place < length nodes.now }
     requires other { other < length nodes.now }
-    ensures ok { IfOk result (AskAnswered (map (λ node. keeping R.kept node) nodes.now)
+    ensures ok { IfOk result (AskAnswered (map (λ node. state_of R.kept node) nodes.now)
         deltas.old.items
         place other deltas.new.items) }
     ensures err { IfErr result (λ fault. fault ≡ WorldFault.Memory) }
@@ -231,10 +213,10 @@ fn play_answer<R: Replica>(
     number: u64,
 ) -> Result<Answer, WorldFault>
     requires { place < length nodes.now }
-    ensures ok { IfOk result (PeerAnswered (map (λ node. keeping R.kept node) nodes.now)
+    ensures ok { IfOk result (PeerAnswered (map (λ node. state_of R.kept node) nodes.now)
         deltas.old.items
         place peer deltas.new.items) }
-    ensures err { IfErr result (NoPeer (map (λ node. keeping R.kept node) nodes.now) peer number) }
+    ensures err { IfErr result (NoPeer (map (λ node. state_of R.kept node) nodes.now) peer number) }
 {
     let Some(other) = place_of(nodes, peer) else {
         return Err(WorldFault::NoGateway { event: number });
@@ -249,7 +231,7 @@ fn play_show<R: Replica>(
     place: usize,
 ) -> Result<Answer, WorldFault>
     requires { place < vec_len nodes.now }
-    ensures ok { IfOk result (ShowAnswered (map (λ node. keeping R.kept node)
+    ensures ok { IfOk result (ShowAnswered (map (λ node. state_of R.kept node)
         nodes.now.items) place) }
     ensures err { IfErr result (λ fault. fault ≡ WorldFault.Memory) }
 {
@@ -280,14 +262,11 @@ fn play_at<R: Replica>(
     number: u64,
 ) -> Result<Answer, WorldFault>
     requires place { place < vec_len nodes.old }
-    requires calm { AllByRecursion (λ node. IsCalm (state_of R.kept node)) nodes.old.items }
-    requires safe { AllByRecursion IsSafe (map (λ node. keeping R.kept node) nodes.old.items) }
-    ensures calm { OnOk result (AllByRecursion (λ node. IsCalm (state_of R.kept node))
-        nodes.new.items) }
-    ensures ok { IfOk result (EventAt (map (λ node. keeping R.kept node) nodes.old.items)
-        deltas.old.items place event.now (map (λ node. keeping R.kept node) nodes.new.items)
+    requires stood { AllByRecursion IsStood (map (λ node. state_of R.kept node) nodes.old.items) }
+    ensures ok { IfOk result (EventAt (map (λ node. state_of R.kept node) nodes.old.items)
+        deltas.old.items place event.now (map (λ node. state_of R.kept node) nodes.new.items)
         deltas.new.items) }
-    ensures err { IfErr result (IsMissing (map (λ node. keeping R.kept node) nodes.old.items)
+    ensures err { IfErr result (IsMissing (map (λ node. state_of R.kept node) nodes.old.items)
         deltas.old.items
         event.now number) }
 {
@@ -321,14 +300,11 @@ fn play_event<R: Replica>(
     event: &Event,
     number: u64,
 ) -> Result<Answer, WorldFault>
-    requires calm { AllByRecursion (λ node. IsCalm (state_of R.kept node)) nodes.old.items }
-    requires safe { AllByRecursion IsSafe (map (λ node. keeping R.kept node) nodes.old.items) }
-    ensures calm { OnOk result (AllByRecursion (λ node. IsCalm (state_of R.kept node))
-        nodes.new.items) }
-    ensures ok { IfOk result (EventKept (map (λ node. keeping R.kept node) nodes.old.items)
-        deltas.old.items event.now (map (λ node. keeping R.kept node) nodes.new.items)
+    requires { AllByRecursion IsStood (map (λ node. state_of R.kept node) nodes.old.items) }
+    ensures ok { IfOk result (EventPlayed (map (λ node. state_of R.kept node) nodes.old.items)
+        deltas.old.items event.now (map (λ node. state_of R.kept node) nodes.new.items)
         deltas.new.items) }
-    ensures err { IfErr result (IsStopKept (map (λ node. keeping R.kept node) nodes.old.items)
+    ensures err { IfErr result (IsStopped (map (λ node. state_of R.kept node) nodes.old.items)
         deltas.old.items event.now number) }
 {
     match place_of(nodes.as_slice(), event.gateway()) {
@@ -341,9 +317,7 @@ fn play_event<R: Replica>(
 ///
 /// The disk stands for no operations and no failure is arranged on it, so nothing refuses the opening but want of memory.
 fn new_node<R: Replica>(alloc: Global, config: &Config) -> Result<Node<R, MemoryDisk>, WorldFault>
-    ensures ok { IfOk result (λ node. keeping R.kept node ≡ new_gateway config.now) }
-    ensures lasts { IfOk result (λ node. Lasts [] [] (keeping R.kept node)) }
-    ensures calm { IfOk result (λ node. IsCalm (state_of R.kept node)) }
+    ensures ok { IfOk result (λ node. IsShown (new_gateway config.now) (state_of R.kept node)) }
     ensures err { IfErr result (λ fault. fault ≡ WorldFault.Memory) }
 {
     match Node::open(alloc, config.copied(alloc)?, MemoryDisk::new(alloc)) {
@@ -367,12 +341,8 @@ fn new_nodes<R: Replica>(
     alloc: Global,
     configs: &[Config],
 ) -> Result<Vec<Node<R, MemoryDisk>>, WorldFault>
-    ensures ok { IfOk result (λ nodes. (map (λ node. keeping R.kept node) nodes.items)
-        ≡ map new_gateway configs.now) }
-    ensures lasts { IfOk result (λ nodes. AllByRecursion (Lasts [] [])
-        (map (λ node. keeping R.kept node) nodes.items)) }
-    ensures calm { IfOk result (λ nodes. AllByRecursion (λ node. IsCalm (state_of R.kept node))
-        nodes.items) }
+    ensures ok { IfOk result (λ nodes. AreShown (map new_gateway configs.now)
+        (map (λ node. state_of R.kept node) nodes.items)) }
     ensures err { IfErr result (λ fault. fault ≡ WorldFault.Memory) }
 {
     let mut nodes = Vec::with_capacity(alloc, configs.len())?;
@@ -389,14 +359,11 @@ fn play_all<R: Replica>(
     deltas: &mut Vec<Delta>,
     events: &[Event],
 ) -> Result<Vec<Answer>, WorldFault>
-    requires calm { AllByRecursion (λ node. IsCalm (state_of R.kept node)) nodes.old.items }
-    requires led { IsLed (map (λ node. keeping R.kept node) nodes.old.items) deltas.old.items }
-    ensures calm { OnOk result (AllByRecursion (λ node. IsCalm (state_of R.kept node))
-        nodes.new.items) }
-    ensures ok { IfOk result (PlayedKept (map (λ node. keeping R.kept node) nodes.old.items)
-        deltas.old.items events.now (map (λ node. keeping R.kept node) nodes.new.items)
+    requires { IsLed (map (λ node. state_of R.kept node) nodes.old.items) deltas.old.items }
+    ensures ok { IfOk result (Played (map (λ node. state_of R.kept node) nodes.old.items)
+        deltas.old.items events.now (map (λ node. state_of R.kept node) nodes.new.items)
         deltas.new.items) }
-    ensures err { IfErr result (StopsKept (map (λ node. keeping R.kept node) nodes.old.items)
+    ensures err { IfErr result (StopsRun (map (λ node. state_of R.kept node) nodes.old.items)
         deltas.old.items events.now) }
 {
     let mut answers = Vec::with_capacity(alloc, events.len())?;
@@ -424,12 +391,10 @@ pub fn run<R: Replica>(
     configs: &[Config],
     events: &[Event],
 ) -> Result<World<Node<R, MemoryDisk>>, WorldFault>
-    ensures ok { IfOk result (λ world. IsWorld (λ node. keeping R.kept node) configs.now events.now
-        world.answers world.deltas world.gateways) }
     // At the end no node was refused memory, and of each disk it is known which failure is arranged. What a crash would leave of it stands
     // for the set of its gateway, or for that with the whole delta that it refused, as the world's `shown` says.
-    ensures calm { IfOk result (λ world. AllByRecursion (λ node. IsCalm (state_of R.kept node))
-        world.gateways) }
+    ensures ok { IfOk result (λ world. IsWorld (λ node. state_of R.kept node) configs.now events.now
+        world.answers world.deltas world.gateways) }
     ensures err { IfErr result (IsStop configs.now events.now) }
 {
     let mut nodes = new_nodes(alloc, configs)?;

@@ -3,7 +3,7 @@ use Rattle.std.proofs.Common.{◌≡◌, ℕ, Bool, true, false, ◌||◌, List,
 use Rattle.std.specs.Prelude.{IsTrue, IfErr, OnOk, OnErr, IsErr, IsErrAnd}
 use Rattle.std.specs.Result.{is_err}
 use Rattle.std.proofs.lemmas.Bool.{and_parts, eqb-true}
-use Rattle.std.proofs.lemmas.List.{take_all}
+use Rattle.std.proofs.lemmas.List.{take_all, take_min}
 use Rattle.rep_ops.specs.declared.op.Op.{Op}
 use Rattle.jr_journal.specs.declared.disk.Slot.{Slot}
 use Rattle.jr_journal.specs.declared.disk.Slot.TheVariants.{First, Second}
@@ -14,7 +14,7 @@ use Rattle.jr_journal.specs.declared.piece.Found.{Found}
 use Rattle.jr_journal.specs.Disk.{SlotBytes, Slots, at, replaced, image, appended, all_synced, AppendsAs, SyncsAs}
 use Rattle.jr_journal.specs.Records.{written, slot_content, generation_in, records}
 use Rattle.jr_journal.specs.inner.Records.{IsReadable}
-use Rattle.jr_journal.specs.Journals.{Leaves, LeavesOneMore, after_append, AppendedAs}
+use Rattle.jr_journal.specs.Journals.{Leaves, LeavesOneMore, after_append, IsStruck, AppendedAs}
 use Rattle.jr_journal.specs.inner.Journals.{is_in_use}
 use Rattle.jr_journal.proofs.Calm.{Outlook}
 use Rattle.jr_journal.proofs.Settled.{IsUsed, in_use_shape, in_use_again, used_leaves, used_records, more_leaves, synced_used}
@@ -81,6 +81,25 @@ durable_after gateway slot generation halted old new delta kept runs readable is
     let before : u.0.deltas ≡ records gateway (image old) = sym (used_records gateway slot old generation u.0 u.1) in
     subst (λ (d : Slots). Leaves gateway d (records gateway (image old) ++ delta ∷ [])) (sym is)
     (subst (λ (xs : List (List Op)). Leaves gateway (replaced old slot (all_synced (appended (at old slot) (written delta)))) (xs ++ delta ∷ [])) before l)
+
+-- ---- the failure that came
+
+-- so much went out
+pub struck_short : (r : Result (Unit {0}) Short) (Honest : Type 0) (slot : Slot) (old new : Slots) (delta : List Op) (bytes : List ℕ) → true ≡ is_err r → bytes ≡ written delta
+    → (Honest → IfErr r (λ short. new ≡ replaced old slot (appended (at old slot) (take short.written bytes)))) → IsStruck Honest old slot (written delta) new
+struck_short (Ok done) Honest slot old new delta bytes e spelled is = absurd cc
+struck_short (Err short) Honest slot old new delta bytes e spelled is = (
+  Stop short.written,
+  λ honest.
+      is honest ∙ ap (λ xs. replaced old slot (appended (at old slot) (take short.written xs))) spelled
+      ∙ ap (λ xs. replaced old slot (appended (at old slot) xs)) (sym (take_min short.written (written delta))),
+)
+
+-- all went out, and the sync behind it failed
+pub struck_kept : (Honest : Type 0) (slot : Slot) (old middle new : Slots) (delta : List Op) (bytes : List ℕ) → bytes ≡ written delta
+    → (Honest → middle ≡ replaced old slot (appended (at old slot) bytes)) → (Honest → new ≡ middle) → IsStruck Honest old slot (written delta) new
+struck_kept Honest slot old middle new delta bytes spelled e f =
+    (KeepBack, λ honest. f honest ∙ e honest ∙ ap (λ xs. replaced old slot (appended (at old slot) xs)) spelled)
 
 -- ---- where it is known what is arranged
 

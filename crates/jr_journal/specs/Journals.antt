@@ -40,6 +40,10 @@ after_append (Some (Stop k)) d slot bytes = replaced d slot (appended (at d slot
 after_append (Some KeepBack) d slot bytes = replaced d slot (appended (at d slot) bytes)
 after_append (Some FailSync) d slot bytes = replaced d slot (appended (at d slot) bytes)
 
+-- where the premise holds, the slots are as this failure of the append leaves them
+abbrev pub IsStruck : Type 0 → Slots → Slot → List ℕ → Slots → Type 0
+IsStruck Honest old slot bytes new = (failure : Plan) × (Honest → new ≡ after_append (Some failure) old slot bytes)
+
 -- it fails exactly where a failure is arranged, and the slots are as that failure leaves them
 abbrev pub AppendedAs : Option (Option Plan) → Slots → Slot → List ℕ → Result (Unit {0}) JournalFault → Slots → Option (Option Plan) → Type 0
 AppendedAs None old slot bytes result new after = Unit {0}

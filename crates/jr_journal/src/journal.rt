@@ -29,7 +29,7 @@ impl<D: Disk + Drop> Journal<D> {
     ghost use Rattle.jr_journal.specs.Disk.{at, image};
     ghost use Rattle.jr_journal.specs.Records.{written, base_bytes, slot_content, generation_in, records};
     ghost use Rattle.jr_journal.specs.Faults.{is_fresh, IsFault, fault_of};
-    ghost use Rattle.jr_journal.specs.Journals.{other as beside, Leaves, LeavesOneMore, LeavesEither, after_append, AppendedAs, IsAppendFault, emptied, last_generation, IsCompactFault, IsBeforeWriting, IsTried};
+    ghost use Rattle.jr_journal.specs.Journals.{other as beside, Leaves, LeavesOneMore, LeavesEither, after_append, IsStruck, AppendedAs, IsAppendFault, emptied, last_generation, IsCompactFault, IsBeforeWriting, IsTried};
     ghost use Rattle.jr_journal.specs.Parts.{disk_of, gateway_of, slot_of, generation_of, is_halted as is_stopped};
     ghost use Rattle.jr_journal.specs.Opening.{synced_slots, recovered, slot_read, generation_read, is_quiet, IsUnhurt, LeavesNoMore};
 
@@ -138,6 +138,10 @@ impl<D: Disk + Drop> Journal<D> {
         ensures torn { D.honest → IsErrOf result JournalFault.Disk
             → LeavesOneMore (gateway_of self.old) (D.slots (disk_of self.new))
             (records (gateway_of self.old) (image (D.slots (disk_of self.old)))) delta.now }
+        // The slots are as one of the failures leaves them.
+        ensures struck { IsErrOf result JournalFault.Disk
+            → IsStruck D.honest (D.slots (disk_of self.old)) (slot_of self.old)
+            (written delta.now) (D.slots (disk_of self.new)) }
         // Where it is known which failure is arranged, so are the outcome and the slots.
         ensures known { D.honest → D.starved (disk_of self.new) ≡ false
             → AppendedAs (D.outlook (disk_of self.old)) (D.slots (disk_of self.old))

@@ -18,27 +18,28 @@ use Rattle.rep_model.proofs.Lookup.{or_else}
 use Rattle.rep_model.proofs.Greatest.{has, same_greatest}
 use Rattle.rep_model.proofs.Readers.{stamp_total, stamp_exact, same_client-true, operation_at_both, takes, has_take}
 use Rattle.rep_model.proofs.Thin.{some_left, view-thin, thin-same}
-use Rattle.sn_flow.specs.declared.config.Addr.{Addr}
-use Rattle.sn_flow.specs.declared.local.Binding.{Binding}
-use Rattle.sn_flow.specs.declared.local.Timer.{Timer}
-use Rattle.sn_flow.specs.declared.local.LocalChange.{LocalChange}
-use Rattle.sn_flow.specs.declared.local.LocalChange.TheVariants.{Bind, Unbind, Heard, Retried, EndDialog, Advertised}
-use Rattle.sn_flow.specs.declared.local.WillDialog.{WillDialog}
-use Rattle.sn_flow.specs.declared.plan.Plan.{Plan}
-use Rattle.sn_flow.specs.declared.row.Row.{Row}
-use Rattle.sn_flow.specs.declared.row.Follow.{Follow}
-use Rattle.sn_flow.specs.declared.row.Follow.TheVariants as follows
-use Rattle.sn_flow.specs.Bindings.{same_address, binding_cmp, is_apart, bound, is_of_other, unbound, binding_change, bindings_after, client_at, is_stamp_of, is_owned, has_owned, owned_bindings}
-use Rattle.sn_flow.specs.Bound.{session_of}
-use Rattle.sn_flow.specs.Drafts.{Drafted, nothing, moved}
-use Rattle.sn_flow.specs.Flush.{stamp_of, IsFlush, AreFlush, session_with}
-use Rattle.sn_flow.specs.Locals.{Local, after_all, owned}
-use Rattle.sn_flow.specs.Numbering.{planned, plan_with, rest_of, with_puts, written, start_of, ack_of}
-use Rattle.sn_flow.specs.Others.{is_up, can_wake}
-use Rattle.sn_flow.specs.Own.{AddsNone}
-use Rattle.sn_flow.specs.Plans.{Seen, seen_of, plan_of, plan_of_puts, plan_without}
-use Rattle.sn_flow.specs.Rows.{row_of, plan_for}
-use Rattle.sn_flow.proofs.Entries.{same_client-itself, visible-there}
+use Rattle.sn_local.specs.declared.config.Addr.{Addr}
+use Rattle.sn_local.specs.declared.local.Binding.{Binding}
+use Rattle.sn_local.specs.declared.local.Timer.{Timer}
+use Rattle.sn_local.specs.declared.local.LocalChange.{LocalChange}
+use Rattle.sn_local.specs.declared.local.LocalChange.TheVariants.{Bind, Unbind, Heard, Retried, EndDialog, Advertised}
+use Rattle.sn_local.specs.declared.local.WillDialog.{WillDialog}
+use Rattle.sn_plan.specs.declared.plan.Plan.{Plan}
+use Rattle.sn_plan.specs.declared.row.Row.{Row}
+use Rattle.sn_plan.specs.declared.row.Follow.{Follow}
+use Rattle.sn_plan.specs.declared.row.Follow.TheVariants as follows
+use Rattle.sn_local.specs.Bindings.{same_address, binding_cmp, is_apart, bound, is_of_other, unbound, binding_change, bindings_after, client_at, is_stamp_of, is_owned, has_owned, owned_bindings}
+use Rattle.sn_plan.specs.Bound.{session_of}
+use Rattle.sn_plan.specs.Drafts.{Drafted, nothing, moved}
+use Rattle.sn_plan.specs.Flush.{stamp_of, IsFlush, AreFlush, session_with}
+use Rattle.sn_local.specs.Locals.{Local, after_all, owned}
+use Rattle.sn_plan.specs.Numbering.{planned, plan_with, rest_of, with_puts, written, start_of, ack_of}
+use Rattle.sn_plan.specs.Others.{is_up, can_wake}
+use Rattle.sn_plan.specs.Own.{AddsNone}
+use Rattle.sn_local.specs.Seen.{Seen, seen_of}
+use Rattle.sn_plan.specs.Plans.{plan_of, plan_of_puts, plan_without}
+use Rattle.sn_plan.specs.Rows.{row_of, plan_for}
+use Rattle.sn_local.proofs.Entries.{same_client-itself, visible-there}
 use Rattle.sn_flow.proofs.Known.{same-behind}
 use Rattle.sn_flow.proofs.Lists.{and_then-some, map-some, all-append, all-weaken}
 use Rattle.sn_flow.proofs.Outcomes.{written-shown, session-shown, unchanged-shown, others-shown}

@@ -26,44 +26,44 @@ use Rattle.rep_ops.specs.declared.op.Put.{Put}
 use Rattle.rep_ops.specs.declared.op.Op.{Op}
 use Rattle.rep_model.specs.declared.view.ClientView.{ClientView}
 use Rattle.rep_model.specs.Views.{view}
-use Rattle.sn_flow.specs.declared.config.Addr.{Addr}
+use Rattle.sn_local.specs.declared.config.Addr.{Addr}
 use Rattle.sn_flow.specs.declared.accept.GivenWill.{GivenWill}
 use Rattle.sn_flow.specs.declared.accept.GivenWill.TheVariants.{AsItIs, Deleted, Replaced}
-use Rattle.sn_flow.specs.declared.asking.Asked.{Asked}
-use Rattle.sn_flow.specs.declared.asking.Asked.TheVariants.{Topics, Refused}
-use Rattle.sn_flow.specs.declared.local.Awaited.{Awaited}
-use Rattle.sn_flow.specs.declared.local.Awaited.TheVariants.{Topic, Message}
-use Rattle.sn_flow.specs.declared.local.LocalChange.{LocalChange}
-use Rattle.sn_flow.specs.declared.local.LocalChange.TheVariants.{Heard, Resent}
-use Rattle.sn_flow.specs.declared.local.Request.{Request}
-use Rattle.sn_flow.specs.declared.local.WillDialog.{WillDialog}
+use Rattle.sn_plan.specs.declared.asking.Asked.{Asked}
+use Rattle.sn_plan.specs.declared.asking.Asked.TheVariants.{Topics, Refused}
+use Rattle.sn_local.specs.declared.local.Awaited.{Awaited}
+use Rattle.sn_local.specs.declared.local.Awaited.TheVariants.{Topic, Message}
+use Rattle.sn_local.specs.declared.local.LocalChange.{LocalChange}
+use Rattle.sn_local.specs.declared.local.LocalChange.TheVariants.{Heard, Resent}
+use Rattle.sn_local.specs.declared.local.Request.{Request}
+use Rattle.sn_local.specs.declared.local.WillDialog.{WillDialog}
 use Rattle.sn_flow.specs.declared.registration.NamedId.{NamedId}
-use Rattle.sn_flow.specs.declared.row.Row.{Row}
+use Rattle.sn_plan.specs.declared.row.Row.{Row}
 use Rattle.sn_flow.specs.Accept.{accept, has_no_room}
-use Rattle.sn_flow.specs.Asking.{qos_asked, name_asked, topics_asked}
-use Rattle.sn_flow.specs.Bindings.{client_at, is_stamp_of}
-use Rattle.sn_flow.specs.Bound.{bound_to, session_of}
+use Rattle.sn_plan.specs.Asking.{qos_asked, name_asked, topics_asked}
+use Rattle.sn_local.specs.Bindings.{client_at, is_stamp_of}
+use Rattle.sn_plan.specs.Bound.{bound_to, session_of}
 use Rattle.sn_flow.specs.Connection.{has_bit, request_of, refusal_of, ask_topic, connect_row, connect, leave, disconnect_draft, disconnect_of}
-use Rattle.sn_flow.specs.Drafts.{Drafted, nothing, changed, moved}
-use Rattle.sn_flow.specs.Locals.{Local}
-use Rattle.sn_flow.specs.Names.{name_of}
-use Rattle.sn_flow.specs.Others.{is_up, can_wake, other}
-use Rattle.sn_flow.specs.Plans.{Seen, seen_of}
+use Rattle.sn_plan.specs.Drafts.{Drafted, nothing, changed, moved}
+use Rattle.sn_local.specs.Locals.{Local}
+use Rattle.sn_plan.specs.Names.{name_of}
+use Rattle.sn_plan.specs.Others.{is_up, can_wake, other}
+use Rattle.sn_local.specs.Seen.{Seen, seen_of}
 use Rattle.sn_flow.specs.Registration.{entry_or_free, id_for, registered, register_name}
-use Rattle.sn_flow.specs.Rows.{heard_row, stray}
+use Rattle.sn_plan.specs.Rows.{heard_row, stray}
 use Rattle.sn_flow.specs.Subscription.{suback, refused, id_in_full, id_asked, subscribe_change, subscribed, subscribe_asked, subscribe_at, unsubscribe_asked, unsubscribe as unsubscribe_draft}
 use Rattle.sn_flow.specs.TopicRows.{register_of, subscribe_of, unsubscribe_of}
-use Rattle.sn_flow.specs.WillDialogs.{dialog_at}
+use Rattle.sn_local.specs.WillDialogs.{dialog_at}
 use Rattle.sn_flow.specs.Wills.{congestion, not_supported, dismissed, concluded, topic_given, topic_row, topic_in, topic_at, will_of, message_row, message_in, message_at, topic_update_of, message_update_of}
 use Rattle.sn_flow.specs.WillUpdate.{topic_asked, topic_set, will_topic_update as topic_update, has_no_place, will_msg_update as message_update}
-use Rattle.sn_deliver.specs.declared.meaning.Meant.{Meant}
-use Rattle.sn_deliver.specs.declared.meaning.Meant.TheVariants as meanings
-use Rattle.sn_deliver.specs.declared.peer.Peer.{Peer}
-use Rattle.sn_deliver.specs.Acknowledging.{awaiting, put_awaiting, over, done, told, entry_published, forgotten, puback_of, pubrel_sent, released, awaiting_pubrec, pubrec_again, pubrec_of, pubcomp_of, registered as registered_by, regack_of, acknowledge}
-use Rattle.sn_deliver.specs.Exchanges.{message_of}
+use Rattle.sn_publish.specs.declared.meaning.Meant.{Meant}
+use Rattle.sn_publish.specs.declared.meaning.Meant.TheVariants as meanings
+use Rattle.sn_exchange.specs.declared.peer.Peer.{Peer}
+use Rattle.sn_exchange.specs.Acknowledging.{awaiting, put_awaiting, over, done, told, entry_published, forgotten, puback_of, pubrel_sent, released, awaiting_pubrec, pubrec_again, pubrec_of, pubcomp_of, registered as registered_by, regack_of, acknowledge}
+use Rattle.sn_exchange.specs.Exchanges.{message_of}
 use Rattle.sn_deliver.specs.Following.{peer_at}
-use Rattle.sn_deliver.specs.Publishing.{publication_meant, spread, publish_at, publish_meant, spread_meant, release}
-use Rattle.sn_deliver.specs.Recipients.{puts_for}
+use Rattle.sn_publish.specs.Publishing.{publication_meant, spread, publish_at, publish_meant, spread_meant, release}
+use Rattle.sn_publish.specs.Recipients.{puts_for}
 use Rattle.sn_deliver.specs.Serving.{publish_of, publish_in_at, pubrel_of, ack_of}
 use Rattle.sn_deliver.specs.Waking.{claimed, has_nothing, woken_by, woken_if, woken, wake_of, wake}
 use Rattle.sn_flow.proofs.Lists.{all-append}

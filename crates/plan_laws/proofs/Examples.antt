@@ -1,14 +1,14 @@
 -- Worked rows: topics of wills that a dialog may have been given, and the operation that a first CONNECT makes; who is up behind it.
 use Rattle.std.proofs.Common.{◌≡◌, ℕ, true, false, List, [], ◌∷◌, refl}
 use Rattle.sn_session.specs.declared.will.WillTopic.{WillTopic}
-use Rattle.sn_flow.specs.declared.local.Awaited.TheVariants.{Topic, Message}
+use Rattle.sn_local.specs.declared.local.Awaited.TheVariants.{Topic, Message}
 use Rattle.rep_ops.specs.declared.op.Op.TheVariants.{Session as OfSession, Ack}
 use Rattle.rep_ops.specs.WellMade.{is_well_made}
 use Rattle.rep_model.specs.Views.{view, gapless}
 use Rattle.sn_session.specs.declared.change.SessionOp.TheVariants.{Take}
-use Rattle.sn_flow.specs.Bindings.{is_owned}
-use Rattle.sn_flow.specs.Others.{can_wake}
-use Rattle.sn_flow.specs.Plans.{seen_of}
+use Rattle.sn_local.specs.Bindings.{is_owned}
+use Rattle.sn_plan.specs.Others.{can_wake}
+use Rattle.sn_local.specs.Seen.{seen_of}
 use Rattle.sn_flow.proofs.Rows.{s1, session_of_s1, first_take}
 use Rattle.plan_laws.specs.KeepsWell.{is_asked}
 

@@ -19,27 +19,28 @@ use Rattle.rep_ops.specs.Ranges.{is_message, is_will}
 use Rattle.rep_ops.specs.Sets.{Same}
 use Rattle.rep_ops.specs.WellMade.{is_well_made}
 use Rattle.rep_model.specs.Views.{view, clients}
-use Rattle.sn_flow.specs.declared.config.Addr.{Addr}
-use Rattle.sn_flow.specs.declared.draft.NewPut.{NewPut}
-use Rattle.sn_flow.specs.declared.local.Timer.{Timer}
-use Rattle.sn_flow.specs.declared.local.LocalChange.{LocalChange}
-use Rattle.sn_flow.specs.declared.local.LocalChange.TheVariants.{Bind, Unbind, Time, Heard, Sent, Resent, Retried, Ask, EndDialog, Advertised}
-use Rattle.sn_flow.specs.declared.local.WillDialog.{WillDialog}
-use Rattle.sn_flow.specs.declared.plan.Plan.{Plan}
-use Rattle.sn_flow.specs.declared.row.Row.{Row}
-use Rattle.sn_flow.specs.declared.row.Follow.{Follow}
-use Rattle.sn_flow.specs.declared.row.Follow.TheVariants as follows
-use Rattle.sn_flow.specs.Bindings.{client_at, same_address}
-use Rattle.sn_flow.specs.Bound.{session_of}
-use Rattle.sn_flow.specs.Drafts.{Drafted, nothing, changed, put_all, sent, moved}
-use Rattle.sn_flow.specs.Flush.{AreFlush}
-use Rattle.sn_flow.specs.Locals.{Local, no_local, after_all, owned}
-use Rattle.sn_flow.specs.Numbering.{planned, plan_with, rest_of, with_puts, written, start_of, ack_of}
-use Rattle.sn_flow.specs.Others.{other}
-use Rattle.sn_flow.specs.Own.{IsOfDraft, AreFresh, AddsNone}
-use Rattle.sn_flow.specs.Plans.{Seen, seen_of, plan_of, plan_of_puts, plan_without}
-use Rattle.sn_flow.specs.Rows.{row_of, plan_for, plan_of_row}
-use Rattle.sn_flow.specs.WillDialogs.{is_elsewhere, dialogs_elsewhere, dialog_change, dialogs_after}
+use Rattle.sn_local.specs.declared.config.Addr.{Addr}
+use Rattle.sn_plan.specs.declared.draft.NewPut.{NewPut}
+use Rattle.sn_local.specs.declared.local.Timer.{Timer}
+use Rattle.sn_local.specs.declared.local.LocalChange.{LocalChange}
+use Rattle.sn_local.specs.declared.local.LocalChange.TheVariants.{Bind, Unbind, Time, Heard, Sent, Resent, Retried, Ask, EndDialog, Advertised}
+use Rattle.sn_local.specs.declared.local.WillDialog.{WillDialog}
+use Rattle.sn_plan.specs.declared.plan.Plan.{Plan}
+use Rattle.sn_plan.specs.declared.row.Row.{Row}
+use Rattle.sn_plan.specs.declared.row.Follow.{Follow}
+use Rattle.sn_plan.specs.declared.row.Follow.TheVariants as follows
+use Rattle.sn_local.specs.Bindings.{client_at, same_address}
+use Rattle.sn_plan.specs.Bound.{session_of}
+use Rattle.sn_plan.specs.Drafts.{Drafted, nothing, changed, put_all, sent, moved}
+use Rattle.sn_plan.specs.Flush.{AreFlush}
+use Rattle.sn_local.specs.Locals.{Local, no_local, after_all, owned}
+use Rattle.sn_plan.specs.Numbering.{planned, plan_with, rest_of, with_puts, written, start_of, ack_of}
+use Rattle.sn_plan.specs.Others.{other}
+use Rattle.sn_plan.specs.Own.{IsOfDraft, AreFresh, AddsNone}
+use Rattle.sn_local.specs.Seen.{Seen, seen_of}
+use Rattle.sn_plan.specs.Plans.{plan_of, plan_of_puts, plan_without}
+use Rattle.sn_plan.specs.Rows.{row_of, plan_for, plan_of_row}
+use Rattle.sn_local.specs.WillDialogs.{is_elsewhere, dialogs_elsewhere, dialog_change, dialogs_after}
 use Rattle.sn_flow.proofs.Flushness.{flush-start, flush-taken}
 use Rattle.sn_flow.proofs.Freshness.{plan-fresh}
 use Rattle.sn_flow.proofs.Lists.{and_then-some, map-some, all-append}
@@ -48,7 +49,7 @@ use Rattle.sn_deliver.specs.declared.due.Due.{Due}
 use Rattle.sn_deliver.specs.declared.due.Due.TheVariants as dues
 use Rattle.sn_deliver.specs.Due.{elapsed, first_due}
 use Rattle.sn_deliver.specs.Following.{peer_at, followed_for, followed, deliver_next}
-use Rattle.sn_deliver.specs.Recipients.{is_another}
+use Rattle.sn_publish.specs.Recipients.{is_another}
 use Rattle.sn_deliver.specs.Steps.{row_for, step}
 use Rattle.sn_deliver.specs.Ticking.{dialog_ended, dialogs_ended, needs_timer, timer_begun, cleaned, may_advertise, advertised_to, advertised, will_puts, lost, retried, plan_due, plan_if_due, tick}
 use Rattle.sn_deliver.proofs.Drafting.{step-drafted, tick-drafted}

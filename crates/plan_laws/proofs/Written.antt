@@ -27,18 +27,19 @@ use Rattle.rep_model.specs.Fresh.{one_more, next_epoch, next_seq, greatest_epoch
 use Rattle.rep_model.specs.Views.{visible, history, session_of, view}
 use Rattle.rep_model.proofs.Lookup.{or_else}
 use Rattle.rep_model.proofs.Readers.{put_total, operation_at_both, put_at_both}
-use Rattle.sn_flow.specs.declared.draft.NewPut.{NewPut}
-use Rattle.sn_flow.specs.declared.plan.Plan.{Plan}
-use Rattle.sn_flow.specs.Drafts.{Drafted}
-use Rattle.sn_flow.specs.Flush.{IsFlush, stamp_of}
-use Rattle.sn_flow.specs.Numbering.{Written, another, taken_at, taken, counted, write, written, own_counter, epoch_of, start_of, put_at_seq, with_puts, ack_of}
-use Rattle.sn_flow.specs.Own.{IsFresh, AreFresh}
-use Rattle.sn_flow.specs.Plans.{seen_of, plan_of}
-use Rattle.sn_flow.proofs.Entries.{same_client-itself, at_own}
+use Rattle.sn_plan.specs.declared.draft.NewPut.{NewPut}
+use Rattle.sn_plan.specs.declared.plan.Plan.{Plan}
+use Rattle.sn_plan.specs.Drafts.{Drafted}
+use Rattle.sn_plan.specs.Flush.{IsFlush, stamp_of}
+use Rattle.sn_plan.specs.Numbering.{Written, another, taken_at, taken, counted, write, written, own_counter, epoch_of, start_of, put_at_seq, with_puts, ack_of}
+use Rattle.sn_plan.specs.Own.{IsFresh, AreFresh}
+use Rattle.sn_local.specs.Seen.{seen_of}
+use Rattle.sn_plan.specs.Plans.{plan_of}
+use Rattle.sn_local.proofs.Entries.{same_client-itself, at_own}
 use Rattle.sn_flow.proofs.Lists.{and_then-some, map-some, all-append, all-weaken, all-given}
 use Rattle.sn_flow.proofs.Names.{IsWritten, start-written}
 use Rattle.sn_flow.proofs.Planned.{IsNumbered, puts-behind, Parts, planned-parts}
-use Rattle.sn_deliver.specs.Exchanges.{same_name}
+use Rattle.sn_exchange.specs.Exchanges.{same_name}
 use Rattle.plan_laws.proofs.Sessions.{Fine, IsChange, fine-from, fine-to, applied-fine}
 use Rattle.plan_laws.proofs.Kept.{visible-made, seen-fine}
 use Rattle.plan_laws.proofs.Sound.{IsNamed, AreOnce, IsMessage, Sound}

@@ -3,11 +3,11 @@ use Rattle.std.specs.Prelude.{◌≡◌, ℕ, true, List}
 use Rattle.std.specs.List.{AllByRecursion}
 use Rattle.rep_ops.specs.declared.op.Op.{Op}
 use Rattle.rep_model.specs.Views.{view}
-use Rattle.sn_flow.specs.declared.local.Binding.{Binding}
-use Rattle.sn_flow.specs.Bindings.{is_owned}
-use Rattle.sn_flow.specs.Locals.{Local}
-use Rattle.sn_flow.specs.Others.{can_wake}
-use Rattle.sn_flow.specs.Plans.{seen_of}
+use Rattle.sn_local.specs.declared.local.Binding.{Binding}
+use Rattle.sn_local.specs.Bindings.{is_owned}
+use Rattle.sn_local.specs.Locals.{Local}
+use Rattle.sn_plan.specs.Others.{can_wake}
+use Rattle.sn_local.specs.Seen.{seen_of}
 
 -- the gateway owns the client, and it is Active, Asleep or Awake
 abbrev pub IsClientUp : ℕ → List Op → List ℕ → Type 0

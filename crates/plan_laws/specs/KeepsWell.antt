@@ -4,11 +4,11 @@ use Rattle.std.specs.List.{AllByRecursion}
 use Rattle.rep_ops.specs.declared.op.Op.{Op}
 use Rattle.rep_ops.specs.Making.{AreWellMade}
 use Rattle.sn_session.specs.Levels.{is_qos}
-use Rattle.sn_flow.specs.declared.local.Awaited.{Awaited}
-use Rattle.sn_flow.specs.declared.local.Awaited.TheVariants.{Topic, Message}
-use Rattle.sn_flow.specs.declared.local.WillDialog.{WillDialog}
-use Rattle.sn_flow.specs.Locals.{Local}
-use Rattle.sn_flow.specs.Flush.{AreFlush}
+use Rattle.sn_local.specs.declared.local.Awaited.{Awaited}
+use Rattle.sn_local.specs.declared.local.Awaited.TheVariants.{Topic, Message}
+use Rattle.sn_local.specs.declared.local.WillDialog.{WillDialog}
+use Rattle.sn_local.specs.Locals.{Local}
+use Rattle.sn_plan.specs.Flush.{AreFlush}
 
 -- whether the topic of a will that was given, if it was, has a quality of service of 0 to 2
 abbrev pub is_asked : Awaited → Bool

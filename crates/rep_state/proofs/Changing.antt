@@ -1,5 +1,5 @@
 -- What is staged of a client is what it is said to be.
-use Rattle.std.proofs.Common.{◌≡◌, ℕ, List, length, Option, Some, None, is_some, false, T, refl, sym, ap, ◌∙◌, true≢false}
+use Rattle.std.proofs.Common.{◌≡◌, ℕ, List, length, Option, Some, None, T, sym, ap, ◌∙◌}
 use Rattle.std.specs.FinMap.{is_sorted}
 use Rattle.rep_ops.specs.declared.op.Put.{Put}
 use Rattle.rep_ops.specs.Orders.{operation_cmp}
@@ -13,10 +13,6 @@ use Rattle.rep_state.specs.Entries.{AreChanges, IsEntry, whole_after, base_of, l
 use Rattle.rep_state.specs.Staging.{IsLogFit, AreAcksFit}
 use Rattle.rep_state.specs.inner.Staging.{parked_on, exceptions_on, HasLogRoom}
 use Rattle.rep_state.proofs.Counts.{parked_row, exceptions_row}
-
-pub none_is : {X : Type 0} (o : Option X) → is_some o ≡ false → o ≡ None
-none_is None e = refl
-none_is (Some x) e = absurd (true≢false e)
 
 module _ (c : List ℕ) (e : Entry) (h : IsEntry c e) where
   pub log_fits : (log : Option Log) (room : ℕ) → IsFolded (whole_after e log) → T (is_sorted operation_cmp (known_on e.known log)) → AreChanges (known_on e.known log) → HasLogRoom e.known log room → IsLogFit e.known log room

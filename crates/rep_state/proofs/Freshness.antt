@@ -13,7 +13,8 @@ use Rattle.rep_model.specs.Views.{in_order}
 use Rattle.rep_model.proofs.Lookup.{or_else}
 use Rattle.rep_model.proofs.Readers.{put_total, put_exact}
 use Rattle.rep_plain.proofs.Flat.{all_put}
-use Rattle.rep_state.specs.Mail.{Range, name_of, covers, Above, Rising, NoneCovered, named_puts, put_named, InOne, weave}
+use Rattle.rep_state.specs.declared.span.Span.{Span}
+use Rattle.rep_state.specs.Mail.{Range, name_of, covers, Above, Rising, NoneCovered, named_puts, put_named, InOne, weave, IsFreeOutside}
 use Rattle.rep_state.specs.Origins.{ranges_in, origins_after, ranges_on}
 use Rattle.rep_state.specs.Entries.{AreUnderNames, AreMade, NoneCoveredBelow, messages}
 use Rattle.rep_state.proofs.Rising.{IsApart, AreApart, weave_all}
@@ -148,6 +149,9 @@ module _ (ps : List Put) (es new : List ((ℕ × ℕ) × Put)) (p : Put) (under 
 
   pub none_more : (rs : List Range) → list_any (covers (name_of p)) rs ≡ false → NoneCoveredBelow rs es → NoneCoveredBelow rs new
   none_more rs own h = subst (NoneCoveredBelow rs) (sym is) (all_put put_cmp put_exact (λ k v. list_any (covers (name_of v)) rs ≡ false) (name_of p) p es own h)
+
+  pub free_more : (span : Span) (rs : List Range) → list_any (covers (name_of p)) rs ≡ false → AllByRecursion (λ (e : (ℕ × ℕ) × Put). IsFreeOutside span rs e.1) es → AllByRecursion (λ (e : (ℕ × ℕ) × Put). IsFreeOutside span rs e.1) new
+  free_more span rs own h = subst (AllByRecursion (λ (e : (ℕ × ℕ) × Put). IsFreeOutside span rs e.1)) (sym is) (all_put put_cmp put_exact (λ k v. IsFreeOutside span rs v) (name_of p) p es (λ _. own) h)
 
   pub found_more : (q : ℕ × ℕ) → put_named q (messages new) ≡ cond (eq_by_cmp put_cmp q (name_of p)) (Some p) (put_named q (messages es))
   found_more q = found_message q new under_more ∙ ap (find put_cmp q) is ∙ find-put put_cmp put_total q (name_of p) p es ∙ ap (cond (eq_by_cmp put_cmp q (name_of p)) (Some p)) (sym (found_message q es under))

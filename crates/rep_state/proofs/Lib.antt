@@ -15,6 +15,7 @@ pub mod Freshness
 pub mod Gathering
 pub mod Owning
 pub mod Counts
+pub mod Spans
 pub mod Entering
 pub mod Rows
 pub mod Passing

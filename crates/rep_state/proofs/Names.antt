@@ -43,7 +43,7 @@ module _ (q : ℕ × ℕ) where
 
 -- ---- the last of a gateway
 
-not_after : (a b x y : ℕ) → ordering_then (nat_cmp a b) (nat_cmp x y) ≡ Less → a ≤ b
+pub not_after : (a b x y : ℕ) → ordering_then (nat_cmp a b) (nat_cmp x y) ≡ Less → a ≤ b
 not_after a b x y h = below (nat_cmp a b) refl
   where
     below : (r : Ordering) → nat_cmp a b ≡ r → a ≤ b

@@ -17,7 +17,7 @@ use Rattle.rep_state.specs.declared.log.Log.{Log}
 use Rattle.rep_state.specs.declared.entry.Entry.{Entry}
 use Rattle.rep_state.specs.declared.fresh.Fresh.{Fresh}
 use Rattle.rep_state.specs.Logs.{IsFoldedOf, Whole, IsFolded, stamp_on, prefix_on, session_on, known_on}
-use Rattle.rep_state.specs.Mail.{Range, covers, name_of, Rising, NoneCovered, InOne, is_left, weave}
+use Rattle.rep_state.specs.Mail.{Range, covers, name_of, Rising, NoneCovered, InOne, is_left, weave, IsFreeOutside, AreFreeOutside}
 use Rattle.rep_state.specs.Origins.{ranges_in, AreOrigins, origins_after, ranges_on}
 use Rattle.rep_state.specs.Kept.{kept_ops}
 
@@ -92,7 +92,7 @@ abbrev pub fresh_row : List ℕ → Entry → Fresh → List Op
 fresh_row c entry fresh = row_on c (base_of entry) fresh.log (messages fresh.news) fresh.acks
 
 -- the log is folded; new messages stand under their names, and none of them waits already; acknowledged ranges do not touch,
--- and where none is new they have no message
+-- and where none is new they have no message; outside of the span they have none that waits and none that is new
 pub record IsFresh (c : List ℕ) (entry : Entry) (fresh : Fresh) : Type 0 where
   pub entry_is : IsEntry c entry
   pub folded : IsFolded (whole_after entry fresh.log)
@@ -104,6 +104,8 @@ pub record IsFresh (c : List ℕ) (entry : Entry) (fresh : Fresh) : Type 0 where
   pub apart : (name : ℕ × ℕ) → InOne name entry.seen.pending (messages fresh.news)
   pub origins : AreOrigins (origins_after entry.acks fresh.acks)
   pub none_comes : fresh.acks ≡ None → NoneCoveredBelow (ranges_in entry.acks) fresh.news
+  pub waits : AreFreeOutside fresh.span (ranges_on (ranges_in entry.acks) fresh.acks) entry.seen.pending
+  pub comes : AllByRecursion (λ (e : (ℕ × ℕ) × Put). IsFreeOutside fresh.span (ranges_on (ranges_in entry.acks) fresh.acks) e.1) fresh.news
 
 -- one operation more of the client: the change stays one, and what it keeps is what must be kept of what it kept and the operation
 abbrev pub IsStep : List ℕ → Entry → Fresh → Fresh → Op → Type 0

@@ -6,6 +6,7 @@ use Rattle.std.specs.FinMap.{find}
 use Rattle.std.specs.Ordering.{is_lt}
 use Rattle.rep_ops.specs.declared.op.Put.{Put}
 use Rattle.rep_ops.specs.Orders.{put_cmp}
+use Rattle.rep_state.specs.declared.span.Span.{Span}
 
 abbrev pub name_of : Put → ℕ × ℕ
 name_of p = (p.seq, p.origin)
@@ -64,3 +65,16 @@ is_left ranges put = not (list_any (covers (name_of put)) ranges)
 -- none of the messages is acknowledged
 abbrev pub NoneCovered : List Range → List Put → Type 0
 NoneCovered ranges ps = AllByRecursion (λ p. list_any (covers (name_of p)) ranges ≡ false) ps
+
+-- ---- where what is acknowledged anew lies
+
+-- whether the span has the number
+abbrev pub lies_in : Span → ℕ → Bool
+lies_in span n = nat_le span.first n && nat_le n span.last
+
+-- outside of the span no message is acknowledged
+abbrev pub IsFreeOutside : Span → List Range → Put → Type 0
+IsFreeOutside span ranges p = lies_in span p.seq ≡ false → list_any (covers (name_of p)) ranges ≡ false
+
+abbrev pub AreFreeOutside : Span → List Range → List Put → Type 0
+AreFreeOutside span ranges ps = AllByRecursion (IsFreeOutside span ranges) ps

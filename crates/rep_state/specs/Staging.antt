@@ -16,8 +16,8 @@ use Rattle.rep_plain.specs.Steps.{capped}
 use Rattle.rep_state.specs.declared.log.Log.{Log}
 use Rattle.rep_state.specs.declared.change.Change.{Change}
 use Rattle.rep_state.specs.Logs.{IsFolded, all_of, whole_of}
-use Rattle.rep_state.specs.Mail.{Range, Rising, NoneCovered, InOne, weave}
-use Rattle.rep_state.specs.Origins.{AreOrigins}
+use Rattle.rep_state.specs.Mail.{Range, Rising, NoneCovered, AreFreeOutside, InOne, weave}
+use Rattle.rep_state.specs.Origins.{AreOrigins, ranges_on}
 use Rattle.rep_state.specs.Entries.{AreChanges, AreMade, messages, Base, left_on, row_on}
 
 abbrev pub staged_of : List (Vec ℕ Global × Change) → List (List ℕ × Change)
@@ -62,11 +62,12 @@ AreAcksFit None = ⊤
 AreAcksFit (Some acks) = AreOrigins acks
 
 -- on what it builds, the change is one of messages that do not wait, has room for all, and none is acknowledged where it has no
--- acknowledgement; the counts are those of what is kept
+-- acknowledgement, or outside of its span; the counts are those of what is kept
 pub record IsFit (c : List ℕ) (base : Base) (change : Change) : Type 0 where
   pub apart : (name : ℕ × ℕ) → InOne name base.waiting change.news.items
   pub room : (length change.news.items == 0) ≡ false → length base.waiting + length change.news.items ≤ vec_capacity change.room
   pub untold : change.acks ≡ None → NoneCovered base.ranges (weave base.waiting change.news.items)
+  pub spanned : AreFreeOutside change.span (ranges_on base.ranges change.acks) (weave base.waiting change.news.items)
   pub log : IsLogFit base.known change.log (vec_capacity change.log_room)
   pub acks : AreAcksFit change.acks
   pub parked : change.parked ≡ length (parked c (planned_row c base change))

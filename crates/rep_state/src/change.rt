@@ -14,6 +14,7 @@ use super::entry::Entry;
 use super::known::{Known, NamedOp};
 use super::log::Log;
 use super::settling::settled;
+use super::span::Span;
 use rep_model::Puts;
 use rep_ops::Put;
 use std::mem;
@@ -29,6 +30,8 @@ pub struct Change {
     pub(crate) parked: usize,
     /// What will be acknowledged, where some of it is new.
     pub(crate) acks: Option<Acks>,
+    /// As far as the sequence numbers reach that are acknowledged anew.
+    pub(crate) span: Span,
     /// How many acknowledgements will stand above a number that is not acknowledged.
     pub(crate) exceptions: u64,
     /// The messages that are new.
@@ -53,6 +56,7 @@ pub(crate) fn put_into(place: &mut Entry, change: Change)
         log_room,
         parked,
         acks,
+        span,
         exceptions,
         news,
         room,
@@ -60,10 +64,9 @@ pub(crate) fn put_into(place: &mut Entry, change: Change)
         ..
     } = change;
     put_log(place, log, log_room);
-    let told = acks.is_some();
     put_acks(&mut place.acks, acks);
     let waiting = mem::replace(&mut place.seen.pending, none).into_items();
-    place.seen.pending = Puts::new(settled(room, waiting, news, told, &place.acks));
+    place.seen.pending = Puts::new(settled(room, waiting, news, span, &place.acks));
     place.parked = parked;
     place.exceptions = exceptions;
 }

@@ -22,19 +22,21 @@ use super::log::Log;
 use super::news::News;
 use super::searching::find_put;
 use super::settling::count_settled;
+use super::span::Span;
 use octets::NoMemory;
 use rep_model::Puts;
 use rep_ops::{Op, Put, Stamp};
 use sn_session::SessionOp;
 use std::alloc::Global;
 
-/// What a delta changes of one client: the log and the acknowledgements as they will be, where something came for them, and the
-/// messages that are new.
+/// What a delta changes of one client: the log and the acknowledgements as they will be, where something came for them, the
+/// messages that are new, and the sequence numbers that are acknowledged anew, as far as they reach.
 #[derive(Debug, Drop)]
 pub struct Fresh {
     pub(crate) log: Option<Log>,
     pub(crate) news: News,
     pub(crate) acks: Option<Acks>,
+    pub(crate) span: Span,
 }
 
 impl Fresh {
@@ -51,6 +53,7 @@ impl Fresh {
             log: None,
             news: News::new(alloc),
             acks: None,
+            span: Span::none(),
         }
     }
 
@@ -122,6 +125,7 @@ impl Fresh {
         let mut acks = taken(alloc, &entry.acks, self.acks.take())?;
         acks.add(alloc, origin, first, last)?;
         self.acks = Some(acks);
+        self.span = self.span.widened(first, last);
         Ok(())
     }
 
@@ -165,12 +169,16 @@ impl Fresh {
         ensures row { (c : List ℕ) → IfOk result (λ change.
             planned_row c (base_of entry.now) change ≡ fresh_row c entry.now self) }
     {
-        let Fresh { log, news, acks } = self;
+        let Fresh {
+            log,
+            news,
+            acks,
+            span,
+        } = self;
         let news = news.into_puts();
         let waiting = entry.seen.pending.as_slice();
         let room = room_for(alloc, waiting, news.as_slice())?;
-        let told = acks.is_some();
-        let pending = count_settled(waiting, news.as_slice(), told, latest(&entry.acks, &acks))?;
+        let pending = count_settled(waiting, news.as_slice(), span, latest(&entry.acks, &acks))?;
         let log_room = log_room_for(alloc, &entry.known, &log)?;
         let parked = parked_with(entry, &log)?;
         let exceptions = exceptions_with(entry, &acks);
@@ -179,6 +187,7 @@ impl Fresh {
             log_room,
             parked,
             acks,
+            span,
             exceptions,
             news,
             room,

@@ -12,6 +12,10 @@
 //! messages and session operations. `commit` moves what was worked out into its places, or behind what is there
 //! (`Change`), for which no memory is needed.
 //!
+//! What a delta acknowledges anew lies between two sequence numbers, which are noted as its operations come (`Span`). Messages
+//! are in the order of these numbers, so those between the two are found without a walk, and of no other it is asked
+//! whether it is acknowledged, neither where they are counted nor where they are dropped.
+//!
 //! What a delta does not touch of a client is not copied: a change has a log where a session operation came, and
 //! acknowledgements where one came; else those of the entry stay. A session operation that comes behind all that are
 //! there is moved behind them, so that a step costs the same however long the log is.
@@ -31,6 +35,7 @@
 //! - `acks`: acknowledged numbers.
 //! - `searching`, `news`: a message by its name; those that are new, in the order of their names.
 //! - `weaving`, `settling`: messages that wait, with new ones in their places, without the acknowledged ones.
+//! - `span`: sequence numbers from one to another, and where the messages that have them stand.
 //! - `behind`: lists that are moved behind others.
 //!
 //! The definitions are in `specs/`: `Logs`, `Mail` and `Origins` (of session operations, messages and
@@ -60,6 +65,7 @@ mod replica;
 mod room;
 mod searching;
 mod settling;
+mod span;
 mod table;
 mod weaving;
 
@@ -73,3 +79,4 @@ pub use news::News;
 pub use octets::NoMemory;
 pub use rep_model::{ClientView, Limit, Puts, Replica, TakeFault};
 pub use replica::{Folded, Staged};
+pub use span::Span;

@@ -1,6 +1,7 @@
 //! Messages that wait, by their names. They stand in the order of their names, so none is looked for one by one.
 
-ghost use Rattle.std.specs.Prelude.{◌≡◌, length};
+ghost use Rattle.std.specs.Prelude.{◌≡◌, ◌≤◌, true, false, nat_le, nat_lt, length, take, drop};
+ghost use Rattle.std.specs.List.{AllByRecursion};
 ghost use Rattle.std.specs.List.Sorted.{IsSearchInRange};
 ghost use Rattle.std.specs.Option.{option_copied};
 ghost use Rattle.sn_session.specs.inner.Tables.{IsPlace};
@@ -26,4 +27,22 @@ pub(crate) fn find_put<'a>(puts: &'a [Put], seq: u64, origin: u8) -> Option<&'a 
         Ok(at) => Some(&puts[at]),
         Err(_) => None,
     }
+}
+
+/// How many of messages in order have a sequence number below this one. The time is logarithmic.
+pub(crate) fn count_below(puts: &[Put], seq: u64) -> usize
+    ensures bound { result ≤ length puts.now }
+    ensures below { Rising puts.now
+        → AllByRecursion (λ put. nat_lt put.seq seq ≡ true) (take result puts.now) }
+{
+    puts.partition_point(|put| put.seq < seq)
+}
+
+/// How many of messages in order have this sequence number or one below it. The time is logarithmic.
+pub(crate) fn count_up_to(puts: &[Put], seq: u64) -> usize
+    ensures bound { result ≤ length puts.now }
+    ensures above { Rising puts.now
+        → AllByRecursion (λ put. nat_le put.seq seq ≡ false) (drop result puts.now) }
+{
+    puts.partition_point(|put| put.seq <= seq)
 }

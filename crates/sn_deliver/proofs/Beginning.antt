@@ -12,17 +12,17 @@ use Rattle.sn_session.specs.declared.change.SessionOp.TheVariants.{Presence, Out
 use Rattle.sn_session.specs.Topics.{topic_named}
 use Rattle.sn_frame.specs.declared.frame.Frame.TheVariants as frames
 use Rattle.rep_ops.specs.declared.op.Put.{Put}
-use Rattle.sn_flow.specs.declared.row.Follow.{Follow}
-use Rattle.sn_flow.specs.declared.row.Follow.TheVariants as follows
-use Rattle.sn_flow.specs.Names.{name_of}
-use Rattle.sn_flow.specs.Drafts.{Drafted, changed, changed_if, acked, sent}
-use Rattle.sn_deliver.specs.declared.form.Form.{Form}
-use Rattle.sn_deliver.specs.declared.peer.Peer.{Peer}
-use Rattle.sn_deliver.specs.declared.delivery.ToldId.{ToldId}
-use Rattle.sn_deliver.specs.Forms.{form_of, form_again, publication}
-use Rattle.sn_deliver.specs.Exchanges.{so_far, left, put_left, message_of, open_exchange, is_awake}
-use Rattle.sn_deliver.specs.Delivery.{Stop, next_after, id_to_tell, begun, register_first, deliver_by, none_left, and_then, deliver, deliver_left}
-use Rattle.sn_deliver.specs.Resending.{given_up, register_by, publish_by, resend_in, resend_if}
+use Rattle.sn_plan.specs.declared.row.Follow.{Follow}
+use Rattle.sn_plan.specs.declared.row.Follow.TheVariants as follows
+use Rattle.sn_plan.specs.Names.{name_of}
+use Rattle.sn_plan.specs.Drafts.{Drafted, changed, changed_if, acked, sent}
+use Rattle.sn_exchange.specs.declared.form.Form.{Form}
+use Rattle.sn_exchange.specs.declared.peer.Peer.{Peer}
+use Rattle.sn_exchange.specs.declared.delivery.ToldId.{ToldId}
+use Rattle.sn_exchange.specs.Forms.{form_of, form_again, publication}
+use Rattle.sn_exchange.specs.Exchanges.{so_far, left, put_left, message_of, open_exchange, is_awake}
+use Rattle.sn_exchange.specs.Delivery.{Stop, next_after, id_to_tell, begun, register_first, deliver_by, none_left, and_then, deliver, deliver_left}
+use Rattle.sn_exchange.specs.Resending.{given_up, register_by, publish_by, resend_in, resend_if}
 use Rattle.sn_deliver.specs.Following.{followed_by}
 use Rattle.sn_deliver.specs.Laws.{EndsFirst, OneExchange}
 use Rattle.sn_deliver.proofs.Keeping.{delivery-rests}

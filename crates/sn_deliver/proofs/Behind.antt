@@ -9,16 +9,17 @@ use Rattle.rep_model.specs.Views.{pending_at, pending, view}
 use Rattle.rep_model.specs.Fresh.{next_epoch, next_seq}
 use Rattle.rep_model.proofs.Readers.{is_acknowledged_both}
 use Rattle.rep_model.proofs.Thin.{pending_at-reads}
-use Rattle.sn_flow.specs.declared.plan.Plan.{Plan}
-use Rattle.sn_flow.specs.Drafts.{Drafted}
-use Rattle.sn_flow.specs.Numbering.{with_puts, ack_of}
-use Rattle.sn_flow.specs.Plans.{seen_of, plan_of}
+use Rattle.sn_plan.specs.declared.plan.Plan.{Plan}
+use Rattle.sn_plan.specs.Drafts.{Drafted}
+use Rattle.sn_plan.specs.Numbering.{with_puts, ack_of}
+use Rattle.sn_local.specs.Seen.{seen_of}
+use Rattle.sn_plan.specs.Plans.{plan_of}
 use Rattle.sn_flow.proofs.Lists.{all-append, all-weaken, all-map, none_pass}
-use Rattle.sn_flow.proofs.Entries.{same_client-itself, same_client-apart, puts-other}
+use Rattle.sn_local.proofs.Entries.{same_client-itself, same_client-apart, puts-other}
 use Rattle.sn_flow.proofs.Planned.{Parts, planned-parts}
 use Rattle.sn_flow.proofs.Names.{IsWritten, start-written}
 use Rattle.sn_flow.proofs.Leaving.{acked-plan}
-use Rattle.sn_deliver.specs.Exchanges.{same_name, is_done, left}
+use Rattle.sn_exchange.specs.Exchanges.{same_name, is_done, left}
 use Rattle.sn_deliver.proofs.Pending.{pending-by, pending-left}
 
 -- ---- acknowledgements

@@ -12,15 +12,15 @@ use Rattle.sn_session.specs.declared.session.Session.{Session}
 use Rattle.rep_ops.specs.declared.op.Put.{Put}
 use Rattle.rep_ops.specs.Sets.{same_client}
 use Rattle.rep_model.proofs.Readers.{client_total}
-use Rattle.sn_flow.specs.declared.config.Addr.{Addr}
-use Rattle.sn_flow.specs.declared.local.Timer.{Timer}
-use Rattle.sn_flow.specs.declared.local.LocalChange.{LocalChange}
-use Rattle.sn_flow.specs.Others.{is_up}
-use Rattle.sn_flow.specs.Timers.{timer_cmp, timed, timer_of, started, sent_at, resent_at, retried_at, timer_change, timers_after}
-use Rattle.sn_flow.proofs.Entries.{same_client-itself}
-use Rattle.sn_flow.proofs.TimerPlaces.{same_by_order}
+use Rattle.sn_local.specs.declared.config.Addr.{Addr}
+use Rattle.sn_local.specs.declared.local.Timer.{Timer}
+use Rattle.sn_local.specs.declared.local.LocalChange.{LocalChange}
+use Rattle.sn_plan.specs.Others.{is_up}
+use Rattle.sn_local.specs.Timers.{timer_cmp, timed, timer_of, started, sent_at, resent_at, retried_at, timer_change, timers_after}
+use Rattle.sn_local.proofs.Entries.{same_client-itself}
+use Rattle.sn_local.proofs.TimerPlaces.{same_by_order}
 use Rattle.sn_deliver.specs.declared.due.Due.TheVariants.{Loss, Retry, Delivery}
-use Rattle.sn_deliver.specs.Exchanges.{open_exchange, is_served, is_awake}
+use Rattle.sn_exchange.specs.Exchanges.{open_exchange, is_served, is_awake}
 use Rattle.sn_deliver.specs.Due.{patience, is_silent, is_overdue, due_exchange, due_by, due_at, due_session}
 
 -- ---- tests that choose

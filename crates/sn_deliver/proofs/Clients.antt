@@ -12,11 +12,12 @@ use Rattle.rep_model.specs.Views.{names, in_order, named, clients, names_client,
 use Rattle.rep_model.proofs.Lookup.{is_sorted-in_order}
 use Rattle.rep_model.proofs.Readers.{client_total, client_exact, same_client-true}
 use Rattle.rep_model.proofs.Named.{find_clients}
-use Rattle.sn_flow.specs.declared.draft.NewPut.{NewPut}
-use Rattle.sn_flow.specs.declared.plan.Plan.{Plan}
-use Rattle.sn_flow.specs.Drafts.{Drafted}
-use Rattle.sn_flow.specs.Plans.{Seen, plan_of}
-use Rattle.sn_flow.specs.Own.{IsOwn, messages}
+use Rattle.sn_plan.specs.declared.draft.NewPut.{NewPut}
+use Rattle.sn_plan.specs.declared.plan.Plan.{Plan}
+use Rattle.sn_plan.specs.Drafts.{Drafted}
+use Rattle.sn_local.specs.Seen.{Seen}
+use Rattle.sn_plan.specs.Plans.{plan_of}
+use Rattle.sn_plan.specs.Own.{IsOwn, messages}
 use Rattle.sn_flow.proofs.Lists.{all-both}
 use Rattle.sn_flow.proofs.Names.{plan-own}
 use Rattle.sn_flow.proofs.Waiting.{plan-messages}

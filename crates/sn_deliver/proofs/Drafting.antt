@@ -28,37 +28,38 @@ use Rattle.rep_model.specs.declared.view.ClientView.{ClientView}
 use Rattle.rep_model.specs.Views.{clients}
 use Rattle.rep_model.proofs.Named.{clients-ascend}
 use Rattle.rep_model.proofs.Readers.{client_total}
-use Rattle.sn_flow.specs.declared.config.Addr.{Addr}
-use Rattle.sn_flow.specs.declared.draft.NewPut.{NewPut}
-use Rattle.sn_flow.specs.declared.local.Timer.{Timer}
-use Rattle.sn_flow.specs.declared.local.WillDialog.{WillDialog}
-use Rattle.sn_flow.specs.declared.local.LocalChange.TheVariants.{Retried}
-use Rattle.sn_flow.specs.declared.plan.Plan.{Plan}
-use Rattle.sn_flow.specs.declared.row.Row.{Row}
-use Rattle.sn_flow.specs.declared.row.Follow.{Follow}
-use Rattle.sn_flow.specs.declared.row.Follow.TheVariants as follows
-use Rattle.sn_flow.specs.Drafts.{Drafted, nothing, changed, changed_if, moved}
-use Rattle.sn_flow.specs.Plans.{Seen, seen_of, plan_without}
-use Rattle.sn_flow.specs.Bindings.{client_at, is_stamp_of}
-use Rattle.sn_flow.specs.Locals.{Local}
-use Rattle.sn_flow.specs.Bound.{bound_to, session_of}
-use Rattle.sn_flow.specs.Rows.{row_of, row_of_none, heard_row}
-use Rattle.sn_flow.specs.Own.{IsOneEach, IsOfDraft}
+use Rattle.sn_local.specs.declared.config.Addr.{Addr}
+use Rattle.sn_plan.specs.declared.draft.NewPut.{NewPut}
+use Rattle.sn_local.specs.declared.local.Timer.{Timer}
+use Rattle.sn_local.specs.declared.local.WillDialog.{WillDialog}
+use Rattle.sn_local.specs.declared.local.LocalChange.TheVariants.{Retried}
+use Rattle.sn_plan.specs.declared.plan.Plan.{Plan}
+use Rattle.sn_plan.specs.declared.row.Row.{Row}
+use Rattle.sn_plan.specs.declared.row.Follow.{Follow}
+use Rattle.sn_plan.specs.declared.row.Follow.TheVariants as follows
+use Rattle.sn_plan.specs.Drafts.{Drafted, nothing, changed, changed_if, moved}
+use Rattle.sn_local.specs.Seen.{Seen, seen_of}
+use Rattle.sn_plan.specs.Plans.{plan_without}
+use Rattle.sn_local.specs.Bindings.{client_at, is_stamp_of}
+use Rattle.sn_local.specs.Locals.{Local}
+use Rattle.sn_plan.specs.Bound.{bound_to, session_of}
+use Rattle.sn_plan.specs.Rows.{row_of, row_of_none, heard_row}
+use Rattle.sn_plan.specs.Own.{IsOneEach, IsOfDraft}
 use Rattle.sn_flow.proofs.Drafting.{row-drafted, connect-puts, disconnect-puts, will_topic-puts, will_msg-puts, will_topic_update-puts, will_msg_update-puts, register-puts, subscribe-puts, unsubscribe-puts, other-puts}
-use Rattle.sn_deliver.specs.declared.form.Form.{Form}
-use Rattle.sn_deliver.specs.declared.peer.Peer.{Peer}
-use Rattle.sn_deliver.specs.declared.delivery.ToldId.{ToldId}
+use Rattle.sn_exchange.specs.declared.form.Form.{Form}
+use Rattle.sn_exchange.specs.declared.peer.Peer.{Peer}
+use Rattle.sn_exchange.specs.declared.delivery.ToldId.{ToldId}
 use Rattle.sn_deliver.specs.declared.due.Due.{Due}
 use Rattle.sn_deliver.specs.declared.due.Due.TheVariants as dues
-use Rattle.sn_deliver.specs.declared.meaning.Meant.{Meant}
-use Rattle.sn_deliver.specs.declared.meaning.Meant.TheVariants.{Topic, Refused}
-use Rattle.sn_deliver.specs.Forms.{form_of, form_again}
-use Rattle.sn_deliver.specs.Exchanges.{so_far, left, put_left, message_of, open_exchange, is_served, is_awake}
-use Rattle.sn_deliver.specs.Recipients.{puts_among, puts_for, is_another, qos_for}
-use Rattle.sn_deliver.specs.Publishing.{publication_meant, spread_twice, publish_at, publish_meant, spread_meant, release}
-use Rattle.sn_deliver.specs.Delivery.{Stop, id_to_tell, register_first, deliver_by, none_left, and_then, deliver, deliver_left, deliver_if}
-use Rattle.sn_deliver.specs.Resending.{register_by, register_again, publish_by, publish_again, resend_in, resend_if}
-use Rattle.sn_deliver.specs.Acknowledging.{entry_published, forgotten, puback_of, put_awaiting, awaiting, awaiting_pubrec, pubrec_again, pubrec_of, pubcomp_of, registered, regack_of, acknowledge}
+use Rattle.sn_publish.specs.declared.meaning.Meant.{Meant}
+use Rattle.sn_publish.specs.declared.meaning.Meant.TheVariants.{Topic, Refused}
+use Rattle.sn_exchange.specs.Forms.{form_of, form_again}
+use Rattle.sn_exchange.specs.Exchanges.{so_far, left, put_left, message_of, open_exchange, is_served, is_awake}
+use Rattle.sn_publish.specs.Recipients.{puts_among, puts_for, is_another, qos_for}
+use Rattle.sn_publish.specs.Publishing.{publication_meant, spread_twice, publish_at, publish_meant, spread_meant, release}
+use Rattle.sn_exchange.specs.Delivery.{Stop, id_to_tell, register_first, deliver_by, none_left, and_then, deliver, deliver_left, deliver_if}
+use Rattle.sn_exchange.specs.Resending.{register_by, register_again, publish_by, publish_again, resend_in, resend_if}
+use Rattle.sn_exchange.specs.Acknowledging.{entry_published, forgotten, puback_of, put_awaiting, awaiting, awaiting_pubrec, pubrec_again, pubrec_of, pubcomp_of, registered, regack_of, acknowledge}
 use Rattle.sn_session.specs.Topics.{topic_named}
 use Rattle.sn_deliver.specs.Following.{peer_at, followed_by, followed_for, followed, deliver_next}
 use Rattle.sn_deliver.specs.Serving.{publish_of, publish_in_at, pubrel_of, ack_of}

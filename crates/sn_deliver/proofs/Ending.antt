@@ -10,18 +10,19 @@ use Rattle.rep_ops.specs.Sets.{Same}
 use Rattle.rep_model.specs.declared.view.ClientView.{ClientView}
 use Rattle.rep_model.specs.Views.{view, clients, is_named}
 use Rattle.rep_model.proofs.Named.{clients-named, unnamed-unseen}
-use Rattle.sn_flow.specs.declared.config.Addr.{Addr}
-use Rattle.sn_flow.specs.declared.local.LocalChange.{LocalChange}
-use Rattle.sn_flow.specs.declared.local.LocalChange.TheVariants.{Advertised}
-use Rattle.sn_flow.specs.declared.plan.Plan.{Plan}
-use Rattle.sn_flow.specs.Advertising.{advertised_change, advertised_after}
-use Rattle.sn_flow.specs.Bindings.{bindings_after}
-use Rattle.sn_flow.specs.Drafts.{Drafted}
-use Rattle.sn_flow.specs.Flush.{AreFlush}
-use Rattle.sn_flow.specs.Locals.{Local, after_all}
-use Rattle.sn_flow.specs.Others.{can_wake}
-use Rattle.sn_flow.specs.Plans.{seen_of, plan_without}
-use Rattle.sn_flow.specs.Timers.{timer_of, timers_after}
+use Rattle.sn_local.specs.declared.config.Addr.{Addr}
+use Rattle.sn_local.specs.declared.local.LocalChange.{LocalChange}
+use Rattle.sn_local.specs.declared.local.LocalChange.TheVariants.{Advertised}
+use Rattle.sn_plan.specs.declared.plan.Plan.{Plan}
+use Rattle.sn_local.specs.Advertising.{advertised_change, advertised_after}
+use Rattle.sn_local.specs.Bindings.{bindings_after}
+use Rattle.sn_plan.specs.Drafts.{Drafted}
+use Rattle.sn_plan.specs.Flush.{AreFlush}
+use Rattle.sn_local.specs.Locals.{Local, after_all}
+use Rattle.sn_plan.specs.Others.{can_wake}
+use Rattle.sn_local.specs.Seen.{seen_of}
+use Rattle.sn_plan.specs.Plans.{plan_without}
+use Rattle.sn_local.specs.Timers.{timer_of, timers_after}
 use Rattle.sn_flow.proofs.Stepping.{step-flush}
 use Rattle.sn_deliver.specs.declared.due.Due.{Due}
 use Rattle.sn_deliver.specs.declared.due.Due.TheVariants.{Loss, Retry, Delivery}

@@ -11,11 +11,11 @@ use Rattle.rep_ops.specs.declared.op.Op.TheVariants.{Session as OfSession, Put a
 use Rattle.rep_model.specs.Views.{gapless}
 use Rattle.rep_model.proofs.Joins.{same_refl}
 use Rattle.sn_frame.specs.declared.frame.Frame.TheVariants as frames
-use Rattle.sn_flow.specs.declared.local.LocalChange.TheVariants.{Unbind, Heard, Sent, Resent, Retried, Advertised}
-use Rattle.sn_flow.specs.Numbering.{write, planned}
-use Rattle.sn_flow.specs.Plans.{seen_of}
-use Rattle.sn_flow.specs.Locals.{Local}
-use Rattle.sn_flow.specs.Timers.{started}
+use Rattle.sn_local.specs.declared.local.LocalChange.TheVariants.{Unbind, Heard, Sent, Resent, Retried, Advertised}
+use Rattle.sn_plan.specs.Numbering.{write, planned}
+use Rattle.sn_local.specs.Seen.{seen_of}
+use Rattle.sn_local.specs.Locals.{Local}
+use Rattle.sn_local.specs.Timers.{started}
 use Rattle.sn_flow.proofs.Rows.{s1, seven, bound_seven, first_take}
 use Rattle.sn_deliver.specs.Following.{deliver_next}
 use Rattle.sn_deliver.specs.Serving.{publish_in, ack_in}

@@ -1,12 +1,12 @@
 -- A row with what follows it, by the client that it is for.
 use Rattle.std.proofs.Common.{◌≡◌, ℕ, List, Option, Some, sym, ap, ◌∙◌}
 use Rattle.sn_topic.specs.Table.{Entries}
-use Rattle.sn_flow.specs.declared.config.Addr.{Addr}
-use Rattle.sn_flow.specs.declared.row.Row.{Row}
-use Rattle.sn_flow.specs.Drafts.{Drafted}
-use Rattle.sn_flow.specs.Plans.{Seen}
-use Rattle.sn_flow.specs.Bound.{session_of}
-use Rattle.sn_deliver.specs.declared.peer.Peer.{Peer}
+use Rattle.sn_local.specs.declared.config.Addr.{Addr}
+use Rattle.sn_plan.specs.declared.row.Row.{Row}
+use Rattle.sn_plan.specs.Drafts.{Drafted}
+use Rattle.sn_local.specs.Seen.{Seen}
+use Rattle.sn_plan.specs.Bound.{session_of}
+use Rattle.sn_exchange.specs.declared.peer.Peer.{Peer}
 use Rattle.sn_deliver.specs.Following.{peer_at, followed_by, followed_for, followed}
 
 pub followed-at : (predefined : Entries) (seen : Seen) (a : Addr) (now : ℕ) (row : Row) (c : List ℕ) (peer : Peer) (d : Drafted)

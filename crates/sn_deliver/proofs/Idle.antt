@@ -7,21 +7,22 @@ use Rattle.sn_topic.specs.Table.{Entries}
 use Rattle.sn_session.specs.declared.session.Session.{Session}
 use Rattle.sn_session.specs.declared.outbound.Outbound.{Outbound}
 use Rattle.rep_ops.specs.declared.op.Put.{Put}
-use Rattle.sn_flow.specs.declared.config.Addr.{Addr}
-use Rattle.sn_flow.specs.declared.local.Timer.{Timer}
-use Rattle.sn_flow.specs.declared.local.WillDialog.{WillDialog}
-use Rattle.sn_flow.specs.declared.local.LocalChange.TheVariants.{Heard, EndDialog}
-use Rattle.sn_flow.specs.declared.plan.Plan.{Plan}
-use Rattle.sn_flow.specs.Drafts.{Drafted, nothing, moved}
-use Rattle.sn_flow.specs.Bindings.{address_of, is_stamp_of}
-use Rattle.sn_flow.specs.Timers.{timer_of}
-use Rattle.sn_flow.specs.Locals.{Local}
-use Rattle.sn_flow.specs.Others.{is_up}
-use Rattle.sn_flow.specs.Plans.{Seen, plan_without}
+use Rattle.sn_local.specs.declared.config.Addr.{Addr}
+use Rattle.sn_local.specs.declared.local.Timer.{Timer}
+use Rattle.sn_local.specs.declared.local.WillDialog.{WillDialog}
+use Rattle.sn_local.specs.declared.local.LocalChange.TheVariants.{Heard, EndDialog}
+use Rattle.sn_plan.specs.declared.plan.Plan.{Plan}
+use Rattle.sn_plan.specs.Drafts.{Drafted, nothing, moved}
+use Rattle.sn_local.specs.Bindings.{address_of, is_stamp_of}
+use Rattle.sn_local.specs.Timers.{timer_of}
+use Rattle.sn_local.specs.Locals.{Local}
+use Rattle.sn_plan.specs.Others.{is_up}
+use Rattle.sn_local.specs.Seen.{Seen}
+use Rattle.sn_plan.specs.Plans.{plan_without}
 use Rattle.rep_model.specs.declared.view.ClientView.{ClientView}
 use Rattle.sn_deliver.specs.declared.due.Due.{Due}
 use Rattle.sn_deliver.specs.declared.due.Due.TheVariants.{Loss, Retry}
-use Rattle.sn_deliver.specs.Exchanges.{open_exchange, is_served}
+use Rattle.sn_exchange.specs.Exchanges.{open_exchange, is_served}
 use Rattle.sn_deliver.specs.Due.{patience, is_overdue, due_exchange, due_by, due_at, due_session, due_view, due_with, or_later, first_due}
 use Rattle.sn_deliver.specs.Ticking.{needs_timer, timer_begun, timers_begun, dialog_ended, dialogs_ended, cleaned, is_long_ago, may_advertise, advertised, plan_if_due, one_thing, tick}
 use Rattle.sn_deliver.specs.Rest.{is_old, asks, is_idle}

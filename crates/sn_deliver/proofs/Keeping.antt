@@ -13,22 +13,23 @@ use Rattle.sn_session.specs.Received.{is_received, id_has_no_room}
 use Rattle.sn_frame.specs.declared.frame.Frame.TheVariants as frames
 use Rattle.sn_frame.specs.Grammar.{spelling}
 use Rattle.rep_ops.specs.declared.op.Put.{Put}
-use Rattle.sn_flow.specs.declared.config.Send.{Send}
-use Rattle.sn_flow.specs.declared.local.Timer.{Timer}
-use Rattle.sn_flow.specs.declared.local.WillDialog.{WillDialog}
-use Rattle.sn_flow.specs.declared.local.LocalChange.TheVariants.{Heard, EndDialog}
-use Rattle.sn_flow.specs.Names.{name_of}
-use Rattle.sn_flow.specs.Drafts.{Drafted, nothing, changed, changed_if, acked, put_all, sent, moved}
-use Rattle.sn_flow.specs.Plans.{Seen, plan_without}
-use Rattle.sn_flow.specs.Locals.{Local}
-use Rattle.sn_deliver.specs.declared.form.Form.{Form}
-use Rattle.sn_deliver.specs.declared.peer.Peer.{Peer}
-use Rattle.sn_deliver.specs.declared.delivery.ToldId.{ToldId}
-use Rattle.sn_deliver.specs.Forms.{form_of, publication}
-use Rattle.sn_deliver.specs.Recipients.{puts_for}
-use Rattle.sn_deliver.specs.Exchanges.{so_far, put_left, message_of, open_exchange, is_served, is_awake}
-use Rattle.sn_deliver.specs.Delivery.{Stop, id_to_tell, begun, register_first, deliver_by, none_left, and_then, deliver, deliver_left, then_deliver}
-use Rattle.sn_deliver.specs.Resending.{publish_by, publish_again, resend_in}
+use Rattle.sn_local.specs.declared.config.Send.{Send}
+use Rattle.sn_local.specs.declared.local.Timer.{Timer}
+use Rattle.sn_local.specs.declared.local.WillDialog.{WillDialog}
+use Rattle.sn_local.specs.declared.local.LocalChange.TheVariants.{Heard, EndDialog}
+use Rattle.sn_plan.specs.Names.{name_of}
+use Rattle.sn_plan.specs.Drafts.{Drafted, nothing, changed, changed_if, acked, put_all, sent, moved}
+use Rattle.sn_local.specs.Seen.{Seen}
+use Rattle.sn_plan.specs.Plans.{plan_without}
+use Rattle.sn_local.specs.Locals.{Local}
+use Rattle.sn_exchange.specs.declared.form.Form.{Form}
+use Rattle.sn_exchange.specs.declared.peer.Peer.{Peer}
+use Rattle.sn_exchange.specs.declared.delivery.ToldId.{ToldId}
+use Rattle.sn_exchange.specs.Forms.{form_of, publication}
+use Rattle.sn_publish.specs.Recipients.{puts_for}
+use Rattle.sn_exchange.specs.Exchanges.{so_far, put_left, message_of, open_exchange, is_served, is_awake}
+use Rattle.sn_exchange.specs.Delivery.{Stop, id_to_tell, begun, register_first, deliver_by, none_left, and_then, deliver, deliver_left, then_deliver}
+use Rattle.sn_exchange.specs.Resending.{publish_by, publish_again, resend_in}
 use Rattle.sn_deliver.specs.Due.{elapsed, first_due}
 use Rattle.sn_deliver.specs.Ticking.{dialog_ended, dialogs_ended, needs_timer, timer_begun, cleaned, advertised, plan_if_due}
 use Rattle.sn_session.specs.Session.{changed as changed_by}

@@ -11,7 +11,6 @@ pub mod Idle
 pub mod Keeping
 mod Locally
 mod Lowering
-mod Passing
 mod Pending
 mod Receiving
 mod Remaining

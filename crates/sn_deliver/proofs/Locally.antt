@@ -10,24 +10,24 @@ use Rattle.sn_session.specs.declared.topics.TopicEntry.{TopicEntry}
 use Rattle.sn_session.specs.declared.change.SessionOp.{SessionOp}
 use Rattle.sn_session.specs.Topics.{topic_named}
 use Rattle.rep_ops.specs.declared.op.Put.{Put}
-use Rattle.sn_flow.specs.declared.config.Addr.{Addr}
-use Rattle.sn_flow.specs.declared.local.WillDialog.{WillDialog}
-use Rattle.sn_flow.specs.declared.local.LocalChange.{LocalChange}
-use Rattle.sn_flow.specs.declared.local.LocalChange.TheVariants.{Heard, Sent, Resent, Retried, EndDialog}
-use Rattle.sn_flow.specs.Drafts.{Drafted, nothing, changed_if, moved}
-use Rattle.sn_flow.specs.Plans.{Seen}
-use Rattle.sn_flow.specs.Bindings.{is_stamp_of}
-use Rattle.sn_flow.specs.Bound.{session_of}
-use Rattle.sn_flow.specs.Others.{can_wake}
-use Rattle.sn_flow.specs.Timers.{timer_of}
-use Rattle.sn_flow.specs.Locals.{Local}
-use Rattle.sn_deliver.specs.declared.delivery.ToldId.{ToldId}
-use Rattle.sn_deliver.specs.declared.form.Form.{Form}
-use Rattle.sn_deliver.specs.declared.peer.Peer.{Peer}
-use Rattle.sn_deliver.specs.Forms.{form_of, form_again}
-use Rattle.sn_deliver.specs.Exchanges.{so_far, left, put_left, message_of, open_exchange, is_served, is_awake}
-use Rattle.sn_deliver.specs.Delivery.{Stop, id_to_tell, register_first, deliver_by, none_left, and_then, deliver, deliver_left, deliver_if}
-use Rattle.sn_deliver.specs.Resending.{register_by, register_again, publish_by, publish_again, resend_in, resend_if}
+use Rattle.sn_local.specs.declared.config.Addr.{Addr}
+use Rattle.sn_local.specs.declared.local.WillDialog.{WillDialog}
+use Rattle.sn_local.specs.declared.local.LocalChange.{LocalChange}
+use Rattle.sn_local.specs.declared.local.LocalChange.TheVariants.{Heard, Sent, Resent, Retried, EndDialog}
+use Rattle.sn_plan.specs.Drafts.{Drafted, nothing, changed_if, moved}
+use Rattle.sn_local.specs.Seen.{Seen}
+use Rattle.sn_local.specs.Bindings.{is_stamp_of}
+use Rattle.sn_plan.specs.Bound.{session_of}
+use Rattle.sn_plan.specs.Others.{can_wake}
+use Rattle.sn_local.specs.Timers.{timer_of}
+use Rattle.sn_local.specs.Locals.{Local}
+use Rattle.sn_exchange.specs.declared.delivery.ToldId.{ToldId}
+use Rattle.sn_exchange.specs.declared.form.Form.{Form}
+use Rattle.sn_exchange.specs.declared.peer.Peer.{Peer}
+use Rattle.sn_exchange.specs.Forms.{form_of, form_again}
+use Rattle.sn_exchange.specs.Exchanges.{so_far, left, put_left, message_of, open_exchange, is_served, is_awake}
+use Rattle.sn_exchange.specs.Delivery.{Stop, id_to_tell, register_first, deliver_by, none_left, and_then, deliver, deliver_left, deliver_if}
+use Rattle.sn_exchange.specs.Resending.{register_by, register_again, publish_by, publish_again, resend_in, resend_if}
 use Rattle.sn_deliver.specs.Following.{peer_at}
 use Rattle.sn_deliver.specs.Due.{elapsed}
 use Rattle.sn_deliver.specs.Ticking.{dialog_ended, needs_timer, timer_begun, cleaned}

@@ -11,17 +11,17 @@ use Rattle.rep_model.specs.declared.view.ClientView.{ClientView}
 use Rattle.rep_model.specs.Views.{view, clients}
 use Rattle.rep_model.proofs.Thin.{thin-same, view-thin}
 use Rattle.rep_model.proofs.Named.{clients-thin}
-use Rattle.sn_flow.specs.declared.config.Addr.{Addr}
-use Rattle.sn_flow.specs.declared.local.Timer.{Timer}
-use Rattle.sn_flow.specs.Bindings.{is_stamp_of, address_of}
-use Rattle.sn_flow.specs.Timers.{timer_of}
-use Rattle.sn_flow.specs.Locals.{Local}
-use Rattle.sn_flow.specs.Others.{is_up, can_wake}
-use Rattle.sn_flow.specs.Plans.{Seen, seen_of}
+use Rattle.sn_local.specs.declared.config.Addr.{Addr}
+use Rattle.sn_local.specs.declared.local.Timer.{Timer}
+use Rattle.sn_local.specs.Bindings.{is_stamp_of, address_of}
+use Rattle.sn_local.specs.Timers.{timer_of}
+use Rattle.sn_local.specs.Locals.{Local}
+use Rattle.sn_plan.specs.Others.{is_up, can_wake}
+use Rattle.sn_local.specs.Seen.{Seen, seen_of}
 use Rattle.sn_flow.proofs.Known.{same-behind}
 use Rattle.sn_deliver.specs.declared.due.Due.{Due}
 use Rattle.sn_deliver.specs.declared.due.Due.TheVariants.{Loss}
-use Rattle.sn_deliver.specs.Exchanges.{open_exchange, is_served}
+use Rattle.sn_exchange.specs.Exchanges.{open_exchange, is_served}
 use Rattle.sn_deliver.specs.Due.{is_silent, is_overdue, due_by, due_at, due_session, due_view, due_with, or_later, first_due}
 use Rattle.sn_deliver.specs.Ticking.{may_advertise}
 use Rattle.sn_deliver.proofs.Calm.{first_of, none_some}

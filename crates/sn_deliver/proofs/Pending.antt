@@ -14,8 +14,8 @@ use Rattle.rep_model.specs.Views.{unacknowledged, pending_at, in_order, pending}
 use Rattle.rep_model.proofs.Lookup.{find-in_order, is_sorted-in_order}
 use Rattle.rep_model.proofs.Readers.{put_total, put_exact}
 use Rattle.rep_model.proofs.Waiting.{AreUnderNames, waiting_entries, waiting_under, waiting_sorted, waiting_found}
-use Rattle.sn_flow.specs.Names.{name_of}
-use Rattle.sn_deliver.specs.Exchanges.{same_name, is_done, left}
+use Rattle.sn_plan.specs.Names.{name_of}
+use Rattle.sn_exchange.specs.Exchanges.{same_name, is_done, left}
 use Rattle.sn_deliver.specs.Laws.{AreApart}
 
 -- ---- names that are all different

@@ -3,10 +3,10 @@ use Rattle.std.proofs.Common.{◌≡◌, ℕ, ◌-◌, ◌||◌, Bool, true, fal
 use Rattle.sn_session.specs.declared.session.Session.{Session}
 use Rattle.sn_session.specs.declared.outbound.Outbound.{Outbound}
 use Rattle.rep_ops.specs.declared.op.Put.{Put}
-use Rattle.sn_flow.specs.declared.config.Addr.{Addr}
-use Rattle.sn_flow.specs.declared.local.Timer.{Timer}
+use Rattle.sn_local.specs.declared.config.Addr.{Addr}
+use Rattle.sn_local.specs.declared.local.Timer.{Timer}
 use Rattle.sn_deliver.specs.declared.due.Due.TheVariants.{Loss, Retry, Delivery}
-use Rattle.sn_deliver.specs.Exchanges.{open_exchange, is_served, is_awake}
+use Rattle.sn_exchange.specs.Exchanges.{open_exchange, is_served, is_awake}
 use Rattle.sn_deliver.specs.Due.{is_overdue, due_exchange, due_by, due_at, due_session}
 use Rattle.sn_deliver.proofs.Calm.{some_none}
 

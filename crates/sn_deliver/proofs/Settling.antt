@@ -17,25 +17,25 @@ use Rattle.sn_session.specs.Session.{applied, changed as changed_session}
 use Rattle.sn_frame.specs.declared.frame.Frame.{Frame}
 use Rattle.sn_frame.specs.declared.frame.Frame.TheVariants as frames
 use Rattle.rep_ops.specs.declared.op.Put.{Put}
-use Rattle.sn_flow.specs.declared.config.Addr.{Addr}
-use Rattle.sn_flow.specs.declared.config.Send.{Send}
-use Rattle.sn_flow.specs.declared.draft.NewPut.{NewPut}
-use Rattle.sn_flow.specs.declared.local.Timer.{Timer}
-use Rattle.sn_flow.specs.declared.local.LocalChange.{LocalChange}
-use Rattle.sn_flow.specs.declared.local.LocalChange.TheVariants.{Sent, Resent, Retried}
-use Rattle.sn_flow.specs.Names.{name_of}
-use Rattle.sn_flow.specs.Drafts.{Drafted, changed, acked, sent, moved}
-use Rattle.sn_flow.specs.Plans.{Seen}
-use Rattle.sn_flow.specs.Bound.{session_of}
-use Rattle.sn_flow.specs.Timers.{timer_of, sent_at, resent_at, retried_at, timers_after}
+use Rattle.sn_local.specs.declared.config.Addr.{Addr}
+use Rattle.sn_local.specs.declared.config.Send.{Send}
+use Rattle.sn_plan.specs.declared.draft.NewPut.{NewPut}
+use Rattle.sn_local.specs.declared.local.Timer.{Timer}
+use Rattle.sn_local.specs.declared.local.LocalChange.{LocalChange}
+use Rattle.sn_local.specs.declared.local.LocalChange.TheVariants.{Sent, Resent, Retried}
+use Rattle.sn_plan.specs.Names.{name_of}
+use Rattle.sn_plan.specs.Drafts.{Drafted, changed, acked, sent, moved}
+use Rattle.sn_local.specs.Seen.{Seen}
+use Rattle.sn_plan.specs.Bound.{session_of}
+use Rattle.sn_local.specs.Timers.{timer_of, sent_at, resent_at, retried_at, timers_after}
 use Rattle.sn_deliver.specs.declared.due.Due.{Due}
 use Rattle.sn_deliver.specs.declared.due.Due.TheVariants.{Loss, Retry, Delivery}
-use Rattle.sn_deliver.specs.declared.form.Form.{Form}
-use Rattle.sn_deliver.specs.declared.peer.Peer.{Peer}
-use Rattle.sn_deliver.specs.Forms.{form_of, form_again, publication}
-use Rattle.sn_deliver.specs.Exchanges.{left, put_left, message_of, is_open_in, open_exchange, is_served, is_awake}
-use Rattle.sn_deliver.specs.Delivery.{next_after, entry_or_fresh, begun, register_first, deliver_by, and_then, deliver, deliver_left}
-use Rattle.sn_deliver.specs.Resending.{given_up, register_by, publish_by, resend_in, resend_if}
+use Rattle.sn_exchange.specs.declared.form.Form.{Form}
+use Rattle.sn_exchange.specs.declared.peer.Peer.{Peer}
+use Rattle.sn_exchange.specs.Forms.{form_of, form_again, publication}
+use Rattle.sn_exchange.specs.Exchanges.{left, put_left, message_of, is_open_in, open_exchange, is_served, is_awake}
+use Rattle.sn_exchange.specs.Delivery.{next_after, entry_or_fresh, begun, register_first, deliver_by, and_then, deliver, deliver_left}
+use Rattle.sn_exchange.specs.Resending.{given_up, register_by, publish_by, resend_in, resend_if}
 use Rattle.sn_deliver.specs.Due.{elapsed, is_overdue, due_exchange, due_by, due_at, due_session}
 use Rattle.sn_deliver.specs.Ticking.{lost}
 use Rattle.sn_deliver.specs.Laws.{AreApart, due_after, due_draft, TickSettles}

@@ -17,29 +17,30 @@ use Rattle.rep_model.specs.Views.{view, clients, is_named}
 use Rattle.rep_model.proofs.Readers.{same_client-true}
 use Rattle.rep_model.proofs.Joins.{all-moved}
 use Rattle.rep_model.proofs.Named.{clients-named}
-use Rattle.sn_flow.specs.declared.config.Addr.{Addr}
-use Rattle.sn_flow.specs.declared.draft.NewPut.{NewPut}
-use Rattle.sn_flow.specs.declared.local.Timer.{Timer}
-use Rattle.sn_flow.specs.declared.local.LocalChange.{LocalChange}
-use Rattle.sn_flow.specs.declared.local.LocalChange.TheVariants.{Unbind, Retried}
-use Rattle.sn_flow.specs.declared.plan.Plan.{Plan}
-use Rattle.sn_flow.specs.declared.row.Follow.TheVariants as follows
-use Rattle.sn_flow.specs.Bindings.{is_stamp_of, address_of}
-use Rattle.sn_flow.specs.Timers.{timer_of, timers_after}
-use Rattle.sn_flow.specs.Bound.{session_of}
-use Rattle.sn_flow.specs.Drafts.{Drafted, moved}
-use Rattle.sn_flow.specs.Flush.{IsFlush, session_with}
-use Rattle.sn_flow.specs.Locals.{Local, after_all}
-use Rattle.sn_flow.specs.Numbering.{planned, plan_with, rest_of, with_puts, written, start_of, ack_of}
-use Rattle.sn_flow.specs.Others.{is_up, can_wake}
-use Rattle.sn_flow.specs.Plans.{Seen, seen_of, plan_of}
-use Rattle.sn_flow.proofs.Entries.{same_client-itself}
+use Rattle.sn_local.specs.declared.config.Addr.{Addr}
+use Rattle.sn_plan.specs.declared.draft.NewPut.{NewPut}
+use Rattle.sn_local.specs.declared.local.Timer.{Timer}
+use Rattle.sn_local.specs.declared.local.LocalChange.{LocalChange}
+use Rattle.sn_local.specs.declared.local.LocalChange.TheVariants.{Unbind, Retried}
+use Rattle.sn_plan.specs.declared.plan.Plan.{Plan}
+use Rattle.sn_plan.specs.declared.row.Follow.TheVariants as follows
+use Rattle.sn_local.specs.Bindings.{is_stamp_of, address_of}
+use Rattle.sn_local.specs.Timers.{timer_of, timers_after}
+use Rattle.sn_plan.specs.Bound.{session_of}
+use Rattle.sn_plan.specs.Drafts.{Drafted, moved}
+use Rattle.sn_plan.specs.Flush.{IsFlush, session_with}
+use Rattle.sn_local.specs.Locals.{Local, after_all}
+use Rattle.sn_plan.specs.Numbering.{planned, plan_with, rest_of, with_puts, written, start_of, ack_of}
+use Rattle.sn_plan.specs.Others.{is_up, can_wake}
+use Rattle.sn_local.specs.Seen.{Seen, seen_of}
+use Rattle.sn_plan.specs.Plans.{plan_of}
+use Rattle.sn_local.proofs.Entries.{same_client-itself}
 use Rattle.sn_flow.proofs.Lists.{and_then-some, map-some}
 use Rattle.sn_flow.proofs.Outcomes.{session-shown, others-shown}
 use Rattle.sn_deliver.specs.declared.due.Due.{Due}
 use Rattle.sn_deliver.specs.declared.due.Due.TheVariants.{Loss, Retry, Delivery}
-use Rattle.sn_deliver.specs.Exchanges.{left}
-use Rattle.sn_deliver.specs.Recipients.{qos_for, message_for, puts_among, is_another}
+use Rattle.sn_exchange.specs.Exchanges.{left}
+use Rattle.sn_publish.specs.Recipients.{qos_for, message_for, puts_among, is_another}
 use Rattle.sn_deliver.specs.Due.{due_session, due_with}
 use Rattle.sn_deliver.specs.Ticking.{will_puts, lost}
 use Rattle.sn_deliver.specs.Following.{peer_at}

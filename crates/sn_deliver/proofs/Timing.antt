@@ -10,21 +10,21 @@ use Rattle.sn_session.specs.declared.session.Session.{Session}
 use Rattle.rep_ops.specs.declared.op.Put.{Put}
 use Rattle.rep_ops.specs.Sets.{same_client}
 use Rattle.rep_model.proofs.Readers.{same_client-true}
-use Rattle.sn_flow.specs.declared.config.Addr.{Addr}
-use Rattle.sn_flow.specs.declared.local.Binding.{Binding}
-use Rattle.sn_flow.specs.declared.local.Timer.{Timer}
-use Rattle.sn_flow.specs.declared.local.LocalChange.{LocalChange}
-use Rattle.sn_flow.specs.declared.local.LocalChange.TheVariants.{Heard, Sent, Resent, Retried, EndDialog}
-use Rattle.sn_flow.specs.Bindings.{binding_change, bindings_after}
-use Rattle.sn_flow.specs.Timers.{timer_cmp, timed, timer_of, started, heard_at, sent_at, resent_at, retried_at, timers_after}
-use Rattle.sn_flow.specs.Advertising.{advertised_change, advertised_after}
-use Rattle.sn_flow.specs.Locals.{Local}
-use Rattle.sn_flow.proofs.Entries.{same_client-itself, same_client-apart}
-use Rattle.sn_flow.proofs.TimerPlaces.{same_by_order}
+use Rattle.sn_local.specs.declared.config.Addr.{Addr}
+use Rattle.sn_local.specs.declared.local.Binding.{Binding}
+use Rattle.sn_local.specs.declared.local.Timer.{Timer}
+use Rattle.sn_local.specs.declared.local.LocalChange.{LocalChange}
+use Rattle.sn_local.specs.declared.local.LocalChange.TheVariants.{Heard, Sent, Resent, Retried, EndDialog}
+use Rattle.sn_local.specs.Bindings.{binding_change, bindings_after}
+use Rattle.sn_local.specs.Timers.{timer_cmp, timed, timer_of, started, heard_at, sent_at, resent_at, retried_at, timers_after}
+use Rattle.sn_local.specs.Advertising.{advertised_change, advertised_after}
+use Rattle.sn_local.specs.Locals.{Local}
+use Rattle.sn_local.proofs.Entries.{same_client-itself, same_client-apart}
+use Rattle.sn_local.proofs.TimerPlaces.{same_by_order}
 use Rattle.sn_deliver.specs.declared.due.Due.TheVariants.{Loss}
-use Rattle.sn_deliver.specs.Exchanges.{open_exchange, is_served}
+use Rattle.sn_exchange.specs.Exchanges.{open_exchange, is_served}
 use Rattle.sn_deliver.specs.Due.{patience, is_overdue, due_by, due_at, due_session}
-use Rattle.sn_flow.specs.Others.{is_up}
+use Rattle.sn_plan.specs.Others.{is_up}
 use Rattle.sn_deliver.proofs.Calm.{some_none, timed_found, one_more, rests, not_yet, and_false}
 
 -- ---- timers of others

@@ -5,16 +5,16 @@ use Rattle.sn_session.specs.declared.session.Session.{Session}
 use Rattle.sn_session.specs.declared.outbound.Outbound.{Outbound}
 use Rattle.rep_ops.specs.declared.op.Put.{Put}
 use Rattle.rep_model.specs.declared.view.ClientView.{ClientView}
-use Rattle.sn_flow.specs.declared.config.Addr.{Addr}
-use Rattle.sn_flow.specs.declared.local.Timer.{Timer}
-use Rattle.sn_flow.specs.Plans.{Seen}
-use Rattle.sn_flow.specs.Bindings.{address_of, is_stamp_of}
-use Rattle.sn_flow.specs.Timers.{timer_of}
-use Rattle.sn_flow.specs.Locals.{Local}
-use Rattle.sn_flow.specs.Others.{is_up}
+use Rattle.sn_local.specs.declared.config.Addr.{Addr}
+use Rattle.sn_local.specs.declared.local.Timer.{Timer}
+use Rattle.sn_local.specs.Seen.{Seen}
+use Rattle.sn_local.specs.Bindings.{address_of, is_stamp_of}
+use Rattle.sn_local.specs.Timers.{timer_of}
+use Rattle.sn_local.specs.Locals.{Local}
+use Rattle.sn_plan.specs.Others.{is_up}
 use Rattle.sn_deliver.specs.declared.due.Due.{Due}
 use Rattle.sn_deliver.specs.declared.due.Due.TheVariants.{Loss, Retry, Delivery}
-use Rattle.sn_deliver.specs.Exchanges.{open_exchange, is_served, is_awake}
+use Rattle.sn_exchange.specs.Exchanges.{open_exchange, is_served, is_awake}
 
 -- how long a moment is ago; 0 where the clock went back behind it
 abbrev pub elapsed : ℕ → ℕ → ℕ

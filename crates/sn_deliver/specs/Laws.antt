@@ -11,29 +11,29 @@ use Rattle.sn_session.specs.Received.{is_received, id_has_no_room}
 use Rattle.sn_frame.specs.declared.frame.Frame.TheVariants as frames
 use Rattle.sn_frame.specs.Grammar.{spelling}
 use Rattle.rep_ops.specs.declared.op.Put.{Put}
-use Rattle.sn_flow.specs.declared.config.Addr.{Addr}
-use Rattle.sn_flow.specs.declared.config.Send.{Send}
-use Rattle.sn_flow.specs.declared.local.Timer.{Timer}
-use Rattle.sn_flow.specs.declared.plan.Plan.{Plan}
-use Rattle.sn_flow.specs.declared.row.Follow.{Follow}
-use Rattle.sn_flow.specs.declared.row.Follow.TheVariants as follows
-use Rattle.sn_flow.specs.Names.{name_of}
-use Rattle.sn_flow.specs.Drafts.{Drafted, sent}
-use Rattle.sn_flow.specs.Bound.{session_of}
-use Rattle.sn_flow.specs.Plans.{Seen}
-use Rattle.sn_flow.specs.Rows.{row_of}
-use Rattle.sn_flow.specs.Timers.{timer_of, timers_after}
-use Rattle.sn_flow.specs.Locals.{Local}
-use Rattle.sn_deliver.specs.declared.form.Form.{Form}
-use Rattle.sn_deliver.specs.declared.peer.Peer.{Peer}
-use Rattle.sn_deliver.specs.Forms.{form_of, form_again, publication, qos_bits, kind_bits}
+use Rattle.sn_local.specs.declared.config.Addr.{Addr}
+use Rattle.sn_local.specs.declared.config.Send.{Send}
+use Rattle.sn_local.specs.declared.local.Timer.{Timer}
+use Rattle.sn_plan.specs.declared.plan.Plan.{Plan}
+use Rattle.sn_plan.specs.declared.row.Follow.{Follow}
+use Rattle.sn_plan.specs.declared.row.Follow.TheVariants as follows
+use Rattle.sn_plan.specs.Names.{name_of}
+use Rattle.sn_plan.specs.Drafts.{Drafted, sent}
+use Rattle.sn_plan.specs.Bound.{session_of}
+use Rattle.sn_local.specs.Seen.{Seen}
+use Rattle.sn_plan.specs.Rows.{row_of}
+use Rattle.sn_local.specs.Timers.{timer_of, timers_after}
+use Rattle.sn_local.specs.Locals.{Local}
+use Rattle.sn_exchange.specs.declared.form.Form.{Form}
+use Rattle.sn_exchange.specs.declared.peer.Peer.{Peer}
+use Rattle.sn_exchange.specs.Forms.{form_of, form_again, publication, qos_bits, kind_bits}
 use Rattle.sn_session.specs.declared.outbound.Outbound.{Outbound as Exchange}
 use Rattle.sn_deliver.specs.declared.due.Due.{Due}
 use Rattle.sn_deliver.specs.declared.due.Due.TheVariants.{Loss, Retry, Delivery}
-use Rattle.sn_deliver.specs.Exchanges.{so_far, same_name, left, put_left, message_of, open_exchange}
-use Rattle.sn_deliver.specs.Delivery.{id_to_tell, deliver, then_deliver}
-use Rattle.sn_deliver.specs.Resending.{resend}
-use Rattle.sn_deliver.specs.Publishing.{spread_twice}
+use Rattle.sn_exchange.specs.Exchanges.{so_far, same_name, left, put_left, message_of, open_exchange}
+use Rattle.sn_exchange.specs.Delivery.{id_to_tell, deliver, then_deliver}
+use Rattle.sn_exchange.specs.Resending.{resend}
+use Rattle.sn_publish.specs.Publishing.{spread_twice}
 use Rattle.sn_deliver.specs.Due.{due_session, first_due}
 use Rattle.sn_deliver.specs.Following.{followed_by, followed}
 use Rattle.sn_deliver.specs.Ticking.{may_advertise, lost, retried, tick}

@@ -1,14 +1,7 @@
-pub mod Acknowledging
-pub mod Delivery
 pub mod Due
-pub mod Exchanges
 pub mod Following
-pub mod Forms
 pub mod Laws
-pub mod Publishing
-pub mod Recipients
 pub mod Rest
-pub mod Resending
 pub mod Serving
 pub mod Steps
 pub mod Ticking

@@ -1,10 +1,10 @@
 -- When a tick has nothing to do.
 use Rattle.std.specs.Prelude.{ℕ, Bool, ◌&&◌, ◌||◌, not, nat_le, is_some, List}
 use Rattle.std.specs.List.{list_any}
-use Rattle.sn_flow.specs.declared.config.Addr.{Addr}
-use Rattle.sn_flow.specs.declared.local.WillDialog.{WillDialog}
-use Rattle.sn_flow.specs.Plans.{Seen}
-use Rattle.sn_flow.specs.Locals.{Local}
+use Rattle.sn_local.specs.declared.config.Addr.{Addr}
+use Rattle.sn_local.specs.declared.local.WillDialog.{WillDialog}
+use Rattle.sn_local.specs.Seen.{Seen}
+use Rattle.sn_local.specs.Locals.{Local}
 use Rattle.sn_deliver.specs.Due.{elapsed, due_with}
 use Rattle.sn_deliver.specs.Ticking.{needs_timer, may_advertise}
 

@@ -5,19 +5,19 @@ use Rattle.sn_frame.specs.declared.flags.Qos.{Qos}
 use Rattle.sn_frame.specs.declared.flags.Qos.TheVariants as levels
 use Rattle.sn_frame.specs.declared.frame.Frame.{Frame}
 use Rattle.sn_frame.specs.FlagBits.{qos_of}
-use Rattle.sn_flow.specs.declared.config.Addr.{Addr}
-use Rattle.sn_flow.specs.declared.row.Row.{Row}
-use Rattle.sn_flow.specs.declared.row.Follow.TheVariants.{Delivery}
-use Rattle.sn_flow.specs.Drafts.{Drafted}
-use Rattle.sn_flow.specs.Plans.{Seen}
-use Rattle.sn_flow.specs.Bindings.{client_at}
-use Rattle.sn_flow.specs.Locals.{Local}
-use Rattle.sn_flow.specs.Bound.{session_of}
-use Rattle.sn_flow.specs.Rows.{row_of, row_of_none, heard_row, turned_away}
-use Rattle.sn_deliver.specs.declared.peer.Peer.{Peer}
+use Rattle.sn_local.specs.declared.config.Addr.{Addr}
+use Rattle.sn_plan.specs.declared.row.Row.{Row}
+use Rattle.sn_plan.specs.declared.row.Follow.TheVariants.{Delivery}
+use Rattle.sn_plan.specs.Drafts.{Drafted}
+use Rattle.sn_local.specs.Seen.{Seen}
+use Rattle.sn_local.specs.Bindings.{client_at}
+use Rattle.sn_local.specs.Locals.{Local}
+use Rattle.sn_plan.specs.Bound.{session_of}
+use Rattle.sn_plan.specs.Rows.{row_of, row_of_none, heard_row, turned_away}
+use Rattle.sn_exchange.specs.declared.peer.Peer.{Peer}
 use Rattle.sn_deliver.specs.Following.{peer_at}
-use Rattle.sn_deliver.specs.Publishing.{publish, publish_unconnected, pubrel}
-use Rattle.sn_deliver.specs.Acknowledging.{acknowledge}
+use Rattle.sn_publish.specs.Publishing.{publish, publish_unconnected, pubrel}
+use Rattle.sn_exchange.specs.Acknowledging.{acknowledge}
 
 -- a row of the bound client c, which was heard of; Delivery follows
 abbrev pub served : List ℕ → ℕ → Drafted → Row

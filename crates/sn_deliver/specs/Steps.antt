@@ -3,15 +3,15 @@ use Rattle.std.specs.Prelude.{ℕ, Option}
 use Rattle.sn_topic.specs.Table.{Entries}
 use Rattle.sn_frame.specs.declared.frame.Frame.{Frame}
 use Rattle.sn_frame.specs.declared.frame.Frame.TheVariants as frames
-use Rattle.sn_flow.specs.declared.config.Addr.{Addr}
-use Rattle.sn_flow.specs.declared.plan.Plan.{Plan}
-use Rattle.sn_flow.specs.declared.row.Row.{Row}
-use Rattle.sn_flow.specs.Plans.{Seen}
-use Rattle.sn_flow.specs.Locals.{Local}
+use Rattle.sn_local.specs.declared.config.Addr.{Addr}
+use Rattle.sn_plan.specs.declared.plan.Plan.{Plan}
+use Rattle.sn_plan.specs.declared.row.Row.{Row}
+use Rattle.sn_local.specs.Seen.{Seen}
+use Rattle.sn_local.specs.Locals.{Local}
 use Rattle.sn_flow.specs.Connection.{connect, disconnect}
 use Rattle.sn_flow.specs.Wills.{will_topic, will_msg, will_topic_update, will_msg_update}
 use Rattle.sn_flow.specs.TopicRows.{register, subscribe, unsubscribe}
-use Rattle.sn_flow.specs.Others.{other}
+use Rattle.sn_plan.specs.Others.{other}
 use Rattle.sn_deliver.specs.Serving.{publish_in, pubrel_in, ack_in}
 use Rattle.sn_deliver.specs.Waking.{wake}
 use Rattle.sn_deliver.specs.Following.{deliver_next}

@@ -7,25 +7,26 @@ use Rattle.sn_session.specs.declared.will.Will.{Will}
 use Rattle.sn_session.specs.declared.change.SessionOp.TheVariants.{Presence}
 use Rattle.sn_frame.specs.declared.frame.Frame.TheVariants as frames
 use Rattle.rep_model.specs.declared.view.ClientView.{ClientView}
-use Rattle.sn_flow.specs.declared.config.Addr.{Addr}
-use Rattle.sn_flow.specs.declared.draft.NewPut.{NewPut}
-use Rattle.sn_flow.specs.declared.local.Timer.{Timer}
-use Rattle.sn_flow.specs.declared.local.WillDialog.{WillDialog}
-use Rattle.sn_flow.specs.declared.local.LocalChange.TheVariants.{Unbind, Heard, Retried, EndDialog, Advertised}
-use Rattle.sn_flow.specs.declared.plan.Plan.{Plan}
-use Rattle.sn_flow.specs.declared.row.Row.{Row}
-use Rattle.sn_flow.specs.Drafts.{Drafted, nothing, changed, put_all, sent, moved}
-use Rattle.sn_flow.specs.Plans.{Seen, plan_of, plan_without}
-use Rattle.sn_flow.specs.Bindings.{is_stamp_of}
-use Rattle.sn_flow.specs.Timers.{timer_of}
-use Rattle.sn_flow.specs.Locals.{Local}
-use Rattle.sn_flow.specs.Bound.{session_of}
-use Rattle.sn_flow.specs.Others.{can_wake}
-use Rattle.sn_flow.specs.Rows.{row_of}
-use Rattle.sn_flow.specs.declared.row.Follow.TheVariants as follows
+use Rattle.sn_local.specs.declared.config.Addr.{Addr}
+use Rattle.sn_plan.specs.declared.draft.NewPut.{NewPut}
+use Rattle.sn_local.specs.declared.local.Timer.{Timer}
+use Rattle.sn_local.specs.declared.local.WillDialog.{WillDialog}
+use Rattle.sn_local.specs.declared.local.LocalChange.TheVariants.{Unbind, Heard, Retried, EndDialog, Advertised}
+use Rattle.sn_plan.specs.declared.plan.Plan.{Plan}
+use Rattle.sn_plan.specs.declared.row.Row.{Row}
+use Rattle.sn_plan.specs.Drafts.{Drafted, nothing, changed, put_all, sent, moved}
+use Rattle.sn_local.specs.Seen.{Seen}
+use Rattle.sn_plan.specs.Plans.{plan_of, plan_without}
+use Rattle.sn_local.specs.Bindings.{is_stamp_of}
+use Rattle.sn_local.specs.Timers.{timer_of}
+use Rattle.sn_local.specs.Locals.{Local}
+use Rattle.sn_plan.specs.Bound.{session_of}
+use Rattle.sn_plan.specs.Others.{can_wake}
+use Rattle.sn_plan.specs.Rows.{row_of}
+use Rattle.sn_plan.specs.declared.row.Follow.TheVariants as follows
 use Rattle.sn_deliver.specs.declared.due.Due.{Due}
 use Rattle.sn_deliver.specs.declared.due.Due.TheVariants.{Loss, Retry, Delivery}
-use Rattle.sn_deliver.specs.Recipients.{puts_of_will}
+use Rattle.sn_publish.specs.Recipients.{puts_of_will}
 use Rattle.sn_deliver.specs.Following.{deliver_next}
 use Rattle.sn_deliver.specs.Due.{elapsed, first_due}
 

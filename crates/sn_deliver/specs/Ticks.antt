@@ -3,10 +3,10 @@ use Rattle.std.specs.Prelude.{◌≡◌, ℕ, ◌+◌, Bool, ◌||◌, if◌then
 use Rattle.sn_topic.specs.Table.{Entries}
 use Rattle.rep_ops.specs.declared.op.Op.{Op}
 use Rattle.rep_ops.specs.Sets.{Same}
-use Rattle.sn_flow.specs.declared.config.Addr.{Addr}
-use Rattle.sn_flow.specs.declared.plan.Plan.{Plan}
-use Rattle.sn_flow.specs.Locals.{Local, after_all}
-use Rattle.sn_flow.specs.Plans.{Seen, seen_of}
+use Rattle.sn_local.specs.declared.config.Addr.{Addr}
+use Rattle.sn_plan.specs.declared.plan.Plan.{Plan}
+use Rattle.sn_local.specs.Locals.{Local, after_all}
+use Rattle.sn_local.specs.Seen.{Seen, seen_of}
 use Rattle.sn_deliver.specs.Due.{first_due}
 use Rattle.sn_deliver.specs.Ticking.{may_advertise, tick}
 

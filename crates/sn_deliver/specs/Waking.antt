@@ -7,16 +7,16 @@ use Rattle.sn_session.specs.declared.change.SessionOp.TheVariants.{Take, Presenc
 use Rattle.sn_frame.specs.declared.frame.Frame.TheVariants as frames
 use Rattle.rep_ops.specs.declared.op.Put.{Put}
 use Rattle.rep_model.specs.declared.view.ClientView.{ClientView}
-use Rattle.sn_flow.specs.declared.config.Addr.{Addr}
-use Rattle.sn_flow.specs.declared.row.Row.{Row}
-use Rattle.sn_flow.specs.declared.row.Follow.TheVariants as follows
-use Rattle.sn_flow.specs.Drafts.{Drafted, nothing, changed, sent}
-use Rattle.sn_flow.specs.Plans.{Seen}
-use Rattle.sn_flow.specs.Bindings.{client_at, is_stamp_of}
-use Rattle.sn_flow.specs.Locals.{Local}
-use Rattle.sn_flow.specs.Bound.{bound_to}
-use Rattle.sn_flow.specs.Rows.{row_of, heard_row, turned_away}
-use Rattle.sn_deliver.specs.Exchanges.{open_exchange}
+use Rattle.sn_local.specs.declared.config.Addr.{Addr}
+use Rattle.sn_plan.specs.declared.row.Row.{Row}
+use Rattle.sn_plan.specs.declared.row.Follow.TheVariants as follows
+use Rattle.sn_plan.specs.Drafts.{Drafted, nothing, changed, sent}
+use Rattle.sn_local.specs.Seen.{Seen}
+use Rattle.sn_local.specs.Bindings.{client_at, is_stamp_of}
+use Rattle.sn_local.specs.Locals.{Local}
+use Rattle.sn_plan.specs.Bound.{bound_to}
+use Rattle.sn_plan.specs.Rows.{row_of, heard_row, turned_away}
+use Rattle.sn_exchange.specs.Exchanges.{open_exchange}
 
 -- the client is claimed: where another gateway owns it, it is taken over with the session as it is
 abbrev pub claimed : ℕ → ClientView → Session → Drafted

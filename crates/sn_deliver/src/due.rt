@@ -3,16 +3,17 @@
 ghost use Rattle.std.specs.Prelude.{◌≡◌, ◌≤◌, Option, None, IfOk, IsTrue};
 ghost use Rattle.std.specs.Option.{option_copied};
 ghost use Rattle.rep_model.specs.Views.{clients as clients_of};
-ghost use Rattle.sn_flow.specs.declared.config.Addr.{Addr as Address};
-ghost use Rattle.sn_flow.specs.Plans.{seen_of};
-ghost use Rattle.sn_flow.specs.Bindings.{is_stamp_of as is_stamp_of_gateway};
+ghost use Rattle.sn_local.specs.declared.config.Addr.{Addr as Address};
+ghost use Rattle.sn_local.specs.Seen.{seen_of};
+ghost use Rattle.sn_local.specs.Bindings.{is_stamp_of as is_stamp_of_gateway};
 ghost use Rattle.sn_deliver.specs.Due.{elapsed as time_elapsed, patience as patience_for, is_silent as is_silent_client, is_overdue as is_client_overdue, due_again as due_once_more, due_exchange as due_of_exchange, due_delivery as delivery_due, due_by as due_by_exchange, due_at as due_at_address, due_session as due_of_session, due_view as due_of_view, first_due as first_client_due};
 
-use super::exchange::{is_awake, is_served, open_exchange};
 use octets::NoMemory;
 use rep_model::{ClientView, Replica};
 use rep_ops::{ClientId, Put, Stamp};
-use sn_flow::{Addr, Dialogs, Timer, is_up};
+use sn_exchange::{is_awake, is_served, open_exchange};
+use sn_local::{Addr, Dialogs, Timer};
+use sn_plan::is_up;
 use sn_session::{Outbound, Session};
 use std::alloc::Global;
 

@@ -1,19 +1,17 @@
 //! What follows a row: Resend or Delivery (MQTT-SN 1.2 sections 6.6, 6.10, 6.13 and 6.14).
 
 ghost use Rattle.std.specs.Prelude.{◌≡◌, IfOk, OnOk};
-ghost use Rattle.sn_flow.specs.Plans.{Gives, seen_of};
-ghost use Rattle.sn_flow.specs.Bound.{session_of};
+ghost use Rattle.sn_local.specs.Seen.{seen_of};
+ghost use Rattle.sn_plan.specs.Plans.{Gives};
+ghost use Rattle.sn_plan.specs.Bound.{session_of};
 ghost use Rattle.sn_deliver.specs.Following.{peer_at as peer_there, followed_by as draft_followed_by, followed as followed_row, deliver_next as next_plan};
 
-use super::delivery::then_deliver;
-use super::peer::Peer;
-use super::resend::then_resend;
 use octets::NoMemory;
 use rep_model::Replica;
 use rep_ops::{ClientId, Put};
-use sn_flow::{
-    Addr, Config, Draft, Follow, Plan, Row, StepFault, plan_of_row, session_or, unseen, view_or,
-};
+use sn_exchange::{Peer, then_deliver, then_resend};
+use sn_local::{Addr, Config, StepFault};
+use sn_plan::{Draft, Follow, Plan, Row, plan_of_row, session_or, unseen, view_or};
 use sn_session::Session;
 use sn_topic::Predefined;
 use std::alloc::Global;

@@ -3,7 +3,7 @@
 ghost use Rattle.std.specs.Prelude.{◌≡◌, ◌||◌, false, is_some, IsTrue};
 ghost use Rattle.std.specs.List.{list_any};
 ghost use Rattle.rep_model.specs.Views.{clients as clients_of};
-ghost use Rattle.sn_flow.specs.Plans.{seen_of};
+ghost use Rattle.sn_local.specs.Seen.{seen_of};
 ghost use Rattle.sn_deliver.specs.Due.{due_view as due_of_view};
 ghost use Rattle.sn_deliver.specs.Ticking.{needs_timer as is_in_need};
 ghost use Rattle.sn_deliver.specs.Rest.{is_old as is_old_dialog, asks as client_asks, is_idle as is_idle_moment};
@@ -12,7 +12,7 @@ use super::due::{due_view, elapsed};
 use super::ticking::{DIALOG_SECONDS, may_advertise, needs_timer};
 use rep_model::{ClientView, Replica};
 use rep_ops::ClientId;
-use sn_flow::{Config, Dialogs, WillDialog};
+use sn_local::{Config, Dialogs, WillDialog};
 
 /// Whether a will dialog is a minute old.
 fn is_old(now: u64, dialog: &WillDialog) -> bool

@@ -3,7 +3,8 @@
 ghost use Rattle.std.specs.Prelude.{◌≡◌, IfOk};
 ghost use Rattle.sn_frame.specs.Bodies.{IsMessage};
 ghost use Rattle.rep_ops.specs.ClientIds.{IsClientId};
-ghost use Rattle.sn_flow.specs.Plans.{Gives, seen_of};
+ghost use Rattle.sn_local.specs.Seen.{seen_of};
+ghost use Rattle.sn_plan.specs.Plans.{Gives};
 ghost use Rattle.sn_flow.specs.Connection.{connect as connect_row};
 ghost use Rattle.sn_deliver.specs.Steps.{row_for as defined_row, step as defined_step};
 
@@ -13,10 +14,12 @@ use super::waking::{client_id, wake};
 use octets::NoMemory;
 use rep_model::Replica;
 use sn_flow::{
-    Addr, Config, Dialogs, Plan, Row, StepFault, connect, disconnect, other, register, subscribe,
-    unsubscribe, will_msg, will_msg_update, will_topic, will_topic_update,
+    connect, disconnect, register, subscribe, unsubscribe, will_msg, will_msg_update, will_topic,
+    will_topic_update,
 };
 use sn_frame::{Flags, Frame};
+use sn_local::{Addr, Config, Dialogs, StepFault};
+use sn_plan::{Plan, Row, other};
 use std::alloc::Global;
 
 /// A CONNECT.

@@ -2,23 +2,22 @@
 
 ghost use Rattle.std.specs.Prelude.{◌≡◌, if◌then◌else◌, Some, fold, IfOk, OnOk};
 ghost use Rattle.rep_model.specs.Views.{clients as clients_of};
-ghost use Rattle.sn_flow.specs.declared.local.LocalChange.TheVariants.{Heard};
-ghost use Rattle.sn_flow.specs.Drafts.{moved};
-ghost use Rattle.sn_flow.specs.Others.{can_wake};
-ghost use Rattle.sn_flow.specs.Plans.{Gives, seen_of};
+ghost use Rattle.sn_local.specs.declared.local.LocalChange.TheVariants.{Heard};
+ghost use Rattle.sn_plan.specs.Drafts.{moved};
+ghost use Rattle.sn_plan.specs.Others.{can_wake};
+ghost use Rattle.sn_local.specs.Seen.{seen_of};
+ghost use Rattle.sn_plan.specs.Plans.{Gives};
 ghost use Rattle.sn_deliver.specs.Ticking.{dialog_ended, dialogs_ended, needs_timer as is_in_need, timers_begun, cleaned as cleaned_draft, is_long_ago as is_moment_long_ago, may_advertise as is_to_advertise, advertised_to, advertised as advertised_draft, will_puts as puts_of_the_will, lost as lost_draft, retried as retried_row, plan_due as plan_of_due, plan_if_due as plan_of_due_if, one_thing as plan_of_one, tick as tick_plan};
 
 use super::due::{Due, elapsed, first_due, is_stamp_of};
 use super::follow::deliver_next;
-use super::recipients::puts_of_will;
 use octets::NoMemory;
 use rep_model::{ClientView, Replica};
 use rep_ops::ClientId;
-use sn_flow::{
-    Addr, Config, Dialogs, Draft, Follow, LocalChange, NewPut, Plan, Row, StepFault, WillDialog,
-    is_up, plan_of, plan_without, session_or,
-};
 use sn_frame::Frame;
+use sn_local::{Addr, Config, Dialogs, LocalChange, StepFault, WillDialog};
+use sn_plan::{Draft, Follow, NewPut, Plan, Row, is_up, plan_of, plan_without, session_or};
+use sn_publish::puts_of_will;
 use sn_session::{Presence, Session, SessionOp, Will};
 use std::alloc::Global;
 

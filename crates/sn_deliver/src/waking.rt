@@ -4,21 +4,20 @@ ghost use Rattle.std.specs.Prelude.{◌≡◌, ◌≤◌, length, IfOk, OnOk};
 ghost use Rattle.std.specs.Option.{option_copied};
 ghost use Rattle.rep_model.specs.Views.{view};
 ghost use Rattle.sn_frame.specs.declared.frame.TheConstants.{MAX_CLIENT_ID};
-ghost use Rattle.sn_flow.specs.Plans.{seen_of};
-ghost use Rattle.sn_flow.specs.declared.row.Follow.TheVariants.{Delivery};
-ghost use Rattle.sn_flow.specs.Rows.{row_of, heard_row as heard_row_of};
+ghost use Rattle.sn_local.specs.Seen.{seen_of};
+ghost use Rattle.sn_plan.specs.declared.row.Follow.TheVariants.{Delivery};
+ghost use Rattle.sn_plan.specs.Rows.{row_of, heard_row as heard_row_of};
 ghost use Rattle.rep_ops.specs.ClientIds.{IsClientId};
 ghost use Rattle.sn_deliver.specs.Waking.{claimed as claimed_draft, has_nothing as there_is_nothing, answered as answered_draft, from_sleep as row_from_sleep, from_wake as row_from_wake, woken_by as row_by_state, woken_if as row_of_session, woken as woken_row, wake_of as wake_row_of, wake as wake_row};
 
 use super::due::is_stamp_of;
-use super::exchange::open_exchange;
 use octets::NoMemory;
 use rep_model::{ClientView, Replica};
 use rep_ops::{ClientId, Put};
-use sn_flow::{
-    Addr, Config, Dialogs, Draft, Follow, Row, bind_to, heard_row, turn_away, unseen, view_or,
-};
+use sn_exchange::open_exchange;
 use sn_frame::Frame;
+use sn_local::{Addr, Config, Dialogs};
+use sn_plan::{Draft, Follow, Row, bind_to, heard_row, turn_away, unseen, view_or};
 use sn_session::{Presence, Session, SessionOp};
 use std::alloc::Global;
 

@@ -7,10 +7,10 @@ use Rattle.std.proofs.lemmas.List.Elements.{All-from_recursion, All-contains}
 use Rattle.sn_session.specs.Tables.{with_entry, by_order}
 use Rattle.sn_session.proofs.Ascending.{all_weaker, all_with}
 use Rattle.rep_ops.specs.Sets.{same_client}
-use Rattle.sn_flow.specs.declared.config.Addr.{Addr}
-use Rattle.sn_flow.specs.declared.local.Binding.{Binding}
-use Rattle.sn_flow.specs.Bindings.{same_address, binding_cmp, is_apart, bound, client_at}
-use Rattle.sn_flow.proofs.Entries.{same_client-itself}
+use Rattle.sn_local.specs.declared.config.Addr.{Addr}
+use Rattle.sn_local.specs.declared.local.Binding.{Binding}
+use Rattle.sn_local.specs.Bindings.{same_address, binding_cmp, is_apart, bound, client_at}
+use Rattle.sn_local.proofs.Entries.{same_client-itself}
 
 same_address-itself : (a : Addr) → same_address a a ≡ true
 same_address-itself a = and_from (a.host == a.host) (a.port == a.port) (eq-eqb a.host a.host refl) (eq-eqb a.port a.port refl)

@@ -9,9 +9,9 @@ use Rattle.rep_ops.specs.declared.op.Op.{Op}
 use Rattle.rep_ops.specs.declared.op.Op.TheVariants.{Session as OfSession}
 use Rattle.rep_model.specs.Views.{visible, history, session_of, view}
 use Rattle.rep_model.specs.Fresh.{one_more, next_epoch}
-use Rattle.sn_flow.specs.Flush.{stamp_of, IsFlush}
-use Rattle.sn_flow.specs.Numbering.{Written, another, taken_at, taken, counted, write, written, start_of, own_counter, epoch_of}
-use Rattle.sn_flow.specs.Own.{AreFresh}
+use Rattle.sn_plan.specs.Flush.{stamp_of, IsFlush}
+use Rattle.sn_plan.specs.Numbering.{Written, another, taken_at, taken, counted, write, written, start_of, own_counter, epoch_of}
+use Rattle.sn_plan.specs.Own.{AreFresh}
 use Rattle.sn_flow.proofs.Lists.{and_then-some, map-some}
 use Rattle.sn_flow.proofs.Reached.{At, another-at, taken-at, unused}
 use Rattle.sn_flow.proofs.Planned.{written-gives}

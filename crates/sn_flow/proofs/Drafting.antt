@@ -7,31 +7,32 @@ use Rattle.sn_frame.specs.declared.frame.Frame.{Frame}
 use Rattle.sn_frame.specs.declared.frame.Frame.TheVariants as frames
 use Rattle.sn_frame.specs.declared.frame.Will.{Will}
 use Rattle.rep_model.specs.declared.view.ClientView.{ClientView}
-use Rattle.sn_flow.specs.declared.config.Addr.{Addr}
+use Rattle.sn_local.specs.declared.config.Addr.{Addr}
 use Rattle.sn_flow.specs.declared.accept.GivenWill.{GivenWill}
 use Rattle.sn_flow.specs.declared.accept.GivenWill.TheVariants.{AsItIs, Deleted, Replaced}
-use Rattle.sn_flow.specs.declared.local.Awaited.{Awaited}
-use Rattle.sn_flow.specs.declared.local.Awaited.TheVariants.{Topic, Message}
-use Rattle.sn_flow.specs.declared.local.Request.{Request}
-use Rattle.sn_flow.specs.declared.local.WillDialog.{WillDialog}
-use Rattle.sn_flow.specs.declared.plan.Plan.{Plan}
-use Rattle.sn_flow.specs.declared.row.Row.{Row}
-use Rattle.sn_flow.specs.declared.row.Follow.TheVariants.{Nothing, Resend}
-use Rattle.sn_flow.specs.Drafts.{Drafted}
-use Rattle.sn_flow.specs.Numbering.{planned}
-use Rattle.sn_flow.specs.Plans.{Seen, plan_of_puts}
-use Rattle.sn_flow.specs.Bindings.{client_at}
-use Rattle.sn_flow.specs.WillDialogs.{dialog_at}
-use Rattle.sn_flow.specs.Locals.{Local}
-use Rattle.sn_flow.specs.Bound.{session_of}
-use Rattle.sn_flow.specs.Rows.{row_of, heard_row, plan_for, plan_of_row, stray}
+use Rattle.sn_local.specs.declared.local.Awaited.{Awaited}
+use Rattle.sn_local.specs.declared.local.Awaited.TheVariants.{Topic, Message}
+use Rattle.sn_local.specs.declared.local.Request.{Request}
+use Rattle.sn_local.specs.declared.local.WillDialog.{WillDialog}
+use Rattle.sn_plan.specs.declared.plan.Plan.{Plan}
+use Rattle.sn_plan.specs.declared.row.Row.{Row}
+use Rattle.sn_plan.specs.declared.row.Follow.TheVariants.{Nothing, Resend}
+use Rattle.sn_plan.specs.Drafts.{Drafted}
+use Rattle.sn_plan.specs.Numbering.{planned}
+use Rattle.sn_local.specs.Seen.{Seen}
+use Rattle.sn_plan.specs.Plans.{plan_of_puts}
+use Rattle.sn_local.specs.Bindings.{client_at}
+use Rattle.sn_local.specs.WillDialogs.{dialog_at}
+use Rattle.sn_local.specs.Locals.{Local}
+use Rattle.sn_plan.specs.Bound.{session_of}
+use Rattle.sn_plan.specs.Rows.{row_of, heard_row, plan_for, plan_of_row, stray}
 use Rattle.sn_flow.specs.Accept.{accept, has_no_room}
 use Rattle.sn_flow.specs.Connection.{has_bit, request_of, refusal_of, ask_topic, connect_row, connect, leave, fall_asleep, disconnect_draft, disconnect_of, disconnect}
 use Rattle.sn_flow.specs.Wills.{congestion, not_supported, will_of, dismissed, concluded, topic_given, topic_row, message_row, topic_in, topic_at, will_topic, message_in, message_at, will_msg, topic_update_of, will_topic_update as update_topic, message_update_of, will_msg_update as update_message}
 use Rattle.sn_flow.specs.WillUpdate.{topic_asked}
 use Rattle.sn_flow.specs.TopicRows.{register_of, register as register_topic, subscribe_of, subscribe as subscribe_topics, unsubscribe_of, unsubscribe as unsubscribe_topics}
-use Rattle.sn_flow.specs.Others.{other}
-use Rattle.sn_flow.specs.Own.{IsOneEach, IsOfDraft, MakesNoMessage}
+use Rattle.sn_plan.specs.Others.{other}
+use Rattle.sn_plan.specs.Own.{IsOneEach, IsOfDraft, MakesNoMessage}
 use Rattle.sn_flow.proofs.Keeping.{of_register, of_subscribe, of_unsubscribe, of_will_topic_update, of_will_msg_update}
 
 module _ (g : ℕ) (seen : Seen) (plan : Plan) where

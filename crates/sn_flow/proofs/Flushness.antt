@@ -12,12 +12,13 @@ use Rattle.rep_model.proofs.Lookup.{or_else}
 use Rattle.rep_model.proofs.Greatest.{has, same_greatest}
 use Rattle.rep_model.proofs.Readers.{stamp_total, stamp_exact, same_client-true, operation_at_both, takes, has_take}
 use Rattle.rep_model.proofs.Thin.{some_left}
-use Rattle.sn_flow.specs.declared.plan.Plan.{Plan}
-use Rattle.sn_flow.specs.Drafts.{Drafted}
-use Rattle.sn_flow.specs.Plans.{seen_of, plan_of}
-use Rattle.sn_flow.specs.Own.{AddsNone}
-use Rattle.sn_flow.specs.Flush.{stamp_of, IsFlush}
-use Rattle.sn_flow.proofs.Entries.{visible-same, same_client-itself, visible-by, visible-there, history-by}
+use Rattle.sn_plan.specs.declared.plan.Plan.{Plan}
+use Rattle.sn_plan.specs.Drafts.{Drafted}
+use Rattle.sn_local.specs.Seen.{seen_of}
+use Rattle.sn_plan.specs.Plans.{plan_of}
+use Rattle.sn_plan.specs.Own.{AddsNone}
+use Rattle.sn_plan.specs.Flush.{stamp_of, IsFlush}
+use Rattle.sn_local.proofs.Entries.{visible-same, same_client-itself, visible-by, visible-there, history-by}
 use Rattle.sn_flow.proofs.Reached.{At, history-own}
 use Rattle.sn_flow.proofs.Outcomes.{parts, operations-else, operations-plan, operations-unchanged, reached}
 

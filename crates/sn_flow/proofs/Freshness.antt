@@ -9,15 +9,16 @@ use Rattle.rep_ops.specs.Sets.{put_of, puts, put_at, is_acknowledged}
 use Rattle.rep_model.specs.Views.{view}
 use Rattle.rep_model.specs.Fresh.{largest, next_epoch, seq_of, next_seq}
 use Rattle.rep_model.proofs.Fresh.{seq-reaches}
-use Rattle.sn_flow.specs.declared.draft.NewPut.{NewPut}
-use Rattle.sn_flow.specs.declared.plan.Plan.{Plan}
-use Rattle.sn_flow.specs.Drafts.{Drafted}
-use Rattle.sn_flow.specs.Numbering.{put_at_seq, with_puts, ack_of}
-use Rattle.sn_flow.specs.Plans.{seen_of, plan_of}
-use Rattle.sn_flow.specs.Own.{AreFresh, IsOneEach}
-use Rattle.sn_flow.specs.Flush.{IsFlush}
+use Rattle.sn_plan.specs.declared.draft.NewPut.{NewPut}
+use Rattle.sn_plan.specs.declared.plan.Plan.{Plan}
+use Rattle.sn_plan.specs.Drafts.{Drafted}
+use Rattle.sn_plan.specs.Numbering.{put_at_seq, with_puts, ack_of}
+use Rattle.sn_local.specs.Seen.{seen_of}
+use Rattle.sn_plan.specs.Plans.{plan_of}
+use Rattle.sn_plan.specs.Own.{AreFresh, IsOneEach}
+use Rattle.sn_plan.specs.Flush.{IsFlush}
 use Rattle.sn_flow.proofs.Lists.{and_then-some, all-append, all-weaken, all-map, all-both, all-given, none_pass}
-use Rattle.sn_flow.proofs.Entries.{same_client-apart, by_some, puts-other}
+use Rattle.sn_local.proofs.Entries.{same_client-apart, by_some, puts-other}
 use Rattle.sn_flow.proofs.Planned.{IsNumbered, puts-behind, Parts, planned-parts}
 use Rattle.sn_flow.proofs.Names.{IsWritten, start-written}
 use Rattle.sn_flow.proofs.Reached.{one_more-is}

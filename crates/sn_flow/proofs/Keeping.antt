@@ -9,12 +9,12 @@ use Rattle.sn_frame.specs.declared.frame.Frame.TheVariants as frames
 use Rattle.sn_frame.specs.declared.frame.Will.{Will}
 use Rattle.sn_frame.specs.FlagBits.{qos_of, kind_of}
 use Rattle.sn_session.specs.Subscriptions.{qos_of as subscribed_at, filter_has_no_room}
-use Rattle.sn_flow.specs.declared.config.Addr.{Addr}
-use Rattle.sn_flow.specs.declared.asking.Asked.{Asked}
-use Rattle.sn_flow.specs.declared.asking.Asked.TheVariants.{Topics, Refused}
+use Rattle.sn_local.specs.declared.config.Addr.{Addr}
+use Rattle.sn_plan.specs.declared.asking.Asked.{Asked}
+use Rattle.sn_plan.specs.declared.asking.Asked.TheVariants.{Topics, Refused}
 use Rattle.sn_flow.specs.declared.registration.NamedId.{NamedId}
-use Rattle.sn_flow.specs.Asking.{qos_asked, name_asked, topics_asked}
-use Rattle.sn_flow.specs.Drafts.{Drafted, nothing, changed_if, sent}
+use Rattle.sn_plan.specs.Asking.{qos_asked, name_asked, topics_asked}
+use Rattle.sn_plan.specs.Drafts.{Drafted, nothing, changed_if, sent}
 use Rattle.sn_flow.specs.Registration.{id_for, registered, register_name, register}
 use Rattle.sn_flow.specs.Subscription.{refused, suback, subscribe_change, subscribed, subscribe_asked, subscribe_at, subscribe, id_asked, unsubscribe_asked, unsubscribe}
 use Rattle.sn_flow.specs.RequestLaws.{ChangesSessionOnly}

@@ -8,11 +8,12 @@ use Rattle.rep_ops.specs.Orders.{operation_cmp}
 use Rattle.rep_ops.specs.Sets.{operation_at, put_at, is_acknowledged, Same}
 use Rattle.rep_model.proofs.Lookup.{or_else}
 use Rattle.rep_model.proofs.Readers.{operation_at_both, put_at_both, is_acknowledged_both}
-use Rattle.sn_flow.specs.declared.plan.Plan.{Plan}
-use Rattle.sn_flow.specs.Drafts.{Drafted}
-use Rattle.sn_flow.specs.Plans.{Seen, seen_of, plan_of}
-use Rattle.sn_flow.specs.Own.{AddsNone}
-use Rattle.sn_flow.specs.Flush.{stamp_of, IsFlush}
+use Rattle.sn_plan.specs.declared.plan.Plan.{Plan}
+use Rattle.sn_plan.specs.Drafts.{Drafted}
+use Rattle.sn_local.specs.Seen.{Seen, seen_of}
+use Rattle.sn_plan.specs.Plans.{plan_of}
+use Rattle.sn_plan.specs.Own.{AddsNone}
+use Rattle.sn_plan.specs.Flush.{stamp_of, IsFlush}
 use Rattle.sn_flow.proofs.Names.{plan-apart}
 use Rattle.sn_flow.proofs.Carried.{written-fresh}
 use Rattle.sn_flow.proofs.Outcomes.{parts, operations-alone}

@@ -13,10 +13,11 @@ use Rattle.rep_model.specs.Fresh.{next_epoch, next_seq}
 use Rattle.rep_model.proofs.Readers.{same_client-true, is_acknowledged_both}
 use Rattle.rep_model.proofs.Thin.{pending_at-reads}
 use Rattle.rep_model.proofs.Joins.{within-left, pending-leaves}
-use Rattle.sn_flow.specs.declared.plan.Plan.{Plan}
-use Rattle.sn_flow.specs.Drafts.{Drafted}
-use Rattle.sn_flow.specs.Numbering.{Written, with_puts, written, start_of, ack_of}
-use Rattle.sn_flow.specs.Plans.{seen_of, plan_of}
+use Rattle.sn_plan.specs.declared.plan.Plan.{Plan}
+use Rattle.sn_plan.specs.Drafts.{Drafted}
+use Rattle.sn_plan.specs.Numbering.{Written, with_puts, written, start_of, ack_of}
+use Rattle.sn_local.specs.Seen.{seen_of}
+use Rattle.sn_plan.specs.Plans.{plan_of}
 use Rattle.sn_flow.proofs.Lists.{all-weaken}
 use Rattle.sn_flow.proofs.Planned.{IsNumbered, puts-behind, Parts, planned-parts}
 use Rattle.sn_flow.proofs.Names.{IsWritten, start-written}

@@ -10,12 +10,13 @@ use Rattle.rep_ops.specs.Sets.{same_client, operation_of, operation_at}
 use Rattle.rep_model.proofs.Lookup.{find-all}
 use Rattle.rep_model.proofs.Readers.{operation_exact}
 use Rattle.rep_model.specs.declared.view.ClientView.{ClientView}
-use Rattle.sn_flow.specs.declared.plan.Plan.{Plan}
-use Rattle.sn_flow.specs.Drafts.{Drafted}
-use Rattle.sn_flow.specs.Numbering.{Written, written, ack_of, start_of}
-use Rattle.sn_flow.specs.Plans.{Seen, plan_of}
-use Rattle.sn_flow.specs.Own.{IsOwn, HasNoneOf}
-use Rattle.sn_flow.specs.Flush.{stamp_of}
+use Rattle.sn_plan.specs.declared.plan.Plan.{Plan}
+use Rattle.sn_plan.specs.Drafts.{Drafted}
+use Rattle.sn_plan.specs.Numbering.{Written, written, ack_of, start_of}
+use Rattle.sn_local.specs.Seen.{Seen}
+use Rattle.sn_plan.specs.Plans.{plan_of}
+use Rattle.sn_plan.specs.Own.{IsOwn, HasNoneOf}
+use Rattle.sn_plan.specs.Flush.{stamp_of}
 use Rattle.sn_flow.proofs.Lists.{all-append, all-weaken, all-map}
 use Rattle.sn_flow.proofs.Planned.{written-keeps, IsNumbered, puts-behind, planned-parts}
 

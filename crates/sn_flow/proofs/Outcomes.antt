@@ -10,14 +10,15 @@ use Rattle.rep_ops.specs.declared.op.Op.TheVariants.{Session as OfSession, Put a
 use Rattle.rep_ops.specs.Sets.{operation_of, operations}
 use Rattle.rep_model.specs.Views.{visible, history, session_of, view}
 use Rattle.rep_model.specs.Fresh.{next_epoch, next_seq}
-use Rattle.sn_flow.specs.declared.plan.Plan.{Plan}
-use Rattle.sn_flow.specs.Drafts.{Drafted}
-use Rattle.sn_flow.specs.Numbering.{Written, written, start_of, ack_of}
-use Rattle.sn_flow.specs.Plans.{seen_of, plan_of}
-use Rattle.sn_flow.specs.Own.{IsOwn}
-use Rattle.sn_flow.specs.Flush.{IsFlush, Shows, session_with}
+use Rattle.sn_plan.specs.declared.plan.Plan.{Plan}
+use Rattle.sn_plan.specs.Drafts.{Drafted}
+use Rattle.sn_plan.specs.Numbering.{Written, written, start_of, ack_of}
+use Rattle.sn_local.specs.Seen.{seen_of}
+use Rattle.sn_plan.specs.Plans.{plan_of}
+use Rattle.sn_plan.specs.Own.{IsOwn}
+use Rattle.sn_plan.specs.Flush.{IsFlush, Shows, session_with}
 use Rattle.sn_flow.proofs.Lists.{all-append, all-weaken, all-map, none_pass}
-use Rattle.sn_flow.proofs.Entries.{same_client-apart, operations-same, visible-by, history-by}
+use Rattle.sn_local.proofs.Entries.{same_client-apart, operations-same, visible-by, history-by}
 use Rattle.sn_flow.proofs.Planned.{IsNumbered, puts-behind, Parts, planned-parts}
 use Rattle.sn_flow.proofs.Names.{plan-own}
 use Rattle.sn_flow.proofs.Carried.{Reached, written-reached, written-session}

@@ -8,10 +8,10 @@ use Rattle.sn_session.specs.declared.change.SessionOp.TheVariants.{Take}
 use Rattle.rep_ops.specs.declared.op.Op.{Op}
 use Rattle.rep_ops.specs.declared.op.Op.TheVariants.{Session as OfSession, Put as OfPut, Ack}
 use Rattle.rep_model.specs.declared.view.ClientView.{ClientView}
-use Rattle.sn_flow.specs.declared.draft.NewPut.{NewPut}
-use Rattle.sn_flow.specs.declared.plan.Plan.{Plan}
-use Rattle.sn_flow.specs.Drafts.{Drafted}
-use Rattle.sn_flow.specs.Numbering.{Written, another, taken_at, taken, counted, write, written, start_of, put_at_seq, with_puts, ack_of, plan_with, rest_of, planned}
+use Rattle.sn_plan.specs.declared.draft.NewPut.{NewPut}
+use Rattle.sn_plan.specs.declared.plan.Plan.{Plan}
+use Rattle.sn_plan.specs.Drafts.{Drafted}
+use Rattle.sn_plan.specs.Numbering.{Written, another, taken_at, taken, counted, write, written, start_of, put_at_seq, with_puts, ack_of, plan_with, rest_of, planned}
 use Rattle.sn_flow.proofs.Lists.{and_then-some, map-some}
 
 -- P holds before a change, Q after it, whether it is written under the next counter or is a Take under the next epoch

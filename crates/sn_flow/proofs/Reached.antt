@@ -15,10 +15,10 @@ use Rattle.rep_model.specs.Fresh.{one_more, greatest_epoch, next_epoch}
 use Rattle.rep_model.proofs.Readers.{stamp_total, stamp_exact, takes, has_take}
 use Rattle.rep_model.proofs.Fresh.{epoch-reaches}
 use Rattle.rep_model.proofs.Thin.{not_below_itself}
-use Rattle.sn_flow.specs.Flush.{stamp_of}
+use Rattle.sn_plan.specs.Flush.{stamp_of}
 use Rattle.sn_flow.proofs.Lists.{fold_one_more}
 use Rattle.sn_flow.proofs.Gapless.{gapless-one, gapless-more, greatest-is, below-epoch}
-use Rattle.sn_flow.proofs.Entries.{one_more_op, at_own, at_other, at_either, by_some, visible-same, visible-there, epochs-more, epochs-grow}
+use Rattle.sn_local.proofs.Entries.{one_more_op, at_own, at_other, at_either, by_some, visible-same, visible-there, epochs-more, epochs-grow}
 
 pub one_more-is : (n e : ℕ) → one_more n ≡ Some e → n + 1 ≡ e
 one_more-is n e h = elim (nat_lt (n + 1) (2 ^ 64)) as (λ b. (if b then Some (n + 1) else None) ≡ Some e → n + 1 ≡ e) [

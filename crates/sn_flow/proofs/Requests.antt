@@ -9,8 +9,8 @@ use Rattle.sn_session.specs.declared.subscriptions.Subscription.{Subscription}
 use Rattle.sn_session.specs.declared.change.SessionOp.{SessionOp}
 use Rattle.sn_session.specs.declared.change.SessionOp.TheVariants.{Register, Subscribe, Unsubscribe, WillTopic, WillMsg}
 use Rattle.sn_session.specs.Session.{empty_session, applied}
-use Rattle.sn_flow.specs.declared.config.Addr.{Addr}
-use Rattle.sn_flow.specs.Drafts.{Drafted}
+use Rattle.sn_local.specs.declared.config.Addr.{Addr}
+use Rattle.sn_plan.specs.Drafts.{Drafted}
 use Rattle.sn_flow.specs.Registration.{register}
 use Rattle.sn_flow.specs.Subscription.{subscribe, unsubscribe}
 use Rattle.sn_flow.specs.WillUpdate.{will_topic_update, will_msg_update}

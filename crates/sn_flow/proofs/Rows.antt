@@ -8,15 +8,15 @@ use Rattle.rep_ops.specs.declared.op.Op.{Op}
 use Rattle.rep_ops.specs.declared.op.Op.TheVariants.{Session as OfSession}
 use Rattle.rep_model.specs.Views.{gapless}
 use Rattle.sn_frame.specs.declared.frame.Frame.TheVariants as frames
-use Rattle.sn_flow.specs.declared.config.Addr.{Addr}
-use Rattle.sn_flow.specs.declared.local.LocalChange.TheVariants.{Bind, Time, Heard, EndDialog}
-use Rattle.sn_flow.specs.Numbering.{write, planned}
-use Rattle.sn_flow.specs.Plans.{Seen, seen_of}
-use Rattle.sn_flow.specs.Locals.{Local, no_local}
-use Rattle.sn_flow.specs.Timers.{started}
-use Rattle.sn_flow.specs.Rows.{plan_of_row}
+use Rattle.sn_local.specs.declared.config.Addr.{Addr}
+use Rattle.sn_local.specs.declared.local.LocalChange.TheVariants.{Bind, Time, Heard, EndDialog}
+use Rattle.sn_plan.specs.Numbering.{write, planned}
+use Rattle.sn_local.specs.Seen.{Seen, seen_of}
+use Rattle.sn_local.specs.Locals.{Local, no_local}
+use Rattle.sn_local.specs.Timers.{started}
+use Rattle.sn_plan.specs.Rows.{plan_of_row}
 use Rattle.sn_flow.specs.Connection.{connect, disconnect}
-use Rattle.sn_flow.specs.Others.{other}
+use Rattle.sn_plan.specs.Others.{other}
 
 -- the client `s1`
 abbrev pub s1 : List ℕ

@@ -18,9 +18,9 @@ use Rattle.rep_model.specs.Taking.{AllAgree}
 use Rattle.rep_model.proofs.Lookup.{or_else, find-all}
 use Rattle.rep_model.proofs.Readers.{operation_exact, put_total, put_exact, same_client-true, operation_at_both, put_at_both, is_acknowledged_both, operation_at_keep, put_at_keep}
 use Rattle.rep_model.proofs.Thin.{some_left, some_right}
-use Rattle.sn_flow.specs.Own.{IsFresh, AreFresh}
+use Rattle.sn_plan.specs.Own.{IsFresh, AreFresh}
 use Rattle.sn_flow.proofs.Lists.{all-append, all-weaken}
-use Rattle.sn_flow.proofs.Entries.{same_client-itself, none_or, at_own}
+use Rattle.sn_local.proofs.Entries.{same_client-itself, none_or, at_own}
 
 -- ---- what stands
 

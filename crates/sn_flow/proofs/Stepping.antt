@@ -9,10 +9,10 @@ use Rattle.rep_model.specs.Keep.{keep}
 use Rattle.rep_model.specs.Taking.{AllAgree}
 use Rattle.rep_model.proofs.Thin.{thin-same, pending_at-thin}
 use Rattle.rep_model.proofs.Joins.{same_sym}
-use Rattle.sn_flow.specs.declared.plan.Plan.{Plan}
-use Rattle.sn_flow.specs.Plans.{seen_of}
-use Rattle.sn_flow.specs.Own.{AddsNone, IsOfDraft}
-use Rattle.sn_flow.specs.Flush.{IsFlush, AreFlush}
+use Rattle.sn_plan.specs.declared.plan.Plan.{Plan}
+use Rattle.sn_local.specs.Seen.{seen_of}
+use Rattle.sn_plan.specs.Own.{AddsNone, IsOfDraft}
+use Rattle.sn_plan.specs.Flush.{IsFlush, AreFlush}
 use Rattle.sn_flow.proofs.Freshness.{plan-fresh}
 use Rattle.sn_flow.proofs.Standing.{plan-fits, new-operation, new-put}
 use Rattle.sn_flow.proofs.Leaving.{plan-leaves}

@@ -19,12 +19,12 @@ use Rattle.sn_session.specs.Session.{applied, changed}
 use Rattle.sn_frame.specs.declared.flags.TopicIdType.{TopicIdType}
 use Rattle.sn_frame.specs.declared.flags.TopicIdType.TheVariants as kinds
 use Rattle.sn_frame.specs.FlagBits.{qos_of, kind_of}
-use Rattle.sn_flow.specs.declared.config.Addr.{Addr}
-use Rattle.sn_flow.specs.declared.asking.Asked.{Asked}
-use Rattle.sn_flow.specs.declared.asking.Asked.TheVariants.{Topics}
+use Rattle.sn_local.specs.declared.config.Addr.{Addr}
+use Rattle.sn_plan.specs.declared.asking.Asked.{Asked}
+use Rattle.sn_plan.specs.declared.asking.Asked.TheVariants.{Topics}
 use Rattle.sn_flow.specs.declared.registration.NamedId.{NamedId}
-use Rattle.sn_flow.specs.Asking.{qos_asked, name_asked, topics_asked}
-use Rattle.sn_flow.specs.Drafts.{nothing, changed_if}
+use Rattle.sn_plan.specs.Asking.{qos_asked, name_asked, topics_asked}
+use Rattle.sn_plan.specs.Drafts.{nothing, changed_if}
 use Rattle.sn_flow.specs.Registration.{entry_or_free}
 use Rattle.sn_flow.specs.Subscription.{refused, id_in_full, id_asked, subscribe_change, subscribed, subscribe_asked, subscribe_at, subscribe, unsubscribe_asked, unsubscribe}
 use Rattle.sn_flow.specs.RequestLaws.{session_after, IsSubscribed, IsUnsubscribed}

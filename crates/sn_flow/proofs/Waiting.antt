@@ -8,13 +8,14 @@ use Rattle.rep_ops.specs.declared.op.Op.TheVariants.{Session as OfSession, Put a
 use Rattle.rep_ops.specs.Sets.{put_at, is_acknowledged, Stands}
 use Rattle.rep_model.proofs.Readers.{is_acknowledged_both}
 use Rattle.rep_model.proofs.Thin.{pending_at-reads}
-use Rattle.sn_flow.specs.declared.draft.NewPut.{NewPut}
-use Rattle.sn_flow.specs.declared.plan.Plan.{Plan}
-use Rattle.sn_flow.specs.Drafts.{Drafted}
-use Rattle.sn_flow.specs.Numbering.{put_at_seq, with_puts, ack_of}
-use Rattle.sn_flow.specs.Plans.{Seen, seen_of, plan_of}
-use Rattle.sn_flow.specs.Own.{IsOneEach, Waits, message_of, messages}
-use Rattle.sn_flow.specs.Flush.{IsFlush}
+use Rattle.sn_plan.specs.declared.draft.NewPut.{NewPut}
+use Rattle.sn_plan.specs.declared.plan.Plan.{Plan}
+use Rattle.sn_plan.specs.Drafts.{Drafted}
+use Rattle.sn_plan.specs.Numbering.{put_at_seq, with_puts, ack_of}
+use Rattle.sn_local.specs.Seen.{Seen, seen_of}
+use Rattle.sn_plan.specs.Plans.{plan_of}
+use Rattle.sn_plan.specs.Own.{IsOneEach, Waits, message_of, messages}
+use Rattle.sn_plan.specs.Flush.{IsFlush}
 use Rattle.sn_flow.proofs.Lists.{and_then-some, all-append, all-weaken, all-map, all-both, none_pass}
 use Rattle.sn_flow.proofs.Planned.{planned-parts}
 use Rattle.sn_flow.proofs.Names.{IsWritten, start-written}

@@ -7,16 +7,16 @@ use Rattle.sn_session.specs.Session.{empty_session}
 use Rattle.rep_ops.specs.declared.op.Put.{Put}
 use Rattle.rep_ops.specs.declared.op.Op.{Op}
 use Rattle.rep_ops.specs.declared.op.Op.TheVariants.{Session as OfSession, Ack}
-use Rattle.sn_flow.specs.declared.local.Awaited.TheVariants.{Topic, Message}
-use Rattle.sn_flow.specs.declared.local.WillDialog.{WillDialog}
-use Rattle.sn_flow.specs.declared.local.LocalChange.{LocalChange}
-use Rattle.sn_flow.specs.declared.local.LocalChange.TheVariants.{Bind, Time, Heard, Ask, EndDialog}
-use Rattle.sn_flow.specs.declared.plan.Plan.{Plan}
-use Rattle.sn_flow.specs.Numbering.{write, planned}
-use Rattle.sn_flow.specs.Plans.{Seen}
-use Rattle.sn_flow.specs.Locals.{Local, no_local, after_all}
-use Rattle.sn_flow.specs.Timers.{started}
-use Rattle.sn_flow.specs.Rows.{plan_of_row}
+use Rattle.sn_local.specs.declared.local.Awaited.TheVariants.{Topic, Message}
+use Rattle.sn_local.specs.declared.local.WillDialog.{WillDialog}
+use Rattle.sn_local.specs.declared.local.LocalChange.{LocalChange}
+use Rattle.sn_local.specs.declared.local.LocalChange.TheVariants.{Bind, Time, Heard, Ask, EndDialog}
+use Rattle.sn_plan.specs.declared.plan.Plan.{Plan}
+use Rattle.sn_plan.specs.Numbering.{write, planned}
+use Rattle.sn_local.specs.Seen.{Seen}
+use Rattle.sn_local.specs.Locals.{Local, no_local, after_all}
+use Rattle.sn_local.specs.Timers.{started}
+use Rattle.sn_plan.specs.Rows.{plan_of_row}
 use Rattle.sn_flow.specs.Connection.{connect}
 use Rattle.sn_flow.specs.Wills.{will_topic, will_msg}
 use Rattle.sn_flow.proofs.Rows.{s1, seven}

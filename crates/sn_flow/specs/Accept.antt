@@ -12,12 +12,12 @@ use Rattle.sn_frame.specs.declared.frame.Frame.TheVariants as frames
 use Rattle.sn_flow.specs.declared.accept.TheConstants.{MAX_CLIENTS}
 use Rattle.sn_flow.specs.declared.accept.GivenWill.{GivenWill}
 use Rattle.sn_flow.specs.declared.accept.GivenWill.TheVariants.{AsItIs, Deleted, Replaced}
-use Rattle.sn_flow.specs.declared.local.Request.{Request}
-use Rattle.sn_flow.specs.declared.local.LocalChange.TheVariants.{EndDialog}
-use Rattle.sn_flow.specs.Names.{name_of}
-use Rattle.sn_flow.specs.Drafts.{Drafted, nothing, changed, acked_all, sent, moved}
-use Rattle.sn_flow.specs.Plans.{Seen}
-use Rattle.sn_flow.specs.Bound.{bound_to}
+use Rattle.sn_local.specs.declared.local.Request.{Request}
+use Rattle.sn_local.specs.declared.local.LocalChange.TheVariants.{EndDialog}
+use Rattle.sn_plan.specs.Names.{name_of}
+use Rattle.sn_plan.specs.Drafts.{Drafted, nothing, changed, acked_all, sent, moved}
+use Rattle.sn_local.specs.Seen.{Seen}
+use Rattle.sn_plan.specs.Bound.{bound_to}
 
 -- the will of a session, once the client has said what becomes of it
 abbrev pub will_after : GivenWill → Option Will → Option Will

@@ -5,21 +5,21 @@ use Rattle.sn_session.specs.declared.session.Session.{Session}
 use Rattle.sn_session.specs.declared.change.SessionOp.TheVariants.{Presence}
 use Rattle.rep_model.specs.declared.view.ClientView.{ClientView}
 use Rattle.sn_frame.specs.declared.frame.Frame.TheVariants as frames
-use Rattle.sn_flow.specs.declared.config.Addr.{Addr}
+use Rattle.sn_local.specs.declared.config.Addr.{Addr}
 use Rattle.sn_flow.specs.declared.accept.GivenWill.TheVariants.{AsItIs}
-use Rattle.sn_flow.specs.declared.local.Awaited.TheVariants.{Topic}
-use Rattle.sn_flow.specs.declared.local.Request.{Request}
-use Rattle.sn_flow.specs.declared.local.WillDialog.{WillDialog}
-use Rattle.sn_flow.specs.declared.local.LocalChange.TheVariants.{Unbind, Ask}
-use Rattle.sn_flow.specs.declared.row.Row.{Row}
-use Rattle.sn_flow.specs.declared.row.Follow.TheVariants.{Nothing, Resend}
-use Rattle.sn_flow.specs.Drafts.{Drafted, nothing, changed, sent, moved}
-use Rattle.sn_flow.specs.Plans.{Seen}
-use Rattle.sn_flow.specs.Bindings.{client_at}
-use Rattle.sn_flow.specs.WillDialogs.{is_crowded}
-use Rattle.sn_flow.specs.Locals.{Local}
-use Rattle.sn_flow.specs.Bound.{session_of}
-use Rattle.sn_flow.specs.Rows.{row_of, heard_row, turned_away}
+use Rattle.sn_local.specs.declared.local.Awaited.TheVariants.{Topic}
+use Rattle.sn_local.specs.declared.local.Request.{Request}
+use Rattle.sn_local.specs.declared.local.WillDialog.{WillDialog}
+use Rattle.sn_local.specs.declared.local.LocalChange.TheVariants.{Unbind, Ask}
+use Rattle.sn_plan.specs.declared.row.Row.{Row}
+use Rattle.sn_plan.specs.declared.row.Follow.TheVariants.{Nothing, Resend}
+use Rattle.sn_plan.specs.Drafts.{Drafted, nothing, changed, sent, moved}
+use Rattle.sn_local.specs.Seen.{Seen}
+use Rattle.sn_local.specs.Bindings.{client_at}
+use Rattle.sn_local.specs.WillDialogs.{is_crowded}
+use Rattle.sn_local.specs.Locals.{Local}
+use Rattle.sn_plan.specs.Bound.{session_of}
+use Rattle.sn_plan.specs.Rows.{row_of, heard_row, turned_away}
 use Rattle.sn_flow.specs.Accept.{accept, has_no_room}
 
 -- whether bit k of the flags is set

@@ -6,10 +6,10 @@ use Rattle.sn_session.specs.declared.topics.TopicEntry.{TopicEntry}
 use Rattle.sn_session.specs.declared.change.SessionOp.TheVariants.{Register}
 use Rattle.sn_session.specs.Topics.{topic_named, free_id}
 use Rattle.sn_frame.specs.declared.frame.Frame.TheVariants as frames
-use Rattle.sn_flow.specs.declared.config.Addr.{Addr}
+use Rattle.sn_local.specs.declared.config.Addr.{Addr}
 use Rattle.sn_flow.specs.declared.registration.NamedId.{NamedId}
-use Rattle.sn_flow.specs.Asking.{name_asked}
-use Rattle.sn_flow.specs.Drafts.{Drafted, nothing, changed_if, sent}
+use Rattle.sn_plan.specs.Asking.{name_asked}
+use Rattle.sn_plan.specs.Drafts.{Drafted, nothing, changed_if, sent}
 
 -- the id of an entry of the name, which the client knows from now on
 abbrev pub entry_id : List ℕ → TopicEntry → NamedId

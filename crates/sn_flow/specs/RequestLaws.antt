@@ -5,7 +5,7 @@ use Rattle.sn_session.specs.Session.{applied}
 use Rattle.sn_session.specs.Topics.{topic_of}
 use Rattle.sn_session.specs.Subscriptions.{qos_of}
 use Rattle.sn_flow.specs.declared.registration.NamedId.{NamedId}
-use Rattle.sn_flow.specs.Drafts.{Drafted, nothing, changed_if}
+use Rattle.sn_plan.specs.Drafts.{Drafted, nothing, changed_if}
 
 -- no acknowledgement, no message and no change of the local state
 pub record ChangesSessionOnly (d : Drafted) : Type 0 where

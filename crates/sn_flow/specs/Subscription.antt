@@ -10,12 +10,12 @@ use Rattle.sn_frame.specs.declared.flags.TopicIdType.TheVariants as kinds
 use Rattle.sn_frame.specs.declared.frame.Frame.{Frame}
 use Rattle.sn_frame.specs.declared.frame.Frame.TheVariants as frames
 use Rattle.sn_frame.specs.FlagBits.{qos_of, kind_of}
-use Rattle.sn_flow.specs.declared.config.Addr.{Addr}
-use Rattle.sn_flow.specs.declared.asking.Asked.{Asked}
-use Rattle.sn_flow.specs.declared.asking.Asked.TheVariants.{Topics, Refused}
+use Rattle.sn_local.specs.declared.config.Addr.{Addr}
+use Rattle.sn_plan.specs.declared.asking.Asked.{Asked}
+use Rattle.sn_plan.specs.declared.asking.Asked.TheVariants.{Topics, Refused}
 use Rattle.sn_flow.specs.declared.registration.NamedId.{NamedId}
-use Rattle.sn_flow.specs.Asking.{qos_asked, name_asked, topics_asked, id_in}
-use Rattle.sn_flow.specs.Drafts.{Drafted, nothing, changed_if, sent}
+use Rattle.sn_plan.specs.Asking.{qos_asked, name_asked, topics_asked, id_in}
+use Rattle.sn_plan.specs.Drafts.{Drafted, nothing, changed_if, sent}
 use Rattle.sn_flow.specs.Registration.{id_for}
 
 -- SUBACK; of the flags that were asked with it has the two bits of the quality of service

@@ -1,14 +1,14 @@
 -- The rows of REGISTER, SUBSCRIBE and UNSUBSCRIBE of a bound client (MQTT-SN 1.2 sections 6.5 and 6.9).
 use Rattle.std.specs.Prelude.{ℕ, List, Option, Some, None}
 use Rattle.sn_topic.specs.Table.{Entries}
-use Rattle.sn_flow.specs.declared.config.Addr.{Addr}
-use Rattle.sn_flow.specs.declared.row.Row.{Row}
-use Rattle.sn_flow.specs.declared.row.Follow.TheVariants.{Delivery}
-use Rattle.sn_flow.specs.Plans.{Seen}
-use Rattle.sn_flow.specs.Bindings.{client_at}
-use Rattle.sn_flow.specs.Locals.{Local}
-use Rattle.sn_flow.specs.Bound.{session_of}
-use Rattle.sn_flow.specs.Rows.{row_of, heard_row, turned_away}
+use Rattle.sn_local.specs.declared.config.Addr.{Addr}
+use Rattle.sn_plan.specs.declared.row.Row.{Row}
+use Rattle.sn_plan.specs.declared.row.Follow.TheVariants.{Delivery}
+use Rattle.sn_local.specs.Seen.{Seen}
+use Rattle.sn_local.specs.Bindings.{client_at}
+use Rattle.sn_local.specs.Locals.{Local}
+use Rattle.sn_plan.specs.Bound.{session_of}
+use Rattle.sn_plan.specs.Rows.{row_of, heard_row, turned_away}
 use Rattle.sn_flow.specs.Registration.{register as register_draft}
 use Rattle.sn_flow.specs.Subscription.{subscribe as subscribe_draft, unsubscribe as unsubscribe_draft}
 

@@ -7,10 +7,10 @@ use Rattle.sn_frame.specs.declared.frame.Will.{Will}
 use Rattle.sn_frame.specs.declared.frame.Frame.TheVariants as frames
 use Rattle.sn_frame.specs.FlagBits.{qos_of}
 use Rattle.sn_session.specs.Messages.{is_too_long}
-use Rattle.sn_flow.specs.declared.config.Addr.{Addr}
-use Rattle.sn_flow.specs.Asking.{qos_asked, name_asked}
+use Rattle.sn_local.specs.declared.config.Addr.{Addr}
+use Rattle.sn_plan.specs.Asking.{qos_asked, name_asked}
 use Rattle.sn_flow.specs.Connection.{has_bit}
-use Rattle.sn_flow.specs.Drafts.{Drafted, nothing, changed, sent}
+use Rattle.sn_plan.specs.Drafts.{Drafted, nothing, changed, sent}
 
 -- a name, a quality of service and the Retain bit make the topic of a will; where one of the two is invalid there is none
 abbrev pub topic_from : Option (List ℕ) → Option ℕ → Bool → Option WillTopic

@@ -6,23 +6,23 @@ use Rattle.sn_session.specs.declared.will.WillTopic.{WillTopic}
 use Rattle.sn_frame.specs.declared.frame.Will.{Will}
 use Rattle.sn_frame.specs.declared.frame.Frame.TheVariants as frames
 use Rattle.sn_session.specs.Messages.{is_too_long}
-use Rattle.sn_flow.specs.declared.config.Addr.{Addr}
+use Rattle.sn_local.specs.declared.config.Addr.{Addr}
 use Rattle.sn_flow.specs.declared.accept.GivenWill.{GivenWill}
 use Rattle.sn_flow.specs.declared.accept.GivenWill.TheVariants.{Deleted, Replaced}
-use Rattle.sn_flow.specs.declared.local.Awaited.{Awaited}
-use Rattle.sn_flow.specs.declared.local.Awaited.TheVariants.{Topic, Message}
-use Rattle.sn_flow.specs.declared.local.Request.{Request}
-use Rattle.sn_flow.specs.declared.local.WillDialog.{WillDialog}
-use Rattle.sn_flow.specs.declared.local.LocalChange.TheVariants.{Ask, EndDialog}
-use Rattle.sn_flow.specs.declared.row.Row.{Row}
-use Rattle.sn_flow.specs.declared.row.Follow.TheVariants.{Nothing, Delivery, Resend}
-use Rattle.sn_flow.specs.Drafts.{nothing, sent, moved}
-use Rattle.sn_flow.specs.Plans.{Seen}
-use Rattle.sn_flow.specs.Bindings.{client_at}
-use Rattle.sn_flow.specs.WillDialogs.{dialog_at}
-use Rattle.sn_flow.specs.Locals.{Local}
-use Rattle.sn_flow.specs.Bound.{session_of}
-use Rattle.sn_flow.specs.Rows.{row_of, heard_row, turned_away, stray}
+use Rattle.sn_local.specs.declared.local.Awaited.{Awaited}
+use Rattle.sn_local.specs.declared.local.Awaited.TheVariants.{Topic, Message}
+use Rattle.sn_local.specs.declared.local.Request.{Request}
+use Rattle.sn_local.specs.declared.local.WillDialog.{WillDialog}
+use Rattle.sn_local.specs.declared.local.LocalChange.TheVariants.{Ask, EndDialog}
+use Rattle.sn_plan.specs.declared.row.Row.{Row}
+use Rattle.sn_plan.specs.declared.row.Follow.TheVariants.{Nothing, Delivery, Resend}
+use Rattle.sn_plan.specs.Drafts.{nothing, sent, moved}
+use Rattle.sn_local.specs.Seen.{Seen}
+use Rattle.sn_local.specs.Bindings.{client_at}
+use Rattle.sn_local.specs.WillDialogs.{dialog_at}
+use Rattle.sn_local.specs.Locals.{Local}
+use Rattle.sn_plan.specs.Bound.{session_of}
+use Rattle.sn_plan.specs.Rows.{row_of, heard_row, turned_away, stray}
 use Rattle.sn_flow.specs.Accept.{accept, has_no_room}
 use Rattle.sn_flow.specs.WillUpdate.{topic_asked, will_topic_update as topic_update, will_msg_update as message_update}
 

@@ -1,18 +1,16 @@
 //! How a client is accepted (MQTT-SN 1.2 sections 6.2 and 6.3).
 
 ghost use Rattle.std.specs.Prelude.{◌≡◌, IfOk, OnOk};
-ghost use Rattle.sn_flow.specs.Plans.{seen_of};
-ghost use Rattle.sn_flow.specs.Drafts.{acked_all};
+ghost use Rattle.sn_local.specs.Seen.{seen_of};
+ghost use Rattle.sn_plan.specs.Drafts.{acked_all};
 ghost use Rattle.sn_flow.specs.Accept.{will_after as will_from_then, unknowing as unknowing_session, going_on as session_going_on, accepted as accepted_session, cleared, accept as accept_draft, has_no_room as has_none};
 
-use super::bound::bind_to;
-use super::codes::ACCEPTED;
-use super::draft::Draft;
-use super::local::{LocalChange, Request};
 use octets::NoMemory;
 use rep_model::{ClientView, Replica};
 use rep_ops::{ClientId, Put};
 use sn_frame::Frame;
+use sn_local::{LocalChange, Request};
+use sn_plan::{ACCEPTED, Draft, bind_to};
 use sn_session::{Presence, Session, SessionOp, Will};
 use std::alloc::Global;
 

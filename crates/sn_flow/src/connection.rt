@@ -3,21 +3,20 @@
 ghost use Rattle.std.specs.Prelude.{◌≡◌, Some, IfOk};
 ghost use Rattle.std.specs.Option.{option_copied};
 ghost use Rattle.rep_model.specs.Views.{view};
-ghost use Rattle.sn_flow.specs.Plans.{seen_of};
-ghost use Rattle.sn_flow.specs.Bound.{session_of};
+ghost use Rattle.sn_local.specs.Seen.{seen_of};
+ghost use Rattle.sn_plan.specs.Bound.{session_of};
 ghost use Rattle.sn_flow.specs.Connection.{has_bit, request_of as asked_request, refusal_of as refused_by, ask_topic as asked_topic, welcomed as welcome_row, connect_row as refused_or_welcome, connect as connected_row, leave as leave_draft, fall_asleep as sleep_draft, disconnect_draft as drafted_disconnect, disconnect_of as disconnect_row_of, disconnect as disconnected_row};
 
 use super::accept::{GivenWill, accept, has_no_room};
-use super::bound::{session_or, unseen, view_or};
-use super::codes::{CONGESTION, NOT_SUPPORTED};
-use super::config::Addr;
-use super::draft::Draft;
-use super::local::{Awaited, Dialogs, LocalChange, Request, WillDialog};
-use super::row::{Follow, Row, heard_row, turn_away};
 use octets::NoMemory;
 use rep_model::{ClientView, Replica};
 use rep_ops::ClientId;
 use sn_frame::{Flags, Frame};
+use sn_local::{Addr, Awaited, Dialogs, LocalChange, Request, WillDialog};
+use sn_plan::{
+    CONGESTION, Draft, Follow, NOT_SUPPORTED, Row, heard_row, session_or, turn_away, unseen,
+    view_or,
+};
 use sn_session::{Presence, Session, SessionOp};
 use std::alloc::Global;
 

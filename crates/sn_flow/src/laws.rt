@@ -13,22 +13,23 @@ ghost use Rattle.rep_model.specs.Views.{pending_at, view};
 ghost use Rattle.rep_model.specs.Fresh.{next_epoch};
 ghost use Rattle.rep_model.specs.Keep.{keep};
 ghost use Rattle.rep_model.specs.Taking.{AllAgree};
-ghost use Rattle.sn_flow.specs.declared.config.Addr.{Addr};
-ghost use Rattle.sn_flow.specs.declared.local.Binding.{Binding};
-ghost use Rattle.sn_flow.specs.declared.plan.Plan.{Plan};
-ghost use Rattle.sn_flow.specs.declared.row.Row.{Row};
-ghost use Rattle.sn_flow.specs.Bindings.{bound, client_at};
-ghost use Rattle.sn_flow.specs.Drafts.{Drafted};
-ghost use Rattle.sn_flow.specs.Locals.{Local};
-ghost use Rattle.sn_flow.specs.Rows.{plan_of_row};
+ghost use Rattle.sn_local.specs.declared.config.Addr.{Addr};
+ghost use Rattle.sn_local.specs.declared.local.Binding.{Binding};
+ghost use Rattle.sn_plan.specs.declared.plan.Plan.{Plan};
+ghost use Rattle.sn_plan.specs.declared.row.Row.{Row};
+ghost use Rattle.sn_local.specs.Bindings.{bound, client_at};
+ghost use Rattle.sn_plan.specs.Drafts.{Drafted};
+ghost use Rattle.sn_local.specs.Locals.{Local};
+ghost use Rattle.sn_plan.specs.Rows.{plan_of_row};
 ghost use Rattle.sn_flow.specs.Connection.{connect, disconnect};
 ghost use Rattle.sn_flow.specs.Wills.{will_topic, will_msg, will_topic_update, will_msg_update};
 ghost use Rattle.sn_flow.specs.TopicRows.{register, subscribe, unsubscribe};
-ghost use Rattle.sn_flow.specs.Others.{other};
-ghost use Rattle.sn_flow.specs.Numbering.{Written, start_of, written};
-ghost use Rattle.sn_flow.specs.Plans.{Seen, seen_of, plan_of};
-ghost use Rattle.sn_flow.specs.Own.{IsOwn, HasNoneOf, AddsNone, AreFresh, IsOneEach, Waits, messages, IsOfDraft, MakesNoMessage};
-ghost use Rattle.sn_flow.specs.Flush.{IsFlush, AreFlush, Shows, session_with};
+ghost use Rattle.sn_plan.specs.Others.{other};
+ghost use Rattle.sn_plan.specs.Numbering.{Written, start_of, written};
+ghost use Rattle.sn_local.specs.Seen.{Seen, seen_of};
+ghost use Rattle.sn_plan.specs.Plans.{plan_of};
+ghost use Rattle.sn_plan.specs.Own.{IsOwn, HasNoneOf, AddsNone, AreFresh, IsOneEach, Waits, messages, IsOfDraft, MakesNoMessage};
+ghost use Rattle.sn_plan.specs.Flush.{IsFlush, AreFlush, Shows, session_with};
 
 /// A gateway writes under names of its own: the session operations of a plan are of the client that the
 /// plan is for and under stamps with the gateway's number, the messages have the gateway as origin, and

@@ -2,15 +2,13 @@
 
 ghost use Rattle.std.specs.Prelude.{◌≡◌, IfOk};
 ghost use Rattle.sn_frame.specs.declared.frame.Frame.TheVariants.{RegAck};
-ghost use Rattle.sn_flow.specs.Drafts.{nothing, sent};
+ghost use Rattle.sn_plan.specs.Drafts.{nothing, sent};
 ghost use Rattle.sn_flow.specs.Registration.{entry_id as id_of_entry, new_id as id_anew, id_for as id_of, registered as registered_draft, register_name as name_draft, register as register_draft};
 
-use super::asking::name_asked;
-use super::codes::{ACCEPTED, CONGESTION, NOT_SUPPORTED};
-use super::config::Addr;
-use super::draft::Draft;
 use octets::NoMemory;
 use sn_frame::Frame;
+use sn_local::Addr;
+use sn_plan::{ACCEPTED, CONGESTION, Draft, NOT_SUPPORTED, name_asked};
 use sn_session::{Session, SessionOp, TopicEntry};
 use sn_topic::TopicName;
 use std::alloc::Global;

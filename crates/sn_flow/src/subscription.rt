@@ -2,16 +2,16 @@
 
 ghost use Rattle.std.specs.Prelude.{◌≡◌, IfOk};
 ghost use Rattle.sn_frame.specs.FlagBits.{kind_of};
-ghost use Rattle.sn_flow.specs.Drafts.{nothing, sent};
+ghost use Rattle.sn_plan.specs.Drafts.{nothing, sent};
 ghost use Rattle.sn_flow.specs.Subscription.{suback as suback_of, refused, fixed_id as fixed, id_in_full as id_of_filter, id_asked as id_asked_for, subscribe_change as change_for, subscribed as subscribed_draft, subscribe_to as draft_to, subscribe_asked as draft_asked, subscribe as subscribe_draft, unsubscribe_change as end_of, unsubscribe_asked as end_asked, unsubscribe as unsubscribe_draft};
 
-use super::asking::{Asked, id_in, name_asked, qos_asked, topics_asked};
-use super::codes::{ACCEPTED, CONGESTION, NOT_SUPPORTED};
-use super::config::Addr;
-use super::draft::Draft;
 use super::registration::{NamedId, id_for};
 use octets::NoMemory;
 use sn_frame::{Flags, Frame, TopicIdType};
+use sn_local::Addr;
+use sn_plan::{
+    ACCEPTED, Asked, CONGESTION, Draft, NOT_SUPPORTED, id_in, name_asked, qos_asked, topics_asked,
+};
 use sn_session::{QosLevel, Session, SessionOp};
 use sn_topic::{Filter, Predefined, TopicName};
 use std::alloc::Global;

@@ -1,19 +1,17 @@
 //! REGISTER, SUBSCRIBE and UNSUBSCRIBE of a bound client (MQTT-SN 1.2 sections 6.5 and 6.9).
 
 ghost use Rattle.std.specs.Prelude.{◌≡◌, Some, IfOk};
-ghost use Rattle.sn_flow.specs.Plans.{seen_of};
+ghost use Rattle.sn_local.specs.Seen.{seen_of};
 ghost use Rattle.sn_flow.specs.TopicRows.{register_of, register as register_row, subscribe_of, subscribe as subscribe_row, unsubscribe_of, unsubscribe as unsubscribe_row};
 
-use super::bound::session_or;
-use super::config::{Addr, Config};
-use super::local::Dialogs;
 use super::registration::register as draft_register;
-use super::row::{Follow, Row, heard_row, turn_away};
 use super::subscription::{subscribe as draft_subscribe, unsubscribe as draft_unsubscribe};
 use octets::NoMemory;
 use rep_model::Replica;
 use rep_ops::ClientId;
 use sn_frame::Flags;
+use sn_local::{Addr, Config, Dialogs};
+use sn_plan::{Follow, Row, heard_row, session_or, turn_away};
 use sn_session::Session;
 use std::alloc::Global;
 

@@ -4,12 +4,10 @@ ghost use Rattle.std.specs.Prelude.{◌≡◌, IfOk, if◌then◌else◌, None, 
 ghost use Rattle.sn_flow.specs.Connection.{has_bit};
 ghost use Rattle.sn_flow.specs.WillUpdate.{topic_from as topic_of_parts, topic_asked as topic_asked_for, topic_accepted, topic_set, message_accepted, has_no_place as is_without_place, will_topic_update as topic_update, will_msg_update as message_update};
 
-use super::asking::{name_asked, qos_asked};
-use super::codes::{ACCEPTED, NOT_SUPPORTED};
-use super::config::Addr;
-use super::draft::Draft;
 use octets::{NoMemory, Octets};
 use sn_frame::{Flags, Frame, Will};
+use sn_local::Addr;
+use sn_plan::{ACCEPTED, Draft, NOT_SUPPORTED, name_asked, qos_asked};
 use sn_session::{Message, QosLevel, Session, SessionOp, WillTopic};
 use sn_topic::TopicName;
 use std::alloc::Global;

@@ -2,16 +2,10 @@
 
 ghost use Rattle.std.specs.Prelude.{◌≡◌, Some, IfOk};
 ghost use Rattle.std.specs.Option.{option_copied};
-ghost use Rattle.sn_flow.specs.Plans.{seen_of};
+ghost use Rattle.sn_local.specs.Seen.{seen_of};
 ghost use Rattle.sn_flow.specs.Wills.{dismissed, concluded as concluded_row, ask_message as asked_message, topic_given as given_topic, topic_row as row_of_topic, topic_in as row_of_topic_in, will_topic as will_topic_row, will_of as will_with, message_row as row_of_message, message_in as row_of_message_in, will_msg as will_msg_row, topic_update_of, will_topic_update as topic_update_row, message_update_of, will_msg_update as message_update_row};
 
 use super::accept::{GivenWill, accept, has_no_room};
-use super::bound::{session_or, unseen, view_or};
-use super::codes::{CONGESTION, NOT_SUPPORTED};
-use super::config::Addr;
-use super::draft::Draft;
-use super::local::{Awaited, Dialogs, LocalChange, Request, WillDialog};
-use super::row::{Follow, Row, heard_row, stray, turn_away};
 use super::will_update::{
     topic_asked, will_msg_update as draft_message, will_topic_update as draft_topic,
 };
@@ -19,6 +13,11 @@ use octets::{NoMemory, Octets};
 use rep_model::Replica;
 use rep_ops::ClientId;
 use sn_frame::{Frame, Will};
+use sn_local::{Addr, Awaited, Dialogs, LocalChange, Request, WillDialog};
+use sn_plan::{
+    CONGESTION, Draft, Follow, NOT_SUPPORTED, Row, heard_row, session_or, stray, turn_away, unseen,
+    view_or,
+};
 use sn_session::{Message, Session, Will as SessionWill, WillTopic};
 use std::alloc::Global;
 

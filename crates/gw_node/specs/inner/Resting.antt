@@ -1,9 +1,9 @@
 -- What a node remembers of ticks.
 use Rattle.std.specs.Prelude.{ℕ, Bool, true, List, Option, Some, None}
 use Rattle.rep_ops.specs.declared.op.Op.{Op}
-use Rattle.sn_flow.specs.declared.config.Config.{Config}
-use Rattle.sn_flow.specs.Plans.{seen_of}
-use Rattle.sn_flow.specs.Locals.{Local}
+use Rattle.sn_local.specs.declared.config.Config.{Config}
+use Rattle.sn_local.specs.Seen.{seen_of}
+use Rattle.sn_local.specs.Locals.{Local}
 use Rattle.sn_deliver.specs.Rest.{is_idle}
 
 -- where a moment is remembered, a tick of that moment has nothing to do

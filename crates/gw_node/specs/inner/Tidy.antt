@@ -4,12 +4,12 @@ use Rattle.std.specs.List.{list_all}
 use Rattle.rep_ops.specs.declared.op.Op.{Op}
 use Rattle.rep_ops.specs.declared.op.Op.TheVariants.{Session as OfSession, Put as OfPut, Ack}
 use Rattle.rep_model.specs.Keep.{IsKeptOf}
-use Rattle.sn_flow.specs.declared.local.LocalChange.{LocalChange}
-use Rattle.sn_flow.specs.declared.local.LocalChange.TheVariants.{Bind, Unbind, Time, Heard, Sent, Resent, Retried, Ask, EndDialog, Advertised}
-use Rattle.sn_flow.specs.Plans.{Seen, seen_of}
-use Rattle.sn_flow.specs.Locals.{Local}
-use Rattle.sn_flow.specs.Bindings.{address_of, is_owned, has_owned}
-use Rattle.sn_flow.specs.Timers.{timer_of, times_owned}
+use Rattle.sn_local.specs.declared.local.LocalChange.{LocalChange}
+use Rattle.sn_local.specs.declared.local.LocalChange.TheVariants.{Bind, Unbind, Time, Heard, Sent, Resent, Retried, Ask, EndDialog, Advertised}
+use Rattle.sn_local.specs.Seen.{Seen, seen_of}
+use Rattle.sn_local.specs.Locals.{Local}
+use Rattle.sn_local.specs.Bindings.{address_of, is_owned, has_owned}
+use Rattle.sn_local.specs.Timers.{timer_of, times_owned}
 
 -- whether each address and each timer is of a client that the gateway owns
 abbrev pub are_owned : ℕ → Seen → Local → Bool

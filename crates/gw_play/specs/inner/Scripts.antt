@@ -1,6 +1,6 @@
 -- A script: gateways, and then events.
 use Rattle.std.specs.Prelude.{◌≡◌, ◌≢◌, ℕ, ◌-◌, ◌<◌, List, take, slice_get, Some, All, AllPairs}
-use Rattle.sn_flow.specs.declared.config.Config.{Config}
+use Rattle.sn_local.specs.declared.config.Config.{Config}
 use Rattle.gw_play.specs.declared.script.Script.{Script}
 use Rattle.gw_play.specs.Scripts.{Extends, IsScriptOf}
 

@@ -3,7 +3,7 @@ use Rattle.std.proofs.lemmas.Result.{err_from_is_err_and}
 use Rattle.rep_ops.specs.declared.op.Op.{Op}
 use Rattle.rep_ops.specs.Making.{AreApart, IsDeltaOf}
 use Rattle.rep_model.specs.Keep.{IsKeptOf}
-use Rattle.sn_flow.specs.Locals.{after_all}
+use Rattle.sn_local.specs.Locals.{after_all}
 use Rattle.gw_node.specs.declared.out.Out.{Out}
 use Rattle.gw_node.specs.Parts.{state_of, only_sends}
 use Rattle.gw_node.specs.inner.Writing.{WrittenIfMade, refusal_of}
@@ -40,7 +40,8 @@ returns-in-Ok-write_if_made g c =
           (subst (λ (ops : List Op). IsDeltaOf ops delta) c.into_vec.ensures c.in-Ok.ensures.ok)
           c.in_ok-staged.ensures.fits
           (subst (λ (kept : List Op). IsKeptOf (g.R.Replica.kept c.args.node.now.replica ++ delta) kept) (sym c.commit.ensures) c.in_ok-staged.ensures.taken)
-          (subst (λ (made : Option (List Op)). WrittenIfMade c.args.node.now.journal made (Ok c.in-Ok-write_if_made.field-0) c.write_if_made.new.journal) given_is c.in-Ok-write_if_made.ensures));
+          (subst (λ (made : Option (List Op)). WrittenIfMade c.args.node.now.journal made (Ok c.in-Ok-write_if_made.field-0) c.write_if_made.new.journal) given_is c.in-Ok-write_if_made.ensures)
+          c.in_ok-staged.ensures.writable);
       answer = answer_is ∙ ap (λ (made : Option (List Op)). record (only_sends c.args.plan.sends) { made = made }) (sym made_is);
     }
 

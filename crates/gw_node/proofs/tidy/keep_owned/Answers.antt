@@ -1,5 +1,5 @@
 use Rattle.std.proofs.Common.{◌≡◌, true, sym, ◌∙◌}
-use Rattle.sn_flow.specs.Plans.{seen_of}
+use Rattle.sn_local.specs.Seen.{seen_of}
 use Rattle.gw_node.specs.inner.Tidy.{are_owned}
 use Rattle.gw_node.proofs.Owned.{owned_stay, owned_are_owned, still_owned}
 use Rattle.gw_node.proofs.tidy.keep_owned.Goals as goal

@@ -1,5 +1,5 @@
 use Rattle.std.proofs.Common.{◌==◌, not, ◌||◌, sym, ap, ◌∙◌}
-use Rattle.sn_flow.specs.Plans.{seen_of}
+use Rattle.sn_local.specs.Seen.{seen_of}
 use Rattle.gw_node.specs.inner.Tidy.{is_left, leaves_all}
 use Rattle.gw_node.proofs.tidy.leaves_all.Goals as goal
 

@@ -1,6 +1,6 @@
 use Rattle.std.proofs.Common.{◌≡◌, true, sym, ap, ◌∙◌}
 use Rattle.std.specs.List.{list_all}
-use Rattle.sn_flow.specs.Plans.{seen_of}
+use Rattle.sn_local.specs.Seen.{seen_of}
 use Rattle.gw_node.specs.inner.Tidy.{notes_owned}
 use Rattle.gw_node.proofs.Owned.{owned_after}
 use Rattle.gw_node.proofs.tidy.note_changes.Goals as goal

@@ -1,5 +1,5 @@
 use Rattle.std.proofs.Common.{sym, ap, ◌∙◌}
-use Rattle.sn_flow.specs.Plans.{seen_of}
+use Rattle.sn_local.specs.Seen.{seen_of}
 use Rattle.gw_node.specs.inner.Tidy.{notes_owned}
 use Rattle.gw_node.proofs.tidy.notes_owned.Goals as goal
 

@@ -1,5 +1,5 @@
 use Rattle.std.proofs.Common.{List}
-use Rattle.sn_flow.specs.declared.config.Config.{Config}
+use Rattle.sn_local.specs.declared.config.Config.{Config}
 use Rattle.gw_world.specs.declared.event.Event.{Event}
 use Rattle.gw_world.specs.declared.event.Answer.{Answer}
 use Rattle.gw_world.specs.Field.{Field, new_field, Run}

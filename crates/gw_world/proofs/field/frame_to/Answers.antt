@@ -1,13 +1,12 @@
--- It goes on as the definition says.
-use Rattle.gw_node.specs.Occasions.{Datagram}
+-- It goes on as the gateway does for which it stands.
+use Rattle.gw_node.specs.declared.step.Step.TheVariants as steps
 use Rattle.gw_node.specs.Parts.{state_of, said}
-use Rattle.gw_world.specs.inner.Plans.{OwnKept}
-use Rattle.gw_world.specs.inner.Calm.{StaysCalm}
-use Rattle.gw_world.proofs.Calmness.{own_calm, if_fed}
+use Rattle.gw_world.specs.inner.Events.{GoesOn}
+use Rattle.gw_world.proofs.Going.{goes_on, if_fed}
 use Rattle.gw_world.proofs.field.frame_to.Goals as goal
 
 pub returns-clause-ok : goal.returns-clause-ok
 returns-clause-ok g c =
-    if_fed c.unless_starved.result said (said c.frame-answer.result) (λ answer. StaysCalm (λ old new. OwnKept old (Datagram c.args.from c.args.bytes.now) c.args.now answer new) (state_of g.R.Replica.kept c.args.node.now) (state_of g.R.Replica.kept c.frame-answer.new.self))
+    if_fed c.unless_starved.result said (said c.frame-answer.result) (λ answer. GoesOn (state_of g.R.Replica.kept c.args.node.now) (steps.Frame c.args.from c.args.bytes.now c.args.now) answer (state_of g.R.Replica.kept c.frame-answer.new.self))
     c.unless_starved.ensures.same c.unless_starved.ensures.memory c.unless_starved.ensures.fed
-    (λ memory fed. own_calm (state_of g.R.Replica.kept c.args.node.now) (state_of g.R.Replica.kept c.frame-answer.new.self) (Datagram c.args.from c.args.bytes.now) c.args.now (said c.frame-answer.result) tt c.requires fed memory c.frame-answer.ensures.call c.frame-answer.ensures.taken)
+    (λ memory fed. goes_on (state_of g.R.Replica.kept c.args.node.now) (state_of g.R.Replica.kept c.frame-answer.new.self) (steps.Frame c.args.from c.args.bytes.now c.args.now) (said c.frame-answer.result) tt fed memory (λ gateway s. tt) c.frame-answer.ensures.event)

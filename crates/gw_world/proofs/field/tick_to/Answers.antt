@@ -1,13 +1,12 @@
--- It goes on as the definition says.
-use Rattle.gw_node.specs.Occasions.{Clock}
+-- It goes on as the gateway does for which it stands.
+use Rattle.gw_node.specs.declared.step.Step.TheVariants as steps
 use Rattle.gw_node.specs.Parts.{state_of, said}
-use Rattle.gw_world.specs.inner.Plans.{OwnKept}
-use Rattle.gw_world.specs.inner.Calm.{StaysCalm}
-use Rattle.gw_world.proofs.Calmness.{own_calm, if_fed}
+use Rattle.gw_world.specs.inner.Events.{GoesOn}
+use Rattle.gw_world.proofs.Going.{goes_on, if_fed}
 use Rattle.gw_world.proofs.field.tick_to.Goals as goal
 
 pub returns-clause-ok : goal.returns-clause-ok
 returns-clause-ok g c =
-    if_fed c.unless_starved.result said (said c.tick-answer.result) (λ answer. StaysCalm (λ old new. OwnKept old Clock c.args.now answer new) (state_of g.R.Replica.kept c.args.node.now) (state_of g.R.Replica.kept c.tick-answer.new.self))
+    if_fed c.unless_starved.result said (said c.tick-answer.result) (λ answer. GoesOn (state_of g.R.Replica.kept c.args.node.now) (steps.Tick c.args.now) answer (state_of g.R.Replica.kept c.tick-answer.new.self))
     c.unless_starved.ensures.same c.unless_starved.ensures.memory c.unless_starved.ensures.fed
-    (λ memory fed. own_calm (state_of g.R.Replica.kept c.args.node.now) (state_of g.R.Replica.kept c.tick-answer.new.self) Clock c.args.now (said c.tick-answer.result) tt c.requires fed memory c.tick-answer.ensures.call c.tick-answer.ensures.taken)
+    (λ memory fed. goes_on (state_of g.R.Replica.kept c.args.node.now) (state_of g.R.Replica.kept c.tick-answer.new.self) (steps.Tick c.args.now) (said c.tick-answer.result) tt fed memory (λ gateway s. tt) c.tick-answer.ensures.event)

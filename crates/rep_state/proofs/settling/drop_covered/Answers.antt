@@ -1,8 +1,19 @@
-use Rattle.std.proofs.Common.{rules}
-use Rattle.std.proofs.lemmas.Fn.{filter_same}
-use Rattle.rep_state.specs.Mail.{is_left}
+use Rattle.std.proofs.Common.{List, take, drop, sym, subst}
+use Rattle.rep_ops.specs.declared.op.Put.{Put}
+use Rattle.rep_state.specs.Mail.{NoneCovered, AreFreeOutside, Rising}
 use Rattle.rep_state.specs.Origins.{ranges_in}
 use Rattle.rep_state.proofs.settling.drop_covered.Goals as goal
 
-pub returns : goal.returns
-returns c = filter_same _ (is_left (ranges_in c.args.acks.now)) _ (λ put kept after called. search rules) _ _ c.retain.ensures.filtered
+pub drop_each-requires-clause-front : goal.drop_each-requires-clause-front
+drop_each-requires-clause-front c =
+    let rs = ranges_in c.args.acks.now in
+    let is = c.as_slice.ensures.value in
+    subst (λ (ps : List Put). NoneCovered rs (take c.between-from.result.0 ps)) is
+    (c.between-from.ensures.front rs (subst Rising (sym is) c.requires.rising) (subst (AreFreeOutside c.args.span rs) (sym is) c.requires.free))
+
+pub drop_each-requires-clause-back : goal.drop_each-requires-clause-back
+drop_each-requires-clause-back c =
+    let rs = ranges_in c.args.acks.now in
+    let is = c.as_slice.ensures.value in
+    subst (λ (ps : List Put). NoneCovered rs (drop c.between-from.result.1 (drop c.between-from.result.0 ps))) is
+    (c.between-from.ensures.back rs (subst Rising (sym is) c.requires.rising) (subst (AreFreeOutside c.args.span rs) (sym is) c.requires.free))

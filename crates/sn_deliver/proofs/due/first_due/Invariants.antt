@@ -1,7 +1,7 @@
 -- What is left leads where all leads.
 use Rattle.std.proofs.Common.{◌≡◌, length, drop}
 use Rattle.rep_model.specs.Views.{clients}
-use Rattle.sn_flow.specs.Plans.{seen_of}
+use Rattle.sn_local.specs.Seen.{seen_of}
 use Rattle.sn_deliver.specs.Due.{first_due}
 use Rattle.sn_deliver.proofs.due.first_due.Given as goal
 

@@ -1,4 +1,4 @@
-use Rattle.sn_flow.specs.Plans.{seen_of}
+use Rattle.sn_local.specs.Seen.{seen_of}
 use Rattle.sn_deliver.proofs.Following.{followed-at}
 use Rattle.sn_deliver.proofs.follow.followed.Goals as goal
 

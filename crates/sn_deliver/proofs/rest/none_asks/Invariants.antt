@@ -2,7 +2,7 @@
 use Rattle.std.proofs.Common.{◌≡◌, length, drop}
 use Rattle.std.specs.List.{list_any}
 use Rattle.rep_model.specs.Views.{clients}
-use Rattle.sn_flow.specs.Plans.{seen_of}
+use Rattle.sn_local.specs.Seen.{seen_of}
 use Rattle.sn_deliver.specs.Rest.{asks}
 use Rattle.sn_deliver.proofs.rest.none_asks.Given as goal
 

@@ -1,6 +1,6 @@
 use Rattle.std.proofs.Common.{◌≡◌, length, drop}
 use Rattle.rep_model.specs.Views.{clients}
-use Rattle.sn_flow.specs.Plans.{seen_of}
+use Rattle.sn_local.specs.Seen.{seen_of}
 use Rattle.sn_deliver.specs.Ticking.{timers_begun}
 use Rattle.sn_deliver.proofs.ticking.begin_timers.Given as goal
 

@@ -1,7 +1,7 @@
 use Rattle.std.proofs.Common.{◌≡◌, ◌∙◌, sym, length}
 use Rattle.jr_journal.specs.Disk.{at, replaced, appended}
 use Rattle.std.proofs.Common.{take}
-use Rattle.jr_journal.proofs.Appending.{on_ok, on_err, err_written, torn_after, all_out, synced_is, settles_after, durable_after, done_as}
+use Rattle.jr_journal.proofs.Appending.{on_ok, on_err, err_written, torn_after, all_out, synced_is, settles_after, durable_after, struck_short, struck_kept, done_as}
 use Rattle.jr_journal.specs.Records.{written}
 use Rattle.jr_journal.proofs.journal.Journal.append.Goals as goal
 
@@ -58,3 +58,16 @@ returns-clause-known g c = λ honest fed.
     c.if-is_err.ensures.value c.if-is_err-2.ensures.value (c.append.ensures.outlook early) c.sync.ensures.outlook
     (synced_is s.slot old middle new c.args.delta.now c.deref.result.now (c.deref.ensures.value ∙ c.in_ok-bytes.ensures.ok)
     (on_ok c.append.result c.if-is_err.ensures.value (c.append.ensures.ok honest)) (on_ok c.sync.result c.if-is_err-2.ensures.value (c.sync.ensures.ok honest)))
+
+pub returns-then-is_err-clause-struck : goal.returns-then-is_err-clause-struck
+returns-then-is_err-clause-struck g c = λ told.
+    let s = c.args.self.now in
+    struck_short c.append.result g.D.Disk.honest s.slot (g.D.Disk.slots s.disk) (g.D.Disk.slots c.append.new.self) c.args.delta.now c.deref.result.now c.if-is_err.ensures.value
+    (c.deref.ensures.value ∙ c.in_ok-bytes.ensures.ok) c.append.ensures.err
+
+pub returns-then-is_err-2-clause-struck : goal.returns-then-is_err-2-clause-struck
+returns-then-is_err-2-clause-struck g c = λ told.
+    let s = c.args.self.now in
+    struck_kept g.D.Disk.honest s.slot (g.D.Disk.slots s.disk) (g.D.Disk.slots c.append.new.self) (g.D.Disk.slots c.sync.new.self) c.args.delta.now c.deref.result.now
+    (c.deref.ensures.value ∙ c.in_ok-bytes.ensures.ok)
+    (λ honest. on_ok c.append.result c.if-is_err.ensures.value (c.append.ensures.ok honest)) (λ honest. on_err c.sync.result c.if-is_err-2.ensures.value (c.sync.ensures.err honest))

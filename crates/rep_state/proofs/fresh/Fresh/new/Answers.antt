@@ -4,12 +4,13 @@ use Rattle.std.specs.FinMap.{is_sorted}
 use Rattle.rep_ops.specs.declared.op.Put.{Put}
 use Rattle.rep_ops.specs.Orders.{put_cmp}
 use Rattle.rep_ops.specs.WellMade.{is_put}
-use Rattle.rep_state.specs.Mail.{InOne, is_left, weave}
+use Rattle.rep_state.specs.Mail.{InOne, is_left, weave, IsFreeOutside}
 use Rattle.rep_state.specs.Origins.{ranges_in}
 use Rattle.rep_state.specs.Kept.{kept_ops}
 use Rattle.rep_state.specs.Entries.{AreUnderNames, NoneCoveredBelow, messages}
 use Rattle.rep_state.proofs.Freshness.{weave_none}
 use Rattle.rep_state.proofs.Counts.{left_all}
+use Rattle.rep_state.proofs.Spans.{free_anywhere}
 use Rattle.rep_state.proofs.fresh.Fresh.new.Goals as goal
 
 pub returns-clause-fresh : goal.returns-clause-fresh
@@ -27,6 +28,8 @@ returns-clause-fresh c =
       apart = λ q. subst (λ (es : List ((ℕ × ℕ) × Put)). InOne q entry.seen.pending (messages es)) (sym none) (λ _. refl);
       origins = e.origins;
       none_comes = λ _. subst (NoneCoveredBelow (ranges_in entry.acks)) (sym none) tt;
+      waits = free_anywhere c.none.result (ranges_in entry.acks) entry.seen.pending e.none_covered;
+      comes = subst (AllByRecursion (λ (n : (ℕ × ℕ) × Put). IsFreeOutside c.none.result (ranges_in entry.acks) n.1)) (sym none) tt;
     }
 
 pub returns-clause-row : goal.returns-clause-row

@@ -10,7 +10,7 @@ use Rattle.rep_state.specs.Origins.{ranges_in, ranges_on}
 use Rattle.rep_state.specs.Entries.{messages}
 use Rattle.rep_state.proofs.Rising.{find_weave}
 use Rattle.rep_state.proofs.Changes.{put_skipped, put_more}
-use Rattle.rep_state.proofs.Freshness.{ranges_same, found_message, in_weave, not_there, under_more, sorted_more, made_more, found_more, apart_more, none_more, not_covered}
+use Rattle.rep_state.proofs.Freshness.{ranges_same, found_message, in_weave, not_there, under_more, sorted_more, made_more, found_more, apart_more, none_more, free_more, not_covered}
 use Rattle.rep_state.proofs.fresh.Fresh.note_put.Goals as goal
 
 pub returns-then-has : goal.returns-then-has
@@ -58,6 +58,8 @@ returns c =
         apart = apart;
         origins = fresh.origins;
         none_comes = λ un. none_more waiting es new p fresh.under fresh.apart none.0 is (ranges_in e.acks) (sym (ap (λ acks. list_any (covers (name_of p)) (ranges_on (ranges_in e.acks) acks)) un) ∙ free) (fresh.none_comes un);
+        waits = fresh.waits;
+        comes = free_more waiting es new p fresh.under fresh.apart none.0 is f.span rs free fresh.comes;
       },
       put_more client (known_on e.known f.log) (stamp_on e.seen.stamp f.log) fresh.folded.visible fresh.folded.none_below p rs waiting (messages es) (messages new) fresh.apart apart
           (found_more waiting es new p fresh.under fresh.apart none.0 is) none.0 (found_message (name_of p) es fresh.under ∙ none.1),

@@ -72,6 +72,8 @@ returns c =
         apart = fresh.apart;
         origins = fresh.origins;
         none_comes = fresh.none_comes;
+        waits = fresh.waits;
+        comes = fresh.comes;
       },
       session_step client s k x es more log.stamp (left_on (base_of e) (messages f.news) f.acks) rs kept absent (none_covered rs ps),
     )

@@ -1,0 +1,5 @@
+pub mod Acknowledging
+pub mod Delivery
+pub mod Exchanges
+pub mod Forms
+pub mod Resending

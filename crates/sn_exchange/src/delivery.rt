@@ -1,0 +1,316 @@
+//! Delivery: a client is sent the messages that wait for it (MQTT-SN 1.2 sections 6.6, 6.10 and 6.14).
+
+ghost use Rattle.std.specs.Prelude.{◌≡◌, ◌≤◌, IfOk, OnOk};
+ghost use Rattle.sn_frame.specs.declared.frame.TheConstants.{MAX_FRAME};
+ghost use Rattle.sn_frame.specs.Bodies.{IsMessage};
+ghost use Rattle.sn_frame.specs.Grammar.{total_of};
+ghost use Rattle.sn_plan.specs.Drafts.{sent};
+ghost use Rattle.sn_exchange.specs.Forms.{publication as publication_of};
+ghost use Rattle.sn_exchange.specs.Exchanges.{left};
+ghost use Rattle.sn_exchange.specs.Delivery.{next_after as id_after, begun, fresh_id as fresh_told, id_to_tell as told_for, register_first as registered_first, publish_now as published_now, deliver_by as delivered_by, deliver_one as delivered_one, none_left as with_none_left, deliver as delivered, deliver_left as delivered_left, deliver_if as delivered_if, then_deliver as then_delivered};
+
+use super::exchange::{
+    is_awake, is_done, is_left_in_turn, is_served, name_of, open_exchange, so_far,
+};
+use super::form::{Form, form_of, publication};
+use super::peer::Peer;
+use octets::{NoMemory, Octets};
+use rep_ops::Put;
+use sn_frame::Frame;
+use sn_local::LocalChange;
+use sn_plan::Draft;
+use sn_session::{Outbound, Phase, Presence, Session, SessionOp};
+use sn_topic::{Predefined, TopicName};
+use std::alloc::Global;
+
+/// The id that a client is told for a topic, and the change that the session needs for it, if it needs one.
+#[derive(Debug, Drop)]
+pub struct ToldId {
+    /// The topic id.
+    pub id: u16,
+    /// The change that enters it into the session, where it is not there yet.
+    pub change: Option<SessionOp>,
+}
+
+/// The message id after one: after 65,535 comes 1.
+fn next_after(id: u16) -> u16
+    ensures { result ≡ id_after id }
+{
+    if id == u16::MAX { 1 } else { id + 1 }
+}
+
+/// And then a new exchange for the message, with its first frame.
+fn begin(
+    alloc: Global,
+    peer: &Peer,
+    session: &Session,
+    put: &Put,
+    phase: Phase,
+    frame: &Frame,
+    draft: &mut Draft,
+) -> Result<(), NoMemory>
+    requires message { IsMessage frame.now }
+    requires size { total_of frame.now ≤ MAX_FRAME }
+    ensures { OnOk result (draft.new ≡ begun peer.now session.now put.now phase frame.now
+        draft.old) }
+{
+    let exchange = Outbound {
+        origin: put.origin,
+        seq: put.seq,
+        msg_id: session.next_id,
+        phase,
+    };
+    draft.change(SessionOp::Outbound {
+        exchange: Some(exchange),
+        next_id: next_after(session.next_id),
+    })?;
+    send(alloc, peer, frame, draft)?;
+    draft.note(LocalChange::Sent {
+        client: peer.client.copied(alloc)?,
+        moment: peer.moment,
+    })?;
+    Ok(())
+}
+
+/// And then this frame to the client.
+pub fn send(alloc: Global, peer: &Peer, frame: &Frame, draft: &mut Draft) -> Result<(), NoMemory>
+    requires message { IsMessage frame.now }
+    requires size { total_of frame.now ≤ MAX_FRAME }
+    ensures { OnOk result (draft.new ≡ sent peer.now.address frame.now draft.old) }
+{
+    match draft.send(alloc, peer.address, frame) {
+        Ok(()) => Ok(()),
+        Err(_) => Err(NoMemory),
+    }
+}
+
+/// A new id of the name, which the client does not know yet.
+fn fresh_id(alloc: Global, name: &TopicName, id: u16) -> Result<ToldId, NoMemory>
+    ensures { IfOk result (λ told. told ≡ fresh_told name.now id) }
+{
+    let name = name.copied(alloc)?;
+    Ok(ToldId {
+        id,
+        change: Some(SessionOp::Register {
+            id,
+            name,
+            known: false,
+        }),
+    })
+}
+
+/// The id that the client is told for a name: that of its entry, or else the least free one; nothing where no id is free.
+fn id_to_tell(
+    alloc: Global,
+    session: &Session,
+    name: &TopicName,
+) -> Result<Option<ToldId>, NoMemory>
+    ensures { IfOk result (λ told. told ≡ told_for session.now name.now) }
+{
+    if let Some(entry) = session.topic_named(name) {
+        return Ok(Some(ToldId {
+            id: entry.id,
+            change: None,
+        }));
+    }
+    match session.free_id() {
+        None => Ok(None),
+        Some(id) => Ok(Some(fresh_id(alloc, name, id)?)),
+    }
+}
+
+/// And then the REGISTER for a message whose topic needs registering. Where no id is free the message is acknowledged
+/// unsent. Answers whether Delivery stops.
+fn register_first(
+    alloc: Global,
+    peer: &Peer,
+    session: &Session,
+    put: &Put,
+    told: Option<ToldId>,
+    draft: &mut Draft,
+) -> Result<bool, NoMemory>
+    ensures { IfOk result (λ stops. (stops, draft.new) ≡ registered_first peer.now session.now
+        put.now told draft.old) }
+{
+    let Some(told) = told else {
+        draft.ack(put.seq, put.origin)?;
+        return Ok(false);
+    };
+    let frame = Frame::Register {
+        topic_id: told.id,
+        msg_id: session.next_id,
+        name: Octets::from_slice(alloc, put.topic.bytes())?,
+    };
+    draft.change_if(told.change)?;
+    begin(alloc, peer, session, put, Phase::Registering, &frame, draft)?;
+    Ok(true)
+}
+
+/// And then the PUBLISH of a message whose topic has a form. At quality of service 0 it is done with, else an exchange
+/// begins. Answers whether Delivery stops.
+fn publish_now(
+    alloc: Global,
+    peer: &Peer,
+    session: &Session,
+    put: &Put,
+    form: Form,
+    draft: &mut Draft,
+) -> Result<bool, NoMemory>
+    ensures { IfOk result (λ stops. (stops, draft.new) ≡ published_now peer.now session.now
+        put.now form draft.old) }
+{
+    if put.qos.number() == 0 {
+        let frame = publication(alloc, false, put, 0, form)?;
+        send(alloc, peer, &frame, draft)?;
+        draft.ack(put.seq, put.origin)?;
+        return Ok(false);
+    }
+    let frame = publication(alloc, false, put, session.next_id, form)?;
+    begin(alloc, peer, session, put, Phase::Published, &frame, draft)?;
+    Ok(true)
+}
+
+/// And then what the form of the message's topic asks for. Answers whether Delivery stops.
+fn deliver_by(
+    alloc: Global,
+    peer: &Peer,
+    session: &Session,
+    put: &Put,
+    form: Option<Form>,
+    draft: &mut Draft,
+) -> Result<bool, NoMemory>
+    ensures { IfOk result (λ stops. (stops, draft.new) ≡ delivered_by peer.now session.now
+        put.now form draft.old) }
+{
+    match form {
+        None => {
+            let told = id_to_tell(alloc, session, &put.topic)?;
+            register_first(alloc, peer, session, put, told, draft)
+        }
+        Some(form) => publish_now(alloc, peer, session, put, form, draft),
+    }
+}
+
+/// And then one message. Answers whether Delivery stops.
+fn deliver_one(
+    alloc: Global,
+    predefined: &Predefined,
+    peer: &Peer,
+    session: &Session,
+    put: &Put,
+    draft: &mut Draft,
+) -> Result<bool, NoMemory>
+    ensures { IfOk result (λ stops. (stops, draft.new) ≡ delivered_one predefined.now peer.now
+        session.now put.now draft.old) }
+{
+    let form = form_of(predefined, session, &put.topic);
+    deliver_by(alloc, peer, session, put, form, draft)
+}
+
+/// With nothing left a client that is Awake goes back to sleep.
+fn none_left(
+    alloc: Global,
+    peer: &Peer,
+    session: &Session,
+    draft: &mut Draft,
+) -> Result<(), NoMemory>
+    ensures { OnOk result (draft.new ≡ with_none_left peer.now session.now draft.old) }
+{
+    if !is_awake(session.presence) {
+        return Ok(());
+    }
+    draft.change(SessionOp::Presence {
+        presence: Presence::Asleep,
+        duration: session.duration,
+    })?;
+    send(alloc, peer, &Frame::PingResp, draft)
+}
+
+/// And then the messages that are not acknowledged yet, until one of them stops it.
+fn deliver(
+    alloc: Global,
+    predefined: &Predefined,
+    peer: &Peer,
+    session: &Session,
+    acks: &[(u64, u8)],
+    pending: &[Put],
+    draft: &mut Draft,
+) -> Result<(), NoMemory>
+    ensures { OnOk result (draft.new ≡ delivered predefined.now peer.now session.now
+        (left acks.now pending.now) draft.old) }
+{
+    let mut turn = 0;
+    for put in pending {
+        if !is_left_in_turn(acks, &mut turn, put) {
+            continue;
+        }
+        if deliver_one(alloc, predefined, peer, session, put, draft)? {
+            return Ok(());
+        }
+    }
+    none_left(alloc, peer, session, draft)
+}
+
+/// And then the messages that are left.
+pub fn deliver_left(
+    alloc: Global,
+    predefined: &Predefined,
+    peer: &Peer,
+    session: &Session,
+    pending: &[Put],
+    draft: &mut Draft,
+) -> Result<(), NoMemory>
+    ensures { OnOk result (draft.new ≡ delivered_left predefined.now peer.now session.now
+        pending.now draft.old) }
+{
+    let acks = Vec::from_slice(alloc, draft.acks())?;
+    deliver(
+        alloc,
+        predefined,
+        peer,
+        session,
+        acks.as_slice(),
+        pending,
+        draft,
+    )
+}
+
+/// And then Delivery, where the client is Active or Awake and has no open exchange.
+pub fn deliver_if(
+    alloc: Global,
+    predefined: &Predefined,
+    peer: &Peer,
+    session: &Session,
+    pending: &[Put],
+    draft: &mut Draft,
+) -> Result<(), NoMemory>
+    ensures { OnOk result (draft.new ≡ delivered_if predefined.now peer.now session.now
+        pending.now draft.old) }
+{
+    if !is_served(session.presence) {
+        return Ok(());
+    }
+    if open_exchange(session, draft.acks(), pending).is_some() {
+        return Ok(());
+    }
+    deliver_left(alloc, predefined, peer, session, pending, draft)
+}
+
+/// And then Delivery, by the session as the step so far has changed it. A session that did not change is not copied.
+pub fn then_deliver(
+    alloc: Global,
+    predefined: &Predefined,
+    peer: &Peer,
+    session: &Session,
+    pending: &[Put],
+    draft: &mut Draft,
+) -> Result<(), NoMemory>
+    ensures { OnOk result (draft.new ≡ then_delivered predefined.now peer.now session.now
+        pending.now draft.old) }
+{
+    if draft.changes().is_empty() {
+        return deliver_if(alloc, predefined, peer, session, pending, draft);
+    }
+    let session = so_far(alloc, session, draft)?;
+    deliver_if(alloc, predefined, peer, &session, pending, draft)
+}

@@ -1,0 +1,163 @@
+//! How a topic is named in a PUBLISH (MQTT-SN 1.2 sections 5.3.11 and 5.3.12).
+
+ghost use Rattle.std.specs.Prelude.{◌≡◌, ◌≤◌, IfOk};
+ghost use Rattle.std.specs.Option.{option_copied};
+ghost use Rattle.sn_frame.specs.declared.frame.TheConstants.{MAX_FRAME};
+ghost use Rattle.sn_frame.specs.Bodies.{IsMessage};
+ghost use Rattle.sn_frame.specs.Grammar.{total_of};
+ghost use Rattle.sn_exchange.specs.Forms.{by_entry as entry_form, known_form as form_if_known, short_form as form_if_short, predefined_form as form_if_predefined, form_of as form_of_topic, form_again as form_of_topic_again, qos_bits as bits_of_qos, kind_bits as bits_of_kind, dup_bit as bit_of_dup, publication as publication_of};
+
+use octets::NoMemory;
+use rep_ops::Put;
+use sn_frame::{Flags, Frame, TopicIdType};
+use sn_session::{QosLevel, Session, TopicEntry};
+use sn_topic::{Predefined, TopicName};
+use std::alloc::Global;
+
+/// How a topic is named: what the topic field holds, and the field.
+#[derive(Clone, Copy, Debug, PartialEq, Eq)]
+pub struct Form {
+    /// How the topic is named: by a registered id, a predefined id, or its two octets.
+    pub kind: TopicIdType,
+    /// The id, or the two octets as a number.
+    pub topic: u16,
+}
+
+/// By the id of this entry.
+fn by_entry(entry: &TopicEntry) -> Form
+    ensures { result ≡ entry_form entry.now }
+{
+    Form {
+        kind: TopicIdType::Normal,
+        topic: entry.id,
+    }
+}
+
+/// By the id of the entry, where the client knows it.
+fn known_form(entry: Option<&TopicEntry>) -> Option<Form>
+    ensures { result ≡ form_if_known (option_copied entry.entry) }
+{
+    match entry {
+        None => None,
+        Some(entry) => {
+            if entry.known {
+                Some(by_entry(entry))
+            } else {
+                None
+            }
+        }
+    }
+}
+
+/// By the name itself, where it has two octets.
+fn short_form(name: &[u8]) -> Option<Form>
+    ensures { result ≡ form_if_short name.now }
+{
+    match name {
+        [high, low] => Some(Form {
+            kind: TopicIdType::Short,
+            topic: u16::from(*high) * 256 + u16::from(*low),
+        }),
+        _ => None,
+    }
+}
+
+/// By the least predefined id of the name, where there is one.
+fn predefined_form(predefined: &Predefined, name: &TopicName) -> Option<Form>
+    ensures { result ≡ form_if_predefined predefined.now name.now }
+{
+    match predefined.id(name) {
+        None => None,
+        Some(topic) => Some(Form {
+            kind: TopicIdType::Predefined,
+            topic,
+        }),
+    }
+}
+
+/// How the client knows the topic. Where it does not, the topic needs registering.
+pub fn form_of(predefined: &Predefined, session: &Session, name: &TopicName) -> Option<Form>
+    ensures { result ≡ form_of_topic predefined.now session.now name.now }
+{
+    if let Some(form) = known_form(session.topic_named(name)) {
+        return Some(form);
+    }
+    if let Some(form) = short_form(name.bytes()) {
+        return Some(form);
+    }
+    predefined_form(predefined, name)
+}
+
+/// How a topic is named whose PUBLISH was sent: also by the id of an entry that the client may have forgotten since.
+pub fn form_again(predefined: &Predefined, session: &Session, name: &TopicName) -> Option<Form>
+    ensures { result ≡ form_of_topic_again predefined.now session.now name.now }
+{
+    if let Some(form) = form_of(predefined, session, name) {
+        return Some(form);
+    }
+    match session.topic_named(name) {
+        None => None,
+        Some(entry) => Some(by_entry(entry)),
+    }
+}
+
+/// The bits of a quality of service of 0, 1 or 2.
+fn qos_bits(qos: QosLevel) -> u8
+    ensures value { result ≡ bits_of_qos qos }
+    ensures limit { result ≤ 64 }
+{
+    if qos.number() == 0 {
+        0
+    } else if qos.number() == 1 {
+        32
+    } else {
+        64
+    }
+}
+
+/// The bits of what the topic field holds.
+fn kind_bits(kind: TopicIdType) -> u8
+    ensures value { result ≡ bits_of_kind kind }
+    ensures limit { result ≤ 3 }
+{
+    match kind {
+        TopicIdType::Normal => 0,
+        TopicIdType::Predefined => 1,
+        TopicIdType::Short => 2,
+        TopicIdType::Reserved => 3,
+    }
+}
+
+/// The DUP bit.
+fn dup_bit(again: bool) -> u8
+    ensures value { result ≡ bit_of_dup again }
+    ensures limit { result ≤ 128 }
+{
+    if again { 128 } else { 0 }
+}
+
+/// The PUBLISH of a message. Retain is clear.
+pub fn publication(
+    alloc: Global,
+    again: bool,
+    put: &Put,
+    msg_id: u16,
+    form: Form,
+) -> Result<Frame, NoMemory>
+    ensures ok { IfOk result (λ frame. frame ≡ publication_of again put.now msg_id form) }
+    ensures message { IfOk result (λ frame. IsMessage frame) }
+    ensures size { IfOk result (λ frame. total_of frame ≤ MAX_FRAME) }
+{
+    let flags = Flags {
+        bits: dup_bit(again) + qos_bits(put.qos) + kind_bits(form.kind),
+    };
+    // A message has a size that fits every frame.
+    let _size = put.body.len();
+    let body = put.body.to_octets(alloc)?;
+    Ok(Frame::Publish {
+        flags,
+        topic: form.topic,
+        msg_id,
+        body,
+    })
+}

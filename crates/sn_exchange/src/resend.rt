@@ -1,0 +1,245 @@
+//! Resend: the frame of the open exchange is sent again, under the same message id (MQTT-SN 1.2 section 6.13).
+
+ghost use Rattle.std.specs.Prelude.{◌≡◌, ◌≤◌, IfOk, OnOk};
+ghost use Rattle.std.specs.Option.{option_copied};
+ghost use Rattle.sn_frame.specs.declared.frame.TheConstants.{MAX_FRAME};
+ghost use Rattle.sn_frame.specs.Bodies.{IsMessage};
+ghost use Rattle.sn_frame.specs.Grammar.{total_of};
+ghost use Rattle.sn_exchange.specs.Resending.{again as sent_again, given_up as exchange_given_up, register_by as registered_by, register_again as registered_again, publish_by as published_by, publish_again as published_again, resend_in as resent_in, resend as resent, resend_if as resent_if, resend_or_deliver as resent_or_delivered, then_resend as then_resent};
+
+use super::delivery::{deliver_if, deliver_left, send};
+use super::exchange::{message_of, open_exchange, put_left, so_far};
+use super::form::{Form, form_again, publication};
+use super::peer::Peer;
+use octets::{NoMemory, Octets};
+use rep_ops::Put;
+use sn_frame::Frame;
+use sn_local::LocalChange;
+use sn_plan::Draft;
+use sn_session::{Outbound, Phase, Session, SessionOp, TopicEntry};
+use sn_topic::Predefined;
+use std::alloc::Global;
+
+/// And then a frame of the exchange, again. Answers that it stops.
+fn again(alloc: Global, peer: &Peer, frame: &Frame, draft: &mut Draft) -> Result<bool, NoMemory>
+    requires message { IsMessage frame.now }
+    requires size { total_of frame.now ≤ MAX_FRAME }
+    ensures { IfOk result (λ stops. (stops, draft.new) ≡ sent_again peer.now frame.now
+        draft.old) }
+{
+    send(alloc, peer, frame, draft)?;
+    draft.note(LocalChange::Resent {
+        client: peer.client.copied(alloc)?,
+        moment: peer.moment,
+    })?;
+    Ok(true)
+}
+
+/// And then the end of the exchange. Answers that Delivery follows.
+fn give_up(session: &Session, draft: &mut Draft) -> Result<bool, NoMemory>
+    ensures { IfOk result (λ stops. (stops, draft.new) ≡ exchange_given_up session.now
+        draft.old) }
+{
+    draft.change(SessionOp::Outbound {
+        exchange: None,
+        next_id: session.next_id,
+    })?;
+    Ok(false)
+}
+
+/// And then the REGISTER with the id of this entry.
+fn register_by(
+    alloc: Global,
+    peer: &Peer,
+    session: &Session,
+    put: &Put,
+    msg_id: u16,
+    entry: Option<&TopicEntry>,
+    draft: &mut Draft,
+) -> Result<bool, NoMemory>
+    ensures { IfOk result (λ stops. (stops, draft.new) ≡ registered_by peer.now session.now
+        put.now msg_id (option_copied entry.entry) draft.old) }
+{
+    match entry {
+        None => give_up(session, draft),
+        Some(entry) => {
+            let frame = Frame::Register {
+                topic_id: entry.id,
+                msg_id,
+                name: Octets::from_slice(alloc, put.topic.bytes())?,
+            };
+            again(alloc, peer, &frame, draft)
+        }
+    }
+}
+
+/// And then the REGISTER for this message.
+fn register_again(
+    alloc: Global,
+    peer: &Peer,
+    session: &Session,
+    msg_id: u16,
+    put: Option<&Put>,
+    draft: &mut Draft,
+) -> Result<bool, NoMemory>
+    ensures { IfOk result (λ stops. (stops, draft.new) ≡ registered_again peer.now session.now
+        msg_id (option_copied put.entry) draft.old) }
+{
+    match put {
+        None => give_up(session, draft),
+        Some(put) => {
+            let entry = session.topic_named(&put.topic);
+            register_by(alloc, peer, session, put, msg_id, entry, draft)
+        }
+    }
+}
+
+/// And then the PUBLISH with DUP, in this form.
+fn publish_by(
+    alloc: Global,
+    peer: &Peer,
+    session: &Session,
+    put: &Put,
+    msg_id: u16,
+    form: Option<Form>,
+    draft: &mut Draft,
+) -> Result<bool, NoMemory>
+    ensures { IfOk result (λ stops. (stops, draft.new) ≡ published_by peer.now session.now
+        put.now msg_id form draft.old) }
+{
+    match form {
+        None => give_up(session, draft),
+        Some(form) => {
+            let frame = publication(alloc, true, put, msg_id, form)?;
+            again(alloc, peer, &frame, draft)
+        }
+    }
+}
+
+/// And then the PUBLISH of this message, with DUP.
+fn publish_again(
+    alloc: Global,
+    predefined: &Predefined,
+    peer: &Peer,
+    session: &Session,
+    msg_id: u16,
+    put: Option<&Put>,
+    draft: &mut Draft,
+) -> Result<bool, NoMemory>
+    ensures { IfOk result (λ stops. (stops, draft.new) ≡ published_again predefined.now peer.now
+        session.now msg_id (option_copied put.entry) draft.old) }
+{
+    match put {
+        None => give_up(session, draft),
+        Some(put) => {
+            let form = form_again(predefined, session, &put.topic);
+            publish_by(alloc, peer, session, put, msg_id, form, draft)
+        }
+    }
+}
+
+/// And then the frame of an exchange of this phase. Answers whether it stops there.
+fn resend_in(
+    alloc: Global,
+    predefined: &Predefined,
+    peer: &Peer,
+    session: &Session,
+    msg_id: u16,
+    phase: Phase,
+    put: Option<&Put>,
+    draft: &mut Draft,
+) -> Result<bool, NoMemory>
+    ensures { IfOk result (λ stops. (stops, draft.new) ≡ resent_in predefined.now peer.now
+        session.now msg_id phase (option_copied put.entry) draft.old) }
+{
+    match phase {
+        Phase::Registering => register_again(alloc, peer, session, msg_id, put, draft),
+        Phase::Published => publish_again(alloc, predefined, peer, session, msg_id, put, draft),
+        Phase::Released => again(alloc, peer, &Frame::PubRel { msg_id }, draft),
+    }
+}
+
+/// And then Resend of an exchange. Where its topic has neither form nor entry, the exchange ends and Delivery follows.
+fn resend(
+    alloc: Global,
+    predefined: &Predefined,
+    peer: &Peer,
+    session: &Session,
+    pending: &[Put],
+    exchange: Outbound,
+    draft: &mut Draft,
+) -> Result<(), NoMemory>
+    ensures { OnOk result (draft.new ≡ resent predefined.now peer.now session.now pending.now
+        exchange draft.old) }
+{
+    let put = put_left(draft.acks(), pending, message_of(exchange));
+    let stops = resend_in(
+        alloc,
+        predefined,
+        peer,
+        session,
+        exchange.msg_id,
+        exchange.phase,
+        put,
+        draft,
+    )?;
+    if stops {
+        return Ok(());
+    }
+    deliver_left(alloc, predefined, peer, session, pending, draft)
+}
+
+/// And then Resend, where there is an open exchange, else Delivery.
+fn resend_if(
+    alloc: Global,
+    predefined: &Predefined,
+    peer: &Peer,
+    session: &Session,
+    pending: &[Put],
+    exchange: Option<Outbound>,
+    draft: &mut Draft,
+) -> Result<(), NoMemory>
+    ensures { OnOk result (draft.new ≡ resent_if predefined.now peer.now session.now pending.now
+        exchange draft.old) }
+{
+    match exchange {
+        None => deliver_if(alloc, predefined, peer, session, pending, draft),
+        Some(exchange) => resend(alloc, predefined, peer, session, pending, exchange, draft),
+    }
+}
+
+/// And then Resend, where an exchange is open, else Delivery.
+fn resend_or_deliver(
+    alloc: Global,
+    predefined: &Predefined,
+    peer: &Peer,
+    session: &Session,
+    pending: &[Put],
+    draft: &mut Draft,
+) -> Result<(), NoMemory>
+    ensures { OnOk result (draft.new ≡ resent_or_delivered predefined.now peer.now session.now
+        pending.now draft.old) }
+{
+    let exchange = open_exchange(session, draft.acks(), pending);
+    resend_if(alloc, predefined, peer, session, pending, exchange, draft)
+}
+
+/// And then Resend, where an exchange is open, else Delivery: by the session as the step so far has changed it. A session
+/// that did not change is not copied.
+pub fn then_resend(
+    alloc: Global,
+    predefined: &Predefined,
+    peer: &Peer,
+    session: &Session,
+    pending: &[Put],
+    draft: &mut Draft,
+) -> Result<(), NoMemory>
+    ensures { OnOk result (draft.new ≡ then_resent predefined.now peer.now session.now
+        pending.now draft.old) }
+{
+    if draft.changes().is_empty() {
+        return resend_or_deliver(alloc, predefined, peer, session, pending, draft);
+    }
+    let session = so_far(alloc, session, draft)?;
+    resend_or_deliver(alloc, predefined, peer, &session, pending, draft)
+}

@@ -1,6 +1,0 @@
-use Rattle.std.proofs.Common.{◌≡◌, ◌++◌, map, take}
-use Rattle.sn_flow.specs.Names.{name_of}
-use Rattle.sn_flow.proofs.draft.extend_names.Given as goal
-
-abbrev pub invariant-loop-put : goal.invariant-loop-put
-invariant-loop-put l = l.names.items ≡ l.fn.names.items ++ map name_of (take l.put-index l.puts)

@@ -1,8 +1,0 @@
-use Rattle.std.proofs.Common.{rules}
-use Rattle.std.proofs.lemmas.Fn.{filter_same}
-use Rattle.sn_flow.specs.WillDialogs.{is_elsewhere}
-use Rattle.sn_flow.proofs.will_dialogs.end_dialog.Goals as goal
-
-pub returns-clause-items : goal.returns-clause-items
-returns-clause-items c =
-    filter_same _ (is_elsewhere c.args.address) _ (λ dialog kept after called. search rules) _ _ c.retain.ensures.filtered

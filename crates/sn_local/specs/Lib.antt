@@ -1,0 +1,7 @@
+pub mod Advertising
+pub mod Bindings
+pub mod Locals
+pub mod Timers
+pub mod WillDialogs
+pub mod Faults
+pub mod Seen

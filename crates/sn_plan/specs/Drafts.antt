@@ -1,0 +1,50 @@
+-- What a row of the step table says, in a few words.
+use Rattle.std.specs.Prelude.{ℕ, List, [], ◌∷◌, ◌++◌, Option, Some, None}
+use Rattle.sn_session.specs.declared.change.SessionOp.{SessionOp}
+use Rattle.sn_frame.specs.declared.frame.Frame.{Frame}
+use Rattle.sn_frame.specs.Grammar.{spelling}
+use Rattle.sn_local.specs.declared.config.Addr.{Addr}
+use Rattle.sn_local.specs.declared.config.Send.{Send}
+use Rattle.sn_plan.specs.declared.draft.NewPut.{NewPut}
+use Rattle.sn_local.specs.declared.local.LocalChange.{LocalChange}
+
+-- changes of one client's session, acknowledgements of its puts (sequence number and origin), messages for any client, frames,
+-- changes of the local state
+pub record Drafted : Type 0 where
+  pub changes : List SessionOp
+  pub acks : List (ℕ × ℕ)
+  pub puts : List NewPut
+  pub sends : List Send
+  pub local : List LocalChange
+
+abbrev pub nothing : Drafted
+nothing = record { changes = []; acks = []; puts = []; sends = []; local = [] }
+
+-- and then this session operation
+abbrev pub changed : SessionOp → Drafted → Drafted
+changed change d = record d { changes = d.changes ++ change ∷ [] }
+
+-- and then this one, if there is one
+abbrev pub changed_if : Option SessionOp → Drafted → Drafted
+changed_if None d = d
+changed_if (Some change) d = changed change d
+
+-- and then the acknowledgement of this put
+abbrev pub acked : ℕ × ℕ → Drafted → Drafted
+acked name d = record d { acks = d.acks ++ name ∷ [] }
+
+-- and then the acknowledgements of these puts
+abbrev pub acked_all : List (ℕ × ℕ) → Drafted → Drafted
+acked_all names d = record d { acks = d.acks ++ names }
+
+-- and then these messages
+abbrev pub put_all : List NewPut → Drafted → Drafted
+put_all puts d = record d { puts = d.puts ++ puts }
+
+-- and then this frame
+abbrev pub sent : Addr → Frame → Drafted → Drafted
+sent to frame d = record d { sends = d.sends ++ record { to = to; bytes = spelling frame } ∷ [] }
+
+-- and then this change of the local state
+abbrev pub moved : LocalChange → Drafted → Drafted
+moved change d = record d { local = d.local ++ change ∷ [] }

@@ -1,0 +1,11 @@
+pub mod Asking
+pub mod Bound
+pub mod Drafts
+pub mod Flush
+pub mod Names
+pub mod Numbering
+pub mod Others
+pub mod Own
+pub mod Plans
+pub mod Rows
+pub mod inner

@@ -1,0 +1,30 @@
+-- The plan of a step.
+use Rattle.std.specs.Prelude.{◌≡◌, ℕ, Bool, List, [], Option, Some, None, Result, MatchResult, ⊤}
+use Rattle.std.specs.Option.{option_map}
+use Rattle.sn_local.specs.Seen.{Seen}
+use Rattle.sn_local.specs.declared.fault.StepFault.{StepFault}
+use Rattle.sn_local.specs.declared.fault.StepFault.TheVariants.{Exhausted, Memory}
+use Rattle.sn_plan.specs.declared.plan.Plan.{Plan}
+use Rattle.sn_plan.specs.Drafts.{Drafted}
+use Rattle.sn_plan.specs.Numbering.{planned, plan_with, with_puts}
+
+-- the plan of a draft for the client c, at the gateway g
+abbrev pub plan_of : ℕ → List ℕ → Seen → Drafted → Option Plan
+plan_of g c seen d = planned g c (seen.of c) (seen.epoch c) (λ e. seen.seq e g) d
+
+-- the plan of a draft without operations
+abbrev pub plan_without : Drafted → Plan
+plan_without d = record { ops = []; sends = d.sends; local = d.local }
+
+-- the plan of a draft without changes and acknowledgements: messages, frames and local changes
+abbrev pub plan_of_puts : ℕ → Seen → Drafted → Option Plan
+plan_of_puts g seen d = option_map (plan_with d) (with_puts g (λ e. seen.seq e g) d.puts [])
+
+-- Exhausted exactly where the definition has no plan; want of memory may come anywhere
+abbrev pub IsFault : {X : Type 0} → StepFault → Option X → Type 0
+IsFault Exhausted defined = defined ≡ None
+IsFault Memory defined = ⊤
+
+-- the result is what the definition says
+abbrev pub Gives : {X : Type 0} → Result X StepFault → Option X → Type 0
+Gives result defined = MatchResult result (λ x. defined ≡ Some x) (λ fault. IsFault fault defined)

@@ -1,0 +1,46 @@
+-- A row of the step table as a whole: its client, its draft, and what follows it.
+use Rattle.std.specs.Prelude.{ℕ, List, Option, Some, None}
+use Rattle.sn_frame.specs.declared.frame.Frame.TheVariants as frames
+use Rattle.sn_local.specs.declared.config.Addr.{Addr}
+use Rattle.sn_local.specs.declared.local.LocalChange.TheVariants.{Heard}
+use Rattle.sn_plan.specs.declared.plan.Plan.{Plan}
+use Rattle.sn_plan.specs.declared.row.Row.{Row}
+use Rattle.sn_plan.specs.declared.row.Follow.{Follow}
+use Rattle.sn_plan.specs.declared.row.Follow.TheVariants.{Nothing, Delivery}
+use Rattle.sn_plan.specs.Drafts.{Drafted, nothing, sent, moved}
+use Rattle.sn_local.specs.Seen.{Seen}
+use Rattle.sn_plan.specs.Plans.{plan_of, plan_of_puts}
+use Rattle.sn_plan.specs.Bound.{heard_of}
+
+-- a row for the client c
+abbrev pub row_of : Follow → List ℕ → Drafted → Row
+row_of follow c d = record { client = Some c; draft = d; follow = follow }
+
+-- a row for nobody
+abbrev pub row_of_none : Drafted → Row
+row_of_none d = record { client = None; draft = d; follow = Nothing }
+
+-- and then the client that is bound so far, if there is one, was heard of at this moment
+abbrev pub heard_row : Option (List ℕ) → ℕ → Row → Row
+heard_row bound now row = record row { draft = heard_of bound now row.draft }
+
+abbrev pub plan_for : ℕ → Seen → Drafted → Option (List ℕ) → Option Plan
+plan_for g seen d None = plan_of_puts g seen d
+plan_for g seen d (Some c) = plan_of g c seen d
+
+-- the plan of a row at the gateway g, without what follows it
+abbrev pub plan_of_row : ℕ → Seen → Row → Option Plan
+plan_of_row g seen row = plan_for g seen row.draft row.client
+
+-- nothing is done
+abbrev pub quiet : Row
+quiet = row_of_none nothing
+
+-- from an address without binding every frame that asks for one is answered by DISCONNECT
+abbrev pub turned_away : Addr → Row
+turned_away a = row_of_none (sent a (frames.Disconnect None) nothing)
+
+-- a frame that nothing waits for: a bound client was heard of, another address is turned away
+abbrev pub stray : Addr → Option (List ℕ) → ℕ → Row
+stray a None now = turned_away a
+stray a (Some c) now = row_of Delivery c (moved (Heard c now) nothing)

@@ -1,0 +1,188 @@
+//! What a row of the step table says.
+
+ghost use Rattle.std.specs.Prelude.{◌≡◌, ◌≤◌, ◌++◌, [], map, OnOk, IfOk, IsTrue, ◌↔◌, Err};
+ghost use Rattle.sn_plan.specs.Names.{name_of};
+ghost use Rattle.sn_frame.specs.declared.frame.TheConstants.{MAX_FRAME};
+ghost use Rattle.sn_frame.specs.Bodies.{IsMessage};
+ghost use Rattle.sn_frame.specs.Grammar.{total_of};
+
+use octets::{NoMemory, Octets};
+use rep_ops::{ClientId, Put};
+use sn_frame::{Frame, encode};
+use sn_local::{Addr, LocalChange, Send};
+use sn_session::{Message, QosLevel, SessionOp};
+use sn_topic::TopicName;
+use std::alloc::{AllocError, Global};
+use std::marker::Model;
+use std::mem;
+
+/// A message for a client, before it has a sequence number.
+#[derive(Debug, Drop)]
+pub struct NewPut {
+    /// Whom it is for.
+    pub client: ClientId,
+    /// The name that it was published under.
+    pub topic: TopicName,
+    /// At which quality of service the client gets it: 0, 1 or 2.
+    pub qos: QosLevel,
+    /// What is published.
+    pub body: Message,
+}
+
+/// What a step does, before its operations have names. Contracts see the five lists (`Drafted`).
+#[derive(Debug, Drop)]
+pub struct Draft {
+    pub(crate) changes: Vec<SessionOp>,
+    pub(crate) acks: Vec<(u64, u8)>,
+    pub(crate) puts: Vec<NewPut>,
+    pub(crate) sends: Vec<Send>,
+    pub(crate) local: Vec<LocalChange>,
+}
+
+impl Model for Draft {
+    ghost use Rattle.sn_plan.specs.Drafts.{Drafted};
+
+    ghost Value = { Drafted };
+
+    ghost view = { λ d. record { changes = d.changes.items; acks = d.acks.items; puts = d.puts.items; sends = d.sends.items; local = d.local.items } };
+}
+
+impl Draft {
+    ghost use Rattle.sn_plan.specs.Drafts.{nothing, changed, changed_if, acked, acked_all, put_all, sent, moved};
+
+    /// A step that does nothing.
+    pub fn new(alloc: Global) -> Draft
+        ensures { result ≡ nothing }
+    {
+        Draft {
+            changes: Vec::new(alloc),
+            acks: Vec::new(alloc),
+            puts: Vec::new(alloc),
+            sends: Vec::new(alloc),
+            local: Vec::new(alloc),
+        }
+    }
+
+    /// A step that sends this frame and does nothing else.
+    pub fn reply(alloc: Global, to: Addr, frame: &Frame) -> Result<Draft, NoMemory>
+        requires message { IsMessage frame.now }
+        requires size { total_of frame.now ≤ MAX_FRAME }
+        ensures { IfOk result (λ draft. draft ≡ sent to frame.now nothing) }
+    {
+        let mut draft = Draft::new(alloc);
+        draft.send(alloc, to, frame)?;
+        Ok(draft)
+    }
+
+    /// The changes of the session so far.
+    pub fn changes(&self) -> &[SessionOp]
+        ensures { result.now ≡ self.now.changes }
+    {
+        self.changes.as_slice()
+    }
+
+    /// The puts that are acknowledged so far, by sequence number and origin.
+    pub fn acks(&self) -> &[(u64, u8)]
+        ensures { result.now ≡ self.now.acks }
+    {
+        self.acks.as_slice()
+    }
+
+    /// Whether the session stays as it is.
+    pub(crate) fn changes_nothing(&self) -> bool
+        ensures { IsTrue result ↔ (self.now.changes ≡ []) }
+    {
+        self.changes.is_empty()
+    }
+
+    /// The changes of the session, which the draft then has no more.
+    pub(crate) fn take_changes(&mut self, alloc: Global) -> Vec<SessionOp>
+        ensures taken { result.items ≡ self.old.changes }
+        ensures left { self.new ≡ record self.old { changes = [] } }
+    {
+        mem::replace(&mut self.changes, Vec::new(alloc))
+    }
+
+    /// And then this change of the session.
+    pub fn change(&mut self, change: SessionOp) -> Result<(), AllocError>
+        ensures { OnOk result (self.new ≡ changed change self.old) }
+    {
+        self.changes.push(change)?;
+        Ok(())
+    }
+
+    /// And then this change of the session, if there is one.
+    pub fn change_if(&mut self, change: Option<SessionOp>) -> Result<(), AllocError>
+        ensures { OnOk result (self.new ≡ changed_if change self.old) }
+    {
+        match change {
+            None => Ok(()),
+            Some(change) => self.change(change),
+        }
+    }
+
+    /// And then the acknowledgement of the client's put with this sequence number and origin.
+    pub fn ack(&mut self, seq: u64, origin: u8) -> Result<(), AllocError>
+        ensures { OnOk result (self.new ≡ acked (seq, origin) self.old) }
+    {
+        self.acks.push((seq, origin))?;
+        Ok(())
+    }
+
+    /// And then the acknowledgements of these puts.
+    pub fn ack_all(&mut self, puts: &[Put]) -> Result<(), AllocError>
+        ensures { OnOk result (self.new ≡ acked_all (map name_of puts.now) self.old) }
+    {
+        extend_names(&mut self.acks, puts)
+    }
+
+    /// And then these messages.
+    pub fn put_all(&mut self, puts: Vec<NewPut>) -> Result<(), AllocError>
+        ensures { OnOk result (self.new ≡ put_all puts.items self.old) }
+    {
+        extend_puts(&mut self.puts, puts)
+    }
+
+    /// And then this frame.
+    pub fn send(&mut self, alloc: Global, to: Addr, frame: &Frame) -> Result<(), NoMemory>
+        requires message { IsMessage frame.now }
+        requires size { total_of frame.now ≤ MAX_FRAME }
+        ensures { OnOk result (self.new ≡ sent to frame.now self.old) }
+    {
+        let mut bytes = Vec::new(alloc);
+        if encode(alloc, frame, &mut bytes).is_err() {
+            return Err(NoMemory);
+        }
+        let bytes = Octets::new(bytes)?;
+        self.sends.push(Send { to, bytes })?;
+        Ok(())
+    }
+
+    /// And then this change of the local state.
+    pub fn note(&mut self, change: LocalChange) -> Result<(), AllocError>
+        ensures { OnOk result (self.new ≡ moved change self.old) }
+    {
+        self.local.push(change)?;
+        Ok(())
+    }
+}
+
+/// Appends these messages.
+fn extend_puts(puts: &mut Vec<NewPut>, more: Vec<NewPut>) -> Result<(), AllocError>
+    ensures { OnOk result (puts.new.items ≡ puts.old.items ++ more.items) }
+{
+    for put in more {
+        puts.push(put)?;
+    }
+    Ok(())
+}
+
+/// Appends the names of these puts.
+fn extend_names(names: &mut Vec<(u64, u8)>, puts: &[Put]) -> Result<(), AllocError>
+    ensures { OnOk result (names.new.items ≡ names.old.items ++ map name_of puts.now) }
+{
+    for put in puts {
+        names.push((put.seq, put.origin))?;
+    }
+    Ok(())
+}

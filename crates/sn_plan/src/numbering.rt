@@ -1,0 +1,277 @@
+//! From a draft to operations under names of the gateway's own.
+
+ghost use Rattle.std.specs.Prelude.{◌≡◌, ℕ, ◌<◌, ◌∷◌, ◌++◌, [], Some, OnOk, IfOk, map};
+ghost use Rattle.rep_model.specs.Fresh.{one_more as next_number, next_seq};
+ghost use Rattle.sn_session.specs.Session.{applied};
+ghost use Rattle.sn_plan.specs.declared.numbering.TheConstants.{MAX_COUNTER};
+ghost use Rattle.sn_plan.specs.Numbering.{with_puts, ack_of};
+ghost use Rattle.sn_plan.specs.inner.Plans.{Becomes};
+
+use super::draft::NewPut;
+use octets::NoMemory;
+use rep_model::{ClientView, Replica};
+use rep_ops::{ClientId, Op, Put, Stamp};
+use sn_local::StepFault;
+use sn_session::{Session, SessionFault, SessionOp};
+use std::alloc::{AllocError, Global};
+use std::marker::Model;
+
+/// How many operations stand under one stamp.
+pub const MAX_COUNTER: u16 = 256;
+
+/// Where the client's next session operation is written, and what is written.
+#[derive(Drop)]
+pub struct Writer {
+    epoch: u64,
+    counter: u16,
+    next: Option<u64>,
+    session: Session,
+    ops: Vec<Op>,
+}
+
+impl Model for Writer {
+    ghost use Rattle.sn_plan.specs.Numbering.{Written};
+
+    ghost Value = { Written };
+
+    ghost view = { λ w. record { epoch = w.epoch; counter = w.counter; next = w.next; session = w.session; ops = w.ops.items } };
+}
+
+/// Changes the session. An operation that finds its table full leaves it as it was.
+pub fn apply(session: &mut Session, alloc: Global, change: &SessionOp) -> Result<(), NoMemory>
+    ensures { OnOk result (session.new ≡ applied session.old change.now) }
+{
+    match session.apply(alloc, change) {
+        Ok(()) | Err(SessionFault::Full) => Ok(()),
+        Err(SessionFault::Memory) => Err(NoMemory),
+    }
+}
+
+fn push(ops: &mut Vec<Op>, op: Op) -> Result<(), AllocError>
+    ensures { OnOk result (ops.new.items ≡ ops.old.items ++ op ∷ []) }
+{
+    ops.push(op)?;
+    Ok(())
+}
+
+/// One more, where it fits eight octets.
+fn one_more(n: u64) -> Option<u64>
+    ensures { result ≡ next_number n }
+{
+    n.checked_add(1)
+}
+
+impl Writer {
+    ghost use Rattle.sn_plan.specs.Numbering.{another, taken_at, taken, counted, write, written, start_of};
+    ghost use Rattle.rep_model.specs.Views.{unseen};
+
+    /// At the start of a step.
+    pub fn start(
+        alloc: Global,
+        gateway: u8,
+        view: &ClientView,
+        next: Option<u64>,
+    ) -> Result<Writer, NoMemory>
+        ensures { IfOk result (λ writer. writer ≡ start_of gateway view.now next) }
+    {
+        let session = match &view.session {
+            None => Session::empty(alloc),
+            Some(session) => session.copied(alloc)?,
+        };
+        let (epoch, counter) = match view.stamp {
+            None => (0, MAX_COUNTER),
+            Some(stamp) => (
+                stamp.epoch,
+                if stamp.gateway == gateway {
+                    view.prefix
+                } else {
+                    MAX_COUNTER
+                },
+            ),
+        };
+        Ok(Writer {
+            epoch,
+            counter,
+            next,
+            session,
+            ops: Vec::new(alloc),
+        })
+    }
+
+    /// At the start of a step for a client that no operation names.
+    pub fn start_unseen(alloc: Global, next: Option<u64>) -> Writer
+        ensures { (gateway : ℕ) → result ≡ start_of gateway unseen next }
+    {
+        Writer {
+            epoch: 0,
+            counter: MAX_COUNTER,
+            next,
+            session: Session::empty(alloc),
+            ops: Vec::new(alloc),
+        }
+    }
+
+    /// What is written.
+    pub fn into_ops(self) -> Vec<Op>
+        ensures { result.items ≡ self.ops }
+    {
+        self.ops
+    }
+
+    /// A change under the next counter.
+    fn another(
+        &mut self,
+        alloc: Global,
+        gateway: u8,
+        client: &ClientId,
+        change: SessionOp,
+    ) -> Result<(), StepFault>
+        requires { self.old.counter < MAX_COUNTER }
+        ensures { Becomes result self.new (Some (another client.now gateway change self.old)) }
+    {
+        apply(&mut self.session, alloc, &change)?;
+        let op = Op::Session {
+            client: client.copied(alloc)?,
+            stamp: Stamp {
+                epoch: self.epoch,
+                gateway,
+            },
+            counter: self.counter as u8,
+            change,
+        };
+        push(&mut self.ops, op)?;
+        self.counter += 1;
+        Ok(())
+    }
+
+    /// A Take of this session, under the next epoch.
+    fn take(
+        &mut self,
+        alloc: Global,
+        gateway: u8,
+        client: &ClientId,
+        session: Session,
+    ) -> Result<(), StepFault>
+        ensures { Becomes result self.new (taken client.now gateway session self.old) }
+    {
+        let Some(epoch) = self.next else {
+            return Err(StepFault::Exhausted);
+        };
+        self.session = session.copied(alloc)?;
+        let op = Op::Session {
+            client: client.copied(alloc)?,
+            stamp: Stamp { epoch, gateway },
+            counter: 0,
+            change: SessionOp::Take(session),
+        };
+        push(&mut self.ops, op)?;
+        self.epoch = epoch;
+        self.counter = 1;
+        self.next = one_more(epoch);
+        Ok(())
+    }
+
+    /// A change that is no Take; where 256 operations stand under the stamp, a Take of the session so
+    /// far goes first.
+    fn counted(
+        &mut self,
+        alloc: Global,
+        gateway: u8,
+        client: &ClientId,
+        change: SessionOp,
+    ) -> Result<(), StepFault>
+        ensures { Becomes result self.new (counted client.now gateway change self.old) }
+    {
+        if self.counter >= MAX_COUNTER {
+            let session = self.session.copied(alloc)?;
+            self.take(alloc, gateway, client, session)?;
+        }
+        self.another(alloc, gateway, client, change)
+    }
+
+    /// One session operation more.
+    #[tactic(auto, unfolding(crate::specs::Numbering::write))]
+    pub fn write(
+        &mut self,
+        alloc: Global,
+        gateway: u8,
+        client: &ClientId,
+        change: SessionOp,
+    ) -> Result<(), StepFault>
+        ensures { Becomes result self.new (write client.now gateway change self.old) }
+    {
+        match change {
+            SessionOp::Take(session) => self.take(alloc, gateway, client, session),
+            change => self.counted(alloc, gateway, client, change),
+        }
+    }
+
+    /// And so on with each change.
+    pub fn write_all(
+        &mut self,
+        alloc: Global,
+        gateway: u8,
+        client: &ClientId,
+        changes: Vec<SessionOp>,
+    ) -> Result<(), StepFault>
+        ensures { Becomes result self.new (written client.now gateway changes.items self.old) }
+    {
+        for change in changes {
+            self.write(alloc, gateway, client, change)?;
+        }
+        Ok(())
+    }
+}
+
+/// Appends the messages, each under the next sequence number of its client.
+pub fn number_puts<R: Replica>(
+    gateway: u8,
+    replica: &R,
+    puts: Vec<NewPut>,
+    ops: &mut Vec<Op>,
+) -> Result<(), StepFault>
+    ensures { Becomes result ops.new.items (with_puts gateway
+        (λ e. next_seq e gateway (R.kept replica.now)) puts.items ops.old.items) }
+{
+    for new in puts {
+        let NewPut {
+            client,
+            topic,
+            qos,
+            body,
+        } = new;
+        let Some(seq) = replica.next_seq(&client, gateway) else {
+            return Err(StepFault::Exhausted);
+        };
+        let put = Put {
+            origin: gateway,
+            seq,
+            topic,
+            qos,
+            body,
+        };
+        push(ops, Op::Put { client, put })?;
+    }
+    Ok(())
+}
+
+/// Appends the acknowledgements of these puts of the client.
+pub fn append_acks(
+    alloc: Global,
+    client: &ClientId,
+    acks: &[(u64, u8)],
+    ops: &mut Vec<Op>,
+) -> Result<(), NoMemory>
+    ensures { OnOk result (ops.new.items ≡ ops.old.items ++ map (ack_of client.now) acks.now) }
+{
+    for (seq, origin) in acks {
+        let ack = Op::Ack {
+            client: client.copied(alloc)?,
+            origin: *origin,
+            first: *seq,
+            last: *seq,
+        };
+        push(ops, ack)?;
+    }
+    Ok(())
+}

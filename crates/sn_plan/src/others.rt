@@ -1,0 +1,82 @@
+//! Frames that no other row is for, and which clients are there.
+
+ghost use Rattle.std.specs.Prelude.{◌≡◌, IfOk};
+ghost use Rattle.sn_plan.specs.Others.{searched as searched_row, other as other_row, is_up as is_up_at, can_wake as can_wake_at};
+ghost use Rattle.rep_model.specs.Views.{view};
+
+use super::draft::Draft;
+use super::row::{Row, quiet, stray};
+use octets::{NoMemory, Octets};
+use rep_model::Replica;
+use rep_ops::ClientId;
+use sn_frame::Frame;
+use sn_local::{Addr, Config, Dialogs};
+use sn_session::Presence;
+use std::alloc::Global;
+
+/// A SEARCHGW.
+fn searched(alloc: Global, config: &Config, to: Addr) -> Result<Row, NoMemory>
+    ensures { IfOk result (λ row. row ≡ searched_row config.now.gateway to) }
+{
+    let address = Octets::new(Vec::new(alloc))?;
+    let answer = Frame::GwInfo {
+        gateway: config.gateway,
+        address,
+    };
+    let draft = Draft::reply(alloc, to, &answer)?;
+    Ok(Row::of_none(draft))
+}
+
+/// SEARCHGW, the frames that only go from a gateway to a client or between others, and every frame that no
+/// other call is for.
+pub fn other(
+    alloc: Global,
+    config: &Config,
+    dialogs: &Dialogs,
+    from: Addr,
+    frame: &Frame,
+    now: u64,
+) -> Result<Row, NoMemory>
+    ensures { IfOk result (λ row. row ≡ other_row config.now.gateway dialogs.now.local from
+        frame.now now) }
+{
+    match frame {
+        Frame::SearchGw { .. } => searched(alloc, config, from),
+        Frame::Advertise { .. } => Ok(quiet(alloc)),
+        Frame::GwInfo { .. } => Ok(quiet(alloc)),
+        Frame::ConnAck { .. } => Ok(quiet(alloc)),
+        Frame::WillTopicReq => Ok(quiet(alloc)),
+        Frame::WillMsgReq => Ok(quiet(alloc)),
+        Frame::SubAck { .. } => Ok(quiet(alloc)),
+        Frame::UnsubAck { .. } => Ok(quiet(alloc)),
+        Frame::WillTopicResp { .. } => Ok(quiet(alloc)),
+        Frame::WillMsgResp { .. } => Ok(quiet(alloc)),
+        _ => stray(alloc, from, dialogs.client_at(from), now),
+    }
+}
+
+/// Whether a client is there: Active, Asleep or Awake.
+pub fn is_up(presence: Presence) -> bool
+    ensures { result ≡ is_up_at presence }
+{
+    match presence {
+        Presence::Active => true,
+        Presence::Asleep => true,
+        Presence::Awake => true,
+        Presence::Disconnected => false,
+        Presence::Lost => false,
+    }
+}
+
+/// Whether the client is there, so that a PINGREQ wakes it.
+pub fn can_wake<R: Replica>(replica: &R, client: &ClientId) -> bool
+    ensures { result ≡ can_wake_at (view client.now (R.kept replica.now)).session }
+{
+    match replica.view_of(client) {
+        Some(view) => match &view.session {
+            Some(session) => is_up(session.presence),
+            None => false,
+        },
+        None => false,
+    }
+}

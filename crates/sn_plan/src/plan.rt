@@ -1,0 +1,137 @@
+//! The plan of a step.
+
+ghost use Rattle.std.specs.Prelude.{◌≡◌, ◌++◌, map, IfOk};
+ghost use Rattle.std.specs.Option.{option_map};
+ghost use Rattle.rep_model.specs.Views.{view};
+ghost use Rattle.rep_model.specs.Fresh.{next_epoch, next_seq};
+ghost use Rattle.sn_plan.specs.Numbering.{start_of, with_puts, ack_of, plan_with};
+ghost use Rattle.sn_local.specs.Seen.{seen_of};
+ghost use Rattle.sn_plan.specs.Plans.{Gives, plan_of as defined_plan, plan_without as defined_without, plan_of_puts as plan_of_messages};
+
+use super::draft::Draft;
+use super::numbering::{Writer, append_acks, number_puts};
+use octets::{NoMemory, Sequence};
+use rep_model::Replica;
+use rep_ops::{ClientId, Op};
+use sn_local::{LocalChange, Send, StepFault};
+use std::alloc::Global;
+
+/// What a step does. Nothing of it is done yet.
+#[derive(Debug, Drop)]
+pub struct Plan {
+    /// The operations, under names that no operation has had.
+    pub ops: Sequence<Op>,
+    /// The datagrams, in their order.
+    pub sends: Sequence<Send>,
+    /// The changes of the local state, in their order.
+    pub local: Sequence<LocalChange>,
+}
+
+/// The writer of a client's session operations, at the start of a step.
+fn writer_of<R: Replica>(
+    alloc: Global,
+    gateway: u8,
+    replica: &R,
+    client: &ClientId,
+) -> Result<Writer, NoMemory>
+    ensures { IfOk result (λ writer. writer ≡ start_of gateway
+        (view client.now (R.kept replica.now)) (next_epoch client.now (R.kept replica.now))) }
+{
+    let next = replica.next_epoch(client);
+    match replica.view_of(client) {
+        Some(view) => Writer::start(alloc, gateway, view, next),
+        None => Ok(Writer::start_unseen(alloc, next)),
+    }
+}
+
+/// The plan once the session operations are written.
+fn rest_of<R: Replica>(
+    alloc: Global,
+    gateway: u8,
+    replica: &R,
+    client: &ClientId,
+    mut ops: Vec<Op>,
+    draft: Draft,
+) -> Result<Plan, StepFault>
+    ensures { Gives result (option_map (plan_with draft)
+        (with_puts gateway (λ e. next_seq e gateway (R.kept replica.now)) draft.puts
+        (ops.items ++ map (ack_of client.now) draft.acks))) }
+{
+    let Draft {
+        changes: _,
+        acks,
+        puts,
+        sends,
+        local,
+    } = draft;
+    append_acks(alloc, client, acks.as_slice(), &mut ops)?;
+    number_puts(gateway, replica, puts, &mut ops)?;
+    Ok(Plan {
+        ops: Sequence::new(ops),
+        sends: Sequence::new(sends),
+        local: Sequence::new(local),
+    })
+}
+
+/// The plan of a draft for a client. Where the session does not change it is not copied.
+#[tactic(auto, unfolding(crate::specs::Numbering::planned))]
+pub fn plan_of<R: Replica>(
+    alloc: Global,
+    gateway: u8,
+    replica: &R,
+    client: &ClientId,
+    mut draft: Draft,
+) -> Result<Plan, StepFault>
+    ensures { Gives result (defined_plan gateway client.now (seen_of (R.kept replica.now)) draft) }
+{
+    if draft.changes_nothing() {
+        return rest_of(alloc, gateway, replica, client, Vec::new(alloc), draft);
+    }
+    let mut writer = writer_of(alloc, gateway, replica, client)?;
+    let changes = draft.take_changes(alloc);
+    writer.write_all(alloc, gateway, client, changes)?;
+    rest_of(alloc, gateway, replica, client, writer.into_ops(), draft)
+}
+
+/// The plan of a draft without changes and acknowledgements: of messages, frames and local changes.
+pub fn plan_of_puts<R: Replica>(
+    alloc: Global,
+    gateway: u8,
+    replica: &R,
+    draft: Draft,
+) -> Result<Plan, StepFault>
+    ensures { Gives result (plan_of_messages gateway (seen_of (R.kept replica.now)) draft) }
+{
+    let Draft {
+        changes: _,
+        acks: _,
+        puts,
+        sends,
+        local,
+    } = draft;
+    let mut ops = Vec::new(alloc);
+    number_puts(gateway, replica, puts, &mut ops)?;
+    Ok(Plan {
+        ops: Sequence::new(ops),
+        sends: Sequence::new(sends),
+        local: Sequence::new(local),
+    })
+}
+
+/// The plan of a draft without changes, acknowledgements and puts.
+pub fn plan_without(alloc: Global, draft: Draft) -> Plan
+    ensures { result ≡ defined_without draft }
+{
+    let Draft {
+        changes: _,
+        acks: _,
+        puts: _,
+        sends,
+        local,
+    } = draft;
+    Plan {
+        ops: Sequence::empty(alloc),
+        sends: Sequence::new(sends),
+        local: Sequence::new(local),
+    }
+}

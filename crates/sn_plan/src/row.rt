@@ -1,0 +1,133 @@
+//! A row of the step table: its client, its draft, and what follows it.
+
+ghost use Rattle.std.specs.Prelude.{◌≡◌, IfOk};
+ghost use Rattle.std.specs.Option.{option_copied};
+ghost use Rattle.sn_local.specs.Seen.{seen_of};
+ghost use Rattle.sn_plan.specs.Plans.{Gives};
+ghost use Rattle.sn_plan.specs.Rows.{heard_row as row_heard, plan_of_row as plan_with_row, quiet as nothing_done, turned_away, stray as stray_row};
+
+use super::bound::hear_of;
+use super::draft::Draft;
+use super::plan::{Plan, plan_of, plan_of_puts};
+use octets::NoMemory;
+use rep_model::Replica;
+use rep_ops::ClientId;
+use sn_frame::Frame;
+use sn_local::{Addr, StepFault};
+use std::alloc::Global;
+
+/// What follows a row.
+#[derive(Debug, Drop)]
+pub enum Follow {
+    /// Nothing.
+    Nothing,
+    /// The client is sent the messages that wait for it (MQTT-SN 1.2 sections 6.6, 6.10 and 6.14).
+    Delivery,
+    /// The frame of the client's open exchange is sent again (section 6.13); without one, as `Delivery`.
+    Resend,
+}
+
+/// What a frame does, before its operations have names.
+#[derive(Debug, Drop)]
+pub struct Row {
+    /// Whose session changes, and who is served by what follows. Where it is nobody the draft has messages, frames and local
+    /// changes alone.
+    pub client: Option<ClientId>,
+    /// What is done.
+    pub draft: Draft,
+    /// What follows.
+    pub follow: Follow,
+}
+
+impl Row {
+    ghost use Rattle.sn_plan.specs.Rows.{row_of, row_of_none};
+
+    /// A row for a client.
+    pub fn new(
+        alloc: Global,
+        follow: Follow,
+        client: &ClientId,
+        draft: Draft,
+    ) -> Result<Row, NoMemory>
+        ensures { IfOk result (λ row. row ≡ row_of follow client.now draft) }
+    {
+        Ok(Row {
+            client: Some(client.copied(alloc)?),
+            draft,
+            follow,
+        })
+    }
+
+    /// A row for nobody.
+    pub fn of_none(draft: Draft) -> Row
+        ensures { result ≡ row_of_none draft }
+    {
+        Row {
+            client: None,
+            draft,
+            follow: Follow::Nothing,
+        }
+    }
+}
+
+/// The row of a frame from an address that may be bound: its client was heard of.
+pub fn heard_row(
+    alloc: Global,
+    bound: Option<&ClientId>,
+    now: u64,
+    mut row: Row,
+) -> Result<Row, NoMemory>
+    ensures { IfOk result (λ heard. heard ≡ row_heard (option_copied bound.entry) now row) }
+{
+    hear_of(alloc, &mut row.draft, bound, now)?;
+    Ok(row)
+}
+
+/// The plan of a row, without what follows it.
+pub fn plan_of_row<R: Replica>(
+    alloc: Global,
+    gateway: u8,
+    replica: &R,
+    row: Row,
+) -> Result<Plan, StepFault>
+    ensures { Gives result (plan_with_row gateway (seen_of (R.kept replica.now)) row) }
+{
+    let Row {
+        client,
+        draft,
+        follow: _,
+    } = row;
+    match client {
+        None => plan_of_puts(alloc, gateway, replica, draft),
+        Some(client) => plan_of(alloc, gateway, replica, &client, draft),
+    }
+}
+
+/// Nothing is done.
+pub fn quiet(alloc: Global) -> Row
+    ensures { result ≡ nothing_done }
+{
+    Row::of_none(Draft::new(alloc))
+}
+
+/// A frame that asks for a binding, from an address that has none.
+pub fn turn_away(alloc: Global, to: Addr) -> Result<Row, NoMemory>
+    ensures { IfOk result (λ row. row ≡ turned_away to) }
+{
+    let draft = Draft::reply(alloc, to, &Frame::Disconnect { duration: None })?;
+    Ok(Row::of_none(draft))
+}
+
+/// A frame that nothing waits for: a bound client was heard of, another address is turned away.
+pub fn stray(alloc: Global, from: Addr, bound: Option<&ClientId>, now: u64) -> Result<Row, NoMemory>
+    ensures { IfOk result (λ row. row ≡ stray_row from (option_copied bound.entry) now) }
+{
+    match bound {
+        None => turn_away(alloc, from),
+        Some(client) => {
+            let mut draft = Draft::new(alloc);
+            hear_of(alloc, &mut draft, Some(client), now)?;
+            Row::new(alloc, Follow::Delivery, client, draft)
+        }
+    }
+}

@@ -1,0 +1,2 @@
+pub mod Publishing
+pub mod Recipients

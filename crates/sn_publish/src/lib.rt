@@ -1,0 +1,14 @@
+//! A publication comes in, and who gets it (MQTT-SN 1.2 section 6.6).
+//!
+//! - `meaning`: which topic it has.
+//! - `recipients`: for whom it is put.
+//! - `publishing`: its row, as a draft.
+#![tactic(auto)]
+
+mod meaning;
+mod publishing;
+mod recipients;
+
+pub use meaning::{Meant, topic_meant};
+pub use publishing::{publish, publish_unconnected, pubrel};
+pub use recipients::{MAX_PENDING, puts_for, puts_of_will};

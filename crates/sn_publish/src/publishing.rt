@@ -1,0 +1,261 @@
+//! PUBLISH and PUBREL from a client (MQTT-SN 1.2 sections 6.6, 6.8 and 6.10).
+
+ghost use Rattle.std.specs.Prelude.{◌≡◌, IfOk, OnOk};
+ghost use Rattle.sn_local.specs.Seen.{seen_of};
+ghost use Rattle.sn_plan.specs.Drafts.{nothing, put_all, sent};
+ghost use Rattle.sn_frame.specs.declared.frame.Frame.TheVariants.{PubAck, PubRec};
+ghost use Rattle.sn_publish.specs.Recipients.{puts_for as puts_for_all};
+ghost use Rattle.sn_publish.specs.Publishing.{spread as spread_draft, spread_once as spread_once_draft, spread_twice as spread_twice_draft, publish_at as publish_draft_at, publish_meant as publish_draft_meant, within_limit as meant_within, publish as publish_draft, spread_meant as spread_draft_meant, publish_unconnected as unconnected_draft, release as release_change, pubrel as pubrel_draft};
+
+use super::meaning::{Meant, topic_meant};
+use super::recipients::puts_for;
+use octets::{NoMemory, Octets};
+use rep_model::Replica;
+use sn_frame::{Flags, Frame, Qos};
+use sn_local::Addr;
+use sn_plan::Draft;
+use sn_session::{Message, QosLevel, Session, SessionOp};
+use sn_topic::{Predefined, TopicName};
+use std::alloc::Global;
+
+/// The messages of a publication, as a draft.
+fn puts_draft<R: Replica>(
+    alloc: Global,
+    replica: &R,
+    name: &TopicName,
+    qos: QosLevel,
+    body: &Message,
+) -> Result<Draft, NoMemory>
+    ensures { IfOk result (λ draft. draft ≡ put_all (puts_for_all (seen_of (R.kept replica.now))
+        name.now qos body.now) nothing) }
+{
+    let puts = puts_for(alloc, replica, name, qos, body)?;
+    let mut draft = Draft::new(alloc);
+    draft.put_all(puts)?;
+    Ok(draft)
+}
+
+/// At most once: the recipients get it.
+fn spread<R: Replica>(
+    alloc: Global,
+    replica: &R,
+    name: &TopicName,
+    body: &Message,
+) -> Result<Draft, NoMemory>
+    ensures { IfOk result (λ draft. draft ≡ spread_draft (seen_of (R.kept replica.now))
+        name.now body.now) }
+{
+    puts_draft(alloc, replica, name, QosLevel::zero(), body)
+}
+
+/// A PUBACK with this code.
+fn puback(alloc: Global, to: Addr, topic_id: u16, msg_id: u16, code: u8) -> Result<Draft, NoMemory>
+    ensures { IfOk result (λ draft. draft ≡ sent to (PubAck topic_id msg_id code) nothing) }
+{
+    let answer = Frame::PubAck {
+        topic_id,
+        msg_id,
+        code,
+    };
+    Draft::reply(alloc, to, &answer)
+}
+
+/// And then a PUBREC.
+fn pubrec(alloc: Global, to: Addr, msg_id: u16, draft: &mut Draft) -> Result<(), NoMemory>
+    ensures { OnOk result (draft.new ≡ sent to (PubRec msg_id) draft.old) }
+{
+    match draft.send(alloc, to, &Frame::PubRec { msg_id }) {
+        Ok(()) => Ok(()),
+        Err(_) => Err(NoMemory),
+    }
+}
+
+/// At least once: the recipients get it, and PUBACK says so.
+fn spread_once<R: Replica>(
+    alloc: Global,
+    replica: &R,
+    to: Addr,
+    topic_id: u16,
+    msg_id: u16,
+    body: &Message,
+    name: &TopicName,
+) -> Result<Draft, NoMemory>
+    ensures { IfOk result (λ draft. draft ≡ spread_once_draft (seen_of (R.kept replica.now)) to
+        topic_id msg_id body.now name.now) }
+{
+    let mut draft = puts_draft(alloc, replica, name, QosLevel::one(), body)?;
+    let answer = Frame::PubAck {
+        topic_id,
+        msg_id,
+        code: 0,
+    };
+    match draft.send(alloc, to, &answer) {
+        Ok(()) => Ok(draft),
+        Err(_) => Err(NoMemory),
+    }
+}
+
+/// Exactly once: the recipients get it, where they have not got it under this message id, and PUBREC says so.
+fn spread_twice<R: Replica>(
+    alloc: Global,
+    replica: &R,
+    to: Addr,
+    session: &Session,
+    topic_id: u16,
+    msg_id: u16,
+    body: &Message,
+    name: &TopicName,
+) -> Result<Draft, NoMemory>
+    ensures { IfOk result (λ draft. draft ≡ spread_twice_draft (seen_of (R.kept replica.now)) to
+        session.now topic_id msg_id body.now name.now) }
+{
+    if session.is_received(msg_id) {
+        return Draft::reply(alloc, to, &Frame::PubRec { msg_id });
+    }
+    if session.received.has_no_room(msg_id) {
+        return puback(alloc, to, topic_id, msg_id, 1);
+    }
+    let mut draft = puts_draft(alloc, replica, name, QosLevel::two(), body)?;
+    draft.change(SessionOp::Received { id: msg_id })?;
+    pubrec(alloc, to, msg_id, &mut draft)?;
+    Ok(draft)
+}
+
+/// A publication at this quality of service.
+fn publish_at<R: Replica>(
+    alloc: Global,
+    replica: &R,
+    to: Addr,
+    session: &Session,
+    topic_id: u16,
+    msg_id: u16,
+    body: &Message,
+    name: &TopicName,
+    qos: Qos,
+) -> Result<Draft, NoMemory>
+    ensures { IfOk result (λ draft. draft ≡ publish_draft_at (seen_of (R.kept replica.now)) to
+        session.now topic_id msg_id body.now name.now qos) }
+{
+    match qos {
+        Qos::Zero => spread(alloc, replica, name, body),
+        Qos::One => spread_once(alloc, replica, to, topic_id, msg_id, body, name),
+        Qos::Two => spread_twice(alloc, replica, to, session, topic_id, msg_id, body, name),
+        Qos::MinusOne => spread(alloc, replica, name, body),
+    }
+}
+
+/// A publication on what its topic field is about. A message of more than 4,096 octets is refused.
+fn publish_meant<R: Replica>(
+    alloc: Global,
+    replica: &R,
+    to: Addr,
+    session: &Session,
+    topic_id: u16,
+    msg_id: u16,
+    body: &Octets,
+    qos: Qos,
+    meant: Meant,
+) -> Result<Draft, NoMemory>
+    ensures { IfOk result (λ draft. draft ≡ publish_draft_meant (seen_of (R.kept replica.now)) to
+        session.now topic_id msg_id body.now qos (meant_within body.now meant)) }
+{
+    match meant {
+        Meant::Refused(code) => puback(alloc, to, topic_id, msg_id, code),
+        Meant::Topic(name) => match Message::new(body.copied(alloc)?) {
+            None => puback(alloc, to, topic_id, msg_id, 3),
+            Some(body) => publish_at(
+                alloc, replica, to, session, topic_id, msg_id, &body, &name, qos,
+            ),
+        },
+    }
+}
+
+/// PUBLISH of a connected client: the recipients get a message, and the client an answer at the quality of service that it
+/// asks for, or a refusal by PUBACK.
+pub fn publish<R: Replica>(
+    alloc: Global,
+    predefined: &Predefined,
+    replica: &R,
+    to: Addr,
+    session: &Session,
+    flags: Flags,
+    topic: u16,
+    msg_id: u16,
+    body: &Octets,
+) -> Result<Draft, NoMemory>
+    ensures { IfOk result (λ draft. draft ≡ publish_draft predefined.now
+        (seen_of (R.kept replica.now)) to session.now flags.bits topic msg_id body.now) }
+{
+    let meant = topic_meant(alloc, predefined, session, flags.kind(), topic)?;
+    publish_meant(
+        alloc,
+        replica,
+        to,
+        session,
+        topic,
+        msg_id,
+        body,
+        flags.qos(),
+        meant,
+    )
+}
+
+/// A publication without a connection, on what its topic field is about. A message of more than 4,096 octets is for nobody.
+fn spread_meant<R: Replica>(
+    alloc: Global,
+    replica: &R,
+    body: &Octets,
+    meant: Meant,
+) -> Result<Draft, NoMemory>
+    ensures { IfOk result (λ draft. draft ≡ spread_draft_meant (seen_of (R.kept replica.now))
+        body.now (meant_within body.now meant)) }
+{
+    match meant {
+        Meant::Refused(_) => Ok(Draft::new(alloc)),
+        Meant::Topic(name) => match Message::new(body.copied(alloc)?) {
+            None => Ok(Draft::new(alloc)),
+            Some(body) => spread(alloc, replica, &name, &body),
+        },
+    }
+}
+
+/// PUBLISH without a connection, by a predefined id or a short name. The recipients get it at most once, and nothing is
+/// answered.
+pub fn publish_unconnected<R: Replica>(
+    alloc: Global,
+    predefined: &Predefined,
+    replica: &R,
+    flags: Flags,
+    topic: u16,
+    body: &Octets,
+) -> Result<Draft, NoMemory>
+    ensures { IfOk result (λ draft. draft ≡ unconnected_draft predefined.now
+        (seen_of (R.kept replica.now)) flags.bits topic body.now) }
+{
+    let session = Session::empty(alloc);
+    let meant = topic_meant(alloc, predefined, &session, flags.kind(), topic)?;
+    spread_meant(alloc, replica, body, meant)
+}
+
+/// The change of the session, where the message id was received.
+fn release(session: &Session, msg_id: u16) -> Option<SessionOp>
+    ensures { result ≡ release_change session.now msg_id }
+{
+    if session.is_received(msg_id) {
+        Some(SessionOp::Released { id: msg_id })
+    } else {
+        None
+    }
+}
+
+/// PUBREL: the client will not send the message of this id again. PUBCOMP is always the answer.
+pub fn pubrel(alloc: Global, to: Addr, session: &Session, msg_id: u16) -> Result<Draft, NoMemory>
+    ensures { IfOk result (λ draft. draft ≡ pubrel_draft to session.now msg_id) }
+{
+    let mut draft = Draft::new(alloc);
+    draft.change_if(release(session, msg_id))?;
+    match draft.send(alloc, to, &Frame::PubComp { msg_id }) {
+        Ok(()) => Ok(draft),
+        Err(_) => Err(NoMemory),
+    }
+}
