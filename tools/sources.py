@@ -38,7 +38,8 @@ class Item:
 # ---- words of a text
 
 def tokens_of(text):
-    """Its words and brackets. `λ x. e` is read as `(x : ) e`, and `{x = y}` in a pattern as `{y}`."""
+    """Its words and brackets. `λ x. e` is read as `(x : ) e`, `{x = y}` in a pattern as `{y}`, and a member that is quoted from an `impl` as nothing."""
+    text = re.sub(r"⟦<.*?>⟧(\.\w+)*", " ", text)
     text = re.sub(r"(^|\s)--\s.*", "", text, flags=re.M)
     text = re.sub(r"\{\w+ = (\w+)\}", r"{\1}", text)
     text = re.sub(r"λ\s*([^().{}λ]*?)\s*(?:\.(?=\s)|(?=[({]))", lambda found: f"({found[1]} : )" if found[1] else " ", text)

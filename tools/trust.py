@@ -65,11 +65,11 @@ PARTS = [
      "All of this is said of an honest disk, one that does what the clauses of `Disk` say: that a real one is honest is a premise. "
      "The disk in memory calls itself honest, and so the prover holds it to them. The law of what a gateway made speaks of every image "
      "that stands for the gateway's set; that what a crash leaves is such an image is said by `run`, in part 3.",
-     ["jr_journal::Disk", "jr_journal::MemoryDisk", "jr_journal::memory_disk_is_honest", "jr_journal::Journal::open",
+     ["jr_disk::Disk", "jr_disk::MemoryDisk", "jr_disk::memory_disk_is_honest", "jr_journal::Journal::open",
       "jr_journal::Journal::append", "jr_journal::Journal::compact", "jr_journal::Journal::reopen", "rep_model::base_laws",
       "gw_node::Node::open", "gw_node::opening_laws", "gw_node::Node::frame", "gw_node::Node::take", "gw_node::Node::tick",
       "gw_node::Node::compact", "gw_node::Node::reopen", "field_laws::stored"],
-     ["jr_journal/journal/Journal", "jr_journal/memory/MemoryDisk", "jr_journal/memory/impl Model for MemoryDisk",
+     ["jr_journal/journal/Journal", "jr_disk/memory/MemoryDisk", "jr_disk/memory/impl Model for MemoryDisk",
       "jr_journal/fault/JournalFault", "gw_node/Standing/Stands", "gw_node/Standing/Lasts", "gw_node/Drives/opened", "gw_node/Drives/new_drive",
       "gw_node/Drives/with_record", "gw_node/Drives/compacted", "gw_node/Drives/left_by", "gw_world/Steps/records_left",
       "gw_node/Taking/StandsFor", "rep_model/Roomy/IsRoomy"]),

@@ -10,13 +10,13 @@ use Rattle.rep_model.specs.Keep.{keep, CountsAs}
 use Rattle.rep_model.proofs.Joins.{counts-more, within-left, same_sym, same_trans}
 use Rattle.rep_model.proofs.Readers.{operation_at_both, put_at_both, is_acknowledged_both}
 use Rattle.rep_model.proofs.Thin.{same_kept, thin-same}
-use Rattle.jr_journal.specs.Disk.{Image}
+use Rattle.jr_disk.specs.Disk.{Image}
 use Rattle.jr_journal.specs.Records.{records}
 use Rattle.sn_local.specs.declared.config.Config.{Config}
-use Rattle.gw_node.specs.declared.out.Out.{Out}
-use Rattle.gw_node.specs.declared.refusal.Refusal.{Refusal}
+use Rattle.gw_answer.specs.declared.out.Out.{Out}
+use Rattle.gw_answer.specs.declared.refusal.Refusal.{Refusal}
 use Rattle.gw_node.specs.Occasions.{Occasion, Datagram, Clock}
-use Rattle.gw_node.specs.Parts.{said}
+use Rattle.gw_answer.specs.Answers.{said}
 use Rattle.gw_node.specs.Taking.{ops_of, IsWhole, StandsFor}
 use Rattle.gw_node.proofs.Between.{within-trans}
 use Rattle.gw_node.proofs.Taken.{as_taken}

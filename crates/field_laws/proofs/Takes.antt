@@ -21,7 +21,7 @@ use Rattle.gw_world.specs.Field.{Field, new_field, failing, After, Run}
 use Rattle.gw_node.specs.Keeping.{Keeps}
 use Rattle.field_laws.specs.Takes.{IsTakeAtZero}
 use Rattle.gw_node.specs.Occasions.{Datagram, Clock}
-use Rattle.gw_node.specs.Parts.{said}
+use Rattle.gw_answer.specs.Answers.{said}
 use Rattle.gw_world.specs.declared.event.Event.TheVariants.{Frame, Tick, Take, Answer as Asks, WriteFails, Compact, Restart, Show}
 use Rattle.gw_world.specs.declared.event.Answer.TheVariants.{Node, Views, Records, Nothing}
 use Rattle.gw_world.specs.Steps.{restarted}

@@ -13,4 +13,5 @@ AreNumbered configs = AllByRecursion (λ (config : Config). 1 ≤ config.gateway
 
 -- the delta of the operations has more octets than a delta may have
 abbrev pub IsTooLong : Plan → Type 0
-IsTooLong plan = (delta : List Op) × IsDeltaOf plan.ops delta × (max_octets < length (spelling delta))
+IsTooLong plan =
+    (delta : List Op) × IsDeltaOf plan.ops delta × (max_octets < length (spelling delta))

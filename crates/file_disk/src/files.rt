@@ -4,7 +4,7 @@ ghost use Rattle.std.specs.Prelude.{◌≡◌, ◌+◌, ◌≤◌, IfOk};
 
 use super::names::{FileDiskFault, open_slot, sync_folder};
 use super::transfer::{read_whole, write_front};
-use jr_journal::{Disk, DiskFault, Failures, Short, Slot};
+use jr_disk::{Disk, DiskFault, Failures, Short, Slot};
 use std::alloc::Global;
 use std::fs::{File, Files};
 

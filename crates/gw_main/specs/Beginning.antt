@@ -3,14 +3,19 @@ use Rattle.std.specs.Prelude.{ℕ}
 use Rattle.sn_local.specs.declared.config.Config.{Config}
 use Rattle.jr_journal.specs.declared.fault.JournalFault.{JournalFault}
 use Rattle.jr_journal.specs.declared.fault.JournalFault.TheVariants as journal
-use Rattle.gw_node.specs.declared.refusal.Refusal.{Refusal}
-use Rattle.gw_node.specs.declared.refusal.Refusal.TheVariants as refusals
+use Rattle.gw_answer.specs.declared.refusal.Refusal.{Refusal}
+use Rattle.gw_answer.specs.declared.refusal.Refusal.TheVariants as refusals
 use Rattle.gw_main.specs.declared.options.Settings.{Settings}
 
 -- number, interval, field and predefined topic ids of the settings
 abbrev pub config_of : Settings → Config
 config_of settings =
-    record { gateway = settings.gateway; advertise = settings.advertise; field = settings.field.items; predefined = settings.predefined }
+    record {
+      gateway = settings.gateway;
+      advertise = settings.advertise;
+      field = settings.field.items;
+      predefined = settings.predefined;
+    }
 
 abbrev pub journal_number : JournalFault → ℕ
 journal_number journal.Disk = 1

@@ -9,7 +9,8 @@ value_of (digit ∷ rest) = (digit - 48) * 10 ^ length rest + value_of rest
 
 -- the same as a test
 abbrev pub is_number : ℕ → List ℕ → Bool
-is_number bits text = nat_lt 0 (length text) && all_ascii_digits text && nat_lt (value_of text) (2 ^ bits)
+is_number bits text =
+    nat_lt 0 (length text) && all_ascii_digits text && nat_lt (value_of text) (2 ^ bits)
 
 -- the number that the text writes, where so many bits hold it
 abbrev pub number_of : ℕ → List ℕ → Option ℕ

@@ -35,7 +35,8 @@ text_in found = option_and_then as_str found
 -- what each item is read as
 abbrev pub each : {A : Type 0} → (Data → Option A) → Items → Option (List A)
 each read no_items = Some []
-each read (item first rest) = option_and_then (λ one. option_map (λ more. one ∷ more) (each read rest)) (read first)
+each read (item first rest) =
+    option_and_then (λ one. option_map (λ more. one ∷ more) (each read rest)) (read first)
 
 -- the same of a list that is found; nothing is an empty list
 abbrev pub list_in : {A : Type 0} → (Data → Option A) → Option Data → Option (List A)
@@ -55,7 +56,9 @@ name_in found = option_and_then name_of_text (option_and_then as_str found)
 -- an id and the name that it stands for
 abbrev pub entry_from : Members → Option (ℕ × List ℕ)
 entry_from members =
-    option_and_then (λ id. option_map (λ name. (id, name)) (name_in (get_member (codes "topic") members))) (number_in 0 65535 None (get_member (codes "id") members))
+    option_and_then (λ id. option_map (λ name. (id, name))
+    (name_in (get_member (codes "topic") members)))
+    (number_in 0 65535 None (get_member (codes "id") members))
 
 abbrev pub entry_item : Data → Option (ℕ × List ℕ)
 entry_item found = option_and_then entry_from (as_table found)
@@ -119,7 +122,8 @@ abbrev pub or_else : {A : Type 0} → Option A → Key → Option Key → Option
 or_else None key behind = Some key
 or_else (Some value) key behind = behind
 
--- the first key that is missing without a default, out of range or of another kind, in the order of the keys
+-- the first key that is missing without a default, out of range or of another kind, in the order of
+-- the keys
 abbrev pub first_bad : Members → Option Key
 first_bad members =
     or_else (gateway_in members) keys.Gateway
@@ -135,10 +139,12 @@ first_bad members =
 
 -- the text is a document that says these settings
 abbrev pub IsRead : List ℕ → Settings → Type 0
-IsRead text settings = (members : Members) × (parse_document text ≡ Some members) × Says members settings
+IsRead text settings =
+    (members : Members) × (parse_document text ≡ Some members) × Says members settings
 
 -- why it is refused
 abbrev pub IsRefused : List ℕ → SettingsFault → Type 0
 IsRefused text faults.Text = parse_document text ≡ None
-IsRefused text (faults.Key key) = (members : Members) × (parse_document text ≡ Some members) × (first_bad members ≡ Some key)
+IsRefused text (faults.Key key) =
+    (members : Members) × (parse_document text ≡ Some members) × (first_bad members ≡ Some key)
 IsRefused text faults.Memory = Unit {0}

@@ -1,11 +1,11 @@
 -- What becomes of a gateway that is tended between two shifts.
 use Rattle.std.specs.Prelude.{◌≡◌, ◌⊎◌, true, false, List, [], ◌++◌, Ok, Err}
 use Rattle.rep_ops.specs.declared.op.Op.{Op}
-use Rattle.jr_journal.specs.declared.disk.Disk.{Ghosts}
+use Rattle.jr_disk.specs.declared.disk.Disk.{Ghosts}
 use Rattle.jr_journal.specs.declared.fault.JournalFault.TheVariants as journal
-use Rattle.gw_node.specs.declared.out.Out.{Out}
-use Rattle.gw_node.specs.declared.refusal.Refusal.{Refusal}
-use Rattle.gw_node.specs.declared.refusal.Refusal.TheVariants as refusals
+use Rattle.gw_answer.specs.declared.out.Out.{Out}
+use Rattle.gw_answer.specs.declared.refusal.Refusal.{Refusal}
+use Rattle.gw_answer.specs.declared.refusal.Refusal.TheVariants as refusals
 use Rattle.gw_node.specs.Parts.{State, is_halted}
 use Rattle.gw_node.specs.Calls.{CompactCall}
 use Rattle.gw_node.specs.Opening.{ReopenCall}
@@ -13,11 +13,13 @@ use Rattle.gw_node.specs.Taking.{ops_of, on_disk, HasTaken}
 use Rattle.gw_main.specs.declared.tending.Tended.{Tended}
 use Rattle.gw_main.specs.declared.tending.Tended.TheVariants.{Kept, Reopened}
 
--- its journal is written anew; or stays as it is, since its generation is the last there is, or memory ran out
+-- its journal is written anew; or stays as it is, since its generation is the last there is, or
+-- memory ran out
 abbrev pub CompactsIfMay : {D : Type 0} {G : Ghosts D} → State G → State G → Type 0
 CompactsIfMay old new =
     ((out : Out) × CompactCall old (Ok out) new)
-    ⊎ (CompactCall old (Err (refusals.Journal journal.Foreign)) new ⊎ CompactCall old (Err refusals.Memory) new)
+    ⊎ (CompactCall old (Err (refusals.Journal journal.Foreign)) new
+    ⊎ CompactCall old (Err refusals.Memory) new)
 
 -- the disk failed in that
 abbrev pub CompactsNot : {D : Type 0} {G : Ghosts D} → State G → State G → Type 0
@@ -34,23 +36,28 @@ EndsAs {G = G} old Reopened new = (failed : State G) × CompactsNot old failed �
 
 -- and that is refused
 abbrev pub EndsRefused : {D : Type 0} {G : Ghosts D} → State G → Refusal → State G → Type 0
-EndsRefused {G = G} old refusal new = (failed : State G) × CompactsNot old failed × ReopenCall failed (Err refusal) new
+EndsRefused {G = G} old refusal new = (failed : State G) × CompactsNot old failed
+    × ReopenCall failed (Err refusal) new
 
 -- A gateway that goes on is compacted; one that is halted is opened anew before.
 abbrev pub IsTended : {D : Type 0} {G : Ghosts D} → State G → Tended → State G → Type 0
 IsTended old Kept new = (is_halted old ≡ false) × EndsAs old Kept new
 IsTended {G = G} old Reopened new =
     ((is_halted old ≡ false) × EndsAs old Reopened new)
-    ⊎ ((is_halted old ≡ true) × ((opened : State G) × OpensAnew old opened × ((tended : Tended) × EndsAs opened tended new)))
+    ⊎ ((is_halted old ≡ true)
+    × ((opened : State G) × OpensAnew old opened × ((tended : Tended) × EndsAs opened tended new)))
 
 -- it could not be opened anew, before that or behind it
 abbrev pub IsGivenUp : {D : Type 0} {G : Ghosts D} → State G → Refusal → State G → Type 0
 IsGivenUp {G = G} old refusal new =
     ((is_halted old ≡ false) × EndsRefused old refusal new)
-    ⊎ ((is_halted old ≡ true) × (ReopenCall old (Err refusal) new ⊎ ((opened : State G) × OpensAnew old opened × EndsRefused opened refusal new)))
+    ⊎ ((is_halted old ≡ true)
+    × (ReopenCall old (Err refusal) new
+    ⊎ ((opened : State G) × OpensAnew old opened × EndsRefused opened refusal new)))
 
--- Whatever set it had taken, with nothing refused, it has taken still. Where a delta was refused, that is so too; or what its journal
--- held is taken as well, and nothing is refused any more.
+-- Whatever set it had taken, with nothing refused, it has taken still. Where a delta was refused,
+-- that is so too; or what its journal held is taken as well, and nothing is refused any more.
 pub record TakesOn {D : Type 0} {G : Ghosts D} (old new : State G) : Type 0 where
   pub itself : (S : List Op) → HasTaken S [] old → HasTaken S [] new
-  pub with_read : (S refused : List Op) → HasTaken S refused old → HasTaken S refused new ⊎ HasTaken (S ++ ops_of (on_disk old)) [] new
+  pub with_read : (S refused : List Op) → HasTaken S refused old → HasTaken S refused new
+      ⊎ HasTaken (S ++ ops_of (on_disk old)) [] new

@@ -2,14 +2,15 @@
 
 ghost use Rattle.std.specs.Prelude.{◌≡◌, IfOk, IfErr, length};
 ghost use Rattle.rep_model.specs.Views.{clients as clients_of};
-ghost use Rattle.jr_journal.specs.Disk.{image};
+ghost use Rattle.jr_disk.specs.Disk.{image};
 ghost use Rattle.jr_journal.specs.Records.{records};
-ghost use Rattle.gw_node.specs.Parts.{state_of, told, records_of};
+ghost use Rattle.gw_node.specs.Parts.{state_of, records_of};
+ghost use Rattle.gw_answer.specs.Answers.{told};
 ghost use Rattle.gw_node.specs.Keeping.{Keeps};
 ghost use Rattle.gw_node.specs.Taking.{ops_of};
 ghost use Rattle.gw_node.specs.Opening.{IsStarted, MayRefuse};
 ghost use Rattle.gw_main.specs.Beginning.{config_of, number_of, journal_number};
-ghost use Rattle.gw_node.specs.declared.fault.NodeFault.TheVariants as faults;
+ghost use Rattle.gw_answer.specs.declared.fault.NodeFault.TheVariants as faults;
 
 use super::options::Settings;
 use gw_node::{Node, NodeFault};

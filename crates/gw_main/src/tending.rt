@@ -1,7 +1,8 @@
 //! What is done with a gateway between two shifts.
 
 ghost use Rattle.std.specs.Prelude.{◌≡◌, true, false, OnOk, OnErr, IfErr, MatchResult};
-ghost use Rattle.gw_node.specs.Parts.{state_of, told, is_halted as is_stopped};
+ghost use Rattle.gw_node.specs.Parts.{state_of, is_halted as is_stopped};
+ghost use Rattle.gw_answer.specs.Answers.{told};
 ghost use Rattle.gw_node.specs.Opening.{ReopenCall};
 ghost use Rattle.gw_node.specs.Carrying.{TakesNothing, TakesAgain};
 ghost use Rattle.gw_main.specs.Tending.{OpensAnew, EndsAs, EndsRefused, IsTended, IsGivenUp, TakesOn};

@@ -11,15 +11,16 @@ use Rattle.sn_frame.specs.Bodies.{IsValue}
 use Rattle.sn_frame.specs.Grammar.{Spells}
 use Rattle.sn_local.specs.declared.config.Addr.{Addr}
 use Rattle.sn_plan.specs.declared.plan.Plan.{Plan}
-use Rattle.jr_journal.specs.declared.disk.Disk.{Ghosts}
+use Rattle.jr_disk.specs.declared.disk.Disk.{Ghosts}
 use Rattle.jr_journal.specs.declared.fault.JournalFault.{JournalFault}
 use Rattle.jr_journal.specs.declared.fault.JournalFault.TheVariants as faults
 use Rattle.jr_journal.specs.declared.journal.Journal.{Journal}
-use Rattle.gw_node.specs.declared.out.Out.{Out}
-use Rattle.gw_node.specs.declared.refusal.Refusal.{Refusal}
-use Rattle.gw_node.specs.declared.refusal.Refusal.TheVariants as refusals
+use Rattle.gw_answer.specs.declared.out.Out.{Out}
+use Rattle.gw_answer.specs.declared.refusal.Refusal.{Refusal}
+use Rattle.gw_answer.specs.declared.refusal.Refusal.TheVariants as refusals
 use Rattle.gw_node.specs.Occasions.{Datagram, Clock}
-use Rattle.gw_node.specs.Parts.{State, is_halted, IsUnchanged, only_sends}
+use Rattle.gw_node.specs.Parts.{State, is_halted, IsUnchanged}
+use Rattle.gw_answer.specs.Answers.{only_sends}
 use Rattle.gw_node.specs.Writing.{IsWritten}
 use Rattle.gw_node.specs.inner.Writing.{WrittenAs, WrittenIfAny, refusal_of}
 use Rattle.gw_node.specs.Excuses.{excuses}

@@ -2,15 +2,15 @@
 use Rattle.std.proofs.Common.{◌≡◌, ◌+◌, ◌≤◌, ℕ, List, [], ◌∷◌, Option, Some, None, Result, Ok, Err, ap, arith}
 use Rattle.rep_ops.specs.declared.op.Op.{Op}
 use Rattle.rep_digest.specs.declared.entry.ClientEntry.{ClientEntry}
-use Rattle.jr_journal.specs.declared.disk.Disk.{Ghosts}
+use Rattle.jr_disk.specs.declared.disk.Disk.{Ghosts}
 use Rattle.jr_journal.specs.declared.fault.JournalFault.TheVariants as journal_faults
 use Rattle.jr_journal.specs.declared.journal.Journal.{Journal}
 use Rattle.jr_journal.specs.Parts.{disk_of}
-use Rattle.gw_node.specs.declared.out.Out.{Out}
-use Rattle.gw_node.specs.declared.refusal.Refusal.{Refusal}
-use Rattle.gw_node.specs.declared.refusal.Refusal.TheVariants as refusals
-use Rattle.gw_node.specs.declared.step.Step.{Step}
-use Rattle.gw_node.specs.declared.step.Step.TheVariants as steps
+use Rattle.gw_answer.specs.declared.out.Out.{Out}
+use Rattle.gw_answer.specs.declared.refusal.Refusal.{Refusal}
+use Rattle.gw_answer.specs.declared.refusal.Refusal.TheVariants as refusals
+use Rattle.gw_answer.specs.declared.step.Step.{Step}
+use Rattle.gw_answer.specs.declared.step.Step.TheVariants as steps
 use Rattle.gw_node.specs.Occasions.{Occasion, Datagram, Clock}
 use Rattle.gw_node.specs.Parts.{State, IsUntouched}
 use Rattle.gw_node.specs.Plans.{Makes}

@@ -15,20 +15,20 @@ use Rattle.rep_model.proofs.Named.{is_named-counts}
 use Rattle.sn_plan.specs.declared.plan.Plan.{Plan}
 use Rattle.sn_local.specs.Seen.{seen_of}
 use Rattle.sn_local.specs.Locals.{after_all, owned}
-use Rattle.jr_journal.specs.declared.disk.Disk.{Ghosts}
-use Rattle.jr_journal.specs.declared.disk.Plan.{Plan as Failure}
+use Rattle.jr_disk.specs.declared.disk.Disk.{Ghosts}
+use Rattle.jr_disk.specs.declared.disk.Plan.{Plan as Failure}
 use Rattle.jr_journal.specs.declared.fault.JournalFault.TheVariants as journal_faults
-use Rattle.jr_journal.specs.Disk.{Slots, Image, at, image}
+use Rattle.jr_disk.specs.Disk.{Slots, Image, at, image}
 use Rattle.jr_journal.specs.Faults.{is_fresh}
 use Rattle.jr_journal.specs.Journals.{other, emptied, after_append, last_generation}
 use Rattle.jr_journal.specs.Opening.{recovered, slot_read, is_quiet}
 use Rattle.jr_journal.specs.Parts.{disk_of, gateway_of, slot_of, generation_of}
 use Rattle.jr_journal.specs.Records.{base_bytes, slot_content, generation_in, records}
-use Rattle.gw_node.specs.declared.out.Out.{Out}
-use Rattle.gw_node.specs.declared.refusal.Refusal.{Refusal}
-use Rattle.gw_node.specs.declared.refusal.Refusal.TheVariants as refusals
-use Rattle.gw_node.specs.declared.step.Step.{Step}
-use Rattle.gw_node.specs.declared.step.Step.TheVariants as steps
+use Rattle.gw_answer.specs.declared.out.Out.{Out}
+use Rattle.gw_answer.specs.declared.refusal.Refusal.{Refusal}
+use Rattle.gw_answer.specs.declared.refusal.Refusal.TheVariants as refusals
+use Rattle.gw_answer.specs.declared.step.Step.{Step}
+use Rattle.gw_answer.specs.declared.step.Step.TheVariants as steps
 use Rattle.gw_node.specs.Calls.{OwnCall, TakeCall, ViewCall, DigestCall, AnswerCall, CompactCall, StepCall, IsDone, AreTooMuch, shows}
 use Rattle.gw_node.specs.Drives.{generation, compacted, torn_base, has_more}
 use Rattle.gw_node.specs.Event.{Event, OwnStep, TakeStep, ViewStep, DigestStep, ReplyStep, CompactStep, ReopenStep, IsPlan, IsMade, IsTooMuch, HasNoDelta, NothingHappens}

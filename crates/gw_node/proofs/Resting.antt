@@ -9,12 +9,13 @@ use Rattle.sn_local.specs.Seen.{seen_of}
 use Rattle.sn_plan.specs.Plans.{plan_without}
 use Rattle.sn_deliver.specs.Rest.{is_idle}
 use Rattle.sn_deliver.proofs.Idle.{idle_tick, idle_before}
-use Rattle.jr_journal.specs.declared.disk.Disk.{Ghosts}
-use Rattle.gw_node.specs.declared.out.Out.{Out}
-use Rattle.gw_node.specs.declared.refusal.Refusal.{Refusal}
-use Rattle.gw_node.specs.declared.refusal.Refusal.TheVariants as refusals
+use Rattle.jr_disk.specs.declared.disk.Disk.{Ghosts}
+use Rattle.gw_answer.specs.declared.out.Out.{Out}
+use Rattle.gw_answer.specs.declared.refusal.Refusal.{Refusal}
+use Rattle.gw_answer.specs.declared.refusal.Refusal.TheVariants as refusals
 use Rattle.gw_node.specs.Occasions.{Clock}
-use Rattle.gw_node.specs.Parts.{State, is_halted, IsUnchanged, IsUntouched, only_sends}
+use Rattle.gw_node.specs.Parts.{State, is_halted, IsUnchanged, IsUntouched}
+use Rattle.gw_answer.specs.Answers.{only_sends}
 use Rattle.gw_node.specs.Plans.{Makes}
 use Rattle.gw_node.specs.Calls.{OwnCall, IsDone}
 use Rattle.gw_node.specs.inner.Handling.{IsIdleAt}

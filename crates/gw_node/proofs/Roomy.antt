@@ -12,7 +12,7 @@ use Rattle.rep_model.specs.Keep.{CountsAs}
 use Rattle.rep_model.specs.Limits.{first_passed}
 use Rattle.rep_model.specs.Roomy.{IsRoomy}
 use Rattle.rep_model.proofs.Limits.{first_passed-counts, first_passed-more}
-use Rattle.gw_node.specs.declared.refusal.Refusal.TheVariants as refusals
+use Rattle.gw_answer.specs.declared.refusal.Refusal.TheVariants as refusals
 use Rattle.gw_node.specs.Taking.{ops_of}
 use Rattle.gw_node.specs.Keeping.{Keeps}
 use Rattle.gw_node.specs.Opening.{HasMisfit}

@@ -11,13 +11,13 @@ use Rattle.rep_ops.specs.Sets.{operation_at, put_at, Stands as StandsIn, IsConsi
 use Rattle.rep_model.specs.Keep.{CountsAs, IsKeptOf}
 use Rattle.rep_model.specs.Taking.{AllAgree, Fits}
 use Rattle.sn_local.specs.Locals.{Local}
-use Rattle.jr_journal.specs.declared.disk.Disk.{Ghosts}
-use Rattle.jr_journal.specs.declared.disk.Plan.{Plan as Failure}
-use Rattle.jr_journal.specs.declared.disk.Plan.TheVariants.{Stop, KeepBack, FailSync}
-use Rattle.jr_journal.specs.declared.disk.Slot.{Slot}
-use Rattle.jr_journal.specs.declared.disk.Slot.TheVariants.{First, Second}
+use Rattle.jr_disk.specs.declared.disk.Disk.{Ghosts}
+use Rattle.jr_disk.specs.declared.disk.Plan.{Plan as Failure}
+use Rattle.jr_disk.specs.declared.disk.Plan.TheVariants.{Stop, KeepBack, FailSync}
+use Rattle.jr_disk.specs.declared.disk.Slot.{Slot}
+use Rattle.jr_disk.specs.declared.disk.Slot.TheVariants.{First, Second}
 use Rattle.jr_journal.specs.declared.fault.JournalFault.TheVariants as journal_faults
-use Rattle.jr_journal.specs.Disk.{Slots, Image, image, after_crash, EachCrash}
+use Rattle.jr_disk.specs.Disk.{Slots, Image, image, after_crash, EachCrash}
 use Rattle.jr_journal.specs.Faults.{is_fresh}
 use Rattle.jr_journal.specs.Journals.{Opens, emptied, after_append, IsStruck, AppendedAs}
 use Rattle.jr_journal.specs.Opening.{recovered, reads_first}

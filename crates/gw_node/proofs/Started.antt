@@ -9,21 +9,22 @@ use Rattle.rep_model.proofs.Joins.{counts-join}
 use Rattle.sn_local.specs.declared.config.Config.{Config}
 use Rattle.sn_local.specs.Locals.{no_local}
 use Rattle.rep_model.specs.declared.replica.Replica.{Ghosts as Promises}
-use Rattle.jr_journal.specs.declared.disk.Disk.{Ghosts}
+use Rattle.jr_disk.specs.declared.disk.Disk.{Ghosts}
 use Rattle.jr_journal.specs.declared.fault.JournalFault.{JournalFault}
 use Rattle.jr_journal.specs.declared.fault.JournalFault.TheVariants as faults
 use Rattle.jr_journal.specs.declared.journal.Journal.{Journal}
-use Rattle.jr_journal.specs.Disk.{Slots, Image, image}
+use Rattle.jr_disk.specs.Disk.{Slots, Image, image}
 use Rattle.jr_journal.specs.Records.{records}
 use Rattle.jr_journal.specs.Faults.{fault_of, IsFault}
 use Rattle.jr_journal.specs.Journals.{Leaves}
 use Rattle.jr_journal.specs.Opening.{LeavesNoMore, synced_slots, recovered, slot_read, generation_read}
 use Rattle.jr_journal.specs.Parts.{disk_of, gateway_of, slot_of, generation_of, is_halted as is_stopped}
-use Rattle.gw_node.specs.declared.out.Out.{Out}
-use Rattle.gw_node.specs.declared.refusal.Refusal.{Refusal}
-use Rattle.gw_node.specs.declared.refusal.Refusal.TheVariants as refusals
+use Rattle.gw_answer.specs.declared.out.Out.{Out}
+use Rattle.gw_answer.specs.declared.refusal.Refusal.{Refusal}
+use Rattle.gw_answer.specs.declared.refusal.Refusal.TheVariants as refusals
 use Rattle.gw_node.specs.declared.node.Node.{Node}
-use Rattle.gw_node.specs.Parts.{State, state_of, only_sends}
+use Rattle.gw_node.specs.Parts.{State, state_of}
+use Rattle.gw_answer.specs.Answers.{only_sends}
 use Rattle.gw_node.specs.inner.Writing.{refusal_of}
 use Rattle.gw_node.specs.Plans.{IsMisfit}
 use Rattle.gw_node.specs.Taking.{ops_of, StandsFor, HasTaken}

@@ -10,9 +10,9 @@ use Rattle.rep_model.specs.Roomy.{IsRoomy}
 use Rattle.rep_model.specs.Taking.{AllAgree, Fits}
 use Rattle.rep_model.proofs.Joins.{counts-join, counts-more, same_sym, same_trans}
 use Rattle.rep_model.proofs.Roomy.{base_counts, base_is_roomy}
-use Rattle.jr_journal.specs.declared.disk.Disk.{Ghosts}
+use Rattle.jr_disk.specs.declared.disk.Disk.{Ghosts}
 use Rattle.jr_journal.specs.declared.journal.Journal.{Journal}
-use Rattle.jr_journal.specs.Disk.{Slots, SlotBytes, Image, image, bytes_of, left_of, after_crash, EachCrash}
+use Rattle.jr_disk.specs.Disk.{Slots, SlotBytes, Image, image, bytes_of, left_of, after_crash, EachCrash}
 use Rattle.jr_journal.specs.Records.{records}
 use Rattle.jr_journal.specs.Faults.{is_fresh}
 use Rattle.jr_journal.specs.declared.fault.JournalFault.TheVariants as journal_faults
@@ -20,11 +20,11 @@ use Rattle.jr_journal.specs.Journals.{Opens, Leaves, LeavesOneMore, LeavesEither
 use Rattle.jr_journal.specs.Opening.{LeavesNoMore}
 use Rattle.jr_journal.specs.Parts.{disk_of, gateway_of}
 use Rattle.rep_digest.specs.declared.entry.ClientEntry.{ClientEntry}
-use Rattle.gw_node.specs.declared.out.Out.{Out}
-use Rattle.gw_node.specs.declared.refusal.Refusal.{Refusal}
-use Rattle.gw_node.specs.declared.refusal.Refusal.TheVariants as refusals
-use Rattle.gw_node.specs.declared.step.Step.{Step}
-use Rattle.gw_node.specs.declared.step.Step.TheVariants as steps
+use Rattle.gw_answer.specs.declared.out.Out.{Out}
+use Rattle.gw_answer.specs.declared.refusal.Refusal.{Refusal}
+use Rattle.gw_answer.specs.declared.refusal.Refusal.TheVariants as refusals
+use Rattle.gw_answer.specs.declared.step.Step.{Step}
+use Rattle.gw_answer.specs.declared.step.Step.TheVariants as steps
 use Rattle.gw_node.specs.Occasions.{Occasion, Datagram, Clock}
 use Rattle.gw_node.specs.Parts.{State, is_halted, IsUnchanged, IsUntouched}
 use Rattle.gw_node.specs.Writing.{IsWritten, IsFailed, IsRewritten, IsNotRewritten}

@@ -1,12 +1,13 @@
 -- A failure is arranged on the disk of a node's journal.
 use Rattle.std.specs.Prelude.{◌≡◌, ℕ, Bool}
-use Rattle.jr_journal.specs.declared.disk.Disk.{Ghosts}
-use Rattle.jr_journal.specs.Memory.{MemoryState, failing}
+use Rattle.jr_disk.specs.declared.disk.Disk.{Ghosts}
+use Rattle.jr_disk.specs.Memory.{MemoryState, failing}
 use Rattle.jr_journal.specs.Parts.{disk_of, gateway_of, slot_of, generation_of}
 use Rattle.gw_node.specs.Parts.{State, is_halted}
 
 -- the next append stops after so many bytes, or its sync fails; nothing else changes
-pub record Arranges {G : Ghosts MemoryState} (bytes : ℕ) (sync : Bool) (old new : State G) : Type 0 where
+pub record Arranges {G : Ghosts MemoryState} (bytes : ℕ) (sync : Bool)
+    (old new : State G) : Type 0 where
   pub config : new.config ≡ old.config
   pub kept : new.kept ≡ old.kept
   pub local : new.local ≡ old.local

@@ -1,4 +1,5 @@
--- What each call of a node may answer, and the node after it. A node that is halted refuses first of all.
+-- What each call of a node may answer, and the node after it. A node that is halted refuses first
+-- of all.
 use Rattle.std.specs.Prelude.{◌≡◌, ◌≢◌, ◌⊎◌, ◌<◌, ℕ, true, false, length, if◌then◌else◌, List, [], ◌∷◌, ◌++◌, Some, None, Result, Ok, Err}
 use Rattle.rep_ops.specs.declared.op.Op.{Op}
 use Rattle.rep_ops.specs.Deltas.{IsDelta}
@@ -15,18 +16,19 @@ use Rattle.rep_digest.specs.Spelling.{spelling, IsWithinLimit}
 use Rattle.sn_plan.specs.declared.plan.Plan.{Plan}
 use Rattle.sn_local.specs.Seen.{seen_of}
 use Rattle.sn_local.specs.Locals.{after_all, owned}
-use Rattle.jr_journal.specs.declared.disk.Disk.{Ghosts}
+use Rattle.jr_disk.specs.declared.disk.Disk.{Ghosts}
 use Rattle.jr_journal.specs.declared.fault.JournalFault.TheVariants as journal_faults
 use Rattle.jr_journal.specs.declared.journal.Journal.{Journal}
 use Rattle.jr_journal.specs.Journals.{last_generation}
 use Rattle.jr_journal.specs.Parts.{generation_of}
-use Rattle.gw_node.specs.declared.out.Out.{Out}
-use Rattle.gw_node.specs.declared.refusal.Refusal.{Refusal}
-use Rattle.gw_node.specs.declared.refusal.Refusal.TheVariants as refusals
-use Rattle.gw_node.specs.declared.step.Step.{Step}
-use Rattle.gw_node.specs.declared.step.Step.TheVariants as steps
+use Rattle.gw_answer.specs.declared.out.Out.{Out}
+use Rattle.gw_answer.specs.declared.refusal.Refusal.{Refusal}
+use Rattle.gw_answer.specs.declared.refusal.Refusal.TheVariants as refusals
+use Rattle.gw_answer.specs.declared.step.Step.{Step}
+use Rattle.gw_answer.specs.declared.step.Step.TheVariants as steps
 use Rattle.gw_node.specs.Occasions.{Occasion, Datagram, Clock, IsNoFrame}
-use Rattle.gw_node.specs.Parts.{State, is_halted, IsUnchanged, IsUntouched, only_sends}
+use Rattle.gw_node.specs.Parts.{State, is_halted, IsUnchanged, IsUntouched}
+use Rattle.gw_answer.specs.Answers.{only_sends}
 use Rattle.gw_node.specs.Writing.{IsWritten, IsFailed, IsRewritten, IsNotRewritten, IsNumbered}
 use Rattle.gw_node.specs.Excuses.{IsExcuse}
 use Rattle.gw_node.specs.Plans.{IsPlanFor, IsMisfit, MakeNoDelta, Makes}
@@ -35,7 +37,8 @@ use Rattle.gw_node.specs.Opening.{ReopenCall}
 -- ---- datagrams and ticks
 
 -- the plan was carried out; no two of its operations have a name in common
-pub record IsDone {D : Type 0} {G : Ghosts D} (old : State G) (plan : Plan) (out : Out) (new : State G) : Type 0 where
+pub record IsDone {D : Type 0} {G : Ghosts D} (old : State G) (plan : Plan) (out : Out)
+    (new : State G) : Type 0 where
   pub config : new.config ≡ old.config
   pub records : new.records ≡ old.records
   pub local : new.local ≡ after_all old.local plan.local
@@ -43,9 +46,10 @@ pub record IsDone {D : Type 0} {G : Ghosts D} (old : State G) (plan : Plan) (out
   pub made : Makes plan.ops out.made old new
   pub answer : out ≡ record (only_sends plan.sends) { made = out.made }
 
--- the journal could not be written: nothing of the plan was done, and its client is told so; its operations make a delta as they do where
--- it is carried out
-pub record IsGivenUp {D : Type 0} {G : Ghosts D} (old : State G) (plan : Plan) (excuse : Out) (new : State G) : Type 0 where
+-- the journal could not be written: nothing of the plan was done, and its client is told so; its
+-- operations make a delta as they do where it is carried out
+pub record IsGivenUp {D : Type 0} {G : Ghosts D} (old : State G) (plan : Plan) (excuse : Out)
+    (new : State G) : Type 0 where
   pub some : plan.ops ≢ []
   pub config : new.config ≡ old.config
   pub records : new.records ≡ old.records
@@ -61,27 +65,37 @@ pub record IsGivenUp {D : Type 0} {G : Ghosts D} (old : State G) (plan : Plan) (
 
 -- the operations cannot be taken: their delta does not fit, or they make none
 abbrev pub AreTooMuch : List Op → List Op → Refusal → Type 0
-AreTooMuch kept ops refusal = ((delta : List Op) × IsDeltaOf ops delta × IsMisfit kept delta refusal) ⊎ ((refusal ≡ refusals.Full) × MakeNoDelta ops)
+AreTooMuch kept ops refusal =
+    ((delta : List Op) × IsDeltaOf ops delta × IsMisfit kept delta refusal)
+    ⊎ ((refusal ≡ refusals.Full) × MakeNoDelta ops)
 
--- A datagram comes, or time goes by. The node is halted; or the datagram is no frame; or its step needs a number after the last; or
--- its operations cannot be taken; or the journal cannot be written; or the plan is carried out.
-abbrev pub OwnCall : {D : Type 0} {G : Ghosts D} → State G → Occasion → ℕ → Result Out Refusal → State G → Type 0
+-- A datagram comes, or time goes by. The node is halted; or the datagram is no frame; or its step
+-- needs a number after the last; or its operations cannot be taken; or the journal cannot be
+-- written; or the plan is carried out.
+abbrev pub OwnCall : {D : Type 0} {G : Ghosts D} → State G → Occasion → ℕ → Result Out Refusal
+    → State G → Type 0
 OwnCall old occasion now (Err refusals.Halted) new = (is_halted old ≡ true) × IsUnchanged old new
-OwnCall old occasion now (Err (refusals.Frame fault)) new = (is_halted old ≡ false) × IsNoFrame occasion fault × IsUnchanged old new
-OwnCall old occasion now (Err refusals.Exhausted) new = (is_halted old ≡ false) × IsPlanFor old occasion now None × IsUnchanged old new
+OwnCall old occasion now (Err (refusals.Frame fault)) new =
+    (is_halted old ≡ false) × IsNoFrame occasion fault × IsUnchanged old new
+OwnCall old occasion now (Err refusals.Exhausted) new =
+    (is_halted old ≡ false) × IsPlanFor old occasion now None × IsUnchanged old new
 OwnCall old occasion now (Err (refusals.Conflict client)) new =
     (is_halted old ≡ false)
-    × ((plan : Plan) × IsPlanFor old occasion now (Some plan) × AreTooMuch old.kept plan.ops (refusals.Conflict client)) × IsUnchanged old new
+    × ((plan : Plan) × IsPlanFor old occasion now (Some plan)
+    × AreTooMuch old.kept plan.ops (refusals.Conflict client)) × IsUnchanged old new
 OwnCall old occasion now (Err refusals.Full) new =
     (is_halted old ≡ false)
-    × ((plan : Plan) × IsPlanFor old occasion now (Some plan) × AreTooMuch old.kept plan.ops refusals.Full) × IsUnchanged old new
+    × ((plan : Plan) × IsPlanFor old occasion now (Some plan)
+    × AreTooMuch old.kept plan.ops refusals.Full) × IsUnchanged old new
 OwnCall old occasion now (Err (refusals.Disk excuse)) new =
     (is_halted old ≡ false)
-    × ((plan : Plan) × IsPlanFor old occasion now (Some plan) × IsExcuse occasion plan.sends excuse.sends × IsGivenUp old plan excuse new)
+    × ((plan : Plan) × IsPlanFor old occasion now (Some plan)
+    × IsExcuse occasion plan.sends excuse.sends × IsGivenUp old plan excuse new)
 OwnCall old occasion now (Err refusals.Memory) new = IsUnchanged old new
 OwnCall old occasion now (Err (refusals.Journal fault)) new = ⊥
 OwnCall old occasion now (Ok out) new =
-    (is_halted old ≡ false) × ((plan : Plan) × IsPlanFor old occasion now (Some plan) × IsDone old plan out new)
+    (is_halted old ≡ false)
+    × ((plan : Plan) × IsPlanFor old occasion now (Some plan) × IsDone old plan out new)
 
 -- ---- deltas
 
@@ -91,7 +105,8 @@ IsNoted old [] new = IsUntouched old new
 IsNoted old (op ∷ ops) new = IsWritten old (op ∷ ops) new
 
 -- the delta is taken, and clients that another gateway now owns have no address here any more
-pub record IsTaken {D : Type 0} {G : Ghosts D} (old : State G) (delta : List Op) (new : State G) : Type 0 where
+pub record IsTaken {D : Type 0} {G : Ghosts D} (old : State G) (delta : List Op)
+    (new : State G) : Type 0 where
   pub config : new.config ≡ old.config
   pub records : new.records ≡ old.records
   pub is_delta : IsDelta delta
@@ -101,7 +116,8 @@ pub record IsTaken {D : Type 0} {G : Ghosts D} (old : State G) (delta : List Op)
   pub noted : IsNoted old.journal delta new.journal
 
 -- it has operations and fits, and the journal could not be written
-pub record IsLeft {D : Type 0} {G : Ghosts D} (old : State G) (delta : List Op) (new : State G) : Type 0 where
+pub record IsLeft {D : Type 0} {G : Ghosts D} (old : State G) (delta : List Op)
+    (new : State G) : Type 0 where
   pub some : delta ≢ []
   pub config : new.config ≡ old.config
   pub records : new.records ≡ old.records
@@ -111,27 +127,35 @@ pub record IsLeft {D : Type 0} {G : Ghosts D} (old : State G) (delta : List Op) 
   pub fits : Fits old.kept delta
   pub failed : IsFailed old.journal delta new.journal
 
--- A delta comes. The node is halted; or the delta does not fit; or the journal cannot be written; or the delta is taken, and nothing is
--- sent.
-abbrev pub TakeCall : {D : Type 0} {G : Ghosts D} → State G → List Op → Result Out Refusal → State G → Type 0
+-- A delta comes. The node is halted; or the delta does not fit; or the journal cannot be written;
+-- or the delta is taken, and nothing is sent.
+abbrev pub TakeCall : {D : Type 0} {G : Ghosts D} → State G → List Op → Result Out Refusal → State G
+    → Type 0
 TakeCall old delta (Err refusals.Halted) new = (is_halted old ≡ true) × IsUnchanged old new
-TakeCall old delta (Err (refusals.Conflict client)) new = (is_halted old ≡ false) × IsMisfit old.kept delta (refusals.Conflict client) × IsUnchanged old new
-TakeCall old delta (Err refusals.Full) new = (is_halted old ≡ false) × IsMisfit old.kept delta refusals.Full × IsUnchanged old new
-TakeCall old delta (Err (refusals.Disk excuse)) new = (is_halted old ≡ false) × (excuse ≡ only_sends []) × IsLeft old delta new
+TakeCall old delta (Err (refusals.Conflict client)) new =
+    (is_halted old ≡ false) × IsMisfit old.kept delta (refusals.Conflict client)
+    × IsUnchanged old new
+TakeCall old delta (Err refusals.Full) new =
+    (is_halted old ≡ false) × IsMisfit old.kept delta refusals.Full × IsUnchanged old new
+TakeCall old delta (Err (refusals.Disk excuse)) new =
+    (is_halted old ≡ false) × (excuse ≡ only_sends []) × IsLeft old delta new
 TakeCall old delta (Err refusals.Memory) new = IsUnchanged old new
 TakeCall old delta (Err (refusals.Frame fault)) new = ⊥
 TakeCall old delta (Err refusals.Exhausted) new = ⊥
 TakeCall old delta (Err (refusals.Journal fault)) new = ⊥
-TakeCall old delta (Ok out) new = (is_halted old ≡ false) × (out ≡ only_sends []) × IsTaken old delta new
+TakeCall old delta (Ok out) new =
+    (is_halted old ≡ false) × (out ≡ only_sends []) × IsTaken old delta new
 
 -- ---- views
 
 -- the client's view, where an operation names it
 abbrev pub shows : List Op → List ℕ → Out
-shows kept client = record (only_sends []) { view = if is_named client kept then Some (view client kept) else None }
+shows kept client =
+    record (only_sends []) { view = if is_named client kept then Some (view client kept) else None }
 
 -- Somebody asks for a client's view; a halted node answers too.
-abbrev pub ViewCall : {D : Type 0} {G : Ghosts D} → State G → List ℕ → Result Out Refusal → State G → Type 0
+abbrev pub ViewCall : {D : Type 0} {G : Ghosts D} → State G → List ℕ → Result Out Refusal → State G
+    → Type 0
 ViewCall old client (Ok out) new = (out ≡ shows old.kept client) × IsUnchanged old new
 ViewCall old client (Err refusals.Memory) new = IsUnchanged old new
 ViewCall old client (Err refusals.Halted) new = ⊥
@@ -144,11 +168,15 @@ ViewCall old client (Err (refusals.Journal fault)) new = ⊥
 
 -- ---- digests and answers
 
--- A gateway asks for the digest, which is that of what is kept; a halted node answers too. It is refused exactly where it is too long.
-abbrev pub DigestCall : {D : Type 0} {G : Ghosts D} → State G → Result Out Refusal → State G → Type 0
+-- A gateway asks for the digest, which is that of what is kept; a halted node answers too. It is
+-- refused exactly where it is too long.
+abbrev pub DigestCall : {D : Type 0} {G : Ghosts D} → State G → Result Out Refusal → State G
+    → Type 0
 DigestCall old (Ok out) new =
-    IsWithinLimit (digest old.kept) × (out ≡ record (only_sends []) { digest = Some (digest old.kept) }) × IsUnchanged old new
-DigestCall old (Err refusals.Full) new = (max_octets < length (spelling (digest old.kept))) × IsUnchanged old new
+    IsWithinLimit (digest old.kept)
+    × (out ≡ record (only_sends []) { digest = Some (digest old.kept) }) × IsUnchanged old new
+DigestCall old (Err refusals.Full) new =
+    (max_octets < length (spelling (digest old.kept))) × IsUnchanged old new
 DigestCall old (Err refusals.Memory) new = IsUnchanged old new
 DigestCall old (Err refusals.Halted) new = ⊥
 DigestCall old (Err (refusals.Frame fault)) new = ⊥
@@ -157,9 +185,13 @@ DigestCall old (Err (refusals.Conflict of)) new = ⊥
 DigestCall old (Err refusals.Exhausted) new = ⊥
 DigestCall old (Err (refusals.Journal fault)) new = ⊥
 
--- A gateway asks for what its digest does not cover of what must be kept; a halted node answers too.
-abbrev pub AnswerCall : {D : Type 0} {G : Ghosts D} → State G → List ClientEntry → Result Out Refusal → State G → Type 0
-AnswerCall old asked (Ok out) new = IsAnswer asked old.kept out.answer × (out ≡ record (only_sends []) { answer = out.answer }) × IsUnchanged old new
+-- A gateway asks for what its digest does not cover of what must be kept; a halted node answers
+-- too.
+abbrev pub AnswerCall : {D : Type 0} {G : Ghosts D} → State G → List ClientEntry
+    → Result Out Refusal → State G → Type 0
+AnswerCall old asked (Ok out) new =
+    IsAnswer asked old.kept out.answer × (out ≡ record (only_sends []) { answer = out.answer })
+    × IsUnchanged old new
 AnswerCall old asked (Err refusals.Memory) new = IsUnchanged old new
 AnswerCall old asked (Err refusals.Full) new = ⊥
 AnswerCall old asked (Err refusals.Halted) new = ⊥
@@ -191,17 +223,21 @@ pub record IsNotCompacted {D : Type 0} {G : Ghosts D} (old new : State G) : Type
   pub held : IsHeld old.kept base
   pub failed : IsNotRewritten old.journal base new.journal
 
--- The journal is to hold what is kept, and nothing else. The node is halted; or the journal's generation is the last there is; or the
--- journal cannot be written; or it is written anew. Nothing is sent.
-abbrev pub CompactCall : {D : Type 0} {G : Ghosts D} → State G → Result Out Refusal → State G → Type 0
+-- The journal is to hold what is kept, and nothing else. The node is halted; or the journal's
+-- generation is the last there is; or the journal cannot be written; or it is written anew. Nothing
+-- is sent.
+abbrev pub CompactCall : {D : Type 0} {G : Ghosts D} → State G → Result Out Refusal → State G
+    → Type 0
 CompactCall old (Err refusals.Halted) new = (is_halted old ≡ true) × IsUnchanged old new
 CompactCall old (Err (refusals.Journal journal_faults.Foreign)) new =
-    (is_halted old ≡ false) × (generation_of old.journal ≡ last_generation) × IsNumbered old.journal × IsUnchanged old new
+    (is_halted old ≡ false) × (generation_of old.journal ≡ last_generation) × IsNumbered old.journal
+    × IsUnchanged old new
 CompactCall old (Err (refusals.Journal journal_faults.Disk)) new = ⊥
 CompactCall old (Err (refusals.Journal journal_faults.Halted)) new = ⊥
 CompactCall old (Err (refusals.Journal journal_faults.Memory)) new = ⊥
 CompactCall old (Err (refusals.Journal (journal_faults.BadRecord slot at))) new = ⊥
-CompactCall old (Err (refusals.Disk excuse)) new = (is_halted old ≡ false) × (excuse ≡ only_sends []) × IsNotCompacted old new
+CompactCall old (Err (refusals.Disk excuse)) new =
+    (is_halted old ≡ false) × (excuse ≡ only_sends []) × IsNotCompacted old new
 CompactCall old (Err refusals.Memory) new = IsUnchanged old new
 CompactCall old (Err (refusals.Frame fault)) new = ⊥
 CompactCall old (Err (refusals.Conflict client)) new = ⊥
@@ -211,8 +247,10 @@ CompactCall old (Ok out) new = (is_halted old ≡ false) × (out ≡ only_sends 
 
 -- ---- steps
 
-abbrev pub StepCall : {D : Type 0} {G : Ghosts D} → State G → Step → Result Out Refusal → State G → Type 0
-StepCall old (steps.Frame from bytes now) answer new = OwnCall old (Datagram from bytes) now answer new
+abbrev pub StepCall : {D : Type 0} {G : Ghosts D} → State G → Step → Result Out Refusal → State G
+    → Type 0
+StepCall old (steps.Frame from bytes now) answer new =
+    OwnCall old (Datagram from bytes) now answer new
 StepCall old (steps.Take delta) answer new = TakeCall old delta answer new
 StepCall old (steps.Tick now) answer new = OwnCall old Clock now answer new
 StepCall old (steps.View client) answer new = ViewCall old client answer new

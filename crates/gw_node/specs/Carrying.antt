@@ -4,12 +4,12 @@ use Rattle.rep_ops.specs.declared.op.Op.{Op}
 use Rattle.rep_ops.specs.Making.{IsDeltaOf}
 use Rattle.rep_model.specs.Taking.{AllAgree}
 use Rattle.sn_plan.specs.declared.plan.Plan.{Plan}
-use Rattle.jr_journal.specs.declared.disk.Disk.{Ghosts}
-use Rattle.gw_node.specs.declared.out.Out.{Out}
-use Rattle.gw_node.specs.declared.refusal.Refusal.{Refusal}
-use Rattle.gw_node.specs.declared.refusal.Refusal.TheVariants as refusals
-use Rattle.gw_node.specs.declared.step.Step.{Step}
-use Rattle.gw_node.specs.declared.step.Step.TheVariants as steps
+use Rattle.jr_disk.specs.declared.disk.Disk.{Ghosts}
+use Rattle.gw_answer.specs.declared.out.Out.{Out}
+use Rattle.gw_answer.specs.declared.refusal.Refusal.{Refusal}
+use Rattle.gw_answer.specs.declared.refusal.Refusal.TheVariants as refusals
+use Rattle.gw_answer.specs.declared.step.Step.{Step}
+use Rattle.gw_answer.specs.declared.step.Step.TheVariants as steps
 use Rattle.gw_node.specs.Occasions.{Occasion, Datagram, Clock}
 use Rattle.gw_node.specs.Parts.{State}
 use Rattle.gw_node.specs.Plans.{IsPlanFor}
@@ -17,19 +17,23 @@ use Rattle.gw_node.specs.Taking.{ops_of, on_disk, HasTaken}
 
 -- the set that was taken before, with the delta, where the delta contradicts nothing of it
 abbrev pub TakesMore : {D : Type 0} {G : Ghosts D} → State G → List Op → State G → Type 0
-TakesMore old delta new = (S : List Op) → AllAgree S delta → HasTaken S [] old → HasTaken (S ++ delta) [] new
+TakesMore old delta new =
+    (S : List Op) → AllAgree S delta → HasTaken S [] old → HasTaken (S ++ delta) [] new
 
 -- the set that was taken before; the delta was refused, and a crash may leave it all the same
 abbrev pub TakesNoMore : {D : Type 0} {G : Ghosts D} → State G → List Op → State G → Type 0
-TakesNoMore old delta new = (S : List Op) → AllAgree S delta → HasTaken S [] old → HasTaken S delta new
+TakesNoMore old delta new =
+    (S : List Op) → AllAgree S delta → HasTaken S [] old → HasTaken S delta new
 
 -- the set that was taken before
 abbrev pub TakesNothing : {D : Type 0} {G : Ghosts D} → State G → State G → Type 0
 TakesNothing old new = (S refused : List Op) → HasTaken S refused old → HasTaken S refused new
 
--- the set that was taken before, with what was read; where nothing was refused, that is the set itself
+-- the set that was taken before, with what was read; where nothing was refused, that is the set
+-- itself
 pub record TakesAgain {D : Type 0} {G : Ghosts D} (old new : State G) : Type 0 where
-  pub with_read : G.honest → (S refused : List Op) → HasTaken S refused old → HasTaken (S ++ ops_of (on_disk old)) [] new
+  pub with_read : G.honest → (S refused : List Op) → HasTaken S refused old
+      → HasTaken (S ++ ops_of (on_disk old)) [] new
   pub itself : G.honest → (S : List Op) → HasTaken S [] old → HasTaken S [] new
 
 abbrev pub made_by : Option (List Op) → List Op
@@ -37,7 +41,8 @@ made_by None = []
 made_by (Some delta) = delta
 
 -- by a delta
-abbrev pub CarriesOn : {D : Type 0} {G : Ghosts D} → State G → List Op → Result Out Refusal → State G → Type 0
+abbrev pub CarriesOn : {D : Type 0} {G : Ghosts D} → State G → List Op → Result Out Refusal
+    → State G → Type 0
 CarriesOn old delta (Ok out) new = TakesMore old delta new
 CarriesOn old delta (Err (refusals.Disk excuse)) new = TakesNoMore old delta new
 CarriesOn old delta (Err (refusals.Frame fault)) new = TakesNothing old new
@@ -48,11 +53,14 @@ CarriesOn old delta (Err refusals.Exhausted) new = TakesNothing old new
 CarriesOn old delta (Err (refusals.Journal fault)) new = TakesNothing old new
 CarriesOn old delta (Err refusals.Memory) new = TakesNothing old new
 
--- by a datagram or a tick: what it made is taken; where the journal could not be written, the delta of the plan was refused
-abbrev pub OwnCarriesOn : {D : Type 0} {G : Ghosts D} → State G → Occasion → ℕ → Result Out Refusal → State G → Type 0
+-- by a datagram or a tick: what it made is taken; where the journal could not be written, the delta
+-- of the plan was refused
+abbrev pub OwnCarriesOn : {D : Type 0} {G : Ghosts D} → State G → Occasion → ℕ → Result Out Refusal
+    → State G → Type 0
 OwnCarriesOn old occasion now (Ok out) new = TakesMore old (made_by out.made) new
 OwnCarriesOn old occasion now (Err (refusals.Disk excuse)) new =
-    (plan : Plan) × IsPlanFor old occasion now (Some plan) × ((delta : List Op) × IsDeltaOf plan.ops delta × TakesNoMore old delta new)
+    (plan : Plan) × IsPlanFor old occasion now (Some plan)
+    × ((delta : List Op) × IsDeltaOf plan.ops delta × TakesNoMore old delta new)
 OwnCarriesOn old occasion now (Err (refusals.Frame fault)) new = TakesNothing old new
 OwnCarriesOn old occasion now (Err refusals.Halted) new = TakesNothing old new
 OwnCarriesOn old occasion now (Err (refusals.Conflict client)) new = TakesNothing old new
@@ -62,12 +70,15 @@ OwnCarriesOn old occasion now (Err (refusals.Journal fault)) new = TakesNothing 
 OwnCarriesOn old occasion now (Err refusals.Memory) new = TakesNothing old new
 
 -- by a reopening: what was read is taken; refused, it leaves what was taken
-abbrev pub ReopenCarriesOn : {D : Type 0} {G : Ghosts D} → State G → Result Out Refusal → State G → Type 0
+abbrev pub ReopenCarriesOn : {D : Type 0} {G : Ghosts D} → State G → Result Out Refusal → State G
+    → Type 0
 ReopenCarriesOn old (Ok out) new = TakesAgain old new
 ReopenCarriesOn old (Err refusal) new = TakesNothing old new
 
-abbrev pub StepCarriesOn : {D : Type 0} {G : Ghosts D} → State G → Step → Result Out Refusal → State G → Type 0
-StepCarriesOn old (steps.Frame from bytes now) answer new = OwnCarriesOn old (Datagram from bytes) now answer new
+abbrev pub StepCarriesOn : {D : Type 0} {G : Ghosts D} → State G → Step → Result Out Refusal
+    → State G → Type 0
+StepCarriesOn old (steps.Frame from bytes now) answer new =
+    OwnCarriesOn old (Datagram from bytes) now answer new
 StepCarriesOn old (steps.Take delta) answer new = CarriesOn old delta answer new
 StepCarriesOn old (steps.Tick now) answer new = OwnCarriesOn old Clock now answer new
 StepCarriesOn old (steps.View client) answer new = TakesNothing old new

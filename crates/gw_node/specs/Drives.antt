@@ -1,15 +1,16 @@
 -- The disk under a gateway as its operator believes it.
 use Rattle.std.specs.Prelude.{◌≡◌, ℕ, ◌+◌, Bool, true, false, nat_lt, if◌then◌else◌, length, List, [], ◌∷◌, Option, Some, None}
 use Rattle.rep_ops.specs.declared.op.Op.{Op}
-use Rattle.jr_journal.specs.declared.disk.Slot.{Slot}
-use Rattle.jr_journal.specs.declared.disk.Plan.{Plan}
-use Rattle.jr_journal.specs.declared.disk.Plan.TheVariants.{Stop, KeepBack}
-use Rattle.jr_journal.specs.Disk.{Slots, Image, at, after_crash}
+use Rattle.jr_disk.specs.declared.disk.Slot.{Slot}
+use Rattle.jr_disk.specs.declared.disk.Plan.{Plan}
+use Rattle.jr_disk.specs.declared.disk.Plan.TheVariants.{Stop, KeepBack}
+use Rattle.jr_disk.specs.Disk.{Slots, Image, at, after_crash}
 use Rattle.jr_journal.specs.Records.{written, base_bytes, slot_content, generation_in, records}
 use Rattle.jr_journal.specs.Journals.{other, emptied, after_append}
 use Rattle.jr_journal.specs.Opening.{recovered, slot_read}
 
--- its two slots, the one that the journal writes, whether a write has failed since it was opened, and the failure that is arranged
+-- its two slots, the one that the journal writes, whether a write has failed since it was opened,
+-- and the failure that is arranged
 pub record Drive : Type 0 where
   pub slots : Slots
   pub slot : Slot
@@ -18,7 +19,8 @@ pub record Drive : Type 0 where
 
 -- a journal is opened where this was found; a failure that is arranged stays so
 abbrev pub opened : ℕ → Option Plan → Image → Drive
-opened gateway plan i = record { slots = recovered gateway i; slot = slot_read gateway i; halted = false; plan = plan }
+opened gateway plan i =
+    record { slots = recovered gateway i; slot = slot_read gateway i; halted = false; plan = plan }
 
 -- on an empty disk
 abbrev pub new_drive : ℕ → Drive
@@ -26,7 +28,8 @@ new_drive gateway = opened gateway None (record { first = []; second = [] })
 
 -- the delta is one more record, and synced
 abbrev pub with_record : List Op → Drive → Drive
-with_record delta drive = record drive { slots = after_append None drive.slots drive.slot (written delta) }
+with_record delta drive =
+    record drive { slots = after_append None drive.slots drive.slot (written delta) }
 
 -- no failure is arranged for what is to be written; a delta without operations is not written
 abbrev pub GoesOut : List Op → Drive → Type 0
@@ -35,7 +38,12 @@ GoesOut (op ∷ ops) drive = drive.plan ≡ None
 
 -- this failure was arranged: it comes as the delta is written, and the journal is halted
 abbrev pub torn : Plan → List Op → Drive → Drive
-torn plan delta drive = record drive { slots = after_append (Some plan) drive.slots drive.slot (written delta); halted = true; plan = None }
+torn plan delta drive =
+    record drive {
+      slots = after_append (Some plan) drive.slots drive.slot (written delta);
+      halted = true;
+      plan = None;
+    }
 
 -- a delta without operations is not written
 abbrev pub noted : List Op → Drive → Drive
@@ -46,29 +54,35 @@ noted (op ∷ ops) drive = with_record (op ∷ ops) drive
 abbrev pub generation : ℕ → Drive → ℕ
 generation gateway drive = generation_in (slot_content gateway (at drive.slots drive.slot).synced)
 
--- the journal goes on in the other slot, which gets a header of the next generation, the base and the seal
+-- the journal goes on in the other slot, which gets a header of the next generation, the base and
+-- the seal
 abbrev pub compacted : ℕ → List (List Op) → Drive → Drive
 compacted gateway base drive = record drive {
-  slots = after_append None (emptied drive.slots (other drive.slot)) (other drive.slot) (base_bytes gateway (generation gateway drive + 1) base);
+  slots = after_append None (emptied drive.slots (other drive.slot)) (other drive.slot)
+      (base_bytes gateway (generation gateway drive + 1) base);
   slot = other drive.slot;
 }
 
 -- this failure was arranged: it comes as the base is written, and the journal is halted
 abbrev pub torn_base : Plan → ℕ → List (List Op) → Drive → Drive
 torn_base plan gateway base drive = record drive {
-  slots = after_append (Some plan) (emptied drive.slots (other drive.slot)) (other drive.slot) (base_bytes gateway (generation gateway drive + 1) base);
+  slots = after_append (Some plan) (emptied drive.slots (other drive.slot)) (other drive.slot)
+      (base_bytes gateway (generation gateway drive + 1) base);
   halted = true;
   plan = None;
 }
 
--- a failure is arranged, in the place of one that was: the next append stops after so many bytes, or its sync fails
+-- a failure is arranged, in the place of one that was: the next append stops after so many bytes,
+-- or its sync fails
 abbrev pub arranged : ℕ → Bool → Drive → Drive
 arranged bytes sync drive = record drive { plan = Some (if sync then KeepBack else Stop bytes) }
 
--- what is left where the gateway stops: of each slot the synced bytes, and the first so many of those that are not
+-- what is left where the gateway stops: of each slot the synced bytes, and the first so many of
+-- those that are not
 abbrev pub left_by : ℕ → Drive → Image
 left_by kept drive = after_crash kept kept drive.slots
 
 -- an image has more records than are synced
 abbrev pub has_more : ℕ → Drive → Image → Bool
-has_more gateway drive i = nat_lt (length (records gateway (left_by 0 drive))) (length (records gateway i))
+has_more gateway drive i =
+    nat_lt (length (records gateway (left_by 0 drive))) (length (records gateway i))

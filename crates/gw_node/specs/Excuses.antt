@@ -1,4 +1,5 @@
--- What a client is told where its frame came to nothing for want of a disk: congestion, return code 1.
+-- What a client is told where its frame came to nothing for want of a disk: congestion, return code
+-- 1.
 use Rattle.std.specs.Prelude.{◌≡◌, ℕ, Bool, false, if◌then◌else◌, bit_and, bytes_eq, List, [], ◌∷◌, Option, Some, None}
 use Rattle.std.specs.Option.{option_map, option_to_list}
 use Rattle.sn_frame.specs.declared.flags.Qos.{Qos}
@@ -24,12 +25,15 @@ unpublished levels.Two topic msg_id = Some (frames.PubAck topic msg_id 1)
 unpublished levels.Zero topic msg_id = None
 unpublished levels.MinusOne topic msg_id = None
 
--- The refusal of a frame: of a registration, a subscription, a publication, an update of the will, and of what would have been
--- accepted as a connection. A topic id in it is 0; SUBACK has the quality of service asked for.
+-- The refusal of a frame: of a registration, a subscription, a publication, an update of the will,
+-- and of what would have been accepted as a connection. A topic id in it is 0; SUBACK has the
+-- quality of service asked for.
 abbrev pub excuse_of : Frame → List Send → Option Frame
 excuse_of (frames.Register topic_id msg_id name) sends = Some (frames.RegAck 0 msg_id 1)
-excuse_of (frames.Subscribe flags msg_id topic) sends = Some (frames.SubAck (record { bits = bit_and flags.bits 96 }) 0 msg_id 1)
-excuse_of (frames.Publish flags topic msg_id body) sends = unpublished (qos_of flags.bits) topic msg_id
+excuse_of (frames.Subscribe flags msg_id topic) sends =
+    Some (frames.SubAck (record { bits = bit_and flags.bits 96 }) 0 msg_id 1)
+excuse_of (frames.Publish flags topic msg_id body) sends =
+    unpublished (qos_of flags.bits) topic msg_id
 excuse_of (frames.WillTopicUpd will) sends = Some (frames.WillTopicResp 1)
 excuse_of (frames.WillMsgUpd message) sends = Some (frames.WillMsgResp 1)
 excuse_of frame sends = if accepts sends then Some (frames.ConnAck 1) else None
@@ -43,5 +47,6 @@ excuses from frame sends = option_to_list (option_map (datagram_to from) (excuse
 
 -- and so for an occasion: nobody waits for the answer to a tick
 abbrev pub IsExcuse : Occasion → List Send → List Send → Type 0
-IsExcuse (Datagram from bytes) sends excuse = (frame : Frame) × IsValue frame × Spells bytes frame × (excuse ≡ excuses from frame sends)
+IsExcuse (Datagram from bytes) sends excuse =
+    (frame : Frame) × IsValue frame × Spells bytes frame × (excuse ≡ excuses from frame sends)
 IsExcuse Clock sends excuse = excuse ≡ []

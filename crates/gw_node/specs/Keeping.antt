@@ -11,5 +11,7 @@ use Rattle.rep_model.specs.Keep.{CountsAs}
 -- what is kept counts as what was taken, and nothing is kept that was not taken
 pub record Keeps (taken kept : List Op) : Type 0 where
   pub counts : CountsAs taken kept
-  pub operations_taken : (c : List ℕ) (name : Stamp × ℕ) (change : SessionOp) → operation_at c kept name ≡ Some change → Contains taken (OfSession c name.0 name.1 change)
-  pub puts_taken : (c : List ℕ) (name : ℕ × ℕ) (put : Put) → put_at c kept name ≡ Some put → Contains taken (OfPut c put) × ((put.seq, put.origin) ≡ name)
+  pub operations_taken : (c : List ℕ) (name : Stamp × ℕ) (change : SessionOp)
+      → operation_at c kept name ≡ Some change → Contains taken (OfSession c name.0 name.1 change)
+  pub puts_taken : (c : List ℕ) (name : ℕ × ℕ) (put : Put) → put_at c kept name ≡ Some put
+      → Contains taken (OfPut c put) × ((put.seq, put.origin) ≡ name)

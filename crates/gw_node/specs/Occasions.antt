@@ -19,11 +19,12 @@ pub data Occasion : Type 0 where
   Datagram : Addr → List ℕ → Occasion
   Clock : Occasion
 
--- the plan for it at a moment, by what the gateway sees: the step table's for the frame that the bytes spell, or that of a tick;
--- None where a number is needed that was the last
+-- the plan for it at a moment, by what the gateway sees: the step table's for the frame that the
+-- bytes spell, or that of a tick; None where a number is needed that was the last
 abbrev pub IsPlanOf : Config → Seen → Local → Occasion → ℕ → Option Plan → Type 0
 IsPlanOf config seen local (Datagram from bytes) now plan =
-    (frame : Frame) × IsValue frame × Spells bytes frame × (step config.gateway config.predefined seen local from frame now ≡ plan)
+    (frame : Frame) × IsValue frame × Spells bytes frame
+    × (step config.gateway config.predefined seen local from frame now ≡ plan)
 IsPlanOf config seen local Clock now plan =
     tick config.gateway config.advertise config.field config.predefined seen local now ≡ plan
 

@@ -1,25 +1,16 @@
--- The parts of a node, and what a call answers.
-use Rattle.std.specs.Prelude.{◌≡◌, ℕ, Bool, List, [], None, Result, Ok, Err}
-use Rattle.std.specs.Arc.{arc_value}
-use Rattle.std.specs.declared.sync.Arc.{Arc}
-use Rattle.std.specs.declared.alloc.Global.{Global}
+-- The parts of a node.
+use Rattle.std.specs.Prelude.{◌≡◌, ℕ, Bool, List}
 use Rattle.rep_ops.specs.declared.op.Op.{Op}
 use Rattle.rep_model.specs.declared.replica.Replica.{Ghosts as Promises}
 use Rattle.sn_local.specs.declared.config.Config.{Config}
-use Rattle.sn_local.specs.declared.config.Send.{Send}
 use Rattle.sn_local.specs.Locals.{Local}
-use Rattle.jr_journal.specs.declared.disk.Disk.{Ghosts}
+use Rattle.jr_disk.specs.declared.disk.Disk.{Ghosts}
 use Rattle.jr_journal.specs.declared.journal.Journal.{Journal}
 use Rattle.jr_journal.specs.Parts.{disk_of as disk_under, gateway_of, slot_of, generation_of, is_halted as is_stopped}
 use Rattle.gw_node.specs.declared.node.Node.{Node}
-use Rattle.gw_node.specs.declared.out.Out.{Out}
-use Rattle.gw_node.specs.declared.fault.NodeFault.{NodeFault}
-use Rattle.gw_node.specs.declared.fault.NodeFault.TheVariants as faults
-use Rattle.gw_node.specs.declared.refusal.Refusal.{Refusal}
-use Rattle.gw_node.specs.declared.refusal.Refusal.TheVariants as refusals
 
--- what a node is: what it was told, what its replica keeps, what else it knows, its journal, and how many records it read when it was
--- last opened
+-- what a node is: what it was told, what its replica keeps, what else it knows, its journal, and
+-- how many records it read when it was last opened
 pub record State {D : Type 0} (G : Ghosts D) : Type 0 where
   pub config : Config
   pub kept : List Op
@@ -27,8 +18,16 @@ pub record State {D : Type 0} (G : Ghosts D) : Type 0 where
   pub journal : Journal D G
   pub records : ℕ
 
-abbrev pub state_of : {R Z D : Type 0} {P : Promises R Z} {G : Ghosts D} → (R → List Op) → Node R D Z P G → State G
-state_of kept node = record { config = node.config; kept = kept node.replica; local = node.dialogs.local; journal = node.journal; records = node.records }
+abbrev pub state_of : {R Z D : Type 0} {P : Promises R Z} {G : Ghosts D} → (R → List Op)
+    → Node R D Z P G → State G
+state_of kept node =
+    record {
+      config = node.config;
+      kept = kept node.replica;
+      local = node.dialogs.local;
+      journal = node.journal;
+      records = node.records;
+    }
 
 -- how many records it read when it was last opened
 abbrev pub records_of : {R Z D : Type 0} {P : Promises R Z} {G : Ghosts D} → Node R D Z P G → ℕ
@@ -57,35 +56,3 @@ pub record IsUnchanged {D : Type 0} {G : Ghosts D} (old new : State G) : Type 0 
   pub local : new.local ≡ old.local
   pub journal : IsUntouched old.journal new.journal
   pub records : new.records ≡ old.records
-
--- ---- answers
-
--- the same answer, whoever else has a share of it
-abbrev pub told : NodeFault → Refusal
-told (faults.Frame fault) = refusals.Frame fault
-told faults.Halted = refusals.Halted
-told (faults.Disk out) = refusals.Disk (arc_value out)
-told (faults.Conflict client) = refusals.Conflict client
-told faults.Full = refusals.Full
-told faults.Exhausted = refusals.Exhausted
-told (faults.Journal fault) = refusals.Journal fault
-told faults.Memory = refusals.Memory
-
--- the number by which programs tell a refusal, with an `N` in front of it
-abbrev pub refusal_number : Refusal → ℕ
-refusal_number (refusals.Frame fault) = 1
-refusal_number refusals.Halted = 2
-refusal_number (refusals.Disk excuse) = 3
-refusal_number (refusals.Conflict client) = 4
-refusal_number refusals.Full = 5
-refusal_number refusals.Exhausted = 6
-refusal_number refusals.Memory = 7
-refusal_number (refusals.Journal fault) = 8
-
-abbrev pub said : Result (Arc Out Global) NodeFault → Result Out Refusal
-said (Ok out) = Ok (arc_value out)
-said (Err fault) = Err (told fault)
-
--- an answer that sends these datagrams and says nothing else
-abbrev pub only_sends : List Send → Out
-only_sends sends = record { sends = sends; made = None; answer = []; digest = None; view = None }

@@ -12,9 +12,9 @@ use Rattle.rep_model.specs.Keep.{IsKeptOf}
 use Rattle.rep_model.specs.Taking.{Fits, IsFaultOf}
 use Rattle.sn_plan.specs.declared.plan.Plan.{Plan}
 use Rattle.sn_local.specs.Seen.{seen_of}
-use Rattle.jr_journal.specs.declared.disk.Disk.{Ghosts}
-use Rattle.gw_node.specs.declared.refusal.Refusal.{Refusal}
-use Rattle.gw_node.specs.declared.refusal.Refusal.TheVariants as refusals
+use Rattle.jr_disk.specs.declared.disk.Disk.{Ghosts}
+use Rattle.gw_answer.specs.declared.refusal.Refusal.{Refusal}
+use Rattle.gw_answer.specs.declared.refusal.Refusal.TheVariants as refusals
 use Rattle.gw_node.specs.Occasions.{Occasion, IsPlanOf}
 use Rattle.gw_node.specs.Parts.{State, IsUntouched}
 use Rattle.gw_node.specs.Writing.{IsWritten}
@@ -44,9 +44,11 @@ pub record IsWritable (delta : List Op) : Type 0 where
   pub limit : IsWithinLimit delta
 
 -- the operations, if there are any, became one delta, which is in the journal and taken
-abbrev pub Makes : {D : Type 0} {G : Ghosts D} → List Op → Option (List Op) → State G → State G → Type 0
+abbrev pub Makes : {D : Type 0} {G : Ghosts D} → List Op → Option (List Op) → State G → State G
+    → Type 0
 Makes [] None old new = (new.kept ≡ old.kept) × IsUntouched old.journal new.journal
 Makes [] (Some delta) old new = ⊥
 Makes (op ∷ ops) None old new = ⊥
 Makes (op ∷ ops) (Some delta) old new =
-    IsDeltaOf (op ∷ ops) delta × Fits old.kept delta × IsKeptOf (old.kept ++ delta) new.kept × IsWritten old.journal delta new.journal × IsWritable delta
+    IsDeltaOf (op ∷ ops) delta × Fits old.kept delta × IsKeptOf (old.kept ++ delta) new.kept
+    × IsWritten old.journal delta new.journal × IsWritable delta

@@ -4,16 +4,16 @@ use Rattle.rep_ops.specs.declared.op.Op.{Op}
 use Rattle.rep_ops.specs.Making.{IsDeltaOf}
 use Rattle.rep_model.specs.Taking.{AllAgree}
 use Rattle.sn_plan.specs.declared.plan.Plan.{Plan}
-use Rattle.jr_journal.specs.declared.disk.Disk.{Ghosts}
-use Rattle.jr_journal.specs.declared.disk.Plan.{Plan as Failure}
-use Rattle.jr_journal.specs.Disk.{Slots, EachCrash}
+use Rattle.jr_disk.specs.declared.disk.Disk.{Ghosts}
+use Rattle.jr_disk.specs.declared.disk.Plan.{Plan as Failure}
+use Rattle.jr_disk.specs.Disk.{Slots, EachCrash}
 use Rattle.jr_journal.specs.Faults.{is_fresh}
 use Rattle.jr_journal.specs.Opening.{is_quiet}
 use Rattle.jr_journal.specs.Parts.{disk_of, gateway_of, slot_of}
-use Rattle.gw_node.specs.declared.out.Out.{Out}
-use Rattle.gw_node.specs.declared.refusal.Refusal.{Refusal}
-use Rattle.gw_node.specs.declared.step.Step.{Step}
-use Rattle.gw_node.specs.declared.step.Step.TheVariants as steps
+use Rattle.gw_answer.specs.declared.out.Out.{Out}
+use Rattle.gw_answer.specs.declared.refusal.Refusal.{Refusal}
+use Rattle.gw_answer.specs.declared.step.Step.{Step}
+use Rattle.gw_answer.specs.declared.step.Step.TheVariants as steps
 use Rattle.gw_node.specs.Drives.{has_more}
 use Rattle.gw_node.specs.Gateways.{Gateway, with_refused}
 use Rattle.gw_node.specs.Event.{Event, IsPlan}
@@ -30,19 +30,23 @@ pub record IsSynced (slots : Slots) : Type 0 where
   pub first : slots.first.unsynced ≡ []
   pub second : slots.second.unsynced ≡ []
 
--- As long as the gateway goes on, all of its disk is synced, and nothing was refused. Whatever a crash leaves of the disk is a journal that
--- stands for the set, or for the set with the whole of what was refused, where it has one record more than are synced; and no opening of
--- that begins a journal.
+-- As long as the gateway goes on, all of its disk is synced, and nothing was refused. Whatever a
+-- crash leaves of the disk is a journal that stands for the set, or for the set with the whole of
+-- what was refused, where it has one record more than are synced; and no opening of that begins a
+-- journal.
 pub record Lasts (gateway : Gateway) : Type 0 where
   pub synced : gateway.drive.halted ≡ false → IsSynced gateway.drive.slots
   pub none : gateway.drive.halted ≡ false → gateway.refused ≡ []
-  pub images : EachCrash (λ i. StandsFor gateway.config.gateway (with_refused (has_more gateway.config.gateway gateway.drive i) gateway.taken gateway.refused) [] i) gateway.drive.slots
+  pub images : EachCrash (λ i. StandsFor gateway.config.gateway
+      (with_refused (has_more gateway.config.gateway gateway.drive i) gateway.taken gateway.refused)
+      [] i) gateway.drive.slots
   pub begun : EachCrash (λ i. is_fresh i ≡ false) gateway.drive.slots
 
 -- ---- a node
 
--- The node stands for the gateway: it was told the same, its replica keeps what it should of the set, it knows the same besides, its
--- journal is in the same slot and halted or not; and an honest disk has these bytes.
+-- The node stands for the gateway: it was told the same, its replica keeps what it should of the
+-- set, it knows the same besides, its journal is in the same slot and halted or not; and an honest
+-- disk has these bytes.
 pub record Stands {D : Type 0} {G : Ghosts D} (gateway : Gateway) (state : State G) : Type 0 where
   pub configured : state.config ≡ gateway.config
   pub numbered : gateway_of state.journal ≡ gateway.config.gateway
@@ -52,8 +56,10 @@ pub record Stands {D : Type 0} {G : Ghosts D} (gateway : Gateway) (state : State
   pub halted : is_halted state ≡ gateway.drive.halted
   pub slots : G.honest → G.slots (disk_of state.journal) ≡ gateway.drive.slots
 
--- it is known of the disk which failure is arranged: that of the gateway, and nothing but an append meets it
-pub record IsForeseen {D : Type 0} {G : Ghosts D} (gateway : Gateway) (state : State G) : Type 0 where
+-- it is known of the disk which failure is arranged: that of the gateway, and nothing but an append
+-- meets it
+pub record IsForeseen {D : Type 0} {G : Ghosts D} (gateway : Gateway)
+    (state : State G) : Type 0 where
   pub plan : G.outlook (disk_of state.journal) ≡ Some gateway.drive.plan
   pub quiet : IsTrue (is_quiet (Some gateway.drive.plan) false)
 
@@ -63,22 +69,26 @@ pub record IsForeseen {D : Type 0} {G : Ghosts D} (gateway : Gateway) (state : S
 abbrev pub fated : Option Failure → Gateway → Gateway
 fated fate gateway = record gateway { drive = record gateway.drive { plan = fate } }
 
--- The node stood for the gateway, and stands for the next one, to which what happened leads: as if the failure that came, or none, had been
--- arranged. Where it is known which one is arranged, it is that one, and it is known again, unless memory was refused in the disk. And what
--- the gateway has taken lasts, where what the call took contradicts nothing of it.
-pub record LeadsTo {D : Type 0} {G : Ghosts D} (Happens : Gateway → Gateway → List (List Op) → Type 0) (Agrees : Type 0) (gateway : Gateway) (old new : State G) : Type 0 where
+-- The node stood for the gateway, and stands for the next one, to which what happened leads: as if
+-- the failure that came, or none, had been arranged. On an honest disk to which no memory was refused
+-- it is the one that was known, if one was, and it is known again. And what the gateway has taken
+-- lasts there, if it did before, where what the call took contradicts nothing of it.
+pub record LeadsTo {D : Type 0} {G : Ghosts D} (Happens : Gateway → Gateway → List (List Op)
+    → Type 0) (Agrees : Type 0) (gateway : Gateway) (old new : State G) : Type 0 where
   pub fate : Option Failure
   pub next : Gateway
   pub made : List (List Op)
   pub happens : Happens (fated fate gateway) next made
   pub stands : Stands next new
-  pub foreseen : G.honest → G.starved (disk_of new.journal) ≡ false → IsForeseen gateway old → (fate ≡ gateway.drive.plan) × IsForeseen next new
+  pub foreseen : G.honest → G.starved (disk_of new.journal) ≡ false → IsForeseen gateway old
+      → (fate ≡ gateway.drive.plan) × IsForeseen next new
   pub lasts : Agrees → G.honest → Lasts gateway → Lasts next
 
 -- whatever delta a datagram or a tick makes contradicts nothing that the gateway has taken
 abbrev pub OwnAgrees : Gateway → Occasion → ℕ → Type 0
 OwnAgrees gateway occasion now =
-    (plan : Plan) (delta : List Op) → IsPlan gateway occasion now (Some plan) → IsDeltaOf plan.ops delta → AllAgree gateway.taken delta
+    (plan : Plan) (delta : List Op) → IsPlan gateway occasion now (Some plan)
+    → IsDeltaOf plan.ops delta → AllAgree gateway.taken delta
 
 abbrev pub Agrees : Gateway → Step → Type 0
 Agrees gateway (steps.Frame from bytes now) = OwnAgrees gateway (Datagram from bytes) now
@@ -90,9 +100,10 @@ Agrees gateway (steps.Answer asked) = Unit {0}
 Agrees gateway steps.Compact = Unit {0}
 Agrees gateway steps.Reopen = Unit {0}
 
--- Of a compaction it can be said on an honest disk; where it failed, only if it is known which failure was arranged, for a disk may fail to
--- cut as well.
-pub record IsClear {D : Type 0} {G : Ghosts D} (gateway : Gateway) (old : State G) (answer : Result Out Refusal) (new : State G) : Type 0 where
+-- Of a compaction it can be said on an honest disk; where it failed, only if it is known which
+-- failure was arranged, for a disk may fail to cut as well.
+pub record IsClear {D : Type 0} {G : Ghosts D} (gateway : Gateway) (old : State G)
+    (answer : Result Out Refusal) (new : State G) : Type 0 where
   pub honest : G.honest
   pub cause : failed answer ≡ 1 → (G.starved (disk_of new.journal) ≡ false) × IsForeseen gateway old
 
@@ -101,7 +112,8 @@ abbrev pub WentWell : Type 0 → Gateway → Result Out Refusal → Type 0
 WentWell Honest gateway (Ok out) = Honest × Lasts gateway
 WentWell Honest gateway (Err refusal) = ⊥
 
-abbrev pub CanBeSaid : {D : Type 0} {G : Ghosts D} → Gateway → State G → Step → Result Out Refusal → State G → Type 0
+abbrev pub CanBeSaid : {D : Type 0} {G : Ghosts D} → Gateway → State G → Step → Result Out Refusal
+    → State G → Type 0
 CanBeSaid gateway old (steps.Frame from bytes now) answer new = Unit {0}
 CanBeSaid gateway old (steps.Take delta) answer new = Unit {0}
 CanBeSaid gateway old (steps.Tick now) answer new = Unit {0}
@@ -111,8 +123,11 @@ CanBeSaid gateway old (steps.Answer asked) answer new = Unit {0}
 CanBeSaid gateway old steps.Compact answer new = IsClear gateway old answer new
 CanBeSaid {G = G} gateway old steps.Reopen answer new = WentWell G.honest gateway answer
 
--- Whatever gateway the node stood for, the call is an event of it, and the node stands for the next one.
-abbrev pub EventOn : {D : Type 0} {G : Ghosts D} → State G → Step → Result Out Refusal → State G → Type 0
+-- Whatever gateway the node stood for, the call is an event of it, and the node stands for the next
+-- one.
+abbrev pub EventOn : {D : Type 0} {G : Ghosts D} → State G → Step → Result Out Refusal → State G
+    → Type 0
 EventOn old step answer new =
     (gateway : Gateway) → Stands gateway old → CanBeSaid gateway old step answer new
-    → LeadsTo (λ before next made. Event before step answer next made) (Agrees gateway step) gateway old new
+    → LeadsTo (λ before next made. Event before step answer next made) (Agrees gateway step)
+    gateway old new

@@ -5,8 +5,8 @@ use Rattle.rep_ops.specs.declared.op.Op.{Op}
 use Rattle.rep_ops.specs.Sets.{Within, IsConsistent}
 use Rattle.rep_model.specs.Keep.{keep, CountsAs}
 use Rattle.rep_model.specs.Roomy.{IsRoomy}
-use Rattle.jr_journal.specs.declared.disk.Disk.{Ghosts}
-use Rattle.jr_journal.specs.Disk.{Image, image, EachCrash}
+use Rattle.jr_disk.specs.declared.disk.Disk.{Ghosts}
+use Rattle.jr_disk.specs.Disk.{Image, image, EachCrash}
 use Rattle.jr_journal.specs.Records.{records}
 use Rattle.jr_journal.specs.Faults.{is_fresh, fault_of}
 use Rattle.jr_journal.specs.Parts.{disk_of, gateway_of}
@@ -29,8 +29,9 @@ pub record IsBetween (S refused J : List Op) : Type 0 where
 abbrev pub IsWhole : List Op → List Op → List Op → Type 0
 IsWhole S refused J = CountsAs S J ⊎ CountsAs (S ++ refused) J
 
--- An opening finds no fault in the image, and its records stand for S, but for the refused delta, of which all is there or nothing.
--- They contradict nothing, and no front part of them passes a limit: they can be taken again, one after the other.
+-- An opening finds no fault in the image, and its records stand for S, but for the refused delta,
+-- of which all is there or nothing. They contradict nothing, and no front part of them passes a
+-- limit: they can be taken again, one after the other.
 pub record StandsFor (gateway : ℕ) (S refused : List Op) (i : Image) : Type 0 where
   pub sound : fault_of gateway i ≡ None
   pub between : IsBetween S refused (ops_of (records gateway i))
@@ -38,10 +39,13 @@ pub record StandsFor (gateway : ℕ) (S refused : List Op) (i : Image) : Type 0 
   pub roomy : IsRoomy (records gateway i)
   pub proper : IsConsistent (ops_of (records gateway i))
 
--- The node has taken the set S: its replica counts as S; and whatever a crash leaves of an honest disk stands for S, but for one
--- refused delta, of which there is none as long as the node goes on; and an opening of it begins no journal.
-pub record HasTaken {D : Type 0} {G : Ghosts D} (S refused : List Op) (state : State G) : Type 0 where
+-- The node has taken the set S: its replica counts as S; and whatever a crash leaves of an honest
+-- disk stands for S, but for one refused delta, of which there is none as long as the node goes on;
+-- and an opening of it begins no journal.
+pub record HasTaken {D : Type 0} {G : Ghosts D} (S refused : List Op)
+    (state : State G) : Type 0 where
   pub counts : CountsAs S state.kept
   pub quiet : is_halted state ≡ false → refused ≡ []
-  pub images : G.honest → EachCrash (λ i. StandsFor (gateway_of state.journal) S refused i) (G.slots (disk_of state.journal))
+  pub images : G.honest → EachCrash (λ i. StandsFor (gateway_of state.journal) S refused i)
+      (G.slots (disk_of state.journal))
   pub begun : G.honest → EachCrash (λ i. is_fresh i ≡ false) (G.slots (disk_of state.journal))

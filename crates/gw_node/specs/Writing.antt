@@ -1,16 +1,17 @@
 -- What became of a journal that had a delta to write.
 use Rattle.std.specs.Prelude.{◌≡◌, ◌≢◌, ◌≤◌, ◌<◌, ◌+◌, true, false, List, [], ◌∷◌, ◌++◌, None, Ok, Err}
 use Rattle.rep_ops.specs.declared.op.Op.{Op}
-use Rattle.jr_journal.specs.declared.disk.Disk.{Ghosts}
+use Rattle.jr_disk.specs.declared.disk.Disk.{Ghosts}
 use Rattle.jr_journal.specs.declared.fault.JournalFault.TheVariants as faults
 use Rattle.jr_journal.specs.declared.journal.Journal.{Journal}
-use Rattle.jr_journal.specs.Disk.{at, image}
+use Rattle.jr_disk.specs.Disk.{at, image}
 use Rattle.jr_journal.specs.Records.{written, base_bytes, slot_content, generation_in, records}
 use Rattle.jr_journal.specs.Journals.{other, Leaves, LeavesOneMore, LeavesEither, after_append, IsStruck, AppendedAs, emptied, last_generation}
 use Rattle.jr_journal.specs.Parts.{disk_of, gateway_of, slot_of, generation_of, is_halted}
 
 -- The delta is the last record: synced, so that every crash leaves it.
-pub record IsWritten {D : Type 0} {G : Ghosts D} (old : Journal D G) (delta : List Op) (new : Journal D G) : Type 0 where
+pub record IsWritten {D : Type 0} {G : Ghosts D} (old : Journal D G) (delta : List Op)
+    (new : Journal D G) : Type 0 where
   pub gateway : gateway_of new ≡ gateway_of old
   pub slot : slot_of new ≡ slot_of old
   pub generation : generation_of new ≡ generation_of old
@@ -18,13 +19,19 @@ pub record IsWritten {D : Type 0} {G : Ghosts D} (old : Journal D G) (delta : Li
   pub goes_on : is_halted new ≡ false
   pub failures : G.failures (disk_of old) ≤ G.failures (disk_of new)
   pub starved : G.starved (disk_of old) ≡ true → G.starved (disk_of new) ≡ true
-  pub exact : G.honest → G.slots (disk_of new) ≡ after_append None (G.slots (disk_of old)) (slot_of old) (written delta)
-  pub durable : G.honest → Leaves (gateway_of old) (G.slots (disk_of new)) (records (gateway_of old) (image (G.slots (disk_of old))) ++ delta ∷ [])
+  pub exact : G.honest → G.slots (disk_of new) ≡ after_append None (G.slots (disk_of old))
+      (slot_of old) (written delta)
+  pub durable : G.honest → Leaves (gateway_of old) (G.slots (disk_of new))
+      (records (gateway_of old) (image (G.slots (disk_of old))) ++ delta ∷ [])
   -- where it is known which failure is arranged, there was none
-  pub known : G.honest → G.starved (disk_of new) ≡ false → AppendedAs (G.outlook (disk_of old)) (G.slots (disk_of old)) (slot_of old) (written delta) (Ok (record {})) (G.slots (disk_of new)) (G.outlook (disk_of new))
+  pub known : G.honest → G.starved (disk_of new) ≡ false
+      → AppendedAs (G.outlook (disk_of old)) (G.slots (disk_of old)) (slot_of old) (written delta)
+      (Ok (record {})) (G.slots (disk_of new)) (G.outlook (disk_of new))
 
--- The disk failed: the journal is halted, and a crash leaves the delta as one more record, or does not.
-pub record IsFailed {D : Type 0} {G : Ghosts D} (old : Journal D G) (delta : List Op) (new : Journal D G) : Type 0 where
+-- The disk failed: the journal is halted, and a crash leaves the delta as one more record, or does
+-- not.
+pub record IsFailed {D : Type 0} {G : Ghosts D} (old : Journal D G) (delta : List Op)
+    (new : Journal D G) : Type 0 where
   pub gateway : gateway_of new ≡ gateway_of old
   pub slot : slot_of new ≡ slot_of old
   pub generation : generation_of new ≡ generation_of old
@@ -33,20 +40,28 @@ pub record IsFailed {D : Type 0} {G : Ghosts D} (old : Journal D G) (delta : Lis
   pub cause : G.failures (disk_of old) < G.failures (disk_of new)
   pub starved : G.starved (disk_of old) ≡ true → G.starved (disk_of new) ≡ true
   -- it is as one of the failures leaves it
-  pub struck : IsStruck G.honest (G.slots (disk_of old)) (slot_of old) (written delta) (G.slots (disk_of new))
-  pub torn : G.honest → LeavesOneMore (gateway_of old) (G.slots (disk_of new)) (records (gateway_of old) (image (G.slots (disk_of old)))) delta
+  pub struck : IsStruck G.honest (G.slots (disk_of old)) (slot_of old) (written delta)
+      (G.slots (disk_of new))
+  pub torn : G.honest → LeavesOneMore (gateway_of old) (G.slots (disk_of new))
+      (records (gateway_of old) (image (G.slots (disk_of old)))) delta
   -- where it is known which failure is arranged, it is this one
-  pub known : G.honest → G.starved (disk_of new) ≡ false → AppendedAs (G.outlook (disk_of old)) (G.slots (disk_of old)) (slot_of old) (written delta) (Err faults.Disk) (G.slots (disk_of new)) (G.outlook (disk_of new))
+  pub known : G.honest → G.starved (disk_of new) ≡ false
+      → AppendedAs (G.outlook (disk_of old)) (G.slots (disk_of old)) (slot_of old) (written delta)
+      (Err faults.Disk) (G.slots (disk_of new)) (G.outlook (disk_of new))
 
 -- ---- a compaction
 
 -- on an honest disk the generation is the one that the header of the slot in use tells
 abbrev pub IsNumbered : {D : Type 0} {G : Ghosts D} → Journal D G → Type 0
 IsNumbered {G = G} journal =
-    G.honest → generation_of journal ≡ generation_in (slot_content (gateway_of journal) (at (G.slots (disk_of journal)) (slot_of journal)).synced)
+    G.honest → generation_of journal
+    ≡ generation_in (slot_content (gateway_of journal)
+    (at (G.slots (disk_of journal)) (slot_of journal)).synced)
 
--- The base is all that the journal holds: it is synced in the other slot, where the journal goes on, and every crash leaves it.
-pub record IsRewritten {D : Type 0} {G : Ghosts D} (old : Journal D G) (base : List (List Op)) (new : Journal D G) : Type 0 where
+-- The base is all that the journal holds: it is synced in the other slot, where the journal goes
+-- on, and every crash leaves it.
+pub record IsRewritten {D : Type 0} {G : Ghosts D} (old : Journal D G) (base : List (List Op))
+    (new : Journal D G) : Type 0 where
   pub gateway : gateway_of new ≡ gateway_of old
   pub slot : slot_of new ≡ other (slot_of old)
   pub generation : generation_of new ≡ generation_of old + 1
@@ -56,13 +71,20 @@ pub record IsRewritten {D : Type 0} {G : Ghosts D} (old : Journal D G) (base : L
   pub room : generation_of old ≢ last_generation
   pub failures : G.failures (disk_of old) ≤ G.failures (disk_of new)
   pub starved : G.starved (disk_of old) ≡ true → G.starved (disk_of new) ≡ true
-  pub exact : G.honest → G.slots (disk_of new) ≡ after_append None (emptied (G.slots (disk_of old)) (other (slot_of old))) (other (slot_of old)) (base_bytes (gateway_of old) (generation_of old + 1) base)
+  pub exact : G.honest → G.slots (disk_of new)
+      ≡ after_append None (emptied (G.slots (disk_of old)) (other (slot_of old)))
+      (other (slot_of old)) (base_bytes (gateway_of old) (generation_of old + 1) base)
   pub durable : G.honest → Leaves (gateway_of old) (G.slots (disk_of new)) base
   -- where it is known which failure is arranged, there was none
-  pub known : G.honest → G.starved (disk_of new) ≡ false → AppendedAs (G.outlook (disk_of old)) (emptied (G.slots (disk_of old)) (other (slot_of old))) (other (slot_of old)) (base_bytes (gateway_of old) (generation_of old + 1) base) (Ok (record {})) (G.slots (disk_of new)) (G.outlook (disk_of new))
+  pub known : G.honest → G.starved (disk_of new) ≡ false
+      → AppendedAs (G.outlook (disk_of old)) (emptied (G.slots (disk_of old)) (other (slot_of old)))
+      (other (slot_of old)) (base_bytes (gateway_of old) (generation_of old + 1) base)
+      (Ok (record {})) (G.slots (disk_of new)) (G.outlook (disk_of new))
 
--- The disk failed: the journal is halted, and a crash leaves the records from before, or the base in their place.
-pub record IsNotRewritten {D : Type 0} {G : Ghosts D} (old : Journal D G) (base : List (List Op)) (new : Journal D G) : Type 0 where
+-- The disk failed: the journal is halted, and a crash leaves the records from before, or the base
+-- in their place.
+pub record IsNotRewritten {D : Type 0} {G : Ghosts D} (old : Journal D G) (base : List (List Op))
+    (new : Journal D G) : Type 0 where
   pub gateway : gateway_of new ≡ gateway_of old
   pub slot : slot_of new ≡ slot_of old
   pub generation : generation_of new ≡ generation_of old
@@ -72,6 +94,10 @@ pub record IsNotRewritten {D : Type 0} {G : Ghosts D} (old : Journal D G) (base 
   pub room : generation_of old ≢ last_generation
   pub cause : G.failures (disk_of old) < G.failures (disk_of new)
   pub starved : G.starved (disk_of old) ≡ true → G.starved (disk_of new) ≡ true
-  pub torn : G.honest → LeavesEither (gateway_of old) (G.slots (disk_of new)) (records (gateway_of old) (image (G.slots (disk_of old)))) base
+  pub torn : G.honest → LeavesEither (gateway_of old) (G.slots (disk_of new))
+      (records (gateway_of old) (image (G.slots (disk_of old)))) base
   -- where it is known which failure is arranged, it is this one
-  pub known : G.honest → G.starved (disk_of new) ≡ false → AppendedAs (G.outlook (disk_of old)) (emptied (G.slots (disk_of old)) (other (slot_of old))) (other (slot_of old)) (base_bytes (gateway_of old) (generation_of old + 1) base) (Err faults.Disk) (G.slots (disk_of new)) (G.outlook (disk_of new))
+  pub known : G.honest → G.starved (disk_of new) ≡ false
+      → AppendedAs (G.outlook (disk_of old)) (emptied (G.slots (disk_of old)) (other (slot_of old)))
+      (other (slot_of old)) (base_bytes (gateway_of old) (generation_of old + 1) base)
+      (Err faults.Disk) (G.slots (disk_of new)) (G.outlook (disk_of new))

@@ -7,14 +7,12 @@ ghost use Rattle.gw_node.specs.inner.Writing.{RewrittenAs};
 ghost use Rattle.gw_node.specs.Calls.{CompactCall};
 ghost use Rattle.gw_node.specs.Opening.{ReopenCall};
 ghost use Rattle.gw_node.specs.inner.Handling.{RefilledAs};
-ghost use Rattle.gw_node.specs.declared.refusal.Refusal.TheVariants as refusals;
+ghost use Rattle.gw_answer.specs.declared.refusal.Refusal.TheVariants as refusals;
 
 use super::carrying::refused;
 use super::node::Node;
 use super::opening::take_all;
-use super::out::Out;
-use super::refusal::Refusal;
-use super::shares::Shares;
+use gw_answer::{Out, Refusal, Shares};
 use jr_journal::{Disk, Journal, JournalFault};
 use octets::Sequence;
 use rep_model::Replica;

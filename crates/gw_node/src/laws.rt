@@ -2,10 +2,10 @@
 
 ghost use Rattle.std.specs.Prelude.{◌≡◌, ℕ, List};
 ghost use Rattle.rep_ops.specs.declared.op.Op.{Op};
-ghost use Rattle.jr_journal.specs.Disk.{Image};
+ghost use Rattle.jr_disk.specs.Disk.{Image};
 ghost use Rattle.jr_journal.specs.Records.{records};
-ghost use Rattle.gw_node.specs.declared.refusal.Refusal.{Refusal};
-ghost use Rattle.gw_node.specs.declared.refusal.Refusal.TheVariants as refusals;
+ghost use Rattle.gw_answer.specs.declared.refusal.Refusal.{Refusal};
+ghost use Rattle.gw_answer.specs.declared.refusal.Refusal.TheVariants as refusals;
 ghost use Rattle.gw_node.specs.Taking.{StandsFor};
 ghost use Rattle.gw_node.specs.Opening.{HasMisfit, IsOpenFault, IsDiskFault};
 

@@ -11,11 +11,10 @@
 //! - `carrying`: a plan is carried out, a delta is taken: room, delta, journal, replica, local state, in this order.
 //! - `anew`: the journal is written anew from what is kept, or read anew.
 //! - `excuse`: what a client is told where its frame came to nothing for want of a disk.
-//! - `step`: a call as a value (`Step`).
+//! - `tidy`: whether each address and each timer is of a client that the gateway owns.
 //! - `laws`: what an opening finds that goes on with what was taken (`opening_laws`).
-//! - `out`, `fault`: what is answered (`Out`, `NodeFault`).
-//! - `same`, `same_out`: whether two calls, two answers or what was answered are equal (`same_step`, `same_answer`).
-//! - `shares`, `refusal`: the same with three shares of each answer, which are taken before the journal is written.
+//!
+//! A call as a value (`Step`), and what is answered (`Out`, `NodeFault`), are in the crate `gw_answer`.
 //!
 //! The definitions are in `specs/`: `Occasions` (datagrams, ticks and their plans), `Parts` (what contracts see of a node),
 //! `Plans` (what a plan comes to), `Calls` (what each call may answer), `Failures` (which answers tell of the disk), `Writing` (what becomes of the journal), `Excuses`,
@@ -27,24 +26,13 @@
 mod anew;
 mod carrying;
 mod excuse;
-mod fault;
 mod handling;
 mod laws;
 mod node;
 mod opening;
-mod out;
-mod refusal;
-mod same;
-mod same_out;
-mod shares;
-mod step;
 mod tidy;
 
-pub use fault::NodeFault;
+pub use gw_answer::{Answer, NodeFault, Out, Step, same_answer, same_step};
 pub use laws::opening_laws;
 pub use node::Node;
-pub use out::Out;
-pub use refusal::Answer;
 pub use rep_same::same_deltas;
-pub use same::{same_answer, same_step};
-pub use step::Step;

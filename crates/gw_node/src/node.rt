@@ -6,13 +6,11 @@ ghost use Rattle.gw_node.specs.inner.Tidy.{tidied};
 
 use super::anew::{handle_compact, handle_reopen};
 use super::carrying::take_in;
-use super::fault::NodeFault;
 use super::handling::{
     handle_answer, handle_digest, handle_frame, handle_step, handle_tick, handle_view,
 };
 use super::opening::{not_opened, nothing, start};
-use super::refusal::{Answer, one, three};
-use super::step::Step;
+use gw_answer::{Answer, NodeFault, Step, one_share, three_shares};
 use jr_journal::{Disk, Journal, MemoryDisk};
 use rep_digest::Digest;
 use rep_model::Replica;
@@ -42,14 +40,15 @@ impl<R: Replica, D: Disk + Drop> Node<R, D> {
     ghost use Rattle.rep_model.specs.Keep.{CountsAs};
     ghost use Rattle.rep_model.specs.Held.{IsHeld};
     ghost use Rattle.rep_model.specs.Views.{clients as clients_of};
-    ghost use Rattle.jr_journal.specs.Disk.{image};
+    ghost use Rattle.jr_disk.specs.Disk.{image};
     ghost use Rattle.jr_journal.specs.Records.{records};
     ghost use Rattle.jr_journal.specs.Faults.{is_fresh, fault_of};
     ghost use Rattle.jr_journal.specs.Opening.{recovered, is_quiet, LeavesNoMore};
-    ghost use Rattle.gw_node.specs.declared.fault.NodeFault.TheVariants as faults;
-    ghost use Rattle.gw_node.specs.declared.step.Step.TheVariants as steps;
+    ghost use Rattle.gw_answer.specs.declared.fault.NodeFault.TheVariants as faults;
+    ghost use Rattle.gw_answer.specs.declared.step.Step.TheVariants as steps;
     ghost use Rattle.gw_node.specs.Occasions.{Datagram, Clock};
-    ghost use Rattle.gw_node.specs.Parts.{state_of, told, said, is_halted as is_stopped, disk_of, records_of};
+    ghost use Rattle.gw_node.specs.Parts.{state_of, is_halted as is_stopped, disk_of, records_of};
+    ghost use Rattle.gw_answer.specs.Answers.{told, said};
     ghost use Rattle.gw_node.specs.Calls.{OwnCall, TakeCall, ViewCall, DigestCall, AnswerCall, CompactCall, StepCall};
     ghost use Rattle.gw_node.specs.Keeping.{Keeps};
     ghost use Rattle.gw_node.specs.Taking.{ops_of, StandsFor, HasTaken};
@@ -154,7 +153,7 @@ impl<R: Replica, D: Disk + Drop> Node<R, D> {
         ensures event { EventOn (state_of R.kept self.old) (steps.Frame from bytes.now now)
             (said result) (state_of R.kept self.new) }
     {
-        one(handle_frame(alloc, self, from, bytes, now))
+        one_share(handle_frame(alloc, self, from, bytes, now))
     }
 
     /// A delta of another gateway comes. If it has operations it is written to the journal and synced; then it is taken, and
@@ -173,7 +172,7 @@ impl<R: Replica, D: Disk + Drop> Node<R, D> {
         ensures event { EventOn (state_of R.kept self.old) (steps.Take delta.now) (said result)
             (state_of R.kept self.new) }
     {
-        one(take_in(alloc, self, delta))
+        one_share(take_in(alloc, self, delta))
     }
 
     /// Time goes by: it is this moment, in seconds. One thing is done that is due: ADVERTISE (MQTT-SN 1.2 section 6.1), or
@@ -189,7 +188,7 @@ impl<R: Replica, D: Disk + Drop> Node<R, D> {
         ensures event { EventOn (state_of R.kept self.old) (steps.Tick now) (said result)
             (state_of R.kept self.new) }
     {
-        one(handle_tick(alloc, self, now))
+        one_share(handle_tick(alloc, self, now))
     }
 
     /// Somebody asks for a client's view: `view` of the answer, or none where nothing names the client. A halted node
@@ -200,7 +199,7 @@ impl<R: Replica, D: Disk + Drop> Node<R, D> {
         ensures event { EventOn (state_of R.kept self.now) (steps.View client.now) (said result)
             (state_of R.kept self.now) }
     {
-        one(handle_view(alloc, self, client))
+        one_share(handle_view(alloc, self, client))
     }
 
     /// A gateway asks for the digest: `digest` of the answer. A halted node answers too. The faults: `Full` where the digest
@@ -211,7 +210,7 @@ impl<R: Replica, D: Disk + Drop> Node<R, D> {
         ensures event { EventOn (state_of R.kept self.now) steps.Digest (said result)
             (state_of R.kept self.now) }
     {
-        one(handle_digest(alloc, self))
+        one_share(handle_digest(alloc, self))
     }
 
     /// A gateway asks for what its digest does not cover: `answer`, the operations that must be kept here and that the digest
@@ -223,7 +222,7 @@ impl<R: Replica, D: Disk + Drop> Node<R, D> {
         ensures event { EventOn (state_of R.kept self.now) (steps.Answer digest.now) (said result)
             (state_of R.kept self.now) }
     {
-        one(handle_answer(alloc, self, digest))
+        one_share(handle_answer(alloc, self, digest))
     }
 
     /// The journal is to hold what is kept, and nothing else: what is kept is written into its other slot and synced, and the journal
@@ -240,7 +239,7 @@ impl<R: Replica, D: Disk + Drop> Node<R, D> {
         ensures event { EventOn (state_of R.kept self.old) steps.Compact (said result)
             (state_of R.kept self.new) }
     {
-        one(handle_compact(alloc, self))
+        one_share(handle_compact(alloc, self))
     }
 
     /// The gateway is opened again, halted or not, from what its disk holds; see `open`. It goes on without bindings, dialogs and timers,
@@ -256,7 +255,7 @@ impl<R: Replica, D: Disk + Drop> Node<R, D> {
         ensures event { EventOn (state_of R.kept self.old) steps.Reopen (said result)
             (state_of R.kept self.new) }
     {
-        one(handle_reopen(alloc, self))
+        one_share(handle_reopen(alloc, self))
     }
 
     /// A call as a value. Its answer is given three times: the shares are taken before the journal is written, so that a call that was
@@ -271,7 +270,7 @@ impl<R: Replica, D: Disk + Drop> Node<R, D> {
         ensures second { said result.1 ≡ said result.0 }
         ensures third { said result.2 ≡ said result.0 }
     {
-        three(handle_step(alloc, self, step))
+        three_shares(handle_step(alloc, self, step))
     }
 
     /// The gateway's number.

@@ -4,7 +4,8 @@ ghost use Rattle.std.specs.Prelude.{◌≡◌, [], length, IfOk, IfErr, IfSome, 
 ghost use Rattle.std.specs.Arc.{arc_value};
 ghost use Rattle.jr_journal.specs.Parts.{disk_of as disk_under};
 ghost use Rattle.sn_local.specs.Locals.{no_local};
-ghost use Rattle.gw_node.specs.Parts.{told, state_of, records_of, only_sends};
+ghost use Rattle.gw_node.specs.Parts.{state_of, records_of};
+ghost use Rattle.gw_answer.specs.Answers.{told, only_sends};
 ghost use Rattle.gw_node.specs.inner.Writing.{refusal_of};
 ghost use Rattle.gw_node.specs.Keeping.{Keeps};
 ghost use Rattle.gw_node.specs.Taking.{ops_of};
@@ -12,10 +13,8 @@ ghost use Rattle.gw_node.specs.Opening.{FitInTurn};
 ghost use Rattle.gw_node.specs.inner.Opening.{DoNotFit};
 
 use super::carrying::prepare;
-use super::fault::NodeFault;
 use super::node::Node;
-use super::out::Out;
-use super::refusal::Refusal;
+use gw_answer::{NodeFault, Out, Refusal};
 use jr_journal::{Disk, Journal, JournalFault};
 use octets::Sequence;
 use rep_model::Replica;

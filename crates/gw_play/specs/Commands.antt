@@ -36,7 +36,8 @@ text_of words.Show = codes "show"
 abbrev pub IsAddress : List ℕ → Addr → Type 0
 IsAddress text address = (address.host ≡ 0) × IsNumber 16 text address.port
 
--- the text says how many unsynced bytes of a slot survive: so many, or all, for which the greatest number stands
+-- the text says how many unsynced bytes of a slot survive: so many, or all, for which the greatest
+-- number stands
 abbrev pub IsSpared : List ℕ → ℕ → Type 0
 IsSpared text keep = ((text ≡ codes "all") × (keep ≡ 2 ^ 64 - 1)) ⊎ IsNumber 64 text keep
 
@@ -50,18 +51,25 @@ abbrev pub Says : Word → List (List ℕ) → Command → Type 0
 Says words.Gateway (number ∷ []) (commands.Gateway g) = IsNumber 8 number g
 Says words.Predefine (number ∷ id ∷ octets ∷ []) (commands.Predefine g i name) =
     IsNumber 8 number g × IsNumber 16 id i × IsHex octets name × IsName name
-Says words.Frame (gateway ∷ address ∷ moment ∷ octets ∷ []) (commands.Happens (events.Frame g from bytes now)) =
+Says words.Frame (gateway ∷ address ∷ moment ∷ octets ∷ [])
+    (commands.Happens (events.Frame g from bytes now)) =
     IsNumber 8 gateway g × IsAddress address from × IsNumber 64 moment now × IsHex octets bytes
-Says words.Tick (gateway ∷ moment ∷ []) (commands.Happens (events.Tick g now)) = IsNumber 8 gateway g × IsNumber 64 moment now
-Says words.Take (gateway ∷ delta ∷ []) (commands.Happens (events.Take g d)) = IsNumber 8 gateway g × IsNumber 64 delta d
-Says words.Answer (gateway ∷ peer ∷ []) (commands.Happens (events.Answer g p)) = IsNumber 8 gateway g × IsNumber 8 peer p
-Says words.Fail (gateway ∷ failure ∷ []) (commands.Happens (events.WriteFails g bytes sync)) = IsNumber 8 gateway g × IsFailure failure bytes sync
+Says words.Tick (gateway ∷ moment ∷ []) (commands.Happens (events.Tick g now)) =
+    IsNumber 8 gateway g × IsNumber 64 moment now
+Says words.Take (gateway ∷ delta ∷ []) (commands.Happens (events.Take g d)) =
+    IsNumber 8 gateway g × IsNumber 64 delta d
+Says words.Answer (gateway ∷ peer ∷ []) (commands.Happens (events.Answer g p)) =
+    IsNumber 8 gateway g × IsNumber 8 peer p
+Says words.Fail (gateway ∷ failure ∷ []) (commands.Happens (events.WriteFails g bytes sync)) =
+    IsNumber 8 gateway g × IsFailure failure bytes sync
 Says words.Compact (gateway ∷ []) (commands.Happens (events.Compact g)) = IsNumber 8 gateway g
-Says words.Restart (gateway ∷ bytes ∷ []) (commands.Happens (events.Restart g keep)) = IsNumber 8 gateway g × IsSpared bytes keep
+Says words.Restart (gateway ∷ bytes ∷ []) (commands.Happens (events.Restart g keep)) =
+    IsNumber 8 gateway g × IsSpared bytes keep
 Says words.Show (gateway ∷ []) (commands.Happens (events.Show g)) = IsNumber 8 gateway g
 Says word fields command = ⊥
 
 -- the line spells the command: a word and fields, with a space between each two
 abbrev pub Spells : List ℕ → Command → Type 0
 Spells line command =
-    (word : Word) × (fields : List (List ℕ)) × (fields_of line ≡ text_of word ∷ fields) × Says word fields command
+    (word : Word) × (fields : List (List ℕ)) × (fields_of line ≡ text_of word ∷ fields)
+    × Says word fields command

@@ -13,10 +13,10 @@ use Rattle.rep_model.specs.declared.view.ClientView.{ClientView}
 use Rattle.sn_local.specs.declared.config.Send.{Send}
 use Rattle.gw_world.specs.declared.event.Answer.{Answer}
 use Rattle.gw_world.specs.declared.event.Answer.TheVariants as answers
-use Rattle.gw_node.specs.declared.out.Out.{Out}
-use Rattle.gw_node.specs.declared.refusal.Refusal.{Refusal}
-use Rattle.gw_node.specs.declared.refusal.Refusal.TheVariants as refusals
-use Rattle.gw_node.specs.Parts.{said}
+use Rattle.gw_answer.specs.declared.out.Out.{Out}
+use Rattle.gw_answer.specs.declared.refusal.Refusal.{Refusal}
+use Rattle.gw_answer.specs.declared.refusal.Refusal.TheVariants as refusals
+use Rattle.gw_answer.specs.Answers.{said}
 use Rattle.gw_play.specs.Texts.{◌▹◌, hex_text, line_end}
 use Rattle.gw_play.specs.Sessions.{tables_text}
 
@@ -50,7 +50,8 @@ out_text before out = done_text out.sends before (joined out)
 abbrev pub refusal_text : Refusal → List ℕ
 refusal_text (refusals.Frame fault) = codes "refused N1 F" ▹ decimal (fault_number fault) ▹ line_end
 refusal_text refusals.Halted = codes "refused N2" ▹ line_end
-refusal_text (refusals.Disk excuse) = flat_map send_line excuse.sends ▹ codes "refused N3" ▹ line_end
+refusal_text (refusals.Disk excuse) =
+    flat_map send_line excuse.sends ▹ codes "refused N3" ▹ line_end
 refusal_text (refusals.Conflict client) = codes "refused N4" ▹ line_end
 refusal_text refusals.Full = codes "refused N5" ▹ line_end
 refusal_text refusals.Exhausted = codes "refused N6" ▹ line_end
@@ -76,23 +77,28 @@ stamp_text stamp = decimal stamp.epoch ▹ codes "." ▹ decimal stamp.gateway
 -- what stands in the session itself
 abbrev pub session_text : Session → List ℕ
 session_text session =
-    presence_word session.presence ▹ codes " " ▹ kind_word session.clean ▹ codes " " ▹ decimal session.duration ▹ codes " next "
+    presence_word session.presence ▹ codes " " ▹ kind_word session.clean ▹ codes " "
+    ▹ decimal session.duration ▹ codes " next "
     ▹ decimal session.next_id
 
 -- what is known of a client
 abbrev pub known_text : Option Stamp → ℕ → Option Session → List ℕ
 known_text (Some stamp) prefix (Some session) =
-    stamp_text stamp ▹ codes " prefix " ▹ decimal prefix ▹ codes " " ▹ session_text session ▹ line_end
+    stamp_text stamp ▹ codes " prefix " ▹ decimal prefix ▹ codes " " ▹ session_text session
+    ▹ line_end
 known_text stamp prefix session = codes "none" ▹ line_end
 
 -- a client, by its name
 abbrev pub client_line : List ℕ → ClientView → List ℕ
-client_line client view = codes "client " ▹ hex_text client ▹ codes " stamp " ▹ known_text view.stamp view.prefix view.session
+client_line client view =
+    codes "client " ▹ hex_text client ▹ codes " stamp "
+    ▹ known_text view.stamp view.prefix view.session
 
 -- a message that waits
 abbrev pub put_line : Put → List ℕ
 put_line put =
-    codes "  put " ▹ decimal put.seq ▹ codes "." ▹ decimal put.origin ▹ codes " " ▹ decimal put.qos ▹ codes " " ▹ hex_text put.topic
+    codes "  put " ▹ decimal put.seq ▹ codes "." ▹ decimal put.origin ▹ codes " " ▹ decimal put.qos
+    ▹ codes " " ▹ hex_text put.topic
     ▹ codes " " ▹ hex_text put.body ▹ line_end
 
 -- the tables of the client's session, if it has one
@@ -102,7 +108,8 @@ session_lines stamp session = []
 
 -- a client with its session and its messages
 abbrev pub client_text : List ℕ × ClientView → List ℕ
-client_text (client, view) = client_line client view ▹ session_lines view.stamp view.session ▹ flat_map put_line view.pending
+client_text (client, view) =
+    client_line client view ▹ session_lines view.stamp view.session ▹ flat_map put_line view.pending
 
 -- the clients that a gateway knows
 abbrev pub views_text : List (List ℕ × ClientView) → List ℕ
@@ -138,4 +145,5 @@ deltas_after before answers.Nothing = before
 -- answers in their order
 abbrev pub answers_text : ℕ → List Answer → List ℕ
 answers_text before [] = []
-answers_text before (answer ∷ rest) = answer_text before answer ▹ answers_text (deltas_after before answer) rest
+answers_text before (answer ∷ rest) =
+    answer_text before answer ▹ answers_text (deltas_after before answer) rest

@@ -20,27 +20,35 @@ has_gateway configs number = list_any (λ config. config.gateway == number) conf
 abbrev pub empty_script : Script
 empty_script = record { configs = []; events = [] }
 
--- The second script says what the first says, and then the command. A gateway comes before all events,
--- its number is not 0, and no other has it. A predefined topic id comes before all events too, for a gateway
--- that is there, and is not 0000, FFFF or an id that the gateway has already.
+-- The second script says what the first says, and then the command. A gateway comes before all
+-- events, its number is not 0, and no other has it. A predefined topic id comes before all events
+-- too, for a gateway that is there, and is not 0000, FFFF or an id that the gateway has already.
 abbrev pub Adds : Script → Command → Script → Type 0
 Adds before (commands.Gateway number) after =
     (before.events ≡ []) × (number ≢ 0) × (has_gateway before.configs number ≡ false)
     × (after ≡ record { configs = before.configs ++ config_of number ∷ []; events = [] })
 Adds before (commands.Predefine number id name) after =
-    (before.events ≡ []) × (place : ℕ) × (config : Config) × (position (λ (c : Config). c.gateway == number) before.configs ≡ Some place) × (slice_get before.configs place ≡ Some config)
+    (before.events ≡ []) × (place : ℕ) × (config : Config)
+    × (position (λ (c : Config). c.gateway == number) before.configs ≡ Some place)
+    × (slice_get before.configs place ≡ Some config)
     × IsTrue (is_table (config.predefined ++ (id, name) ∷ []))
-    × (after ≡ record { configs = slice_set before.configs place (record config { predefined = config.predefined ++ (id, name) ∷ [] }); events = [] })
+    × (after ≡ record {
+      configs = slice_set before.configs place
+          (record config { predefined = config.predefined ++ (id, name) ∷ [] });
+      events = [];
+    })
 Adds before (commands.Happens event) after =
     after ≡ record { configs = before.configs; events = before.events ++ event ∷ [] }
 
 -- the second script says what the first says, and then the line; an empty line says nothing
 abbrev pub Extends : Script → List ℕ → Script → Type 0
 Extends before line after =
-    ((line ≡ []) × (after ≡ before)) ⊎ ((command : Command) × Spells line command × Adds before command after)
+    ((line ≡ []) × (after ≡ before))
+    ⊎ ((command : Command) × Spells line command × Adds before command after)
 
 -- the lines make up the script
 pub data IsScriptOf : List (List ℕ) → Script → Type 0 where
   none : IsScriptOf [] empty_script
-  more : (lines : List (List ℕ)) (line : List ℕ) (before after : Script) → IsScriptOf lines before → Extends before line after
+  more : (lines : List (List ℕ)) (line : List ℕ) (before after : Script) → IsScriptOf lines before
+      → Extends before line after
       → IsScriptOf (lines ++ line ∷ []) after

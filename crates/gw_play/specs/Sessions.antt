@@ -18,16 +18,19 @@ known_word false = codes "new"
 -- a topic id and its name
 abbrev pub topic_line : TopicEntry → List ℕ
 topic_line entry =
-    codes "  topic " ▹ decimal entry.id ▹ codes " " ▹ hex_text entry.name ▹ codes " " ▹ known_word entry.known ▹ line_end
+    codes "  topic " ▹ decimal entry.id ▹ codes " " ▹ hex_text entry.name ▹ codes " "
+    ▹ known_word entry.known ▹ line_end
 
 -- a subscription
 abbrev pub subscription_line : Subscription → List ℕ
-subscription_line subscription = codes "  sub " ▹ hex_text subscription.filter ▹ codes " " ▹ decimal subscription.qos ▹ line_end
+subscription_line subscription =
+    codes "  sub " ▹ hex_text subscription.filter ▹ codes " " ▹ decimal subscription.qos ▹ line_end
 
 -- a will
 abbrev pub will_line : Will → List ℕ
 will_line will =
-    codes "  will " ▹ decimal will.qos ▹ codes " " ▹ hex_text will.topic ▹ codes " " ▹ hex_text will.message ▹ line_end
+    codes "  will " ▹ decimal will.qos ▹ codes " " ▹ hex_text will.topic ▹ codes " "
+    ▹ hex_text will.message ▹ line_end
 
 abbrev pub will_text : Option Will → List ℕ
 will_text None = []
@@ -45,7 +48,8 @@ phase_word phases.Released = codes "released"
 -- the exchange that the gateway has begun
 abbrev pub outbound_line : Outbound → List ℕ
 outbound_line exchange =
-    codes "  outbound " ▹ decimal exchange.origin ▹ codes "." ▹ decimal exchange.seq ▹ codes " " ▹ decimal exchange.msg_id
+    codes "  outbound " ▹ decimal exchange.origin ▹ codes "." ▹ decimal exchange.seq ▹ codes " "
+    ▹ decimal exchange.msg_id
     ▹ codes " " ▹ phase_word exchange.phase ▹ line_end
 
 abbrev pub outbound_text : Option Outbound → List ℕ

@@ -6,7 +6,7 @@ ghost use Rattle.std.specs.Prelude.{◌≡◌, ◌+◌, ◌++◌, IfOk, OnOk, fl
 ghost use Rattle.std.specs.Option.{option_to_list};
 ghost use Rattle.gw_play.specs.Printing.{answers_text, answer_text, deltas_after, out_text, joined, delta_line, delta_lines, send_line, refusal_text, records_line, views_text, client_text, client_line, kind_word, stamp_text, session_text, session_lines, put_line, presence_word};
 ghost use Rattle.gw_play.specs.inner.Printing.{world_fault_line, bad_line_text};
-ghost use Rattle.gw_node.specs.Parts.{told};
+ghost use Rattle.gw_answer.specs.Answers.{told};
 
 use super::session_lines::print_tables;
 use super::text::hexadecimal;

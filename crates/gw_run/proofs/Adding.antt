@@ -1,24 +1,17 @@
 -- What calls add to a pass.
-use Rattle.std.proofs.Common.{◌≡◌, ℕ, Bool, Result, Err, true, List, [], ◌∷◌, ◌++◌, refl, ap, sym, ◌∙◌, append-nil, append_assoc, subst}
+use Rattle.std.proofs.Common.{◌≡◌, ℕ, Bool, Result, Err, true, [], ◌∷◌, ◌++◌, ap, sym, ◌∙◌}
 use Rattle.std.proofs.lemmas.List.Elements.{All-append, All-cons, All-nil}
-use Rattle.gw_node.specs.declared.step.Step.{Step}
-use Rattle.gw_node.specs.declared.out.Out.{Out}
-use Rattle.gw_node.specs.declared.refusal.Refusal.{Refusal}
-use Rattle.gw_node.specs.Parts.{told}
+use Rattle.gw_answer.specs.declared.step.Step.{Step}
+use Rattle.gw_answer.specs.declared.out.Out.{Out}
+use Rattle.gw_answer.specs.declared.refusal.Refusal.{Refusal}
+use Rattle.gw_answer.specs.Answers.{told}
 use Rattle.gw_shift.specs.Calls.{Held, Holder}
-use Rattle.gw_shift.specs.Passes.{held_as}
+use Rattle.gw_shift.specs.Passes.{held_as, with_calls}
 use Rattle.gw_shift.specs.Calling.{Made, NotMade}
 use Rattle.gw_shift.specs.declared.fault.CallFault.{CallFault}
 use Rattle.gw_shift.specs.declared.fault.CallFault.TheVariants as faults
-use Rattle.gw_run.specs.Adding.{with_calls, AddsEach, Adds}
-
--- no calls behind what it held
-with_none : (pass : Holder) → with_calls pass [] ≡ pass
-with_none pass = ap (λ (calls : List Held). record { place = pass.place; opening = pass.opening; calls = calls }) (append-nil pass.calls)
-
--- calls, and calls behind them
-with_both : (pass : Holder) (xs ys : List Held) → with_calls (with_calls pass xs) ys ≡ with_calls pass (xs ++ ys)
-with_both pass xs ys = ap (λ (calls : List Held). record { place = pass.place; opening = pass.opening; calls = calls }) (append_assoc pass.calls xs ys)
+use Rattle.gw_run.specs.Adding.{AddsEach, Adds}
+use Rattle.gw_shift.proofs.Gained.{with_none, with_both}
 
 pub each_none : (IsSuch : Held → Type 0) (before after : Holder) → after ≡ before → AddsEach IsSuch before after
 each_none IsSuch before after e = ([], e ∙ sym (with_none before), All-nil IsSuch)

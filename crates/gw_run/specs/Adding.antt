@@ -1,16 +1,14 @@
 -- What a thread adds to its pass.
-use Rattle.std.specs.Prelude.{◌≡◌, Bool, true, false, List, ◌++◌, All}
-use Rattle.gw_node.specs.declared.step.Step.{Step}
-use Rattle.gw_node.specs.declared.step.Step.TheVariants as steps
+use Rattle.std.specs.Prelude.{◌≡◌, Bool, true, false, List, All}
+use Rattle.gw_answer.specs.declared.step.Step.{Step}
+use Rattle.gw_answer.specs.declared.step.Step.TheVariants as steps
 use Rattle.gw_shift.specs.Calls.{Held, Holder}
-
--- the pass holds what it held, and these calls behind it
-abbrev pub with_calls : Holder → List Held → Holder
-with_calls pass more = record { place = pass.place; opening = pass.opening; calls = pass.calls ++ more }
+use Rattle.gw_shift.specs.Passes.{with_calls}
 
 -- the pass holds what it held and then such calls, and nothing else
 abbrev pub AddsEach : (Held → Type 0) → Holder → Holder → Type 0
-AddsEach IsSuch before after = (more : List Held) × (after ≡ with_calls before more) × All IsSuch more
+AddsEach IsSuch before after =
+    (more : List Held) × (after ≡ with_calls before more) × All IsSuch more
 
 -- the same of calls of one kind
 abbrev pub Adds : (Step → Bool) → Holder → Holder → Type 0

@@ -1,9 +1,9 @@
 -- What the clock's thread adds to its pass, and why it ended.
 use Rattle.std.specs.Prelude.{◌≡◌, ◌⊎◌, ℕ, Bool, true, false, Option, Some, None, Result, Ok, Err}
-use Rattle.gw_node.specs.declared.step.Step.TheVariants as steps
-use Rattle.gw_node.specs.declared.out.Out.{Out}
-use Rattle.gw_node.specs.declared.refusal.Refusal.{Refusal}
-use Rattle.gw_node.specs.declared.refusal.Refusal.TheVariants as refusals
+use Rattle.gw_answer.specs.declared.step.Step.TheVariants as steps
+use Rattle.gw_answer.specs.declared.out.Out.{Out}
+use Rattle.gw_answer.specs.declared.refusal.Refusal.{Refusal}
+use Rattle.gw_answer.specs.declared.refusal.Refusal.TheVariants as refusals
 use Rattle.gw_shift.specs.Calls.{Held, Holder}
 use Rattle.gw_shift.specs.Calling.{Made}
 use Rattle.gw_run.specs.Adding.{AddsEach, is_tick}
@@ -37,13 +37,15 @@ IsLiveTick held = (is_tick held.step ≡ true) × (says_halted held.answer ≡ f
 
 -- one more call of the pass: a tick, which found the gateway halted
 abbrev pub FindsHalted : Holder → Holder → Type 0
-FindsHalted before after = (moment number : ℕ) × Made before (steps.Tick moment) (Err refusals.Halted) number after
+FindsHalted before after =
+    (moment number : ℕ) × Made before (steps.Tick moment) (Err refusals.Halted) number after
 
 -- one more call of the pass: the gateway is to be opened anew, and answers so
 abbrev pub Reopens : Holder → Result Out Refusal → Holder → Type 0
 Reopens before answer after = (number : ℕ) × Made before steps.Reopen answer number after
 
--- How a gateway that was found halted was opened anew. It was, or refused that; or the call could not be made.
+-- How a gateway that was found halted was opened anew. It was, or refused that; or the call could
+-- not be made.
 abbrev pub OpensAs : Holder → End → Holder → Type 0
 OpensAs before ends.Reopened after = (out : Out) × Reopens before (Ok out) after
 OpensAs before ends.Halted after = (refusal : Refusal) × Reopens before (Err refusal) after
@@ -52,14 +54,16 @@ OpensAs before ends.Memory after = after ≡ before
 OpensAs before ends.Behind after = after ≡ before
 OpensAs before ends.Lost after = ⊥
 
--- What stands behind the ticks that did not find the gateway halted, by why the clock ended: nothing; or one that did, and then the
--- call by which the gateway was opened anew.
+-- What stands behind the ticks that did not find the gateway halted, by why the clock ended:
+-- nothing; or one that did, and then the call by which the gateway was opened anew.
 abbrev pub EndsAs : Holder → Option End → Holder → Type 0
 EndsAs before None after = after ≡ before
 EndsAs before (Some end) after =
     (CannotCall end × (after ≡ before))
     ⊎ ((found : Holder) × FindsHalted before found × OpensAs found end after)
 
--- The pass holds what it held and then ticks, none of which found the gateway halted; then it ends so; and it holds nothing else.
+-- The pass holds what it held and then ticks, none of which found the gateway halted; then it ends
+-- so; and it holds nothing else.
 abbrev pub AddsOfClock : Holder → Option End → Holder → Type 0
-AddsOfClock before end after = (ticked : Holder) × AddsEach IsLiveTick before ticked × EndsAs ticked end after
+AddsOfClock before end after =
+    (ticked : Holder) × AddsEach IsLiveTick before ticked × EndsAs ticked end after

@@ -2,8 +2,8 @@
 
 ghost use Rattle.std.specs.Prelude.{◌≡◌, ℕ, Bool, true, IfOk, IfErr, Err};
 ghost use Rattle.std.specs.Arc.{arc_value};
-ghost use Rattle.gw_node.specs.Parts.{said, told};
-ghost use Rattle.gw_node.specs.declared.step.Step.{Step as AnyStep};
+ghost use Rattle.gw_answer.specs.Answers.{said, told};
+ghost use Rattle.gw_answer.specs.declared.step.Step.{Step as AnyStep};
 ghost use Rattle.gw_shift.specs.Calling.{Made};
 ghost use Rattle.gw_run.specs.Adding.{Adds};
 ghost use Rattle.gw_run.specs.Clock.{says_halted, CannotCall};
@@ -13,7 +13,7 @@ ghost use Rattle.gw_run.specs.declared.calling.End.TheVariants as ends;
 use crate::stage::Stage;
 use gw_node::{Answer, NodeFault, Step};
 use gw_shift::{CallFault, Pass, Shift};
-use jr_journal::Disk;
+use jr_disk::Disk;
 use rep_model::Replica;
 use std::alloc::Global;
 use std::sync::{Arc, Wait};

@@ -12,7 +12,7 @@ use crate::stage::Stage;
 use gw_net::{LinkFault, LinkMessage};
 use gw_node::Step;
 use gw_shift::{Pass, Shift};
-use jr_journal::Disk;
+use jr_disk::Disk;
 use rep_model::Replica;
 use std::alloc::Global;
 use std::io::Read;

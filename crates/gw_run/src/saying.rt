@@ -10,7 +10,7 @@ use crate::stage::Stage;
 use gw_net::LinkMessage;
 use gw_node::{Out, Step};
 use gw_shift::{CallFault, Pass, Shift};
-use jr_journal::Disk;
+use jr_disk::Disk;
 use rep_digest::Digest;
 use rep_model::Replica;
 use rep_ops::Delta;

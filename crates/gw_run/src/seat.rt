@@ -8,7 +8,7 @@ use crate::pool::Pool;
 use crate::stage::{Phase, Stage};
 use crate::talking::talk;
 use gw_shift::{Pass, Shift};
-use jr_journal::Disk;
+use jr_disk::Disk;
 use rep_model::Replica;
 use std::alloc::Global;
 use std::io::{Read, Write};

@@ -9,7 +9,7 @@ use crate::outgoing::pump;
 use crate::saying::{greet, tell_all};
 use crate::stage::{Phase, Stage};
 use gw_shift::{Pass, Shift};
-use jr_journal::Disk;
+use jr_disk::Disk;
 use rep_model::Replica;
 use std::alloc::Global;
 use std::io::{Read, Write};

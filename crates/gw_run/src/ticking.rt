@@ -9,7 +9,7 @@ use crate::stage::{Phase, Stage};
 use gw_node::{Out, Step};
 use gw_shift::{Pass, Shift};
 use gw_wire::{Post, moment};
-use jr_journal::Disk;
+use jr_disk::Disk;
 use rep_model::Replica;
 use std::alloc::Global;
 use std::sync::{Arc, Wait};

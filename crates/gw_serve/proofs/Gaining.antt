@@ -1,13 +1,13 @@
 -- What steps add to a pass.
-use Rattle.std.proofs.Common.{◌≡◌, ℕ, Result, Err, true, List, [], ◌∷◌, ◌++◌, map, Some, is_some, true≢false, sym, refl, ap, ◌∙◌, subst, append-nil, append_assoc, arith}
+use Rattle.std.proofs.Common.{◌≡◌, ℕ, Result, Err, true, List, [], ◌∷◌, ◌++◌, map, Some, is_some, true≢false, sym, refl, ap, ◌∙◌, subst, append-nil, arith}
 use Rattle.std.proofs.lemmas.List.{map-append}
 use Rattle.std.proofs.lemmas.List.Elements.{All-append, All-cons, All-nil}
 use Rattle.gw_shift.specs.Calls.{Held, Holder}
-use Rattle.gw_node.specs.declared.step.Step.{Step}
-use Rattle.gw_node.specs.declared.out.Out.{Out}
-use Rattle.gw_node.specs.declared.refusal.Refusal.{Refusal}
-use Rattle.gw_node.specs.Parts.{told}
-use Rattle.gw_shift.specs.Passes.{held_as}
+use Rattle.gw_answer.specs.declared.step.Step.{Step}
+use Rattle.gw_answer.specs.declared.out.Out.{Out}
+use Rattle.gw_answer.specs.declared.refusal.Refusal.{Refusal}
+use Rattle.gw_answer.specs.Answers.{told}
+use Rattle.gw_shift.specs.Passes.{held_as, with_calls}
 use Rattle.gw_shift.specs.Calling.{Made, NotMade}
 use Rattle.gw_shift.specs.declared.fault.CallFault.{CallFault}
 use Rattle.gw_shift.specs.declared.fault.CallFault.TheVariants as faults
@@ -25,18 +25,11 @@ use Rattle.crossbeam_channel.specs.declared.flavors.array.Doing.{Doing}
 use Rattle.crossbeam_channel.specs.Claims.{view, IsSeatAt}
 use Rattle.gw_serve.specs.Count.{weigh}
 use Rattle.gw_serve.specs.inner.Queue.{hand}
-use Rattle.gw_serve.specs.Serving.{is_frame, with_calls, Gains}
+use Rattle.gw_serve.specs.Serving.{is_frame, Gains}
 use Rattle.gw_serve.specs.inner.Handling.{IsHandled, IsRefused}
 use Rattle.gw_serve.specs.inner.Work.{IsWorked, IsWorking}
 use Rattle.gw_serve.proofs.Balance.{weigh-append}
-
--- no calls behind what it held
-with_none : (pass : Holder) → with_calls pass [] ≡ pass
-with_none pass = ap (λ (calls : List Held). record { place = pass.place; opening = pass.opening; calls = calls }) (append-nil pass.calls)
-
--- calls, and calls behind them
-with_both : (pass : Holder) (xs ys : List Held) → with_calls (with_calls pass xs) ys ≡ with_calls pass (xs ++ ys)
-with_both pass xs ys = ap (λ (calls : List Held). record { place = pass.place; opening = pass.opening; calls = calls }) (append_assoc pass.calls xs ys)
+use Rattle.gw_shift.proofs.Gained.{with_none, with_both}
 
 pub gains_none : (before after : Holder) → after ≡ before → Gains before [] after
 gains_none before after e = ([], e ∙ sym (with_none before), refl, All-nil (λ (m : Held). is_frame m.step ≡ true))

@@ -17,7 +17,7 @@ use crate::worker::{Cause, Seat, Taken, Trouble, work};
 use crossbeam_channel::bounded_with;
 use gw_shift::{Pass, Shift};
 use gw_wire::{Gate, Post, Wire};
-use jr_journal::Disk;
+use jr_disk::Disk;
 use rep_model::Replica;
 use std::alloc::{AllocError, Global};
 use std::sync::Wait;

@@ -10,7 +10,7 @@ use crate::queue::{Datagram, Receiver, Takes, Ticket};
 use gw_node::{NodeFault, Out, Step};
 use gw_shift::{CallFault, Pass, Shift};
 use gw_wire::{Gate, Post};
-use jr_journal::Disk;
+use jr_disk::Disk;
 use octets::Octets;
 use rep_model::Replica;
 use std::alloc::Global;

@@ -5,7 +5,7 @@ use Rattle.std.specs.Arc.{arc_value}
 use Rattle.std.specs.declared.sync.Arc.{Arc}
 use Rattle.std.specs.declared.alloc.Global.{Global}
 use Rattle.rep_ops.specs.declared.op.Op.{Op}
-use Rattle.gw_node.specs.declared.out.Out.{Out}
+use Rattle.gw_answer.specs.declared.out.Out.{Out}
 use Rattle.gw_shift.specs.Calls.{Call}
 use Rattle.gw_shift.specs.Passes.{Climb}
 use Rattle.gw_shift.specs.inner.Passes.{made_of, made_after, noted, told_by}

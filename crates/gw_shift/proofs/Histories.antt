@@ -2,10 +2,10 @@
 use Rattle.std.proofs.Common.{◌≡◌, ◌+◌, ℕ, List, [], ◌∷◌, ◌++◌, refl, sym, subst, arith, Result}
 use Rattle.rep_ops.specs.declared.op.Op.{Op}
 use Rattle.rep_model.specs.Held.{IsHeld}
-use Rattle.jr_journal.specs.declared.disk.Disk.{Ghosts}
-use Rattle.gw_node.specs.declared.out.Out.{Out}
-use Rattle.gw_node.specs.declared.refusal.Refusal.{Refusal}
-use Rattle.gw_node.specs.declared.step.Step.{Step}
+use Rattle.jr_disk.specs.declared.disk.Disk.{Ghosts}
+use Rattle.gw_answer.specs.declared.out.Out.{Out}
+use Rattle.gw_answer.specs.declared.refusal.Refusal.{Refusal}
+use Rattle.gw_answer.specs.declared.step.Step.{Step}
 use Rattle.gw_node.specs.Parts.{State}
 use Rattle.gw_node.specs.Calls.{StepCall}
 use Rattle.gw_node.specs.Carrying.{StepCarriesOn}

@@ -5,3 +5,4 @@ pub mod Counting
 pub mod Strangers
 pub mod Apart
 pub mod Unused
+pub mod Gained

@@ -1,20 +1,23 @@
 -- What a call does to a history and to the pass that makes it.
 use Rattle.std.specs.Prelude.{◌≡◌, ◌<◌, ℕ, Result, Err}
-use Rattle.gw_node.specs.declared.step.Step.{Step}
-use Rattle.gw_node.specs.declared.out.Out.{Out}
-use Rattle.gw_node.specs.declared.refusal.Refusal.{Refusal}
-use Rattle.gw_node.specs.Parts.{told}
+use Rattle.gw_answer.specs.declared.step.Step.{Step}
+use Rattle.gw_answer.specs.declared.out.Out.{Out}
+use Rattle.gw_answer.specs.declared.refusal.Refusal.{Refusal}
+use Rattle.gw_answer.specs.Answers.{told}
 use Rattle.gw_shift.specs.Calls.{Holder}
 use Rattle.gw_shift.specs.Passes.{seen_by, with_call, held_as}
 use Rattle.gw_shift.specs.declared.fault.CallFault.{CallFault}
 use Rattle.gw_shift.specs.declared.fault.CallFault.TheVariants as faults
 
--- The call got a number above all that the pass has seen, and the pass then holds what it held before and the call, and nothing else.
-pub record Made (old : Holder) (step : Step) (answer : Result Out Refusal) (number : ℕ) (new : Holder) : Type 0 where
+-- The call got a number above all that the pass has seen, and the pass then holds what it held
+-- before and the call, and nothing else.
+pub record Made (old : Holder) (step : Step) (answer : Result Out Refusal) (number : ℕ)
+    (new : Holder) : Type 0 where
   pub later : seen_by old < number
   pub holds : new ≡ with_call old (held_as number step answer)
 
--- what a pass holds after a call that was refused: the call with its refusal, where it reached the node
+-- what a pass holds after a call that was refused: the call with its refusal, where it reached the
+-- node
 abbrev pub NotMade : Holder → Step → CallFault → Holder → Type 0
 NotMade old step faults.ShiftFull new = new ≡ old
 NotMade old step (faults.Behind held) new = (held < seen_by old) × (new ≡ old)

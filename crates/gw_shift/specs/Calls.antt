@@ -1,9 +1,9 @@
 -- Calls of a node, as a history and as passes hold them.
 use Rattle.std.specs.Prelude.{ℕ, List, Result}
 use Rattle.rep_ops.specs.declared.op.Op.{Op}
-use Rattle.gw_node.specs.declared.step.Step.{Step}
-use Rattle.gw_node.specs.declared.out.Out.{Out}
-use Rattle.gw_node.specs.declared.refusal.Refusal.{Refusal}
+use Rattle.gw_answer.specs.declared.step.Step.{Step}
+use Rattle.gw_answer.specs.declared.out.Out.{Out}
+use Rattle.gw_answer.specs.declared.refusal.Refusal.{Refusal}
 
 -- a call, with the pass that made it and what the node answered
 pub record Call : Type 0 where

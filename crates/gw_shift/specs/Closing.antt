@@ -8,7 +8,9 @@ use Rattle.gw_shift.specs.declared.fault.CloseFault.TheVariants as faults
 
 -- the history has the call at its number, under this pass
 abbrev pub StandsIn : List Call → ℕ → Held → Type 0
-StandsIn history place held = (0 < held.number) × (slice_get history (held.number - 1) ≡ Some (record { place = place; step = held.step; answer = held.answer }))
+StandsIn history place held =
+    (0 < held.number) × (slice_get history (held.number - 1)
+    ≡ Some (record { place = place; step = held.step; answer = held.answer }))
 
 abbrev pub has_number : ℕ → List Held → Bool
 has_number number [] = false
@@ -22,18 +24,23 @@ is_held number (pass ∷ rest) = has_number number pass.calls || is_held number 
 -- the calls stand in the history under that pass, and no other pass holds one of them
 abbrev pub AreOwn : List Call → ℕ → List Holder → List Held → Type 0
 AreOwn history place others [] = Unit {0}
-AreOwn history place others (held ∷ rest) = StandsIn history place held × (is_held held.number others ≡ false) × AreOwn history place others rest
+AreOwn history place others (held ∷ rest) =
+    StandsIn history place held × (is_held held.number others ≡ false)
+    × AreOwn history place others rest
 
 abbrev pub AreKnown : List Call → List Holder → Type 0
 AreKnown history [] = Unit {0}
-AreKnown history (pass ∷ rest) = Ascend 0 pass.calls × AreOwn history pass.place rest pass.calls × AreKnown history rest
+AreKnown history (pass ∷ rest) =
+    Ascend 0 pass.calls × AreOwn history pass.place rest pass.calls × AreKnown history rest
 
--- This is the number of the first of the calls that the history has not so, or that another of the passes holds.
+-- This is the number of the first of the calls that the history has not so, or that another of the
+-- passes holds.
 abbrev pub IsStrangeIn : List Call → ℕ → List Holder → List Held → ℕ → Type 0
 IsStrangeIn history place others [] number = ⊥
 IsStrangeIn history place others (held ∷ rest) number =
     ((number ≡ held.number) × (StandsIn history place held → is_held held.number others ≡ true))
-    ⊎ (StandsIn history place held × (is_held held.number others ≡ false) × IsStrangeIn history place others rest number)
+    ⊎ (StandsIn history place held × (is_held held.number others ≡ false)
+    × IsStrangeIn history place others rest number)
 
 abbrev pub IsStrange : List Call → List Holder → ℕ → Type 0
 IsStrange history [] number = ⊥
@@ -60,9 +67,11 @@ abbrev pub times_held : ℕ → List Holder → ℕ
 times_held number [] = 0
 times_held number (pass ∷ rest) = times number pass.calls + times_held number rest
 
--- The passes hold the calls of the history: each of them holds the opening; its calls stand in the history at their numbers, under it,
--- in its order; they are as many as the history has; and each call of the history is held once.
-pub record Accounts (opening : List (List Op)) (history : List Call) (passes : List Holder) : Type 0 where
+-- The passes hold the calls of the history: each of them holds the opening; its calls stand in the
+-- history at their numbers, under it, in its order; they are as many as the history has; and each
+-- call of the history is held once.
+pub record Accounts (opening : List (List Op)) (history : List Call)
+    (passes : List Holder) : Type 0 where
   pub openings : HaveOpening opening passes
   pub known : AreKnown history passes
   pub whole : taken_by passes ≡ length history
@@ -75,6 +84,8 @@ unused place opening = record { place = place; opening = opening; calls = [] }
 -- why a shift is not closed
 abbrev pub IsRefused : List (List Op) → List Call → List Holder → CloseFault → Type 0
 IsRefused opening history passes (faults.Stranger number) =
-    ((number ≡ 0) × (HaveOpening opening passes → ⊥)) ⊎ (HaveOpening opening passes × IsStrange history passes number)
+    ((number ≡ 0) × (HaveOpening opening passes → ⊥))
+    ⊎ (HaveOpening opening passes × IsStrange history passes number)
 IsRefused opening history passes (faults.Missing steps held) =
-    HaveOpening opening passes × AreKnown history passes × (steps ≡ length history) × (held ≡ taken_by passes) × (held ≢ steps)
+    HaveOpening opening passes × AreKnown history passes × (steps ≡ length history)
+    × (held ≡ taken_by passes) × (held ≢ steps)

@@ -1,9 +1,9 @@
 -- What a pass holds after a call, and which deltas a shift hands on.
 use Rattle.std.specs.Prelude.{◌<◌, ◌+◌, ℕ, zero, suc, List, [], ◌∷◌, ◌++◌, Result}
 use Rattle.rep_ops.specs.declared.op.Op.{Op}
-use Rattle.gw_node.specs.declared.step.Step.{Step}
-use Rattle.gw_node.specs.declared.out.Out.{Out}
-use Rattle.gw_node.specs.declared.refusal.Refusal.{Refusal}
+use Rattle.gw_answer.specs.declared.step.Step.{Step}
+use Rattle.gw_answer.specs.declared.out.Out.{Out}
+use Rattle.gw_answer.specs.declared.refusal.Refusal.{Refusal}
 use Rattle.gw_shift.specs.Calls.{Held, Holder}
 
 -- the numbers of the calls ascend, and the first is above this one
@@ -24,7 +24,13 @@ held_as number step answer = record { number = number; step = step; answer = ans
 
 -- the pass holds what it held, and this
 abbrev pub with_call : Holder → Held → Holder
-with_call pass made = record { place = pass.place; opening = pass.opening; calls = pass.calls ++ made ∷ [] }
+with_call pass made =
+    record { place = pass.place; opening = pass.opening; calls = pass.calls ++ made ∷ [] }
+
+-- the pass holds what it held, and these calls behind it
+abbrev pub with_calls : Holder → List Held → Holder
+with_calls pass more =
+    record { place = pass.place; opening = pass.opening; calls = pass.calls ++ more }
 
 -- numbers ascend, and the first is above this one
 abbrev pub Climb : ℕ → List (ℕ × List Op) → Type 0
@@ -34,4 +40,5 @@ Climb least (entry ∷ rest) = (least < entry.0) × Climb entry.0 rest
 -- so many passes that hold nothing but the opening
 abbrev pub fresh : List (List Op) → ℕ → List Holder
 fresh opening zero = []
-fresh opening (suc count) = fresh opening count ++ record { place = count; opening = opening; calls = [] } ∷ []
+fresh opening (suc count) =
+    fresh opening count ++ record { place = count; opening = opening; calls = [] } ∷ []

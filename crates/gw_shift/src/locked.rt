@@ -34,7 +34,7 @@ pub struct Locked<R: Replica, D: Disk> {
 
 impl<R: Replica, D: Disk + Drop> Locked<R, D> {
     ghost use Rattle.std.specs.Prelude.{◌≡◌, ◌≤◌, ◌<◌, ◌+◌, ◌++◌, ◌∷◌, [], ℕ, IfOk, IfErr, vec_len, take, drop};
-    ghost use Rattle.gw_node.specs.Parts.{said};
+    ghost use Rattle.gw_answer.specs.Answers.{said};
     ghost use Rattle.gw_shift.specs.Calls.{Call};
     ghost use Rattle.gw_shift.specs.inner.Passes.{call, made_after, told_by};
     ghost use Rattle.gw_shift.specs.inner.Calling.{Entered, NotEntered, IsNotTold};

@@ -1,6 +1,6 @@
 //! What a gateway asks of the outside: where datagrams come from, where replies go, and who is told of them.
 
-use sn_flow::Addr;
+use sn_local::Addr;
 use thiserror::Error;
 
 /// A datagram that came.
@@ -27,7 +27,7 @@ pub struct Unsent;
 /// Where datagrams come from. One thread has it.
 pub trait Wire {
     ghost use Rattle.std.specs.Prelude.{◌≡◌, ◌≤◌, ℕ, length, IfOk, IfSome};
-    ghost use Rattle.jr_journal.specs.Disk.{HasCause};
+    ghost use Rattle.jr_disk.specs.Disk.{HasCause};
 
     /// How many receives have failed.
     ghost failures: { Self → ℕ };

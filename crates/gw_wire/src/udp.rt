@@ -5,10 +5,10 @@ ghost use Rattle.gw_wire.specs.Addresses.{IsAddress};
 ghost use Rattle.gw_wire.specs.inner.Addresses.{addr_of};
 
 use super::ends::{Arrival, Post, Unsent, Wire, WireFault};
-use jr_journal::Failures;
+use jr_disk::Failures;
 use mio::net::UdpSocket;
 use mio::{Events, Interest, Poll, Token};
-use sn_flow::Addr;
+use sn_local::Addr;
 use std::alloc::Global;
 use std::io;
 use std::io::ErrorKind;

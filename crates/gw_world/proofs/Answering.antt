@@ -19,9 +19,9 @@ use Rattle.rep_model.proofs.Readers.{operation_at_keep, put_at_keep, is_acknowle
 use Rattle.rep_digest.specs.declared.entry.ClientEntry.{ClientEntry}
 use Rattle.rep_digest.specs.Answers.{covers_operation, covers_put, covers_acknowledgement, IsRest, IsAnswer}
 use Rattle.rep_digest.specs.Digests.{digest}
-use Rattle.gw_node.specs.declared.out.Out.{Out}
-use Rattle.gw_node.specs.declared.refusal.Refusal.{Refusal}
-use Rattle.gw_node.specs.declared.refusal.Refusal.TheVariants as refusals
+use Rattle.gw_answer.specs.declared.out.Out.{Out}
+use Rattle.gw_answer.specs.declared.refusal.Refusal.{Refusal}
+use Rattle.gw_answer.specs.declared.refusal.Refusal.TheVariants as refusals
 use Rattle.gw_node.specs.Gateways.{Gateway}
 use Rattle.gw_world.specs.Steps.{AnswerStep}
 use Rattle.gw_node.specs.Plans.{IsWritable}

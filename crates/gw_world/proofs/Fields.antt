@@ -11,13 +11,14 @@ use Rattle.rep_model.specs.Taking.{AllAgree}
 use Rattle.rep_model.proofs.Joins.{view-counts}
 use Rattle.rep_model.proofs.Named.{clients-counts}
 use Rattle.sn_local.specs.declared.config.Config.{Config}
-use Rattle.jr_journal.specs.declared.disk.Disk.{Ghosts}
-use Rattle.gw_node.specs.declared.out.Out.{Out}
-use Rattle.gw_node.specs.declared.fault.NodeFault.{NodeFault}
+use Rattle.jr_disk.specs.declared.disk.Disk.{Ghosts}
+use Rattle.gw_answer.specs.declared.out.Out.{Out}
+use Rattle.gw_answer.specs.declared.fault.NodeFault.{NodeFault}
 use Rattle.gw_node.specs.Occasions.{Occasion, Datagram, Clock}
 use Rattle.gw_node.specs.Event.{OwnStep}
 use Rattle.gw_node.specs.Gateways.{Gateway, new_gateway}
-use Rattle.gw_node.specs.Parts.{State, said}
+use Rattle.gw_node.specs.Parts.{State}
+use Rattle.gw_answer.specs.Answers.{said}
 use Rattle.gw_node.specs.Standing.{OwnAgrees}
 use Rattle.gw_world.specs.declared.event.Event.{Event}
 use Rattle.gw_world.specs.declared.event.Event.TheVariants.{Frame, Tick, Take, Answer as Asks, WriteFails, Compact, Restart, Show}

@@ -8,15 +8,15 @@ use Rattle.rep_digest.specs.Answers.{IsAnswer}
 use Rattle.rep_digest.specs.Digests.{digest}
 use Rattle.rep_digest.specs.Spelling.{spelling, IsWithinLimit as IsDigestWithinLimit}
 use Rattle.rep_digest.proofs.Completing.{same_digest, same_answer}
-use Rattle.jr_journal.specs.declared.disk.Disk.{Ghosts}
-use Rattle.jr_journal.specs.declared.disk.Plan.TheVariants.{Stop, KeepBack}
-use Rattle.jr_journal.specs.Memory.{MemoryState, failing as failing_disk}
+use Rattle.jr_disk.specs.declared.disk.Disk.{Ghosts}
+use Rattle.jr_disk.specs.declared.disk.Plan.TheVariants.{Stop, KeepBack}
+use Rattle.jr_disk.specs.Memory.{MemoryState, failing as failing_disk}
 use Rattle.jr_journal.specs.Opening.{is_quiet}
 use Rattle.jr_journal.specs.Parts.{disk_of}
-use Rattle.gw_node.specs.declared.out.Out.{Out}
-use Rattle.gw_node.specs.declared.refusal.Refusal.{Refusal}
-use Rattle.gw_node.specs.declared.refusal.Refusal.TheVariants as refusals
-use Rattle.gw_node.specs.declared.step.Step.{Step}
+use Rattle.gw_answer.specs.declared.out.Out.{Out}
+use Rattle.gw_answer.specs.declared.refusal.Refusal.{Refusal}
+use Rattle.gw_answer.specs.declared.refusal.Refusal.TheVariants as refusals
+use Rattle.gw_answer.specs.declared.step.Step.{Step}
 use Rattle.gw_node.specs.Arranging.{Arranges}
 use Rattle.gw_node.specs.Event.{Event, StepOf}
 use Rattle.gw_node.specs.Gateways.{Gateway}

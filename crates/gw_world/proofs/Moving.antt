@@ -5,9 +5,9 @@ use Rattle.std.specs.Option.{option_map}
 use Rattle.std.proofs.lemmas.Option.{slice_get-map}
 use Rattle.std.proofs.lemmas.List.{map-set}
 use Rattle.rep_ops.specs.declared.op.Op.{Op}
-use Rattle.jr_journal.specs.declared.disk.Disk.{Ghosts}
-use Rattle.gw_node.specs.declared.out.Out.{Out}
-use Rattle.gw_node.specs.declared.refusal.Refusal.{Refusal}
+use Rattle.jr_disk.specs.declared.disk.Disk.{Ghosts}
+use Rattle.gw_answer.specs.declared.out.Out.{Out}
+use Rattle.gw_answer.specs.declared.refusal.Refusal.{Refusal}
 use Rattle.gw_node.specs.Gateways.{Gateway}
 use Rattle.gw_node.specs.Parts.{State}
 use Rattle.gw_world.specs.declared.event.Event.{Event}

@@ -8,16 +8,16 @@ use Rattle.rep_model.specs.Limits.{first_passed}
 use Rattle.rep_model.proofs.Joins.{counts-refl, same_trans}
 use Rattle.sn_local.specs.declared.config.Config.{Config}
 use Rattle.sn_local.specs.Locals.{no_local}
-use Rattle.jr_journal.specs.declared.disk.Disk.{Ghosts}
-use Rattle.jr_journal.specs.declared.disk.Plan.{Plan as Failure}
-use Rattle.jr_journal.specs.Disk.{Image, image, left_of, after_crash}
+use Rattle.jr_disk.specs.declared.disk.Disk.{Ghosts}
+use Rattle.jr_disk.specs.declared.disk.Plan.{Plan as Failure}
+use Rattle.jr_disk.specs.Disk.{Image, image, left_of, after_crash}
 use Rattle.jr_journal.specs.Faults.{is_fresh, fault_of}
-use Rattle.jr_journal.specs.Memory.{MemoryState, empty_disk, crashed_disk}
+use Rattle.jr_disk.specs.Memory.{MemoryState, empty_disk, crashed_disk}
 use Rattle.jr_journal.specs.Opening.{recovered, is_quiet}
 use Rattle.jr_journal.specs.Parts.{disk_of}
 use Rattle.jr_journal.specs.Records.{records, slot_content}
-use Rattle.gw_node.specs.declared.refusal.Refusal.{Refusal}
-use Rattle.gw_node.specs.declared.refusal.Refusal.TheVariants as refusals
+use Rattle.gw_answer.specs.declared.refusal.Refusal.{Refusal}
+use Rattle.gw_answer.specs.declared.refusal.Refusal.TheVariants as refusals
 use Rattle.gw_node.specs.Drives.{opened, left_by}
 use Rattle.gw_node.specs.Gateways.{Gateway}
 use Rattle.gw_node.specs.Keeping.{Keeps}

@@ -17,9 +17,9 @@ use Rattle.sn_plan.specs.Flush.{IsFlush, AreFlush}
 use Rattle.sn_deliver.proofs.Drafting.{step-drafted, tick-drafted}
 use Rattle.sn_flow.proofs.Stepping.{step-fits, step-flush, step-new_operation, step-new_put}
 use Rattle.sn_flow.proofs.Flushness.{flush-start, flush-taken}
-use Rattle.gw_node.specs.declared.out.Out.{Out}
-use Rattle.gw_node.specs.declared.refusal.Refusal.{Refusal}
-use Rattle.gw_node.specs.declared.refusal.Refusal.TheVariants as refusals
+use Rattle.gw_answer.specs.declared.out.Out.{Out}
+use Rattle.gw_answer.specs.declared.refusal.Refusal.{Refusal}
+use Rattle.gw_answer.specs.declared.refusal.Refusal.TheVariants as refusals
 use Rattle.gw_node.specs.Occasions.{Occasion, Datagram, Clock}
 use Rattle.gw_node.specs.Gateways.{Gateway, new_gateway, with_refused}
 use Rattle.gw_world.specs.Field.{Field, IsAt}

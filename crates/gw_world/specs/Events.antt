@@ -2,8 +2,8 @@
 use Rattle.std.specs.Prelude.{List, [], Result, Ok, Err}
 use Rattle.std.specs.Option.{option_to_list}
 use Rattle.rep_ops.specs.declared.op.Op.{Op}
-use Rattle.gw_node.specs.declared.out.Out.{Out}
-use Rattle.gw_node.specs.declared.refusal.Refusal.{Refusal}
+use Rattle.gw_answer.specs.declared.out.Out.{Out}
+use Rattle.gw_answer.specs.declared.refusal.Refusal.{Refusal}
 
 -- the delta that an answer tells of
 abbrev pub made_of : Result Out Refusal → List (List Op)

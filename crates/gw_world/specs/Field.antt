@@ -7,9 +7,9 @@ use Rattle.sn_local.specs.declared.config.Config.{Config}
 use Rattle.gw_world.specs.declared.event.Event.{Event}
 use Rattle.gw_world.specs.declared.event.Event.TheVariants.{Frame, Tick, Take, Answer as Asks, WriteFails, Compact, Restart, Show}
 use Rattle.gw_world.specs.declared.event.Answer.{Answer}
-use Rattle.gw_node.specs.declared.out.Out.{Out}
-use Rattle.gw_node.specs.declared.refusal.Refusal.{Refusal}
-use Rattle.gw_node.specs.Parts.{said}
+use Rattle.gw_answer.specs.declared.out.Out.{Out}
+use Rattle.gw_answer.specs.declared.refusal.Refusal.{Refusal}
+use Rattle.gw_answer.specs.Answers.{said}
 use Rattle.gw_world.specs.declared.event.Answer.TheVariants.{Node, Views, Records, Nothing}
 use Rattle.gw_node.specs.Occasions.{Occasion, Datagram, Clock}
 use Rattle.gw_node.specs.Drives.{arranged}
@@ -29,11 +29,13 @@ new_field configs = record { gateways = map new_gateway configs; deltas = [] }
 
 -- the gateway that an event at this number is at
 abbrev pub IsAt : Field → ℕ → ℕ → Gateway → Type 0
-IsAt field number i gateway = (place_of number field.gateways ≡ Some i) × (slice_get field.gateways i ≡ Some gateway)
+IsAt field number i gateway =
+    (place_of number field.gateways ≡ Some i) × (slice_get field.gateways i ≡ Some gateway)
 
 -- the i-th gateway became another, and these deltas were made
 abbrev pub changed : Field → ℕ → Gateway → List (List Op) → Field
-changed field i gateway made = record { gateways = slice_set field.gateways i gateway; deltas = field.deltas ++ made }
+changed field i gateway made =
+    record { gateways = slice_set field.gateways i gateway; deltas = field.deltas ++ made }
 
 -- the delta of this number; the first has number 1
 abbrev pub IsDeltaAt : Field → ℕ → List Op → Type 0
@@ -47,9 +49,11 @@ shown taken = map (λ c. (c, view c taken)) (clients taken)
 abbrev pub Steps : Field → ℕ → Occasion → ℕ → Result Out Refusal → Field → Type 0
 Steps old number occasion now answer new =
     (i : ℕ) × (gateway : Gateway) × (next : Gateway) × (made : List (List Op))
-    × IsAt old number i gateway × OwnStep gateway occasion now answer next made × (new ≡ changed old i next made)
+    × IsAt old number i gateway × OwnStep gateway occasion now answer next made
+    × (new ≡ changed old i next made)
 
--- what the digest of a gateway, sent to a peer, may do: the deltas that the peer answers join the list, and nothing else changes
+-- what the digest of a gateway, sent to a peer, may do: the deltas that the peer answers join the
+-- list, and nothing else changes
 abbrev pub Asked : Field → ℕ → ℕ → Result Out Refusal → Field → Type 0
 Asked old number other answer new =
     (i j : ℕ) × (gateway : Gateway) × (peer : Gateway) × (made : List (List Op))
@@ -62,20 +66,26 @@ failing bytes sync old = record old { drive = arranged bytes sync old.drive }
 
 -- what one event may do: its answer, and the field after it
 abbrev pub After : Field → Event → Answer → Field → Type 0
-After old (Frame number from bytes now) (Node answer) new = Steps old number (Datagram from bytes) now (said answer) new
+After old (Frame number from bytes now) (Node answer) new =
+    Steps old number (Datagram from bytes) now (said answer) new
 After old (Tick number now) (Node answer) new = Steps old number Clock now (said answer) new
 After old (Take number delta) (Node answer) new =
     (i : ℕ) × (gateway : Gateway) × (next : Gateway) × (made : List (List Op)) × (ops : List Op)
-    × IsAt old number i gateway × IsDeltaAt old delta ops × TakeStep gateway ops (said answer) next made × (new ≡ changed old i next made)
+    × IsAt old number i gateway × IsDeltaAt old delta ops
+    × TakeStep gateway ops (said answer) next made × (new ≡ changed old i next made)
 After old (Asks number peer) (Node answer) new = Asked old number peer (said answer) new
 After old (WriteFails number bytes sync) Nothing new =
-    (i : ℕ) × (gateway : Gateway) × IsAt old number i gateway × (new ≡ changed old i (failing bytes sync gateway) [])
+    (i : ℕ) × (gateway : Gateway) × IsAt old number i gateway
+    × (new ≡ changed old i (failing bytes sync gateway) [])
 After old (Compact number) (Node answer) new =
-    (i : ℕ) × (gateway : Gateway) × (next : Gateway) × IsAt old number i gateway × CompactStep gateway (said answer) next × (new ≡ changed old i next [])
+    (i : ℕ) × (gateway : Gateway) × (next : Gateway) × IsAt old number i gateway
+    × CompactStep gateway (said answer) next × (new ≡ changed old i next [])
 After old (Restart number kept) (Records count) new =
-    (i : ℕ) × (gateway : Gateway) × IsAt old number i gateway × (count ≡ records_left kept gateway) × (new ≡ changed old i (restarted kept gateway) [])
+    (i : ℕ) × (gateway : Gateway) × IsAt old number i gateway × (count ≡ records_left kept gateway)
+    × (new ≡ changed old i (restarted kept gateway) [])
 After old (Show number) (Views views) new =
-    (i : ℕ) × (gateway : Gateway) × IsAt old number i gateway × (views ≡ shown gateway.taken) × (new ≡ old)
+    (i : ℕ) × (gateway : Gateway) × IsAt old number i gateway × (views ≡ shown gateway.taken)
+    × (new ≡ old)
 After old (Frame number from bytes now) (Views views) new = ⊥
 After old (Tick number now) (Views views) new = ⊥
 After old (Take number delta) (Views views) new = ⊥
@@ -104,7 +114,8 @@ After old (Show number) Nothing new = ⊥
 -- what a list of events may do, one after the other
 abbrev pub Run : Field → List Event → List Answer → Field → Type 0
 Run old [] [] new = new ≡ old
-Run old (event ∷ events) (answer ∷ answers) new = (mid : Field) × After old event answer mid × Run mid events answers new
+Run old (event ∷ events) (answer ∷ answers) new =
+    (mid : Field) × After old event answer mid × Run mid events answers new
 Run old [] (answer ∷ answers) new = ⊥
 Run old (event ∷ events) [] new = ⊥
 
@@ -147,7 +158,9 @@ NamesNoGateway field (Show number) = NoGateway field number
 
 -- the event names a gateway that is there, and a delta that is not
 abbrev pub NamesNoDelta : Field → Event → Type 0
-NamesNoDelta field (Take number delta) = ((i : ℕ) × (place_of number field.gateways ≡ Some i)) × ((ops : List Op) → IsDeltaAt field delta ops → ⊥)
+NamesNoDelta field (Take number delta) =
+    ((i : ℕ) × (place_of number field.gateways ≡ Some i))
+    × ((ops : List Op) → IsDeltaAt field delta ops → ⊥)
 NamesNoDelta field (Frame number from bytes now) = ⊥
 NamesNoDelta field (Tick number now) = ⊥
 NamesNoDelta field (Asks number peer) = ⊥

@@ -1,13 +1,13 @@
 -- Nodes of a field, and the gateways that they stand for.
 use Rattle.std.specs.Prelude.{◌≡◌, false, List, [], ◌∷◌}
-use Rattle.jr_journal.specs.declared.disk.Disk.{Ghosts}
+use Rattle.jr_disk.specs.declared.disk.Disk.{Ghosts}
 use Rattle.jr_journal.specs.Parts.{disk_of}
 use Rattle.gw_node.specs.Gateways.{Gateway}
 use Rattle.gw_node.specs.Parts.{State}
 use Rattle.gw_node.specs.Standing.{Lasts, Stands, IsForeseen}
 
--- The node stands for the gateway, and what that has taken lasts. Of its disk it is known which failure is arranged, and no memory was
--- refused there.
+-- The node stands for the gateway, and what that has taken lasts. Of its disk it is known which
+-- failure is arranged, and no memory was refused there.
 pub record IsShown {D : Type 0} {G : Ghosts D} (gateway : Gateway) (state : State G) : Type 0 where
   pub stands : Stands gateway state
   pub foreseen : IsForeseen gateway state

@@ -4,7 +4,8 @@ use Rattle.gw_node.specs.Gateways.{Gateway}
 
 abbrev pub place_from : ℕ → ℕ → List Gateway → Option ℕ
 place_from number i [] = None
-place_from number i (gateway ∷ rest) = if gateway.config.gateway == number then Some i else place_from number (i + 1) rest
+place_from number i (gateway ∷ rest) =
+    if gateway.config.gateway == number then Some i else place_from number (i + 1) rest
 
 -- the place of the gateway of this number; the first, where two have it
 abbrev pub place_of : ℕ → List Gateway → Option ℕ

@@ -11,7 +11,10 @@ use Rattle.gw_world.specs.Field.{Field, IsAt}
 abbrev pub IsKnown : ℕ → List Op → List Op → Type 0
 IsKnown number taken delta = (c : List ℕ) → AddsNone number c taken delta
 
--- each gateway that events reach is flush, and no delta of the field has news for it of what it wrote itself
+-- each gateway that events reach is flush, and no delta of the field has news for it of what it
+-- wrote itself
 pub record IsSteady (field : Field) : Type 0 where
-  pub flush : (number i : ℕ) (gateway : Gateway) → IsAt field number i gateway → AreFlush number gateway.taken
-  pub known : (number i : ℕ) (gateway : Gateway) → IsAt field number i gateway → AllByRecursion (IsKnown number gateway.taken) field.deltas
+  pub flush : (number i : ℕ) (gateway : Gateway) → IsAt field number i gateway
+      → AreFlush number gateway.taken
+  pub known : (number i : ℕ) (gateway : Gateway) → IsAt field number i gateway
+      → AllByRecursion (IsKnown number gateway.taken) field.deltas

@@ -1,13 +1,14 @@
 -- What the answers to events say, whoever has a share of them.
 use Rattle.std.specs.Prelude.{ℕ, List, Result}
 use Rattle.rep_model.specs.declared.view.ClientView.{ClientView}
-use Rattle.gw_node.specs.declared.out.Out.{Out}
-use Rattle.gw_node.specs.declared.refusal.Refusal.{Refusal}
-use Rattle.gw_node.specs.Parts.{said}
+use Rattle.gw_answer.specs.declared.out.Out.{Out}
+use Rattle.gw_answer.specs.declared.refusal.Refusal.{Refusal}
+use Rattle.gw_answer.specs.Answers.{said}
 use Rattle.gw_world.specs.declared.event.Answer.{Answer}
 use Rattle.gw_world.specs.declared.event.Answer.TheVariants.{Node, Views, Records, Nothing}
 
--- what a gateway sends, makes and answers, or why it refuses; or the clients that it knows, with their views; or how many records it read; or nothing
+-- what a gateway sends, makes and answers, or why it refuses; or the clients that it knows, with
+-- their views; or how many records it read; or nothing
 pub data Told : Type 0 where
   Said : Result Out Refusal → Told
   Shown : List (List ℕ × ClientView) → Told

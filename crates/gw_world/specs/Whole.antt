@@ -3,7 +3,7 @@ use Rattle.std.specs.Prelude.{◌≡◌, ℕ, List, [], ◌++◌, flat_map, Opti
 use Rattle.rep_ops.specs.declared.op.Op.{Op}
 use Rattle.rep_ops.specs.declared.op.Op.TheVariants.{Session as OfSession, Put as OfPut, Ack}
 use Rattle.rep_ops.specs.Sets.{Stands, Within}
-use Rattle.gw_node.specs.Parts.{said}
+use Rattle.gw_answer.specs.Answers.{said}
 use Rattle.gw_world.specs.declared.event.Event.{Event}
 use Rattle.gw_world.specs.declared.event.Event.TheVariants.{Frame, Tick, Take, Answer as Asks, WriteFails, Compact, Restart, Show}
 use Rattle.gw_world.specs.declared.event.Answer.{Answer}
@@ -21,8 +21,8 @@ listed field = flat_map (λ (delta : List Op). delta) field.deltas
 abbrev pub everything : Field → List Op
 everything field = flat_map (λ (gateway : Gateway). gateway.taken) field.gateways ++ listed field
 
--- the number of the gateway in the operation's name: that of the stamp, or the origin of the message; acknowledgements contradict
--- nothing, and for them it does not matter who writes them
+-- the number of the gateway in the operation's name: that of the stamp, or the origin of the
+-- message; acknowledgements contradict nothing, and for them it does not matter who writes them
 abbrev pub number_of : Op → Option ℕ
 number_of (OfSession c stamp counter change) = Some stamp.gateway
 number_of (OfPut c put) = Some put.origin
@@ -30,7 +30,8 @@ number_of (Ack c origin first last) = None
 
 -- the operation stands in the set of the gateway of this number
 abbrev pub StandsAt : Field → Op → ℕ → Type 0
-StandsAt field op number = (i : ℕ) × (gateway : Gateway) × IsAt field number i gateway × Stands gateway.taken op
+StandsAt field op number =
+    (i : ℕ) × (gateway : Gateway) × IsAt field number i gateway × Stands gateway.taken op
 
 -- a session operation or message stands in the set of the gateway whose number is in its name
 abbrev pub IsHome : Field → Op → Type 0
@@ -39,7 +40,8 @@ IsHome field op = IfSome (number_of op) (λ number. StandsAt field op number)
 -- the name of a session operation or message stands in one place of one delta
 abbrev pub AreMadeOnce : List (List Op) → Type 0
 AreMadeOnce deltas =
-    (i j k l : ℕ) (one other : List Op) (a b : Op) → slice_get deltas i ≡ Some one → slice_get deltas j ≡ Some other
+    (i j k l : ℕ) (one other : List Op) (a b : Op) → slice_get deltas i ≡ Some one
+    → slice_get deltas j ≡ Some other
     → slice_get one k ≡ Some a → slice_get other l ≡ Some b → HaveName a b → (i ≡ j) × (k ≡ l)
 
 -- the delta that an answer tells of as made
@@ -79,7 +81,8 @@ NoneFails events = (event : Event) → Contains events event → ¬ (Arranges ev
 abbrev pub told : List Answer → List (List Op)
 told answers = flat_map made_by answers
 
--- the deltas that an answer brings into the list: the one that was made, or those that answer a digest
+-- the deltas that an answer brings into the list: the one that was made, or those that answer a
+-- digest
 abbrev pub brought_by : Answer → List (List Op)
 brought_by (Node answer) = made_of (said answer) ++ answered_of (said answer)
 brought_by (Views views) = []
@@ -90,6 +93,7 @@ brought_by Nothing = []
 abbrev pub brought : List Answer → List (List Op)
 brought answers = flat_map brought_by answers
 
--- every delta of the list has reached the gateway: what they hold stands in its set, by whatever operations
+-- every delta of the list has reached the gateway: what they hold stands in its set, by whatever
+-- operations
 abbrev pub HasTakenAll : Field → Gateway → Type 0
 HasTakenAll field gateway = Within (listed field) gateway.taken

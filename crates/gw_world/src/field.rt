@@ -3,9 +3,10 @@
 ghost use Rattle.std.specs.Prelude.{◌≡◌, ◌<◌, false, Ok, IfOk, IfErr, OnOk, IfSome, length, map, vec_len};
 ghost use Rattle.std.specs.List.{AllByRecursion};
 ghost use Rattle.rep_model.specs.Views.{view as view_by};
-ghost use Rattle.gw_node.specs.declared.refusal.Refusal.TheVariants as refusals;
-ghost use Rattle.gw_node.specs.Parts.{state_of, told, said, disk_of, records_of};
-ghost use Rattle.gw_node.specs.declared.step.Step.TheVariants as steps;
+ghost use Rattle.gw_answer.specs.declared.refusal.Refusal.TheVariants as refusals;
+ghost use Rattle.gw_node.specs.Parts.{state_of, disk_of, records_of};
+ghost use Rattle.gw_answer.specs.Answers.{told, said};
+ghost use Rattle.gw_answer.specs.declared.step.Step.TheVariants as steps;
 ghost use Rattle.gw_world.specs.inner.Events.{IsFed, GoesOn, StartsAgain, FailsNext, IsStood, IsAnswered, AskKept, place_in, Moves, StepsAt};
 ghost use Rattle.gw_world.specs.Field.{shown};
 

@@ -2,8 +2,9 @@
 
 ghost use Rattle.std.specs.Prelude.{◌≡◌, ◌++◌, ◌∷◌, [], ◌<◌, List, MatchOption, IfOk, IfErr, OnOk, length, map, vec_len};
 ghost use Rattle.std.specs.List.{AllByRecursion};
-ghost use Rattle.gw_node.specs.declared.step.Step.TheVariants as steps;
-ghost use Rattle.gw_node.specs.Parts.{state_of, said};
+ghost use Rattle.gw_answer.specs.declared.step.Step.TheVariants as steps;
+ghost use Rattle.gw_node.specs.Parts.{state_of};
+ghost use Rattle.gw_answer.specs.Answers.{said};
 ghost use Rattle.gw_world.specs.Events.{made_of, answered_of};
 ghost use Rattle.gw_world.specs.inner.Events.{Join, OwnAnswered, StepAnswered, RestartAnswered, FailAnswered, AskAnswered, PeerAnswered, ShowAnswered, IsListed, EventAt, EventPlayed, NoPeer, IsMissing, IsStopped, IsStood, IsLed, Played, StopsRun};
 ghost use Rattle.gw_node.specs.Gateways.{new_gateway};

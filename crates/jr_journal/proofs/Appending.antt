@@ -5,13 +5,13 @@ use Rattle.std.specs.Result.{is_err}
 use Rattle.std.proofs.lemmas.Bool.{and_parts, eqb-true}
 use Rattle.std.proofs.lemmas.List.{take_all, take_min}
 use Rattle.rep_ops.specs.declared.op.Op.{Op}
-use Rattle.jr_journal.specs.declared.disk.Slot.{Slot}
-use Rattle.jr_journal.specs.declared.disk.Slot.TheVariants.{First, Second}
-use Rattle.jr_journal.specs.declared.disk.Short.{Short}
-use Rattle.jr_journal.specs.declared.disk.DiskFault.{DiskFault}
-use Rattle.jr_journal.specs.declared.disk.Plan.TheVariants.{Stop, KeepBack, FailSync}
+use Rattle.jr_disk.specs.declared.disk.Slot.{Slot}
+use Rattle.jr_disk.specs.declared.disk.Slot.TheVariants.{First, Second}
+use Rattle.jr_disk.specs.declared.disk.Short.{Short}
+use Rattle.jr_disk.specs.declared.disk.DiskFault.{DiskFault}
+use Rattle.jr_disk.specs.declared.disk.Plan.TheVariants.{Stop, KeepBack, FailSync}
 use Rattle.jr_journal.specs.declared.piece.Found.{Found}
-use Rattle.jr_journal.specs.Disk.{SlotBytes, Slots, at, replaced, image, appended, all_synced, AppendsAs, SyncsAs}
+use Rattle.jr_disk.specs.Disk.{SlotBytes, Slots, at, replaced, image, appended, all_synced, AppendsAs, SyncsAs}
 use Rattle.jr_journal.specs.Records.{written, slot_content, generation_in, records}
 use Rattle.jr_journal.specs.inner.Records.{IsReadable}
 use Rattle.jr_journal.specs.Journals.{Leaves, LeavesOneMore, after_append, IsStruck, AppendedAs}

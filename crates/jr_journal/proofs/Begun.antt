@@ -3,10 +3,10 @@ use Rattle.std.proofs.Common.{◌≡◌, ℕ, ◌-◌, List, [], length, take, R
 use Rattle.std.specs.Prelude.{IfErr, OnOk, OnErr}
 use Rattle.std.specs.Result.{is_err}
 use Rattle.std.proofs.lemmas.List.{take_all}
-use Rattle.jr_journal.specs.declared.disk.Slot.TheVariants.{First}
-use Rattle.jr_journal.specs.declared.disk.Short.{Short}
-use Rattle.jr_journal.specs.declared.disk.DiskFault.{DiskFault}
-use Rattle.jr_journal.specs.Disk.{SlotBytes, Slots, replaced, appended, cut_to}
+use Rattle.jr_disk.specs.declared.disk.Slot.TheVariants.{First}
+use Rattle.jr_disk.specs.declared.disk.Short.{Short}
+use Rattle.jr_disk.specs.declared.disk.DiskFault.{DiskFault}
+use Rattle.jr_disk.specs.Disk.{SlotBytes, Slots, replaced, appended, cut_to}
 use Rattle.jr_journal.specs.Records.{new_journal}
 use Rattle.jr_journal.specs.inner.Opening.{IsBegun}
 use Rattle.jr_journal.proofs.Appending.{on_ok, on_err, err_written}

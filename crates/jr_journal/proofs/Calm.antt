@@ -1,11 +1,11 @@
 -- Calls that do not meet the failure that is arranged.
 use Rattle.std.proofs.Common.{◌≡◌, ℕ, Bool, true, false, Option, Some, None, Result, refl, sym, ◌∙◌}
 use Rattle.std.specs.Prelude.{IsOk}
-use Rattle.jr_journal.specs.declared.disk.DiskFault.{DiskFault}
-use Rattle.jr_journal.specs.declared.disk.Short.{Short}
-use Rattle.jr_journal.specs.declared.disk.Plan.{Plan}
-use Rattle.jr_journal.specs.declared.disk.Plan.TheVariants.{Stop, KeepBack, FailSync}
-use Rattle.jr_journal.specs.Disk.{AppendsAs, SyncsAs, GoesAs}
+use Rattle.jr_disk.specs.declared.disk.DiskFault.{DiskFault}
+use Rattle.jr_disk.specs.declared.disk.Short.{Short}
+use Rattle.jr_disk.specs.declared.disk.Plan.{Plan}
+use Rattle.jr_disk.specs.declared.disk.Plan.TheVariants.{Stop, KeepBack, FailSync}
+use Rattle.jr_disk.specs.Disk.{AppendsAs, SyncsAs, GoesAs}
 use Rattle.jr_journal.specs.inner.Disk.{is_calm}
 use Rattle.jr_journal.specs.Opening.{is_quiet}
 

@@ -4,10 +4,10 @@ use Rattle.std.specs.List.{AllByRecursion}
 use Rattle.std.proofs.lemmas.Bool.{cases_lt, lt-ltb}
 use Rattle.std.proofs.lemmas.List.{take_all, append-nil}
 use Rattle.rep_ops.specs.declared.op.Op.{Op}
-use Rattle.jr_journal.specs.declared.disk.Slot.{Slot}
-use Rattle.jr_journal.specs.declared.disk.Slot.TheVariants.{First, Second}
+use Rattle.jr_disk.specs.declared.disk.Slot.{Slot}
+use Rattle.jr_disk.specs.declared.disk.Slot.TheVariants.{First, Second}
 use Rattle.jr_journal.specs.declared.piece.Found.{Found}
-use Rattle.jr_journal.specs.Disk.{SlotBytes, Slots, at, bytes_of, all_synced, image, after_crash}
+use Rattle.jr_disk.specs.Disk.{SlotBytes, Slots, at, bytes_of, all_synced, image, after_crash}
 use Rattle.jr_journal.specs.inner.Disk.{synced_part}
 use Rattle.jr_journal.specs.Records.{base_bytes, slot_content, records}
 use Rattle.jr_journal.specs.inner.Records.{IsReadable}

@@ -7,11 +7,11 @@ use Rattle.std.proofs.Math.ListN.{drop_of_length-le}
 use Rattle.std.proofs.lemmas.Bool.{cases_lt, lt-ltb}
 use Rattle.std.proofs.lemmas.List.{append-nil, take_all, take-take, take-append-le, length-take}
 use Rattle.byteorder.specs.Endian.{big_bytes}
-use Rattle.jr_journal.specs.declared.disk.Slot.TheVariants.{First}
+use Rattle.jr_disk.specs.declared.disk.Slot.TheVariants.{First}
 use Rattle.jr_journal.specs.declared.content.SlotContent.TheVariants.{Unsealed}
 use Rattle.jr_journal.specs.declared.opening.Opening.{Opening}
 use Rattle.jr_journal.specs.declared.opening.Opening.TheVariants.{New, Held}
-use Rattle.jr_journal.specs.Disk.{SlotBytes, Slots, Image, replaced, bytes_of, image, all_synced, left_of, after_crash}
+use Rattle.jr_disk.specs.Disk.{SlotBytes, Slots, Image, replaced, bytes_of, image, all_synced, left_of, after_crash}
 use Rattle.jr_journal.specs.Records.{new_journal, magic, made, begins, after_header, found, slot_content, chosen, records}
 use Rattle.jr_journal.specs.Faults.{is_fresh, slots_fault, fault_of}
 use Rattle.jr_journal.specs.Opening.{synced_slots, OpensAlike, LeavesNoMore}

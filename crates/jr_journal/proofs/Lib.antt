@@ -1,4 +1,3 @@
-pub mod Halves
 pub mod Pieces
 pub mod Loop
 pub mod Contents

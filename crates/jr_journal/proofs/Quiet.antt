@@ -3,7 +3,7 @@ use Rattle.std.proofs.Common.{◌≡◌, ℕ, Bool, true, false, Result, Ok, Err
 use Rattle.jr_journal.specs.declared.fault.JournalFault.{JournalFault}
 use Rattle.jr_journal.specs.declared.fault.JournalFault.TheVariants.{Disk}
 use Rattle.jr_journal.specs.declared.opening.Opening.{Opening}
-use Rattle.jr_journal.specs.Disk.{Slots, Image, image}
+use Rattle.jr_disk.specs.Disk.{Slots, Image, image}
 use Rattle.jr_journal.specs.inner.Disk.{is_calm}
 use Rattle.jr_journal.specs.Faults.{is_fresh}
 use Rattle.jr_journal.specs.Opening.{synced_slots, is_quiet, IsUnhurt}

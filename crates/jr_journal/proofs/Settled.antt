@@ -4,12 +4,12 @@ use Rattle.std.specs.Prelude.{nat_lt}
 use Rattle.std.proofs.lemmas.Bool.{cases_lt, and_parts, and_from, ltb-true, le-ltb, eqb-true, eq-eqb}
 use Rattle.std.proofs.lemmas.List.{append-nil, take-take, take_all, length-take, length-append}
 use Rattle.rep_ops.specs.declared.op.Op.{Op}
-use Rattle.jr_journal.specs.declared.disk.Slot.{Slot}
-use Rattle.jr_journal.specs.declared.disk.Slot.TheVariants.{First, Second}
+use Rattle.jr_disk.specs.declared.disk.Slot.{Slot}
+use Rattle.jr_disk.specs.declared.disk.Slot.TheVariants.{First, Second}
 use Rattle.jr_journal.specs.declared.piece.Found.{Found}
 use Rattle.jr_journal.specs.declared.content.SlotContent.{SlotContent}
 use Rattle.jr_journal.specs.declared.content.SlotContent.TheVariants.{Alien, Unsealed, Sealed, Broken}
-use Rattle.jr_journal.specs.Disk.{SlotBytes, Slots, Image, at, replaced, bytes_of, image, appended, all_synced, left_of, after_crash}
+use Rattle.jr_disk.specs.Disk.{SlotBytes, Slots, Image, at, replaced, bytes_of, image, appended, all_synced, left_of, after_crash}
 use Rattle.jr_journal.specs.inner.Disk.{synced_part}
 use Rattle.jr_journal.specs.Records.{delta_bytes, written, joined, ended, one_record, slot_content, generation_in, chosen, records}
 use Rattle.jr_journal.specs.inner.Records.{IsReadable}

@@ -3,14 +3,14 @@ use Rattle.std.proofs.Common.{◌≡◌, ℕ, ◌<◌, ◌≤◌, Bool, true, fa
 use Rattle.std.specs.Prelude.{nat_lt}
 use Rattle.std.proofs.Math.ListN.{drop_of_length-le}
 use Rattle.std.proofs.lemmas.Bool.{cases_lt, le-ltb}
-use Rattle.jr_journal.specs.declared.disk.Slot.{Slot}
-use Rattle.jr_journal.specs.declared.disk.Slot.TheVariants.{First, Second}
+use Rattle.jr_disk.specs.declared.disk.Slot.{Slot}
+use Rattle.jr_disk.specs.declared.disk.Slot.TheVariants.{First, Second}
 use Rattle.jr_journal.specs.declared.fault.JournalFault.{JournalFault}
 use Rattle.jr_journal.specs.declared.fault.JournalFault.TheVariants.{Foreign}
 use Rattle.jr_journal.specs.declared.piece.Found.{Found}
 use Rattle.jr_journal.specs.declared.content.SlotContent.{SlotContent}
 use Rattle.jr_journal.specs.declared.content.SlotContent.TheVariants.{Alien, Unsealed, Sealed, Broken}
-use Rattle.jr_journal.specs.Disk.{SlotBytes, Slots, Image, at, replaced}
+use Rattle.jr_disk.specs.Disk.{SlotBytes, Slots, Image, at, replaced}
 use Rattle.jr_journal.specs.inner.Disk.{synced_part}
 use Rattle.jr_journal.specs.Records.{found, slot_content}
 use Rattle.jr_journal.specs.Faults.{is_nil, is_fresh, slots_fault, fault_of}

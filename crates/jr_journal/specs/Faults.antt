@@ -1,11 +1,11 @@
 -- Which fault there is in two slots.
 use Rattle.std.specs.Prelude.{Option, Some, None, ◌≡◌, ℕ, Bool, true, false, ◌&&◌, if◌then◌else◌, nat_lt, List, [], ◌∷◌, length}
-use Rattle.jr_journal.specs.declared.disk.Slot.TheVariants.{First, Second}
+use Rattle.jr_disk.specs.declared.disk.Slot.TheVariants.{First, Second}
 use Rattle.jr_journal.specs.declared.fault.JournalFault.{JournalFault}
 use Rattle.jr_journal.specs.declared.fault.JournalFault.TheVariants.{Disk, Foreign, BadRecord, Memory, Halted}
 use Rattle.jr_journal.specs.declared.content.SlotContent.{SlotContent}
 use Rattle.jr_journal.specs.declared.content.SlotContent.TheVariants.{Alien, Unsealed, Sealed, Broken}
-use Rattle.jr_journal.specs.Disk.{Image}
+use Rattle.jr_disk.specs.Disk.{Image}
 use Rattle.jr_journal.specs.Records.{slot_content}
 
 abbrev pub is_nil : List ℕ → Bool
@@ -16,8 +16,8 @@ is_nil (b ∷ rest) = false
 abbrev pub is_fresh : Image → Bool
 is_fresh i = is_nil i.second && nat_lt (length i.first) 14
 
--- the fault of two slots: a header of another, the first slot first; a bad piece, the first slot first, in the
--- slot that is not read too; then two seals of one generation, or none
+-- the fault of two slots: a header of another, the first slot first; a bad piece, the first slot
+-- first, in the slot that is not read too; then two seals of one generation, or none
 abbrev pub slots_fault : SlotContent → SlotContent → Bool → Option JournalFault
 slots_fault Alien Alien fresh = Some Foreign
 slots_fault Alien Unsealed fresh = Some Foreign
@@ -34,11 +34,13 @@ slots_fault (Sealed m f) (Broken from) fresh = Some (BadRecord Second from)
 slots_fault Unsealed Unsealed fresh = if fresh then None else Some Foreign
 slots_fault Unsealed (Sealed n g) fresh = None
 slots_fault (Sealed m f) Unsealed fresh = None
-slots_fault (Sealed m f) (Sealed n g) fresh = if nat_lt m n then None else (if nat_lt n m then None else Some Foreign)
+slots_fault (Sealed m f) (Sealed n g) fresh =
+    if nat_lt m n then None else (if nat_lt n m then None else Some Foreign)
 
 -- the fault of an image, if any
 abbrev pub fault_of : ℕ → Image → Option JournalFault
-fault_of gateway i = slots_fault (slot_content gateway i.first) (slot_content gateway i.second) (is_fresh i)
+fault_of gateway i =
+    slots_fault (slot_content gateway i.first) (slot_content gateway i.second) (is_fresh i)
 
 -- it is the fault of the image; want of memory and a disk that failed say nothing of it
 abbrev pub IsFault : Option JournalFault → JournalFault → Type 0

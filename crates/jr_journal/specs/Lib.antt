@@ -1,6 +1,3 @@
-pub mod Disk
-pub mod Memory
-pub mod Once
 pub mod Records
 pub mod Faults
 pub mod Journals

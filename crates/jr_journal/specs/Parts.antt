@@ -1,7 +1,7 @@
 -- The parts of a journal.
 use Rattle.std.specs.Prelude.{ℕ, Bool}
-use Rattle.jr_journal.specs.declared.disk.Disk.{Ghosts}
-use Rattle.jr_journal.specs.declared.disk.Slot.{Slot}
+use Rattle.jr_disk.specs.declared.disk.Disk.{Ghosts}
+use Rattle.jr_disk.specs.declared.disk.Slot.{Slot}
 use Rattle.jr_journal.specs.declared.journal.Journal.{Journal}
 
 -- the disk that it is on

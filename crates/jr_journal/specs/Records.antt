@@ -12,7 +12,7 @@ use Rattle.jr_journal.specs.declared.piece.Piece.TheVariants.{Whole, Seal, Torn,
 use Rattle.jr_journal.specs.declared.piece.Found.{Found}
 use Rattle.jr_journal.specs.declared.content.SlotContent.{SlotContent}
 use Rattle.jr_journal.specs.declared.content.SlotContent.TheVariants.{Alien, Unsealed, Sealed, Broken}
-use Rattle.jr_journal.specs.Disk.{Image}
+use Rattle.jr_disk.specs.Disk.{Image}
 
 -- ---- writing
 
@@ -51,11 +51,14 @@ delta_piece size rest = whole_if (reading (take size rest)) size
 
 -- so many bytes should be a delta
 abbrev pub body_at : ℕ → List ℕ → Piece
-body_at size rest = if nat_lt max_octets size then Bad else (if nat_lt (length rest) size then Torn else delta_piece size rest)
+body_at size rest =
+    if nat_lt max_octets size then Bad
+    else (if nat_lt (length rest) size then Torn else delta_piece size rest)
 
 -- a record, behind its tag
 abbrev pub record_at : List ℕ → Piece
-record_at rest = if nat_lt (length rest) 4 then Torn else body_at (from_be_bytes w32 (take 4 rest)) (drop 4 rest)
+record_at rest =
+    if nat_lt (length rest) 4 then Torn else body_at (from_be_bytes w32 (take 4 rest)) (drop 4 rest)
 
 -- the piece that begins with this byte
 unfoldable pub piece_at : ℕ → List ℕ → Piece
@@ -99,15 +102,18 @@ found zero sealed (b ∷ rest) =
 
 -- as many of the first five bytes as are there are those of a header of this gateway
 abbrev pub begins : ℕ → List ℕ → Bool
-begins gateway bytes = bytes_eq (take (min (length bytes) 5) bytes) (take (min (length bytes) 5) (magic gateway))
+begins gateway bytes =
+    bytes_eq (take (min (length bytes) 5) bytes) (take (min (length bytes) 5) (magic gateway))
 
 abbrev pub after_header : ℕ → Found → SlotContent
-after_header generation f = if f.bad then Broken (13 + f.whole) else (if f.sealed then Sealed generation f else Unsealed)
+after_header generation f =
+    if f.bad then Broken (13 + f.whole) else (if f.sealed then Sealed generation f else Unsealed)
 
 unfoldable pub slot_content : ℕ → List ℕ → SlotContent
 slot_content gateway bytes =
     if begins gateway bytes
-    then (if nat_lt (length bytes) 13 then Unsealed else after_header (from_be_bytes w64 (take 8 (drop 5 bytes))) (found 0 false (drop 13 bytes)))
+    then (if nat_lt (length bytes) 13 then Unsealed else after_header
+    (from_be_bytes w64 (take 8 (drop 5 bytes))) (found 0 false (drop 13 bytes)))
     else Alien
 
 -- the generation of a sealed slot
@@ -119,7 +125,8 @@ generation_in (Broken at) = 0
 
 -- the deltas of the slot that is read: of the sealed ones that of the greater generation
 abbrev pub chosen : SlotContent → SlotContent → List (List Op)
-chosen (Sealed m f) (Sealed n g) = if nat_lt n m then f.deltas else (if nat_lt m n then g.deltas else [])
+chosen (Sealed m f) (Sealed n g) =
+    if nat_lt n m then f.deltas else (if nat_lt m n then g.deltas else [])
 chosen (Sealed m f) Alien = f.deltas
 chosen (Sealed m f) Unsealed = f.deltas
 chosen (Sealed m f) (Broken from) = f.deltas

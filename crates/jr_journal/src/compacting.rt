@@ -2,16 +2,16 @@
 
 ghost use Rattle.std.specs.Prelude.{ℕ, ◌≡◌, ◌≤◌, ◌<◌, ◌⊎◌, ◌++◌, true, false, None, flat_map, take, IfOk, IfErr, OnOk, OnErr, IsErrOf};
 ghost use Rattle.std.specs.List.{AllByRecursion};
-ghost use Rattle.jr_journal.specs.Disk.{at, replaced, appended};
+ghost use Rattle.jr_disk.specs.Disk.{at, replaced, appended};
 ghost use Rattle.jr_journal.specs.Records.{header, written, base_bytes};
 ghost use Rattle.jr_journal.specs.inner.Records.{IsReadable};
 ghost use Rattle.jr_journal.specs.Journals.{other as beside, emptied, after_append, AppendedAs};
 
 use crate::content::MAGIC;
-use crate::disk::{Disk, Slot};
 use crate::fault::JournalFault;
 use crate::piece::SEAL;
 use crate::record::record_of;
+use jr_disk::{Disk, Slot};
 use octets::{NoMemory, append_u64};
 use rep_ops::Delta;
 use std::alloc::Global;

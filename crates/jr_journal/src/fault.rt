@@ -4,7 +4,7 @@ ghost use Rattle.std.specs.Prelude.{◌≡◌};
 ghost use Rattle.jr_journal.specs.Faults.{fault_number};
 ghost use Rattle.jr_journal.specs.declared.fault.JournalFault.TheVariants.{Memory};
 
-use crate::disk::Slot;
+use jr_disk::Slot;
 use octets::NoMemory;
 use std::alloc::{AllocError, AllocFailed};
 use thiserror::Error;

@@ -4,11 +4,10 @@ ghost use Rattle.std.specs.Prelude.{IsTrue, ◌||◌};
 ghost use Rattle.jr_journal.specs.inner.Journals.{is_in_use};
 
 use crate::compacting::{base_of, other, write_anew};
-use crate::disk::{Disk, Slot};
 use crate::fault::JournalFault;
-use crate::memory::MemoryDisk;
 use crate::opening::{Recovered, recover};
 use crate::record::record_of;
+use jr_disk::{Disk, MemoryDisk, Slot};
 use rep_ops::Delta;
 use std::alloc::Global;
 
@@ -26,7 +25,7 @@ pub struct Journal<D: Disk> {
 
 impl<D: Disk + Drop> Journal<D> {
     ghost use Rattle.std.specs.Prelude.{◌≡◌, ◌≢◌, ◌≤◌, ◌<◌, ◌+◌, ◌↔◌, true, false, None, [], ◌∷◌, ◌++◌, IfOk, IfErr, OnOk, OnErr, IsErrOf, IsTrue, MatchResult};
-    ghost use Rattle.jr_journal.specs.Disk.{at, image};
+    ghost use Rattle.jr_disk.specs.Disk.{at, image};
     ghost use Rattle.jr_journal.specs.Records.{written, base_bytes, slot_content, generation_in, records};
     ghost use Rattle.jr_journal.specs.Faults.{is_fresh, IsFault, fault_of};
     ghost use Rattle.jr_journal.specs.Journals.{other as beside, Leaves, LeavesOneMore, LeavesEither, after_append, IsStruck, AppendedAs, IsAppendFault, emptied, last_generation, IsCompactFault, IsBeforeWriting, IsTried};
@@ -336,7 +335,7 @@ impl<D: Disk + Drop> Journal<D> {
 
 impl Journal<MemoryDisk> {
     ghost use Rattle.std.specs.Prelude.{◌≡◌};
-    ghost use Rattle.jr_journal.specs.Memory.{failing};
+    ghost use Rattle.jr_disk.specs.Memory.{failing};
     ghost use Rattle.jr_journal.specs.Parts.{disk_of, gateway_of, slot_of, generation_of, is_halted as is_stopped};
 
     /// Whether memory was refused in the disk.

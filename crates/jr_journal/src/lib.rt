@@ -7,10 +7,6 @@
 //! there; a crash in it leaves the records from before, or the base. The slot in use is not touched before the other one is sealed
 //! and synced.
 //!
-//! - `disk`: what a journal asks of a disk (`Disk`), over two slots of bytes.
-//! - `memory`: a disk in memory (`MemoryDisk`), proved to do what `Disk` says; failures can be arranged.
-//! - `once`: a disk in memory of which one sync, cut or read fails (`OnceDisk`).
-//! - `failures`: a count without an upper end, which contracts alone see.
 //! - `piece`, `content`: reading a slot, one function for each definition.
 //! - `record`: a record as it is written.
 //! - `opening`: the steps of an opening: sync both slots, read them, go on in the sealed one of the greater generation and cut its
@@ -19,26 +15,22 @@
 //! - `journal`: `Journal`, with `open`, `append`, `compact` and `reopen`.
 //! - `fault`: why a journal refuses.
 //!
-//! The definitions are in `specs/`: `Disk` (slots and what a crash leaves), `Memory` and `Once` (disks in memory), `Records` (from the
+//! What a journal asks of a disk (`Disk`), and disks in memory, are in the crate `jr_disk`. The definitions are in `specs/`: `Records` (from the
 //! bytes of a slot to its records), `Faults` (which fault there is in two slots), `Parts` (what contracts see of a journal),
 //! `Journals` (what a journal keeps true, an append, a compaction), `Opening` (the slots behind an opening).
 #![tactic(auto)]
 
 mod compacting;
 mod content;
-mod disk;
-mod failures;
 mod fault;
 mod journal;
-mod memory;
-mod once;
 mod opening;
 mod piece;
 mod record;
 
-pub use disk::{Disk, DiskFault, Plan, Short, Slot};
-pub use failures::Failures;
 pub use fault::JournalFault;
 pub use journal::Journal;
-pub use memory::{MemoryDisk, memory_disk_is_honest};
-pub use once::{OnceCall, OnceDisk, once_disk_is_honest};
+pub use jr_disk::{
+    Disk, DiskFault, Failures, MemoryDisk, OnceCall, OnceDisk, Plan, Short, Slot,
+    memory_disk_is_honest, once_disk_is_honest,
+};

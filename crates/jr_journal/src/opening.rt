@@ -2,7 +2,7 @@
 //! cut away; or begin a new journal.
 
 ghost use Rattle.std.specs.Prelude.{◌≡◌, ◌≢◌, ◌≤◌, ◌<◌, ◌⊎◌, ◌+◌, [], true, false, length, IfOk, IfErr, OnOk, OnErr, IsErrOf, IsTrue, None, Some, if◌then◌else◌};
-ghost use Rattle.jr_journal.specs.Disk.{at, replaced, bytes_of, image, all_synced, cut_to};
+ghost use Rattle.jr_disk.specs.Disk.{at, replaced, bytes_of, image, all_synced, cut_to};
 ghost use Rattle.jr_journal.specs.inner.Disk.{is_calm};
 ghost use Rattle.jr_journal.specs.Records.{new_journal, slot_content, records};
 ghost use Rattle.jr_journal.specs.Opening.{synced_bytes, synced_slots, reads_first, slot_read, generation_read, recovered, is_quiet, IsUnhurt, LeavesNoMore};
@@ -12,9 +12,9 @@ ghost use Rattle.jr_journal.specs.Journals.{Leaves};
 ghost use Rattle.jr_journal.specs.inner.Journals.{is_in_use};
 
 use crate::content::{HEADER, MAGIC, SlotContent, read_content};
-use crate::disk::{Disk, Slot};
 use crate::fault::JournalFault;
 use crate::piece::{Found, SEAL};
+use jr_disk::{Disk, Slot};
 use rep_ops::Delta;
 use std::alloc::Global;
 

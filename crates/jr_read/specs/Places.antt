@@ -1,13 +1,13 @@
 -- Where records stand in their slot, and what is told of two slots.
 use Rattle.std.specs.Prelude.{◌≡◌, ℕ, ◌+◌, List, [], ◌∷◌, drop, Option, Some}
 use Rattle.rep_ops.specs.declared.op.Op.{Op}
-use Rattle.jr_journal.specs.declared.disk.Slot.{Slot}
-use Rattle.jr_journal.specs.declared.disk.Slot.TheVariants.{First, Second}
+use Rattle.jr_disk.specs.declared.disk.Slot.{Slot}
+use Rattle.jr_disk.specs.declared.disk.Slot.TheVariants.{First, Second}
 use Rattle.jr_journal.specs.declared.fault.JournalFault.{JournalFault}
 use Rattle.jr_journal.specs.declared.fault.JournalFault.TheVariants.{Disk, Foreign, BadRecord, Memory, Halted}
 use Rattle.jr_journal.specs.declared.piece.Piece.{Piece}
 use Rattle.jr_journal.specs.declared.piece.Piece.TheVariants.{Whole, Torn}
-use Rattle.jr_journal.specs.Disk.{Image}
+use Rattle.jr_disk.specs.Disk.{Image}
 use Rattle.jr_journal.specs.Records.{piece_at}
 use Rattle.jr_read.specs.declared.places.Place.{Place}
 
@@ -35,11 +35,13 @@ piece_in (b ∷ rest) = piece_at b rest
 
 -- at this place of a slot stands the whole record of this delta, and it ends where the place does
 abbrev pub IsPlaced : List ℕ → Place → List Op → Type 0
-IsPlaced slot place delta = (size : ℕ) × (piece_in (drop place.at slot) ≡ Whole delta size) × (place.octets ≡ 5 + size)
+IsPlaced slot place delta =
+    (size : ℕ) × (piece_in (drop place.at slot) ≡ Whole delta size) × (place.octets ≡ 5 + size)
 
 -- each record stands at its place
 abbrev pub ArePlaced : List ℕ → List Place → List (List Op) → Type 0
 ArePlaced slot [] [] = Unit {0}
-ArePlaced slot (place ∷ places) (delta ∷ deltas) = IsPlaced slot place delta × ArePlaced slot places deltas
+ArePlaced slot (place ∷ places) (delta ∷ deltas) =
+    IsPlaced slot place delta × ArePlaced slot places deltas
 ArePlaced slot [] (delta ∷ deltas) = ⊥
 ArePlaced slot (place ∷ places) [] = ⊥

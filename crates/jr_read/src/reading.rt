@@ -3,7 +3,7 @@
 ghost use Rattle.std.specs.Prelude.{Option, ◌≡◌, ◌<◌, None, length, take, drop, slice_get, IfOk, IfErr, IfNone, IfSome, OnOk, option_copied};
 ghost use Rattle.std.specs.Int.{w64, from_be_bytes};
 ghost use Rattle.jr_journal.specs.declared.fault.JournalFault.{JournalFault};
-ghost use Rattle.jr_journal.specs.Disk.{at, image, bytes_of};
+ghost use Rattle.jr_disk.specs.Disk.{at, image, bytes_of};
 ghost use Rattle.jr_journal.specs.Records.{records};
 ghost use Rattle.jr_journal.specs.Faults.{IsFault, fault_of};
 ghost use Rattle.jr_journal.specs.Opening.{recovered, slot_read, generation_read};

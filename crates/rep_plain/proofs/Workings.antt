@@ -17,7 +17,8 @@ use Rattle.rep_plain.specs.declared.ranges.Range.{Range}
 use Rattle.rep_plain.specs.declared.entry.Entry.{Entry}
 use Rattle.rep_plain.specs.Entries.{IsWorkedOut}
 use Rattle.rep_plain.specs.Steps.{capped}
-use Rattle.rep_plain.specs.inner.Steps.{waits, range_in, numbers, above_gaps}
+use Rattle.rep_plain.specs.inner.Steps.{range_in, numbers, above_gaps}
+use Rattle.rep_plain.specs.Steps.{waits}
 use Rattle.rep_plain.proofs.Entering.{numbers_acknowledged}
 
 -- the history that is read in the order of names is that of the list

@@ -123,8 +123,8 @@ fn with_numbers(
     }
 }
 
-/// Ranges in ascending order with one more; those that overlap or touch become one.
-fn with_range(
+/// Ranges in ascending order with one more; those that overlap or touch become one. Fails only for want of memory.
+pub fn with_range(
     alloc: Global,
     range: (u64, u64),
     ranges: &[(u64, u64)],
@@ -163,7 +163,7 @@ fn united(range: (u64, u64), other: (u64, u64)) -> (u64, u64)
 }
 
 /// How many numbers are above one that is in none of the ranges.
-fn above_gap(ranges: &[(u64, u64)]) -> u64
+pub fn above_gap(ranges: &[(u64, u64)]) -> u64
     ensures { result ≡ capped (above_a_gap ranges.now) }
 {
     match ranges {

@@ -8,7 +8,7 @@ ghost use Rattle.rep_ops.specs.Sets.{operations};
 ghost use Rattle.rep_model.specs.Views.{in_order, history_at, session_of, after_change};
 ghost use Rattle.std.specs.Prelude.{count_by};
 ghost use Rattle.std.specs.BTreeMap.{keys};
-ghost use Rattle.rep_plain.specs.inner.Steps.{waits};
+ghost use Rattle.rep_plain.specs.Steps.{waits};
 
 use octets::NoMemory;
 use rep_ops::{ClientId, Op, Stamp};
@@ -84,8 +84,8 @@ pub(crate) fn replay(
     Ok((256, session))
 }
 
-/// A session after one more operation; a Take begins it. One that finds its table full leaves it as it was.
-fn changed(
+/// A session after one more operation; a Take begins it. One that finds its table full leaves it as it was. Fails only for want of memory.
+pub fn changed(
     alloc: Global,
     session: Option<Session>,
     change: &SessionOp,

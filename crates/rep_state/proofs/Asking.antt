@@ -31,16 +31,16 @@ use Rattle.rep_plain.specs.Rows.{flat, own}
 use Rattle.rep_plain.proofs.Flat.{of_flat}
 use Rattle.rep_plain.proofs.Single.{view_own}
 use Rattle.rep_state.proofs.Entering.{seen_row}
-use Rattle.rep_state.proofs.Owning.{found_holds}
+use Rattle.rep_entry.proofs.Owning.{found_holds}
 use Rattle.rep_state.proofs.Reading.{own_found}
 use Rattle.rep_state.proofs.Rows.{table_rows}
 use Rattle.rep_state.proofs.Walking.{names_from}
-use Rattle.rep_state.specs.declared.entry.Entry.{Entry}
+use Rattle.rep_entry.specs.declared.entry.Entry.{Entry}
 use Rattle.rep_state.specs.declared.places.Place.{Place}
-use Rattle.rep_state.specs.declared.log.Log.{Log}
-use Rattle.rep_state.specs.declared.change.Change.{Change}
-use Rattle.rep_state.specs.Logs.{session_on}
-use Rattle.rep_state.specs.inner.Staging.{applied}
+use Rattle.rep_log.specs.declared.log.Log.{Log}
+use Rattle.rep_entry.specs.declared.change.Change.{Change}
+use Rattle.rep_log.specs.Logs.{session_on}
+use Rattle.rep_entry.specs.Applied.{applied}
 use Rattle.rep_state.specs.Tables.{arrivals, names_at, rows_of, ArePlaces, IsKept, IsTable}
 use Rattle.rep_state.specs.inner.Tables.{place_cmp}
 use Rattle.rep_state.specs.Interests.{mixed_with, mark_of, has_mark, AskWithin, SessionWithin, EntryWithin, AreMarked}

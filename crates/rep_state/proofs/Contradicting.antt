@@ -8,11 +8,11 @@ use Rattle.rep_ops.specs.declared.op.Op.{Op}
 use Rattle.rep_ops.specs.declared.op.Op.TheVariants.{Session as OfSession, Put as OfPut, Ack}
 use Rattle.rep_ops.specs.Orders.{operation_cmp, put_cmp, client_of}
 use Rattle.rep_ops.specs.Sets.{operation_at, put_at, Agrees}
-use Rattle.rep_state.specs.declared.entry.Entry.{Entry}
-use Rattle.rep_state.specs.Entries.{row_of}
-use Rattle.rep_state.specs.Mail.{put_named}
-use Rattle.rep_state.specs.Origins.{ranges_in}
-use Rattle.rep_state.proofs.Client.{kept_operations, kept_puts}
+use Rattle.rep_entry.specs.declared.entry.Entry.{Entry}
+use Rattle.rep_entry.specs.Entries.{row_of}
+use Rattle.rep_log.specs.Mail.{put_named}
+use Rattle.rep_log.specs.Origins.{ranges_in}
+use Rattle.rep_entry.proofs.Client.{kept_operations, kept_puts}
 
 pub agrees_session : (e : Entry) (c : List ℕ) (s : Stamp) (k : ℕ) (x : SessionOp) (op : Op) (o : Option SessionOp) (B : Type 0) → op ≡ OfSession c s k x → o ≡ find operation_cmp (s, k) e.known
     → (B → IfSome o (λ (kept : SessionOp). kept ≡ x)) × (IfSome o (λ (kept : SessionOp). kept ≡ x) → B)

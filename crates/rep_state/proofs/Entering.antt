@@ -4,12 +4,12 @@ use Rattle.rep_model.specs.Views.{view}
 use Rattle.rep_plain.specs.Rows.{IsOwn}
 use Rattle.rep_ops.specs.Sets.{Same}
 use Rattle.rep_model.specs.Keep.{keep}
-use Rattle.rep_state.specs.declared.entry.Entry.{Entry}
-use Rattle.rep_state.specs.Entries.{row_of, IsEntry}
-use Rattle.rep_state.specs.Origins.{ranges_in}
-use Rattle.rep_state.proofs.Client.{kept_view}
-use Rattle.rep_state.proofs.Owning.{own_row}
-use Rattle.rep_state.proofs.Changes.{keeps_itself}
+use Rattle.rep_entry.specs.declared.entry.Entry.{Entry}
+use Rattle.rep_entry.specs.Entries.{row_of, IsEntry}
+use Rattle.rep_log.specs.Origins.{ranges_in}
+use Rattle.rep_entry.proofs.Client.{kept_view}
+use Rattle.rep_entry.proofs.Owning.{own_row}
+use Rattle.rep_entry.proofs.Changes.{keeps_itself}
 
 pub seen_row : (c : List ℕ) (e : Entry) → IsEntry c e → e.seen ≡ view c (row_of c e)
 seen_row c e h = kept_view c e.known e.seen.pending (ranges_in e.acks) e.seen.stamp e.seen.prefix e.seen.session h.folded.visible h.folded.prefix h.folded.session h.rising h.none_covered

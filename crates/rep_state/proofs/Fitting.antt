@@ -12,13 +12,13 @@ use Rattle.rep_plain.specs.Rows.{flat, own, moved, has_any, count_named}
 use Rattle.rep_plain.specs.inner.Rows.{count_new, of_client}
 use Rattle.rep_plain.proofs.Flat.{of_flat}
 use Rattle.rep_plain.proofs.Counting.{count_moved}
-use Rattle.rep_state.specs.declared.entry.Entry.{Entry}
-use Rattle.rep_state.specs.Entries.{IsEntry}
+use Rattle.rep_entry.specs.declared.entry.Entry.{Entry}
+use Rattle.rep_entry.specs.Entries.{IsEntry}
 use Rattle.rep_state.specs.Tables.{rows_of, AreKept, IsTable}
 use Rattle.rep_state.specs.inner.Tables.{IsRoomier, passed_by, too_many_pending, too_many_parked, too_many_exceptions}
 use Rattle.rep_state.specs.inner.Groups.{AreRowsOf}
 use Rattle.rep_state.proofs.Rows.{table_rows}
-use Rattle.rep_state.proofs.Steps.{kept_between}
+use Rattle.rep_entry.proofs.Steps.{kept_between}
 use Rattle.rep_state.proofs.Groups.{same_after}
 use Rattle.rep_state.proofs.Passing.{AreFresh, first_passed_after}
 

@@ -18,15 +18,15 @@ use Rattle.rep_plain.specs.Rows.{flat, own, or_nothing, moved, has_any, IsOwn}
 use Rattle.rep_plain.specs.inner.Rows.{of_client, AreRows}
 use Rattle.rep_plain.proofs.Single.{operation_at_own, put_at_own, is_acknowledged_own, visible_own}
 use Rattle.rep_plain.proofs.Flat.{of_flat, find_in_moved, rows_moved, named_any}
-use Rattle.rep_state.specs.declared.entry.Entry.{Entry}
-use Rattle.rep_state.specs.declared.fresh.Fresh.{Fresh}
-use Rattle.rep_state.specs.Entries.{row_of, IsFresh, fresh_row}
+use Rattle.rep_entry.specs.declared.entry.Entry.{Entry}
+use Rattle.rep_entry.specs.declared.fresh.Fresh.{Fresh}
+use Rattle.rep_entry.specs.Entries.{row_of, IsFresh, fresh_row}
 use Rattle.rep_state.specs.Tables.{rows_of, AreKept, IsKept}
 use Rattle.rep_state.specs.inner.Groups.{held_of, IsTaken, IsGroup, IsGroupOf, AreGroups, fresh_rows, IsRowOf, AreRowsOf}
-use Rattle.rep_state.proofs.Steps.{kept_step, kept_between}
+use Rattle.rep_entry.proofs.Steps.{kept_step, kept_between}
 use Rattle.rep_state.proofs.Entering.{keeps_row}
 use Rattle.rep_state.proofs.Rows.{find_rows}
-use Rattle.rep_state.proofs.Owning.{found_holds}
+use Rattle.rep_entry.proofs.Owning.{found_holds}
 
 -- ---- one operation more in its client's group
 

@@ -19,7 +19,7 @@ use Rattle.sn_session.specs.Tables.{is_ascending, with_entry}
 use Rattle.sn_session.specs.inner.Tables.{IsAt, IsGap}
 use Rattle.sn_session.proofs.Ascending.{Ascends, to_test, all_with, less}
 use Rattle.sn_session.proofs.Places.{with_at, with_gap}
-use Rattle.rep_state.specs.declared.entry.Entry.{Entry}
+use Rattle.rep_entry.specs.declared.entry.Entry.{Entry}
 use Rattle.rep_state.specs.declared.places.Place.{Place}
 use Rattle.rep_state.specs.Tables.{plain_of, by_client, arrivals, names_at, ArePlaces}
 use Rattle.rep_state.specs.inner.Tables.{place_cmp}

@@ -23,8 +23,8 @@ use Rattle.rep_plain.specs.inner.Tables.{passed_of}
 use Rattle.rep_plain.proofs.Counting.{all_found, count_moved}
 use Rattle.rep_plain.proofs.Single.{pending_own, parked_own, exceptions_own}
 use Rattle.rep_plain.proofs.Flat.{of_flat, find_in_moved, rows_moved, count_clients, named_flat}
-use Rattle.rep_state.specs.declared.entry.Entry.{Entry}
-use Rattle.rep_state.specs.Entries.{row_of, IsEntry}
+use Rattle.rep_entry.specs.declared.entry.Entry.{Entry}
+use Rattle.rep_entry.specs.Entries.{row_of, IsEntry}
 use Rattle.rep_state.specs.Tables.{rows_of, IsKept, AreKept}
 use Rattle.rep_state.specs.inner.Tables.{passed_by, too_many_pending, too_many_parked, too_many_exceptions}
 use Rattle.rep_state.proofs.Entering.{seen_row}

@@ -12,8 +12,8 @@ use Rattle.rep_model.proofs.Readers.{client_total, client_exact}
 use Rattle.rep_plain.specs.Rows.{flat, own, or_nothing, moved, has_any, count_named}
 use Rattle.rep_plain.specs.Steps.{capped}
 use Rattle.rep_plain.proofs.Flat.{all_put, count_put, moved_last, one_if}
-use Rattle.rep_state.specs.declared.entry.Entry.{Entry}
-use Rattle.rep_state.specs.Entries.{row_of, IsEntry}
+use Rattle.rep_entry.specs.declared.entry.Entry.{Entry}
+use Rattle.rep_entry.specs.Entries.{row_of, IsEntry}
 use Rattle.rep_state.specs.Tables.{rows_of, IsKept, AreKept}
 use Rattle.rep_state.specs.inner.Tables.{IsRoomier}
 use Rattle.rep_state.proofs.Rows.{find_rows, rows_put, table_rows}

@@ -1,72 +1,33 @@
 -- What is read off the entry of a client.
-use Rattle.std.proofs.Common.{◌≡◌, ℕ, ◌+◌, max, Bool, true, false, not, cond, ◌==◌, ◌&&◌, ◌||◌, if◌then◌else◌, List, [], ◌∷◌, ◌++◌, map, length, Option, Some, T, refl, sym, ap, ◌∙◌, subst, arith, le-leb, eqb-true, nat_cmp, Vec, Global}
-use Rattle.std.specs.List.{list_any, AllByRecursion}
+use Rattle.std.proofs.Common.{◌≡◌, ℕ, ◌+◌, max, Bool, true, false, cond, ◌==◌, ◌&&◌, if◌then◌else◌, List, [], ◌∷◌, ◌++◌, map, Option, Some, T, refl, sym, ap, ◌∙◌, subst, arith, le-leb, eqb-true, nat_cmp}
+use Rattle.std.specs.List.{AllByRecursion}
 use Rattle.std.specs.Option.{option_map}
 use Rattle.std.specs.Cmp.{unsigned_tied}
 use Rattle.std.specs.Map.{keys_of}
 use Rattle.std.specs.FinMap.{find, is_sorted}
 use Rattle.std.specs.FinMap.Entries.{below_all}
-use Rattle.std.proofs.lemmas.Bool.Decides.{nat_tests}
 use Rattle.sn_session.specs.declared.change.SessionOp.{SessionOp}
 use Rattle.rep_ops.specs.declared.op.Stamp.{Stamp}
 use Rattle.rep_ops.specs.declared.op.Put.{Put}
-use Rattle.rep_ops.specs.declared.op.Op.{Op}
-use Rattle.rep_ops.specs.declared.op.Op.TheVariants.{Ack}
-use Rattle.rep_ops.specs.Orders.{client_cmp}
+use Rattle.rep_ops.specs.Orders.{client_cmp, put_cmp}
 use Rattle.rep_model.specs.Fresh.{largest, seq_of, greatest_epoch}
 use Rattle.rep_model.specs.Ranges.{AreApartFrom}
 use Rattle.rep_model.specs.Views.{names}
 use Rattle.std.specs.Ordering.{is_eq}
-use Rattle.rep_ops.specs.Orders.{put_cmp}
-use Rattle.rep_plain.specs.Rows.{own, or_nothing, has_any}
+use Rattle.rep_plain.specs.Rows.{own, or_nothing}
 use Rattle.rep_state.proofs.Rows.{find_rows}
 use Rattle.rep_state.specs.Tables.{rows_of}
 use Rattle.rep_plain.proofs.Flat.{find_below}
-use Rattle.rep_state.specs.declared.entry.Entry.{Entry}
-use Rattle.rep_state.specs.Mail.{Range, name_of, put_named}
-use Rattle.rep_state.specs.Origins.{origins_of, or_no_range, ranges_at, ranges_in, IsOrigin, AreOrigins}
-use Rattle.rep_state.specs.Kept.{of_log, of_mail, of_acks}
-use Rattle.rep_state.specs.Entries.{row_of}
-use Rattle.rep_state.specs.inner.Numbers.{epoch_of, seq_from}
-use Rattle.rep_state.proofs.Client.{itself, kept_operations}
+use Rattle.rep_entry.specs.declared.entry.Entry.{Entry}
+use Rattle.rep_log.specs.Mail.{name_of, put_named}
+use Rattle.rep_log.specs.Origins.{or_no_range, ranges_at, ranges_in, IsOrigin, AreOrigins}
+use Rattle.rep_log.specs.Kept.{of_log, of_mail, of_acks}
+use Rattle.rep_entry.specs.Entries.{row_of}
+use Rattle.rep_entry.specs.inner.Numbers.{epoch_of, seq_from}
+use Rattle.rep_entry.proofs.Client.{itself, kept_operations}
+use Rattle.rep_log.proofs.Ranges.{acks_both}
 
 -- ---- whether there is anything
-
-any_both : (a b : List Op) → has_any (a ++ b) ≡ (has_any a || has_any b)
-any_both [] b = refl
-any_both (x ∷ a) b = refl
-
-some_length : {A : Type 0} (x : A) (xs : List A) → not (length (x ∷ xs) == 0) ≡ true
-some_length x xs = let e : (length (x ∷ xs) == 0) ≡ false = grind (arith, nat_tests) in ap not e
-
-any_log : (c : List ℕ) (es : List ((Stamp × ℕ) × SessionOp)) → has_any (of_log c es) ≡ not (length es == 0)
-any_log c [] = refl
-any_log c (e ∷ es) = sym (some_length e es)
-
-any_mail : (c : List ℕ) (ps : List Put) → has_any (of_mail c ps) ≡ not (length ps == 0)
-any_mail c [] = refl
-any_mail c (p ∷ ps) = sym (some_length p ps)
-
-pub acks_both : (c : List ℕ) (xs ys : List Range) → of_acks c (xs ++ ys) ≡ of_acks c xs ++ of_acks c ys
-acks_both c [] ys = refl
-acks_both c (x ∷ xs) ys = ap (λ rest. Ack c x.0 x.1.0 x.1.1 ∷ rest) (acks_both c xs ys)
-
-any_origin : (c : List ℕ) (o : ℕ) (rs : List (ℕ × ℕ)) → has_any (of_acks c (map (λ r. (o, r)) rs)) ≡ not (length rs == 0)
-any_origin c o [] = refl
-any_origin c o (r ∷ rs) = sym (some_length r rs)
-
-any_acks : (c : List ℕ) (os : List (ℕ × List (ℕ × ℕ))) → has_any (of_acks c (ranges_in os)) ≡ list_any (λ (o : ℕ × List (ℕ × ℕ)). not (length o.1 == 0)) os
-any_acks c [] = refl
-any_acks c (o ∷ os) = ap has_any (acks_both c (map (λ r. (o.0, r)) o.1) (ranges_in os)) ∙ any_both (of_acks c (map (λ r. (o.0, r)) o.1)) (of_acks c (ranges_in os)) ∙ (λ i. any_origin c o.0 o.1 i || any_acks c os i)
-
-pub any_row : (c : List ℕ) (e : Entry) → has_any (row_of c e) ≡ (not (length e.known == 0) || (not (length e.seen.pending == 0) || list_any (λ (o : ℕ × List (ℕ × ℕ)). not (length o.1 == 0)) e.acks))
-any_row c e =
-    any_both (of_log c e.known) (of_mail c e.seen.pending ++ of_acks c (ranges_in e.acks))
-    ∙ (λ i. any_log c e.known i || (any_both (of_mail c e.seen.pending) (of_acks c (ranges_in e.acks)) ∙ (λ j. any_mail c e.seen.pending j || any_acks c e.acks j)) i)
-
-pub any_ranges : (es : List (ℕ × Vec (ℕ × ℕ) Global)) → list_any (λ (v : Vec (ℕ × ℕ) Global). not (length v.items == 0)) (map (λ e. e.1) es) ≡ list_any (λ (o : ℕ × List (ℕ × ℕ)). not (length o.1 == 0)) (origins_of es)
-any_ranges [] = refl
-any_ranges (e ∷ es) = ap (λ b. not (length e.1.items == 0) || b) (any_ranges es)
 
 -- ---- numbers
 

@@ -1,123 +1,40 @@
 -- What is staged of each client, and the entries that it makes.
-use Rattle.std.proofs.Common.{◌≡◌, ℕ, suc, ◌+◌, ◌==◌, ◌≤◌, eqb-true, Bool, true, false, cond, ◌&&◌, ◌||◌, nat_lt, List, [], ◌∷◌, ◌++◌, filter, length, count_by, Option, Some, None, is_some, IsSome, IsTrue, T, vec_capacity, refl, sym, ap, ◌∙◌, subst, arith, Ordering, Less, Equal, Greater, Vec, Global}
+use Rattle.std.proofs.Common.{◌≡◌, ℕ, suc, ◌+◌, ◌≤◌, Bool, true, false, cond, ◌&&◌, ◌||◌, nat_lt, List, [], ◌∷◌, ◌++◌, filter, length, count_by, Option, Some, None, is_some, IsSome, T, refl, sym, ap, ◌∙◌, subst, Ordering, Less, Equal, Greater, Vec, Global}
 use Rattle.std.specs.List.{AllByRecursion, filter_map, list_any}
 use Rattle.std.specs.Option.{option_map}
 use Rattle.std.specs.Ordering.{is_lt, is_eq, eq_by_cmp}
 use Rattle.std.specs.FinMap.{find, put, is_sorted}
 use Rattle.std.specs.FinMap.Entries.{below_all, find-put}
-use Rattle.std.proofs.lemmas.List.{length-append}
-use Rattle.std.proofs.lemmas.List.Elements.{filter-append, filter_map-append}
+use Rattle.std.proofs.lemmas.List.Elements.{filter_map-append}
 use Rattle.std.proofs.lemmas.List.Sums.{length-filter}
 use Rattle.rep_ops.specs.declared.op.Put.{Put}
 use Rattle.rep_ops.specs.declared.op.Op.{Op}
 use Rattle.rep_ops.specs.Orders.{client_cmp}
-use Rattle.rep_ops.specs.WellMade.{is_put}
 use Rattle.rep_model.proofs.Readers.{client_total, client_exact}
 use Rattle.rep_plain.specs.Rows.{own, moved}
-use Rattle.rep_plain.specs.Steps.{capped}
 use Rattle.rep_plain.specs.inner.Tables.{passed_of}
 use Rattle.rep_plain.proofs.Flat.{all_put}
-use Rattle.rep_plain.proofs.Prepared.{all_filter}
 use Rattle.sn_session.specs.declared.change.SessionOp.{SessionOp}
 use Rattle.rep_ops.specs.declared.op.Stamp.{Stamp}
-use Rattle.rep_ops.specs.Orders.{operation_cmp}
 use Rattle.rep_model.specs.Limits.{parked, exceptions}
-use Rattle.rep_state.specs.declared.log.Log.{Log}
-use Rattle.rep_state.specs.declared.entry.Entry.{Entry}
-use Rattle.rep_state.specs.declared.change.Change.{Change}
-use Rattle.rep_state.specs.Logs.{IsFolded, known_on}
-use Rattle.rep_state.specs.Mail.{Range, NoneCovered, is_left, front_before, rest_from, weave}
-use Rattle.rep_state.specs.Origins.{ranges_in, AreOrigins, origins_after, ranges_on}
-use Rattle.rep_state.specs.Kept.{of_log, of_mail, of_acks, kept_ops}
-use Rattle.rep_state.specs.Entries.{AreChanges, IsEntry, messages, row_of, whole_after, base_of, left_on}
+use Rattle.rep_entry.specs.declared.entry.Entry.{Entry}
+use Rattle.rep_entry.specs.declared.change.Change.{Change}
+use Rattle.rep_log.specs.Mail.{Range}
+use Rattle.rep_log.specs.Origins.{ranges_in}
+use Rattle.rep_log.specs.Kept.{of_log, of_mail, of_acks, kept_ops}
+use Rattle.rep_entry.specs.Entries.{IsEntry, messages, row_of, base_of}
 use Rattle.rep_state.specs.Tables.{rows_of, IsKept, AreKept}
-use Rattle.rep_state.specs.Staging.{staged_of, IsChange, IsLogFit, AreAcksFit, IsFit, range_of, base_in, planned_row, planned, IsReady, AreReady, AreStaged}
+use Rattle.rep_entry.specs.Staging.{staged_of, IsChange, range_of, base_in, planned_row, planned, IsReady, AreReady, AreStaged}
 use Rattle.rep_state.specs.inner.Groups.{held_of, base_at, or_nothing_held}
 use Rattle.rep_state.specs.inner.Tables.{IsRoomier, passed_by, too_many_pending, too_many_parked, too_many_exceptions}
-use Rattle.rep_state.specs.inner.Staging.{applied, future, AreMovable, HaveRoom, AreWorkedOut}
-use Rattle.rep_state.proofs.Client.{kept_operations, kept_puts}
-use Rattle.rep_state.proofs.Rising.{front_rest, rising_weave, weave_all, values_named}
-use Rattle.rep_state.proofs.Changes.{none_covered}
-use Rattle.rep_state.proofs.Freshness.{ranges_same, rising_filter, are_apart, weave_none}
+use Rattle.rep_state.specs.inner.Staging.{future, AreMovable, HaveRoom, AreWorkedOut}
+use Rattle.rep_entry.specs.Applied.{applied}
+use Rattle.rep_entry.proofs.Client.{kept_operations, kept_puts}
+use Rattle.rep_entry.proofs.Rising.{values_named}
 use Rattle.rep_state.proofs.Rows.{find_rows}
 use Rattle.rep_state.proofs.Placing.{move_last}
 use Rattle.rep_state.proofs.Working.{held_is, held_row}
-
--- ---- how many are left
-
-long_both : {A : Type 0} (xs ys : List A) → length (xs ++ ys) ≡ length xs + length ys
-long_both xs ys = length-append xs ys
-
-none_before : (n : ℕ) → n ≡ 0 + n
-none_before n = omega arith
-
-module _ (test : Put → Bool) where
-  left_both : (xs ys : List Put) → length (filter test (xs ++ ys)) ≡ length (filter test xs) + length (filter test ys)
-  left_both xs ys = ap length (filter-append test xs ys) ∙ long_both (filter test xs) (filter test ys)
-
-  pub weave_count : (ps ns : List Put) → length (filter test (weave ps ns)) ≡ length (filter test ps) + length (filter test ns)
-  weave_count [] ns = none_before (length (filter test ns))
-  weave_count (p ∷ ps) ns =
-      let rest = weave_count ps (rest_from p ns) in
-      let new = sym (left_both (front_before p ns) (rest_from p ns)) ∙ ap (λ xs. length (filter test xs)) (front_rest p ns) in
-      left_both (front_before p ns) (p ∷ weave ps (rest_from p ns))
-      ∙ elim (test p) as (λ b. length (filter test (front_before p ns)) + length (cond b (p ∷ filter test (weave ps (rest_from p ns))) (filter test (weave ps (rest_from p ns)))) ≡ length (cond b (p ∷ filter test ps) (filter test ps)) + length (filter test ns)) [
-        | true ↦ omega (arith, rest, new)
-        | false ↦ omega (arith, rest, new)
-      ]
-
-pub weave_long : (ps ns : List Put) → length (weave ps ns) ≡ length ps + length ns
-weave_long [] ns = none_before (length ns)
-weave_long (p ∷ ps) ns =
-    let rest = weave_long ps (rest_from p ns) in
-    let new = sym (long_both (front_before p ns) (rest_from p ns)) ∙ ap length (front_rest p ns) in
-    long_both (front_before p ns) (p ∷ weave ps (rest_from p ns)) ∙ omega (arith, rest, new)
-
-no_zero : (n : ℕ) → suc n ≡ 0 → ⊥
-no_zero n h = omega (arith, h)
-
-pub empty_woven : (ps ns : List Put) → (length ns == 0) ≡ true → ps ≡ weave ps ns
-empty_woven ps [] e = sym (weave_none ps)
-empty_woven ps (n ∷ ns) e = absurd (no_zero (length ns) (eqb-true (suc (length ns)) 0 e))
-
--- ---- the entry that a change makes
-
--- its row is what is kept with the change
-pub row_applied : (c : List ℕ) (e : Entry) (ch : Change) → row_of c (applied e ch) ≡ planned_row c (base_of e) ch
-row_applied c e ch = ap (kept_ops c (known_on e.known ch.log) (left_on (base_of e) ch.news.items ch.acks)) (ranges_same e.acks ch.acks)
-
-pub folded_after : (c : List ℕ) (e : Entry) (log : Option Log) (room : ℕ) → IsEntry c e → IsLogFit e.known log room → IsFolded (whole_after e log)
-folded_after c e None room h fit = h.folded
-folded_after c e (Some log) room h fit = fit.0
-
-pub ordered_after : (c : List ℕ) (e : Entry) (log : Option Log) (room : ℕ) → IsEntry c e → IsLogFit e.known log room → T (is_sorted operation_cmp (known_on e.known log))
-ordered_after c e None room h fit = h.ordered
-ordered_after c e (Some log) room h fit = fit.1
-
-changes_after : (c : List ℕ) (e : Entry) (log : Option Log) (room : ℕ) → IsEntry c e → IsLogFit e.known log room → AreChanges (known_on e.known log)
-changes_after c e None room h fit = h.changes
-changes_after c e (Some log) room h fit = fit.2
-
-pub origins_fit : (c : List ℕ) (e : Entry) (acks : Option (List (ℕ × List (ℕ × ℕ)))) → IsEntry c e → AreAcksFit acks → AreOrigins (origins_after e.acks acks)
-origins_fit c e None h fit = h.origins
-origins_fit c e (Some acks) h fit = fit
-
-pub entry_of : (c : List ℕ) (e : Entry) (ch : Change) → IsEntry c e → IsChange ch → IsFit c (base_of e) ch → IsEntry c (applied e ch)
-entry_of c e ch h change fit =
-    let ps = e.seen.pending in
-    let ns = ch.news.items in
-    let rs = ranges_on (ranges_in e.acks) ch.acks in
-    record {
-      folded = folded_after c e ch.log (vec_capacity ch.log_room) h fit.log;
-      ordered = ordered_after c e ch.log (vec_capacity ch.log_room) h fit.log;
-      changes = changes_after c e ch.log (vec_capacity ch.log_room) h fit.log;
-      rising = rising_filter (is_left rs) (weave ps ns) (rising_weave ps ns h.rising change.rising (are_apart ps ns fit.apart));
-      none_covered = subst (λ rs. NoneCovered rs (left_on (base_of e) ns ch.acks)) (sym (ranges_same e.acks ch.acks)) (none_covered rs (weave ps ns));
-      made = all_filter (λ (p : Put). IsTrue (is_put p)) (is_left rs) (weave ps ns) (weave_all (λ (p : Put). IsTrue (is_put p)) ps ns h.made change.made);
-      origins = origins_fit c e ch.acks h fit.acks;
-      parked = fit.parked ∙ sym (ap (λ S. length (parked c S)) (row_applied c e ch));
-      exceptions = fit.exceptions ∙ sym (ap (λ S. capped (exceptions c S)) (row_applied c e ch));
-    }
+use Rattle.rep_entry.proofs.Applied.{row_applied, entry_of}
 
 -- ---- entries and rows
 

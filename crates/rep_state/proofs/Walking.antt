@@ -10,7 +10,7 @@ use Rattle.rep_model.proofs.Readers.{client_total}
 use Rattle.rep_plain.specs.Rows.{flat, own, or_nothing, has_any, count_named}
 use Rattle.rep_plain.specs.inner.Rows.{named_rows}
 use Rattle.rep_plain.proofs.Counting.{all_found}
-use Rattle.rep_state.specs.declared.entry.Entry.{Entry}
+use Rattle.rep_entry.specs.declared.entry.Entry.{Entry}
 use Rattle.rep_state.specs.Tables.{rows_of}
 use Rattle.rep_state.specs.inner.Tables.{own_of_all}
 use Rattle.rep_state.proofs.Rows.{sorted_rows}

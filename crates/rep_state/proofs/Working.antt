@@ -22,17 +22,17 @@ use Rattle.rep_plain.specs.inner.Rows.{of_client}
 use Rattle.rep_plain.proofs.Kept.{made_rows}
 use Rattle.rep_plain.proofs.Counting.{all_found}
 use Rattle.rep_plain.proofs.Flat.{of_flat, found_own}
-use Rattle.rep_state.specs.declared.entry.Entry.{Entry}
-use Rattle.rep_state.specs.declared.fresh.Fresh.{Fresh}
-use Rattle.rep_state.specs.Entries.{row_of, IsEntry, IsFresh, fresh_row}
+use Rattle.rep_entry.specs.declared.entry.Entry.{Entry}
+use Rattle.rep_entry.specs.declared.fresh.Fresh.{Fresh}
+use Rattle.rep_entry.specs.Entries.{row_of, IsEntry, IsFresh, fresh_row}
 use Rattle.rep_state.specs.Tables.{rows_of, AreKept, IsKept, IsTable}
 use Rattle.rep_state.specs.inner.Tables.{AreWorkedOut}
 use Rattle.rep_state.specs.inner.Groups.{held_of, or_nothing_held, IsTaken, IsGroup, IsGroupOf, AreGroups, fresh_rows, IsRowOf, AreRowsOf}
-use Rattle.rep_state.proofs.Client.{itself}
+use Rattle.rep_entry.proofs.Client.{itself}
 use Rattle.rep_state.proofs.Entering.{own_entry}
-use Rattle.rep_state.proofs.Empty.{nothing_is}
+use Rattle.rep_entry.proofs.Empty.{nothing_is}
 use Rattle.rep_state.proofs.Rows.{find_rows, table_rows}
-use Rattle.rep_state.proofs.Owning.{found_holds}
+use Rattle.rep_entry.proofs.Owning.{found_holds}
 use Rattle.rep_state.proofs.Groups.{group_more, group_apart, any_taken, own_keeps, same_kept_by_client, rows_of_groups}
 use Rattle.rep_state.proofs.Passing.{AreFresh}
 

@@ -7,7 +7,7 @@ use Rattle.sn_topic.specs.Matching.{is_match}
 use Rattle.sn_session.specs.declared.session.Session.{Session}
 use Rattle.sn_session.specs.declared.subscriptions.Subscription.{Subscription}
 use Rattle.rep_ops.specs.Orders.{client_cmp}
-use Rattle.rep_state.specs.declared.entry.Entry.{Entry}
+use Rattle.rep_entry.specs.declared.entry.Entry.{Entry}
 use Rattle.rep_state.specs.declared.places.Place.{Place}
 
 -- a number of 32 bits, mixed with one octet more
@@ -24,7 +24,8 @@ has_mark marks mark = bit_at marks mark == 1
 
 -- each topic that the filter asks for has its mark among these
 abbrev pub AsksWithin : ℕ → List ℕ → Type 0
-AsksWithin marks filter = (topic : List ℕ) → is_match filter topic ≡ true → has_mark marks (mark_of topic) ≡ true
+AsksWithin marks filter =
+    (topic : List ℕ) → is_match filter topic ≡ true → has_mark marks (mark_of topic) ≡ true
 
 -- the same of all these subscriptions
 abbrev pub AskWithin : ℕ → List Subscription → Type 0

@@ -1,9 +1,3 @@
-pub mod Logs
-pub mod Mail
-pub mod Kept
-pub mod Origins
-pub mod Entries
 pub mod Tables
 pub mod Interests
-pub mod Staging
 pub mod inner

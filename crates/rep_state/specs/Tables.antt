@@ -9,9 +9,9 @@ use Rattle.rep_ops.specs.Orders.{client_cmp}
 use Rattle.rep_model.specs.declared.fault.TheConstants.{MOST_CLIENTS, MOST_PENDING, MOST_PARKED, MOST_EXCEPTIONS}
 use Rattle.rep_model.specs.Views.{in_order}
 use Rattle.rep_plain.specs.Rows.{count_named}
-use Rattle.rep_state.specs.declared.entry.Entry.{Entry}
+use Rattle.rep_entry.specs.declared.entry.Entry.{Entry}
 use Rattle.rep_state.specs.declared.places.Place.{Place}
-use Rattle.rep_state.specs.Entries.{row_of, IsEntry}
+use Rattle.rep_entry.specs.Entries.{row_of, IsEntry}
 
 -- the clients with their entries, in the order of the clients and not of the table
 abbrev pub plain_of : List (Vec ℕ Global × Entry) → List (List ℕ × Entry)

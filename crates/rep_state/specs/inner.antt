@@ -1,8 +1,5 @@
 -- What proofs stand on and no public clause cites.
 pub mod Groups
 pub mod Interests
-pub mod Logs
-pub mod Mail
-pub mod Numbers
 pub mod Staging
 pub mod Tables

@@ -7,13 +7,12 @@ ghost use Rattle.rep_model.specs.Taking.{AllAgree, IsFaultOf};
 ghost use Rattle.rep_plain.specs.Rows.{flat, own};
 ghost use Rattle.rep_plain.specs.inner.Rows.{AreRows};
 ghost use Rattle.rep_plain.specs.inner.Tables.{IsRefusalOf};
-ghost use Rattle.rep_state.specs.Entries.{row_of};
-ghost use Rattle.rep_state.specs.Mail.{Rising};
+ghost use Rattle.rep_entry.specs.Entries.{row_of};
+ghost use Rattle.rep_log.specs.Mail.{Rising};
 ghost use Rattle.rep_state.specs.Tables.{by_client, rows_of, AreKept};
 
-use super::entry::Entry;
-use super::searching::find_put;
 use super::table::{Table, entry_of};
+use rep_entry::{Entry, find_put};
 use rep_model::TakeFault;
 use rep_ops::{ClientId, Op, Put};
 use rep_same::same_change;

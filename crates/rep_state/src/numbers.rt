@@ -3,15 +3,15 @@
 ghost use Rattle.std.specs.Prelude.{◌≡◌, ℕ, List, max};
 ghost use Rattle.rep_model.specs.Fresh.{greatest_epoch, seq_of, largest};
 ghost use Rattle.rep_plain.specs.Rows.{own};
-ghost use Rattle.rep_state.specs.Entries.{row_of};
-ghost use Rattle.rep_state.specs.Mail.{Rising};
-ghost use Rattle.rep_state.specs.inner.Numbers.{epoch_of, seq_from};
+ghost use Rattle.rep_entry.specs.Entries.{row_of};
+ghost use Rattle.rep_log.specs.Mail.{Rising};
+ghost use Rattle.rep_entry.specs.inner.Numbers.{epoch_of, seq_from};
 ghost use Rattle.rep_state.specs.Tables.{by_client, rows_of, AreKept};
 ghost use Rattle.std.specs.Map.{keys_of};
 
-use super::entry::Entry;
-use super::known::NamedOp;
 use super::table::{Table, entry_of};
+use rep_entry::Entry;
+use rep_log::NamedOp;
 use rep_ops::{ClientId, Put};
 
 /// The greatest epoch of the client, or 0.

@@ -3,7 +3,6 @@
 ghost use Rattle.std.specs.Prelude.{◌≡◌};
 
 use super::agreeing::check;
-use super::change::Change;
 use super::grouping::{grown, worked_out};
 use super::held::{held, named_at, named_clients, next_asking};
 use super::numbers::{last_epoch, last_seq};
@@ -11,6 +10,7 @@ use super::places::Place;
 use super::room::{make_room, move_in};
 use super::table::{Table, count_new, entry_of, passed};
 use indexmap::IndexMap;
+use rep_entry::Change;
 use rep_model::{ClientView, Replica, TakeFault};
 use rep_ops::{ClientId, Delta};
 use sn_topic::TopicName;
@@ -55,8 +55,8 @@ pub struct Staged {
 
 impl Model for Staged {
     ghost use Rattle.std.specs.Prelude.{List, ℕ, ◌≤◌};
-    ghost use Rattle.rep_state.specs.declared.change.Change.{Change};
-    ghost use Rattle.rep_state.specs.Staging.{staged_of, AreStaged};
+    ghost use Rattle.rep_entry.specs.declared.change.Change.{Change};
+    ghost use Rattle.rep_entry.specs.Staging.{staged_of, AreStaged};
     ghost use Rattle.rep_model.specs.declared.fault.TheConstants.{MOST_CLIENTS};
 
     ghost Value = { List (List ℕ × Change) × ℕ };
@@ -69,7 +69,7 @@ impl Model for Staged {
 impl Replica for Folded {
     ghost use Rattle.std.specs.Prelude.{◌≡◌};
     ghost use Rattle.rep_plain.specs.Rows.{flat, moved, count_named};
-    ghost use Rattle.rep_state.specs.Staging.{planned, AreReady};
+    ghost use Rattle.rep_entry.specs.Staging.{planned, AreReady};
 
     type Staged = Staged;
 

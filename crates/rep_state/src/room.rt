@@ -10,17 +10,17 @@ ghost use Rattle.rep_state.specs.inner.Tables.{IsRoomier, place_cmp};
 ghost use Rattle.rep_state.specs.Interests.{AreMarked};
 ghost use Rattle.rep_state.specs.inner.Interests.{AreMarksOf, noted};
 ghost use Rattle.rep_state.specs.inner.Groups.{held_of, base_at};
-ghost use Rattle.rep_state.specs.Staging.{staged_of, IsChange, IsReady, AreStaged};
-ghost use Rattle.rep_state.specs.inner.Staging.{applied, future, HaveRoom, AreMovable};
+ghost use Rattle.rep_entry.specs.Staging.{staged_of, IsChange, IsReady, AreStaged};
+ghost use Rattle.rep_state.specs.inner.Staging.{future, HaveRoom, AreMovable};
+ghost use Rattle.rep_entry.specs.Applied.{applied};
 ghost use Rattle.rep_state.specs.declared.places.Place.{Place as AtPlace};
 
-use super::change::{Change, put_into};
-use super::entry::Entry;
 use super::interest::marks_of;
-use super::log::Log;
 use super::places::{Place, enter, mark_place};
 use super::table::{Table, copy_octets};
 use octets::NoMemory;
+use rep_entry::{Change, Entry, put_into};
+use rep_log::Log;
 use rep_ops::ClientId;
 use std::alloc::Global;
 

@@ -9,10 +9,9 @@ ghost use Rattle.rep_plain.specs.Rows.{own, has_any};
 ghost use Rattle.rep_plain.specs.inner.Tables.{passed_of};
 ghost use Rattle.rep_state.specs.Tables.{by_client, rows_of};
 
-use super::change::Change;
-use super::entry::Entry;
 use indexmap::IndexMap;
 use octets::NoMemory;
+use rep_entry::{Change, Entry};
 use rep_model::{Limit, MOST_CLIENTS, MOST_EXCEPTIONS, MOST_PARKED, MOST_PENDING};
 use std::alloc::Global;
 

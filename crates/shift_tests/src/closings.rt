@@ -11,7 +11,7 @@ use std::test::Fail;
 pub type Over = Ended<Plain, MemoryDisk>;
 
 /// The shift is not closed: a pass is of another shift, by the call of that number.
-pub fn strange(
+pub(crate) fn strange(
     rt: &impl Abort,
     ended: Over,
     given: Vec<Pass>,
@@ -35,7 +35,7 @@ fn check_stranger(rt: &impl Abort, fault: &CloseFault, by: u64) {
 }
 
 /// The shift is not closed: of so many calls the passes hold so many.
-pub fn missing(
+pub(crate) fn missing(
     rt: &impl Abort,
     ended: Over,
     given: Vec<Pass>,
@@ -59,7 +59,7 @@ fn check_missing(rt: &impl Abort, fault: &CloseFault, counts: (u64, u64)) {
 }
 
 /// The shift is closed, and has that many calls.
-pub fn closed(
+pub(crate) fn closed(
     rt: &impl Abort,
     ended: Over,
     given: Vec<Pass>,

@@ -30,7 +30,7 @@ pub const SUBSCRIBE: [u8; 8] = [8, 0x12, 0x20, 0, 2, 0x74, 0x2f, 0x23];
 pub const SEARCHGW: [u8; 3] = [3, 1, 0];
 
 /// Gateway 1 with an empty journal.
-pub fn gateway(alloc: Global) -> Result<Gateway, Fail> {
+pub(crate) fn gateway(alloc: Global) -> Result<Gateway, Fail> {
     let config = Config {
         gateway: 1,
         advertise: 0,
@@ -44,7 +44,7 @@ pub fn gateway(alloc: Global) -> Result<Gateway, Fail> {
 }
 
 /// A shift of a gateway.
-pub fn shift_of(
+pub(crate) fn shift_of(
     alloc: Global,
     node: Gateway,
     passes: usize,
@@ -59,7 +59,7 @@ pub fn shift_of(
 }
 
 /// A shift of a gateway, with its only pass.
-pub fn shift_of_one(alloc: Global, node: Gateway, steps: u64) -> Result<(Shared, Pass), Fail>
+pub(crate) fn shift_of_one(alloc: Global, node: Gateway, steps: u64) -> Result<(Shared, Pass), Fail>
     requires { (0 < steps) × (steps ≤ 4096) }
 {
     let (shift, mut passes) = shift_of(alloc, node, 1, steps)?;
@@ -68,7 +68,7 @@ pub fn shift_of_one(alloc: Global, node: Gateway, steps: u64) -> Result<(Shared,
 }
 
 /// A shift of a gateway, with its two passes, and room for as many calls as may be.
-pub fn shift_of_two(alloc: Global, node: Gateway) -> Result<(Shared, Pass, Pass), Fail> {
+pub(crate) fn shift_of_two(alloc: Global, node: Gateway) -> Result<(Shared, Pass, Pass), Fail> {
     let (shift, mut passes) = shift_of(alloc, node, 2, 4096)?;
     let second = last(&mut passes)?;
     let first = last(&mut passes)?;
@@ -76,7 +76,7 @@ pub fn shift_of_two(alloc: Global, node: Gateway) -> Result<(Shared, Pass, Pass)
 }
 
 /// The last of some passes.
-pub fn last(passes: &mut Vec<Pass>) -> Result<Pass, Fail> {
+pub(crate) fn last(passes: &mut Vec<Pass>) -> Result<Pass, Fail> {
     match passes.pop() {
         Some(pass) => Ok(pass),
         None => Err(Fail::new("a pass")),
@@ -84,14 +84,14 @@ pub fn last(passes: &mut Vec<Pass>) -> Result<Pass, Fail> {
 }
 
 /// A list of one pass.
-pub fn alone(alloc: Global, pass: Pass) -> Result<Vec<Pass>, Fail> {
+pub(crate) fn alone(alloc: Global, pass: Pass) -> Result<Vec<Pass>, Fail> {
     let mut passes = Vec::new(alloc);
     passes.push(pass)?;
     Ok(passes)
 }
 
 /// A datagram from a port.
-pub fn frame(alloc: Global, port: u16, bytes: &[u8]) -> Result<Arc<Step>, Fail> {
+pub(crate) fn frame(alloc: Global, port: u16, bytes: &[u8]) -> Result<Arc<Step>, Fail> {
     let step = Step::Frame {
         from: Addr { host: 0, port },
         bytes: Octets::from_slice(alloc, bytes)?,
@@ -101,7 +101,7 @@ pub fn frame(alloc: Global, port: u16, bytes: &[u8]) -> Result<Arc<Step>, Fail> 
 }
 
 /// A call that the gateway does not refuse.
-pub fn call<W: Wait>(
+pub(crate) fn call<W: Wait>(
     rt: &W,
     alloc: Global,
     shift: &Shared,
@@ -123,13 +123,13 @@ fn first_of(out: &Out) -> &[u8] {
 }
 
 /// Looks at the one datagram of an answer.
-pub fn check_sent(rt: &impl Abort, out: &Out, bytes: &[u8]) {
+pub(crate) fn check_sent(rt: &impl Abort, out: &Out, bytes: &[u8]) {
     assert_eq!(rt; out.sends.len(), 1);
     assert_eq!(rt; first_of(out), bytes);
 }
 
 /// A datagram from port 7 is the call of that number, and is answered by one datagram.
-pub fn answered<W: Wait + Abort>(
+pub(crate) fn answered<W: Wait + Abort>(
     rt: &W,
     alloc: Global,
     shift: &Shared,
@@ -145,7 +145,7 @@ pub fn answered<W: Wait + Abort>(
 }
 
 /// The first pass of a shift of an empty gateway, which made one call.
-pub fn used<W: Wait>(rt: &W, alloc: Global, bytes: &[u8]) -> Result<Pass, Fail> {
+pub(crate) fn used<W: Wait>(rt: &W, alloc: Global, bytes: &[u8]) -> Result<Pass, Fail> {
     let (shift, pass, _other) = shift_of_two(alloc, gateway(alloc)?)?;
     let step = frame(alloc, 7, bytes)?;
     let (pass, _, _) = call(rt, alloc, &shift, pass, step)?;
@@ -162,7 +162,7 @@ fn with_client(alloc: Global) -> Result<Gateway, Fail> {
 }
 
 /// The first pass of a shift of a gateway with a client, which made no call.
-pub fn unused(alloc: Global) -> Result<Pass, Fail> {
+pub(crate) fn unused(alloc: Global) -> Result<Pass, Fail> {
     let (_shift, pass, _other) = shift_of_two(alloc, with_client(alloc)?)?;
     Ok(pass)
 }

@@ -9,7 +9,7 @@ use gw_main::{Tended, number_of, tend};
 use gw_node::Node;
 use gw_run::{Phase, Pool, Stage};
 use gw_wire::{Socket, address};
-use jr_journal::Disk;
+use jr_disk::Disk;
 use rep_model::Replica;
 use std::alloc::Global;
 use std::io::Print;

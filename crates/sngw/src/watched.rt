@@ -5,7 +5,7 @@ ghost use Rattle.std.specs.Prelude.{◌≡◌};
 use crate::late::Late;
 use gw_run::{Phase, Stage};
 use gw_wire::{Arrival, Wire, WireFault};
-use jr_journal::Failures;
+use jr_disk::Failures;
 use std::sync::Wait;
 
 /// A wire that fails when its shift is to close, and closes it when all its calls are claimed. What comes is a call's, which is claimed

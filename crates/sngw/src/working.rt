@@ -13,7 +13,7 @@ use gw_run::{End, MOST_ACCEPTED, Phase, Pool, Seat, Stage, sit, tick_all};
 use gw_serve::{Cause, serve};
 use gw_shift::{Closed, MAX_STEPS, Pass, Shift};
 use gw_wire::{Mouth, OpenGate, Wire};
-use jr_journal::Disk;
+use jr_disk::Disk;
 use rep_model::Replica;
 use std::alloc::Global;
 use std::net::TcpStream;

@@ -8,13 +8,13 @@ use std::alloc::Global;
 use std::test::Fail;
 
 /// The next of a row of numbers.
-pub fn next(seed: u64) -> u64 {
+pub(crate) fn next(seed: u64) -> u64 {
     seed.wrapping_mul(6364136223846793005)
         .wrapping_add(1442695040888963407)
 }
 
 /// A client by its number.
-pub fn client(alloc: Global, number: u64) -> Result<ClientId, Fail> {
+pub(crate) fn client(alloc: Global, number: u64) -> Result<ClientId, Fail> {
     let octets = [99u8, (number % 256) as u8];
     Ok(ClientId::new(alloc, &octets)?)
 }
@@ -82,7 +82,7 @@ fn made_up(alloc: Global, number: u64) -> Result<Op, Fail> {
 }
 
 /// A delta of so many operations, where they make one.
-pub fn delta(alloc: Global, seed: u64, size: u64) -> Result<Option<Delta>, Fail> {
+pub(crate) fn delta(alloc: Global, seed: u64, size: u64) -> Result<Option<Delta>, Fail> {
     let mut ops = Vec::new(alloc);
     let mut number = seed;
     for _ in 0..size {

@@ -5,7 +5,7 @@ use crate::serving::{Outcome, Shared, serve_all};
 use crate::stop::Stop;
 use gw_shift::{Pass, Shift};
 use gw_wire::{OpenGate, Post, Socket, Wire, address};
-use jr_journal::Disk;
+use jr_disk::Disk;
 use mio::net::UdpSocket;
 use rep_model::Replica;
 use sn_flow::Addr;

@@ -3,7 +3,7 @@
 ghost use Rattle.std.specs.Prelude.{◌≤◌, length, IfSome};
 
 use gw_wire::{Arrival, Wire, WireFault};
-use jr_journal::Failures;
+use jr_disk::Failures;
 use sn_flow::Addr;
 use std::thread;
 

@@ -12,12 +12,13 @@ use Rattle.sn_local.specs.Locals.{no_local}
 use Rattle.sn_deliver.specs.Steps.{step}
 use Rattle.sn_deliver.specs.Rest.{is_idle}
 use Rattle.sn_deliver.specs.Ticking.{tick}
-use Rattle.jr_journal.specs.declared.disk.Disk.{Ghosts}
+use Rattle.jr_disk.specs.declared.disk.Disk.{Ghosts}
 use Rattle.jr_journal.specs.Parts.{disk_of, gateway_of}
-use Rattle.gw_node.specs.declared.out.Out.{Out}
-use Rattle.gw_node.specs.declared.refusal.Refusal.{Refusal}
-use Rattle.gw_node.specs.declared.refusal.Refusal.TheVariants as refusals
-use Rattle.gw_node.specs.Parts.{State, is_halted, IsUnchanged, only_sends}
+use Rattle.gw_answer.specs.declared.out.Out.{Out}
+use Rattle.gw_answer.specs.declared.refusal.Refusal.{Refusal}
+use Rattle.gw_answer.specs.declared.refusal.Refusal.TheVariants as refusals
+use Rattle.gw_node.specs.Parts.{State, is_halted, IsUnchanged}
+use Rattle.gw_answer.specs.Answers.{only_sends}
 use Rattle.gw_node.specs.Plans.{MakeNoDelta}
 use Rattle.gw_node.specs.Calls.{IsDone, IsGivenUp, AreTooMuch}
 use Rattle.gw_node.specs.Keeping.{Keeps}
@@ -38,14 +39,19 @@ IsNoFrameBy bytes (refusals.Journal fault) = ⊥
 
 -- the plan for a frame, and that of a tick
 abbrev pub planned_for : {D : Type 0} {G : Ghosts D} → State G → Addr → Frame → ℕ → Option Plan
-planned_for old from frame now = step old.config.gateway old.config.predefined (seen_of old.kept) old.local from frame now
+planned_for old from frame now =
+    step old.config.gateway old.config.predefined (seen_of old.kept) old.local from frame now
 
 abbrev pub ticked : {D : Type 0} {G : Ghosts D} → State G → ℕ → Option Plan
-ticked old now = tick old.config.gateway old.config.advertise old.config.field old.config.predefined (seen_of old.kept) old.local now
+ticked old now =
+    tick old.config.gateway old.config.advertise old.config.field old.config.predefined
+    (seen_of old.kept) old.local now
 
 -- a tick of this moment has nothing to do
 abbrev pub IsIdleAt : {D : Type 0} {G : Ghosts D} → State G → ℕ → Type 0
-IsIdleAt old now = is_idle old.config.gateway old.config.advertise old.config.field (seen_of old.kept) old.local now ≡ true
+IsIdleAt old now =
+    is_idle old.config.gateway old.config.advertise old.config.field (seen_of old.kept) old.local
+    now ≡ true
 
 -- there is none
 abbrev pub IsNoPlan : Option Plan → Refusal → Type 0
@@ -69,29 +75,38 @@ HaveNoDelta ops (refusals.Conflict client) = ⊥
 HaveNoDelta ops refusals.Exhausted = ⊥
 HaveNoDelta ops (refusals.Journal fault) = ⊥
 
--- a plan was carried out, or why it was not; `excuse` is what is answered where the journal cannot be written
-abbrev pub CarriedOut : {D : Type 0} {G : Ghosts D} → State G → Plan → Out → Result Out Refusal → State G → Type 0
+-- a plan was carried out, or why it was not; `excuse` is what is answered where the journal cannot
+-- be written
+abbrev pub CarriedOut : {D : Type 0} {G : Ghosts D} → State G → Plan → Out → Result Out Refusal
+    → State G → Type 0
 CarriedOut old plan excuse (Ok out) new = IsDone old plan out new
-CarriedOut old plan excuse (Err (refusals.Disk given)) new = (given ≡ excuse) × IsGivenUp old plan given new
+CarriedOut old plan excuse (Err (refusals.Disk given)) new =
+    (given ≡ excuse) × IsGivenUp old plan given new
 CarriedOut old plan excuse (Err refusals.Halted) new = (is_halted old ≡ true) × IsUnchanged old new
-CarriedOut old plan excuse (Err (refusals.Conflict client)) new = AreTooMuch old.kept plan.ops (refusals.Conflict client) × IsUnchanged old new
-CarriedOut old plan excuse (Err refusals.Full) new = AreTooMuch old.kept plan.ops refusals.Full × IsUnchanged old new
+CarriedOut old plan excuse (Err (refusals.Conflict client)) new =
+    AreTooMuch old.kept plan.ops (refusals.Conflict client) × IsUnchanged old new
+CarriedOut old plan excuse (Err refusals.Full) new =
+    AreTooMuch old.kept plan.ops refusals.Full × IsUnchanged old new
 CarriedOut old plan excuse (Err refusals.Memory) new = IsUnchanged old new
 CarriedOut old plan excuse (Err (refusals.Frame fault)) new = ⊥
 CarriedOut old plan excuse (Err refusals.Exhausted) new = ⊥
 CarriedOut old plan excuse (Err (refusals.Journal fault)) new = ⊥
 
--- the plan, if there is one, was carried out, or why it was not; `excuse` makes of what would have been sent what is sent in its place
-abbrev pub Answers : {D : Type 0} {G : Ghosts D} → State G → Option Plan → (List Send → List Send) → Result Out Refusal → State G → Type 0
+-- the plan, if there is one, was carried out, or why it was not; `excuse` makes of what would have
+-- been sent what is sent in its place
+abbrev pub Answers : {D : Type 0} {G : Ghosts D} → State G → Option Plan → (List Send → List Send)
+    → Result Out Refusal → State G → Type 0
 Answers old planned excuse (Err refusals.Exhausted) new = (planned ≡ None) × IsUnchanged old new
 Answers old planned excuse (Err refusals.Memory) new = IsUnchanged old new
 Answers old planned excuse answer new =
-    (plan : Plan) × (planned ≡ Some plan) × CarriedOut old plan (only_sends (excuse plan.sends)) answer new
+    (plan : Plan) × (planned ≡ Some plan) × CarriedOut old plan (only_sends (excuse plan.sends))
+    answer new
 
 -- ---- what was read anew
 
 -- the node has taken these deltas, and knows nothing else; its journal is as it was
-pub record IsRefilled {D : Type 0} {G : Ghosts D} (old : State G) (deltas : List (List Op)) (new : State G) : Type 0 where
+pub record IsRefilled {D : Type 0} {G : Ghosts D} (old : State G) (deltas : List (List Op))
+    (new : State G) : Type 0 where
   pub config : new.config ≡ old.config
   pub local : new.local ≡ no_local
   pub journal : new.journal ≡ old.journal
@@ -100,9 +115,10 @@ pub record IsRefilled {D : Type 0} {G : Ghosts D} (old : State G) (deltas : List
   pub none : deltas ≡ [] → new.kept ≡ []
   pub fits : FitInTurn [] deltas
 
--- One of them does not fit, or memory ran out: the node is as it was, but halted; where memory ran out it is halted only if it had
--- been halted before its journal was read.
-pub record IsGivenBack {D : Type 0} {G : Ghosts D} (old : State G) (deltas : List (List Op)) (halted : Bool) (refusal : Refusal) (new : State G) : Type 0 where
+-- One of them does not fit, or memory ran out: the node is as it was, but halted; where memory ran
+-- out it is halted only if it had been halted before its journal was read.
+pub record IsGivenBack {D : Type 0} {G : Ghosts D} (old : State G) (deltas : List (List Op))
+    (halted : Bool) (refusal : Refusal) (new : State G) : Type 0 where
   pub config : new.config ≡ old.config
   pub records : new.records ≡ old.records
   pub kept : new.kept ≡ old.kept
@@ -113,6 +129,7 @@ pub record IsGivenBack {D : Type 0} {G : Ghosts D} (old : State G) (deltas : Lis
   pub wanting : refusal ≡ refusals.Memory → is_halted new ≡ (if halted then true else is_halted old)
   pub why : DoNotFit deltas refusal
 
-abbrev pub RefilledAs : {D : Type 0} {G : Ghosts D} → State G → List (List Op) → Bool → Result (Unit {0}) Refusal → State G → Type 0
+abbrev pub RefilledAs : {D : Type 0} {G : Ghosts D} → State G → List (List Op) → Bool
+    → Result (Unit {0}) Refusal → State G → Type 0
 RefilledAs old deltas halted (Ok done) new = IsRefilled old deltas new
 RefilledAs old deltas halted (Err refusal) new = IsGivenBack old deltas halted refusal new

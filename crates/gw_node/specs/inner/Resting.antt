@@ -9,4 +9,5 @@ use Rattle.sn_deliver.specs.Rest.{is_idle}
 -- where a moment is remembered, a tick of that moment has nothing to do
 abbrev pub rests : Option ℕ → Config → List Op → Local → Bool
 rests None config kept local = true
-rests (Some until) config kept local = is_idle config.gateway config.advertise config.field (seen_of kept) local until
+rests (Some until) config kept local =
+    is_idle config.gateway config.advertise config.field (seen_of kept) local until

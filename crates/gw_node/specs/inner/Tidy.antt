@@ -13,7 +13,8 @@ use Rattle.sn_local.specs.Timers.{timer_of, times_owned}
 
 -- whether each address and each timer is of a client that the gateway owns
 abbrev pub are_owned : ℕ → Seen → Local → Bool
-are_owned g seen local = list_all (has_owned g seen) local.bindings && list_all (times_owned g seen) local.timers
+are_owned g seen local =
+    list_all (has_owned g seen) local.bindings && list_all (times_owned g seen) local.timers
 
 -- the same before these operations, of which `kept` is what must be kept behind them
 pub record WereOwned (g : ℕ) (kept ops : List Op) (local : Local) : Type 0 where
@@ -33,10 +34,11 @@ is_stranger c local = is_none (address_of c local.bindings) && is_none (timer_of
 abbrev pub is_left : ℕ → Seen → Local → List ℕ → Bool
 is_left g seen local c = is_owned g seen c || is_stranger c local
 
--- whether the operation leaves the gateway all clients of which it knows an address or a timer: it is no Take, or one of a client
--- that the gateway owns, or of a stranger
+-- whether the operation leaves the gateway all clients of which it knows an address or a timer: it
+-- is no Take, or one of a client that the gateway owns, or of a stranger
 abbrev pub leaves_all : ℕ → Seen → Local → Op → Bool
-leaves_all g seen local (OfSession c stamp counter change) = not (counter == 0) || is_left g seen local c
+leaves_all g seen local (OfSession c stamp counter change) =
+    not (counter == 0) || is_left g seen local c
 leaves_all g seen local (OfPut c put) = true
 leaves_all g seen local (Ack c origin first last) = true
 

@@ -21,5 +21,6 @@ IsRefused text printed =
 -- what is printed for a text, with its status: the answers with 0, or why there are none with 1
 abbrev pub IsOutcome : List ℕ → List ℕ → ℕ → Type 0
 IsOutcome text printed status =
-    ((status ≡ 0) × ((answers : List Answer) × IsAnswered text answers × (printed ≡ answers_text 0 answers)))
+    ((status ≡ 0) × ((answers : List Answer) × IsAnswered text answers
+    × (printed ≡ answers_text 0 answers)))
     ⊎ ((status ≡ 1) × IsRefused text printed)

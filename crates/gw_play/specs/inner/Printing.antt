@@ -7,8 +7,10 @@ use Rattle.gw_play.specs.Texts.{◌▹◌, line_end}
 
 -- why a run has no result
 abbrev pub world_fault_line : WorldFault → List ℕ
-world_fault_line (world_faults.NoGateway event) = codes "event " ▹ decimal event ▹ codes ": E1" ▹ line_end
-world_fault_line (world_faults.NoDelta event) = codes "event " ▹ decimal event ▹ codes ": E2" ▹ line_end
+world_fault_line (world_faults.NoGateway event) =
+    codes "event " ▹ decimal event ▹ codes ": E1" ▹ line_end
+world_fault_line (world_faults.NoDelta event) =
+    codes "event " ▹ decimal event ▹ codes ": E2" ▹ line_end
 world_fault_line world_faults.Memory = codes "E3" ▹ line_end
 
 -- a script whose line of this number is bad

@@ -9,8 +9,8 @@ pub record AreGateways (configs : List Config) : Type 0 where
   pub some : All (λ config. config.gateway ≢ 0) configs
   pub different : AllPairs (λ a b. a.gateway ≢ b.gateway) configs
 
--- The line of this number, from 1, is the first that cannot stand where it stands: the lines before it
--- make up a script, and no script has it next.
+-- The line of this number, from 1, is the first that cannot stand where it stands: the lines before
+-- it make up a script, and no script has it next.
 pub record IsBadLine (lines : List (List ℕ)) (number : ℕ) : Type 0 where
   pub before : Script
   pub line : List ℕ

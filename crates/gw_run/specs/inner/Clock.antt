@@ -1,6 +1,6 @@
 -- What the clock's thread adds to its pass, and why it ended.
 use Rattle.std.specs.Prelude.{Result, Ok, Err}
-use Rattle.gw_node.specs.declared.fault.NodeFault.{NodeFault}
+use Rattle.gw_answer.specs.declared.fault.NodeFault.{NodeFault}
 use Rattle.gw_shift.specs.declared.fault.CallFault.{CallFault}
 use Rattle.gw_shift.specs.declared.fault.CallFault.TheVariants as faults
 use Rattle.gw_run.specs.declared.calling.End.{End}

@@ -23,7 +23,8 @@ IsStepOr number (Stepped n) = n ≡ number
 IsStepOr number Refused = ⊥
 IsStepOr number (Failed cause) = Unit {0}
 
--- what a refused call means for its datagram: a call that the gateway refused is one of the history, unless memory ran out
+-- what a refused call means for its datagram: a call that the gateway refused is one of the
+-- history, unless memory ran out
 abbrev pub IsRefused : CallFault → Handled → Type 0
 IsRefused faults.ShiftFull handled = handled ≡ Refused
 IsRefused (faults.Behind held) handled = IsFailed handled

@@ -1,4 +1,5 @@
--- The rule of the queue: each number that was sent was taken or is in the queue, as often as it was sent.
+-- The rule of the queue: each number that was sent was taken or is in the queue, as often as it was
+-- sent.
 use Rattle.std.specs.Prelude.{◌≡◌, ℕ, ◌+◌, ◌^◌, List, [], ◌∷◌, map}
 use mathlib.Core.Option.{some}
 use lib.ListN.{get_elem?}
@@ -19,7 +20,9 @@ numbers ds = map (λ d. d.number) ds
 
 -- a pass with no part has sent and taken nothing
 abbrev pub IdleIsEmpty : List Hand → Type 0
-IdleIsEmpty views = (port : ℕ) (v : Hand) → get_elem? views port ≡ some v → v.parts ≡ 0 → (v.sent ≡ []) × (v.taken ≡ [])
+IdleIsEmpty views =
+    (port : ℕ) (v : Hand) → get_elem? views port ≡ some v → v.parts ≡ 0 → (v.sent ≡ [])
+    × (v.taken ≡ [])
 
 -- all parts there are
 abbrev pub whole : ℕ
@@ -29,5 +32,6 @@ whole = 2 ^ 64
 abbrev pub Balanced : List Datagram → List Hand → Type 0
 Balanced items views =
     (total (λ v. v.parts) views ≡ whole)
-    × ((h : ℕ → ℕ) → total (λ v. weigh h v.sent) views ≡ total (λ v. weigh h v.taken) views + weigh h (numbers items))
+    × ((h : ℕ → ℕ) → total (λ v. weigh h v.sent) views ≡ total (λ v. weigh h v.taken) views + weigh
+    h (numbers items))
     × IdleIsEmpty views

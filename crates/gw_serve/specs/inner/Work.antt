@@ -14,25 +14,31 @@ use Rattle.gw_serve.specs.Count.{weigh}
 use Rattle.gw_serve.specs.inner.Queue.{hand}
 use Rattle.gw_serve.specs.Serving.{Gains, EachGains}
 
--- the passes of a seat while no fault was met: its steps are those of the numbers taken, and each number is in one list
-pub record IsWorking (before : Holder) (v : Hand) (taken : List Taken) (left : List ℕ) (pass : Holder) : Type 0 where
+-- the passes of a seat while no fault was met: its steps are those of the numbers taken, and each
+-- number is in one list
+pub record IsWorking (before : Holder) (v : Hand) (taken : List Taken) (left : List ℕ)
+    (pass : Holder) : Type 0 where
   pub part : v.parts ≡ 1
   pub unsent : v.sent ≡ []
   pub gains : Gains before (map (λ t. t.step) taken) pass
   pub numbers : (h : ℕ → ℕ) → weigh h v.taken ≡ weigh h (map (λ t. t.datagram) taken) + weigh h left
 
-module _ {Q M L A : Type 0} (c : Rows (Badge (Key Datagram)) (Doing Datagram Hand) Q M (Key Datagram) L A) where
+module _ {Q M L A : Type 0}
+    (c : Rows (Badge (Key Datagram)) (Doing Datagram Hand) Q M (Key Datagram) L A) where
   -- nothing was done in it
   abbrev pub IsFresh : Seat → Type 0
-  IsFresh seat = IsSeatAt c seat.ticket × (view seat.ticket ≡ hand 1 [] []) × (seat.taken.items ≡ []) × (seat.left.items ≡ []) × (seat.fault ≡ None)
+  IsFresh seat = IsSeatAt c seat.ticket × (view seat.ticket ≡ hand 1 [] [])
+      × (seat.taken.items ≡ []) × (seat.left.items ≡ []) × (seat.fault ≡ None)
 
-  -- its pass gained steps of frames. With no fault they are those of `taken`, and each number that was taken is in `taken` or in `left`
+  -- its pass gained steps of frames. With no fault they are those of `taken`, and each number that
+  -- was taken is in `taken` or in `left`
   pub record IsWorked (before : Holder) (seat : Seat) : Type 0 where
     pub channel : IsSeatAt c seat.ticket
     pub part : (view seat.ticket).parts ≡ 1
     pub unsent : (view seat.ticket).sent ≡ []
     pub gains : (steps : List ℕ) × Gains before steps seat.pass
-    pub working : seat.fault ≡ None → IsWorking before (view seat.ticket) seat.taken.items seat.left.items seat.pass
+    pub working : seat.fault ≡ None → IsWorking before (view seat.ticket) seat.taken.items
+        seat.left.items seat.pass
 
   abbrev pub IsFreshSlot : Option Seat → Type 0
   IsFreshSlot (Some seat) = IsFresh seat
@@ -50,7 +56,8 @@ module _ {Q M L A : Type 0} (c : Rows (Badge (Key Datagram)) (Doing Datagram Han
   IsWorkedSlot None new = ⊥
 
   abbrev pub WorkedFrom : List (Option Seat) → List (Option Seat) → Type 0
-  WorkedFrom old new = (i : ℕ) (d : Option Seat) → i < length old → IsWorkedSlot (slice_index_or old i d) (slice_index_or new i d)
+  WorkedFrom old new = (i : ℕ) (d : Option Seat) → i < length old
+      → IsWorkedSlot (slice_index_or old i d) (slice_index_or new i d)
 
   -- the seats are done, and these are the passes that they began with
   abbrev pub DoneFrom : List Holder → List (Option Seat) → Type 0
@@ -61,7 +68,8 @@ module _ {Q M L A : Type 0} (c : Rows (Badge (Key Datagram)) (Doing Datagram Han
   DoneFrom (p ∷ ps) [] = ⊥
 
 -- what all seats did, together
-pub record IsGathered (before : List Holder) (v : Hand) (taken : List Taken) (left : List ℕ) (passes : List Holder) : Type 0 where
+pub record IsGathered (before : List Holder) (v : Hand) (taken : List Taken) (left : List ℕ)
+    (passes : List Holder) : Type 0 where
   pub gains : EachGains before (map (λ t. t.step) taken) passes
   pub numbers : (h : ℕ → ℕ) → weigh h v.taken ≡ weigh h (map (λ t. t.datagram) taken) + weigh h left
 

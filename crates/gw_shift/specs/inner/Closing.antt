@@ -12,7 +12,8 @@ AllStand history place (held ∷ rest) = StandsIn history place held × AllStand
 -- the calls of each pass stand there, in the history's order
 abbrev pub EachStands : List Call → List Holder → Type 0
 EachStands history [] = Unit {0}
-EachStands history (pass ∷ rest) = Ascend 0 pass.calls × AllStand history pass.place pass.calls × EachStands history rest
+EachStands history (pass ∷ rest) =
+    Ascend 0 pass.calls × AllStand history pass.place pass.calls × EachStands history rest
 
 -- none of the passes has this place
 abbrev pub IsElsewhere : ℕ → List Holder → Type 0

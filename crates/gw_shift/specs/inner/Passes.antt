@@ -4,9 +4,9 @@ use Rattle.std.specs.Arc.{arc_value}
 use Rattle.std.specs.declared.sync.Arc.{Arc}
 use Rattle.std.specs.declared.alloc.Global.{Global}
 use Rattle.rep_ops.specs.declared.op.Op.{Op}
-use Rattle.gw_node.specs.declared.step.Step.{Step}
-use Rattle.gw_node.specs.declared.out.Out.{Out}
-use Rattle.gw_node.specs.declared.refusal.Refusal.{Refusal}
+use Rattle.gw_answer.specs.declared.step.Step.{Step}
+use Rattle.gw_answer.specs.declared.out.Out.{Out}
+use Rattle.gw_answer.specs.declared.refusal.Refusal.{Refusal}
 use Rattle.gw_shift.specs.Calls.{Call}
 
 abbrev pub made_of : Result Out Refusal → Option (List Op)
@@ -20,7 +20,8 @@ noted number (Some delta) rest = (number, delta) ∷ rest
 -- the deltas that the calls made, with their numbers, which begin after this one
 abbrev pub made_after : ℕ → List Call → List (ℕ × List Op)
 made_after before [] = []
-made_after before (call ∷ calls) = noted (before + 1) (made_of call.answer) (made_after (before + 1) calls)
+made_after before (call ∷ calls) =
+    noted (before + 1) (made_of call.answer) (made_after (before + 1) calls)
 
 abbrev pub call : ℕ → Step → Result Out Refusal → Call
 call place step answer = record { place = place; step = step; answer = answer }

@@ -1,4 +1,5 @@
--- What an event does to the nodes of a field. `olds` and `news` are what they are before it and after it.
+-- What an event does to the nodes of a field. `olds` and `news` are what they are before it and
+-- after it.
 use Rattle.std.specs.Prelude.{Bool, ◌≡◌, ◌<◌, ℕ, ◌+◌, ◌-◌, ◌≤◌, ◌==◌, if◌then◌else◌, take, length, Vec, List, [], ◌∷◌, ◌++◌, Option, Some, None, Result, Ok, Err, slice_get, slice_set}
 use Rattle.std.specs.List.{AllByRecursion}
 use Rattle.std.specs.declared.alloc.Global.{Global}
@@ -9,15 +10,16 @@ use Rattle.rep_digest.specs.Answers.{IsAnswer}
 use Rattle.rep_digest.specs.Digests.{digest}
 use Rattle.rep_digest.specs.Spelling.{spelling, IsWithinLimit as IsDigestWithinLimit}
 use Rattle.sn_local.specs.declared.config.Config.{Config}
-use Rattle.jr_journal.specs.declared.disk.Disk.{Ghosts}
-use Rattle.gw_node.specs.declared.out.Out.{Out}
-use Rattle.gw_node.specs.declared.refusal.Refusal.{Refusal}
-use Rattle.gw_node.specs.declared.refusal.Refusal.TheVariants as refusals
-use Rattle.gw_node.specs.declared.step.Step.{Step}
-use Rattle.gw_node.specs.declared.step.Step.TheVariants as steps
+use Rattle.jr_disk.specs.declared.disk.Disk.{Ghosts}
+use Rattle.gw_answer.specs.declared.out.Out.{Out}
+use Rattle.gw_answer.specs.declared.refusal.Refusal.{Refusal}
+use Rattle.gw_answer.specs.declared.refusal.Refusal.TheVariants as refusals
+use Rattle.gw_answer.specs.declared.step.Step.{Step}
+use Rattle.gw_answer.specs.declared.step.Step.TheVariants as steps
 use Rattle.gw_node.specs.Event.{StepOf}
 use Rattle.gw_node.specs.Gateways.{Gateway}
-use Rattle.gw_node.specs.Parts.{State, said, only_sends}
+use Rattle.gw_node.specs.Parts.{State}
+use Rattle.gw_answer.specs.Answers.{said, only_sends}
 use Rattle.gw_node.specs.Plans.{IsWritable}
 use Rattle.gw_node.specs.Standing.{Agrees}
 use Rattle.gw_world.specs.declared.event.Event.{Event}
@@ -46,18 +48,23 @@ IsFed (Err (refusals.Journal fault)) = Unit {0}
 -- ---- one node
 
 -- whatever gateway the node stood for, it does this step, and the node stands for the next one
-abbrev pub GoesOn : {D : Type 0} {G : Ghosts D} → State G → Step → Result Out Refusal → State G → Type 0
+abbrev pub GoesOn : {D : Type 0} {G : Ghosts D} → State G → Step → Result Out Refusal → State G
+    → Type 0
 GoesOn old step answer new =
     (gateway : Gateway) → IsShown gateway old → Agrees gateway step
-    → (next : Gateway) × (made : List (List Op)) × StepOf gateway step answer next made × IsShown next new
+    → (next : Gateway) × (made : List (List Op)) × StepOf gateway step answer next made
+    × IsShown next new
 
 -- it stops and is opened again: so many records are read then
 abbrev pub StartsAgain : {D : Type 0} {G : Ghosts D} → State G → ℕ → ℕ → State G → Type 0
-StartsAgain old kept count new = (gateway : Gateway) → IsShown gateway old → IsShown (restarted kept gateway) new × (count ≡ records_left kept gateway)
+StartsAgain old kept count new =
+    (gateway : Gateway) → IsShown gateway old → IsShown (restarted kept gateway) new
+    × (count ≡ records_left kept gateway)
 
 -- its next write is to fail
 abbrev pub FailsNext : {D : Type 0} {G : Ghosts D} → State G → ℕ → Bool → State G → Type 0
-FailsNext old bytes sync new = (gateway : Gateway) → IsShown gateway old → IsShown (failing bytes sync gateway) new
+FailsNext old bytes sync new =
+    (gateway : Gateway) → IsShown gateway old → IsShown (failing bytes sync gateway) new
 
 -- it stands for some gateway
 abbrev pub IsStood : {D : Type 0} {G : Ghosts D} → State G → Type 0
@@ -65,12 +72,14 @@ IsStood state = (gateway : Gateway) × IsShown gateway state
 
 -- what a peer answers to a digest, by what it keeps
 abbrev pub IsAnswered : List ClientEntry → List Op → Result Out Refusal → Type 0
-IsAnswered asked kept (Ok out) = IsAnswer asked kept out.answer × (out ≡ record (only_sends []) { answer = out.answer })
+IsAnswered asked kept (Ok out) =
+    IsAnswer asked kept out.answer × (out ≡ record (only_sends []) { answer = out.answer })
 IsAnswered asked kept (Err refusal) = ⊥
 
 -- what the digest of what is kept comes to at a peer, by what that one keeps
 abbrev pub AskKept : List Op → List Op → Result Out Refusal → Type 0
-AskKept kept other (Ok out) = IsDigestWithinLimit (digest kept) × IsAnswered (digest kept) other (Ok out)
+AskKept kept other (Ok out) =
+    IsDigestWithinLimit (digest kept) × IsAnswered (digest kept) other (Ok out)
 AskKept kept other (Err refusals.Full) = max_octets < length (spelling (digest kept))
 AskKept kept other (Err (refusals.Frame fault)) = ⊥
 AskKept kept other (Err refusals.Halted) = ⊥
@@ -85,23 +94,28 @@ AskKept kept other (Err refusals.Memory) = ⊥
 -- the place of the node of this number; the first, where two have it
 abbrev pub place_in : {D : Type 0} {G : Ghosts D} → ℕ → ℕ → List (State G) → Option ℕ
 place_in number i [] = None
-place_in number i (state ∷ rest) = if state.config.gateway == number then Some i else place_in number (i + 1) rest
+place_in number i (state ∷ rest) =
+    if state.config.gateway == number then Some i else place_in number (i + 1) rest
 
 -- the i-th node went on so, and no other changed
-pub record Moves {D : Type 0} {G : Ghosts D} (olds : List (State G)) (i : ℕ) (Goes : State G → State G → Type 0) (news : List (State G)) : Type 0 where
+pub record Moves {D : Type 0} {G : Ghosts D} (olds : List (State G)) (i : ℕ) (Goes : State G
+    → State G → Type 0) (news : List (State G)) : Type 0 where
   pub old : State G
   pub new : State G
   pub place : slice_get olds i ≡ Some old
   pub goes : Goes old new
   pub moved : news ≡ slice_set olds i new
 
-abbrev pub StepsAt : {D : Type 0} {G : Ghosts D} → List (State G) → ℕ → Step → Result Out Refusal → List (State G) → Type 0
+abbrev pub StepsAt : {D : Type 0} {G : Ghosts D} → List (State G) → ℕ → Step → Result Out Refusal
+    → List (State G) → Type 0
 StepsAt olds i step answer news = Moves olds i (λ old new. GoesOn old step answer new) news
 
 -- the digest of the i-th node goes to the j-th
-abbrev pub AskAt : {D : Type 0} {G : Ghosts D} → List (State G) → ℕ → ℕ → Result Out Refusal → Type 0
+abbrev pub AskAt : {D : Type 0} {G : Ghosts D} → List (State G) → ℕ → ℕ → Result Out Refusal
+    → Type 0
 AskAt {G = G} olds i j answer =
-    (asker : State G) × (peer : State G) × (slice_get olds i ≡ Some asker) × (slice_get olds j ≡ Some peer) × AskKept asker.kept peer.kept answer
+    (asker : State G) × (peer : State G) × (slice_get olds i ≡ Some asker)
+    × (slice_get olds j ≡ Some peer) × AskKept asker.kept peer.kept answer
 
 -- these deltas, each of which can be written, joined the list
 abbrev pub Join : List (List Op) → List (List Op) → List (List Op) → Type 0
@@ -110,73 +124,98 @@ Join deltas more next = AllByRecursion IsWritable more × (next ≡ deltas ++ mo
 -- ---- answers
 
 -- the answer to a datagram or a tick, and the list of deltas after it
-abbrev pub OwnAnswered : {D : Type 0} {G : Ghosts D} → List (State G) → List (List Op) → ℕ → Step → List (State G) → List (List Op) → Answer → Type 0
-OwnAnswered olds deltas i step news next (Node answer) = StepsAt olds i step (said answer) news × Join deltas (made_of (said answer)) next
+abbrev pub OwnAnswered : {D : Type 0} {G : Ghosts D} → List (State G) → List (List Op) → ℕ → Step
+    → List (State G) → List (List Op) → Answer → Type 0
+OwnAnswered olds deltas i step news next (Node answer) =
+    StepsAt olds i step (said answer) news × Join deltas (made_of (said answer)) next
 OwnAnswered olds deltas i step news next (Views views) = ⊥
 OwnAnswered olds deltas i step news next (Records count) = ⊥
 OwnAnswered olds deltas i step news next Nothing = ⊥
 
 -- the answer to a delta or a compaction
-abbrev pub StepAnswered : {D : Type 0} {G : Ghosts D} → List (State G) → ℕ → Step → List (State G) → Answer → Type 0
+abbrev pub StepAnswered : {D : Type 0} {G : Ghosts D} → List (State G) → ℕ → Step → List (State G)
+    → Answer → Type 0
 StepAnswered olds i step news (Node answer) = StepsAt olds i step (said answer) news
 StepAnswered olds i step news (Views views) = ⊥
 StepAnswered olds i step news (Records count) = ⊥
 StepAnswered olds i step news Nothing = ⊥
 
 -- the answer to a restart
-abbrev pub RestartAnswered : {D : Type 0} {G : Ghosts D} → List (State G) → ℕ → ℕ → List (State G) → Answer → Type 0
-RestartAnswered olds i kept news (Records count) = Moves olds i (λ old new. StartsAgain old kept count new) news
+abbrev pub RestartAnswered : {D : Type 0} {G : Ghosts D} → List (State G) → ℕ → ℕ → List (State G)
+    → Answer → Type 0
+RestartAnswered olds i kept news (Records count) =
+    Moves olds i (λ old new. StartsAgain old kept count new) news
 RestartAnswered olds i kept news (Node answer) = ⊥
 RestartAnswered olds i kept news (Views views) = ⊥
 RestartAnswered olds i kept news Nothing = ⊥
 
 -- the answer where a failure is arranged
-abbrev pub FailAnswered : {D : Type 0} {G : Ghosts D} → List (State G) → ℕ → ℕ → Bool → List (State G) → Answer → Type 0
-FailAnswered olds i bytes sync news Nothing = Moves olds i (λ old new. FailsNext old bytes sync new) news
+abbrev pub FailAnswered : {D : Type 0} {G : Ghosts D} → List (State G) → ℕ → ℕ → Bool
+    → List (State G) → Answer → Type 0
+FailAnswered olds i bytes sync news Nothing =
+    Moves olds i (λ old new. FailsNext old bytes sync new) news
 FailAnswered olds i bytes sync news (Node answer) = ⊥
 FailAnswered olds i bytes sync news (Views views) = ⊥
 FailAnswered olds i bytes sync news (Records count) = ⊥
 
 -- the answer of a peer in its place to the digest of the i-th node, and the list of deltas after it
-abbrev pub AskAnswered : {D : Type 0} {G : Ghosts D} → List (State G) → List (List Op) → ℕ → ℕ → List (List Op) → Answer → Type 0
-AskAnswered olds deltas i j next (Node answer) = AskAt olds i j (said answer) × Join deltas (answered_of (said answer)) next
+abbrev pub AskAnswered : {D : Type 0} {G : Ghosts D} → List (State G) → List (List Op) → ℕ → ℕ
+    → List (List Op) → Answer → Type 0
+AskAnswered olds deltas i j next (Node answer) =
+    AskAt olds i j (said answer) × Join deltas (answered_of (said answer)) next
 AskAnswered olds deltas i j next (Views views) = ⊥
 AskAnswered olds deltas i j next (Records count) = ⊥
 AskAnswered olds deltas i j next Nothing = ⊥
 
 -- the same, of the peer of a number
-abbrev pub PeerAnswered : {D : Type 0} {G : Ghosts D} → List (State G) → List (List Op) → ℕ → ℕ → List (List Op) → Answer → Type 0
-PeerAnswered olds deltas i peer next answer = (j : ℕ) × (place_in peer 0 olds ≡ Some j) × AskAnswered olds deltas i j next answer
+abbrev pub PeerAnswered : {D : Type 0} {G : Ghosts D} → List (State G) → List (List Op) → ℕ → ℕ
+    → List (List Op) → Answer → Type 0
+PeerAnswered olds deltas i peer next answer =
+    (j : ℕ) × (place_in peer 0 olds ≡ Some j) × AskAnswered olds deltas i j next answer
 
 -- what a node shows
 abbrev pub ShowAnswered : {D : Type 0} {G : Ghosts D} → List (State G) → ℕ → Answer → Type 0
 ShowAnswered olds i (Node answer) = ⊥
 ShowAnswered olds i (Records count) = ⊥
 ShowAnswered olds i Nothing = ⊥
-ShowAnswered {G = G} olds i (Views views) = (state : State G) × (slice_get olds i ≡ Some state) × (views ≡ shown state.kept)
+ShowAnswered {G = G} olds i (Views views) = (state : State G) × (slice_get olds i ≡ Some state)
+    × (views ≡ shown state.kept)
 
 -- the delta of this number; the first has number 1
 abbrev pub IsListed : List (List Op) → ℕ → List Op → Type 0
 IsListed deltas number delta = (1 ≤ number) × (slice_get deltas (number - 1) ≡ Some delta)
 
 -- an event at the node in this place, its answer, and the nodes after it
-abbrev pub EventAt : {D : Type 0} {G : Ghosts D} → List (State G) → List (List Op) → ℕ → Event → List (State G) → List (List Op) → Answer → Type 0
-EventAt olds deltas i (Frame number from bytes now) news next answer = OwnAnswered olds deltas i (steps.Frame from bytes now) news next answer
-EventAt olds deltas i (Tick number now) news next answer = OwnAnswered olds deltas i (steps.Tick now) news next answer
+abbrev pub EventAt : {D : Type 0} {G : Ghosts D} → List (State G) → List (List Op) → ℕ → Event
+    → List (State G) → List (List Op) → Answer → Type 0
+EventAt olds deltas i (Frame number from bytes now) news next answer =
+    OwnAnswered olds deltas i (steps.Frame from bytes now) news next answer
+EventAt olds deltas i (Tick number now) news next answer =
+    OwnAnswered olds deltas i (steps.Tick now) news next answer
 EventAt olds deltas i (Take number delta) news next answer =
-    (ops : List Op) × IsListed deltas delta ops × StepAnswered olds i (steps.Take ops) news answer × (next ≡ deltas)
-EventAt olds deltas i (Asks number peer) news next answer = PeerAnswered olds deltas i peer next answer × (news ≡ olds)
-EventAt olds deltas i (WriteFails number bytes sync) news next answer = FailAnswered olds i bytes sync news answer × (next ≡ deltas)
-EventAt olds deltas i (Compact number) news next answer = StepAnswered olds i steps.Compact news answer × (next ≡ deltas)
-EventAt olds deltas i (Restart number kept) news next answer = RestartAnswered olds i kept news answer × (next ≡ deltas)
-EventAt olds deltas i (Show number) news next answer = ShowAnswered olds i answer × (news ≡ olds) × (next ≡ deltas)
+    (ops : List Op) × IsListed deltas delta ops × StepAnswered olds i (steps.Take ops) news answer
+    × (next ≡ deltas)
+EventAt olds deltas i (Asks number peer) news next answer =
+    PeerAnswered olds deltas i peer next answer × (news ≡ olds)
+EventAt olds deltas i (WriteFails number bytes sync) news next answer =
+    FailAnswered olds i bytes sync news answer × (next ≡ deltas)
+EventAt olds deltas i (Compact number) news next answer =
+    StepAnswered olds i steps.Compact news answer × (next ≡ deltas)
+EventAt olds deltas i (Restart number kept) news next answer =
+    RestartAnswered olds i kept news answer × (next ≡ deltas)
+EventAt olds deltas i (Show number) news next answer =
+    ShowAnswered olds i answer × (news ≡ olds) × (next ≡ deltas)
 
-abbrev pub EventPlayed : {D : Type 0} {G : Ghosts D} → List (State G) → List (List Op) → Event → List (State G) → List (List Op) → Answer → Type 0
-EventPlayed olds deltas event news next answer = (i : ℕ) × (place_in (gateway_of event) 0 olds ≡ Some i) × EventAt olds deltas i event news next answer
+abbrev pub EventPlayed : {D : Type 0} {G : Ghosts D} → List (State G) → List (List Op) → Event
+    → List (State G) → List (List Op) → Answer → Type 0
+EventPlayed olds deltas event news next answer =
+    (i : ℕ) × (place_in (gateway_of event) 0 olds ≡ Some i)
+    × EventAt olds deltas i event news next answer
 
 -- ---- events without an answer
 
--- why the event at a node has none: its peer is not there; it names no delta of the list; or memory ran out
+-- why the event at a node has none: its peer is not there; it names no delta of the list; or memory
+-- ran out
 abbrev pub NoPeer : {D : Type 0} {G : Ghosts D} → List (State G) → ℕ → ℕ → WorldFault → Type 0
 NoPeer olds peer number (stops.NoGateway n) = (n ≡ number) × (place_in peer 0 olds ≡ None)
 NoPeer olds peer number (stops.NoDelta n) = ⊥
@@ -184,10 +223,12 @@ NoPeer olds peer number stops.Memory = Unit {0}
 
 abbrev pub NoDelta : List (List Op) → ℕ → ℕ → WorldFault → Type 0
 NoDelta deltas delta number (stops.NoGateway n) = ⊥
-NoDelta deltas delta number (stops.NoDelta n) = (n ≡ number) × ((ops : List Op) → IsListed deltas delta ops → ⊥)
+NoDelta deltas delta number (stops.NoDelta n) =
+    (n ≡ number) × ((ops : List Op) → IsListed deltas delta ops → ⊥)
 NoDelta deltas delta number stops.Memory = Unit {0}
 
-abbrev pub IsMissing : {D : Type 0} {G : Ghosts D} → List (State G) → List (List Op) → Event → ℕ → WorldFault → Type 0
+abbrev pub IsMissing : {D : Type 0} {G : Ghosts D} → List (State G) → List (List Op) → Event → ℕ
+    → WorldFault → Type 0
 IsMissing olds deltas (Asks gateway peer) number fault = NoPeer olds peer number fault
 IsMissing olds deltas (Take gateway delta) number fault = NoDelta deltas delta number fault
 IsMissing olds deltas (Frame gateway from bytes now) number fault = fault ≡ stops.Memory
@@ -198,39 +239,51 @@ IsMissing olds deltas (Restart gateway kept) number fault = fault ≡ stops.Memo
 IsMissing olds deltas (Show gateway) number fault = fault ≡ stops.Memory
 
 -- why the event of this number stops a run
-abbrev pub IsStopped : {D : Type 0} {G : Ghosts D} → List (State G) → List (List Op) → Event → ℕ → WorldFault → Type 0
-IsStopped olds deltas event number (stops.NoGateway n) = (n ≡ number) × ((field : Field) → AreShown field.gateways olds → NamesNoGateway field event)
+abbrev pub IsStopped : {D : Type 0} {G : Ghosts D} → List (State G) → List (List Op) → Event → ℕ
+    → WorldFault → Type 0
+IsStopped olds deltas event number (stops.NoGateway n) =
+    (n ≡ number) × ((field : Field) → AreShown field.gateways olds → NamesNoGateway field event)
 IsStopped olds deltas event number (stops.NoDelta n) =
-    (n ≡ number) × ((field : Field) → AreShown field.gateways olds → field.deltas ≡ deltas → NamesNoDelta field event)
+    (n ≡ number) × ((field : Field) → AreShown field.gateways olds → field.deltas ≡ deltas
+    → NamesNoDelta field event)
 IsStopped olds deltas event number stops.Memory = Unit {0}
 
 -- ---- runs
 
 -- some run leads to the field
 abbrev pub IsReached : Field → Type 0
-IsReached field = (configs : List Config) × (events : List Event) × (answers : List Answer) × Run (new_field configs) events answers field
+IsReached field =
+    (configs : List Config) × (events : List Event) × (answers : List Answer)
+    × Run (new_field configs) events answers field
 
 -- some run leads to a field for whose gateways these nodes stand, with this list
 abbrev pub IsLed : {D : Type 0} {G : Ghosts D} → List (State G) → List (List Op) → Type 0
-IsLed olds deltas = (field : Field) × IsReached field × AreShown field.gateways olds × (field.deltas ≡ deltas)
+IsLed olds deltas =
+    (field : Field) × IsReached field × AreShown field.gateways olds × (field.deltas ≡ deltas)
 
 -- what the nodes are after a list of events
-abbrev pub RunOn : {D : Type 0} {G : Ghosts D} → List (State G) → List (List Op) → List Event → List Answer → List (State G) → List (List Op) → Type 0
+abbrev pub RunOn : {D : Type 0} {G : Ghosts D} → List (State G) → List (List Op) → List Event
+    → List Answer → List (State G) → List (List Op) → Type 0
 RunOn olds deltas events answers news next =
     (field : Field) → IsReached field → AreShown field.gateways olds → field.deltas ≡ deltas
-    → (new : Field) × Run field events answers new × AreShown new.gateways news × (new.deltas ≡ next)
+    → (new : Field) × Run field events answers new × AreShown new.gateways news
+    × (new.deltas ≡ next)
 
-abbrev pub Played : {D : Type 0} {G : Ghosts D} → List (State G) → List (List Op) → List Event → List (State G) → List (List Op) → Vec Answer Global → Type 0
+abbrev pub Played : {D : Type 0} {G : Ghosts D} → List (State G) → List (List Op) → List Event
+    → List (State G) → List (List Op) → Vec Answer Global → Type 0
 Played olds deltas events news next answers = RunOn olds deltas events answers.items news next
 
 -- why a list of events stops
-abbrev pub StopsRun : {D : Type 0} {G : Ghosts D} → List (State G) → List (List Op) → List Event → WorldFault → Type 0
+abbrev pub StopsRun : {D : Type 0} {G : Ghosts D} → List (State G) → List (List Op) → List Event
+    → WorldFault → Type 0
 StopsRun olds deltas events (stops.NoGateway n) =
     (field : Field) → IsReached field → AreShown field.gateways olds → field.deltas ≡ deltas
-    → (k : ℕ) × (new : Field) × (event : Event) × (answers : List Answer) × Run field (take k events) answers new × (slice_get events k ≡ Some event)
+    → (k : ℕ) × (new : Field) × (event : Event) × (answers : List Answer)
+    × Run field (take k events) answers new × (slice_get events k ≡ Some event)
     × (n ≡ k + 1) × NamesNoGateway new event
 StopsRun olds deltas events (stops.NoDelta n) =
     (field : Field) → IsReached field → AreShown field.gateways olds → field.deltas ≡ deltas
-    → (k : ℕ) × (new : Field) × (event : Event) × (answers : List Answer) × Run field (take k events) answers new × (slice_get events k ≡ Some event)
+    → (k : ℕ) × (new : Field) × (event : Event) × (answers : List Answer)
+    × Run field (take k events) answers new × (slice_get events k ≡ Some event)
     × (n ≡ k + 1) × NamesNoDelta new event
 StopsRun olds deltas events stops.Memory = Unit {0}

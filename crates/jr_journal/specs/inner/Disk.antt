@@ -1,8 +1,8 @@
 -- A disk of two slots: what is in them, what a crash leaves, and when a call may fail.
 use Rattle.std.specs.Prelude.{Option, Some, None, Bool, true, false, ◌-◌}
-use Rattle.jr_journal.specs.declared.disk.Plan.{Plan}
-use Rattle.jr_journal.specs.declared.disk.Plan.TheVariants.{Stop, KeepBack, FailSync}
-use Rattle.jr_journal.specs.Disk.{Slots, Image}
+use Rattle.jr_disk.specs.declared.disk.Plan.{Plan}
+use Rattle.jr_disk.specs.declared.disk.Plan.TheVariants.{Stop, KeepBack, FailSync}
+use Rattle.jr_disk.specs.Disk.{Slots, Image}
 
 -- what of it is synced
 abbrev pub synced_part : Slots → Image

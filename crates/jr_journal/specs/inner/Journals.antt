@@ -1,9 +1,9 @@
 -- What a journal keeps true of its disk, and what an append and a compaction do to it.
 use Rattle.std.specs.Prelude.{ℕ, ◌+◌, ◌-◌, ◌==◌, Bool, true, false, ◌&&◌, nat_lt, length}
-use Rattle.jr_journal.specs.declared.disk.Slot.{Slot}
+use Rattle.jr_disk.specs.declared.disk.Slot.{Slot}
 use Rattle.jr_journal.specs.declared.content.SlotContent.{SlotContent}
 use Rattle.jr_journal.specs.declared.content.SlotContent.TheVariants.{Alien, Unsealed, Sealed, Broken}
-use Rattle.jr_journal.specs.Disk.{Slots, at}
+use Rattle.jr_disk.specs.Disk.{Slots, at}
 use Rattle.jr_journal.specs.inner.Disk.{synced_part}
 use Rattle.jr_journal.specs.Records.{slot_content, generation_in}
 use Rattle.jr_journal.specs.Faults.{is_nil, fault_of}
@@ -24,14 +24,17 @@ leads Alien size beside = false
 leads Unsealed size beside = false
 leads (Broken from) size beside = false
 
--- all is synced, the slot in use is the one that is read and ends with a whole piece, and there is no fault
+-- all is synced, the slot in use is the one that is read and ends with a whole piece, and there is
+-- no fault
 abbrev pub is_settled : ℕ → Slot → Slots → Bool
 is_settled gateway slot d =
     is_nil d.first.unsynced && is_nil d.second.unsynced
-    && leads (slot_content gateway (at d slot).synced) (length (at d slot).synced) (slot_content gateway (at d (other slot)).synced)
+    && leads (slot_content gateway (at d slot).synced) (length (at d slot).synced)
+    (slot_content gateway (at d (other slot)).synced)
     && is_none (fault_of gateway (synced_part d))
 
 -- it is settled, and this is the generation of the slot in use
 abbrev pub is_in_use : ℕ → Slot → ℕ → Slots → Bool
 is_in_use gateway slot generation d =
-    is_settled gateway slot d && (generation_in (slot_content gateway (at d slot).synced) == generation)
+    is_settled gateway slot d
+    && (generation_in (slot_content gateway (at d slot).synced) == generation)

@@ -1,13 +1,13 @@
 -- What opening a journal makes of the two slots.
 use Rattle.std.specs.Prelude.{None, ◌≡◌, ◌⊎◌, ℕ, ◌+◌, Bool, true, false, if◌then◌else◌, List, [], length, take}
 use Rattle.rep_ops.specs.declared.op.Op.{Op}
-use Rattle.jr_journal.specs.declared.disk.Slot.{Slot}
-use Rattle.jr_journal.specs.declared.disk.Slot.TheVariants.{First, Second}
+use Rattle.jr_disk.specs.declared.disk.Slot.{Slot}
+use Rattle.jr_disk.specs.declared.disk.Slot.TheVariants.{First, Second}
 use Rattle.jr_journal.specs.declared.content.SlotContent.{SlotContent}
 use Rattle.jr_journal.specs.declared.content.SlotContent.TheVariants.{Alien, Unsealed, Sealed, Broken}
 use Rattle.jr_journal.specs.declared.opening.Opening.{Opening}
 use Rattle.jr_journal.specs.declared.opening.Opening.TheVariants.{New, Held}
-use Rattle.jr_journal.specs.Disk.{Slots, Image, at, replaced, bytes_of, cut_to}
+use Rattle.jr_disk.specs.Disk.{Slots, Image, at, replaced, bytes_of, cut_to}
 use Rattle.jr_journal.specs.Records.{new_journal, slot_content}
 use Rattle.jr_journal.specs.Faults.{fault_of}
 use Rattle.jr_journal.specs.Opening.{synced_bytes, reads_first}
@@ -24,7 +24,8 @@ held_of slot (Broken at) size = New
 
 -- what is to be done with two slots of so many bytes that have no fault
 abbrev pub opening_of : SlotContent → ℕ → SlotContent → ℕ → Opening
-opening_of a size b beside = if reads_first a b then held_of First a size else held_of Second b beside
+opening_of a size b beside =
+    if reads_first a b then held_of First a size else held_of Second b beside
 
 abbrev pub deltas_of : Opening → List (List Op)
 deltas_of New = []
@@ -42,7 +43,8 @@ number_of (Held slot m f size) = m
 abbrev pub IsOpening : ℕ → Image → Opening → Type 0
 IsOpening gateway i opening =
     (fault_of gateway i ≡ None)
-    × (opening ≡ opening_of (slot_content gateway i.first) (length i.first) (slot_content gateway i.second) (length i.second))
+    × (opening ≡ opening_of (slot_content gateway i.first) (length i.first)
+    (slot_content gateway i.second) (length i.second))
 
 -- it speaks of the bytes of its slot
 abbrev pub IsSized : Opening → Slots → Type 0
@@ -60,9 +62,12 @@ is_new (Held slot m f size) = false
 
 -- a new journal was begun as far as this
 abbrev pub IsBegun : ℕ → Slots → Slots → Type 0
-IsBegun gateway old new = (new ≡ old) ⊎ ((w : ℕ) × (new ≡ replaced old First (record { synced = []; unsynced = take w (new_journal gateway) })))
+IsBegun gateway old new =
+    (new ≡ old) ⊎ ((w : ℕ)
+    × (new ≡ replaced old First (record { synced = []; unsynced = take w (new_journal gateway) })))
 
 -- the last step was done, or in part, or not
 abbrev pub IsPartly : ℕ → Opening → Slots → Slots → Type 0
 IsPartly gateway New old new = IsBegun gateway old new
-IsPartly gateway (Held slot m f size) old new = (new ≡ old) ⊎ (new ≡ replaced old slot (cut_to (at old slot) (13 + f.whole)))
+IsPartly gateway (Held slot m f size) old new =
+    (new ≡ old) ⊎ (new ≡ replaced old slot (cut_to (at old slot) (13 + f.whole)))

@@ -1,5 +1,5 @@
 -- Steps from one operation to the next.
-use Rattle.std.specs.Prelude.{ℕ, ◌-◌, ◌==◌, Bool, true, not, ◌&&◌, if◌then◌else◌, nat_le, List, Option, Some, None, filter}
+use Rattle.std.specs.Prelude.{ℕ, ◌==◌, Bool, true, not, ◌&&◌, if◌then◌else◌, nat_le, List, Option, Some, None, filter}
 use Rattle.std.specs.List.{filter_map, list_any}
 use Rattle.rep_ops.specs.declared.op.Stamp.{Stamp}
 use Rattle.rep_ops.specs.declared.op.Put.{Put}
@@ -7,7 +7,7 @@ use Rattle.rep_ops.specs.declared.op.Op.{Op}
 use Rattle.rep_ops.specs.declared.op.Op.TheVariants.{Session as OfSession, Put as OfPut, Ack}
 use Rattle.rep_ops.specs.Sets.{same_client, puts}
 use Rattle.rep_model.specs.Keep.{is_below}
-use Rattle.rep_model.specs.Limits.{is_in_prefix, joined, above_a_gap, sum_to}
+use Rattle.rep_model.specs.Limits.{joined, above_a_gap, sum_to}
 use Rattle.rep_plain.specs.declared.ranges.Range.{Range}
 
 -- the first, or else the second
@@ -19,11 +19,13 @@ first_of_two (Some a) b = Some a
 abbrev pub range_in : List ℕ → Op → Option Range
 range_in c (OfSession d stamp counter change) = None
 range_in c (OfPut d put) = None
-range_in c (Ack d origin first last) = if same_client c d then Some (record { origin = origin; first = first; last = last }) else None
+range_in c (Ack d origin first last) =
+    if same_client c d then Some (record { origin = origin; first = first; last = last }) else None
 
 -- whether the range has the name of the put
 abbrev pub covers : ℕ × ℕ → Range → Bool
-covers name range = (name.1 == range.origin) && nat_le range.first name.0 && nat_le name.0 range.last
+covers name range =
+    (name.1 == range.origin) && nat_le range.first name.0 && nat_le name.0 range.last
 
 -- the client's puts that no range covers, under their names
 abbrev pub unacknowledged_by : List Range → List ℕ → List Op → List ((ℕ × ℕ) × Put)
@@ -31,7 +33,9 @@ unacknowledged_by ranges c S = filter (λ e. not (list_any (covers e.0) ranges))
 
 -- the sequence numbers of the origin in the range
 abbrev pub numbers : ℕ → Range → Option (ℕ × ℕ)
-numbers origin range = if (origin == range.origin) && nat_le range.first range.last then Some (range.first, range.last) else None
+numbers origin range =
+    if (origin == range.origin) && nat_le range.first range.last then Some (range.first, range.last)
+    else None
 
 -- the acknowledgements above a gap, of the origins 1 to n
 unfoldable pub above_gaps : List Range → ℕ → ℕ
@@ -42,7 +46,3 @@ abbrev pub must_stay : Option Stamp → List Range → Op → Bool
 must_stay seen ranges (OfSession c stamp counter change) = not (is_below stamp seen)
 must_stay seen ranges (OfPut c put) = not (list_any (covers (put.seq, put.origin)) ranges)
 must_stay seen ranges (Ack c origin first last) = true
-
--- whether a session operation of that name waits for earlier ones
-abbrev pub waits : Option Stamp → ℕ → Stamp × ℕ → Bool
-waits seen prefix name = not (is_below name.0 seen) && not (is_in_prefix seen prefix name)

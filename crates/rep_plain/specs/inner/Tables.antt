@@ -24,7 +24,8 @@ groups_of groups = map (λ e. (e.0, e.1.items)) groups
 pub record IsRoomier (old new : List (List ℕ × Entry)) : Type 0 where
   pub same : flat (rows_of new) ≡ flat (rows_of old)
   pub table : (count : ℕ) → IsTable old count → IsTable new count
-  pub found : (c : List ℕ) → IsSome (find client_cmp c (rows_of old)) → IsSome (find client_cmp c (rows_of new))
+  pub found : (c : List ℕ) → IsSome (find client_cmp c (rows_of old))
+      → IsSome (find client_cmp c (rows_of new))
 
 -- the fresh entries can be moved into the table
 pub record AreMovable (entries fresh : List (List ℕ × Entry)) : Type 0 where
@@ -36,7 +37,8 @@ pub record AreMovable (entries fresh : List (List ℕ × Entry)) : Type 0 where
 abbrev pub has_range : List ℕ → ℕ → ℕ → ℕ → Op → Bool
 has_range c origin first last (OfSession d stamp counter change) = false
 has_range c origin first last (OfPut d put) = false
-has_range c origin first last (Ack d o start end) = same_client c d && (origin == o) && nat_le start first && nat_le last end
+has_range c origin first last (Ack d o start end) =
+    same_client c d && (origin == o) && nat_le start first && nat_le last end
 
 -- whether the list has the operation's name
 abbrev pub is_known : List Op → Op → Bool
@@ -44,7 +46,8 @@ is_known S (OfSession c stamp counter change) = is_some (operation_at c S (stamp
 is_known S (OfPut c put) = is_some (put_at c S (put.seq, put.origin))
 is_known S (Ack c origin first last) = list_any (has_range c origin first last) S
 
--- the first limit that is passed: of clients, and whether any client passes those of pending, parked and exceptions
+-- the first limit that is passed: of clients, and whether any client passes those of pending,
+-- parked and exceptions
 abbrev pub passed_of : ℕ → Bool → Bool → Bool → Option Limit
 passed_of count pending parked exceptions =
     if nat_lt MOST_CLIENTS count then Some Clients
@@ -63,13 +66,16 @@ too_many_exceptions e = nat_lt MOST_EXCEPTIONS e.1.exceptions
 
 -- the limit that is passed once the fresh entries are in their places
 abbrev pub passed_by : ℕ → List (List ℕ × Entry) → Option Limit
-passed_by count fresh = passed_of count (list_any too_many_pending fresh) (list_any too_many_parked fresh) (list_any too_many_exceptions fresh)
+passed_by count fresh =
+    passed_of count (list_any too_many_pending fresh) (list_any too_many_parked fresh)
+    (list_any too_many_exceptions fresh)
 
 -- the operation, where its name is new
 abbrev pub one_new : List Op → Op → List Op
 one_new S op = if not (is_known S op) then op ∷ [] else []
 
--- why the operation is refused: it contradicts one that is there, and its client is named; or memory ran out
+-- why the operation is refused: it contradicts one that is there, and its client is named; or
+-- memory ran out
 abbrev pub IsRefusalOf : List Op → Op → TakeFault → Type 0
 IsRefusalOf S op (Conflict c) = (client_of op ≡ c) × (¬ (Agrees S op))
 IsRefusalOf S op (Full limit) = ⊥

@@ -7,20 +7,11 @@ use Rattle.rep_ops.specs.Sets.{Same}
 use Rattle.rep_model.specs.Keep.{keep}
 use Rattle.rep_plain.specs.Rows.{own, has_any}
 use Rattle.rep_plain.specs.inner.Rows.{of_client}
-use Rattle.rep_state.specs.declared.entry.Entry.{Entry}
-use Rattle.rep_state.specs.declared.fresh.Fresh.{Fresh}
-use Rattle.rep_state.specs.Entries.{row_of, IsFresh, fresh_row, Base, base_of}
+use Rattle.rep_entry.specs.declared.entry.Entry.{Entry}
+use Rattle.rep_entry.specs.declared.fresh.Fresh.{Fresh}
+use Rattle.rep_entry.specs.Entries.{row_of, IsFresh, fresh_row, Base, base_of}
 use Rattle.rep_state.specs.Tables.{rows_of}
-
--- the place of a client of which nothing is known
-abbrev pub nothing_held : Entry
-nothing_held = record {
-  seen = record { stamp = None; prefix = 0; session = None; pending = [] };
-  known = [];
-  acks = [];
-  parked = 0;
-  exceptions = 0;
-}
+use Rattle.rep_entry.specs.Applied.{nothing_held}
 
 abbrev pub or_nothing_held : Option Entry → Entry
 or_nothing_held None = nothing_held
@@ -39,10 +30,12 @@ IsTaken c es D ops = Same ops (keep (own c (rows_of es) ++ of_client c D))
 
 -- what a first operation changes of the client
 abbrev pub IsBegun : List ℕ → Entry → Fresh → Op → Type 0
-IsBegun c entry fresh op = IsFresh c entry fresh × Same (fresh_row c entry fresh) (keep (row_of c entry ++ op ∷ []))
+IsBegun c entry fresh op =
+    IsFresh c entry fresh × Same (fresh_row c entry fresh) (keep (row_of c entry ++ op ∷ []))
 
 -- a client's group: the list has operations of the client, and they are taken
-pub record IsGroup (c : List ℕ) (es : List (List ℕ × Entry)) (D : List Op) (fresh : Fresh) : Type 0 where
+pub record IsGroup (c : List ℕ) (es : List (List ℕ × Entry)) (D : List Op)
+    (fresh : Fresh) : Type 0 where
   pub fresh_is : IsFresh c (held_of c es) fresh
   pub taken : IsTaken c es D (fresh_row c (held_of c es) fresh)
   pub any : has_any (of_client c D) ≡ true

@@ -5,14 +5,15 @@ use Rattle.std.specs.Ordering.{is_eq}
 use Rattle.std.specs.FinMap.{find}
 use Rattle.rep_ops.specs.Orders.{client_cmp}
 use Rattle.rep_model.specs.Asking.{is_subscribed}
-use Rattle.rep_state.specs.declared.log.Log.{Log}
-use Rattle.rep_state.specs.declared.entry.Entry.{Entry}
+use Rattle.rep_log.specs.declared.log.Log.{Log}
+use Rattle.rep_entry.specs.declared.entry.Entry.{Entry}
 use Rattle.rep_state.specs.declared.places.Place.{Place}
 use Rattle.rep_state.specs.Interests.{has_mark, SessionWithin}
 
 -- the place with other marks, where it is that of the client
 abbrev pub marked : List ℕ → ℕ → Place → Place
-marked c marks p = cond (is_eq (client_cmp p.name c)) (record { name = p.name; index = p.index; marks = marks }) p
+marked c marks p =
+    cond (is_eq (client_cmp p.name c)) (record { name = p.name; index = p.index; marks = marks }) p
 
 -- the marks of the session of a log, where there is a log
 abbrev pub AreMarksOf : Option Log → Option ℕ → Type 0
@@ -43,8 +44,10 @@ IsSilent topic (Some entry) = is_subscribed topic entry.seen ≡ false
 abbrev pub AreSilent : List ℕ → List (List ℕ × Entry) → List (List ℕ) → Type 0
 AreSilent topic es cs = AllByRecursion (λ c. IsSilent topic (find client_cmp c es)) cs
 
--- of these clients none asks for the topic from a place on, before this one, which is followed by those behind it
-pub record IsNext (topic : List ℕ) (es : List (List ℕ × Entry)) (cs : List (List ℕ)) (place behind : ℕ) (c : List ℕ) : Type 0 where
+-- of these clients none asks for the topic from a place on, before this one, which is followed by
+-- those behind it
+pub record IsNext (topic : List ℕ) (es : List (List ℕ × Entry)) (cs : List (List ℕ))
+    (place behind : ℕ) (c : List ℕ) : Type 0 where
   pub passed : List (List ℕ)
   pub stands : drop place cs ≡ passed ++ c ∷ drop behind cs
   pub silent : AreSilent topic es passed

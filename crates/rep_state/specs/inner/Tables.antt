@@ -9,9 +9,9 @@ use Rattle.rep_model.specs.declared.fault.TheConstants.{MOST_PENDING, MOST_PARKE
 use Rattle.rep_model.specs.declared.fault.Limit.{Limit}
 use Rattle.rep_plain.specs.Rows.{flat, own}
 use Rattle.rep_plain.specs.inner.Tables.{passed_of}
-use Rattle.rep_state.specs.declared.entry.Entry.{Entry}
+use Rattle.rep_entry.specs.declared.entry.Entry.{Entry}
 use Rattle.rep_state.specs.declared.places.Place.{Place}
-use Rattle.rep_state.specs.Entries.{IsEntry}
+use Rattle.rep_entry.specs.Entries.{IsEntry}
 use Rattle.rep_state.specs.Tables.{rows_of, IsTable}
 
 -- places are in the order of their names
@@ -31,7 +31,8 @@ AreWorkedOut es = AllByRecursion (λ e. IsEntry e.0 e.1) es
 pub record IsRoomier (old new : List (List ℕ × Entry)) : Type 0 where
   pub same : flat (rows_of new) ≡ flat (rows_of old)
   pub table : (count : ℕ) → IsTable old count → IsTable new count
-  pub found : (c : List ℕ) → IsSome (find client_cmp c (rows_of old)) → IsSome (find client_cmp c (rows_of new))
+  pub found : (c : List ℕ) → IsSome (find client_cmp c (rows_of old))
+      → IsSome (find client_cmp c (rows_of new))
 
 abbrev pub too_many_pending : List ℕ × Entry → Bool
 too_many_pending e = nat_lt MOST_PENDING (length e.1.seen.pending)
@@ -44,4 +45,6 @@ too_many_exceptions e = nat_lt MOST_EXCEPTIONS e.1.exceptions
 
 -- the limit that is passed once the fresh entries are in their places
 abbrev pub passed_by : ℕ → List (List ℕ × Entry) → Option Limit
-passed_by count fresh = passed_of count (list_any too_many_pending fresh) (list_any too_many_parked fresh) (list_any too_many_exceptions fresh)
+passed_by count fresh =
+    passed_of count (list_any too_many_pending fresh) (list_any too_many_parked fresh)
+    (list_any too_many_exceptions fresh)

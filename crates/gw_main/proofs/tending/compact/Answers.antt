@@ -1,8 +1,9 @@
 use Rattle.std.specs.Arc.{arc_value}
 use Rattle.std.proofs.Common.{Err, subst}
 use Rattle.gw_node.specs.Calls.{CompactCall}
-use Rattle.gw_node.specs.Parts.{state_of, told}
-use Rattle.gw_node.specs.declared.fault.NodeFault.{NodeFault}
+use Rattle.gw_node.specs.Parts.{state_of}
+use Rattle.gw_answer.specs.Answers.{told}
+use Rattle.gw_answer.specs.declared.fault.NodeFault.{NodeFault}
 use Rattle.gw_main.proofs.Behind.{one_call, two_calls, failed_then_opened}
 use Rattle.gw_main.proofs.tending.compact.Goals as goal
 

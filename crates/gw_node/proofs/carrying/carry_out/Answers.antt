@@ -4,8 +4,9 @@ use Rattle.rep_ops.specs.declared.op.Op.{Op}
 use Rattle.rep_ops.specs.Making.{AreApart, IsDeltaOf}
 use Rattle.rep_model.specs.Keep.{IsKeptOf}
 use Rattle.sn_local.specs.Locals.{after_all}
-use Rattle.gw_node.specs.declared.out.Out.{Out}
-use Rattle.gw_node.specs.Parts.{state_of, only_sends}
+use Rattle.gw_answer.specs.declared.out.Out.{Out}
+use Rattle.gw_node.specs.Parts.{state_of}
+use Rattle.gw_answer.specs.Answers.{only_sends}
 use Rattle.gw_node.specs.inner.Writing.{WrittenIfMade, refusal_of}
 use Rattle.gw_node.specs.Plans.{Makes}
 use Rattle.gw_node.specs.inner.Handling.{HaveNoDelta}

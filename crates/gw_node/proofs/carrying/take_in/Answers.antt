@@ -1,6 +1,7 @@
 use Rattle.std.proofs.Common.{◌≡◌, ◌++◌, [], refl, sym, ap, ◌∙◌, subst, rules}
 use Rattle.rep_model.specs.Keep.{IsKeptOf}
-use Rattle.gw_node.specs.Parts.{state_of, only_sends}
+use Rattle.gw_node.specs.Parts.{state_of}
+use Rattle.gw_answer.specs.Answers.{only_sends}
 use Rattle.gw_node.specs.inner.Writing.{refusal_of}
 use Rattle.gw_node.proofs.Calling.{noted, left}
 use Rattle.gw_node.proofs.carrying.take_in.Goals as goal

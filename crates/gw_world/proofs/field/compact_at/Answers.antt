@@ -1,8 +1,9 @@
 -- The node in this place moves, and no other.
 use Rattle.std.proofs.lemmas.Option.{slice_get_read}
 use Rattle.std.proofs.lemmas.Result.{IfOk-weaker}
-use Rattle.gw_node.specs.declared.step.Step.TheVariants as steps
-use Rattle.gw_node.specs.Parts.{state_of, said}
+use Rattle.gw_answer.specs.declared.step.Step.TheVariants as steps
+use Rattle.gw_node.specs.Parts.{state_of}
+use Rattle.gw_answer.specs.Answers.{said}
 use Rattle.gw_world.specs.inner.Events.{GoesOn}
 use Rattle.gw_world.proofs.Moving.{moves_in_place}
 use Rattle.gw_world.proofs.field.compact_at.Goals as goal

@@ -1,6 +1,7 @@
 -- It goes on as the gateway does for which it stands.
-use Rattle.gw_node.specs.declared.step.Step.TheVariants as steps
-use Rattle.gw_node.specs.Parts.{state_of, said}
+use Rattle.gw_answer.specs.declared.step.Step.TheVariants as steps
+use Rattle.gw_node.specs.Parts.{state_of}
+use Rattle.gw_answer.specs.Answers.{said}
 use Rattle.gw_world.specs.inner.Events.{GoesOn}
 use Rattle.gw_world.proofs.Going.{goes_on, if_fed}
 use Rattle.gw_world.proofs.field.frame_to.Goals as goal

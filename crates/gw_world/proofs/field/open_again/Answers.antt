@@ -1,9 +1,10 @@
 -- What a crash left stands for a set, so the opening goes well.
 use Rattle.std.proofs.Common.{Some, sym, ap, ◌∙◌}
-use Rattle.jr_journal.specs.Disk.{image, after_crash}
-use Rattle.jr_journal.specs.Memory.{MemoryState}
+use Rattle.jr_disk.specs.Disk.{image, after_crash}
+use Rattle.jr_disk.specs.Memory.{MemoryState}
 use Rattle.jr_journal.specs.Records.{records}
-use Rattle.gw_node.specs.Parts.{state_of, told}
+use Rattle.gw_node.specs.Parts.{state_of}
+use Rattle.gw_answer.specs.Answers.{told}
 use Rattle.gw_world.proofs.Opened.{restarted_shown, records_found, begun_left, quiet_left, only_memory, crash_left}
 use Rattle.gw_world.proofs.field.open_again.Goals as goal
 

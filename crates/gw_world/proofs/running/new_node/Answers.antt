@@ -1,10 +1,11 @@
 -- What it is where it was opened on an empty disk.
 use Rattle.std.proofs.Common.{Some, sym, ap, ◌∙◌, subst}
 use Rattle.sn_local.specs.declared.config.Config.{Config}
-use Rattle.jr_journal.specs.Disk.{image}
-use Rattle.jr_journal.specs.Memory.{MemoryState}
+use Rattle.jr_disk.specs.Disk.{image}
+use Rattle.jr_disk.specs.Memory.{MemoryState}
 use Rattle.gw_node.specs.Gateways.{new_gateway}
-use Rattle.gw_node.specs.Parts.{state_of, told}
+use Rattle.gw_node.specs.Parts.{state_of}
+use Rattle.gw_answer.specs.Answers.{told}
 use Rattle.gw_world.specs.Keeping.{IsShown}
 use Rattle.gw_world.proofs.Opened.{new_shown, unplanned, only_memory_new}
 use Rattle.gw_world.proofs.running.new_node.Goals as goal

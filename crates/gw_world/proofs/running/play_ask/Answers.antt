@@ -1,7 +1,8 @@
 -- Both gateways are what their nodes keep.
 use Rattle.std.proofs.Common.{length, refl}
 use Rattle.std.proofs.lemmas.Option.{slice_get_read}
-use Rattle.gw_node.specs.Parts.{state_of, said}
+use Rattle.gw_node.specs.Parts.{state_of}
+use Rattle.gw_answer.specs.Answers.{said}
 use Rattle.gw_world.proofs.Moving.{ask_in_place}
 use Rattle.gw_world.proofs.running.play_ask.Goals as goal
 

@@ -1,5 +1,5 @@
 use Rattle.std.proofs.Common.{◌≡◌, ap, ◌∙◌, inr, length}
-use Rattle.jr_journal.specs.Disk.{at, replaced, appended}
+use Rattle.jr_disk.specs.Disk.{at, replaced, appended}
 use Rattle.jr_journal.specs.Journals.{emptied}
 use Rattle.jr_journal.proofs.Appending.{on_ok, on_err, all_out}
 use Rattle.jr_journal.proofs.compacting.write_anew.Goals as goal

@@ -1,6 +1,6 @@
 use Rattle.std.proofs.Common.{◌≡◌, ◌∙◌}
 use Rattle.std.proofs.lemmas.Result.{err_from_is_err_and}
-use Rattle.jr_journal.specs.Disk.{image}
+use Rattle.jr_disk.specs.Disk.{image}
 use Rattle.jr_journal.specs.Faults.{is_fresh}
 use Rattle.jr_journal.proofs.Calm.{not_starved, quiet_calm}
 use Rattle.jr_journal.proofs.Quiet.{still_calm, still_quiet, unhurt_ok, unhurt_then, unhurt_err}

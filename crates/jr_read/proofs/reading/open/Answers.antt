@@ -1,5 +1,5 @@
 -- The fault is told.
-use Rattle.jr_journal.specs.Disk.{image}
+use Rattle.jr_disk.specs.Disk.{image}
 use Rattle.jr_journal.specs.Faults.{fault_of}
 use Rattle.jr_read.proofs.reading.open.Goals as goal
 

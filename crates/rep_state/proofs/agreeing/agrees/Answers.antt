@@ -4,7 +4,7 @@ use Rattle.rep_ops.specs.Orders.{client_cmp, client_of}
 use Rattle.rep_ops.specs.Sets.{Agrees}
 use Rattle.rep_model.proofs.Readers.{client_exact}
 use Rattle.rep_state.specs.Tables.{by_client, IsKept}
-use Rattle.rep_state.proofs.Owning.{found_holds}
+use Rattle.rep_entry.proofs.Owning.{found_holds}
 use Rattle.rep_state.proofs.Reading.{own_found}
 use Rattle.rep_state.proofs.Contradicting.{agrees_nothing}
 use Rattle.rep_state.proofs.agreeing.agrees.Goals as goal

@@ -1,5 +1,5 @@
 use Rattle.std.proofs.Common.{Some, None, true, IsTrue, refl, sym, ap, subst, ◌∙◌}
-use Rattle.rep_state.specs.Mail.{put_named, Rising}
+use Rattle.rep_log.specs.Mail.{put_named, Rising}
 use Rattle.rep_state.proofs.Contradicting.{agrees_session, agrees_put}
 use Rattle.rep_state.proofs.agreeing.agrees_with.Goals as goal
 

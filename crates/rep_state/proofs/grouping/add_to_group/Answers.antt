@@ -9,13 +9,13 @@ use Rattle.rep_ops.specs.Sets.{Same}
 use Rattle.rep_model.specs.Keep.{keep}
 use Rattle.rep_model.proofs.Readers.{client_total}
 use Rattle.rep_plain.specs.Rows.{own}
-use Rattle.rep_state.specs.declared.entry.Entry.{Entry}
-use Rattle.rep_state.specs.declared.fresh.Fresh.{Fresh}
-use Rattle.rep_state.specs.Entries.{IsEntry, IsFresh, IsStep, fresh_row}
+use Rattle.rep_entry.specs.declared.entry.Entry.{Entry}
+use Rattle.rep_entry.specs.declared.fresh.Fresh.{Fresh}
+use Rattle.rep_entry.specs.Entries.{IsEntry, IsFresh, IsStep, fresh_row}
 use Rattle.rep_state.specs.Tables.{by_client, rows_of}
 use Rattle.rep_state.specs.inner.Groups.{held_of, IsBegun, IsGroupOf}
 use Rattle.rep_state.proofs.Gathering.{put_at}
-use Rattle.rep_state.proofs.Sorting.{found_at, found_gap, put_gap}
+use Rattle.rep_log.proofs.Sorting.{found_at, found_gap, put_gap}
 use Rattle.rep_state.proofs.Working.{group_added, names_client, nothing_taken, held_is, held_row}
 use Rattle.rep_state.proofs.grouping.add_to_group.Goals as goal
 

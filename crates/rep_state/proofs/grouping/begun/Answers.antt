@@ -3,7 +3,7 @@ use Rattle.rep_ops.specs.declared.op.Op.{Op}
 use Rattle.rep_ops.specs.Orders.{client_of}
 use Rattle.rep_ops.specs.Sets.{Same}
 use Rattle.rep_model.specs.Keep.{keep}
-use Rattle.rep_state.specs.Entries.{fresh_row}
+use Rattle.rep_entry.specs.Entries.{fresh_row}
 use Rattle.rep_state.proofs.Working.{names_client}
 use Rattle.rep_state.proofs.grouping.begun.Goals as goal
 

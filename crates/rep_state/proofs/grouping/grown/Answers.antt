@@ -2,7 +2,7 @@ use Rattle.std.proofs.Common.{◌≡◌, ◌++◌, ◌∷◌, [], ℕ, List, T, 
 use Rattle.std.specs.FinMap.{find, is_sorted}
 use Rattle.std.proofs.lemmas.List.{take_more, take_all}
 use Rattle.rep_ops.specs.Orders.{client_cmp}
-use Rattle.rep_state.specs.declared.fresh.Fresh.{Fresh}
+use Rattle.rep_entry.specs.declared.fresh.Fresh.{Fresh}
 use Rattle.rep_state.specs.Tables.{by_client}
 use Rattle.rep_state.specs.inner.Groups.{AreGroups, IsGroupOf}
 use Rattle.rep_state.proofs.Working.{groups_fresh}

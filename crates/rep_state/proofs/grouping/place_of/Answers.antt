@@ -2,8 +2,8 @@ use Rattle.std.proofs.Common.{◌≡◌, ◌-◌, ℕ, List, length, Equal, Grea
 use Rattle.std.specs.Option.{option_copied}
 use Rattle.rep_ops.specs.Orders.{client_cmp}
 use Rattle.rep_model.proofs.Readers.{client_total, client_exact}
-use Rattle.rep_state.specs.declared.fresh.Fresh.{Fresh}
-use Rattle.rep_state.proofs.Sorting.{none_last}
+use Rattle.rep_entry.specs.declared.fresh.Fresh.{Fresh}
+use Rattle.rep_log.proofs.Sorting.{none_last}
 use Rattle.rep_state.proofs.Gathering.{gap_behind, at_last, at_in}
 use Rattle.rep_state.proofs.grouping.place_of.Goals as goal
 

@@ -1,15 +1,17 @@
 use Rattle.std.proofs.Common.{◌≡◌, ◌++◌, ◌∷◌, [], sym, ap, subst, ◌∙◌, ℕ, List}
 use Rattle.rep_ops.specs.declared.op.Op.{Op}
 use Rattle.rep_model.proofs.Joins.{all-both}
-use Rattle.rep_state.specs.declared.entry.Entry.{Entry}
-use Rattle.rep_state.specs.declared.change.Change.{Change}
-use Rattle.rep_state.specs.Entries.{IsFresh, fresh_row, row_of, base_of}
+use Rattle.rep_entry.specs.declared.entry.Entry.{Entry}
+use Rattle.rep_entry.specs.declared.change.Change.{Change}
+use Rattle.rep_entry.specs.Entries.{IsFresh, fresh_row, row_of, base_of}
 use Rattle.rep_state.specs.Tables.{by_client, rows_of}
 use Rattle.rep_state.specs.inner.Groups.{held_of, base_at}
-use Rattle.rep_state.specs.Staging.{staged_of, planned_row}
-use Rattle.rep_state.specs.inner.Staging.{applied, future, IsWorkedOut, AreWorkedOut}
+use Rattle.rep_entry.specs.Staging.{staged_of, planned_row}
+use Rattle.rep_state.specs.inner.Staging.{future, IsWorkedOut, AreWorkedOut}
+use Rattle.rep_entry.specs.Applied.{applied}
 use Rattle.rep_state.proofs.Placing.{rows_last}
-use Rattle.rep_state.proofs.Staging.{staged_last, future_last, row_applied}
+use Rattle.rep_state.proofs.Staging.{staged_last, future_last}
+use Rattle.rep_entry.proofs.Applied.{row_applied}
 use Rattle.rep_state.proofs.grouping.push_change.Goals as goal
 
 pub returns-clause-rows : goal.returns-clause-rows

@@ -3,8 +3,8 @@ use Rattle.std.proofs.lemmas.Fn.{always_returns_same}
 use Rattle.sn_session.proofs.Places.{placed}
 use Rattle.rep_ops.specs.Orders.{client_cmp}
 use Rattle.rep_model.proofs.Readers.{client_total}
-use Rattle.rep_state.specs.declared.fresh.Fresh.{Fresh}
-use Rattle.rep_state.proofs.Sorting.{ascends}
+use Rattle.rep_entry.specs.declared.fresh.Fresh.{Fresh}
+use Rattle.rep_log.proofs.Sorting.{ascends}
 use Rattle.rep_state.proofs.grouping.search.Goals as goal
 
 -- the closure compares a group's client with the one that is sought

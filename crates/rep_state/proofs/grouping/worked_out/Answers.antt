@@ -1,11 +1,11 @@
 use Rattle.std.proofs.Common.{◌++◌, ◌∷◌, [], sym, ap, subst, ◌∙◌, append_assoc, ℕ, List}
 use Rattle.std.specs.List.{AllByRecursion}
 use Rattle.rep_ops.specs.declared.op.Op.{Op}
-use Rattle.rep_state.specs.declared.fresh.Fresh.{Fresh}
-use Rattle.rep_state.specs.Entries.{IsFresh, fresh_row}
+use Rattle.rep_entry.specs.declared.fresh.Fresh.{Fresh}
+use Rattle.rep_entry.specs.Entries.{IsFresh, fresh_row}
 use Rattle.rep_state.specs.Tables.{by_client, rows_of}
 use Rattle.rep_state.specs.inner.Groups.{held_of, fresh_rows}
-use Rattle.rep_state.specs.Staging.{staged_of}
+use Rattle.rep_entry.specs.Staging.{staged_of}
 use Rattle.rep_state.specs.inner.Staging.{future}
 use Rattle.rep_state.proofs.grouping.worked_out.Goals as goal
 

@@ -1,10 +1,10 @@
 use Rattle.std.proofs.Common.{◌≡◌, ◌++◌}
 use Rattle.std.specs.List.{AllByRecursion}
 use Rattle.std.specs.Vec.Iter.{into_iter_items}
-use Rattle.rep_state.specs.Entries.{IsFresh}
+use Rattle.rep_entry.specs.Entries.{IsFresh}
 use Rattle.rep_state.specs.Tables.{by_client, rows_of}
 use Rattle.rep_state.specs.inner.Groups.{held_of, fresh_rows}
-use Rattle.rep_state.specs.Staging.{staged_of}
+use Rattle.rep_entry.specs.Staging.{staged_of}
 use Rattle.rep_state.specs.inner.Staging.{future, AreWorkedOut}
 use Rattle.rep_state.proofs.grouping.worked_out.Given as goal
 

@@ -1,5 +1,5 @@
 use Rattle.std.proofs.Common.{◌≡◌, ◌++◌, take}
-use Rattle.rep_state.specs.Kept.{of_log}
+use Rattle.rep_log.specs.Kept.{of_log}
 use Rattle.rep_state.proofs.held.push_log.Given as goal
 
 abbrev pub invariant-loop-op : goal.invariant-loop-op

@@ -1,5 +1,5 @@
 use Rattle.std.proofs.Common.{◌≡◌, ◌++◌, take}
-use Rattle.rep_state.specs.Kept.{of_mail}
+use Rattle.rep_log.specs.Kept.{of_mail}
 use Rattle.rep_state.proofs.held.push_mail.Given as goal
 
 abbrev pub invariant-loop-put : goal.invariant-loop-put

@@ -2,8 +2,8 @@ use Rattle.std.proofs.Common.{◌≡◌, ◌+◌, ◌∷◌, List, ℕ, drop, sy
 use Rattle.std.proofs.lemmas.List.{drop-drop}
 use Rattle.rep_plain.specs.inner.Rows.{named_rows}
 use Rattle.rep_plain.proofs.Walks.{drop_next, named_front, named_behind, drop_less}
-use Rattle.rep_state.specs.declared.entry.Entry.{Entry}
-use Rattle.rep_state.specs.Entries.{row_of}
+use Rattle.rep_entry.specs.declared.entry.Entry.{Entry}
+use Rattle.rep_entry.specs.Entries.{row_of}
 use Rattle.rep_state.specs.Tables.{by_client, rows_of}
 use Rattle.rep_state.proofs.Indexed.{in_order}
 use Rattle.rep_state.proofs.Walking.{found_at}

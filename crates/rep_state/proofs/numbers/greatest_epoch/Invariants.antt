@@ -1,7 +1,7 @@
 use Rattle.std.proofs.Common.{◌≡◌, ◌≤◌, length, drop}
 use Rattle.std.specs.Map.{keys_of}
 use Rattle.rep_model.specs.Fresh.{largest}
-use Rattle.rep_state.specs.inner.Numbers.{epoch_of}
+use Rattle.rep_entry.specs.inner.Numbers.{epoch_of}
 use Rattle.rep_state.proofs.numbers.greatest_epoch.Given as goal
 
 abbrev pub invariant-loop-i : goal.invariant-loop-i

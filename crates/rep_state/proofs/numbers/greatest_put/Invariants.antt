@@ -1,6 +1,6 @@
 use Rattle.std.proofs.Common.{◌≡◌, ◌≤◌, length, drop}
 use Rattle.rep_model.specs.Fresh.{largest}
-use Rattle.rep_state.specs.inner.Numbers.{seq_from}
+use Rattle.rep_entry.specs.inner.Numbers.{seq_from}
 use Rattle.rep_state.proofs.numbers.greatest_put.Given as goal
 
 abbrev pub invariant-loop-i : goal.invariant-loop-i

@@ -1,6 +1,6 @@
 use Rattle.std.proofs.Common.{ℕ, max, sym, ap, ◌∙◌}
 use Rattle.rep_model.specs.Fresh.{largest}
-use Rattle.rep_state.specs.inner.Numbers.{seq_from}
+use Rattle.rep_entry.specs.inner.Numbers.{seq_from}
 use Rattle.rep_state.proofs.Reading.{largest_row}
 use Rattle.rep_state.proofs.numbers.greatest_seq.Goals as goal
 

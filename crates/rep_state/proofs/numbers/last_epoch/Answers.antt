@@ -3,7 +3,7 @@ use Rattle.std.specs.FinMap.{find}
 use Rattle.rep_ops.specs.Orders.{client_cmp}
 use Rattle.std.specs.Map.{keys_of}
 use Rattle.rep_model.specs.Fresh.{greatest_epoch, largest}
-use Rattle.rep_state.specs.inner.Numbers.{epoch_of}
+use Rattle.rep_entry.specs.inner.Numbers.{epoch_of}
 use Rattle.rep_state.specs.Tables.{by_client}
 use Rattle.rep_state.proofs.Reading.{own_found, epoch_row}
 use Rattle.rep_state.proofs.numbers.last_epoch.Goals as goal

@@ -3,7 +3,7 @@ use Rattle.std.proofs.lemmas.List.{take_more}
 use Rattle.std.specs.FinMap.{find}
 use Rattle.rep_ops.specs.Orders.{client_cmp}
 use Rattle.rep_state.specs.Tables.{by_client, rows_of}
-use Rattle.rep_state.specs.Staging.{staged_of}
+use Rattle.rep_entry.specs.Staging.{staged_of}
 use Rattle.rep_state.specs.inner.Staging.{HaveRoom}
 use Rattle.rep_state.proofs.Placing.{roomier_then}
 use Rattle.rep_state.proofs.Staging.{staged_last, room_more}

@@ -2,7 +2,7 @@ use Rattle.std.proofs.Common.{take}
 use Rattle.rep_state.specs.Tables.{by_client, ArePlaces}
 use Rattle.rep_state.specs.inner.Tables.{IsRoomier}
 use Rattle.rep_state.specs.Interests.{AreMarked}
-use Rattle.rep_state.specs.Staging.{staged_of}
+use Rattle.rep_entry.specs.Staging.{staged_of}
 use Rattle.rep_state.specs.inner.Staging.{HaveRoom}
 use Rattle.rep_state.proofs.room.make_room.Given as goal
 

@@ -7,8 +7,8 @@ use Rattle.rep_state.specs.inner.Interests.{noted}
 use Rattle.rep_state.proofs.Asking.{places_noted, marked_noted}
 use Rattle.rep_state.proofs.Indexed.{places_pass}
 use Rattle.rep_state.specs.inner.Groups.{held_of, base_at}
-use Rattle.rep_state.specs.Staging.{staged_of, IsReady}
-use Rattle.rep_state.specs.inner.Staging.{applied}
+use Rattle.rep_entry.specs.Staging.{staged_of, IsReady}
+use Rattle.rep_entry.specs.Applied.{applied}
 use Rattle.rep_state.proofs.Staging.{staged_last, last_change, last_ready, rest_staged, rest_movable, rest_moved, rest_kept}
 use Rattle.rep_state.proofs.room.move_in.Goals as goal
 

@@ -1,7 +1,7 @@
 use Rattle.std.proofs.Common.{◌≡◌, vec_len}
 use Rattle.rep_plain.specs.Rows.{moved}
 use Rattle.rep_state.specs.Tables.{by_client, rows_of, AreKept, ArePlaces}
-use Rattle.rep_state.specs.Staging.{staged_of, AreStaged}
+use Rattle.rep_entry.specs.Staging.{staged_of, AreStaged}
 use Rattle.rep_state.specs.inner.Staging.{future, AreMovable}
 use Rattle.rep_state.specs.Interests.{AreMarked}
 use Rattle.rep_state.proofs.room.move_in.Given as goal

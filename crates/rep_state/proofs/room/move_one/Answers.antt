@@ -1,14 +1,14 @@
 use Rattle.std.proofs.Common.{◌≡◌, is_some, None, true≢false, sym, ap, subst, ◌∙◌}
 use Rattle.std.specs.FinMap.{find, put}
 use Rattle.rep_ops.specs.Orders.{client_cmp}
-use Rattle.rep_state.specs.declared.entry.Entry.{Entry}
-use Rattle.rep_state.specs.Entries.{base_of}
+use Rattle.rep_entry.specs.declared.entry.Entry.{Entry}
+use Rattle.rep_entry.specs.Entries.{base_of}
 use Rattle.rep_model.proofs.Readers.{client_exact}
 use Rattle.rep_state.specs.Tables.{by_client, IsKept}
-use Rattle.rep_state.proofs.Owning.{found_holds}
+use Rattle.rep_entry.proofs.Owning.{found_holds}
 use Rattle.rep_state.specs.inner.Groups.{or_nothing_held}
-use Rattle.rep_state.specs.Staging.{IsFit}
-use Rattle.rep_state.specs.inner.Staging.{applied}
+use Rattle.rep_entry.specs.Staging.{IsFit}
+use Rattle.rep_entry.specs.Applied.{applied}
 use Rattle.rep_state.proofs.Rows.{written_by_client, found_by_client}
 use Rattle.rep_state.proofs.Indexed.{places_written}
 use Rattle.rep_state.proofs.room.move_one.Goals as goal

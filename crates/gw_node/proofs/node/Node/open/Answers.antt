@@ -1,8 +1,8 @@
 -- What was opened is what was found.
 use Rattle.std.proofs.Common.{refl, inl}
-use Rattle.jr_journal.specs.Disk.{image}
+use Rattle.jr_disk.specs.Disk.{image}
 use Rattle.jr_journal.specs.Parts.{disk_of}
-use Rattle.gw_node.specs.Parts.{told}
+use Rattle.gw_answer.specs.Answers.{told}
 use Rattle.gw_node.proofs.Started.{leaves_itself, leaves_no_more, takes_kept, opened_takes, opened_keeps, opened_none, opened_again, opened_back, opened_place, opened_leaves, started_leaves, started_fits}
 use Rattle.gw_node.proofs.node.Node.open.Goals as goal
 

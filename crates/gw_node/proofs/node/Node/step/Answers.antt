@@ -5,10 +5,10 @@ use Rattle.gw_node.proofs.node.Node.step.Goals as goal
 
 pub returns-clause-taken : goal.returns-clause-taken
 returns-clause-taken g c =
-    rw c.three.ensures.first
+    rw c.three_shares.ensures.first
     (step_carries_on (state_of g.R.Replica.kept c.args.self.now) (state_of g.R.Replica.kept c.handle_step.new.node) c.args.step.now c.handle_step.result c.handle_step.ensures)
 
 pub returns-clause-event : goal.returns-clause-event
 returns-clause-event g c =
-    rw c.three.ensures.first
+    rw c.three_shares.ensures.first
     (event_on (state_of g.R.Replica.kept c.args.self.now) (state_of g.R.Replica.kept c.handle_step.new.node) c.args.step.now c.handle_step.result c.handle_step.ensures)

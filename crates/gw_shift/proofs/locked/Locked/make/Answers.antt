@@ -1,6 +1,6 @@
 use Rattle.std.specs.Arc.{arc_value}
 use Rattle.std.proofs.Math.Logic.{∥∥₁_map}
-use Rattle.gw_node.specs.Parts.{said}
+use Rattle.gw_answer.specs.Answers.{said}
 use Rattle.gw_shift.specs.inner.Passes.{call}
 use Rattle.gw_shift.proofs.Histories.{goes_on, does_so}
 use Rattle.gw_shift.proofs.locked.Locked.make.Goals as goal

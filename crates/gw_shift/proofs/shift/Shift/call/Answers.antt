@@ -1,6 +1,6 @@
 use Rattle.std.proofs.Common.{◌<◌, ◌∷◌, [], ◌++◌, ap, ◌∙◌, arith}
 use Rattle.std.specs.Arc.{arc_value}
-use Rattle.gw_node.specs.Parts.{said}
+use Rattle.gw_answer.specs.Answers.{said}
 use Rattle.gw_shift.specs.Calls.{Held}
 use Rattle.gw_shift.specs.Passes.{last_of, held_as}
 use Rattle.gw_shift.proofs.Holding.{holds_more}

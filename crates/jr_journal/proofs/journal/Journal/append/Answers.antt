@@ -1,5 +1,5 @@
 use Rattle.std.proofs.Common.{◌≡◌, ◌∙◌, sym, length}
-use Rattle.jr_journal.specs.Disk.{at, replaced, appended}
+use Rattle.jr_disk.specs.Disk.{at, replaced, appended}
 use Rattle.std.proofs.Common.{take}
 use Rattle.jr_journal.proofs.Appending.{on_ok, on_err, err_written, torn_after, all_out, synced_is, settles_after, durable_after, struck_short, struck_kept, done_as}
 use Rattle.jr_journal.specs.Records.{written}

@@ -1,5 +1,5 @@
 use Rattle.std.proofs.Common.{◌≡◌, ℕ, ◌⊎◌, None, take, sym, ap, subst, ◌∙◌}
-use Rattle.jr_journal.specs.declared.disk.Slot.{Slot}
+use Rattle.jr_disk.specs.declared.disk.Slot.{Slot}
 use Rattle.jr_journal.specs.Records.{base_bytes}
 use Rattle.jr_journal.specs.Journals.{after_append, emptied}
 use Rattle.jr_journal.specs.inner.Journals.{is_in_use}

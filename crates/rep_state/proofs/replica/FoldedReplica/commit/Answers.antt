@@ -1,9 +1,9 @@
 use Rattle.std.proofs.Common.{◌≡◌, refl, sym, ap, subst, ◌∙◌, List, ℕ}
 use Rattle.rep_ops.specs.declared.op.Op.{Op}
 use Rattle.rep_plain.specs.Rows.{flat, moved, count_named}
-use Rattle.rep_state.specs.declared.change.Change.{Change}
+use Rattle.rep_entry.specs.declared.change.Change.{Change}
 use Rattle.rep_state.specs.Tables.{by_client, rows_of}
-use Rattle.rep_state.specs.Staging.{staged_of, planned, AreReady}
+use Rattle.rep_entry.specs.Staging.{staged_of, planned, AreReady}
 use Rattle.rep_state.proofs.Indexed.{in_order}
 use Rattle.rep_state.proofs.Staging.{planned_future, are_movable}
 use Rattle.rep_state.proofs.replica.FoldedReplica.commit.Goals as goal

@@ -7,7 +7,7 @@ use Rattle.rep_plain.specs.inner.Rows.{count_new}
 use Rattle.rep_state.specs.Tables.{by_client, rows_of}
 use Rattle.rep_state.specs.inner.Tables.{passed_by}
 use Rattle.rep_state.specs.inner.Groups.{AreGroups}
-use Rattle.rep_state.specs.Staging.{staged_of, planned}
+use Rattle.rep_entry.specs.Staging.{staged_of, planned}
 use Rattle.rep_state.specs.inner.Staging.{future, HaveRoom, AreWorkedOut}
 use Rattle.rep_state.proofs.Rows.{table_rows}
 use Rattle.rep_state.proofs.Placing.{roomier_itself}

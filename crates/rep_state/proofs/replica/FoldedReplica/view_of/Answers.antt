@@ -8,7 +8,7 @@ use Rattle.rep_plain.proofs.Single.{view_own}
 use Rattle.rep_plain.proofs.Flat.{of_flat, named_flat}
 use Rattle.rep_state.specs.Tables.{by_client, rows_of, IsKept}
 use Rattle.rep_state.proofs.Entering.{seen_row}
-use Rattle.rep_state.proofs.Owning.{found_holds}
+use Rattle.rep_entry.proofs.Owning.{found_holds}
 use Rattle.rep_state.proofs.Reading.{own_found}
 use Rattle.rep_state.proofs.Rows.{table_rows}
 use Rattle.rep_state.proofs.replica.FoldedReplica.view_of.Goals as goal

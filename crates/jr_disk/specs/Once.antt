@@ -1,0 +1,18 @@
+-- A disk in memory of which one call fails.
+use Rattle.std.specs.Prelude.{Option, Some, None, ℕ}
+use Rattle.jr_disk.specs.declared.disk.Plan.{Plan}
+use Rattle.jr_disk.specs.declared.once.OnceCall.{OnceCall}
+use Rattle.jr_disk.specs.Memory.{MemoryState}
+
+pub record OnceState : Type 0 where
+  pub disk : MemoryState
+  -- calls of this kind are counted
+  pub call : OnceCall
+  -- behind so many more of them one fails; none does any more
+  pub due : Option ℕ
+
+-- nothing is known of what will fail as long as a call is to fail; else the failure that is
+-- arranged on the disk
+abbrev pub outlook_of : Option ℕ → Option Plan → Option (Option Plan)
+outlook_of None plan = Some plan
+outlook_of (Some after) plan = None

@@ -1,0 +1,5 @@
+pub mod Spans
+pub mod Entries
+pub mod Staging
+pub mod Applied
+pub mod inner

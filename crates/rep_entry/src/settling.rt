@@ -1,0 +1,182 @@
+//! The messages that wait for a client after a change, for which no memory is taken.
+
+ghost use Rattle.std.specs.Prelude.{◌≡◌, ◌+◌, ◌==◌, ◌<◌, ◌≤◌, ◌++◌, [], suc, false, vec_capacity, List, take, drop, filter, length, count_by, IfOk, IsTrue};
+ghost use Rattle.rep_ops.specs.declared.op.Put.{Put};
+ghost use Rattle.rep_log.specs.Mail.{weave, is_left, NoneCovered, Rising};
+ghost use Rattle.rep_entry.specs.Spans.{AreFreeOutside};
+ghost use Rattle.rep_entry.specs.inner.Mail.{are_behind, left_from};
+ghost use Rattle.rep_log.specs.Origins.{ranges_in};
+
+use super::span::{Span, between};
+use super::weaving::{goes_before, merge};
+use octets::NoMemory;
+use rep_log::{Acks, put_behind};
+use rep_ops::Put;
+use std::collections::VecDeque;
+
+/// So many messages at most are dropped one by one, each with a move of those behind it.
+const FEW: usize = 8;
+
+/// Whether the message is not acknowledged.
+fn is_left(acks: &Acks, put: &Put) -> bool
+    ensures { result ≡ is_left (ranges_in acks.now) put.now }
+{
+    !acks.covers(put.seq, put.origin)
+}
+
+/// Drops the messages that are acknowledged. All are asked.
+fn drop_any(all: &mut Vec<Put>, acks: &Acks)
+    ensures { all.new.items ≡ filter (is_left (ranges_in acks.now)) all.old.items }
+{
+    all.retain(|put| is_left(acks, put));
+}
+
+/// Drops the message at a place, if it is acknowledged. Those behind it move.
+fn drop_at(all: &mut Vec<Put>, at: usize, acks: &Acks)
+    requires { at < length all.old.items }
+    ensures { (whole : List Put) → at < length whole
+        → all.old.items ≡ left_from (ranges_in acks.now) (suc at) whole
+        → all.new.items ≡ left_from (ranges_in acks.now) at whole }
+{
+    if is_left(acks, &all[at]) {
+        return;
+    }
+    all.remove(at);
+}
+
+/// Drops those that are acknowledged of so many messages from a place on, one by one.
+fn drop_each(all: &mut Vec<Put>, from: usize, count: usize, acks: &Acks)
+    requires bound { from + count ≤ length all.old.items }
+    requires front { NoneCovered (ranges_in acks.now) (take from all.old.items) }
+    requires back { NoneCovered (ranges_in acks.now) (drop count (drop from all.old.items)) }
+    ensures { all.new.items ≡ filter (is_left (ranges_in acks.now)) all.old.items }
+{
+    let mut at = from + count;
+    while from < at {
+        at -= 1;
+        drop_at(all, at, acks);
+    }
+}
+
+/// Drops the messages that are acknowledged. Only those of the span are asked, unless they are many.
+fn drop_covered(all: &mut Vec<Put>, span: Span, acks: &Acks)
+    requires rising { Rising all.old.items }
+    requires free { AreFreeOutside span (ranges_in acks.now) all.old.items }
+    ensures { all.new.items ≡ filter (is_left (ranges_in acks.now)) all.old.items }
+{
+    let (from, count) = between(all.as_slice(), span);
+    if count > FEW {
+        drop_any(all, acks);
+    } else {
+        drop_each(all, from, count, acks);
+    }
+}
+
+/// Whether the new messages come behind all that wait.
+fn come_behind(waiting: &[Put], news: &[Put]) -> bool
+    requires { Rising waiting.now }
+    ensures { IsTrue result → weave waiting.now news.now ≡ waiting.now ++ news.now }
+{
+    match waiting.last() {
+        None => true,
+        Some(last) => are_behind(last, news),
+    }
+}
+
+/// Whether the first of the new messages, if there is one, comes behind this.
+fn are_behind(last: &Put, news: &[Put]) -> bool
+    ensures { result ≡ are_behind last.now news.now }
+{
+    match news.first() {
+        None => true,
+        Some(first) => goes_before(last, first),
+    }
+}
+
+/// The messages that wait, and new ones. Where none is new nothing is moved, and where all come behind those that wait, these stay where
+/// they are as long as there is room.
+fn joined(room: Vec<Put>, mut waiting: Vec<Put>, news: Vec<Put>) -> Vec<Put>
+    requires empty { room.items ≡ [] }
+    requires room { (length news.items == 0) ≡ false
+        → length waiting.items + length news.items ≤ vec_capacity room }
+    requires rising { Rising waiting.items }
+    ensures { result.items ≡ weave waiting.items news.items }
+{
+    if news.as_slice().is_empty() {
+        return waiting;
+    }
+    if come_behind(waiting.as_slice(), news.as_slice()) {
+        put_behind(&mut waiting, news, room);
+        return waiting;
+    }
+    merge(room, VecDeque::from_vec(waiting), VecDeque::from_vec(news))
+}
+
+/// The messages that wait, and new ones, without those that are acknowledged, which lie in the span.
+pub(crate) fn settled(
+    room: Vec<Put>,
+    waiting: Vec<Put>,
+    news: Vec<Put>,
+    span: Span,
+    acks: &Acks,
+) -> Vec<Put>
+    requires empty { room.items ≡ [] }
+    requires room { (length news.items == 0) ≡ false
+        → length waiting.items + length news.items ≤ vec_capacity room }
+    requires rising { Rising waiting.items }
+    requires woven { Rising (weave waiting.items news.items) }
+    requires free { AreFreeOutside span (ranges_in acks.now) (weave waiting.items news.items) }
+    ensures { result.items ≡ filter (is_left (ranges_in acks.now))
+        (weave waiting.items news.items) }
+{
+    let mut all = joined(room, waiting, news);
+    drop_covered(&mut all, span, acks);
+    all
+}
+
+/// How many of the messages are not acknowledged. All are asked.
+fn count_each(puts: &[Put], acks: &Acks) -> usize
+    ensures count { result ≡ count_by (is_left (ranges_in acks.now)) puts.now }
+    ensures bound { result ≤ length puts.now }
+{
+    puts.iter().filter(|put| is_left(acks, *put)).count()
+}
+
+/// How many of the messages are not acknowledged. Only those of the span are asked.
+fn count_left(puts: &[Put], span: Span, acks: &Acks) -> usize
+    ensures { Rising puts.now
+        → AreFreeOutside span (ranges_in acks.now) puts.now
+        → result ≡ count_by (is_left (ranges_in acks.now)) puts.now }
+{
+    let (from, count) = between(puts, span);
+    let asked = puts.split_at(from).1.split_at(count).0;
+    puts.len() - count + count_each(asked, acks)
+}
+
+/// How many messages will wait, where these wait and those are new, and those that are acknowledged lie in the span.
+pub(crate) fn count_settled(
+    waiting: &[Put],
+    news: &[Put],
+    span: Span,
+    acks: &Acks,
+) -> Result<usize, NoMemory>
+    ensures { Rising waiting.now
+        → Rising news.now
+        → AreFreeOutside span (ranges_in acks.now) waiting.now
+        → AreFreeOutside span (ranges_in acks.now) news.now
+        → IfOk result (λ count. count
+        ≡ length (filter (is_left (ranges_in acks.now)) (weave waiting.now news.now))) }
+{
+    sum(
+        count_left(waiting, span, acks),
+        count_left(news, span, acks),
+    )
+}
+
+/// Both together.
+fn sum(a: usize, b: usize) -> Result<usize, NoMemory>
+    ensures { IfOk result (λ count. count ≡ a + b) }
+{
+    let count = a.checked_add(b).ok_or(NoMemory)?;
+    Ok(count)
+}

@@ -1,0 +1,7 @@
+use Rattle.std.proofs.Common.{◌≡◌}
+use Rattle.rep_plain.specs.Steps.{capped}
+use Rattle.rep_log.specs.Origins.{above_gaps}
+use Rattle.rep_log.proofs.acks.Acks.exceptions.Given as goal
+
+abbrev pub invariant-loop-below : goal.invariant-loop-below
+invariant-loop-below l = l.count ≡ capped (above_gaps l.self l.below)

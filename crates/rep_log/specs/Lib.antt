@@ -1,0 +1,5 @@
+pub mod Logs
+pub mod Mail
+pub mod Kept
+pub mod Origins
+pub mod inner

@@ -1,8 +1,0 @@
-use Rattle.std.proofs.Common.{rules}
-use Rattle.std.proofs.lemmas.Fn.{filter_same}
-use Rattle.rep_state.specs.Mail.{is_left}
-use Rattle.rep_state.specs.Origins.{ranges_in}
-use Rattle.rep_state.proofs.settling.drop_any.Goals as goal
-
-pub returns : goal.returns
-returns c = filter_same _ (is_left (ranges_in c.args.acks.now)) _ (λ put kept after called. search rules) _ _ c.retain.ensures.filtered
