@@ -11,7 +11,7 @@ use Rattle.rep_ops.specs.WellMade.{is_well_made}
 use Rattle.sn_local.specs.declared.config.Config.{Config}
 use Rattle.sn_plan.specs.declared.plan.Plan.{Plan}
 use Rattle.sn_plan.specs.Flush.{AreFlush}
-use Rattle.sn_flow.proofs.Lists.{all-append}
+use Rattle.sn_plan.proofs.Lists.{all-append}
 use Rattle.plan_laws.specs.KeepsWell.{AreAsked, KeepsWell}
 use Rattle.plan_laws.proofs.Steps.{Makes, step-makes, tick-makes, after-asked}
 use Rattle.gw_answer.specs.declared.out.Out.{Out}

@@ -13,7 +13,7 @@ use Rattle.rep_ops.specs.Ranges.{is_change}
 use Rattle.rep_ops.specs.Sets.{operation_at}
 use Rattle.rep_ops.specs.WellMade.{is_stamp, is_counted, is_well_made}
 use Rattle.sn_local.specs.declared.config.Config.{Config}
-use Rattle.sn_flow.proofs.Lists.{all-append, all-weaken}
+use Rattle.sn_plan.proofs.Lists.{all-append, all-weaken}
 use Rattle.gw_world.specs.declared.event.Event.{Event}
 use Rattle.gw_world.specs.declared.event.Answer.{Answer}
 use Rattle.gw_node.specs.Gateways.{Gateway, new_gateway}

@@ -4,7 +4,7 @@ ghost use Rattle.std.specs.Prelude.{◌≡◌, ◌==◌, ◌<◌, length, positi
 ghost use Rattle.gw_main.specs.Addresses.{cut, host_from, host_of, address_of};
 
 use super::number::{number_u8, number_u16};
-use sn_flow::Addr;
+use sn_local::Addr;
 
 /// The first place of an octet.
 fn place_of(text: &[u8], mark: u8) -> Option<usize>

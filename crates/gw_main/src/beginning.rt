@@ -17,7 +17,7 @@ use gw_node::{Node, NodeFault};
 use jr_journal::{Disk, JournalFault};
 use octets::{NoMemory, Sequence};
 use rep_model::Replica;
-use sn_flow::Config;
+use sn_local::Config;
 use std::alloc::Global;
 use std::io::Write;
 

@@ -14,7 +14,7 @@ use Rattle.rep_ops.specs.declared.op.Op.TheVariants.{Session as OfSession, Put a
 use Rattle.rep_ops.specs.Orders.{operation_cmp, put_cmp}
 use Rattle.rep_ops.specs.Sets.{same_client, operation_of, operation_at, put_of, put_at}
 use Rattle.rep_model.proofs.Readers.{operation_exact, put_exact, same_client-true}
-use Rattle.sn_flow.proofs.Standing.{IsThere, all-there}
+use Rattle.sn_plan.proofs.Standing.{IsThere, all-there}
 
 head_of : {X : Type 0} (x : X) (xs : List X) → Contains (x ∷ xs) x
 head_of x xs = (0, omega arith, refl)

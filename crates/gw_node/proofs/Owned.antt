@@ -21,7 +21,7 @@ use Rattle.sn_local.specs.Locals.{Local, after_all, owned}
 use Rattle.sn_local.specs.Bindings.{binding_cmp, is_apart, is_of_other, binding_change, bindings_after, address_of, is_stamp_of, is_owned, has_owned}
 use Rattle.sn_local.specs.Timers.{timer_cmp, timer_of, heard_at, sent_at, resent_at, retried_at, timer_change, timers_after, times_owned}
 use Rattle.sn_local.proofs.Entries.{same_client-itself}
-use Rattle.sn_flow.proofs.Entered.{all-entered, all-filtered}
+use Rattle.sn_plan.proofs.Entered.{all-entered, all-filtered}
 use Rattle.gw_node.specs.inner.Tidy.{are_owned, WereOwned, tidied, is_stranger, leaves_all, notes_owned}
 
 -- ---- lists

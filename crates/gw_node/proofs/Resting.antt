@@ -7,8 +7,8 @@ use Rattle.sn_plan.specs.Drafts.{nothing}
 use Rattle.sn_local.specs.Locals.{Local}
 use Rattle.sn_local.specs.Seen.{seen_of}
 use Rattle.sn_plan.specs.Plans.{plan_without}
-use Rattle.sn_deliver.specs.Rest.{is_idle}
-use Rattle.sn_deliver.proofs.Idle.{idle_tick, idle_before}
+use Rattle.sn_tick.specs.Rest.{is_idle}
+use Rattle.sn_tick.proofs.Idle.{idle_tick, idle_before}
 use Rattle.jr_disk.specs.declared.disk.Disk.{Ghosts}
 use Rattle.gw_answer.specs.declared.out.Out.{Out}
 use Rattle.gw_answer.specs.declared.refusal.Refusal.{Refusal}

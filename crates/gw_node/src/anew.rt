@@ -17,7 +17,7 @@ use jr_journal::{Disk, Journal, JournalFault};
 use octets::Sequence;
 use rep_model::Replica;
 use rep_ops::Delta;
-use sn_flow::Dialogs;
+use sn_local::Dialogs;
 use std::alloc::Global;
 
 /// What is kept, as deltas.

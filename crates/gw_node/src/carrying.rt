@@ -22,7 +22,7 @@ use jr_journal::{Disk, Journal, JournalFault};
 use octets::Sequence;
 use rep_model::{Replica, TakeFault};
 use rep_ops::{Delta, Op, OpsFault};
-use sn_flow::Plan;
+use sn_plan::Plan;
 use std::alloc::Global;
 
 /// The delta of these operations.

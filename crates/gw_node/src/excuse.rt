@@ -7,8 +7,9 @@ ghost use Rattle.sn_frame.specs.Grammar.{total_of};
 ghost use Rattle.gw_node.specs.Excuses.{accepts as would_accept, unpublished as unpublished_of, excuse_of as defined_excuse, excuses as defined_excuses};
 
 use octets::{NoMemory, Sequence};
-use sn_flow::{Addr, Draft, Send, plan_without};
 use sn_frame::{Flags, Frame, Qos};
+use sn_local::{Addr, Send};
+use sn_plan::{Draft, plan_without};
 use std::alloc::Global;
 
 /// Return code 1: congestion (MQTT-SN 1.2 section 5.3.10).

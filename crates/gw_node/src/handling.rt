@@ -22,9 +22,11 @@ use octets::Sequence;
 use rep_digest::{Digest, answer, digest_of};
 use rep_model::Replica;
 use rep_ops::{ClientId, OpsFault};
-use sn_deliver::{is_idle, step as plan_step, tick as plan_tick};
-use sn_flow::{Addr, Plan, StepFault};
+use sn_deliver::step as plan_step;
 use sn_frame::{Frame, FrameFault, decode};
+use sn_local::{Addr, StepFault};
+use sn_plan::Plan;
+use sn_tick::{is_idle, tick as plan_tick};
 use std::alloc::Global;
 
 /// The frame that a datagram spells.

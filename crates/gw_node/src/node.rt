@@ -15,7 +15,7 @@ use jr_journal::{Disk, Journal, MemoryDisk};
 use rep_digest::Digest;
 use rep_model::Replica;
 use rep_ops::{ClientId, Delta};
-use sn_flow::{Addr, Config, Dialogs};
+use sn_local::{Addr, Config, Dialogs};
 use std::alloc::Global;
 
 /// A gateway: what it was told, what it keeps of what it has taken, which address is which client, and its journal.

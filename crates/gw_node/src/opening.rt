@@ -19,7 +19,7 @@ use jr_journal::{Disk, Journal, JournalFault};
 use octets::Sequence;
 use rep_model::Replica;
 use rep_ops::Delta;
-use sn_flow::{Config, Dialogs};
+use sn_local::{Config, Dialogs};
 use std::alloc::Global;
 use std::sync::Arc;
 

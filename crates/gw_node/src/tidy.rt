@@ -9,7 +9,7 @@ ghost use Rattle.gw_node.specs.inner.Tidy.{WereOwned, are_owned as each_is_owned
 use octets::Sequence;
 use rep_model::Replica;
 use rep_ops::{ClientId, Op};
-use sn_flow::{Dialogs, LocalChange, is_owned};
+use sn_local::{Dialogs, LocalChange, is_owned};
 
 /// Whether the client has neither an address nor a timer.
 fn is_stranger(dialogs: &Dialogs, client: &ClientId) -> bool

@@ -11,7 +11,7 @@ use super::bytes::bytes;
 use super::fault::LineFault;
 use super::number::{number, number_u8, number_u16};
 use gw_world::Event;
-use sn_flow::Addr;
+use sn_local::Addr;
 use sn_topic::{TopicFault, TopicName};
 use std::alloc::{AllocError, Global};
 

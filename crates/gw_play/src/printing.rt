@@ -13,7 +13,7 @@ use super::text::hexadecimal;
 use gw_world::{Answer, NodeFault, Out, WorldFault};
 use rep_model::ClientView;
 use rep_ops::{ClientId, Delta, Put, Stamp};
-use sn_flow::Send;
+use sn_local::Send;
 use sn_session::{Presence, Session};
 use std::alloc::{AllocError, Global};
 

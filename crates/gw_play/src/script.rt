@@ -10,7 +10,7 @@ use super::command::{Command, cut, read_command};
 use super::fault::{LineFault, ScriptFault};
 use gw_world::Event;
 use octets::{NoMemory, Sequence};
-use sn_flow::Config;
+use sn_local::Config;
 use sn_topic::{Predefined, TopicFault, TopicName};
 use std::alloc::Global;
 

@@ -6,7 +6,7 @@ ghost use Rattle.gw_serve.specs.inner.Queue.{hand, numbers, whole, Balanced};
 
 use crossbeam_channel::protocol::{Join, Lesson, Outcome, Protocol, Split};
 use crossbeam_channel::{Pass, RuledReceiver, RuledSender};
-use sn_flow::Addr;
+use sn_local::Addr;
 use std::collections::LinkedList;
 
 /// A numbered datagram.

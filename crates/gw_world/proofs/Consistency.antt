@@ -13,7 +13,7 @@ use Rattle.rep_model.specs.Keep.{keep}
 use Rattle.rep_model.specs.Taking.{AllAgree}
 use Rattle.rep_model.proofs.Joins.{all-moved}
 use Rattle.sn_local.specs.declared.config.Config.{Config}
-use Rattle.sn_flow.proofs.Lists.{all-weaken}
+use Rattle.sn_plan.proofs.Lists.{all-weaken}
 use Rattle.gw_world.specs.declared.event.Event.{Event}
 use Rattle.gw_world.specs.declared.event.Event.TheVariants.{Frame, Tick, Take, Answer as Asks, WriteFails, Compact, Restart, Show}
 use Rattle.gw_world.specs.declared.event.Answer.{Answer}

@@ -4,7 +4,7 @@ use Rattle.std.specs.List.{AllByRecursion}
 use Rattle.std.proofs.lemmas.Option.{none-some, same_Some}
 use Rattle.rep_ops.specs.declared.op.Op.{Op}
 use Rattle.rep_model.proofs.Joins.{all-left, all-right}
-use Rattle.sn_flow.proofs.Lists.{all-append, all-weaken}
+use Rattle.sn_plan.proofs.Lists.{all-append, all-weaken}
 use Rattle.gw_node.specs.Gateways.{Gateway}
 use Rattle.gw_world.specs.Field.{Field}
 use Rattle.gw_world.specs.Whole.{listed, everything}

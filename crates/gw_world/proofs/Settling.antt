@@ -9,7 +9,7 @@ use Rattle.rep_model.proofs.Joins.{all-moved, same-elements, same_sym, same_tran
 use Rattle.rep_model.proofs.Named.{clients-thin}
 use Rattle.rep_model.proofs.Thin.{thin-same, view-thin}
 use Rattle.sn_local.specs.declared.config.Config.{Config}
-use Rattle.sn_flow.proofs.Lists.{all-append}
+use Rattle.sn_plan.proofs.Lists.{all-append}
 use Rattle.gw_world.specs.declared.event.Event.{Event}
 use Rattle.gw_world.specs.declared.event.Event.TheVariants.{Frame, Tick, Take, Answer as Asks, WriteFails, Compact, Restart, Show}
 use Rattle.gw_world.specs.declared.event.Answer.{Answer}

@@ -12,9 +12,9 @@ use Rattle.sn_plan.specs.declared.plan.Plan.{Plan}
 use Rattle.sn_local.specs.Seen.{seen_of}
 use Rattle.sn_plan.specs.Own.{IsOwn, IsFresh, IsOfDraft}
 use Rattle.sn_plan.specs.Flush.{AreFlush, stamp_of}
-use Rattle.sn_flow.proofs.Lists.{all-append, all-weaken}
-use Rattle.sn_flow.proofs.Names.{plan-own}
-use Rattle.sn_flow.proofs.Stepping.{step-new_operation, step-new_put}
+use Rattle.sn_plan.proofs.Lists.{all-append, all-weaken}
+use Rattle.row_laws.proofs.Names.{plan-own}
+use Rattle.row_laws.proofs.Stepping.{step-new_operation, step-new_put}
 use Rattle.gw_node.specs.Gateways.{Gateway}
 use Rattle.gw_node.specs.Event.{HaveName}
 use Rattle.gw_node.specs.Plans.{IsWritable}

@@ -4,7 +4,7 @@ use Rattle.std.specs.List.{AllByRecursion}
 use Rattle.std.proofs.lemmas.List.Elements.{All-from_recursion, All-contains}
 use Rattle.rep_ops.specs.declared.op.Op.{Op}
 use Rattle.rep_model.proofs.Joins.{all-moved}
-use Rattle.sn_flow.proofs.Lists.{all-append}
+use Rattle.sn_plan.proofs.Lists.{all-append}
 use Rattle.gw_world.specs.declared.event.Event.{Event}
 use Rattle.gw_world.specs.declared.event.Event.TheVariants.{Frame, Tick, Take, Answer as Asks, WriteFails, Compact, Restart, Show}
 use Rattle.gw_world.specs.declared.event.Answer.{Answer}

@@ -4,7 +4,7 @@ use gw_node::{NodeFault, Out};
 use octets::{Octets, Sequence};
 use rep_model::ClientView;
 use rep_ops::ClientId;
-use sn_flow::Addr;
+use sn_local::Addr;
 use std::sync::Arc;
 
 /// What can happen in a field. Gateways go by their numbers.

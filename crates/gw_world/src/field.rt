@@ -17,7 +17,7 @@ use octets::Sequence;
 use rep_digest::Digest;
 use rep_model::{ClientView, Replica};
 use rep_ops::{ClientId, Delta};
-use sn_flow::Addr;
+use sn_local::Addr;
 use std::alloc::Global;
 use std::sync::Arc;
 

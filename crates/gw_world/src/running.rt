@@ -24,7 +24,7 @@ use jr_journal::MemoryDisk;
 use octets::Sequence;
 use rep_model::Replica;
 use rep_ops::Delta;
-use sn_flow::{Addr, Config};
+use sn_local::{Addr, Config};
 use std::alloc::Global;
 use std::sync::Arc;
 

@@ -7,7 +7,7 @@ use gw_node::Node;
 use jr_journal::{MemoryDisk, Slot};
 use octets::Sequence;
 use rep_model::Replica;
-use sn_flow::{Addr, Config};
+use sn_local::{Addr, Config};
 use sn_topic::Predefined;
 use std::alloc::Global;
 use std::mem;

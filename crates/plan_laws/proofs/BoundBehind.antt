@@ -40,16 +40,16 @@ use Rattle.sn_local.specs.Seen.{Seen, seen_of}
 use Rattle.sn_plan.specs.Plans.{plan_of, plan_of_puts, plan_without}
 use Rattle.sn_plan.specs.Rows.{row_of, plan_for}
 use Rattle.sn_local.proofs.Entries.{same_client-itself, visible-there}
-use Rattle.sn_flow.proofs.Known.{same-behind}
-use Rattle.sn_flow.proofs.Lists.{and_then-some, map-some, all-append, all-weaken}
-use Rattle.sn_flow.proofs.Outcomes.{written-shown, session-shown, unchanged-shown, others-shown}
-use Rattle.sn_flow.proofs.Reached.{history-own}
-use Rattle.sn_deliver.specs.declared.due.Due.{Due}
-use Rattle.sn_deliver.specs.declared.due.Due.TheVariants as dues
-use Rattle.sn_deliver.specs.Due.{elapsed, first_due}
-use Rattle.sn_deliver.specs.Following.{peer_at, followed_for, followed, deliver_next}
+use Rattle.row_laws.proofs.Known.{same-behind}
+use Rattle.sn_plan.proofs.Lists.{and_then-some, map-some, all-append, all-weaken}
+use Rattle.row_laws.proofs.Outcomes.{written-shown, session-shown, unchanged-shown, others-shown}
+use Rattle.row_laws.proofs.Reached.{history-own}
+use Rattle.sn_tick.specs.declared.due.Due.{Due}
+use Rattle.sn_tick.specs.declared.due.Due.TheVariants as dues
+use Rattle.sn_tick.specs.Due.{elapsed, first_due}
+use Rattle.sn_exchange.specs.Following.{peer_at, followed_for, followed, deliver_next}
 use Rattle.sn_deliver.specs.Steps.{row_for, step}
-use Rattle.sn_deliver.specs.Ticking.{dialog_ended, dialogs_ended, needs_timer, timer_begun, cleaned, may_advertise, advertised_to, advertised, lost, plan_due, plan_if_due, tick}
+use Rattle.sn_tick.specs.Ticking.{dialog_ended, dialogs_ended, needs_timer, timer_begun, cleaned, may_advertise, advertised_to, advertised, lost, plan_due, plan_if_due, tick}
 use Rattle.plan_laws.specs.BoundUp.{IsClientUp, IsUp}
 use Rattle.plan_laws.proofs.BoundDrafts.{KeepsUp, IsNoBind, BindsTo, BeginsAnew, IsViewUp, Stays, Comes, Goes, Fits, followed-fits}
 use Rattle.plan_laws.proofs.BoundRows.{FitsFor, FitsRow, row-fits}

@@ -26,7 +26,7 @@ use Rattle.sn_local.specs.Bindings.{is_stamp_of}
 use Rattle.sn_plan.specs.Drafts.{Drafted, nothing, changed, changed_if, acked, put_all, sent, moved}
 use Rattle.sn_plan.specs.Names.{name_of}
 use Rattle.sn_plan.specs.Others.{is_up, can_wake}
-use Rattle.sn_flow.proofs.Lists.{all-append}
+use Rattle.sn_plan.proofs.Lists.{all-append}
 use Rattle.sn_exchange.specs.declared.form.Form.{Form}
 use Rattle.sn_exchange.specs.declared.peer.Peer.{Peer}
 use Rattle.sn_exchange.specs.declared.delivery.ToldId.{ToldId}
@@ -34,7 +34,7 @@ use Rattle.sn_exchange.specs.Forms.{form_of, form_again, publication}
 use Rattle.sn_exchange.specs.Exchanges.{so_far, left, put_left, message_of, open_exchange, is_served, is_awake}
 use Rattle.sn_exchange.specs.Delivery.{next_after, Stop, begun, entry_or_fresh, id_to_tell, register_first, deliver_by, and_then, deliver, deliver_left, deliver_if}
 use Rattle.sn_exchange.specs.Resending.{register_by, register_again, publish_by, publish_again, resend_in, resend_if}
-use Rattle.sn_deliver.specs.Following.{followed_by}
+use Rattle.sn_exchange.specs.Following.{followed_by}
 
 -- behind the change a client that was up is up; a Take has it so
 abbrev pub KeepsUp : SessionOp → Type 0

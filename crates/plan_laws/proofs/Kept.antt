@@ -26,10 +26,10 @@ use Rattle.rep_model.proofs.Readers.{operation_exact, put_total}
 use Rattle.sn_plan.specs.Names.{name_of}
 use Rattle.sn_plan.specs.Bound.{session_of as session_seen}
 use Rattle.sn_local.specs.Seen.{seen_of}
-use Rattle.sn_flow.proofs.Lists.{all-weaken}
+use Rattle.sn_plan.proofs.Lists.{all-weaken}
 use Rattle.sn_local.proofs.Entries.{visible-there}
 use Rattle.sn_exchange.specs.Exchanges.{same_name}
-use Rattle.sn_deliver.specs.Laws.{AreApart}
+use Rattle.step_laws.specs.Laws.{AreApart}
 use Rattle.plan_laws.proofs.Sessions.{Fine, IsChange, fine-from, applied-fine, empty-fine}
 
 -- ---- what stands under a name

@@ -9,7 +9,7 @@ use Rattle.sn_session.specs.declared.will.Will.{Will}
 use Rattle.sn_session.specs.declared.will.WillTopic.{WillTopic}
 use Rattle.sn_session.specs.declared.change.SessionOp.{SessionOp}
 use Rattle.sn_session.specs.declared.change.SessionOp.TheVariants.{Take, Presence as SetPresence, Register, Subscribe, Unsubscribe, WillTopic as SetWillTopic, WillMsg, Received, Released, Outbound as SetOutbound}
-use Rattle.sn_flow.proofs.Entered.{all-entered, all-filtered}
+use Rattle.sn_plan.proofs.Entered.{all-entered, all-filtered}
 use Rattle.sn_session.specs.Topics.{unknown, topic_cmp}
 use Rattle.sn_session.specs.Subscriptions.{subscription_cmp}
 use Rattle.sn_session.specs.Wills.{with_will_topic, with_will_message}

@@ -36,9 +36,9 @@ use Rattle.sn_plan.specs.Own.{IsFresh, AreFresh}
 use Rattle.sn_local.specs.Seen.{seen_of}
 use Rattle.sn_plan.specs.Plans.{plan_of}
 use Rattle.sn_local.proofs.Entries.{same_client-itself, at_own}
-use Rattle.sn_flow.proofs.Lists.{and_then-some, map-some, all-append, all-weaken, all-given}
-use Rattle.sn_flow.proofs.Names.{IsWritten, start-written}
-use Rattle.sn_flow.proofs.Planned.{IsNumbered, puts-behind, Parts, planned-parts}
+use Rattle.sn_plan.proofs.Lists.{and_then-some, map-some, all-append, all-weaken, all-given}
+use Rattle.row_laws.proofs.Names.{IsWritten, start-written}
+use Rattle.row_laws.proofs.Planned.{IsNumbered, puts-behind, Parts, planned-parts}
 use Rattle.sn_exchange.specs.Exchanges.{same_name}
 use Rattle.plan_laws.proofs.Sessions.{Fine, IsChange, fine-from, fine-to, applied-fine}
 use Rattle.plan_laws.proofs.Kept.{visible-made, seen-fine}

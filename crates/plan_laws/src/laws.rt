@@ -17,7 +17,7 @@ ghost use Rattle.sn_plan.specs.Others.{is_up};
 ghost use Rattle.sn_plan.specs.Own.{AddsNone};
 ghost use Rattle.sn_local.specs.Seen.{Seen, seen_of};
 ghost use Rattle.sn_deliver.specs.Steps.{step};
-ghost use Rattle.sn_deliver.specs.Ticking.{tick};
+ghost use Rattle.sn_tick.specs.Ticking.{tick};
 ghost use Rattle.plan_laws.specs.KeepsWell.{KeepsWell};
 ghost use Rattle.plan_laws.specs.BoundUp.{IsUp};
 

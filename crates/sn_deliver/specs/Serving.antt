@@ -15,9 +15,9 @@ use Rattle.sn_local.specs.Locals.{Local}
 use Rattle.sn_plan.specs.Bound.{session_of}
 use Rattle.sn_plan.specs.Rows.{row_of, row_of_none, heard_row, turned_away}
 use Rattle.sn_exchange.specs.declared.peer.Peer.{Peer}
-use Rattle.sn_deliver.specs.Following.{peer_at}
+use Rattle.sn_exchange.specs.Following.{peer_at}
 use Rattle.sn_publish.specs.Publishing.{publish, publish_unconnected, pubrel}
-use Rattle.sn_exchange.specs.Acknowledging.{acknowledge}
+use Rattle.sn_deliver.specs.Acknowledging.{acknowledge}
 
 -- a row of the bound client c, which was heard of; Delivery follows
 abbrev pub served : List ℕ → ℕ → Drafted → Row

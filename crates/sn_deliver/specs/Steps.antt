@@ -10,11 +10,11 @@ use Rattle.sn_local.specs.Seen.{Seen}
 use Rattle.sn_local.specs.Locals.{Local}
 use Rattle.sn_flow.specs.Connection.{connect, disconnect}
 use Rattle.sn_flow.specs.Wills.{will_topic, will_msg, will_topic_update, will_msg_update}
-use Rattle.sn_flow.specs.TopicRows.{register, subscribe, unsubscribe}
+use Rattle.sn_subscribe.specs.TopicRows.{register, subscribe, unsubscribe}
 use Rattle.sn_plan.specs.Others.{other}
 use Rattle.sn_deliver.specs.Serving.{publish_in, pubrel_in, ack_in}
 use Rattle.sn_deliver.specs.Waking.{wake}
-use Rattle.sn_deliver.specs.Following.{deliver_next}
+use Rattle.sn_exchange.specs.Following.{deliver_next}
 
 -- the row of a frame that comes to the gateway g from the address a at a moment
 abbrev pub row_for : ℕ → Entries → Seen → Local → Addr → Frame → ℕ → Row

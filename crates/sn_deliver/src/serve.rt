@@ -5,11 +5,11 @@ ghost use Rattle.sn_local.specs.Seen.{seen_of};
 ghost use Rattle.sn_local.specs.Bindings.{client_at as client_of};
 ghost use Rattle.sn_deliver.specs.Serving.{served as served_row, publish_of, publish_in as published_row, pubrel_of, pubrel_in as pubrel_row, acknowledged as acknowledged_draft, ack_of, ack_in as ack_row};
 
-use super::follow::peer_at;
+use super::acknowledging::acknowledge;
 use octets::{NoMemory, Octets};
 use rep_model::Replica;
 use rep_ops::ClientId;
-use sn_exchange::{Peer, acknowledge};
+use sn_exchange::{Peer, peer_at};
 use sn_frame::{Flags, Frame, Qos};
 use sn_local::{Addr, Config, Dialogs};
 use sn_plan::{Draft, Follow, Row, heard_row, session_or, turn_away, unseen, view_or};

@@ -8,18 +8,18 @@ ghost use Rattle.sn_plan.specs.Plans.{Gives};
 ghost use Rattle.sn_flow.specs.Connection.{connect as connect_row};
 ghost use Rattle.sn_deliver.specs.Steps.{row_for as defined_row, step as defined_step};
 
-use super::follow::deliver_next;
 use super::serve::{ack_in, publish_in, pubrel_in};
 use super::waking::{client_id, wake};
 use octets::NoMemory;
 use rep_model::Replica;
+use sn_exchange::deliver_next;
 use sn_flow::{
-    connect, disconnect, register, subscribe, unsubscribe, will_msg, will_msg_update, will_topic,
-    will_topic_update,
+    connect, disconnect, will_msg, will_msg_update, will_topic, will_topic_update,
 };
 use sn_frame::{Flags, Frame};
 use sn_local::{Addr, Config, Dialogs, StepFault};
 use sn_plan::{Plan, Row, other};
+use sn_subscribe::{register, subscribe, unsubscribe};
 use std::alloc::Global;
 
 /// A CONNECT.

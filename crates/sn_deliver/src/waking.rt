@@ -10,13 +10,12 @@ ghost use Rattle.sn_plan.specs.Rows.{row_of, heard_row as heard_row_of};
 ghost use Rattle.rep_ops.specs.ClientIds.{IsClientId};
 ghost use Rattle.sn_deliver.specs.Waking.{claimed as claimed_draft, has_nothing as there_is_nothing, answered as answered_draft, from_sleep as row_from_sleep, from_wake as row_from_wake, woken_by as row_by_state, woken_if as row_of_session, woken as woken_row, wake_of as wake_row_of, wake as wake_row};
 
-use super::due::is_stamp_of;
 use octets::NoMemory;
 use rep_model::{ClientView, Replica};
 use rep_ops::{ClientId, Put};
 use sn_exchange::open_exchange;
 use sn_frame::Frame;
-use sn_local::{Addr, Config, Dialogs};
+use sn_local::{Addr, Config, Dialogs, is_stamp_of};
 use sn_plan::{Draft, Follow, Row, bind_to, heard_row, turn_away, unseen, view_or};
 use sn_session::{Presence, Session, SessionOp};
 use std::alloc::Global;

@@ -7,13 +7,13 @@ ghost use Rattle.std.specs.Vec.{vec_capacity};
 ghost use Rattle.sn_session.specs.Tables.{with_entry};
 ghost use Rattle.sn_session.specs.inner.Tables.{IsPlace};
 ghost use Rattle.sn_local.specs.Bindings.{AreBindings, address_cmp, binding_cmp};
-ghost use Rattle.sn_local.specs.Bindings.{client_at as client_of_address, address_of as address_of_client, bound, unbound, is_apart as is_apart_from, is_of_other as is_of_another, is_owned as is_owned_at, has_owned as has_owned_client, owned_bindings};
+ghost use Rattle.sn_local.specs.Bindings.{client_at as client_of_address, address_of as address_of_client, bound, unbound, is_apart as is_apart_from, is_of_other as is_of_another, is_stamp_of as is_stamp_of_gateway, is_owned as is_owned_at, has_owned as has_owned_client, owned_bindings};
 ghost use Rattle.sn_local.specs.Seen.{seen_of};
 
 use super::config::Addr;
 use super::local::Binding;
 use rep_model::Replica;
-use rep_ops::ClientId;
+use rep_ops::{ClientId, Stamp};
 
 /// Whether a binding has neither the address nor the client.
 fn is_apart(address: Addr, client: &ClientId, binding: &Binding) -> bool
@@ -123,6 +123,16 @@ pub fn address_of(bindings: &[Binding], client: &ClientId) -> Option<Addr>
         }
     }
     None
+}
+
+/// Whether a stamp is the gateway's.
+pub fn is_stamp_of(gateway: u8, stamp: Option<Stamp>) -> bool
+    ensures { result ≡ is_stamp_of_gateway gateway stamp }
+{
+    match stamp {
+        None => false,
+        Some(stamp) => stamp.gateway == gateway,
+    }
 }
 
 /// Whether the gateway owns the client.

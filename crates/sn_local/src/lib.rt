@@ -18,7 +18,7 @@ mod local;
 mod timers;
 mod will_dialogs;
 
-pub use bindings::is_owned;
+pub use bindings::{is_owned, is_stamp_of};
 pub use config::{Addr, Config, Send};
 pub use fault::StepFault;
 pub use local::{Awaited, Binding, Dialogs, LocalChange, Request, Timer, WillDialog};

@@ -3,7 +3,7 @@
 use gw_main::options::Settings;
 use gw_run::{Link, Origin, Phase, Pool, Stage};
 use gw_wire::address;
-use sn_flow::Addr;
+use sn_local::Addr;
 use std::alloc::Global;
 use std::net::{Net, TcpListener, TcpStream};
 use std::sync::Wait;

@@ -10,7 +10,7 @@ use gw_node::Node;
 use gw_wire::address;
 use jr_journal::{Disk, MemoryDisk};
 use rep_plain::Plain;
-use sn_flow::Addr;
+use sn_local::Addr;
 use std::alloc::{AllocError, Global};
 use std::fs::{File, Files};
 

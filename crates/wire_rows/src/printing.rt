@@ -7,7 +7,7 @@ use crate::wire::Coming;
 use gw_node::{Answer, NodeFault, Step};
 use gw_serve::Taken;
 use gw_shift::Entry;
-use sn_flow::{Addr, Send as Sending};
+use sn_local::{Addr, Send as Sending};
 use std::alloc::{AllocError, Global};
 
 /// Octets in hexadecimal digits, `-` for none.

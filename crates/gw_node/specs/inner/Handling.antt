@@ -10,8 +10,8 @@ use Rattle.sn_plan.specs.declared.plan.Plan.{Plan}
 use Rattle.sn_local.specs.Seen.{seen_of}
 use Rattle.sn_local.specs.Locals.{no_local}
 use Rattle.sn_deliver.specs.Steps.{step}
-use Rattle.sn_deliver.specs.Rest.{is_idle}
-use Rattle.sn_deliver.specs.Ticking.{tick}
+use Rattle.sn_tick.specs.Rest.{is_idle}
+use Rattle.sn_tick.specs.Ticking.{tick}
 use Rattle.jr_disk.specs.declared.disk.Disk.{Ghosts}
 use Rattle.jr_journal.specs.Parts.{disk_of, gateway_of}
 use Rattle.gw_answer.specs.declared.out.Out.{Out}
