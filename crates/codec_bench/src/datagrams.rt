@@ -47,7 +47,7 @@ const SHAPES: [Shape; 32] = [
 ];
 
 /// The stream. One datagram in four has the long form of Length where the short one would do.
-pub fn stream(alloc: Global) -> Result<Vec<Vec<u8>>, AllocError> {
+pub(crate) fn stream(alloc: Global) -> Result<Vec<Vec<u8>>, AllocError> {
     let mut numbers = Numbers::new();
     let mut made = Vec::new(alloc);
     for _ in 0..COUNT {

@@ -10,7 +10,7 @@ use std::alloc::Global;
 
 /// Makes the digest of what the one gateway has, and the other's answer to it, so often, and says how large they are beside all that
 /// the other holds.
-pub fn run(alloc: Global, rounds: u32) -> Result<String> {
+pub(crate) fn run(alloc: Global, rounds: u32) -> Result<String> {
     let asker = asker(alloc)?;
     let peer = peer(alloc)?;
     for _ in 0..rounds {

@@ -26,7 +26,7 @@ const STAMP: Stamp = Stamp {
 };
 
 /// All of them.
-pub fn operations(alloc: Global) -> Result<Vec<Op>, OpsFault> {
+pub(crate) fn operations(alloc: Global) -> Result<Vec<Op>, OpsFault> {
     let mut ops = Vec::new(alloc);
     let mut numbers = Numbers::new();
     for client in 0..CLIENTS {
@@ -45,7 +45,7 @@ pub fn operations(alloc: Global) -> Result<Vec<Op>, OpsFault> {
 }
 
 /// One change of one client's session.
-pub fn presence(alloc: Global) -> Result<Vec<Op>, OpsFault> {
+pub(crate) fn presence(alloc: Global) -> Result<Vec<Op>, OpsFault> {
     let mut ops = Vec::new(alloc);
     ops.push(change(alloc, 0, 1)?)?;
     Ok(ops)

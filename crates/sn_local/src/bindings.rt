@@ -140,10 +140,7 @@ pub fn is_owned<R: Replica>(gateway: u8, replica: &R, client: &ClientId) -> bool
     ensures { result ≡ is_owned_at gateway (seen_of (R.kept replica.now)) client.now }
 {
     match replica.view_of(client) {
-        Some(view) => match view.stamp {
-            Some(stamp) => stamp.gateway == gateway,
-            None => false,
-        },
+        Some(view) => is_stamp_of(gateway, view.stamp),
         None => false,
     }
 }
