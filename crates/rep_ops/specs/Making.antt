@@ -1,13 +1,14 @@
 -- Which operations make a delta, and why others make none.
 use Rattle.std.specs.Prelude.{◌<◌, List, length, IsTrue}
 use Rattle.std.specs.List.{AllByRecursion}
-use Rattle.rep_ops.specs.declared.fault.OpsFault.{OpsFault}
-use Rattle.rep_ops.specs.declared.fault.OpsFault.TheVariants as faults
-use Rattle.rep_ops.specs.declared.op.Op.{Op}
-use Rattle.rep_ops.specs.Deltas.{IsDelta, HasTwice}
-use Rattle.rep_ops.specs.Sets.{Same}
+use Rattle.rep_op.specs.declared.fault.OpsFault.{OpsFault}
+use Rattle.rep_op.specs.declared.fault.OpsFault.TheVariants as faults
+use Rattle.rep_op.specs.declared.op.Op.{Op}
+use Rattle.rep_ops.specs.Deltas.{IsDelta}
+use Rattle.rep_op.specs.Orders.{HasTwice}
+use Rattle.rep_op.specs.Sets.{Same}
 use Rattle.rep_ops.specs.Spelling.{spelling, max_octets}
-use Rattle.rep_ops.specs.WellMade.{is_well_made}
+use Rattle.rep_op.specs.WellMade.{is_well_made}
 
 abbrev pub AreWellMade : List Op → Type 0
 AreWellMade ops = AllByRecursion (λ op. IsTrue (is_well_made op)) ops

@@ -1,23 +1,24 @@
 //! A set of operations that travels in one piece.
 
 ghost use Rattle.std.specs.Prelude.{◌≡◌, ◌≢◌, ◌⊎◌, ◌<◌, ◌≤◌, ◌==◌, ℕ, List, [], Ok, Err, ◌++◌, length, IfOk, IfErr, OnOk, OnErr, ◌↔◌};
-ghost use Rattle.rep_ops.specs.Deltas.{IsDelta, HasTwice};
+ghost use Rattle.rep_ops.specs.Deltas.{IsDelta};
+ghost use Rattle.rep_op.specs.Orders.{HasTwice};
 ghost use Rattle.rep_ops.specs.inner.Joining.{joined};
 ghost use Rattle.rep_ops.specs.Making.{AreWellMade, AreApart, IsDeltaOf, IsRefusal};
 ghost use Rattle.rep_ops.specs.Formats.{IsSpelled};
-ghost use Rattle.rep_ops.specs.Reading.{Gives, reading, AreOctets};
-ghost use Rattle.rep_ops.specs.Sets.{Same};
-ghost use Rattle.rep_ops.specs.Values.{AreValues};
+ghost use Rattle.rep_octets.specs.Reading.{Gives};
+ghost use Rattle.rep_ops.specs.Reading.{reading, AreOctets};
+ghost use Rattle.rep_op.specs.Sets.{Same};
+ghost use Rattle.rep_op.specs.Values.{AreValues};
 ghost use Rattle.rep_ops.specs.Spelling.{spelling, max_octets, IsWithinLimit};
-ghost use Rattle.rep_ops.specs.declared.op.Op.{Op};
+ghost use Rattle.rep_op.specs.declared.op.Op.{Op};
 
-use super::fault::OpsFault;
 use super::join::{has_twice, join_names, sort_by_name};
-use super::op::Op;
 use super::read::read_delta;
 use super::size::{are_well_made, is_within_limit};
 use super::write::write_delta;
 use octets::NoMemory;
+use rep_op::{Op, OpsFault};
 use std::alloc::Global;
 use std::marker::Model;
 
@@ -30,10 +31,10 @@ pub struct Delta {
 
 impl Model for Delta {
     ghost use Rattle.std.specs.Prelude.{List};
-    ghost use Rattle.rep_ops.specs.declared.op.Op.{Op};
+    ghost use Rattle.rep_op.specs.declared.op.Op.{Op};
     ghost use Rattle.rep_ops.specs.Deltas.{IsDelta};
     ghost use Rattle.rep_ops.specs.Spelling.{IsWithinLimit};
-    ghost use Rattle.rep_ops.specs.Values.{AreValues};
+    ghost use Rattle.rep_op.specs.Values.{AreValues};
 
     ghost Value = { List Op };
 

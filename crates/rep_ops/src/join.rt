@@ -4,14 +4,12 @@ ghost use Rattle.std.specs.Prelude.{◌≡◌, ◌<◌, ◌+◌, ℕ, IsTrue, Is
 ghost use Rattle.std.specs.List.{AllAdjacentBelow};
 ghost use Rattle.std.specs.List.Sorted.{IsPermutation, IsSortedBy, IsStableBy};
 ghost use Rattle.std.specs.Ordering.{is_lt};
-ghost use Rattle.rep_ops.specs.Deltas.{ShareName, HasTwice};
-ghost use Rattle.rep_ops.specs.declared.op.Op.{Op};
+ghost use Rattle.rep_op.specs.Orders.{ShareName, HasTwice, name_cmp};
+ghost use Rattle.rep_op.specs.declared.op.Op.{Op};
 ghost use Rattle.rep_ops.specs.inner.Joining.{joins as join_test, united as united_op, joined as all_joined};
-ghost use Rattle.rep_ops.specs.Orders.{name_cmp};
 
-use super::op::Op;
-use super::order::{name_order, share_name};
 use octets::NoMemory;
+use rep_op::{Op, name_order, share_name};
 use std::alloc::Global;
 
 /// Sorts operations by their names.

@@ -7,10 +7,9 @@ ghost use Rattle.rep_ops.specs.Splitting.{IsSplit, AreDeltasOf};
 
 use super::delta::Delta;
 use super::join::{join_names, sort_stably};
-use super::op::Op;
 use super::size::{MAX_OCTETS, op_size};
-use super::value::is_value;
 use octets::NoMemory;
+use rep_op::{Op, is_value};
 use std::alloc::Global;
 use std::mem;
 

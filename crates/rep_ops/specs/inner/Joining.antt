@@ -2,9 +2,9 @@
 -- overlap or touch are one.
 use Rattle.std.specs.Prelude.{◌+◌, ◌==◌, Bool, ◌&&◌, if◌then◌else◌, List, [], ◌∷◌, bytes_eq, nat_le, max}
 use Rattle.std.specs.Ordering.{is_eq}
-use Rattle.rep_ops.specs.declared.op.Op.{Op}
-use Rattle.rep_ops.specs.declared.op.Op.TheVariants.{Ack}
-use Rattle.rep_ops.specs.Orders.{name_cmp}
+use Rattle.rep_op.specs.declared.op.Op.{Op}
+use Rattle.rep_op.specs.declared.op.Op.TheVariants.{Ack}
+use Rattle.rep_op.specs.Orders.{name_cmp}
 
 -- the second operation has the name of the first, or is a range of its client and origin that begins within it or right behind
 abbrev pub joins : Op → Op → Bool
