@@ -4,11 +4,11 @@ ghost use Rattle.std.specs.Prelude.{◌≡◌, ◌⊎◌, [], ◌++◌, ℕ, Boo
 ghost use Rattle.std.specs.List.{AllByRecursion};
 ghost use Rattle.sn_session.specs.declared.session.Session.{Session};
 ghost use Rattle.sn_session.specs.declared.change.SessionOp.{SessionOp};
-ghost use Rattle.rep_ops.specs.declared.op.Stamp.{Stamp};
-ghost use Rattle.rep_ops.specs.declared.op.Op.{Op};
-ghost use Rattle.rep_ops.specs.declared.op.Op.TheVariants.{Session as OfSession};
+ghost use Rattle.rep_op.specs.declared.op.Stamp.{Stamp};
+ghost use Rattle.rep_op.specs.declared.op.Op.{Op};
+ghost use Rattle.rep_op.specs.declared.op.Op.TheVariants.{Session as OfSession};
 ghost use Rattle.rep_ops.specs.Making.{AreApart};
-ghost use Rattle.rep_ops.specs.Sets.{operation_at, Same};
+ghost use Rattle.rep_op.specs.Sets.{operation_at, Same};
 ghost use Rattle.sn_local.specs.declared.config.Addr.{Addr};
 ghost use Rattle.sn_local.specs.declared.config.Config.{Config};
 ghost use Rattle.sn_plan.specs.declared.plan.Plan.{Plan};

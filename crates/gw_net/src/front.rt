@@ -2,7 +2,8 @@
 
 ghost use Rattle.std.specs.Prelude.{◌≡◌, Ok, Err, MatchOption};
 ghost use Rattle.std.specs.Int.{w32};
-ghost use Rattle.rep_ops.specs.Reading.{number_at, reading as delta_reading};
+ghost use Rattle.rep_octets.specs.Reading.{number_at};
+ghost use Rattle.rep_ops.specs.Reading.{reading as delta_reading};
 ghost use Rattle.rep_digest.specs.Reading.{reading as digest_reading};
 ghost use Rattle.gw_net.specs.declared.message.LinkMessage.TheVariants.{Digest as OfDigest, Delta as OfDelta};
 ghost use Rattle.gw_net.specs.Messages.{hello_at, read_or_none, message_at};

@@ -3,11 +3,11 @@ use Rattle.std.proofs.Common.{◌≡◌, ℕ, Bool, true, false, cond, not, ◌&
 use Rattle.std.specs.List.{list_all, list_any, cons_option}
 use Rattle.std.proofs.lemmas.Bool.{and_parts, and_from, or_right}
 use Rattle.std.proofs.lemmas.List.Elements.{filter_map-append}
-use Rattle.rep_ops.specs.declared.op.Stamp.{Stamp}
-use Rattle.rep_ops.specs.declared.op.Op.{Op}
-use Rattle.rep_ops.specs.declared.op.Op.TheVariants.{Session as OfSession, Put as OfPut, Ack}
-use Rattle.rep_ops.specs.Orders.{stamp_cmp}
-use Rattle.rep_ops.specs.Sets.{same_client, operation_of, operations}
+use Rattle.rep_op.specs.declared.op.Stamp.{Stamp}
+use Rattle.rep_op.specs.declared.op.Op.{Op}
+use Rattle.rep_op.specs.declared.op.Op.TheVariants.{Session as OfSession, Put as OfPut, Ack}
+use Rattle.rep_op.specs.Orders.{stamp_cmp}
+use Rattle.rep_op.specs.Sets.{same_client, operation_of, operations}
 use Rattle.rep_model.specs.Views.{greatest, take_stamp, names, visible}
 use Rattle.rep_model.specs.Keep.{IsKeptOf}
 use Rattle.rep_model.proofs.Readers.{same_client-true}

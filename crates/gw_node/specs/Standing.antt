@@ -1,6 +1,6 @@
 -- Nodes, and the gateways that they stand for.
 use Rattle.std.specs.Prelude.{◌≡◌, ℕ, false, IsTrue, List, [], Option, Some, Result, Ok, Err}
-use Rattle.rep_ops.specs.declared.op.Op.{Op}
+use Rattle.rep_op.specs.declared.op.Op.{Op}
 use Rattle.rep_ops.specs.Making.{IsDeltaOf}
 use Rattle.rep_model.specs.Taking.{AllAgree}
 use Rattle.sn_plan.specs.declared.plan.Plan.{Plan}

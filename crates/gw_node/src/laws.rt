@@ -1,7 +1,7 @@
 //! What an opening finds that goes on with what was taken.
 
 ghost use Rattle.std.specs.Prelude.{◌≡◌, ℕ, List};
-ghost use Rattle.rep_ops.specs.declared.op.Op.{Op};
+ghost use Rattle.rep_op.specs.declared.op.Op.{Op};
 ghost use Rattle.jr_disk.specs.Disk.{Image};
 ghost use Rattle.jr_journal.specs.Records.{records};
 ghost use Rattle.gw_answer.specs.declared.refusal.Refusal.{Refusal};

@@ -36,7 +36,7 @@ pub struct Node<R: Replica, D: Disk> {
 
 impl<R: Replica, D: Disk + Drop> Node<R, D> {
     ghost use Rattle.std.specs.Prelude.{◌≡◌, ◌≤◌, ◌<◌, ◌++◌, List, [], None, true, false, length, IfOk, IfErr, OnOk, IsTrue, MatchResult};
-    ghost use Rattle.rep_ops.specs.declared.op.Op.{Op};
+    ghost use Rattle.rep_op.specs.declared.op.Op.{Op};
     ghost use Rattle.rep_model.specs.Keep.{CountsAs};
     ghost use Rattle.rep_model.specs.Held.{IsHeld};
     ghost use Rattle.rep_model.specs.Views.{clients as clients_of};

@@ -2,7 +2,7 @@
 
 ghost use Rattle.std.specs.Prelude.{◌≡◌, ◌+◌, ◌<◌, ◌^◌, ◌++◌, ◌∷◌, [], List, IfOk, MatchOption, None, Some, length, take};
 ghost use Rattle.std.specs.Arc.{arc_value};
-ghost use Rattle.rep_ops.specs.declared.op.Op.{Op};
+ghost use Rattle.rep_op.specs.declared.op.Op.{Op};
 ghost use Rattle.gw_answer.specs.Answers.{said};
 ghost use Rattle.gw_shift.specs.inner.Passes.{made_of, made_after, told_by};
 

@@ -1,7 +1,7 @@
 //! Laws of closing.
 
 ghost use Rattle.std.specs.Prelude.{ℕ, List, ◌∷◌, ◌++◌};
-ghost use Rattle.rep_ops.specs.declared.op.Op.{Op};
+ghost use Rattle.rep_op.specs.declared.op.Op.{Op};
 ghost use Rattle.gw_shift.specs.Calls.{Call, Holder};
 ghost use Rattle.gw_shift.specs.Closing.{Accounts, AreKnown, IsStrange, unused};
 

@@ -2,7 +2,7 @@
 
 ghost use Rattle.std.specs.Prelude.{◌≡◌, ◌≤◌, ◌<◌, ℕ, IfOk, IfErr, Ok, length, vec_capacity, List, []};
 ghost use Rattle.std.specs.Arc.{arc_value};
-ghost use Rattle.rep_ops.specs.declared.op.Op.{Op};
+ghost use Rattle.rep_op.specs.declared.op.Op.{Op};
 ghost use Rattle.rep_model.specs.Held.{IsHeld};
 ghost use Rattle.gw_node.specs.Parts.{state_of};
 ghost use Rattle.gw_shift.specs.declared.shift.TheConstants.{MAX_STEPS};

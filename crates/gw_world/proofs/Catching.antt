@@ -3,8 +3,8 @@ use Rattle.std.proofs.Common.{◌≡◌, Bool, ℕ, zero, suc, ◌⊎◌, ◌↔
 use Rattle.std.proofs.lemmas.List.Concat.{flat_map-append}
 use Rattle.std.proofs.lemmas.List.Elements.{All-from_recursion, All-contains, Contains-append_left, Contains-append_right}
 use Rattle.std.proofs.lemmas.Option.{none-some, same_Some}
-use Rattle.rep_ops.specs.declared.op.Op.{Op}
-use Rattle.rep_ops.specs.Sets.{Within, Same}
+use Rattle.rep_op.specs.declared.op.Op.{Op}
+use Rattle.rep_op.specs.Sets.{Within, Same}
 use Rattle.rep_ops.specs.Splitting.{all_of}
 use Rattle.rep_model.specs.Keep.{keep, CountsAs}
 use Rattle.rep_model.proofs.Joins.{all-moved, all-both, same_sym, same_trans, same-absorbed, same-elements}

@@ -3,10 +3,10 @@ use Rattle.std.proofs.Common.{◌≡◌, ℕ, zero, suc, ◌⊎◌, List, [], �
 use Rattle.std.specs.List.{AllByRecursion}
 use Rattle.std.proofs.lemmas.List.Elements.{All-from_recursion, All-contains}
 use Rattle.std.proofs.lemmas.Option.{none-some, same_Some}
-use Rattle.rep_ops.specs.declared.op.Op.{Op}
-use Rattle.rep_ops.specs.declared.op.Op.TheVariants.{Session as OfSession, Put as OfPut, Ack}
+use Rattle.rep_op.specs.declared.op.Op.{Op}
+use Rattle.rep_op.specs.declared.op.Op.TheVariants.{Session as OfSession, Put as OfPut, Ack}
 use Rattle.rep_ops.specs.Deltas.{IsDelta}
-use Rattle.rep_ops.specs.Sets.{operation_at, put_at, Stands}
+use Rattle.rep_op.specs.Sets.{operation_at, put_at, Stands}
 use Rattle.rep_model.proofs.Joins.{all-moved}
 use Rattle.sn_plan.specs.declared.plan.Plan.{Plan}
 use Rattle.sn_local.specs.Seen.{seen_of}

@@ -1,10 +1,10 @@
 //! The laws of a field. Each function does nothing; its contract is a law, proved for all runs.
 
 ghost use Rattle.std.specs.Prelude.{◌≡◌, ℕ, ◌⊎◌, ◌↔◌, List, ◌++◌, Some, None, Ok, Err, IfSome, Contains, slice_get};
-ghost use Rattle.rep_ops.specs.declared.op.Op.{Op};
+ghost use Rattle.rep_op.specs.declared.op.Op.{Op};
 ghost use Rattle.rep_ops.specs.Deltas.{IsDelta};
 ghost use Rattle.rep_ops.specs.Making.{IsDeltaOf};
-ghost use Rattle.rep_ops.specs.Sets.{IsConsistent, Within, Same};
+ghost use Rattle.rep_op.specs.Sets.{IsConsistent, Within, Same};
 ghost use Rattle.rep_ops.specs.Splitting.{all_of};
 ghost use Rattle.rep_model.specs.Keep.{keep, CountsAs};
 ghost use Rattle.rep_model.specs.Taking.{AllAgree};

@@ -11,7 +11,7 @@ ghost use Rattle.gw_node.specs.Gateways.{new_gateway};
 ghost use Rattle.gw_world.specs.Keeping.{IsShown, AreShown};
 ghost use Rattle.gw_node.specs.Plans.{IsWritable};
 ghost use Rattle.gw_world.specs.Worlds.{IsWorld, IsStop};
-ghost use Rattle.rep_ops.specs.declared.op.Op.{Op};
+ghost use Rattle.rep_op.specs.declared.op.Op.{Op};
 
 use super::event::{Answer, Event};
 use super::field::{

@@ -15,7 +15,7 @@ use Rattle.sn_session.specs.Subscriptions.{subscription_cmp}
 use Rattle.sn_session.specs.Wills.{with_will_topic, with_will_message}
 use Rattle.sn_session.specs.Session.{empty_session, is_full, changed, applied}
 use Rattle.sn_session.specs.Levels.{is_qos}
-use Rattle.rep_ops.specs.Ranges.{is_message, is_topic, is_subscription, is_will, is_will_topic, is_exchange, is_session, is_change}
+use Rattle.rep_op.specs.Ranges.{is_message, is_topic, is_subscription, is_will, is_will_topic, is_exchange, is_session, is_change}
 
 -- the parts of a session in range
 pub record Fine (s : Session) : Type 0 where

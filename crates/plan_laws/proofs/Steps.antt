@@ -12,12 +12,12 @@ use Rattle.sn_session.specs.declared.change.SessionOp.TheVariants.{Presence}
 use Rattle.sn_frame.specs.declared.frame.Frame.{Frame}
 use Rattle.sn_frame.specs.declared.frame.Frame.TheVariants as frames
 use Rattle.sn_frame.specs.FlagBits.{qos_of}
-use Rattle.rep_ops.specs.declared.op.Op.{Op}
+use Rattle.rep_op.specs.declared.op.Op.{Op}
 use Rattle.rep_ops.specs.Making.{AreWellMade, AreApart}
 use Rattle.sn_session.specs.Levels.{is_qos}
-use Rattle.rep_ops.specs.Ranges.{is_message, is_will}
-use Rattle.rep_ops.specs.Sets.{Same}
-use Rattle.rep_ops.specs.WellMade.{is_well_made}
+use Rattle.rep_op.specs.Ranges.{is_message, is_will}
+use Rattle.rep_op.specs.Sets.{Same}
+use Rattle.rep_op.specs.WellMade.{is_well_made}
 use Rattle.rep_model.specs.Views.{view, clients}
 use Rattle.sn_local.specs.declared.config.Addr.{Addr}
 use Rattle.sn_plan.specs.declared.draft.NewPut.{NewPut}

@@ -11,16 +11,15 @@ use Rattle.sn_session.specs.declared.session.Session.{Session}
 use Rattle.sn_session.specs.declared.change.SessionOp.{SessionOp}
 use Rattle.sn_session.specs.declared.change.SessionOp.TheVariants.{Take, Presence as SetPresence, Register, Subscribe, Unsubscribe, WillTopic as SetWillTopic, WillMsg, Received, Released, Outbound as SetOutbound}
 use Rattle.sn_session.specs.Session.{applied, empty_session, is_take}
-use Rattle.rep_ops.specs.declared.op.Stamp.{Stamp}
-use Rattle.rep_ops.specs.declared.op.Put.{Put}
-use Rattle.rep_ops.specs.declared.op.Op.{Op}
-use Rattle.rep_ops.specs.declared.op.Op.TheVariants.{Session as OfSession, Put as OfPut, Ack}
-use Rattle.rep_ops.specs.Deltas.{ShareName, HasTwice}
+use Rattle.rep_op.specs.declared.op.Stamp.{Stamp}
+use Rattle.rep_op.specs.declared.op.Put.{Put}
+use Rattle.rep_op.specs.declared.op.Op.{Op}
+use Rattle.rep_op.specs.declared.op.Op.TheVariants.{Session as OfSession, Put as OfPut, Ack}
+use Rattle.rep_op.specs.Orders.{ShareName, HasTwice, put_cmp}
 use Rattle.rep_ops.specs.Making.{AreWellMade, AreApart}
-use Rattle.rep_ops.specs.Ranges.{is_change, is_session}
-use Rattle.rep_ops.specs.Orders.{put_cmp}
-use Rattle.rep_ops.specs.Sets.{operation_at, put_at}
-use Rattle.rep_ops.specs.WellMade.{is_stamp, is_counted, is_put, is_well_made}
+use Rattle.rep_op.specs.Ranges.{is_change, is_session}
+use Rattle.rep_op.specs.Sets.{operation_at, put_at}
+use Rattle.rep_op.specs.WellMade.{is_stamp, is_counted, is_put, is_well_made}
 use Rattle.rep_ops.proofs.Rising.{all_at}
 use Rattle.rep_model.specs.declared.view.ClientView.{ClientView}
 use Rattle.rep_model.specs.Fresh.{one_more, next_epoch, next_seq, greatest_epoch, largest, seq_of}

@@ -1,7 +1,7 @@
 -- What holds of the clients that are bound at a gateway.
 use Rattle.std.specs.Prelude.{◌≡◌, ℕ, true, List}
 use Rattle.std.specs.List.{AllByRecursion}
-use Rattle.rep_ops.specs.declared.op.Op.{Op}
+use Rattle.rep_op.specs.declared.op.Op.{Op}
 use Rattle.rep_model.specs.Views.{view}
 use Rattle.sn_local.specs.declared.local.Binding.{Binding}
 use Rattle.sn_local.specs.Bindings.{is_owned}

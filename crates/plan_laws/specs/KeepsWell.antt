@@ -1,7 +1,7 @@
 -- What holds of a gateway in every run, and what its plans are made from.
 use Rattle.std.specs.Prelude.{ℕ, ◌≤◌, Bool, true, List, IsTrue}
 use Rattle.std.specs.List.{AllByRecursion}
-use Rattle.rep_ops.specs.declared.op.Op.{Op}
+use Rattle.rep_op.specs.declared.op.Op.{Op}
 use Rattle.rep_ops.specs.Making.{AreWellMade}
 use Rattle.sn_session.specs.Levels.{is_qos}
 use Rattle.sn_local.specs.declared.local.Awaited.{Awaited}

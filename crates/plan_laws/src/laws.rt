@@ -4,8 +4,8 @@ ghost use Rattle.std.specs.Prelude.{◌≡◌, ℕ, ◌≤◌, ◌++◌, true, L
 ghost use Rattle.sn_topic.specs.Table.{Entries};
 ghost use Rattle.sn_session.specs.declared.session.Session.{Session};
 ghost use Rattle.sn_frame.specs.declared.frame.Frame.{Frame};
-ghost use Rattle.rep_ops.specs.declared.op.Op.{Op};
-ghost use Rattle.rep_ops.specs.Sets.{Same};
+ghost use Rattle.rep_op.specs.declared.op.Op.{Op};
+ghost use Rattle.rep_op.specs.Sets.{Same};
 ghost use Rattle.rep_ops.specs.Making.{AreApart, AreWellMade, IsDeltaOf};
 ghost use Rattle.rep_model.specs.Views.{view};
 ghost use Rattle.sn_local.specs.declared.config.Addr.{Addr};

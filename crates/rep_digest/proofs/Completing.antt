@@ -1,9 +1,9 @@
 -- An answer completes: with it the asker keeps what it would keep with all that the answerer has.
 use Rattle.std.proofs.Common.{◌≡◌, ℕ, Bool, true, false, cond, not, ◌&&◌, ◌||◌, if◌then◌else◌, List, ◌++◌, map, filter, length, Option, Some, None, is_some, refl, sym, ap, ◌∙◌, true≢false}
 use Rattle.std.proofs.lemmas.Bool.{false_from_ne_true}
-use Rattle.rep_ops.specs.declared.op.Stamp.{Stamp}
-use Rattle.rep_ops.specs.declared.op.Op.{Op}
-use Rattle.rep_ops.specs.Sets.{operation_at, put_at, is_acknowledged, Same}
+use Rattle.rep_op.specs.declared.op.Stamp.{Stamp}
+use Rattle.rep_op.specs.declared.op.Op.{Op}
+use Rattle.rep_op.specs.Sets.{operation_at, put_at, is_acknowledged, Same}
 use Rattle.rep_model.specs.Views.{visible, history}
 use Rattle.rep_model.specs.Keep.{is_below, keep, CountsAs}
 use Rattle.rep_model.proofs.Lookup.{or_else}

@@ -7,11 +7,11 @@ use Rattle.std.specs.FinMap.{find}
 use Rattle.std.proofs.lemmas.Bool.{and_parts, ltb-true}
 use Rattle.std.proofs.lemmas.Cmp.{tied_itself}
 use Rattle.sn_session.specs.declared.change.SessionOp.{SessionOp}
-use Rattle.rep_ops.specs.declared.op.Stamp.{Stamp}
-use Rattle.rep_ops.specs.declared.op.Put.{Put}
-use Rattle.rep_ops.specs.declared.op.Op.{Op}
-use Rattle.rep_ops.specs.Orders.{stamp_cmp, put_cmp}
-use Rattle.rep_ops.specs.Sets.{same_client, operation_at, put_at, is_acknowledged}
+use Rattle.rep_op.specs.declared.op.Stamp.{Stamp}
+use Rattle.rep_op.specs.declared.op.Put.{Put}
+use Rattle.rep_op.specs.declared.op.Op.{Op}
+use Rattle.rep_op.specs.Orders.{stamp_cmp, put_cmp}
+use Rattle.rep_op.specs.Sets.{same_client, operation_at, put_at, is_acknowledged}
 use Rattle.rep_model.specs.Views.{gapless, then_more, visible, history_at, history, pending, clients}
 use Rattle.rep_model.specs.Keep.{is_below}
 use Rattle.rep_model.specs.Limits.{is_in_prefix}

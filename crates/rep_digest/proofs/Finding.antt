@@ -1,7 +1,7 @@
 -- Where the entry of a client is found.
 use Rattle.std.proofs.Common.{◌≡◌, ℕ, true, false, List, [], ◌∷◌, get_or, Some, None, sym, ap, subst, ◌∙◌, Bool, cond, is_some, true≢false, Less, Equal, Greater, is_eq, is_lt, refl}
-use Rattle.rep_ops.specs.Orders.{client_cmp}
-use Rattle.rep_ops.specs.Sets.{same_client}
+use Rattle.rep_op.specs.Orders.{client_cmp}
+use Rattle.rep_op.specs.Sets.{same_client}
 use Rattle.rep_model.proofs.Readers.{client_total}
 use Rattle.std.specs.Cmp.{on_total}
 use Rattle.std.proofs.lemmas.Bool.{and_from}

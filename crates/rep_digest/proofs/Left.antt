@@ -6,17 +6,17 @@ use Rattle.std.specs.FinMap.{find}
 use Rattle.std.specs.FinMap.Entries.{find-where_key}
 use Rattle.std.proofs.lemmas.Bool.{and_parts, and_from}
 use Rattle.std.proofs.lemmas.List.Folds.{list_any-append}
-use Rattle.rep_ops.specs.declared.op.Stamp.{Stamp}
-use Rattle.rep_ops.specs.declared.op.Op.{Op}
-use Rattle.rep_ops.specs.declared.op.Op.TheVariants.{Session as OfSession, Put as OfPut, Ack}
-use Rattle.rep_ops.specs.Orders.{operation_cmp, put_cmp}
-use Rattle.rep_ops.specs.Sets.{same_client, operation_of, operations, operation_at, put_of, puts, put_at, acknowledges, is_acknowledged, Same}
+use Rattle.rep_op.specs.declared.op.Stamp.{Stamp}
+use Rattle.rep_op.specs.declared.op.Op.{Op}
+use Rattle.rep_op.specs.declared.op.Op.TheVariants.{Session as OfSession, Put as OfPut, Ack}
+use Rattle.rep_op.specs.Orders.{operation_cmp, put_cmp}
+use Rattle.rep_op.specs.Sets.{same_client, operation_of, operations, operation_at, put_of, puts, put_at, acknowledges, is_acknowledged, Same}
 use Rattle.rep_ops.specs.Making.{AreWellMade, IsDeltaOf}
 use Rattle.rep_ops.specs.Splitting.{all_of}
 use Rattle.rep_model.specs.Keep.{keep}
 use Rattle.rep_model.specs.Held.{IsHeld}
-use Rattle.rep_ops.specs.WellMade.{is_well_made}
-use Rattle.rep_ops.proofs.Names.{made_range}
+use Rattle.rep_op.specs.WellMade.{is_well_made}
+use Rattle.rep_op.proofs.Names.{made_range}
 use Rattle.rep_model.specs.Ranges.{is_within, in_ranges, AreApart}
 use Rattle.rep_model.proofs.Readers.{operation_exact, put_exact, same_client-true}
 use Rattle.rep_digest.specs.declared.entry.OriginEntry.{OriginEntry}

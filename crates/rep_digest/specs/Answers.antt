@@ -1,9 +1,9 @@
 -- The answer to a digest: what must be kept and what the digest does not cover.
 use Rattle.std.specs.Prelude.{◌≡◌, ℕ, ◌==◌, Bool, false, not, ◌&&◌, ◌||◌, if◌then◌else◌, List, [], Option, Some, None}
 use Rattle.std.specs.List.{find}
-use Rattle.rep_ops.specs.declared.op.Stamp.{Stamp}
-use Rattle.rep_ops.specs.declared.op.Op.{Op}
-use Rattle.rep_ops.specs.Sets.{same_client, operation_at, put_at, is_acknowledged}
+use Rattle.rep_op.specs.declared.op.Stamp.{Stamp}
+use Rattle.rep_op.specs.declared.op.Op.{Op}
+use Rattle.rep_op.specs.Sets.{same_client, operation_at, put_at, is_acknowledged}
 use Rattle.rep_ops.specs.Splitting.{AreDeltasOf}
 use Rattle.rep_model.specs.Keep.{is_below, keep}
 use Rattle.rep_model.specs.Limits.{is_in_prefix}

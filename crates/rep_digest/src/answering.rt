@@ -4,7 +4,7 @@ ghost use Rattle.std.specs.Prelude.{◌≡◌, ◌≤◌, ◌||◌, ◌++◌, �
 ghost use Rattle.std.specs.List.{flat_map};
 ghost use Rattle.rep_ops.specs.Making.{AreWellMade};
 ghost use Rattle.rep_ops.specs.Splitting.{all_of};
-ghost use Rattle.rep_ops.specs.WellMade.{is_well_made as made_test};
+ghost use Rattle.rep_op.specs.WellMade.{is_well_made as made_test};
 ghost use Rattle.rep_model.specs.Ranges.{in_ranges as ranges_test};
 ghost use Rattle.rep_digest.specs.Answers.{acknowledged_in as acknowledged_of, waiting_in as waiting_of, IsAnswer};
 ghost use Rattle.rep_digest.specs.WellMade.{IsEntry, IsDigest};

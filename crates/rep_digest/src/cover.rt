@@ -3,7 +3,7 @@
 ghost use Rattle.std.specs.Prelude.{◌≡◌, ◌==◌, Some, None, MatchOption};
 ghost use Rattle.std.specs.List.{find};
 ghost use Rattle.sn_session.specs.inner.Tables.{IsPlace};
-ghost use Rattle.rep_ops.specs.Orders.{client_cmp};
+ghost use Rattle.rep_op.specs.Orders.{client_cmp};
 ghost use Rattle.rep_model.specs.Keep.{is_below as below_test};
 ghost use Rattle.rep_model.specs.Limits.{is_in_prefix as prefix_test};
 ghost use Rattle.rep_model.specs.Ranges.{in_ranges as ranges_test, AreApart};

@@ -1,7 +1,7 @@
 //! What is said of a client, worked out of its view and its acknowledgements.
 
 ghost use Rattle.std.specs.Prelude.{◌≡◌, ◌+◌, ◌==◌, ◌&&◌, nat_le, ◌++◌, ◌∷◌, [], List, IfOk, OnOk};
-ghost use Rattle.rep_ops.specs.declared.op.Put.{Put};
+ghost use Rattle.rep_op.specs.declared.op.Put.{Put};
 ghost use Rattle.rep_digest.specs.declared.groups.Acknowledged.{Acknowledged};
 ghost use Rattle.rep_digest.specs.inner.Steps.{with_number, drafted_origins, AreDrafted, drafted_entry};
 

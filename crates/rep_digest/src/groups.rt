@@ -3,9 +3,9 @@
 ghost use Rattle.std.specs.Prelude.{◌≡◌, ◌++◌, ◌∷◌, [], List, length, IfOk, OnOk};
 ghost use Rattle.std.specs.List.Sorted.{IsStrictlySortedBy};
 ghost use Rattle.sn_session.specs.inner.Tables.{IsPlace};
-ghost use Rattle.rep_ops.specs.declared.op.Op.{Op};
-ghost use Rattle.rep_ops.specs.declared.op.Op.TheVariants.{Ack as OfAck};
-ghost use Rattle.rep_ops.specs.Orders.{client_cmp};
+ghost use Rattle.rep_op.specs.declared.op.Op.{Op};
+ghost use Rattle.rep_op.specs.declared.op.Op.TheVariants.{Ack as OfAck};
+ghost use Rattle.rep_op.specs.Orders.{client_cmp};
 ghost use Rattle.rep_ops.specs.Splitting.{all_of};
 ghost use Rattle.rep_digest.specs.inner.Steps.{groups as all_groups};
 

@@ -1,8 +1,8 @@
 //! The laws of digests and answers. Each function does nothing; its contract is a law, proved for all sets.
 
 ghost use Rattle.std.specs.Prelude.{◌≡◌, ◌++◌, ℕ, List, Ok};
-ghost use Rattle.rep_ops.specs.declared.op.Op.{Op};
-ghost use Rattle.rep_ops.specs.Sets.{Same};
+ghost use Rattle.rep_op.specs.declared.op.Op.{Op};
+ghost use Rattle.rep_op.specs.Sets.{Same};
 ghost use Rattle.rep_model.specs.Keep.{keep, CountsAs};
 ghost use Rattle.rep_digest.specs.Answers.{IsRest, IsAnswer};
 ghost use Rattle.rep_ops.specs.Reading.{AreOctets};

@@ -5,7 +5,8 @@ mod order;
 mod part;
 
 ghost use Rattle.std.specs.Prelude.{◌≡◌, []};
-ghost use Rattle.rep_ops.specs.Reading.{Gives, listed_at};
+ghost use Rattle.rep_octets.specs.Reading.{Gives};
+ghost use Rattle.rep_ops.specs.Reading.{listed_at};
 ghost use Rattle.rep_digest.specs.Reading.{entry_at, may_follow as follow_test, reading};
 
 use super::entry::ClientEntry;

@@ -1,10 +1,10 @@
 //! The digest of what a replica keeps.
 
 ghost use Rattle.std.specs.Prelude.{◌≡◌, ◌<◌, ◌⊎◌, List, length, map, IfOk, IfErr};
-ghost use Rattle.rep_ops.specs.declared.op.Op.{Op};
+ghost use Rattle.rep_op.specs.declared.op.Op.{Op};
 ghost use Rattle.rep_ops.specs.Spelling.{max_octets};
 ghost use Rattle.rep_ops.specs.Splitting.{all_of};
-ghost use Rattle.rep_ops.specs.Values.{AreValues};
+ghost use Rattle.rep_op.specs.Values.{AreValues};
 ghost use Rattle.rep_model.specs.Views.{view, unseen as nothing_seen};
 ghost use Rattle.rep_digest.specs.Digests.{digest};
 ghost use Rattle.rep_digest.specs.WellMade.{IsDigest};

@@ -8,13 +8,13 @@ use Rattle.std.proofs.lemmas.Option.{same_Some}
 use Rattle.std.proofs.lemmas.Map.Lookups.{CmpEqualImpliesEq}
 use Rattle.std.proofs.lemmas.Map.Views.{tells_apart}
 use Rattle.sn_session.specs.declared.change.SessionOp.{SessionOp}
-use Rattle.rep_ops.specs.declared.op.Stamp.{Stamp}
-use Rattle.rep_ops.specs.declared.op.Put.{Put}
-use Rattle.rep_ops.specs.declared.op.Op.{Op}
-use Rattle.rep_ops.specs.declared.op.Op.TheVariants.{Session as OfSession, Put as OfPut, Ack}
-use Rattle.rep_ops.specs.Orders.{operation_cmp}
-use Rattle.rep_ops.specs.Ranges.{is_change}
-use Rattle.rep_ops.specs.WellMade.{is_stamp, is_counted}
+use Rattle.rep_op.specs.declared.op.Stamp.{Stamp}
+use Rattle.rep_op.specs.declared.op.Put.{Put}
+use Rattle.rep_op.specs.declared.op.Op.{Op}
+use Rattle.rep_op.specs.declared.op.Op.TheVariants.{Session as OfSession, Put as OfPut, Ack}
+use Rattle.rep_op.specs.Orders.{operation_cmp}
+use Rattle.rep_op.specs.Ranges.{is_change}
+use Rattle.rep_op.specs.WellMade.{is_stamp, is_counted}
 use Rattle.rep_model.specs.Keep.{is_below}
 use Rattle.rep_model.specs.Ranges.{AreApartFrom}
 use Rattle.rep_model.specs.Views.{named}

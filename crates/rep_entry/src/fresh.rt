@@ -3,9 +3,9 @@
 ghost use Rattle.std.specs.Prelude.{◌≡◌, ◌+◌, ◌==◌, ◌≤◌, ◌||◌, [], ℕ, List, IsTrue, false, is_some, length, vec_capacity, IfOk, OnOk};
 ghost use Rattle.std.specs.List.{list_any};
 ghost use Rattle.std.specs.FinMap.{find};
-ghost use Rattle.rep_ops.specs.declared.op.Op.TheVariants.{Session as OfSession, Put as OfPut, Ack};
-ghost use Rattle.rep_ops.specs.Orders.{operation_cmp, put_cmp};
-ghost use Rattle.rep_ops.specs.WellMade.{is_well_made};
+ghost use Rattle.rep_op.specs.declared.op.Op.TheVariants.{Session as OfSession, Put as OfPut, Ack};
+ghost use Rattle.rep_op.specs.Orders.{operation_cmp, put_cmp};
+ghost use Rattle.rep_op.specs.WellMade.{is_well_made};
 ghost use Rattle.rep_plain.specs.Rows.{IsOwnOp};
 ghost use Rattle.rep_entry.specs.declared.entry.Entry.{Entry as AnEntry};
 ghost use Rattle.rep_log.specs.Logs.{known_on, whole_of};

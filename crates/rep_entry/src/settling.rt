@@ -1,7 +1,7 @@
 //! The messages that wait for a client after a change, for which no memory is taken.
 
 ghost use Rattle.std.specs.Prelude.{◌≡◌, ◌+◌, ◌==◌, ◌<◌, ◌≤◌, ◌++◌, [], suc, false, vec_capacity, List, take, drop, filter, length, count_by, IfOk, IsTrue};
-ghost use Rattle.rep_ops.specs.declared.op.Put.{Put};
+ghost use Rattle.rep_op.specs.declared.op.Put.{Put};
 ghost use Rattle.rep_log.specs.Mail.{weave, is_left, NoneCovered, Rising};
 ghost use Rattle.rep_entry.specs.Spans.{AreFreeOutside};
 ghost use Rattle.rep_entry.specs.inner.Mail.{are_behind, left_from};

@@ -4,7 +4,7 @@
 ghost use Rattle.std.specs.Prelude.{◌≡◌, ◌+◌, ◌≤◌, ◌<◌, ◌==◌, ◌++◌, ◌∷◌, [], map, not, length, ℕ, List, ◌||◌, IfOk, OnOk};
 ghost use Rattle.std.specs.List.{list_any};
 ghost use Rattle.std.specs.BTreeMap.{values};
-ghost use Rattle.rep_ops.specs.declared.op.Op.TheVariants.{Ack};
+ghost use Rattle.rep_op.specs.declared.op.Op.TheVariants.{Ack};
 ghost use Rattle.rep_model.specs.Ranges.{is_within, in_ranges};
 ghost use Rattle.rep_plain.specs.Steps.{capped};
 ghost use Rattle.rep_log.specs.Kept.{of_acks};

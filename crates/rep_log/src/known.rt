@@ -7,8 +7,8 @@ ghost use Rattle.std.specs.List.Sorted.{IsSearchInRange};
 ghost use Rattle.std.specs.Option.{option_copied};
 ghost use Rattle.sn_session.specs.declared.change.SessionOp.{SessionOp as OfChange};
 ghost use Rattle.sn_session.specs.inner.Tables.{IsPlace};
-ghost use Rattle.rep_ops.specs.declared.op.Stamp.{Stamp as OfStamp};
-ghost use Rattle.rep_ops.specs.Orders.{operation_cmp};
+ghost use Rattle.rep_op.specs.declared.op.Stamp.{Stamp as OfStamp};
+ghost use Rattle.rep_op.specs.Orders.{operation_cmp};
 ghost use Rattle.rep_model.specs.Keep.{is_below as below_test};
 ghost use Rattle.rep_plain.specs.Steps.{waits};
 
@@ -32,8 +32,8 @@ impl Model for Known {
     ghost use Rattle.std.specs.Prelude.{List, ℕ, T};
     ghost use Rattle.std.specs.FinMap.{is_sorted};
     ghost use Rattle.sn_session.specs.declared.change.SessionOp.{SessionOp};
-    ghost use Rattle.rep_ops.specs.declared.op.Stamp.{Stamp};
-    ghost use Rattle.rep_ops.specs.Orders.{operation_cmp};
+    ghost use Rattle.rep_op.specs.declared.op.Stamp.{Stamp};
+    ghost use Rattle.rep_op.specs.Orders.{operation_cmp};
 
     ghost Value = { List ((Stamp × ℕ) × SessionOp) };
 

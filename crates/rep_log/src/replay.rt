@@ -3,7 +3,7 @@
 ghost use Rattle.std.specs.Prelude.{◌≡◌, ◌++◌, ◌<◌, length, Some, IfOk, T};
 ghost use Rattle.std.specs.FinMap.{find, is_sorted};
 ghost use Rattle.std.specs.Option.{option_copied};
-ghost use Rattle.rep_ops.specs.Orders.{operation_cmp};
+ghost use Rattle.rep_op.specs.Orders.{operation_cmp};
 ghost use Rattle.rep_model.specs.Views.{session_of};
 ghost use Rattle.rep_log.specs.Logs.{history_in};
 ghost use Rattle.rep_log.specs.inner.Logs.{IsReplayed};

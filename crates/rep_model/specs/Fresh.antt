@@ -1,9 +1,9 @@
 -- The numbers that a gateway takes next.
 use Rattle.std.specs.Prelude.{ℕ, ◌+◌, ◌^◌, ◌==◌, ◌&&◌, if◌then◌else◌, nat_le, nat_lt, List, [], ◌∷◌, Option, Some, None, max}
-use Rattle.rep_ops.specs.declared.op.Stamp.{Stamp}
-use Rattle.rep_ops.specs.declared.op.Op.{Op}
-use Rattle.rep_ops.specs.declared.op.Op.TheVariants.{Session as OfSession, Put as OfPut, Ack}
-use Rattle.rep_ops.specs.Sets.{same_client, operations}
+use Rattle.rep_op.specs.declared.op.Stamp.{Stamp}
+use Rattle.rep_op.specs.declared.op.Op.{Op}
+use Rattle.rep_op.specs.declared.op.Op.TheVariants.{Session as OfSession, Put as OfPut, Ack}
+use Rattle.rep_op.specs.Sets.{same_client, operations}
 use Rattle.rep_model.specs.Views.{names}
 
 -- the greatest of these numbers, or 0

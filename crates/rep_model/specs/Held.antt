@@ -1,6 +1,6 @@
 -- What a gateway may not forget of a set, as deltas.
 use Rattle.std.specs.Prelude.{List}
-use Rattle.rep_ops.specs.declared.op.Op.{Op}
+use Rattle.rep_op.specs.declared.op.Op.{Op}
 use Rattle.rep_ops.specs.Splitting.{AreDeltasOf}
 use Rattle.rep_model.specs.Keep.{keep}
 

@@ -1,11 +1,11 @@
 -- What a gateway may not forget of a set.
 use Rattle.std.specs.Prelude.{Bool, true, false, not, List, ◌++◌, filter, Option, Some, None}
 use Rattle.std.specs.Ordering.{is_lt}
-use Rattle.rep_ops.specs.declared.op.Stamp.{Stamp}
-use Rattle.rep_ops.specs.declared.op.Op.{Op}
-use Rattle.rep_ops.specs.declared.op.Op.TheVariants.{Session as OfSession, Put as OfPut, Ack}
-use Rattle.rep_ops.specs.Orders.{stamp_cmp}
-use Rattle.rep_ops.specs.Sets.{is_acknowledged, Within, Same}
+use Rattle.rep_op.specs.declared.op.Stamp.{Stamp}
+use Rattle.rep_op.specs.declared.op.Op.{Op}
+use Rattle.rep_op.specs.declared.op.Op.TheVariants.{Session as OfSession, Put as OfPut, Ack}
+use Rattle.rep_op.specs.Orders.{stamp_cmp}
+use Rattle.rep_op.specs.Sets.{is_acknowledged, Within, Same}
 use Rattle.rep_model.specs.Views.{visible}
 
 -- whether the stamp is below the visible one

@@ -1,9 +1,9 @@
 -- When a replica refuses a delta.
 use Rattle.std.specs.Prelude.{◌≡◌, ◌++◌, List, Some, None, Contains}
 use Rattle.std.specs.List.{AllByRecursion}
-use Rattle.rep_ops.specs.declared.op.Op.{Op}
-use Rattle.rep_ops.specs.Orders.{client_of}
-use Rattle.rep_ops.specs.Sets.{Agrees}
+use Rattle.rep_op.specs.declared.op.Op.{Op}
+use Rattle.rep_op.specs.Orders.{client_of}
+use Rattle.rep_op.specs.Sets.{Agrees}
 use Rattle.rep_model.specs.declared.fault.TakeFault.{TakeFault}
 use Rattle.rep_model.specs.declared.fault.TakeFault.TheVariants.{Conflict, Full, Memory}
 use Rattle.rep_model.specs.Limits.{first_passed}

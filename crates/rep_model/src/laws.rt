@@ -3,10 +3,10 @@
 ghost use Rattle.std.specs.Prelude.{◌≡◌, ℕ, ◌≤◌, ◌++◌, ◌||◌, ◌⊎◌, ◌↔◌, List, Some, None, true, false, IsTrue, Contains};
 ghost use Rattle.std.specs.List.{AllByRecursion};
 ghost use Rattle.std.specs.List.Sorted.{IsStrictlySortedBy};
-ghost use Rattle.rep_ops.specs.Orders.{client_cmp, put_cmp};
-ghost use Rattle.rep_ops.specs.declared.op.Op.{Op};
-ghost use Rattle.rep_ops.specs.declared.op.Put.{Put};
-ghost use Rattle.rep_ops.specs.Sets.{is_acknowledged, IsConsistent, Agrees, Within, Same};
+ghost use Rattle.rep_op.specs.Orders.{client_cmp, put_cmp};
+ghost use Rattle.rep_op.specs.declared.op.Op.{Op};
+ghost use Rattle.rep_op.specs.declared.op.Put.{Put};
+ghost use Rattle.rep_op.specs.Sets.{is_acknowledged, IsConsistent, Agrees, Within, Same};
 ghost use Rattle.rep_model.specs.Views.{pending_at, pending, view, unseen, clients, is_named};
 ghost use Rattle.rep_model.specs.Fresh.{next_epoch, next_seq};
 ghost use Rattle.rep_model.specs.Keep.{keep, IsKeptOf, CountsAs, Below};

@@ -1,7 +1,7 @@
 //! What every replica of a set of operations promises.
 
 ghost use Rattle.std.specs.Prelude.{◌≡◌, ℕ, ◌+◌, ◌++◌, ◌∷◌, List, [], drop, false, true, IfOk, OnOk, IfErr, MatchOption};
-ghost use Rattle.rep_ops.specs.declared.op.Op.{Op};
+ghost use Rattle.rep_op.specs.declared.op.Op.{Op};
 ghost use Rattle.rep_ops.specs.Making.{AreWellMade};
 ghost use Rattle.rep_model.specs.Views.{view, clients, is_named};
 ghost use Rattle.rep_model.specs.Fresh.{next_epoch, next_seq};

@@ -7,8 +7,8 @@ use Rattle.std.specs.FinMap.{find, is_sorted}
 use Rattle.std.specs.FinMap.Entries.{below_all, is_some-find}
 use Rattle.std.proofs.lemmas.Map.Views.{tells_apart}
 use Rattle.std.proofs.lemmas.List.Sums.{length-filter}
-use Rattle.rep_ops.specs.declared.op.Op.{Op}
-use Rattle.rep_ops.specs.Orders.{client_cmp}
+use Rattle.rep_op.specs.declared.op.Op.{Op}
+use Rattle.rep_op.specs.Orders.{client_cmp}
 use Rattle.rep_model.specs.Views.{named, in_order, clients, is_named, pending}
 use Rattle.rep_model.specs.Limits.{parked, exceptions, first_passed}
 use Rattle.rep_model.proofs.Lookup.{or_else, list_any-weaker}

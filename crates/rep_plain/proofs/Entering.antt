@@ -5,12 +5,12 @@ use Rattle.std.specs.Cmp.Lexicographic.{pointwise, nat_list_eq_equiv}
 use Rattle.std.specs.BTreeMap.{insert_entry}
 use Rattle.std.specs.FinMap.{put as place}
 use Rattle.sn_session.specs.declared.change.SessionOp.{SessionOp}
-use Rattle.rep_ops.specs.declared.op.Stamp.{Stamp}
-use Rattle.rep_ops.specs.declared.op.Put.{Put}
-use Rattle.rep_ops.specs.declared.op.Op.{Op}
-use Rattle.rep_ops.specs.declared.op.Op.TheVariants.{Session as OfSession, Put as OfPut, Ack}
-use Rattle.rep_ops.specs.Orders.{operation_cmp, put_cmp}
-use Rattle.rep_ops.specs.Sets.{same_client, operations, puts, is_acknowledged}
+use Rattle.rep_op.specs.declared.op.Stamp.{Stamp}
+use Rattle.rep_op.specs.declared.op.Put.{Put}
+use Rattle.rep_op.specs.declared.op.Op.{Op}
+use Rattle.rep_op.specs.declared.op.Op.TheVariants.{Session as OfSession, Put as OfPut, Ack}
+use Rattle.rep_op.specs.Orders.{operation_cmp, put_cmp}
+use Rattle.rep_op.specs.Sets.{same_client, operations, puts, is_acknowledged}
 use Rattle.rep_model.specs.Views.{in_order, pending}
 use Rattle.rep_model.specs.Limits.{range_of}
 use Rattle.rep_plain.specs.declared.ranges.Range.{Range}

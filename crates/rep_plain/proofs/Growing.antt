@@ -8,9 +8,9 @@ use Rattle.std.specs.FinMap.{find}
 use Rattle.std.specs.Cmp.{tied_itself}
 use Rattle.std.proofs.lemmas.List.Elements.{filter-append}
 use Rattle.std.proofs.lemmas.Map.Text.{is_eq-slice_cmp}
-use Rattle.rep_ops.specs.declared.op.Op.{Op}
-use Rattle.rep_ops.specs.Orders.{client_cmp, client_of}
-use Rattle.rep_ops.specs.Sets.{same_client}
+use Rattle.rep_op.specs.declared.op.Op.{Op}
+use Rattle.rep_op.specs.Orders.{client_cmp, client_of}
+use Rattle.rep_op.specs.Sets.{same_client}
 use Rattle.rep_model.proofs.Readers.{client_total}
 use Rattle.rep_plain.specs.Rows.{own, has_any}
 use Rattle.rep_plain.specs.inner.Rows.{of_client, grown}

@@ -11,8 +11,8 @@ use Rattle.std.specs.FinMap.Entries.{by_order, is_sorted-put, find-put}
 use Rattle.std.proofs.lemmas.Map.Views.{tells_apart}
 use Rattle.std.proofs.lemmas.Bool.Decides.{nat_tests}
 use Rattle.std.proofs.lemmas.Option.{same_Some}
-use Rattle.rep_ops.specs.declared.op.Op.{Op}
-use Rattle.rep_ops.specs.Orders.{client_cmp}
+use Rattle.rep_op.specs.declared.op.Op.{Op}
+use Rattle.rep_op.specs.Orders.{client_cmp}
 use Rattle.rep_model.specs.Views.{view, is_named}
 use Rattle.rep_model.specs.Fresh.{one_more}
 use Rattle.rep_model.proofs.Readers.{client_total, client_exact}

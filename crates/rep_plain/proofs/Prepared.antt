@@ -4,11 +4,11 @@ use Rattle.std.specs.List.{AllByRecursion, list_any}
 use Rattle.std.specs.FinMap.{find, is_sorted}
 use Rattle.std.proofs.lemmas.Option.{same_Some}
 use Rattle.std.proofs.lemmas.Bool.Decides.{nat_tests}
-use Rattle.rep_ops.specs.declared.op.Op.{Op}
-use Rattle.rep_ops.specs.declared.op.Op.TheVariants.{Session as OfSession, Put as OfPut, Ack}
-use Rattle.rep_ops.specs.Orders.{client_cmp, client_of}
-use Rattle.rep_ops.specs.Sets.{same_client, Same}
-use Rattle.rep_ops.specs.WellMade.{is_well_made}
+use Rattle.rep_op.specs.declared.op.Op.{Op}
+use Rattle.rep_op.specs.declared.op.Op.TheVariants.{Session as OfSession, Put as OfPut, Ack}
+use Rattle.rep_op.specs.Orders.{client_cmp, client_of}
+use Rattle.rep_op.specs.Sets.{same_client, Same}
+use Rattle.rep_op.specs.WellMade.{is_well_made}
 use Rattle.rep_ops.specs.Deltas.{IsDelta}
 use Rattle.rep_model.specs.declared.fault.Limit.TheVariants.{Clients, Pending, Parked, Exceptions}
 use Rattle.rep_model.specs.Views.{named}

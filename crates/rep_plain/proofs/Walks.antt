@@ -1,7 +1,7 @@
 -- A walk over the clients that have operations.
 use Rattle.std.proofs.Common.{◌≡◌, ℕ, suc, ◌+◌, ◌-◌, true, false, cond, List, ◌∷◌, map, filter, drop, sym, ap, ◌∙◌, arith, ◌<◌}
 use Rattle.std.proofs.lemmas.List.{drop-drop}
-use Rattle.rep_ops.specs.declared.op.Op.{Op}
+use Rattle.rep_op.specs.declared.op.Op.{Op}
 use Rattle.rep_plain.specs.Rows.{has_any}
 use Rattle.rep_plain.specs.inner.Rows.{named_rows}
 

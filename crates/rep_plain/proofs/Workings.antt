@@ -5,10 +5,10 @@ use Rattle.std.specs.FinMap.{find}
 use Rattle.std.specs.Map.{keys_of}
 use Rattle.std.proofs.lemmas.List.Sums.{length-filter}
 use Rattle.sn_session.specs.declared.change.SessionOp.{SessionOp}
-use Rattle.rep_ops.specs.declared.op.Stamp.{Stamp}
-use Rattle.rep_ops.specs.declared.op.Op.{Op}
-use Rattle.rep_ops.specs.Orders.{operation_cmp}
-use Rattle.rep_ops.specs.Sets.{operations}
+use Rattle.rep_op.specs.declared.op.Stamp.{Stamp}
+use Rattle.rep_op.specs.declared.op.Op.{Op}
+use Rattle.rep_op.specs.Orders.{operation_cmp}
+use Rattle.rep_op.specs.Sets.{operations}
 use Rattle.rep_model.specs.Views.{view, unseen, visible, in_order, history, history_at}
 use Rattle.rep_model.specs.Limits.{is_parked, parked, joined, above_a_gap, sum_to, exceptions}
 use Rattle.rep_model.proofs.Lookup.{find-in_order}

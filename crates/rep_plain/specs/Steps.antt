@@ -1,6 +1,6 @@
 -- Steps from one operation to the next.
 use Rattle.std.specs.Prelude.{ℕ, ◌-◌, ◌^◌, min, Bool, not, ◌&&◌, Option}
-use Rattle.rep_ops.specs.declared.op.Stamp.{Stamp}
+use Rattle.rep_op.specs.declared.op.Stamp.{Stamp}
 use Rattle.rep_model.specs.Keep.{is_below}
 use Rattle.rep_model.specs.Limits.{is_in_prefix}
 

@@ -2,7 +2,7 @@
 
 ghost use Rattle.std.specs.Prelude.{◌≡◌, ◌⊎◌, ◌++◌, ◌∷◌, [], not, filter, List, IfOk, OnOk, IfErr};
 ghost use Rattle.std.specs.List.{list_any};
-ghost use Rattle.rep_ops.specs.Sets.{Agrees};
+ghost use Rattle.rep_op.specs.Sets.{Agrees};
 ghost use Rattle.rep_model.specs.Taking.{AllAgree, IsFaultOf};
 ghost use Rattle.rep_plain.specs.Rows.{flat};
 ghost use Rattle.rep_plain.specs.inner.Rows.{AreRows};

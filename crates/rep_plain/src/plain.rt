@@ -27,7 +27,7 @@ pub struct Plain {
 
 impl Model for Plain {
     ghost use Rattle.std.specs.Prelude.{List, ℕ};
-    ghost use Rattle.rep_ops.specs.declared.op.Op.{Op};
+    ghost use Rattle.rep_op.specs.declared.op.Op.{Op};
 
     ghost Value = { List (List ℕ × List Op) };
 
@@ -49,7 +49,7 @@ pub struct Staged {
 
 impl Model for Staged {
     ghost use Rattle.std.specs.Prelude.{List, ℕ, ◌≤◌};
-    ghost use Rattle.rep_ops.specs.declared.op.Op.{Op};
+    ghost use Rattle.rep_op.specs.declared.op.Op.{Op};
     ghost use Rattle.rep_model.specs.declared.fault.TheConstants.{MOST_CLIENTS};
 
     ghost Value = { List (List ℕ × List Op) × ℕ };

@@ -2,9 +2,9 @@
 
 ghost use Rattle.std.specs.Prelude.{◌≡◌, ℕ, List, ◌∷◌, length, filter, IfOk, OnOk};
 ghost use Rattle.std.specs.FinMap.{find};
-ghost use Rattle.rep_ops.specs.declared.op.Op.{Op};
-ghost use Rattle.rep_ops.specs.Orders.{operation_cmp};
-ghost use Rattle.rep_ops.specs.Sets.{operations};
+ghost use Rattle.rep_op.specs.declared.op.Op.{Op};
+ghost use Rattle.rep_op.specs.Orders.{operation_cmp};
+ghost use Rattle.rep_op.specs.Sets.{operations};
 ghost use Rattle.rep_model.specs.Views.{in_order, history_at, session_of, after_change};
 ghost use Rattle.std.specs.Prelude.{count_by};
 ghost use Rattle.std.specs.BTreeMap.{keys};

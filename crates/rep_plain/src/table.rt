@@ -3,7 +3,7 @@
 ghost use Rattle.std.specs.Prelude.{◌≡◌, ◌+◌, ◌∷◌, [], List, ℕ, ◌≤◌, not, count_by, drop, T, IfOk, IfSome, MatchOption, Some};
 ghost use Rattle.std.specs.List.{list_any, AllByRecursion};
 ghost use Rattle.std.specs.FinMap.{find, is_sorted};
-ghost use Rattle.rep_ops.specs.Orders.{client_cmp};
+ghost use Rattle.rep_op.specs.Orders.{client_cmp};
 ghost use Rattle.rep_plain.specs.Rows.{own, flat, has_any};
 ghost use Rattle.rep_plain.specs.inner.Rows.{count_new, named_rows};
 ghost use Rattle.rep_plain.specs.Tables.{rows_of};

@@ -23,7 +23,7 @@ use Rattle.sn_session.specs.Subscriptions.{asked_qos, subscribed_qos, or_greater
 use Rattle.sn_session.specs.declared.session.Session.{Session}
 use Rattle.sn_session.specs.declared.subscriptions.Subscription.{Subscription}
 use Rattle.sn_session.proofs.Ascending.{all_with}
-use Rattle.rep_ops.specs.Orders.{client_cmp}
+use Rattle.rep_op.specs.Orders.{client_cmp}
 use Rattle.rep_model.specs.Asking.{is_subscribed, NoneAsks}
 use Rattle.rep_model.specs.Views.{view}
 use Rattle.rep_model.proofs.Readers.{client_total, client_exact}

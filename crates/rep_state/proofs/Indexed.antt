@@ -11,7 +11,7 @@ use Rattle.std.specs.FinMap.{find, put, is_sorted}
 use Rattle.std.specs.FinMap.Entries.{below_all, by_order, length-put}
 use Rattle.std.specs.Prelude.{bytes_eq}
 use Rattle.indexmap.specs.IndexMap.{insert_entry}
-use Rattle.rep_ops.specs.Orders.{client_cmp}
+use Rattle.rep_op.specs.Orders.{client_cmp}
 use Rattle.rep_model.proofs.Lookup.{is_sorted-in_order}
 use Rattle.rep_model.proofs.Readers.{client_total, client_exact}
 use Rattle.rep_plain.proofs.Counting.{all_found}

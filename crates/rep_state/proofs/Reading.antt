@@ -7,9 +7,9 @@ use Rattle.std.specs.Map.{keys_of}
 use Rattle.std.specs.FinMap.{find, is_sorted}
 use Rattle.std.specs.FinMap.Entries.{below_all}
 use Rattle.sn_session.specs.declared.change.SessionOp.{SessionOp}
-use Rattle.rep_ops.specs.declared.op.Stamp.{Stamp}
-use Rattle.rep_ops.specs.declared.op.Put.{Put}
-use Rattle.rep_ops.specs.Orders.{client_cmp, put_cmp}
+use Rattle.rep_op.specs.declared.op.Stamp.{Stamp}
+use Rattle.rep_op.specs.declared.op.Put.{Put}
+use Rattle.rep_op.specs.Orders.{client_cmp, put_cmp}
 use Rattle.rep_model.specs.Fresh.{largest, seq_of, greatest_epoch}
 use Rattle.rep_model.specs.Ranges.{AreApartFrom}
 use Rattle.rep_model.specs.Views.{names}

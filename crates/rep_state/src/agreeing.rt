@@ -1,8 +1,8 @@
 //! Whether a delta contradicts what is kept.
 
 ghost use Rattle.std.specs.Prelude.{◌≡◌, ◌⊎◌, ◌↔◌, IsTrue, OnOk, IfErr, ℕ, List};
-ghost use Rattle.rep_ops.specs.Orders.{client_of};
-ghost use Rattle.rep_ops.specs.Sets.{Agrees};
+ghost use Rattle.rep_op.specs.Orders.{client_of};
+ghost use Rattle.rep_op.specs.Sets.{Agrees};
 ghost use Rattle.rep_model.specs.Taking.{AllAgree, IsFaultOf};
 ghost use Rattle.rep_plain.specs.Rows.{flat, own};
 ghost use Rattle.rep_plain.specs.inner.Rows.{AreRows};

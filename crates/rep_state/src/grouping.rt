@@ -4,9 +4,9 @@ ghost use Rattle.std.specs.Prelude.{◌≡◌, ◌++◌, ◌∷◌, [], IsTrue, 
 ghost use Rattle.std.specs.List.{AllByRecursion};
 ghost use Rattle.std.specs.FinMap.{is_sorted};
 ghost use Rattle.sn_session.specs.inner.Tables.{IsPlace};
-ghost use Rattle.rep_ops.specs.declared.op.Op.{Op};
-ghost use Rattle.rep_ops.specs.Orders.{client_cmp, client_of};
-ghost use Rattle.rep_ops.specs.WellMade.{is_well_made};
+ghost use Rattle.rep_op.specs.declared.op.Op.{Op};
+ghost use Rattle.rep_op.specs.Orders.{client_cmp, client_of};
+ghost use Rattle.rep_op.specs.WellMade.{is_well_made};
 ghost use Rattle.rep_entry.specs.Entries.{IsEntry, IsFresh, fresh_row};
 ghost use Rattle.rep_state.specs.Tables.{by_client, rows_of, AreKept};
 ghost use Rattle.rep_entry.specs.Staging.{staged_of};

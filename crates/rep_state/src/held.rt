@@ -2,8 +2,8 @@
 
 ghost use Rattle.std.specs.Prelude.{◌≡◌, ◌+◌, ◌++◌, ◌∷◌, ◌≤◌, [], IfOk, OnOk, IfSome, MatchOption, Some, ℕ, drop, filter};
 ghost use Rattle.std.specs.FinMap.{find};
-ghost use Rattle.rep_ops.specs.Orders.{client_cmp};
-ghost use Rattle.rep_ops.specs.declared.op.Op.TheVariants.{Session as OfSession, Put as OfPut};
+ghost use Rattle.rep_op.specs.Orders.{client_cmp};
+ghost use Rattle.rep_op.specs.declared.op.Op.TheVariants.{Session as OfSession, Put as OfPut};
 ghost use Rattle.rep_model.specs.Held.{IsHeld};
 ghost use Rattle.rep_model.specs.declared.fault.TheConstants.{MOST_CLIENTS};
 ghost use Rattle.rep_plain.specs.Rows.{flat, own, has_any, count_named};

@@ -7,7 +7,7 @@ ghost use Rattle.std.specs.Prelude.{◌≡◌, ◌+◌, ◌<◌, ◌≤◌, ◌�
 ghost use Rattle.std.specs.Map.{keys_of};
 ghost use Rattle.sn_session.specs.Tables.{is_ascending, with_entry};
 ghost use Rattle.sn_session.specs.inner.Tables.{IsPlace};
-ghost use Rattle.rep_ops.specs.Orders.{client_cmp};
+ghost use Rattle.rep_op.specs.Orders.{client_cmp};
 ghost use Rattle.rep_state.specs.Tables.{by_client, names_at, ArePlaces};
 ghost use Rattle.rep_state.specs.inner.Tables.{place_cmp};
 ghost use Rattle.rep_state.specs.inner.Interests.{marked, NoneMarked, IsPassed};

@@ -30,7 +30,7 @@ pub struct Folded {
 
 impl Model for Folded {
     ghost use Rattle.std.specs.Prelude.{List, ℕ};
-    ghost use Rattle.rep_ops.specs.declared.op.Op.{Op};
+    ghost use Rattle.rep_op.specs.declared.op.Op.{Op};
 
     ghost Value = { List (List ℕ × List Op) };
 

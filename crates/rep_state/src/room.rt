@@ -3,7 +3,7 @@
 ghost use Rattle.std.specs.Prelude.{◌≡◌, IsSome, IsTrue, is_some, IfOk, OnOk, List};
 ghost use Rattle.std.specs.FinMap.{find, put};
 ghost use Rattle.sn_session.specs.Tables.{is_ascending};
-ghost use Rattle.rep_ops.specs.Orders.{client_cmp};
+ghost use Rattle.rep_op.specs.Orders.{client_cmp};
 ghost use Rattle.rep_plain.specs.Rows.{moved};
 ghost use Rattle.rep_state.specs.Tables.{by_client, rows_of, AreKept, ArePlaces};
 ghost use Rattle.rep_state.specs.inner.Tables.{IsRoomier, place_cmp};

@@ -4,7 +4,7 @@ ghost use Rattle.std.specs.Prelude.{◌≡◌, ◌+◌, IfOk, nat_lt, not, count
 ghost use Rattle.std.specs.Option.{option_copied};
 ghost use Rattle.std.specs.List.{list_any};
 ghost use Rattle.std.specs.FinMap.{find};
-ghost use Rattle.rep_ops.specs.Orders.{client_cmp};
+ghost use Rattle.rep_op.specs.Orders.{client_cmp};
 ghost use Rattle.rep_plain.specs.Rows.{own, has_any};
 ghost use Rattle.rep_plain.specs.inner.Tables.{passed_of};
 ghost use Rattle.rep_state.specs.Tables.{by_client, rows_of};

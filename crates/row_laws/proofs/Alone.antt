@@ -6,7 +6,7 @@ use Rattle.std.proofs.lemmas.Bool.{and_parts, and_from}
 use Rattle.std.proofs.lemmas.List.Elements.{All-from_recursion, All-contains}
 use Rattle.sn_session.specs.Tables.{with_entry, by_order}
 use Rattle.sn_session.proofs.Ascending.{all_weaker, all_with}
-use Rattle.rep_ops.specs.Sets.{same_client}
+use Rattle.rep_op.specs.Sets.{same_client}
 use Rattle.sn_local.specs.declared.config.Addr.{Addr}
 use Rattle.sn_local.specs.declared.local.Binding.{Binding}
 use Rattle.sn_local.specs.Bindings.{same_address, binding_cmp, is_apart, bound, client_at}

@@ -5,8 +5,8 @@ use Rattle.sn_session.specs.declared.session.Session.{Session}
 use Rattle.sn_session.specs.declared.change.SessionOp.{SessionOp}
 use Rattle.sn_session.specs.declared.change.SessionOp.TheVariants.{Take}
 use Rattle.sn_session.specs.Session.{applied, empty_session}
-use Rattle.rep_ops.specs.declared.op.Op.{Op}
-use Rattle.rep_ops.specs.declared.op.Op.TheVariants.{Session as OfSession}
+use Rattle.rep_op.specs.declared.op.Op.{Op}
+use Rattle.rep_op.specs.declared.op.Op.TheVariants.{Session as OfSession}
 use Rattle.rep_model.specs.Views.{visible, history, session_of, view}
 use Rattle.rep_model.specs.Fresh.{one_more, next_epoch}
 use Rattle.sn_plan.specs.Flush.{stamp_of, IsFlush}

@@ -4,9 +4,9 @@ use Rattle.std.specs.FinMap.{find}
 use Rattle.std.proofs.lemmas.Option.{same_Some}
 use Rattle.sn_session.specs.declared.change.SessionOp.{SessionOp}
 use Rattle.sn_session.specs.declared.session.Session.{Session}
-use Rattle.rep_ops.specs.declared.op.Op.{Op}
-use Rattle.rep_ops.specs.Orders.{stamp_cmp, operation_cmp}
-use Rattle.rep_ops.specs.Sets.{Same, same_client, operations, operation_at}
+use Rattle.rep_op.specs.declared.op.Op.{Op}
+use Rattle.rep_op.specs.Orders.{stamp_cmp, operation_cmp}
+use Rattle.rep_op.specs.Sets.{Same, same_client, operations, operation_at}
 use Rattle.rep_model.specs.Views.{visible, gapless, history_at, history, session_of}
 use Rattle.rep_model.proofs.Lookup.{or_else}
 use Rattle.rep_model.proofs.Greatest.{has, same_greatest}

@@ -5,8 +5,8 @@ use Rattle.std.specs.Ordering.{ordering_reverse, ordering_then}
 use Rattle.std.proofs.lemmas.Cmp.{ranked}
 use Rattle.std.proofs.lemmas.Map.Lookups.{CmpEqualImpliesEq}
 use Rattle.sn_session.specs.declared.change.SessionOp.{SessionOp}
-use Rattle.rep_ops.specs.declared.op.Stamp.{Stamp}
-use Rattle.rep_ops.specs.Orders.{stamp_cmp}
+use Rattle.rep_op.specs.declared.op.Stamp.{Stamp}
+use Rattle.rep_op.specs.Orders.{stamp_cmp}
 use Rattle.rep_model.specs.Views.{gapless, then_more, greatest}
 use Rattle.rep_model.proofs.Greatest.{has, greatest-has, greatest-reaches}
 

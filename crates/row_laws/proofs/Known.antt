@@ -2,10 +2,10 @@
 use Rattle.std.proofs.Common.{◌≡◌, ℕ, ◌||◌, List, ◌++◌, Option, Some, None, IfSome, sym, ap, ◌∙◌, subst}
 use Rattle.std.specs.FinMap.{find}
 use Rattle.std.proofs.lemmas.Option.{none-some}
-use Rattle.rep_ops.specs.declared.op.Stamp.{Stamp}
-use Rattle.rep_ops.specs.declared.op.Op.{Op}
-use Rattle.rep_ops.specs.Orders.{operation_cmp}
-use Rattle.rep_ops.specs.Sets.{operation_at, put_at, is_acknowledged, Same}
+use Rattle.rep_op.specs.declared.op.Stamp.{Stamp}
+use Rattle.rep_op.specs.declared.op.Op.{Op}
+use Rattle.rep_op.specs.Orders.{operation_cmp}
+use Rattle.rep_op.specs.Sets.{operation_at, put_at, is_acknowledged, Same}
 use Rattle.rep_model.proofs.Lookup.{or_else}
 use Rattle.rep_model.proofs.Readers.{operation_at_both, put_at_both, is_acknowledged_both}
 use Rattle.sn_plan.specs.declared.plan.Plan.{Plan}

@@ -6,10 +6,10 @@ use Rattle.sn_session.specs.declared.session.Session.{Session}
 use Rattle.sn_session.specs.declared.change.SessionOp.{SessionOp}
 use Rattle.sn_session.specs.declared.change.SessionOp.TheVariants.{Take}
 use Rattle.sn_session.specs.Session.{applied}
-use Rattle.rep_ops.specs.declared.op.Stamp.{Stamp}
-use Rattle.rep_ops.specs.declared.op.Op.{Op}
-use Rattle.rep_ops.specs.Orders.{stamp_cmp}
-use Rattle.rep_ops.specs.Sets.{operation_at}
+use Rattle.rep_op.specs.declared.op.Stamp.{Stamp}
+use Rattle.rep_op.specs.declared.op.Op.{Op}
+use Rattle.rep_op.specs.Orders.{stamp_cmp}
+use Rattle.rep_op.specs.Sets.{operation_at}
 use Rattle.rep_model.specs.Views.{visible, gapless, history_at, history, after_change, session_of}
 use Rattle.rep_model.specs.Fresh.{one_more, greatest_epoch, next_epoch}
 use Rattle.rep_model.proofs.Readers.{stamp_total, stamp_exact, takes, has_take}

@@ -1,8 +1,8 @@
 //! The laws. Each function does nothing; its contract is a law, proved for all sets.
 
 ghost use Rattle.std.specs.Prelude.{◌≡◌, ℕ, ◌≤◌, ◌++◌, List, true};
-ghost use Rattle.rep_ops.specs.declared.op.Op.{Op};
-ghost use Rattle.rep_ops.specs.Sets.{is_acknowledged, IsConsistent};
+ghost use Rattle.rep_op.specs.declared.op.Op.{Op};
+ghost use Rattle.rep_op.specs.Sets.{is_acknowledged, IsConsistent};
 ghost use Rattle.rep_model.specs.Keep.{CountsAs, Below};
 ghost use Rattle.rep_model.specs.Ranges.{in_ranges, AreApart};
 ghost use Rattle.rep_model.specs.Limits.{acknowledged, above_a_gap, sum_to, exceptions};

@@ -5,7 +5,7 @@ use Rattle.sn_session.specs.declared.presence.Presence.TheVariants.{Active, Asle
 use Rattle.sn_session.specs.declared.session.Session.{Session}
 use Rattle.sn_session.specs.declared.change.SessionOp.TheVariants.{Take, Presence}
 use Rattle.sn_frame.specs.declared.frame.Frame.TheVariants as frames
-use Rattle.rep_ops.specs.declared.op.Put.{Put}
+use Rattle.rep_op.specs.declared.op.Put.{Put}
 use Rattle.rep_model.specs.declared.view.ClientView.{ClientView}
 use Rattle.sn_local.specs.declared.config.Addr.{Addr}
 use Rattle.sn_plan.specs.declared.row.Row.{Row}

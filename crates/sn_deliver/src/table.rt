@@ -2,7 +2,7 @@
 
 ghost use Rattle.std.specs.Prelude.{◌≡◌, IfOk};
 ghost use Rattle.sn_frame.specs.Bodies.{IsMessage};
-ghost use Rattle.rep_ops.specs.ClientIds.{IsClientId};
+ghost use Rattle.rep_op.specs.ClientIds.{IsClientId};
 ghost use Rattle.sn_local.specs.Seen.{seen_of};
 ghost use Rattle.sn_plan.specs.Plans.{Gives};
 ghost use Rattle.sn_flow.specs.Connection.{connect as connect_row};

@@ -7,7 +7,7 @@ ghost use Rattle.sn_frame.specs.declared.frame.TheConstants.{MAX_CLIENT_ID};
 ghost use Rattle.sn_local.specs.Seen.{seen_of};
 ghost use Rattle.sn_plan.specs.declared.row.Follow.TheVariants.{Delivery};
 ghost use Rattle.sn_plan.specs.Rows.{row_of, heard_row as heard_row_of};
-ghost use Rattle.rep_ops.specs.ClientIds.{IsClientId};
+ghost use Rattle.rep_op.specs.ClientIds.{IsClientId};
 ghost use Rattle.sn_deliver.specs.Waking.{claimed as claimed_draft, has_nothing as there_is_nothing, answered as answered_draft, from_sleep as row_from_sleep, from_wake as row_from_wake, woken_by as row_by_state, woken_if as row_of_session, woken as woken_row, wake_of as wake_row_of, wake as wake_row};
 
 use octets::NoMemory;

@@ -11,7 +11,7 @@ use Rattle.sn_session.specs.declared.change.SessionOp.TheVariants.{Presence, Reg
 use Rattle.sn_session.specs.Topics.{topic_named, free_id}
 use Rattle.sn_frame.specs.declared.frame.Frame.{Frame}
 use Rattle.sn_frame.specs.declared.frame.Frame.TheVariants as frames
-use Rattle.rep_ops.specs.declared.op.Put.{Put}
+use Rattle.rep_op.specs.declared.op.Put.{Put}
 use Rattle.sn_local.specs.declared.local.LocalChange.TheVariants.{Sent}
 use Rattle.sn_plan.specs.Names.{name_of}
 use Rattle.sn_plan.specs.Drafts.{Drafted, changed, changed_if, acked, sent, moved}

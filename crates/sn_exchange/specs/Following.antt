@@ -3,7 +3,7 @@
 use Rattle.std.specs.Prelude.{ℕ, List, Option, Some, None}
 use Rattle.sn_topic.specs.Table.{Entries}
 use Rattle.sn_session.specs.declared.session.Session.{Session}
-use Rattle.rep_ops.specs.declared.op.Put.{Put}
+use Rattle.rep_op.specs.declared.op.Put.{Put}
 use Rattle.sn_local.specs.declared.config.Addr.{Addr}
 use Rattle.sn_plan.specs.declared.plan.Plan.{Plan}
 use Rattle.sn_plan.specs.declared.row.Row.{Row}

@@ -10,7 +10,7 @@ use Rattle.sn_session.specs.declared.change.SessionOp.TheVariants.{Outbound}
 use Rattle.sn_session.specs.Topics.{topic_named}
 use Rattle.sn_frame.specs.declared.frame.Frame.{Frame}
 use Rattle.sn_frame.specs.declared.frame.Frame.TheVariants as frames
-use Rattle.rep_ops.specs.declared.op.Put.{Put}
+use Rattle.rep_op.specs.declared.op.Put.{Put}
 use Rattle.sn_local.specs.declared.local.LocalChange.TheVariants.{Resent}
 use Rattle.sn_plan.specs.Drafts.{Drafted, changed, sent, moved}
 use Rattle.sn_exchange.specs.declared.form.Form.{Form}

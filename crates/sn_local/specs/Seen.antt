@@ -1,6 +1,6 @@
 -- What a step reads of a set of operations.
 use Rattle.std.specs.Prelude.{ℕ, Bool, List, Option}
-use Rattle.rep_ops.specs.declared.op.Op.{Op}
+use Rattle.rep_op.specs.declared.op.Op.{Op}
 use Rattle.rep_model.specs.declared.view.ClientView.{ClientView}
 use Rattle.rep_model.specs.Views.{view, is_named, clients}
 use Rattle.rep_model.specs.Fresh.{next_epoch, next_seq}

@@ -4,7 +4,7 @@ ghost use Rattle.std.specs.Prelude.{◌≡◌, ◌+◌, ◌≤◌, vec_len};
 ghost use Rattle.std.specs.Option.{option_copied};
 ghost use Rattle.std.specs.Vec.{vec_capacity};
 ghost use Rattle.sn_session.specs.inner.Tables.{IsPlace};
-ghost use Rattle.rep_ops.specs.Orders.{client_cmp};
+ghost use Rattle.rep_op.specs.Orders.{client_cmp};
 ghost use Rattle.sn_local.specs.Timers.{AreTimers, timed, timer_of as timer_of_client, heard_at as heard_timer, heard, one_try_more as try_more, sent_at as sent_timer, resent_at as resent_timer, retried_at as retried_timer, sent_anew, sent_again, tried_again, times_owned as times_owned_client, owned_timers};
 ghost use Rattle.sn_local.specs.Seen.{seen_of};
 

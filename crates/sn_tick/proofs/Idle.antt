@@ -6,7 +6,7 @@ use Rattle.std.proofs.lemmas.Bool.Decides.{nat_tests}
 use Rattle.sn_topic.specs.Table.{Entries}
 use Rattle.sn_session.specs.declared.session.Session.{Session}
 use Rattle.sn_session.specs.declared.outbound.Outbound.{Outbound}
-use Rattle.rep_ops.specs.declared.op.Put.{Put}
+use Rattle.rep_op.specs.declared.op.Put.{Put}
 use Rattle.sn_local.specs.declared.config.Addr.{Addr}
 use Rattle.sn_local.specs.declared.local.Timer.{Timer}
 use Rattle.sn_local.specs.declared.local.WillDialog.{WillDialog}

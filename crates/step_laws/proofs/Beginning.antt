@@ -11,7 +11,7 @@ use Rattle.sn_session.specs.declared.change.SessionOp.{SessionOp}
 use Rattle.sn_session.specs.declared.change.SessionOp.TheVariants.{Presence, Outbound}
 use Rattle.sn_session.specs.Topics.{topic_named}
 use Rattle.sn_frame.specs.declared.frame.Frame.TheVariants as frames
-use Rattle.rep_ops.specs.declared.op.Put.{Put}
+use Rattle.rep_op.specs.declared.op.Put.{Put}
 use Rattle.sn_plan.specs.declared.row.Follow.{Follow}
 use Rattle.sn_plan.specs.declared.row.Follow.TheVariants as follows
 use Rattle.sn_plan.specs.Names.{name_of}

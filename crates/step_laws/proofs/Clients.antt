@@ -4,10 +4,10 @@ use Rattle.std.specs.List.{list_any, AllByRecursion}
 use Rattle.std.specs.FinMap.Entries.{same_entries}
 use Rattle.std.proofs.lemmas.Bool.{and_parts, or_cases}
 use Rattle.std.proofs.lemmas.List.Folds.{list_any-append}
-use Rattle.rep_ops.specs.declared.op.Op.{Op}
-use Rattle.rep_ops.specs.declared.op.Op.TheVariants.{Session as OfSession, Put as OfPut, Ack}
-use Rattle.rep_ops.specs.Orders.{client_cmp}
-use Rattle.rep_ops.specs.Sets.{same_client}
+use Rattle.rep_op.specs.declared.op.Op.{Op}
+use Rattle.rep_op.specs.declared.op.Op.TheVariants.{Session as OfSession, Put as OfPut, Ack}
+use Rattle.rep_op.specs.Orders.{client_cmp}
+use Rattle.rep_op.specs.Sets.{same_client}
 use Rattle.rep_model.specs.Views.{names, in_order, named, clients, names_client, is_named}
 use Rattle.rep_model.proofs.Lookup.{is_sorted-in_order}
 use Rattle.rep_model.proofs.Readers.{client_total, client_exact, same_client-true}

@@ -5,8 +5,8 @@ use Rattle.std.proofs.lemmas.Bool.Decides.{nat_tests}
 use Rattle.std.proofs.lemmas.List.Sums.{fold-append}
 use Rattle.std.proofs.lemmas.Option.{same_Some}
 use Rattle.sn_topic.specs.Table.{Entries}
-use Rattle.rep_ops.specs.declared.op.Op.{Op}
-use Rattle.rep_ops.specs.Sets.{Same}
+use Rattle.rep_op.specs.declared.op.Op.{Op}
+use Rattle.rep_op.specs.Sets.{Same}
 use Rattle.rep_model.specs.declared.view.ClientView.{ClientView}
 use Rattle.rep_model.specs.Views.{view, clients, is_named}
 use Rattle.rep_model.proofs.Named.{clients-named, unnamed-unseen}

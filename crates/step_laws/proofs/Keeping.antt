@@ -12,7 +12,7 @@ use Rattle.sn_session.specs.declared.presence.Presence.TheVariants.{Asleep}
 use Rattle.sn_session.specs.Received.{is_received, id_has_no_room}
 use Rattle.sn_frame.specs.declared.frame.Frame.TheVariants as frames
 use Rattle.sn_frame.specs.Grammar.{spelling}
-use Rattle.rep_ops.specs.declared.op.Put.{Put}
+use Rattle.rep_op.specs.declared.op.Put.{Put}
 use Rattle.sn_local.specs.declared.config.Send.{Send}
 use Rattle.sn_local.specs.declared.local.Timer.{Timer}
 use Rattle.sn_local.specs.declared.local.WillDialog.{WillDialog}

@@ -16,7 +16,7 @@ use Rattle.sn_session.specs.Topics.{topic_named, free_id}
 use Rattle.sn_session.specs.Session.{applied, changed as changed_session}
 use Rattle.sn_frame.specs.declared.frame.Frame.{Frame}
 use Rattle.sn_frame.specs.declared.frame.Frame.TheVariants as frames
-use Rattle.rep_ops.specs.declared.op.Put.{Put}
+use Rattle.rep_op.specs.declared.op.Put.{Put}
 use Rattle.sn_local.specs.declared.config.Addr.{Addr}
 use Rattle.sn_local.specs.declared.config.Send.{Send}
 use Rattle.sn_plan.specs.declared.draft.NewPut.{NewPut}

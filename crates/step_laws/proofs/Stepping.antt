@@ -9,9 +9,9 @@ use Rattle.sn_session.specs.declared.will.Will.{Will}
 use Rattle.sn_session.specs.declared.change.SessionOp.{SessionOp}
 use Rattle.sn_session.specs.declared.change.SessionOp.TheVariants.{Presence}
 use Rattle.sn_session.specs.Session.{applied, empty_session}
-use Rattle.rep_ops.specs.declared.op.Op.{Op}
-use Rattle.rep_ops.specs.declared.op.Put.{Put}
-use Rattle.rep_ops.specs.Sets.{same_client, Same}
+use Rattle.rep_op.specs.declared.op.Op.{Op}
+use Rattle.rep_op.specs.declared.op.Put.{Put}
+use Rattle.rep_op.specs.Sets.{same_client, Same}
 use Rattle.rep_model.specs.declared.view.ClientView.{ClientView}
 use Rattle.rep_model.specs.Views.{view, clients, is_named}
 use Rattle.rep_model.proofs.Readers.{same_client-true}

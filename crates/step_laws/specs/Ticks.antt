@@ -1,8 +1,8 @@
 -- Ticks of one moment, one after the other, and how many of them do something.
 use Rattle.std.specs.Prelude.{◌≡◌, ℕ, ◌+◌, Bool, ◌||◌, if◌then◌else◌, is_some, List, [], ◌∷◌, ◌++◌, Some}
 use Rattle.sn_topic.specs.Table.{Entries}
-use Rattle.rep_ops.specs.declared.op.Op.{Op}
-use Rattle.rep_ops.specs.Sets.{Same}
+use Rattle.rep_op.specs.declared.op.Op.{Op}
+use Rattle.rep_op.specs.Sets.{Same}
 use Rattle.sn_local.specs.declared.config.Addr.{Addr}
 use Rattle.sn_plan.specs.declared.plan.Plan.{Plan}
 use Rattle.sn_local.specs.Locals.{Local, after_all}

@@ -3,7 +3,7 @@
 ghost use Rattle.std.specs.Prelude.{◌≡◌, ◌≤◌, ℕ, ◌+◌, ◌*◌, false, true, List, length, None, Some};
 ghost use Rattle.sn_topic.specs.Table.{Entries};
 ghost use Rattle.sn_frame.specs.declared.frame.Frame.{Frame};
-ghost use Rattle.rep_ops.specs.declared.op.Op.{Op};
+ghost use Rattle.rep_op.specs.declared.op.Op.{Op};
 ghost use Rattle.rep_model.specs.Views.{clients};
 ghost use Rattle.sn_local.specs.declared.config.Addr.{Addr};
 ghost use Rattle.sn_plan.specs.declared.plan.Plan.{Plan};

@@ -1,6 +1,6 @@
 -- What the parts of a call come to. Only private functions cite these.
 use Rattle.std.specs.Prelude.{◌≡◌, ◌≢◌, ℕ, Bool, true, if◌then◌else◌, List, [], length, Option, Some, None, Result, Ok, Err}
-use Rattle.rep_ops.specs.declared.op.Op.{Op}
+use Rattle.rep_op.specs.declared.op.Op.{Op}
 use Rattle.sn_frame.specs.declared.frame.Frame.{Frame}
 use Rattle.sn_frame.specs.declared.fault.FrameFault.TheVariants as frame_faults
 use Rattle.sn_frame.specs.Faults.{IsFirstFault}

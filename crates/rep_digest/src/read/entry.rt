@@ -1,7 +1,7 @@
 //! An entry.
 
 ghost use Rattle.std.specs.Prelude.{◌≡◌, []};
-ghost use Rattle.rep_ops.specs.Reading.{Gives, many_at};
+ghost use Rattle.rep_octets.specs.Reading.{Gives, many_at};
 ghost use Rattle.rep_digest.specs.Reading.{origin_at, origins_at, stamp_of as stamp_read, entry_at};
 
 use super::part::{read_origin, read_seen};

@@ -2,7 +2,7 @@
 use Rattle.std.specs.Prelude.{◌≡◌, ℕ, ◌+◌, ◌≤◌, false, ⊤, List, length, count_by, Option, None, Some}
 use Rattle.std.specs.Map.{keys_of}
 use Rattle.sn_session.specs.declared.change.SessionOp.{SessionOp}
-use Rattle.rep_ops.specs.declared.op.Stamp.{Stamp}
+use Rattle.rep_op.specs.declared.op.Stamp.{Stamp}
 use Rattle.rep_plain.specs.Steps.{capped, waits}
 use Rattle.rep_log.specs.declared.log.Log.{Log}
 use Rattle.rep_entry.specs.declared.entry.Entry.{Entry}

@@ -3,8 +3,8 @@ use Rattle.std.specs.Prelude.{◌≡◌, ℕ, List, [], ◌∷◌, ◌++◌, len
 use Rattle.std.specs.List.{AllByRecursion, list_any}
 use Rattle.std.specs.declared.cmp.Ordering.{Ordering}
 use Rattle.std.specs.FinMap.{find}
-use Rattle.rep_ops.specs.declared.op.Op.{Op}
-use Rattle.rep_ops.specs.Orders.{client_cmp}
+use Rattle.rep_op.specs.declared.op.Op.{Op}
+use Rattle.rep_op.specs.Orders.{client_cmp}
 use Rattle.rep_model.specs.declared.fault.TheConstants.{MOST_PENDING, MOST_PARKED, MOST_EXCEPTIONS}
 use Rattle.rep_model.specs.declared.fault.Limit.{Limit}
 use Rattle.rep_plain.specs.Rows.{flat, own}

@@ -1,5 +1,5 @@
 use Rattle.std.proofs.Common.{◌≡◌, ◌∙◌, sym, ap, Some}
-use Rattle.rep_ops.specs.Sets.{same_client}
+use Rattle.rep_op.specs.Sets.{same_client}
 use Rattle.rep_digest.specs.Answers.{entry_of}
 use Rattle.rep_digest.specs.WellMade.{IsEntry}
 use Rattle.rep_digest.proofs.Finding.{found, absent, found_all}

@@ -1,4 +1,4 @@
-use Rattle.rep_ops.specs.Orders.{client_cmp}
+use Rattle.rep_op.specs.Orders.{client_cmp}
 use Rattle.rep_model.proofs.Readers.{client_total}
 use Rattle.sn_session.proofs.Places.{placed}
 use Rattle.rep_digest.proofs.Grouping.{ascends_from}

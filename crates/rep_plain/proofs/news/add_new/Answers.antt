@@ -1,5 +1,5 @@
 use Rattle.std.proofs.Common.{◌++◌, ◌∷◌, [], not, if◌then◌else◌, sym, ap, subst, ◌∙◌, append-nil, true≢false, ⊎_elim}
-use Rattle.rep_ops.specs.Sets.{Agrees}
+use Rattle.rep_op.specs.Sets.{Agrees}
 use Rattle.rep_plain.specs.Rows.{flat, own}
 use Rattle.rep_plain.specs.Tables.{rows_of}
 use Rattle.rep_plain.specs.inner.Tables.{is_known, IsRefusalOf}

@@ -1,6 +1,6 @@
 use Rattle.std.proofs.Common.{sym, ap, ◌∙◌}
 use Rattle.std.specs.BTreeMap.{insert_entry}
-use Rattle.rep_ops.specs.Orders.{operation_cmp}
+use Rattle.rep_op.specs.Orders.{operation_cmp}
 use Rattle.rep_plain.proofs.Entering.{entered_operation}
 use Rattle.rep_plain.proofs.replay.note_operation.Goals as goal
 

@@ -3,9 +3,9 @@ use Rattle.std.specs.FinMap.{is_sorted}
 use Rattle.std.specs.FinMap.Entries.{is_sorted-put}
 use Rattle.std.specs.List.{insert}
 use Rattle.sn_session.specs.inner.Tables.{IsAt, IsGap}
-use Rattle.rep_ops.specs.declared.op.Op.{Op}
-use Rattle.rep_ops.specs.Orders.{client_cmp, client_of}
-use Rattle.rep_ops.specs.Sets.{Same}
+use Rattle.rep_op.specs.declared.op.Op.{Op}
+use Rattle.rep_op.specs.Orders.{client_cmp, client_of}
+use Rattle.rep_op.specs.Sets.{Same}
 use Rattle.rep_model.specs.Keep.{keep}
 use Rattle.rep_model.proofs.Readers.{client_total}
 use Rattle.rep_plain.specs.Rows.{own}

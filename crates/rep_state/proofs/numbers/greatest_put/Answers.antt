@@ -1,5 +1,5 @@
 use Rattle.std.proofs.Common.{◌≡◌, ◌-◌, List, ◌∷◌, drop, sym, ap, ◌∙◌, arith}
-use Rattle.rep_ops.specs.declared.op.Put.{Put}
+use Rattle.rep_op.specs.declared.op.Put.{Put}
 use Rattle.rep_model.specs.Fresh.{largest}
 use Rattle.rep_plain.proofs.Places.{drop_back}
 use Rattle.rep_entry.specs.inner.Numbers.{seq_from}

@@ -3,7 +3,7 @@ use Rattle.sn_session.specs.Tables.{is_ascending, with_entry}
 use Rattle.std.specs.Map.{lookup}
 use Rattle.std.specs.FinMap.{find, put}
 use Rattle.std.specs.Prelude.{bytes_eq}
-use Rattle.rep_ops.specs.Orders.{client_cmp}
+use Rattle.rep_op.specs.Orders.{client_cmp}
 use Rattle.rep_state.specs.Tables.{by_client}
 use Rattle.rep_state.specs.inner.Tables.{place_cmp}
 use Rattle.rep_state.specs.declared.places.Place.{Place}

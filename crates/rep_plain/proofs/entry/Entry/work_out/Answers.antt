@@ -1,7 +1,7 @@
 use Rattle.std.proofs.Common.{length, ap, ◌∙◌}
 use Rattle.std.specs.List.{filter_map}
-use Rattle.rep_ops.specs.Orders.{operation_cmp}
-use Rattle.rep_ops.specs.Sets.{operations}
+use Rattle.rep_op.specs.Orders.{operation_cmp}
+use Rattle.rep_op.specs.Sets.{operations}
 use Rattle.rep_model.specs.Views.{visible, session_of, in_order, pending}
 use Rattle.rep_plain.specs.Steps.{capped}
 use Rattle.rep_plain.specs.inner.Steps.{range_in, above_gaps}

@@ -1,9 +1,9 @@
 use Rattle.std.proofs.Common.{ℕ, ◌+◌, ◌∷◌, List, filter, drop, Some, refl, sym, ap, ◌∙◌, arith}
 use Rattle.std.proofs.lemmas.List.{length-map}
-use Rattle.rep_ops.specs.declared.op.Op.{Op}
+use Rattle.rep_op.specs.declared.op.Op.{Op}
 use Rattle.rep_model.specs.Views.{clients, view}
 use Rattle.rep_model.proofs.Readers.{client_exact}
-use Rattle.rep_ops.specs.Orders.{client_cmp}
+use Rattle.rep_op.specs.Orders.{client_cmp}
 use Rattle.rep_plain.specs.Rows.{flat, has_any}
 use Rattle.rep_plain.specs.inner.Rows.{named_rows}
 use Rattle.rep_plain.proofs.Places.{place_within}
