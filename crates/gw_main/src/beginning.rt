@@ -1,7 +1,7 @@
 //! Opening a gateway as its settings say.
 
 ghost use Rattle.std.specs.Prelude.{◌≡◌, IfOk, IfErr, length};
-ghost use Rattle.rep_model.specs.Views.{clients as clients_of};
+ghost use Rattle.rep_model.specs.Views as spec;
 ghost use Rattle.jr_disk.specs.Disk.{image};
 ghost use Rattle.jr_journal.specs.Records.{records};
 ghost use Rattle.gw_node.specs.Parts.{state_of, records_of};
@@ -78,7 +78,7 @@ fn open<R: Replica, D: Disk + Drop>(
         Keeps (ops_of (records settings.now.gateway (image (D.slots disk))))
         (state_of R.kept opened.0).kept) }
     ensures clients { IfOk result (λ opened. opened.1
-        ≡ length (clients_of (state_of R.kept opened.0).kept)) }
+        ≡ length (spec.clients (state_of R.kept opened.0).kept)) }
     ensures may { IfErr result (λ fault. MayRefuse (told fault)) }
 {
     let Ok(config) = config_of(alloc, settings) else {

@@ -1,7 +1,8 @@
 //! What is done with a gateway between two shifts.
 
 ghost use Rattle.std.specs.Prelude.{◌≡◌, true, false, OnOk, OnErr, IfErr, MatchResult};
-ghost use Rattle.gw_node.specs.Parts.{state_of, is_halted as is_stopped};
+ghost use Rattle.gw_node.specs.Parts.{state_of};
+ghost use Rattle.gw_node.specs.Parts as spec;
 ghost use Rattle.gw_answer.specs.Answers.{told};
 ghost use Rattle.gw_node.specs.Opening.{ReopenCall};
 ghost use Rattle.gw_node.specs.Carrying.{TakesNothing, TakesAgain};
@@ -31,8 +32,8 @@ pub fn tend<R: Replica, D: Disk + Drop>(
     alloc: Global,
     node: &mut Node<R, D>,
 ) -> Result<Tended, NodeFault>
-    ensures runs { OnOk result (is_stopped (state_of R.kept node.new) ≡ false) }
-    ensures halts { OnErr result (is_stopped (state_of R.kept node.new) ≡ true) }
+    ensures runs { OnOk result (spec.is_halted (state_of R.kept node.new) ≡ false) }
+    ensures halts { OnErr result (spec.is_halted (state_of R.kept node.new) ≡ true) }
     ensures tended { MatchResult result (λ tended. IsTended (state_of R.kept node.old) tended
         (state_of R.kept node.new)) (λ fault. IsGivenUp (state_of R.kept node.old) (told fault)
         (state_of R.kept node.new)) }
@@ -71,9 +72,9 @@ fn compact<R: Replica, D: Disk + Drop>(
     alloc: Global,
     node: &mut Node<R, D>,
 ) -> Result<Tended, NodeFault>
-    requires { is_stopped (state_of R.kept node.old) ≡ false }
-    ensures runs { OnOk result (is_stopped (state_of R.kept node.new) ≡ false) }
-    ensures halts { OnErr result (is_stopped (state_of R.kept node.new) ≡ true) }
+    requires { spec.is_halted (state_of R.kept node.old) ≡ false }
+    ensures runs { OnOk result (spec.is_halted (state_of R.kept node.new) ≡ false) }
+    ensures halts { OnErr result (spec.is_halted (state_of R.kept node.new) ≡ true) }
     ensures ends { MatchResult result (λ tended. EndsAs (state_of R.kept node.old) tended
         (state_of R.kept node.new)) (λ fault. EndsRefused (state_of R.kept node.old) (told fault)
         (state_of R.kept node.new)) }

@@ -5,8 +5,9 @@ ghost use Rattle.rep_digest.specs.Spelling.{IsWithinLimit};
 ghost use Rattle.sn_frame.specs.Bodies.{IsMessage, IsValue};
 ghost use Rattle.sn_frame.specs.Grammar.{Spells};
 ghost use Rattle.gw_node.specs.Occasions.{Datagram, Clock};
-ghost use Rattle.gw_node.specs.Excuses.{excuses as defined_excuses};
-ghost use Rattle.gw_node.specs.Parts.{state_of, is_halted as is_stopped};
+ghost use Rattle.gw_node.specs.Excuses as spec;
+ghost use Rattle.gw_node.specs.Parts.{state_of};
+ghost use Rattle.gw_node.specs.Parts as parts;
 ghost use Rattle.gw_answer.specs.Answers.{only_sends};
 ghost use Rattle.gw_node.specs.Calls.{OwnCall, shows, DigestCall, AnswerCall, StepCall};
 ghost use Rattle.gw_node.specs.inner.Handling.{IsNoFrameBy, IsNoPlan, planned_for, ticked, CarriedOut, Answers, IsIdleAt};
@@ -95,7 +96,7 @@ fn carry_for_frame<R: Replica, D: Disk + Drop>(
     plan: Plan,
 ) -> Result<Shares, Refusal>
     ensures { CarriedOut (state_of R.kept node.old) plan
-        (only_sends (defined_excuses from frame.now plan.sends)) result (state_of R.kept node.new) }
+        (only_sends (spec.excuses from frame.now plan.sends)) result (state_of R.kept node.new) }
 {
     if plan.ops.is_empty() {
         return note(alloc, node, plan);
@@ -134,7 +135,7 @@ fn answer_frame<R: Replica, D: Disk + Drop>(
 ) -> Result<Shares, Refusal>
     requires { IsMessage frame.now }
     ensures { Answers (state_of R.kept node.old) (planned_for (state_of R.kept node.old) from
-        frame.now now) (defined_excuses from frame.now) result (state_of R.kept node.new) }
+        frame.now now) (spec.excuses from frame.now) result (state_of R.kept node.new) }
 {
     match plan_for(alloc, node, from, frame, now) {
         Ok(plan) => carry_for_frame(alloc, node, from, frame, plan),
@@ -198,7 +199,7 @@ fn answer_tick<R: Replica, D: Disk + Drop>(
     node: &mut Node<R, D>,
     now: u64,
 ) -> Result<Shares, Refusal>
-    requires { is_stopped (state_of R.kept node.old) ≡ false }
+    requires { parts.is_halted (state_of R.kept node.old) ≡ false }
     ensures { OwnCall (state_of R.kept node.old) Clock now result (state_of R.kept node.new) }
 {
     match plan_of_tick(alloc, node, now) {

@@ -39,7 +39,7 @@ impl<R: Replica, D: Disk + Drop> Node<R, D> {
     ghost use Rattle.rep_op.specs.declared.op.Op.{Op};
     ghost use Rattle.rep_model.specs.Keep.{CountsAs};
     ghost use Rattle.rep_model.specs.Held.{IsHeld};
-    ghost use Rattle.rep_model.specs.Views.{clients as clients_of};
+    ghost use Rattle.rep_model.specs.Views as views;
     ghost use Rattle.jr_disk.specs.Disk.{image};
     ghost use Rattle.jr_journal.specs.Records.{records};
     ghost use Rattle.jr_journal.specs.Faults.{is_fresh, fault_of};
@@ -47,7 +47,8 @@ impl<R: Replica, D: Disk + Drop> Node<R, D> {
     ghost use Rattle.gw_answer.specs.declared.fault.NodeFault.TheVariants as faults;
     ghost use Rattle.gw_answer.specs.declared.step.Step.TheVariants as steps;
     ghost use Rattle.gw_node.specs.Occasions.{Datagram, Clock};
-    ghost use Rattle.gw_node.specs.Parts.{state_of, is_halted as is_stopped, disk_of, records_of};
+    ghost use Rattle.gw_node.specs.Parts.{state_of, disk_of, records_of};
+    ghost use Rattle.gw_node.specs.Parts as spec;
     ghost use Rattle.gw_answer.specs.Answers.{told, said};
     ghost use Rattle.gw_node.specs.Calls.{OwnCall, TakeCall, ViewCall, DigestCall, AnswerCall, CompactCall, StepCall};
     ghost use Rattle.gw_node.specs.Keeping.{Keeps};
@@ -282,7 +283,7 @@ impl<R: Replica, D: Disk + Drop> Node<R, D> {
 
     /// Whether a write has failed since the node was opened, or an attempt to open it again.
     pub fn is_halted(&self) -> bool
-        ensures { result ≡ is_stopped (state_of R.kept self.now) }
+        ensures { result ≡ spec.is_halted (state_of R.kept self.now) }
     {
         self.journal.is_halted()
     }
@@ -323,7 +324,7 @@ impl<R: Replica, D: Disk + Drop> Node<R, D> {
 
     /// The clients that the node knows, in ascending order.
     pub fn clients(&self, alloc: Global) -> Result<Vec<ClientId>, NodeFault>
-        ensures ok { IfOk result (λ all. all.items ≡ clients_of (state_of R.kept self.now).kept) }
+        ensures ok { IfOk result (λ all. all.items ≡ views.clients (state_of R.kept self.now).kept) }
         ensures err { IfErr result (λ fault. fault ≡ faults.Memory) }
     {
         match self.replica.clients(alloc) {

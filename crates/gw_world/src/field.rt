@@ -2,7 +2,7 @@
 
 ghost use Rattle.std.specs.Prelude.{◌≡◌, ◌<◌, false, Ok, IfOk, IfErr, OnOk, IfSome, length, map, vec_len};
 ghost use Rattle.std.specs.List.{AllByRecursion};
-ghost use Rattle.rep_model.specs.Views.{view as view_by};
+ghost use Rattle.rep_model.specs.Views as spec;
 ghost use Rattle.gw_answer.specs.declared.refusal.Refusal.TheVariants as refusals;
 ghost use Rattle.gw_node.specs.Parts.{state_of, disk_of, records_of};
 ghost use Rattle.gw_answer.specs.Answers.{told, said};
@@ -310,7 +310,7 @@ fn view_of<R: Replica>(
     node: &Node<R, MemoryDisk>,
     client: &ClientId,
 ) -> Result<ClientView, WorldFault>
-    ensures ok { IfOk result (λ seen. seen ≡ view_by client.now (state_of R.kept node.now).kept) }
+    ensures ok { IfOk result (λ seen. seen ≡ spec.view client.now (state_of R.kept node.now).kept) }
     ensures err { IfErr result (λ fault. fault ≡ WorldFault.Memory) }
 {
     match node.view(alloc, client) {

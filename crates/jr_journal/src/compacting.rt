@@ -5,7 +5,8 @@ ghost use Rattle.std.specs.List.{AllByRecursion};
 ghost use Rattle.jr_disk.specs.Disk.{at, replaced, appended};
 ghost use Rattle.jr_journal.specs.Records.{header, written, base_bytes};
 ghost use Rattle.jr_journal.specs.inner.Records.{IsReadable};
-ghost use Rattle.jr_journal.specs.Journals.{other as beside, emptied, after_append, AppendedAs};
+ghost use Rattle.jr_journal.specs.Journals.{emptied, after_append, AppendedAs};
+ghost use Rattle.jr_journal.specs.Journals as spec;
 
 use crate::content::MAGIC;
 use crate::fault::JournalFault;
@@ -18,7 +19,7 @@ use std::alloc::Global;
 
 /// The other slot.
 pub(crate) fn other(slot: Slot) -> Slot
-    ensures { result ≡ beside slot }
+    ensures { result ≡ spec.other slot }
 {
     match slot {
         Slot::First => Slot::Second,

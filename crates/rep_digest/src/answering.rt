@@ -4,11 +4,13 @@ ghost use Rattle.std.specs.Prelude.{◌≡◌, ◌≤◌, ◌||◌, ◌++◌, �
 ghost use Rattle.std.specs.List.{flat_map};
 ghost use Rattle.rep_ops.specs.Making.{AreWellMade};
 ghost use Rattle.rep_ops.specs.Splitting.{all_of};
-ghost use Rattle.rep_op.specs.WellMade.{is_well_made as made_test};
-ghost use Rattle.rep_model.specs.Ranges.{in_ranges as ranges_test};
-ghost use Rattle.rep_digest.specs.Answers.{acknowledged_in as acknowledged_of, waiting_in as waiting_of, IsAnswer};
+ghost use Rattle.rep_op.specs.WellMade as made;
+ghost use Rattle.rep_model.specs.Ranges as range_list;
+ghost use Rattle.rep_digest.specs.Answers.{IsAnswer};
+ghost use Rattle.rep_digest.specs.Answers as spec;
 ghost use Rattle.rep_digest.specs.WellMade.{IsEntry, IsDigest};
-ghost use Rattle.rep_digest.specs.inner.Steps.{before, behind as behind_range, outside, ack_of, left_of, left_by, IsLeft};
+ghost use Rattle.rep_digest.specs.inner.Steps.{before, outside, ack_of, left_of, left_by, IsLeft};
+ghost use Rattle.rep_digest.specs.inner.Steps as steps;
 
 use super::cover::{
     acknowledged_in, beginning_by, ending_from, find_entry, in_ranges, sees, waiting_in,
@@ -92,7 +94,7 @@ fn add_left_of(
     op: &Op,
 ) -> Result<(), NoMemory>
     requires digest { IsDigest entries.now }
-    requires made { IsTrue (made_test op.now) }
+    requires made { IsTrue (made.is_well_made op.now) }
     ensures { OnOk result (left.new.items ≡ left.old.items ++ left_by entries.now op.now) }
 {
     match find_entry(entries, op.client()) {
@@ -109,7 +111,7 @@ fn add_left_by(
     op: &Op,
 ) -> Result<(), NoMemory>
     requires entry { IsEntry entry.now }
-    requires made { IsTrue (made_test op.now) }
+    requires made { IsTrue (made.is_well_made op.now) }
     ensures { OnOk result (left.new.items ≡ left.old.items ++ left_of (Some entry.now) op.now) }
 {
     match op {
@@ -140,8 +142,8 @@ fn add_left_by(
 /// Whether a message waits or is acknowledged.
 fn covers(entry: &ClientEntry, origin: u8, seq: u64) -> bool
     requires { IsEntry entry.now }
-    ensures { result ≡ (ranges_test seq (waiting_of origin (Some entry.now)) || ranges_test seq
-        (acknowledged_of origin (Some entry.now))) }
+    ensures { result ≡ (range_list.in_ranges seq (spec.waiting_in origin (Some entry.now)) || range_list.in_ranges seq
+        (spec.acknowledged_in origin (Some entry.now))) }
 {
     in_ranges(seq, waiting_in(entry, origin)) || in_ranges(seq, acknowledged_in(entry, origin))
 }
@@ -195,7 +197,7 @@ fn add_before(
 
 /// What of a range is behind another.
 fn behind(range: (u64, u64), covered: (u64, u64)) -> Option<(u64, u64)>
-    ensures { result ≡ behind_range range covered }
+    ensures { result ≡ steps.behind range covered }
 {
     if range.1 < covered.0 || covered.1 < range.0 {
         Some(range)

@@ -4,12 +4,15 @@ ghost use Rattle.std.specs.Prelude.{◌≡◌, ◌==◌, Some, None, MatchOption
 ghost use Rattle.std.specs.List.{find};
 ghost use Rattle.sn_session.specs.inner.Tables.{IsPlace};
 ghost use Rattle.rep_op.specs.Orders.{client_cmp};
-ghost use Rattle.rep_model.specs.Keep.{is_below as below_test};
-ghost use Rattle.rep_model.specs.Limits.{is_in_prefix as prefix_test};
-ghost use Rattle.rep_model.specs.Ranges.{in_ranges as ranges_test, AreApart};
-ghost use Rattle.rep_digest.specs.Answers.{entry_of, acknowledged_in as acknowledged_of, waiting_in as waiting_of, sees as sees_test};
+ghost use Rattle.rep_model.specs.Keep as keeps;
+ghost use Rattle.rep_model.specs.Limits as limits;
+ghost use Rattle.rep_model.specs.Ranges.{AreApart};
+ghost use Rattle.rep_model.specs.Ranges as range_list;
+ghost use Rattle.rep_digest.specs.Answers.{entry_of};
+ghost use Rattle.rep_digest.specs.Answers as spec;
 ghost use Rattle.rep_digest.specs.WellMade.{IsEntry, ClientsAscend, IsDigest};
-ghost use Rattle.rep_digest.specs.inner.Steps.{ending_from as ending_test, beginning_by as beginning_test, begins_by};
+ghost use Rattle.rep_digest.specs.inner.Steps.{begins_by};
+ghost use Rattle.rep_digest.specs.inner.Steps as steps;
 
 use super::entry::ClientEntry;
 use super::origins::find_origin;
@@ -38,7 +41,7 @@ fn place(entries: &[ClientEntry], client: &ClientId) -> Result<usize, usize>
 /// The acknowledged ranges that the entry has of an origin.
 pub fn acknowledged_in(entry: &ClientEntry, origin: u8) -> &[(u64, u64)]
     requires { IsEntry entry.now }
-    ensures ranges { result.now ≡ acknowledged_of origin (Some entry.now) }
+    ensures ranges { result.now ≡ spec.acknowledged_in origin (Some entry.now) }
     ensures apart { AreApart result.now }
 {
     match find_origin(entry.origins.as_slice(), origin) {
@@ -50,7 +53,7 @@ pub fn acknowledged_in(entry: &ClientEntry, origin: u8) -> &[(u64, u64)]
 /// The ranges of messages that wait which the entry has of an origin.
 pub fn waiting_in(entry: &ClientEntry, origin: u8) -> &[(u64, u64)]
     requires { IsEntry entry.now }
-    ensures ranges { result.now ≡ waiting_of origin (Some entry.now) }
+    ensures ranges { result.now ≡ spec.waiting_in origin (Some entry.now) }
     ensures apart { AreApart result.now }
 {
     match find_origin(entry.origins.as_slice(), origin) {
@@ -61,14 +64,14 @@ pub fn waiting_in(entry: &ClientEntry, origin: u8) -> &[(u64, u64)]
 
 /// Whether the entry sees a session operation: below its stamp, or at it among those without a gap.
 pub fn sees(entry: &ClientEntry, stamp: Stamp, counter: u8) -> bool
-    ensures { result ≡ sees_test (Some entry.now) (stamp, counter) }
+    ensures { result ≡ spec.sees (Some entry.now) (stamp, counter) }
 {
     is_below(stamp, entry.stamp) || is_in_prefix(entry.stamp, entry.prefix, stamp, counter)
 }
 
 /// Whether a stamp is below the visible one.
 fn is_below(stamp: Stamp, visible: Option<Stamp>) -> bool
-    ensures { result ≡ below_test stamp visible }
+    ensures { result ≡ keeps.is_below stamp visible }
 {
     match visible {
         Some(seen) => stamp < seen,
@@ -78,7 +81,7 @@ fn is_below(stamp: Stamp, visible: Option<Stamp>) -> bool
 
 /// Whether an operation is among the first of the visible stamp.
 fn is_in_prefix(visible: Option<Stamp>, prefix: u16, stamp: Stamp, counter: u8) -> bool
-    ensures { result ≡ prefix_test visible prefix (stamp, counter) }
+    ensures { result ≡ limits.is_in_prefix visible prefix (stamp, counter) }
 {
     match visible {
         Some(seen) => stamp == seen && (counter as u16) < prefix,
@@ -89,7 +92,7 @@ fn is_in_prefix(visible: Option<Stamp>, prefix: u16, stamp: Stamp, counter: u8) 
 /// Whether a number is in one of the ranges. The time is logarithmic.
 pub fn in_ranges(number: u64, ranges: &[(u64, u64)]) -> bool
     requires { AreApart ranges.now }
-    ensures { result ≡ ranges_test number ranges.now }
+    ensures { result ≡ range_list.in_ranges number ranges.now }
 {
     begins(number, ending_from(number, ranges))
 }
@@ -107,7 +110,7 @@ fn begins(number: u64, ranges: &[(u64, u64)]) -> bool
 /// The ranges from the first that does not end before the number. The time is logarithmic.
 pub fn ending_from(number: u64, ranges: &[(u64, u64)]) -> &[(u64, u64)]
     requires { AreApart ranges.now }
-    ensures { result.now ≡ ending_test number ranges.now }
+    ensures { result.now ≡ steps.ending_from number ranges.now }
 {
     let at = ranges.partition_point(|range| range.1 < number);
     ranges.split_at(at).1
@@ -116,7 +119,7 @@ pub fn ending_from(number: u64, ranges: &[(u64, u64)]) -> &[(u64, u64)]
 /// The ranges up to the last that begins at the number or before it. The time is logarithmic.
 pub fn beginning_by(number: u64, ranges: &[(u64, u64)]) -> &[(u64, u64)]
     requires { AreApart ranges.now }
-    ensures ranges { result.now ≡ beginning_test number ranges.now }
+    ensures ranges { result.now ≡ steps.beginning_by number ranges.now }
     ensures apart { AreApart result.now }
 {
     let at = ranges.partition_point(|range| range.0 <= number);

@@ -9,7 +9,7 @@ ghost use Rattle.sn_session.specs.declared.change.SessionOp.{SessionOp as OfChan
 ghost use Rattle.sn_session.specs.inner.Tables.{IsPlace};
 ghost use Rattle.rep_op.specs.declared.op.Stamp.{Stamp as OfStamp};
 ghost use Rattle.rep_op.specs.Orders.{operation_cmp};
-ghost use Rattle.rep_model.specs.Keep.{is_below as below_test};
+ghost use Rattle.rep_model.specs.Keep as spec;
 ghost use Rattle.rep_plain.specs.Steps.{waits};
 
 use super::behind::put_behind;
@@ -81,7 +81,7 @@ impl Known {
 
     /// Forgets what is below the stamp.
     pub fn forget_below(&mut self, stamp: Stamp)
-        ensures { self.new ≡ filter (λ e. not (below_test e.0.0 (Some stamp))) self.old }
+        ensures { self.new ≡ filter (λ e. not (spec.is_below e.0.0 (Some stamp))) self.old }
     {
         self.ops.retain(|op| !(op.0.0 < stamp));
     }
@@ -143,8 +143,8 @@ pub(crate) fn find_op<'a>(ops: &'a [NamedOp], stamp: Stamp, counter: u8) -> Opti
 /// Of the operations, which stand in order, those from a stamp on; contracts see that none of these is left out. The time is logarithmic.
 pub(crate) fn from_stamp(ops: &[NamedOp], stamp: Stamp) -> &[NamedOp]
     requires { T (is_sorted operation_cmp ops.now) }
-    ensures kept { filter (λ e. not (below_test e.0.0 (Some stamp))) result.now
-        ≡ filter (λ e. not (below_test e.0.0 (Some stamp))) ops.now }
+    ensures kept { filter (λ e. not (spec.is_below e.0.0 (Some stamp))) result.now
+        ≡ filter (λ e. not (spec.is_below e.0.0 (Some stamp))) ops.now }
     ensures ordered { (more : List ((OfStamp × ℕ) × OfChange))
         → T (is_sorted operation_cmp (ops.now ++ more))
         → T (is_sorted operation_cmp (result.now ++ more)) }

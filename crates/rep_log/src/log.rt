@@ -10,7 +10,7 @@ ghost use Rattle.std.specs.Ordering.{is_lt};
 ghost use Rattle.rep_op.specs.declared.op.Stamp.{Stamp as OfStamp};
 ghost use Rattle.rep_op.specs.Orders.{operation_cmp};
 ghost use Rattle.sn_session.specs.declared.change.SessionOp.{SessionOp};
-ghost use Rattle.rep_model.specs.Keep.{is_below as below_test};
+ghost use Rattle.rep_model.specs.Keep as spec;
 ghost use Rattle.rep_model.specs.Views.{session_of};
 ghost use Rattle.rep_plain.specs.Steps.{waits};
 ghost use Rattle.rep_log.specs.Logs.{history_in};
@@ -43,7 +43,7 @@ pub struct Log {
 
 /// Whether the stamp is below the visible one.
 fn is_below(stamp: Stamp, visible: Option<Stamp>) -> bool
-    ensures { result ≡ below_test stamp visible }
+    ensures { result ≡ spec.is_below stamp visible }
 {
     match visible {
         Some(seen) => stamp < seen,
@@ -182,7 +182,7 @@ impl Log {
     fn forget_below(&mut self, alloc: Global, known: &Known, stamp: Stamp) -> Result<(), NoMemory>
         requires { T (is_sorted operation_cmp (all_of known.now self.old)) }
         ensures { OnOk result (all_of known.now self.new
-            ≡ filter (λ e. not (below_test e.0.0 (Some stamp))) (all_of known.now self.old)) }
+            ≡ filter (λ e. not (spec.is_below e.0.0 (Some stamp))) (all_of known.now self.old)) }
     {
         self.begin_anew(alloc, from_stamp(self.left(known), stamp))?;
         self.more.forget_below(stamp);
@@ -236,7 +236,7 @@ impl Log {
     fn take_up(&mut self, alloc: Global, known: &Known, stamp: Stamp) -> Result<(), NoMemory>
         requires { T (is_sorted operation_cmp (all_of known.now self.old)) }
         ensures kept { OnOk result (all_of known.now self.new
-            ≡ filter (λ e. not (below_test e.0.0 (Some stamp))) (all_of known.now self.old)) }
+            ≡ filter (λ e. not (spec.is_below e.0.0 (Some stamp))) (all_of known.now self.old)) }
         ensures stamp { OnOk result (self.new.stamp ≡ Some stamp) }
         ensures prefix { OnOk result (self.new.prefix
             ≡ length (history_in (all_of known.now self.new) (Some stamp))) }

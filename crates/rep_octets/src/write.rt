@@ -3,7 +3,7 @@
 #![tactic(auto, using(crate::proofs::Writing::keeps_itself, crate::proofs::Writing::keeps_more, crate::proofs::Writing::keeps_through))]
 
 ghost use Rattle.std.specs.Prelude.{IsTrue};
-ghost use Rattle.rep_op.specs.WellMade.{is_put as put_test, is_well_made as made_test};
+ghost use Rattle.rep_op.specs.WellMade as spec;
 ghost use Rattle.rep_octets.specs.Spelling.{client_octets, put_octets, op_octets};
 ghost use Rattle.rep_octets.specs.Writing.{Writes};
 
@@ -23,7 +23,7 @@ pub fn write_client(out: &mut Vec<u8>, client: &ClientId) -> Result<(), NoMemory
 
 /// Writes a message.
 fn write_put(out: &mut Vec<u8>, put: &Put) -> Result<(), NoMemory>
-    requires { IsTrue (put_test put.now) }
+    requires { IsTrue (spec.is_put put.now) }
     ensures { Writes (put_octets put.now) out.old.items out.new.items result }
 {
     out.push(put.origin)?;
@@ -36,7 +36,7 @@ fn write_put(out: &mut Vec<u8>, put: &Put) -> Result<(), NoMemory>
 
 /// Writes an operation.
 pub fn write_op(out: &mut Vec<u8>, op: &Op) -> Result<(), NoMemory>
-    requires { IsTrue (made_test op.now) }
+    requires { IsTrue (spec.is_well_made op.now) }
     ensures { Writes (op_octets op.now) out.old.items out.new.items result }
 {
     match op {

@@ -2,7 +2,7 @@
 
 ghost use Rattle.std.specs.Prelude.{◌≡◌};
 ghost use Rattle.std.specs.List.{list_all};
-ghost use Rattle.rep_op.specs.Ranges.{is_topic_id as id_test, is_topic as topic_test, is_subscription as subscription_test, is_will as will_test, is_will_topic as will_topic_test, is_exchange as exchange_test, is_session as session_test, is_change as change_test};
+ghost use Rattle.rep_op.specs.Ranges as spec;
 
 use sn_session::{
     MAX_MESSAGE, Outbound, Session, SessionOp, Subscription, TopicEntry, Will, WillTopic,
@@ -10,14 +10,14 @@ use sn_session::{
 
 /// Whether a topic id is not reserved.
 pub fn is_topic_id(id: u16) -> bool
-    ensures { result ≡ id_test id }
+    ensures { result ≡ spec.is_topic_id id }
 {
     id >= 1 && id <= 65534
 }
 
 /// Whether the values of a will are in range.
 fn is_will(will: &Option<Will>) -> bool
-    ensures { result ≡ will_test will.now }
+    ensures { result ≡ spec.is_will will.now }
 {
     match will {
         None => true,
@@ -27,7 +27,7 @@ fn is_will(will: &Option<Will>) -> bool
 
 /// Whether the values of a will's topic are in range.
 fn is_will_topic(asked: &Option<WillTopic>) -> bool
-    ensures { result ≡ will_topic_test asked.now }
+    ensures { result ≡ spec.is_will_topic asked.now }
 {
     match asked {
         None => true,
@@ -37,7 +37,7 @@ fn is_will_topic(asked: &Option<WillTopic>) -> bool
 
 /// Whether the values of an exchange are in range.
 fn is_exchange(exchange: &Option<Outbound>) -> bool
-    ensures { result ≡ exchange_test exchange.now }
+    ensures { result ≡ spec.is_exchange exchange.now }
 {
     match exchange {
         None => true,
@@ -47,21 +47,21 @@ fn is_exchange(exchange: &Option<Outbound>) -> bool
 
 /// Whether no topic id is reserved.
 fn are_topics(entries: &[TopicEntry]) -> bool
-    ensures { result ≡ list_all topic_test entries.now }
+    ensures { result ≡ list_all spec.is_topic entries.now }
 {
     entries.iter().all(|entry| is_topic_id(entry.id))
 }
 
 /// Whether the qualities of service of subscriptions are in range.
 fn are_subscriptions(entries: &[Subscription]) -> bool
-    ensures { result ≡ list_all subscription_test entries.now }
+    ensures { result ≡ list_all spec.is_subscription entries.now }
 {
     entries.iter().all(|entry| entry.qos.number() <= 2)
 }
 
 /// Whether the values of a session are in range.
 fn is_session(session: &Session) -> bool
-    ensures { result ≡ session_test session.now }
+    ensures { result ≡ spec.is_session session.now }
 {
     session.next_id >= 1
         && are_topics(session.topics.as_slice())
@@ -72,7 +72,7 @@ fn is_session(session: &Session) -> bool
 
 /// Whether the values of a change are in range.
 pub fn is_change(change: &SessionOp) -> bool
-    ensures { result ≡ change_test change.now }
+    ensures { result ≡ spec.is_change change.now }
 {
     match change {
         SessionOp::Take(session) => is_session(session),

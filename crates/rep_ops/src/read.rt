@@ -3,7 +3,8 @@
 ghost use Rattle.std.specs.Prelude.{◌≡◌, ◌<◌, [], Err, length};
 ghost use Rattle.rep_ops.specs.Spelling.{max_octets};
 ghost use Rattle.rep_octets.specs.Reading.{Gives, op_at};
-ghost use Rattle.rep_ops.specs.Reading.{is_apart as apart_test, may_follow as follow_test, listed_at, reading};
+ghost use Rattle.rep_ops.specs.Reading.{listed_at, reading};
+ghost use Rattle.rep_ops.specs.Reading as spec;
 
 use super::size::MAX_OCTETS;
 use rep_octets::{read_four, read_octet, read_op};
@@ -16,7 +17,7 @@ const VERSION: u8 = 1;
 
 /// Whether the second is no range that overlaps or touches the first.
 fn is_apart(a: &Op, b: &Op) -> bool
-    ensures { result ≡ apart_test a.now b.now }
+    ensures { result ≡ spec.is_apart a.now b.now }
 {
     match (a, b) {
         (
@@ -39,7 +40,7 @@ fn is_apart(a: &Op, b: &Op) -> bool
 
 /// Whether an operation may stand behind these.
 fn may_follow(ops: &[Op], op: &Op) -> bool
-    ensures { result ≡ follow_test ops.now op.now }
+    ensures { result ≡ spec.may_follow ops.now op.now }
 {
     match ops.last() {
         None => true,
@@ -53,7 +54,7 @@ fn may_follow(ops: &[Op], op: &Op) -> bool
 
 /// So many operations.
 fn read_ops(alloc: Global, count: u32, bytes: &[u8]) -> Result<(Vec<Op>, &[u8]), OpsFault>
-    ensures { Gives (λ x. (x.0.items, x.1.now)) result (listed_at op_at follow_test count []
+    ensures { Gives (λ x. (x.0.items, x.1.now)) result (listed_at op_at spec.may_follow count []
         bytes.now) }
 {
     let mut ops = Vec::new(alloc);

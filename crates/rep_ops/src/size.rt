@@ -2,7 +2,7 @@
 
 ghost use Rattle.std.specs.Prelude.{◌≡◌, ◌≤◌, ◌↔◌, length, IsTrue};
 ghost use Rattle.rep_op.specs.Values.{AreValues};
-ghost use Rattle.rep_op.specs.WellMade.{is_put as put_test, is_well_made as made_test};
+ghost use Rattle.rep_op.specs.WellMade as spec;
 ghost use Rattle.rep_octets.specs.Spelling.{op_octets, put_octets};
 ghost use Rattle.rep_ops.specs.Making.{AreWellMade};
 ghost use Rattle.rep_ops.specs.Spelling.{IsWithinLimit};
@@ -29,7 +29,7 @@ pub fn are_well_made(ops: &[Op]) -> bool
 
 /// How many octets a message is spelled in.
 fn put_size(put: &Put) -> usize
-    requires { IsTrue (put_test put.now) }
+    requires { IsTrue (spec.is_put put.now) }
     ensures size { result ≡ length (put_octets put.now) }
     ensures small { result ≤ 4366 }
 {
@@ -38,7 +38,7 @@ fn put_size(put: &Put) -> usize
 
 /// How many octets an operation is spelled in.
 pub fn op_size(op: &Op) -> usize
-    requires { IsTrue (made_test op.now) }
+    requires { IsTrue (spec.is_well_made op.now) }
     ensures size { result ≡ length (op_octets op.now) }
     ensures small { result ≤ 150000 }
 {

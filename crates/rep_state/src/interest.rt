@@ -5,7 +5,8 @@
 //! filter of theirs.
 
 ghost use Rattle.std.specs.Prelude.{◌≡◌, ◌<◌};
-ghost use Rattle.rep_state.specs.Interests.{mixed_with as mixed_by, mark_of as mark_of_topic, has_mark as has_mark_in, AsksWithin, AskWithin, SessionWithin};
+ghost use Rattle.rep_state.specs.Interests.{AsksWithin, AskWithin, SessionWithin};
+ghost use Rattle.rep_state.specs.Interests as spec;
 
 use sn_session::{Session, Subscription};
 use sn_topic::Filter;
@@ -16,7 +17,7 @@ const ALL_MARKS: u64 = u64::MAX;
 /// A number of 32 bits, mixed with one octet more.
 fn mixed_with(mixed: u64, octet: u8) -> u64
     requires { mixed < 4294967296 }
-    ensures value { result ≡ mixed_by mixed octet }
+    ensures value { result ≡ spec.mixed_with mixed octet }
     ensures small { result < 4294967296 }
 {
     (mixed + octet as u64) * 16_777_619 % 4_294_967_296
@@ -24,7 +25,7 @@ fn mixed_with(mixed: u64, octet: u8) -> u64
 
 /// The mark of a topic, 0 to 63.
 pub(crate) fn mark_of(octets: &[u8]) -> u64
-    ensures value { result ≡ mark_of_topic octets.now }
+    ensures value { result ≡ spec.mark_of octets.now }
     ensures few { result < 64 }
 {
     let mut mixed = 2_166_136_261;
@@ -37,7 +38,7 @@ pub(crate) fn mark_of(octets: &[u8]) -> u64
 /// Whether a mark is among these.
 pub(crate) fn has_mark(marks: u64, mark: u64) -> bool
     requires { mark < 64 }
-    ensures { result ≡ has_mark_in marks mark }
+    ensures { result ≡ spec.has_mark marks mark }
 {
     (marks >> mark) % 2 == 1
 }

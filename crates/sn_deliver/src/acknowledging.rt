@@ -2,7 +2,7 @@
 
 ghost use Rattle.std.specs.Prelude.{◌≡◌, IfOk, OnOk};
 ghost use Rattle.std.specs.Option.{option_copied};
-ghost use Rattle.sn_deliver.specs.Acknowledging.{same_phase as is_same_phase, if_awaits as exchange_if_awaits, awaiting as exchange_awaiting, put_of as put_of_exchange, put_awaiting as put_of_awaiting, over as exchange_over, done as done_draft, told as told_draft, entry_by_kind as entry_of_kind, entry_if_normal as normal_entry, entry_published as published_entry, forgotten as forgotten_draft, puback_put as puback_draft_put, puback_of as puback_draft_of, puback as puback_draft, pubrel_sent as pubrel_sent_draft, released as released_draft, is_at_two as is_put_at_two, awaiting_pubrec as exchange_awaiting_pubrec, pubrec_again as pubrec_draft_again, pubrec_of as pubrec_draft_of, pubrec as pubrec_draft, pubcomp_of as pubcomp_draft_of, pubcomp as pubcomp_draft, registered as registered_draft, regack_put as regack_draft_put, regack_of as regack_draft_of, regack as regack_draft, acknowledge as acknowledged};
+ghost use Rattle.sn_deliver.specs.Acknowledging as spec;
 
 use octets::NoMemory;
 use rep_ops::Put;
@@ -16,7 +16,7 @@ use std::alloc::Global;
 
 /// Whether two phases are one.
 fn same_phase(a: Phase, b: Phase) -> bool
-    ensures { result ≡ is_same_phase a b }
+    ensures { result ≡ spec.same_phase a b }
 {
     match a {
         Phase::Registering => match b {
@@ -39,7 +39,7 @@ fn same_phase(a: Phase, b: Phase) -> bool
 
 /// The exchange, where it is in this phase and has this message id.
 fn if_awaits(phase: Phase, msg_id: u16, exchange: Option<Outbound>) -> Option<Outbound>
-    ensures { result ≡ exchange_if_awaits phase msg_id exchange }
+    ensures { result ≡ spec.if_awaits phase msg_id exchange }
 {
     match exchange {
         None => None,
@@ -55,14 +55,14 @@ fn if_awaits(phase: Phase, msg_id: u16, exchange: Option<Outbound>) -> Option<Ou
 
 /// The open exchange, where it is in this phase and has this message id.
 fn awaiting(session: &Session, pending: &[Put], phase: Phase, msg_id: u16) -> Option<Outbound>
-    ensures { result ≡ exchange_awaiting session.now pending.now phase msg_id }
+    ensures { result ≡ spec.awaiting session.now pending.now phase msg_id }
 {
     if_awaits(phase, msg_id, open_exchange(session, &[], pending))
 }
 
 /// The message of an exchange.
 fn put_of(pending: &[Put], exchange: Option<Outbound>) -> Option<&Put>
-    ensures { option_copied result ≡ put_of_exchange pending.now exchange }
+    ensures { option_copied result ≡ spec.put_of pending.now exchange }
 {
     match exchange {
         None => None,
@@ -77,14 +77,14 @@ fn put_awaiting<'a>(
     phase: Phase,
     msg_id: u16,
 ) -> Option<&'a Put>
-    ensures { option_copied result ≡ put_of_awaiting session.now pending.now phase msg_id }
+    ensures { option_copied result ≡ spec.put_awaiting session.now pending.now phase msg_id }
 {
     put_of(pending, awaiting(session, pending, phase, msg_id))
 }
 
 /// And then the exchange is over.
 fn over(session: &Session, draft: &mut Draft) -> Result<(), NoMemory>
-    ensures { OnOk result (draft.new ≡ exchange_over session.now draft.old) }
+    ensures { OnOk result (draft.new ≡ spec.over session.now draft.old) }
 {
     draft.change(SessionOp::Outbound {
         exchange: None,
@@ -95,7 +95,7 @@ fn over(session: &Session, draft: &mut Draft) -> Result<(), NoMemory>
 
 /// The message is done with.
 fn done(alloc: Global, session: &Session, put: &Put) -> Result<Draft, NoMemory>
-    ensures { IfOk result (λ draft. draft ≡ done_draft session.now put.now) }
+    ensures { IfOk result (λ draft. draft ≡ spec.done session.now put.now) }
 {
     let mut draft = Draft::new(alloc);
     draft.ack(put.seq, put.origin)?;
@@ -105,7 +105,7 @@ fn done(alloc: Global, session: &Session, put: &Put) -> Result<Draft, NoMemory>
 
 /// And then the client has this id for the name, or has it no more.
 fn tell(alloc: Global, entry: &TopicEntry, known: bool, draft: &mut Draft) -> Result<(), NoMemory>
-    ensures { OnOk result (draft.new ≡ told_draft entry.now known draft.old) }
+    ensures { OnOk result (draft.new ≡ spec.told entry.now known draft.old) }
 {
     draft.change(SessionOp::Register {
         id: entry.id,
@@ -117,7 +117,7 @@ fn tell(alloc: Global, entry: &TopicEntry, known: bool, draft: &mut Draft) -> Re
 
 /// The entry, where the topic field holds an id of the session.
 fn entry_by_kind(entry: Option<&TopicEntry>, kind: TopicIdType) -> Option<&TopicEntry>
-    ensures { option_copied result ≡ entry_of_kind (option_copied entry.entry) kind }
+    ensures { option_copied result ≡ spec.entry_by_kind (option_copied entry.entry) kind }
 {
     match kind {
         TopicIdType::Normal => entry,
@@ -129,7 +129,7 @@ fn entry_by_kind(entry: Option<&TopicEntry>, kind: TopicIdType) -> Option<&Topic
 
 /// The entry, where the form is an id of the session.
 fn entry_if_normal(entry: Option<&TopicEntry>, form: Option<Form>) -> Option<&TopicEntry>
-    ensures { option_copied result ≡ normal_entry (option_copied entry.entry) form }
+    ensures { option_copied result ≡ spec.entry_if_normal (option_copied entry.entry) form }
 {
     match form {
         None => None,
@@ -143,7 +143,7 @@ fn entry_published<'a>(
     session: &'a Session,
     name: &TopicName,
 ) -> Option<&'a TopicEntry>
-    ensures { option_copied result ≡ published_entry predefined.now session.now name.now }
+    ensures { option_copied result ≡ spec.entry_published predefined.now session.now name.now }
 {
     let form = form_again(predefined, session, name);
     entry_if_normal(session.topic_named(name), form)
@@ -157,7 +157,7 @@ fn forget(
     put: &Put,
     entry: Option<&TopicEntry>,
 ) -> Result<Draft, NoMemory>
-    ensures { IfOk result (λ draft. draft ≡ forgotten_draft session.now put.now
+    ensures { IfOk result (λ draft. draft ≡ spec.forgotten session.now put.now
         (option_copied entry.entry)) }
 {
     match entry {
@@ -179,7 +179,7 @@ fn puback_put(
     code: u8,
     put: &Put,
 ) -> Result<Draft, NoMemory>
-    ensures { IfOk result (λ draft. draft ≡ puback_draft_put predefined.now session.now
+    ensures { IfOk result (λ draft. draft ≡ spec.puback_put predefined.now session.now
         code put.now) }
 {
     if code == 0 {
@@ -206,7 +206,7 @@ fn puback_of(
     code: u8,
     put: Option<&Put>,
 ) -> Result<Draft, NoMemory>
-    ensures { IfOk result (λ draft. draft ≡ puback_draft_of predefined.now session.now code
+    ensures { IfOk result (λ draft. draft ≡ spec.puback_of predefined.now session.now code
         (option_copied put.entry)) }
 {
     match put {
@@ -224,7 +224,7 @@ fn puback(
     msg_id: u16,
     code: u8,
 ) -> Result<Draft, NoMemory>
-    ensures { IfOk result (λ draft. draft ≡ puback_draft predefined.now session.now pending.now
+    ensures { IfOk result (λ draft. draft ≡ spec.puback predefined.now session.now pending.now
         msg_id code) }
 {
     let put = put_awaiting(session, pending, Phase::Published, msg_id);
@@ -233,7 +233,7 @@ fn puback(
 
 /// And then the PUBREL of the open exchange.
 fn send_pubrel(alloc: Global, peer: &Peer, msg_id: u16, draft: &mut Draft) -> Result<(), NoMemory>
-    ensures { OnOk result (draft.new ≡ pubrel_sent_draft peer.now msg_id draft.old) }
+    ensures { OnOk result (draft.new ≡ spec.pubrel_sent peer.now msg_id draft.old) }
 {
     send(alloc, peer, &Frame::PubRel { msg_id }, draft)?;
     draft.note(LocalChange::Resent {
@@ -245,7 +245,7 @@ fn send_pubrel(alloc: Global, peer: &Peer, msg_id: u16, draft: &mut Draft) -> Re
 
 /// The message is with the client, and the exchange waits for PUBCOMP.
 fn released(alloc: Global, session: &Session, exchange: Outbound) -> Result<Draft, NoMemory>
-    ensures { IfOk result (λ draft. draft ≡ released_draft session.now exchange) }
+    ensures { IfOk result (λ draft. draft ≡ spec.released session.now exchange) }
 {
     let mut draft = Draft::new(alloc);
     draft.ack(exchange.seq, exchange.origin)?;
@@ -263,7 +263,7 @@ fn released(alloc: Global, session: &Session, exchange: Outbound) -> Result<Draf
 
 /// Whether there is a message at quality of service 2.
 fn is_at_two(put: Option<&Put>) -> bool
-    ensures { result ≡ is_put_at_two (option_copied put.entry) }
+    ensures { result ≡ spec.is_at_two (option_copied put.entry) }
 {
     match put {
         None => false,
@@ -273,7 +273,7 @@ fn is_at_two(put: Option<&Put>) -> bool
 
 /// The exchange of a message at quality of service 2, where it waits for this PUBREC.
 fn awaiting_pubrec(session: &Session, pending: &[Put], msg_id: u16) -> Option<Outbound>
-    ensures { result ≡ exchange_awaiting_pubrec session.now pending.now msg_id }
+    ensures { result ≡ spec.awaiting_pubrec session.now pending.now msg_id }
 {
     if is_at_two(put_awaiting(session, pending, Phase::Published, msg_id)) {
         awaiting(session, pending, Phase::Published, msg_id)
@@ -289,7 +289,7 @@ fn pubrec_again(
     msg_id: u16,
     exchange: Option<Outbound>,
 ) -> Result<Draft, NoMemory>
-    ensures { IfOk result (λ draft. draft ≡ pubrec_draft_again peer.now msg_id exchange) }
+    ensures { IfOk result (λ draft. draft ≡ spec.pubrec_again peer.now msg_id exchange) }
 {
     let mut draft = Draft::new(alloc);
     match exchange {
@@ -308,7 +308,7 @@ fn pubrec_of(
     msg_id: u16,
     exchange: Option<Outbound>,
 ) -> Result<Draft, NoMemory>
-    ensures { IfOk result (λ draft. draft ≡ pubrec_draft_of peer.now session.now pending.now
+    ensures { IfOk result (λ draft. draft ≡ spec.pubrec_of peer.now session.now pending.now
         msg_id exchange) }
 {
     match exchange {
@@ -332,7 +332,7 @@ fn pubrec(
     pending: &[Put],
     msg_id: u16,
 ) -> Result<Draft, NoMemory>
-    ensures { IfOk result (λ draft. draft ≡ pubrec_draft peer.now session.now
+    ensures { IfOk result (λ draft. draft ≡ spec.pubrec peer.now session.now
         pending.now msg_id) }
 {
     let exchange = awaiting_pubrec(session, pending, msg_id);
@@ -345,7 +345,7 @@ fn pubcomp_of(
     session: &Session,
     exchange: Option<Outbound>,
 ) -> Result<Draft, NoMemory>
-    ensures { IfOk result (λ draft. draft ≡ pubcomp_draft_of session.now exchange) }
+    ensures { IfOk result (λ draft. draft ≡ spec.pubcomp_of session.now exchange) }
 {
     let mut draft = Draft::new(alloc);
     if exchange.is_some() {
@@ -361,7 +361,7 @@ fn pubcomp(
     pending: &[Put],
     msg_id: u16,
 ) -> Result<Draft, NoMemory>
-    ensures { IfOk result (λ draft. draft ≡ pubcomp_draft session.now pending.now msg_id) }
+    ensures { IfOk result (λ draft. draft ≡ spec.pubcomp session.now pending.now msg_id) }
 {
     let exchange = awaiting(session, pending, Phase::Released, msg_id);
     pubcomp_of(alloc, session, exchange)
@@ -373,7 +373,7 @@ fn registered(
     session: &Session,
     entry: Option<&TopicEntry>,
 ) -> Result<Draft, NoMemory>
-    ensures { IfOk result (λ draft. draft ≡ registered_draft session.now
+    ensures { IfOk result (λ draft. draft ≡ spec.registered session.now
         (option_copied entry.entry)) }
 {
     let mut draft = Draft::new(alloc);
@@ -386,7 +386,7 @@ fn registered(
 
 /// REGACK with this code for this message.
 fn regack_put(alloc: Global, session: &Session, code: u8, put: &Put) -> Result<Draft, NoMemory>
-    ensures { IfOk result (λ draft. draft ≡ regack_draft_put session.now code put.now) }
+    ensures { IfOk result (λ draft. draft ≡ spec.regack_put session.now code put.now) }
 {
     if code == 0 {
         return registered(alloc, session, session.topic_named(&put.topic));
@@ -404,7 +404,7 @@ fn regack_of(
     code: u8,
     put: Option<&Put>,
 ) -> Result<Draft, NoMemory>
-    ensures { IfOk result (λ draft. draft ≡ regack_draft_of session.now code
+    ensures { IfOk result (λ draft. draft ≡ spec.regack_of session.now code
         (option_copied put.entry)) }
 {
     match put {
@@ -421,7 +421,7 @@ fn regack(
     msg_id: u16,
     code: u8,
 ) -> Result<Draft, NoMemory>
-    ensures { IfOk result (λ draft. draft ≡ regack_draft session.now pending.now msg_id code) }
+    ensures { IfOk result (λ draft. draft ≡ spec.regack session.now pending.now msg_id code) }
 {
     let put = put_awaiting(session, pending, Phase::Registering, msg_id);
     regack_of(alloc, session, code, put)
@@ -437,7 +437,7 @@ pub fn acknowledge(
     pending: &[Put],
     frame: &Frame,
 ) -> Result<Draft, NoMemory>
-    ensures { IfOk result (λ draft. draft ≡ acknowledged predefined.now peer.now session.now
+    ensures { IfOk result (λ draft. draft ≡ spec.acknowledge predefined.now peer.now session.now
         pending.now frame.now) }
 {
     match frame {

@@ -5,8 +5,8 @@ ghost use Rattle.sn_frame.specs.Bodies.{IsMessage};
 ghost use Rattle.rep_op.specs.ClientIds.{IsClientId};
 ghost use Rattle.sn_local.specs.Seen.{seen_of};
 ghost use Rattle.sn_plan.specs.Plans.{Gives};
-ghost use Rattle.sn_flow.specs.Connection.{connect as connect_row};
-ghost use Rattle.sn_deliver.specs.Steps.{row_for as defined_row, step as defined_step};
+ghost use Rattle.sn_flow.specs.Connection as connection;
+ghost use Rattle.sn_deliver.specs.Steps as spec;
 
 use super::serve::{ack_in, publish_in, pubrel_in};
 use super::waking::{client_id, wake};
@@ -35,7 +35,7 @@ fn connected<R: Replica>(
     now: u64,
 ) -> Result<Row, NoMemory>
     requires { IsClientId client.now }
-    ensures { IfOk result (λ row. row ≡ connect_row (seen_of (R.kept replica.now))
+    ensures { IfOk result (λ row. row ≡ connection.connect (seen_of (R.kept replica.now))
         dialogs.now.local from flags.bits protocol duration client.now now) }
 {
     let client = client_id(alloc, client)?;
@@ -55,7 +55,7 @@ fn row_for<R: Replica>(
     now: u64,
 ) -> Result<Row, NoMemory>
     requires { IsMessage frame.now }
-    ensures { IfOk result (λ row. row ≡ defined_row config.now.gateway config.now.predefined
+    ensures { IfOk result (λ row. row ≡ spec.row_for config.now.gateway config.now.predefined
         (seen_of (R.kept replica.now)) dialogs.now.local from frame.now now) }
 {
     match frame {
@@ -162,7 +162,7 @@ pub fn step<R: Replica>(
     now: u64,
 ) -> Result<Plan, StepFault>
     requires { IsMessage frame.now }
-    ensures { Gives result (defined_step config.now.gateway config.now.predefined
+    ensures { Gives result (spec.step config.now.gateway config.now.predefined
         (seen_of (R.kept replica.now)) dialogs.now.local from frame.now now) }
 {
     let row = row_for(alloc, config, replica, dialogs, from, frame, now)?;

@@ -4,7 +4,7 @@ ghost use Rattle.std.specs.Prelude.{◌≡◌, IfOk, OnOk};
 ghost use Rattle.sn_local.specs.Seen.{seen_of};
 ghost use Rattle.sn_plan.specs.Plans.{Gives};
 ghost use Rattle.sn_plan.specs.Bound.{session_of};
-ghost use Rattle.sn_exchange.specs.Following.{peer_at as peer_there, followed_by as draft_followed_by, followed as followed_row, deliver_next as next_plan};
+ghost use Rattle.sn_exchange.specs.Following as spec;
 
 use super::delivery::then_deliver;
 use super::peer::Peer;
@@ -20,7 +20,7 @@ use std::alloc::Global;
 
 /// The client at its address, at this moment.
 pub fn peer_at(alloc: Global, address: Addr, client: &ClientId, now: u64) -> Result<Peer, NoMemory>
-    ensures { IfOk result (λ peer. peer ≡ peer_there address client.now now) }
+    ensures { IfOk result (λ peer. peer ≡ spec.peer_at address client.now now) }
 {
     Ok(Peer {
         address,
@@ -39,7 +39,7 @@ fn follow_by(
     draft: &mut Draft,
     follow: &Follow,
 ) -> Result<(), NoMemory>
-    ensures { OnOk result (draft.new ≡ draft_followed_by predefined.now peer.now session.now
+    ensures { OnOk result (draft.new ≡ spec.followed_by predefined.now peer.now session.now
         pending.now draft.old follow.now) }
 {
     match follow {
@@ -58,7 +58,7 @@ fn follow_for<R: Replica>(
     draft: &mut Draft,
     follow: &Follow,
 ) -> Result<(), NoMemory>
-    ensures { OnOk result (draft.new ≡ draft_followed_by predefined.now peer.now
+    ensures { OnOk result (draft.new ≡ spec.followed_by predefined.now peer.now
         (session_of (seen_of (R.kept replica.now)) peer.now.client)
         ((seen_of (R.kept replica.now)).of peer.now.client).pending draft.old follow.now) }
 {
@@ -79,7 +79,7 @@ fn followed<R: Replica>(
     now: u64,
     row: Row,
 ) -> Result<Row, NoMemory>
-    ensures { IfOk result (λ made. made ≡ followed_row predefined.now
+    ensures { IfOk result (λ made. made ≡ spec.followed predefined.now
         (seen_of (R.kept replica.now)) address now row) }
 {
     let Row {
@@ -115,7 +115,7 @@ pub fn deliver_next<R: Replica>(
     now: u64,
     row: Row,
 ) -> Result<Plan, StepFault>
-    ensures { Gives result (next_plan config.now.gateway config.now.predefined
+    ensures { Gives result (spec.deliver_next config.now.gateway config.now.predefined
         (seen_of (R.kept replica.now)) address now row) }
 {
     let row = followed(alloc, &config.predefined, replica, address, now, row)?;

@@ -143,9 +143,9 @@ impl Model for Dialogs {
 }
 
 impl Dialogs {
-    ghost use Rattle.sn_local.specs.Bindings.{client_at as client_of, address_of as address_of_client};
-    ghost use Rattle.sn_local.specs.Timers.{timer_of as timer_of_client};
-    ghost use Rattle.sn_local.specs.WillDialogs.{dialog_at as dialog_of, is_crowded as has_no_room};
+    ghost use Rattle.sn_local.specs.Bindings as spec;
+    ghost use Rattle.sn_local.specs.Timers as timer_list;
+    ghost use Rattle.sn_local.specs.WillDialogs as dialog_list;
     ghost use Rattle.sn_local.specs.Locals.{after_all, no_local, owned, IsRoomFor};
     ghost use Rattle.sn_local.specs.Seen.{seen_of};
 
@@ -195,21 +195,21 @@ impl Dialogs {
 
     /// The client of an address. The time is logarithmic.
     pub fn client_at(&self, address: Addr) -> Option<&ClientId>
-        ensures { option_copied result ≡ client_of address self.now.local.bindings }
+        ensures { option_copied result ≡ spec.client_at address self.now.local.bindings }
     {
         client_at(self.bindings.as_slice(), address)
     }
 
     /// The address of a client. This walks the bindings: they are in no order of clients.
     pub fn address_of(&self, client: &ClientId) -> Option<Addr>
-        ensures { result ≡ address_of_client client.now self.now.local.bindings }
+        ensures { result ≡ spec.address_of client.now self.now.local.bindings }
     {
         address_of(self.bindings.as_slice(), client)
     }
 
     /// The timer of a client. The time is logarithmic.
     pub fn timer_of(&self, client: &ClientId) -> Option<&Timer>
-        ensures { option_copied result ≡ timer_of_client client.now self.now.local.timers }
+        ensures { option_copied result ≡ timer_list.timer_of client.now self.now.local.timers }
     {
         timer_of(self.timers.as_slice(), client)
     }
@@ -230,14 +230,14 @@ impl Dialogs {
 
     /// The will dialog of an address.
     pub fn dialog_at(&self, address: Addr) -> Option<&WillDialog>
-        ensures { option_copied result ≡ dialog_of address self.now.local.dialogs }
+        ensures { option_copied result ≡ dialog_list.dialog_at address self.now.local.dialogs }
     {
         dialog_at(self.dialogs.as_slice(), address)
     }
 
     /// Whether 1,024 other addresses have a will dialog, so that there is no room for one more.
     pub fn is_crowded(&self, address: Addr) -> bool
-        ensures { result ≡ has_no_room address self.now.local.dialogs }
+        ensures { result ≡ dialog_list.is_crowded address self.now.local.dialogs }
     {
         is_crowded(self.dialogs.as_slice(), address)
     }

@@ -1,7 +1,8 @@
 //! From a draft to operations under names of the gateway's own.
 
 ghost use Rattle.std.specs.Prelude.{◌≡◌, ℕ, ◌<◌, ◌∷◌, ◌++◌, [], Some, OnOk, IfOk, map};
-ghost use Rattle.rep_model.specs.Fresh.{one_more as next_number, next_seq};
+ghost use Rattle.rep_model.specs.Fresh.{next_seq};
+ghost use Rattle.rep_model.specs.Fresh as spec;
 ghost use Rattle.sn_session.specs.Session.{applied};
 ghost use Rattle.sn_plan.specs.declared.numbering.TheConstants.{MAX_COUNTER};
 ghost use Rattle.sn_plan.specs.Numbering.{with_puts, ack_of};
@@ -56,7 +57,7 @@ fn push(ops: &mut Vec<Op>, op: Op) -> Result<(), AllocError>
 
 /// One more, where it fits eight octets.
 fn one_more(n: u64) -> Option<u64>
-    ensures { result ≡ next_number n }
+    ensures { result ≡ spec.one_more n }
 {
     n.checked_add(1)
 }

@@ -3,7 +3,8 @@
 ghost use Rattle.std.specs.Prelude.{◌≡◌, ◌==◌, ◌<◌, ◌≤◌, ◌↔◌, [], length, IfOk, MatchOption, OnOk, OnErr, IsErrOf, IsTrue, false};
 ghost use Rattle.std.specs.Ordering.{nat_cmp};
 ghost use Rattle.sn_session.specs.declared.table.TheConstants.{MAX_ENTRIES};
-ghost use Rattle.sn_session.specs.Tables.{IsTable, is_ascending as ascending_test};
+ghost use Rattle.sn_session.specs.Tables.{IsTable};
+ghost use Rattle.sn_session.specs.Tables as spec;
 ghost use Rattle.sn_session.specs.inner.Tables.{IsPlace};
 ghost use Rattle.sn_session.specs.Received.{with_received, without_received, is_received, id_has_no_room};
 
@@ -130,7 +131,7 @@ impl Received {
 
 /// Where an id is, or where it would go. The time is logarithmic.
 fn place(ids: &[u16], id: u16) -> Result<usize, usize>
-    requires { IsTrue (ascending_test nat_cmp ids.now) }
+    requires { IsTrue (spec.is_ascending nat_cmp ids.now) }
     ensures { IsPlace (λ n. nat_cmp n id) ids.now result }
 {
     ids.binary_search(&id)
@@ -138,7 +139,7 @@ fn place(ids: &[u16], id: u16) -> Result<usize, usize>
 
 /// Whether the ids strictly ascend.
 fn is_ascending(ids: &[u16]) -> bool
-    ensures { result ≡ ascending_test nat_cmp ids.now }
+    ensures { result ≡ spec.is_ascending nat_cmp ids.now }
 {
     let mut left = ids;
     while let [first, second, ..] = left {

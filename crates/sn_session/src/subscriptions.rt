@@ -2,9 +2,11 @@
 
 ghost use Rattle.std.specs.Prelude.{◌≡◌, ◌==◌, ◌<◌, ◌≤◌, ◌↔◌, [], length, IfOk, IfSome, MatchOption, OnOk, OnErr, IsErrOf, IsTrue, false, Some, is_none};
 ghost use Rattle.sn_session.specs.declared.table.TheConstants.{MAX_ENTRIES};
-ghost use Rattle.sn_session.specs.Tables.{IsTable, is_ascending as ascending_test};
+ghost use Rattle.sn_session.specs.Tables.{IsTable};
+ghost use Rattle.sn_session.specs.Tables as tables;
 ghost use Rattle.sn_session.specs.inner.Tables.{IsPlace};
-ghost use Rattle.sn_session.specs.Subscriptions.{filter_cmp, subscription_cmp, with_subscription, without_filter, subscription_of, qos_of, filter_has_no_room, asked_qos, subscribed_qos, or_greater as greater_test, IsGreatest};
+ghost use Rattle.sn_session.specs.Subscriptions.{filter_cmp, subscription_cmp, with_subscription, without_filter, subscription_of, qos_of, filter_has_no_room, asked_qos, subscribed_qos, IsGreatest};
+ghost use Rattle.sn_session.specs.Subscriptions as spec;
 
 use crate::fault::SessionFault;
 use crate::qos_level::QosLevel;
@@ -188,7 +190,7 @@ impl Subscriptions {
 
 /// Where the subscription of a filter is, or where it would go. The time is logarithmic.
 fn place(entries: &[Subscription], filter: &Filter) -> Result<usize, usize>
-    requires { IsTrue (ascending_test subscription_cmp entries.now) }
+    requires { IsTrue (tables.is_ascending subscription_cmp entries.now) }
     ensures { IsPlace (λ entry. filter_cmp entry.filter filter.now) entries.now result }
 {
     entries.binary_search_by(|entry| compare(&entry.filter, filter))
@@ -203,7 +205,7 @@ fn compare(a: &Filter, b: &Filter) -> Ordering
 
 /// Whether the filters strictly ascend.
 fn is_ascending(entries: &[Subscription]) -> bool
-    ensures { result ≡ ascending_test subscription_cmp entries.now }
+    ensures { result ≡ tables.is_ascending subscription_cmp entries.now }
 {
     let mut left = entries;
     while let [first, second, ..] = left {
@@ -217,7 +219,7 @@ fn is_ascending(entries: &[Subscription]) -> bool
 
 /// The greater of a level so far, if there is one, and another.
 fn or_greater(so_far: Option<QosLevel>, qos: QosLevel) -> QosLevel
-    ensures { Some result ≡ greater_test so_far qos }
+    ensures { Some result ≡ spec.or_greater so_far qos }
 {
     match so_far {
         None => qos,

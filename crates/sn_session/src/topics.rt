@@ -3,7 +3,8 @@
 ghost use Rattle.std.specs.Prelude.{◌≡◌, ◌==◌, ◌<◌, ◌≤◌, ◌↔◌, [], ◌∷◌, length, is_some, IfOk, IfSome, MatchOption, OnOk, OnErr, IsErrOf, IsTrue, false, map, option_copied};
 ghost use Rattle.std.specs.Ordering.{nat_cmp};
 ghost use Rattle.sn_session.specs.declared.table.TheConstants.{MAX_ENTRIES};
-ghost use Rattle.sn_session.specs.Tables.{IsTable, is_ascending as ascending_test};
+ghost use Rattle.sn_session.specs.Tables.{IsTable};
+ghost use Rattle.sn_session.specs.Tables as spec;
 ghost use Rattle.sn_session.specs.inner.Tables.{IsPlace};
 ghost use Rattle.sn_session.specs.Topics.{topic_cmp, unknown, with_topic, topic_of, topic_named, topic_id, topic_has_no_room, free_id, least_unused, IsLeastUnused, IsLeastIdOf};
 
@@ -59,7 +60,7 @@ impl Model for Topics {
 
 /// Where the entry of an id is, or where it would go. The time is logarithmic.
 fn place(entries: &[TopicEntry], id: u16) -> Result<usize, usize>
-    requires { IsTrue (ascending_test topic_cmp entries.now) }
+    requires { IsTrue (spec.is_ascending topic_cmp entries.now) }
     ensures { IsPlace (λ entry. nat_cmp entry.id id) entries.now result }
 {
     entries.binary_search_by_key(&id, |entry| entry.id)
@@ -227,7 +228,7 @@ fn entry_named<'a>(entries: &'a [TopicEntry], name: &TopicName) -> Option<&'a To
 
 /// Whether the ids strictly ascend.
 fn is_ascending(entries: &[TopicEntry]) -> bool
-    ensures { result ≡ ascending_test topic_cmp entries.now }
+    ensures { result ≡ spec.is_ascending topic_cmp entries.now }
 {
     let mut left = entries;
     while let [first, second, ..] = left {

@@ -3,7 +3,7 @@
 ghost use Rattle.std.specs.Prelude.{◌≡◌, IfOk};
 ghost use Rattle.sn_frame.specs.declared.frame.Frame.TheVariants.{RegAck};
 ghost use Rattle.sn_plan.specs.Drafts.{nothing, sent};
-ghost use Rattle.sn_subscribe.specs.Registration.{entry_id as id_of_entry, new_id as id_anew, id_for as id_of, registered as registered_draft, register_name as name_draft, register as register_draft};
+ghost use Rattle.sn_subscribe.specs.Registration as spec;
 
 use octets::NoMemory;
 use sn_frame::Frame;
@@ -24,7 +24,7 @@ pub struct NamedId {
 
 /// The id of an entry of the name, which the client knows from now on.
 fn entry_id(alloc: Global, name: &TopicName, entry: &TopicEntry) -> Result<NamedId, NoMemory>
-    ensures { IfOk result (λ named. named ≡ id_of_entry name.now entry.now) }
+    ensures { IfOk result (λ named. named ≡ spec.entry_id name.now entry.now) }
 {
     if entry.known {
         return Ok(NamedId {
@@ -37,7 +37,7 @@ fn entry_id(alloc: Global, name: &TopicName, entry: &TopicEntry) -> Result<Named
 
 /// A new id of the name.
 fn new_id(alloc: Global, name: &TopicName, id: u16) -> Result<NamedId, NoMemory>
-    ensures { IfOk result (λ named. named ≡ id_anew name.now id) }
+    ensures { IfOk result (λ named. named ≡ spec.new_id name.now id) }
 {
     let name = name.copied(alloc)?;
     Ok(NamedId {
@@ -57,7 +57,7 @@ pub fn id_for(
     session: &Session,
     name: &TopicName,
 ) -> Result<Option<NamedId>, NoMemory>
-    ensures { IfOk result (λ named. named ≡ id_of session.now name.now) }
+    ensures { IfOk result (λ named. named ≡ spec.id_for session.now name.now) }
 {
     if let Some(entry) = session.topic_named(name) {
         return Ok(Some(entry_id(alloc, name, entry)?));
@@ -75,7 +75,7 @@ fn registered(
     msg_id: u16,
     named: Option<NamedId>,
 ) -> Result<Draft, NoMemory>
-    ensures { IfOk result (λ draft. draft ≡ registered_draft to msg_id named) }
+    ensures { IfOk result (λ draft. draft ≡ spec.registered to msg_id named) }
 {
     match named {
         None => refuse(alloc, to, msg_id, CONGESTION),
@@ -114,7 +114,7 @@ pub fn register(
     msg_id: u16,
     name: &[u8],
 ) -> Result<Draft, NoMemory>
-    ensures { IfOk result (λ draft. draft ≡ register_draft to session.now msg_id name.now) }
+    ensures { IfOk result (λ draft. draft ≡ spec.register to session.now msg_id name.now) }
 {
     match name_asked(alloc, name)? {
         None => refuse(alloc, to, msg_id, NOT_SUPPORTED),

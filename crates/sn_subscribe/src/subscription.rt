@@ -3,7 +3,8 @@
 ghost use Rattle.std.specs.Prelude.{◌≡◌, IfOk};
 ghost use Rattle.sn_frame.specs.FlagBits.{kind_of};
 ghost use Rattle.sn_plan.specs.Drafts.{nothing, sent};
-ghost use Rattle.sn_subscribe.specs.Subscription.{suback as suback_of, refused, fixed_id as fixed, id_in_full as id_of_filter, id_asked as id_asked_for, subscribe_change as change_for, subscribed as subscribed_draft, subscribe_to as draft_to, subscribe_asked as draft_asked, subscribe as subscribe_draft, unsubscribe_change as end_of, unsubscribe_asked as end_asked, unsubscribe as unsubscribe_draft};
+ghost use Rattle.sn_subscribe.specs.Subscription.{refused};
+ghost use Rattle.sn_subscribe.specs.Subscription as spec;
 
 use super::registration::{NamedId, id_for};
 use octets::NoMemory;
@@ -21,7 +22,7 @@ const QOS_BITS: u8 = 0x60;
 
 /// SUBACK with the quality of service that was asked for.
 fn suback(flags: Flags, topic_id: u16, msg_id: u16, code: u8) -> Frame
-    ensures { result ≡ suback_of flags.bits topic_id msg_id code }
+    ensures { result ≡ spec.suback flags.bits topic_id msg_id code }
 {
     Frame::SubAck {
         flags: Flags {
@@ -42,7 +43,7 @@ fn refuse(alloc: Global, to: Addr, flags: Flags, msg_id: u16, code: u8) -> Resul
 
 /// An id for which the session needs no change.
 fn fixed_id(id: u16) -> NamedId
-    ensures { result ≡ fixed id }
+    ensures { result ≡ spec.fixed_id id }
 {
     NamedId { id, change: None }
 }
@@ -53,7 +54,7 @@ fn id_in_full(
     session: &Session,
     name: &Option<TopicName>,
 ) -> Result<Option<NamedId>, NoMemory>
-    ensures { IfOk result (λ named. named ≡ id_of_filter session.now name.now) }
+    ensures { IfOk result (λ named. named ≡ spec.id_in_full session.now name.now) }
 {
     match name {
         None => Ok(Some(fixed_id(0))),
@@ -69,7 +70,7 @@ fn id_asked(
     field: &[u8],
     filter: &Filter,
 ) -> Result<Option<NamedId>, NoMemory>
-    ensures { IfOk result (λ named. named ≡ id_asked_for session.now kind field.now filter.now) }
+    ensures { IfOk result (λ named. named ≡ spec.id_asked session.now kind field.now filter.now) }
 {
     match kind {
         TopicIdType::Normal => {
@@ -83,7 +84,7 @@ fn id_asked(
 
 /// The change of the session, where the filter is new or had another quality of service.
 fn subscribe_change(filter: Filter, qos: QosLevel, before: Option<QosLevel>) -> Option<SessionOp>
-    ensures { result ≡ change_for filter qos before }
+    ensures { result ≡ spec.subscribe_change filter qos before }
 {
     match before {
         Some(before) if before == qos => None,
@@ -102,7 +103,7 @@ fn subscribed(
     qos: QosLevel,
     named: Option<NamedId>,
 ) -> Result<Draft, NoMemory>
-    ensures { IfOk result (λ draft. draft ≡ subscribed_draft to session.now flags.bits msg_id
+    ensures { IfOk result (λ draft. draft ≡ spec.subscribed to session.now flags.bits msg_id
         filter qos named) }
 {
     match named {
@@ -129,7 +130,7 @@ fn subscribe_to(
     filter: Filter,
     qos: QosLevel,
 ) -> Result<Draft, NoMemory>
-    ensures { IfOk result (λ draft. draft ≡ draft_to to session.now flags.bits msg_id field.now
+    ensures { IfOk result (λ draft. draft ≡ spec.subscribe_to to session.now flags.bits msg_id field.now
         filter qos) }
 {
     if session.subscriptions.has_no_room(&filter) {
@@ -150,7 +151,7 @@ fn subscribe_asked(
     asked: Asked,
     qos: QosLevel,
 ) -> Result<Draft, NoMemory>
-    ensures { IfOk result (λ draft. draft ≡ draft_asked to session.now flags.bits msg_id
+    ensures { IfOk result (λ draft. draft ≡ spec.subscribe_asked to session.now flags.bits msg_id
         field.now asked qos) }
 {
     match asked {
@@ -172,7 +173,7 @@ pub fn subscribe(
     msg_id: u16,
     field: &[u8],
 ) -> Result<Draft, NoMemory>
-    ensures { IfOk result (λ draft. draft ≡ subscribe_draft predefined.now to session.now
+    ensures { IfOk result (λ draft. draft ≡ spec.subscribe predefined.now to session.now
         flags.bits msg_id field.now) }
 {
     let Some(qos) = qos_asked(flags.qos()) else {
@@ -184,7 +185,7 @@ pub fn subscribe(
 
 /// The change of the session, where it has the filter.
 fn unsubscribe_change(session: &Session, filter: Filter) -> Option<SessionOp>
-    ensures { result ≡ end_of session.now filter }
+    ensures { result ≡ spec.unsubscribe_change session.now filter }
 {
     if session.subscription(&filter).is_none() {
         return None;
@@ -194,7 +195,7 @@ fn unsubscribe_change(session: &Session, filter: Filter) -> Option<SessionOp>
 
 /// The change of the session, where it has what is asked for.
 fn unsubscribe_asked(session: &Session, asked: Asked) -> Option<SessionOp>
-    ensures { result ≡ end_asked session.now asked }
+    ensures { result ≡ spec.unsubscribe_asked session.now asked }
 {
     match asked {
         Asked::Refused(_) => None,
@@ -213,7 +214,7 @@ pub fn unsubscribe(
     msg_id: u16,
     field: &[u8],
 ) -> Result<Draft, NoMemory>
-    ensures { IfOk result (λ draft. draft ≡ unsubscribe_draft predefined.now to session.now
+    ensures { IfOk result (λ draft. draft ≡ spec.unsubscribe predefined.now to session.now
         flags.bits msg_id field.now) }
 {
     let asked = topics_asked(alloc, predefined, flags.kind(), field)?;

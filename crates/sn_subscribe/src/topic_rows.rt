@@ -2,7 +2,8 @@
 
 ghost use Rattle.std.specs.Prelude.{◌≡◌, Some, IfOk};
 ghost use Rattle.sn_local.specs.Seen.{seen_of};
-ghost use Rattle.sn_subscribe.specs.TopicRows.{register_of, register as register_row, subscribe_of, subscribe as subscribe_row, unsubscribe_of, unsubscribe as unsubscribe_row};
+ghost use Rattle.sn_subscribe.specs.TopicRows.{register_of, subscribe_of, unsubscribe_of};
+ghost use Rattle.sn_subscribe.specs.TopicRows as spec;
 
 use super::registration::register as draft_register;
 use super::subscription::{subscribe as draft_subscribe, unsubscribe as draft_unsubscribe};
@@ -45,7 +46,7 @@ pub fn register<R: Replica>(
     name: &[u8],
     now: u64,
 ) -> Result<Row, NoMemory>
-    ensures { IfOk result (λ row. row ≡ register_row (seen_of (R.kept replica.now))
+    ensures { IfOk result (λ row. row ≡ spec.register (seen_of (R.kept replica.now))
         dialogs.now.local from msg_id name.now now) }
 {
     match dialogs.client_at(from) {
@@ -96,7 +97,7 @@ pub fn subscribe<R: Replica>(
     topic: &[u8],
     now: u64,
 ) -> Result<Row, NoMemory>
-    ensures { IfOk result (λ row. row ≡ subscribe_row config.now.predefined
+    ensures { IfOk result (λ row. row ≡ spec.subscribe config.now.predefined
         (seen_of (R.kept replica.now)) dialogs.now.local from flags.bits msg_id topic.now now) }
 {
     match dialogs.client_at(from) {
@@ -149,7 +150,7 @@ pub fn unsubscribe<R: Replica>(
     topic: &[u8],
     now: u64,
 ) -> Result<Row, NoMemory>
-    ensures { IfOk result (λ row. row ≡ unsubscribe_row config.now.predefined
+    ensures { IfOk result (λ row. row ≡ spec.unsubscribe config.now.predefined
         (seen_of (R.kept replica.now)) dialogs.now.local from flags.bits msg_id topic.now now) }
 {
     match dialogs.client_at(from) {

@@ -2,10 +2,10 @@
 
 ghost use Rattle.std.specs.Prelude.{◌≡◌, ◌≤◌, Option, None, IfOk, IsTrue};
 ghost use Rattle.std.specs.Option.{option_copied};
-ghost use Rattle.rep_model.specs.Views.{clients as clients_of};
+ghost use Rattle.rep_model.specs.Views as views;
 ghost use Rattle.sn_local.specs.declared.config.Addr.{Addr as Address};
 ghost use Rattle.sn_local.specs.Seen.{seen_of};
-ghost use Rattle.sn_tick.specs.Due.{elapsed as time_elapsed, patience as patience_for, is_silent as is_silent_client, is_overdue as is_client_overdue, due_again as due_once_more, due_exchange as due_of_exchange, due_delivery as delivery_due, due_by as due_by_exchange, due_at as due_at_address, due_session as due_of_session, due_view as due_of_view, first_due as first_client_due};
+ghost use Rattle.sn_tick.specs.Due as spec;
 
 use octets::NoMemory;
 use rep_model::{ClientView, Replica};
@@ -35,28 +35,28 @@ pub enum Due {
 
 /// How many seconds a moment is ago; 0 where the clock went back behind it.
 pub fn elapsed(now: u64, since: u64) -> u64
-    ensures { result ≡ time_elapsed now since }
+    ensures { result ≡ spec.elapsed now since }
 {
     now.saturating_sub(since)
 }
 
 /// Three halves of the duration, rounded up.
 fn patience(duration: u16) -> u64
-    ensures { result ≡ patience_for duration }
+    ensures { result ≡ spec.patience duration }
 {
     (3 * u64::from(duration) + 1) / 2
 }
 
 /// Whether nothing was heard for too long.
 fn is_silent(now: u64, session: &Session, timer: &Timer) -> bool
-    ensures { result ≡ is_silent_client now session.now timer.now }
+    ensures { result ≡ spec.is_silent now session.now timer.now }
 {
     0 < session.duration && patience(session.duration) <= elapsed(now, timer.heard)
 }
 
 /// Whether nothing was heard for too long of a client that is Active, Asleep or Awake.
 fn is_overdue(now: u64, session: &Session, timer: Option<&Timer>) -> bool
-    ensures { result ≡ is_client_overdue now session.now (option_copied timer.entry) }
+    ensures { result ≡ spec.is_overdue now session.now (option_copied timer.entry) }
 {
     match timer {
         None => false,
@@ -66,7 +66,7 @@ fn is_overdue(now: u64, session: &Session, timer: Option<&Timer>) -> bool
 
 /// What an open exchange asks for at this moment.
 fn due_again(now: u64, address: Addr, timer: &Timer) -> Option<Due>
-    ensures { result ≡ due_once_more now address timer.now }
+    ensures { result ≡ spec.due_again now address timer.now }
 {
     if elapsed(now, timer.sent) < RETRY_AFTER {
         return None;
@@ -80,7 +80,7 @@ fn due_again(now: u64, address: Addr, timer: &Timer) -> Option<Due>
 
 /// What an open exchange asks for, where the client has a timer.
 fn due_exchange(now: u64, address: Addr, timer: Option<&Timer>) -> Option<Due>
-    ensures { result ≡ due_of_exchange now address (option_copied timer.entry) }
+    ensures { result ≡ spec.due_exchange now address (option_copied timer.entry) }
 {
     match timer {
         None => None,
@@ -90,7 +90,7 @@ fn due_exchange(now: u64, address: Addr, timer: Option<&Timer>) -> Option<Due>
 
 /// Delivery, where messages wait or the client is Awake.
 fn due_delivery(session: &Session, pending: &[Put], address: Addr) -> Option<Due>
-    ensures { result ≡ delivery_due session.now pending.now address }
+    ensures { result ≡ spec.due_delivery session.now pending.now address }
 {
     if is_awake(session.presence) || 0 < pending.len() {
         Some(Due::Delivery(address))
@@ -108,7 +108,7 @@ fn due_by(
     timer: Option<&Timer>,
     exchange: Option<Outbound>,
 ) -> Option<Due>
-    ensures { result ≡ due_by_exchange now session.now pending.now address
+    ensures { result ≡ spec.due_by now session.now pending.now address
         (option_copied timer.entry) exchange }
 {
     match exchange {
@@ -125,7 +125,7 @@ fn due_at(
     timer: Option<&Timer>,
     address: Option<Addr>,
 ) -> Option<Due>
-    ensures { result ≡ due_at_address now session.now pending.now
+    ensures { result ≡ spec.due_at now session.now pending.now
         (option_copied timer.entry) address }
 {
     match address {
@@ -149,7 +149,7 @@ fn due_session(
     address: Option<Addr>,
     session: &Option<Session>,
 ) -> Option<Due>
-    ensures { result ≡ due_of_session now pending.now (option_copied timer.entry) address
+    ensures { result ≡ spec.due_session now pending.now (option_copied timer.entry) address
         session.now }
 {
     match session {
@@ -167,7 +167,7 @@ fn due_session(
 /// Whether nothing is due with a client of this session, wherever it may be.
 fn is_at_rest(now: u64, pending: &[Put], timer: Option<&Timer>, session: &Option<Session>) -> bool
     ensures { IsTrue result → (a : Option Address)
-        → due_of_session now pending.now (option_copied timer.entry) a session.now ≡ None }
+        → spec.due_session now pending.now (option_copied timer.entry) a session.now ≡ None }
 {
     let anywhere = Addr { host: 0, port: 0 };
     due_session(now, pending, timer, Some(anywhere), session).is_none()
@@ -181,7 +181,7 @@ pub(crate) fn due_view(
     client: &ClientId,
     view: &ClientView,
 ) -> Option<Due>
-    ensures { result ≡ due_of_view gateway dialogs.now.local now client.now view.now }
+    ensures { result ≡ spec.due_view gateway dialogs.now.local now client.now view.now }
 {
     if !is_stamp_of(gateway, view.stamp) {
         return None;
@@ -204,8 +204,8 @@ pub fn first_due<R: Replica>(
     now: u64,
 ) -> Result<Option<(ClientId, Due)>, NoMemory>
     ensures { IfOk result (λ found.
-        found ≡ first_client_due gateway (seen_of (R.kept replica.now)) dialogs.now.local now
-        (clients_of (R.kept replica.now))) }
+        found ≡ spec.first_due gateway (seen_of (R.kept replica.now)) dialogs.now.local now
+        (views.clients (R.kept replica.now))) }
 {
     let mut place = 0;
     while let Some((behind, client, view)) = replica.client_at(place) {

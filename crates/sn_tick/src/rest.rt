@@ -2,11 +2,11 @@
 
 ghost use Rattle.std.specs.Prelude.{◌≡◌, ◌||◌, false, is_some, IsTrue};
 ghost use Rattle.std.specs.List.{list_any};
-ghost use Rattle.rep_model.specs.Views.{clients as clients_of};
+ghost use Rattle.rep_model.specs.Views as views;
 ghost use Rattle.sn_local.specs.Seen.{seen_of};
-ghost use Rattle.sn_tick.specs.Due.{due_view as due_of_view};
-ghost use Rattle.sn_tick.specs.Ticking.{needs_timer as is_in_need};
-ghost use Rattle.sn_tick.specs.Rest.{is_old as is_old_dialog, asks as client_asks, is_idle as is_idle_moment};
+ghost use Rattle.sn_tick.specs.Due as due;
+ghost use Rattle.sn_tick.specs.Ticking as ticking;
+ghost use Rattle.sn_tick.specs.Rest as spec;
 
 use super::due::{due_view, elapsed};
 use super::ticking::{DIALOG_SECONDS, may_advertise, needs_timer};
@@ -16,22 +16,22 @@ use sn_local::{Config, Dialogs, WillDialog};
 
 /// Whether a will dialog is a minute old.
 fn is_old(now: u64, dialog: &WillDialog) -> bool
-    ensures { result ≡ is_old_dialog now dialog.now }
+    ensures { result ≡ spec.is_old now dialog.now }
 {
     elapsed(now, dialog.begun) >= DIALOG_SECONDS
 }
 
 /// Whether one of these dialogs is a minute old.
 fn any_old(now: u64, dialogs: &[WillDialog]) -> bool
-    ensures { result ≡ list_any (λ dialog. is_old_dialog now dialog) dialogs.now }
+    ensures { result ≡ list_any (λ dialog. spec.is_old now dialog) dialogs.now }
 {
     dialogs.iter().any(|dialog| is_old(now, dialog))
 }
 
 /// Whether a client of this view needs a timer, or something is due with it.
 fn asks(gateway: u8, dialogs: &Dialogs, now: u64, client: &ClientId, view: &ClientView) -> bool
-    ensures { result ≡ (is_in_need gateway dialogs.now.local.timers client.now view.now
-        || is_some (due_of_view gateway dialogs.now.local now client.now view.now)) }
+    ensures { result ≡ (ticking.needs_timer gateway dialogs.now.local.timers client.now view.now
+        || is_some (due.due_view gateway dialogs.now.local now client.now view.now)) }
 {
     needs_timer(gateway, dialogs, client, view)
         || due_view(gateway, dialogs, now, client, view).is_some()
@@ -40,8 +40,8 @@ fn asks(gateway: u8, dialogs: &Dialogs, now: u64, client: &ClientId, view: &Clie
 /// Whether it was found that no client asks for anything.
 fn none_asks<R: Replica>(gateway: u8, replica: &R, dialogs: &Dialogs, now: u64) -> bool
     ensures { IsTrue result → list_any
-        (client_asks gateway (seen_of (R.kept replica.now)) dialogs.now.local now)
-        (clients_of (R.kept replica.now)) ≡ false }
+        (spec.asks gateway (seen_of (R.kept replica.now)) dialogs.now.local now)
+        (views.clients (R.kept replica.now)) ≡ false }
 {
     let mut place = 0;
     while let Some((behind, client, view)) = replica.client_at(place) {
@@ -55,7 +55,7 @@ fn none_asks<R: Replica>(gateway: u8, replica: &R, dialogs: &Dialogs, now: u64) 
 
 /// Whether it was found that a tick of this moment has nothing to do. It has nothing to do at any moment before it then.
 pub fn is_idle<R: Replica>(config: &Config, replica: &R, dialogs: &Dialogs, now: u64) -> bool
-    ensures { IsTrue result → IsTrue (is_idle_moment config.now.gateway config.now.advertise
+    ensures { IsTrue result → IsTrue (spec.is_idle config.now.gateway config.now.advertise
         config.now.field
         (seen_of (R.kept replica.now)) dialogs.now.local now) }
 {

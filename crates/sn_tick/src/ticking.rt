@@ -1,13 +1,14 @@
 //! Tick: what a gateway does as time goes by (MQTT-SN 1.2 sections 6.1, 6.3, 6.11 and 6.13).
 
 ghost use Rattle.std.specs.Prelude.{◌≡◌, if◌then◌else◌, Some, fold, IfOk, OnOk};
-ghost use Rattle.rep_model.specs.Views.{clients as clients_of};
+ghost use Rattle.rep_model.specs.Views as views;
 ghost use Rattle.sn_local.specs.declared.local.LocalChange.TheVariants.{Heard};
 ghost use Rattle.sn_plan.specs.Drafts.{moved};
 ghost use Rattle.sn_plan.specs.Others.{can_wake};
 ghost use Rattle.sn_local.specs.Seen.{seen_of};
 ghost use Rattle.sn_plan.specs.Plans.{Gives};
-ghost use Rattle.sn_tick.specs.Ticking.{dialog_ended, dialogs_ended, needs_timer as is_in_need, timers_begun, cleaned as cleaned_draft, is_long_ago as is_moment_long_ago, may_advertise as is_to_advertise, advertised_to, advertised as advertised_draft, will_puts as puts_of_the_will, lost as lost_draft, retried as retried_row, plan_due as plan_of_due, plan_if_due as plan_of_due_if, one_thing as plan_of_one, tick as tick_plan};
+ghost use Rattle.sn_tick.specs.Ticking.{dialog_ended, dialogs_ended, timers_begun, advertised_to};
+ghost use Rattle.sn_tick.specs.Ticking as spec;
 
 use super::due::{Due, elapsed, first_due};
 use octets::NoMemory;
@@ -63,7 +64,7 @@ pub(crate) fn needs_timer(
     client: &ClientId,
     view: &ClientView,
 ) -> bool
-    ensures { result ≡ is_in_need gateway dialogs.now.local.timers client.now view.now }
+    ensures { result ≡ spec.needs_timer gateway dialogs.now.local.timers client.now view.now }
 {
     is_stamp_of(gateway, view.stamp)
         && is_there(&view.session)
@@ -81,7 +82,7 @@ fn begin_timer(
     view: &ClientView,
 ) -> Result<(), NoMemory>
     ensures { OnOk result (draft.new
-        ≡ (if is_in_need gateway dialogs.now.local.timers client.now view.now
+        ≡ (if spec.needs_timer gateway dialogs.now.local.timers client.now view.now
         then moved (Heard client.now now) draft.old else draft.old)) }
 {
     if needs_timer(gateway, dialogs, client, view) {
@@ -104,7 +105,7 @@ fn begin_timers<R: Replica>(
 ) -> Result<(), NoMemory>
     ensures { OnOk result (draft.new
         ≡ timers_begun gateway (seen_of (R.kept replica.now)) dialogs.now.local.timers now
-        (clients_of (R.kept replica.now)) draft.old) }
+        (views.clients (R.kept replica.now)) draft.old) }
 {
     let mut place = 0;
     while let Some((behind, client, view)) = replica.client_at(place) {
@@ -122,7 +123,7 @@ fn cleaned<R: Replica>(
     dialogs: &Dialogs,
     now: u64,
 ) -> Result<Draft, NoMemory>
-    ensures { IfOk result (λ draft. draft ≡ cleaned_draft gateway (seen_of (R.kept replica.now))
+    ensures { IfOk result (λ draft. draft ≡ spec.cleaned gateway (seen_of (R.kept replica.now))
         dialogs.now.local now) }
 {
     let mut draft = Draft::new(alloc);
@@ -133,7 +134,7 @@ fn cleaned<R: Replica>(
 
 /// Whether the last ADVERTISE is so long ago, if there was one.
 fn is_long_ago(advertise: u16, now: u64, last: Option<u64>) -> bool
-    ensures { result ≡ is_moment_long_ago advertise now last }
+    ensures { result ≡ spec.is_long_ago advertise now last }
 {
     match last {
         None => true,
@@ -143,7 +144,7 @@ fn is_long_ago(advertise: u16, now: u64, last: Option<u64>) -> bool
 
 /// Whether the gateway is to advertise itself.
 pub(crate) fn may_advertise(advertise: u16, field: &[Addr], now: u64, last: Option<u64>) -> bool
-    ensures { result ≡ is_to_advertise advertise field.now now last }
+    ensures { result ≡ spec.may_advertise advertise field.now now last }
 {
     0 < advertise && 0 < field.len() && is_long_ago(advertise, now, last)
 }
@@ -194,7 +195,7 @@ fn advertised(
     now: u64,
     mut draft: Draft,
 ) -> Result<Draft, NoMemory>
-    ensures { IfOk result (λ made. made ≡ advertised_draft gateway advertise field.now
+    ensures { IfOk result (λ made. made ≡ spec.advertised gateway advertise field.now
         now draft) }
 {
     advertise_all(alloc, &mut draft, gateway, advertise, field)?;
@@ -209,7 +210,7 @@ fn will_puts<R: Replica>(
     client: &ClientId,
     will: &Option<Will>,
 ) -> Result<Vec<NewPut>, NoMemory>
-    ensures { IfOk result (λ puts. puts.items ≡ puts_of_the_will (seen_of (R.kept replica.now))
+    ensures { IfOk result (λ puts. puts.items ≡ spec.will_puts (seen_of (R.kept replica.now))
         client.now will.now) }
 {
     match will {
@@ -226,7 +227,7 @@ fn lose<R: Replica>(
     session: &Session,
     draft: &mut Draft,
 ) -> Result<(), NoMemory>
-    ensures { OnOk result (draft.new ≡ lost_draft (seen_of (R.kept replica.now)) client.now
+    ensures { OnOk result (draft.new ≡ spec.lost (seen_of (R.kept replica.now)) client.now
         session.now draft.old) }
 {
     let puts = will_puts(alloc, replica, client, &session.will)?;
@@ -250,7 +251,7 @@ fn plan_loss<R: Replica>(
     mut draft: Draft,
     client: &ClientId,
 ) -> Result<Plan, StepFault>
-    ensures { Gives result (plan_of_due config.now.gateway config.now.predefined
+    ensures { Gives result (spec.plan_due config.now.gateway config.now.predefined
         (seen_of (R.kept replica.now)) now draft client.now Due.Loss) }
 {
     let empty = Session::empty(alloc);
@@ -261,7 +262,7 @@ fn plan_loss<R: Replica>(
 
 /// One try more: Resend follows.
 fn retried(alloc: Global, now: u64, mut draft: Draft, client: &ClientId) -> Result<Row, NoMemory>
-    ensures { IfOk result (λ row. row ≡ retried_row now draft client.now) }
+    ensures { IfOk result (λ row. row ≡ spec.retried now draft client.now) }
 {
     draft.note(LocalChange::Retried {
         client: client.copied(alloc)?,
@@ -280,7 +281,7 @@ fn plan_retry<R: Replica>(
     client: &ClientId,
     address: Addr,
 ) -> Result<Plan, StepFault>
-    ensures { Gives result (plan_of_due config.now.gateway config.now.predefined
+    ensures { Gives result (spec.plan_due config.now.gateway config.now.predefined
         (seen_of (R.kept replica.now)) now draft client.now (Due.Retry address)) }
 {
     let row = retried(alloc, now, draft, client)?;
@@ -297,7 +298,7 @@ fn plan_due<R: Replica>(
     client: &ClientId,
     due: Due,
 ) -> Result<Plan, StepFault>
-    ensures { Gives result (plan_of_due config.now.gateway config.now.predefined
+    ensures { Gives result (spec.plan_due config.now.gateway config.now.predefined
         (seen_of (R.kept replica.now)) now draft client.now due) }
 {
     match due {
@@ -319,7 +320,7 @@ fn plan_if_due<R: Replica>(
     draft: Draft,
     found: Option<(ClientId, Due)>,
 ) -> Result<Plan, StepFault>
-    ensures { Gives result (plan_of_due_if config.now.gateway config.now.predefined
+    ensures { Gives result (spec.plan_if_due config.now.gateway config.now.predefined
         (seen_of (R.kept replica.now)) now draft found) }
 {
     match found {
@@ -337,7 +338,7 @@ fn one_thing<R: Replica>(
     now: u64,
     draft: Draft,
 ) -> Result<Plan, StepFault>
-    ensures { Gives result (plan_of_one config.now.gateway config.now.advertise config.now.field
+    ensures { Gives result (spec.one_thing config.now.gateway config.now.advertise config.now.field
         config.now.predefined (seen_of (R.kept replica.now)) dialogs.now.local now draft) }
 {
     let field = config.field.as_slice();
@@ -359,7 +360,7 @@ pub fn tick<R: Replica>(
     dialogs: &Dialogs,
     now: u64,
 ) -> Result<Plan, StepFault>
-    ensures { Gives result (tick_plan config.now.gateway config.now.advertise config.now.field
+    ensures { Gives result (spec.tick config.now.gateway config.now.advertise config.now.field
         config.now.predefined (seen_of (R.kept replica.now)) dialogs.now.local now) }
 {
     let draft = cleaned(alloc, config.gateway, replica, dialogs, now)?;

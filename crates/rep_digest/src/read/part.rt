@@ -88,11 +88,11 @@ pub fn read_seen(bytes: &[u8]) -> Result<((u64, u8, u16), &[u8]), OpsFault>
     Ok(((epoch, gateway, prefix), rest))
 }
 
-ghost use Rattle.rep_digest.specs.Reading.{is_seen as seen_test};
+ghost use Rattle.rep_digest.specs.Reading as spec;
 
 /// Whether all are 0, or none of them, and the prefix not over its limit.
 fn is_seen(epoch: u64, gateway: u8, prefix: u16) -> bool
-    ensures { result ≡ seen_test (epoch, (gateway, prefix)) }
+    ensures { result ≡ spec.is_seen (epoch, (gateway, prefix)) }
 {
     if epoch == 0 {
         gateway == 0 && prefix == 0

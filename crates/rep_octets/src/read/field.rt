@@ -2,8 +2,9 @@
 
 ghost use Rattle.std.specs.Prelude.{◌≡◌};
 ghost use Rattle.std.specs.Int.{w16, w32, w64};
-ghost use Rattle.rep_op.specs.Ranges.{is_topic_id as id_test};
-ghost use Rattle.rep_octets.specs.Reading.{Gives, octet_at, octets_at, number_at, is_counted as counted_test, ranged, client_at, topic_at, body_at};
+ghost use Rattle.rep_op.specs.Ranges as ranges;
+ghost use Rattle.rep_octets.specs.Reading.{Gives, octet_at, octets_at, number_at, ranged, client_at, topic_at, body_at};
+ghost use Rattle.rep_octets.specs.Reading as spec;
 
 use octets::{Octets, read_u16, read_u32, read_u64};
 use rep_op::{ClientId, MAX_CLIENT_ID, OpsFault, is_topic_id};
@@ -23,7 +24,7 @@ pub fn read_octet(bytes: &[u8]) -> Result<(u8, &[u8]), OpsFault>
 
 /// An octet that is not 0.
 pub fn read_counted_octet(bytes: &[u8]) -> Result<(u8, &[u8]), OpsFault>
-    ensures { Gives (λ x. (x.0, x.1.now)) result (ranged counted_test octet_at bytes.now) }
+    ensures { Gives (λ x. (x.0, x.1.now)) result (ranged spec.is_counted octet_at bytes.now) }
 {
     let (octet, rest) = read_octet(bytes)?;
     if octet == 0 {
@@ -74,7 +75,7 @@ pub fn read_eight(bytes: &[u8]) -> Result<(u64, &[u8]), OpsFault>
 
 /// A number of two octets that is not 0.
 pub fn read_counted_two(bytes: &[u8]) -> Result<(u16, &[u8]), OpsFault>
-    ensures { Gives (λ x. (x.0, x.1.now)) result (ranged counted_test (number_at w16) bytes.now) }
+    ensures { Gives (λ x. (x.0, x.1.now)) result (ranged spec.is_counted (number_at w16) bytes.now) }
 {
     let (number, rest) = read_two(bytes)?;
     if number == 0 {
@@ -85,7 +86,7 @@ pub fn read_counted_two(bytes: &[u8]) -> Result<(u16, &[u8]), OpsFault>
 
 /// A topic id that is not reserved.
 pub fn read_topic_id(bytes: &[u8]) -> Result<(u16, &[u8]), OpsFault>
-    ensures { Gives (λ x. (x.0, x.1.now)) result (ranged id_test (number_at w16) bytes.now) }
+    ensures { Gives (λ x. (x.0, x.1.now)) result (ranged ranges.is_topic_id (number_at w16) bytes.now) }
 {
     let (id, rest) = read_two(bytes)?;
     if !is_topic_id(id) {
@@ -96,7 +97,7 @@ pub fn read_topic_id(bytes: &[u8]) -> Result<(u16, &[u8]), OpsFault>
 
 /// A number of eight octets that is not 0.
 pub fn read_counted_eight(bytes: &[u8]) -> Result<(u64, &[u8]), OpsFault>
-    ensures { Gives (λ x. (x.0, x.1.now)) result (ranged counted_test (number_at w64) bytes.now) }
+    ensures { Gives (λ x. (x.0, x.1.now)) result (ranged spec.is_counted (number_at w64) bytes.now) }
 {
     let (number, rest) = read_eight(bytes)?;
     if number == 0 {
