@@ -6,8 +6,8 @@ use std::alloc::{AllocError, Global};
 /// How many datagrams the stream has.
 const COUNT: usize = 10_000;
 
-/// A kind of datagram: the octet of the message's type, the first octet of the body, the fewest octets of
-/// the body, and how many more it may have.
+/// A kind of datagram: the octet of the message's type, the first octet of the body, the fewest
+/// octets of the body, and how many more it may have.
 type Shape = (u8, u8, u8, u8);
 
 /// Each message of MQTT-SN 1.2, and those that publish more than once.

@@ -8,8 +8,8 @@ use rep_ops::Delta;
 use rep_plain::Plain;
 use std::alloc::Global;
 
-/// Makes the digest of what the one gateway has, and the other's answer to it, so often, and says how large they are beside all that
-/// the other holds.
+/// Makes the digest of what the one gateway has, and the other's answer to it, so often, and says
+/// how large they are beside all that the other holds.
 pub(crate) fn run(alloc: Global, rounds: u32) -> Result<String> {
     let asker = asker(alloc)?;
     let peer = peer(alloc)?;

@@ -1,5 +1,6 @@
-//! Two gateways of which one was away: each has 1,000 clients with a session and 20 messages of four origins, with bodies of 64 octets.
-//! One message in a hundred has not come to the one that was away.
+//! Two gateways of which one was away: each has 1,000 clients with a session and 20 messages of
+//! four origins, with bodies of 64 octets. One message in a hundred has not come to the one that
+//! was away.
 
 use crate::numbers::Numbers;
 use anyhow::Result;

@@ -24,12 +24,13 @@ use std::io::Write;
 /// The status of a program whose journal cannot be opened.
 pub const NO_JOURNAL: u8 = 2;
 
-/// Opens the gateway of these settings on a disk, and prints how it stands: its number, how many records its journal has, and of
-/// how many clients it knows.
+/// Opens the gateway of these settings on a disk, and prints how it stands: its number, how many
+/// records its journal has, and of how many clients it knows.
 ///
-/// Where it cannot be opened the line names the journal's fault by its number, and the answer is the program's status, 2: J1 the disk
-/// failed; J2 the slots are no journal of this gateway; J3 a record is damaged, or contradicts those before it; J4 memory ran out.
-/// A line that cannot be printed is let go.
+/// Where it cannot be opened the line names the journal's fault by its number, and the answer is
+/// the program's status, 2: J1 the disk failed; J2 the slots are no journal of this gateway; J3 a
+/// record is damaged, or contradicts those before it; J4 memory ran out. A line that cannot be
+/// printed is let go.
 pub fn begin<R: Replica, D: Disk + Drop, O: Write, E: Write>(
     alloc: Global,
     settings: &Settings,
@@ -111,8 +112,9 @@ fn config_of(alloc: Global, settings: &Settings) -> Result<Config, NoMemory>
     })
 }
 
-/// The number of the journal's fault by which a refused opening is told: 1 the disk failed; 2 the slots are no journal of this gateway;
-/// 3 a record is damaged, or does not fit to those before it; 4 memory ran out.
+/// The number of the journal's fault by which a refused opening is told: 1 the disk failed; 2 the
+/// slots are no journal of this gateway; 3 a record is damaged, or does not fit to those before it;
+/// 4 memory ran out.
 pub fn number_of(fault: &NodeFault) -> u8
     ensures { result ≡ number_of (told fault.now) }
 {

@@ -22,12 +22,13 @@ pub enum Tended {
     Reopened,
 }
 
-/// Tends a gateway between two shifts. One that is halted is opened anew from its journal. Then the journal is written anew without what no
-/// longer counts; where its generation is the last there is, or memory ran out, it stays as it is, and where the disk failed in
-/// that, the gateway is opened anew from what the disk holds.
+/// Tends a gateway between two shifts. One that is halted is opened anew from its journal. Then the
+/// journal is written anew without what no longer counts; where its generation is the last there
+/// is, or memory ran out, it stays as it is, and where the disk failed in that, the gateway is
+/// opened anew from what the disk holds.
 ///
-/// A gateway that was tended is not halted. The fault is that of an opening, want of memory too, and the gateway is halted then. Whatever it
-/// had taken it has taken still.
+/// A gateway that was tended is not halted. The fault is that of an opening, want of memory too,
+/// and the gateway is halted then. Whatever it had taken it has taken still.
 pub fn tend<R: Replica, D: Disk + Drop>(
     alloc: Global,
     node: &mut Node<R, D>,
@@ -67,7 +68,8 @@ fn open_anew<R: Replica, D: Disk + Drop>(
     }
 }
 
-/// Writes the journal of a gateway anew that is not halted. Where the disk failed in that the gateway is opened anew.
+/// Writes the journal of a gateway anew that is not halted. Where the disk failed in that the
+/// gateway is opened anew.
 fn compact<R: Replica, D: Disk + Drop>(
     alloc: Global,
     node: &mut Node<R, D>,

@@ -20,7 +20,8 @@ use std::alloc::Global;
 
 /// The message in front of the octets, and the octets behind it; nothing where octets are wanting.
 ///
-/// `Kind` as soon as the kind is there, `TooLong` as soon as the length is, `Body` when the body is whole.
+/// `Kind` as soon as the kind is there, `TooLong` as soon as the length is, `Body` when the body is
+/// whole.
 #[tactic(auto, unfolding(crate::specs::Streams::front))]
 pub fn front(alloc: Global, bytes: &[u8]) -> Result<Option<(LinkMessage, &[u8])>, LinkFault>
     ensures { IsFront (λ x. (x.0, x.1.now)) result (spec.front bytes.now) }

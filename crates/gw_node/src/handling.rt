@@ -166,8 +166,9 @@ pub(crate) fn handle_frame<R: Replica, D: Disk + Drop>(
 /// How many seconds ahead it is found out that ticks have nothing to do.
 const AHEAD: u64 = 10;
 
-/// Whether it is known that a tick of this moment has nothing to do. Where it was not known it is looked for some seconds
-/// ahead, so that the ticks until then need not look, as long as nothing changes.
+/// Whether it is known that a tick of this moment has nothing to do. Where it was not known it is
+/// looked for some seconds ahead, so that the ticks until then need not look, as long as nothing
+/// changes.
 fn is_idle_at<R: Replica, D: Disk>(node: &mut Node<R, D>, now: u64) -> bool
     ensures same { state_of R.kept node.new ≡ state_of R.kept node.old }
     ensures idle { IsTrue result → IsIdleAt (state_of R.kept node.old) now }

@@ -1,4 +1,5 @@
-//! Whether each address and each timer is of a client that the gateway owns, so that behind a delta nobody need be looked for.
+//! Whether each address and each timer is of a client that the gateway owns, so that behind a delta
+//! nobody need be looked for.
 
 ghost use Rattle.std.specs.Prelude.{◌≡◌, true, length};
 ghost use Rattle.std.specs.List.{list_all};
@@ -29,7 +30,8 @@ fn is_left<R: Replica>(gateway: u8, replica: &R, dialogs: &Dialogs, client: &Cli
 
 /// Whether the operation leaves the gateway all clients of which it knows an address or a timer.
 fn leaves_all<R: Replica>(gateway: u8, replica: &R, dialogs: &Dialogs, op: &Op) -> bool
-    ensures { result ≡ spec.leaves_all gateway (seen_of (R.kept replica.now)) dialogs.now.local op.now }
+    ensures { result
+          ≡ spec.leaves_all gateway (seen_of (R.kept replica.now)) dialogs.now.local op.now }
 {
     match op {
         Op::Session {
@@ -59,7 +61,8 @@ fn notes_owned<R: Replica>(gateway: u8, replica: &R, change: &LocalChange) -> bo
     }
 }
 
-/// Whether these operations, which the replica has taken, leave the gateway all clients of which it knows an address or a timer.
+/// Whether these operations, which the replica has taken, leave the gateway all clients of which it
+/// knows an address or a timer.
 fn leave_all<R: Replica>(gateway: u8, replica: &R, dialogs: &Dialogs, ops: &[Op]) -> bool
     ensures { result ≡ list_all
         (spec.leaves_all gateway (seen_of (R.kept replica.now)) dialogs.now.local) ops.now }
@@ -70,15 +73,16 @@ fn leave_all<R: Replica>(gateway: u8, replica: &R, dialogs: &Dialogs, ops: &[Op]
 
 /// Whether these changes note nobody whom the gateway does not own.
 fn note_owned<R: Replica>(gateway: u8, replica: &R, changes: &[LocalChange]) -> bool
-    ensures { result ≡ list_all (spec.notes_owned gateway (seen_of (R.kept replica.now))) changes.now }
+    ensures { result
+          ≡ list_all (spec.notes_owned gateway (seen_of (R.kept replica.now))) changes.now }
 {
     changes
         .iter()
         .all(|change| notes_owned(gateway, replica, change))
 }
 
-/// Carries out changes for which there is room, and tells whether each address and each timer is of a client that the gateway
-/// owns, where that was known before.
+/// Carries out changes for which there is room, and tells whether each address and each timer is of
+/// a client that the gateway owns, where that was known before.
 pub(crate) fn note_changes<R: Replica>(
     gateway: u8,
     replica: &R,
@@ -123,8 +127,9 @@ pub(crate) fn note_taken<R: Replica>(
     note_changes(gateway, replica, dialogs, false, changes)
 }
 
-/// Drops the bindings and the timers of clients that the gateway does not own, where it has taken these operations. Where it
-/// was known that before them there were none, few of them are looked for.
+/// Drops the bindings and the timers of clients that the gateway does not own, where it has taken
+/// these operations. Where it was known that before them there were none, few of them are looked
+/// for.
 pub(crate) fn keep_owned<R: Replica>(
     gateway: u8,
     replica: &R,

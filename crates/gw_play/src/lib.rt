@@ -1,7 +1,7 @@
 //! A field of gateways, run from a script.
 //!
-//! `play` reads a script, runs it and writes what each gateway answered. Nothing is written before the whole script was read
-//! and run: a bad line is written alone, and so is a refused run.
+//! `play` reads a script, runs it and writes what each gateway answered. Nothing is written before
+//! the whole script was read and run: a bad line is written alone, and so is a refused run.
 //!
 //! - `reading`: where a script comes from, and how often it is read (`Source`, `read_all`).
 //! - `number`, `bytes`: fields of a line.
@@ -12,8 +12,9 @@
 //! - `replica`: what the gateways keep their operations in.
 //! - `fault`: why a line, or a script, is refused.
 //!
-//! The definitions are in `specs/`: `Commands`, `Numbers`, `Octets` (lines), `Scripts` (lines together), `Printing`, `Sessions`,
-//! `Texts` (what is written), `Playing` (what is written for a script).
+//! The definitions are in `specs/`: `Commands`, `Numbers`, `Octets` (lines), `Scripts` (lines
+//! together), `Printing`, `Sessions`, `Texts` (what is written), `Playing` (what is written for a
+//! script).
 #![tactic(auto)]
 
 mod bytes;

@@ -17,8 +17,8 @@ use rep_model::Replica;
 use std::alloc::{AllocError, Global};
 use std::io::{self, Write};
 
-/// Reads a script, runs it and prints what comes of it. The exit status is 0 where all was read, run and
-/// written, and otherwise 1.
+/// Reads a script, runs it and prints what comes of it. The exit status is 0 where all was read,
+/// run and written, and otherwise 1.
 pub fn play<S: Source, W: Write>(alloc: Global, source: &mut S, writer: &mut W) -> u8
     ensures reads { S.reads source.new ≤ S.reads source.old + 2 ^ 24 }
     ensures ended { result ≡ 0 → IsAtEnd (S.remaining source.new) }

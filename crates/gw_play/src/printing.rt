@@ -29,7 +29,8 @@ pub fn print_answers(alloc: Global, answers: &[Answer]) -> Result<String, AllocE
     Ok(text)
 }
 
-/// The lines of an answer. `before` deltas are in the field's list; the result is how many there are then.
+/// The lines of an answer. `before` deltas are in the field's list; the result is how many there
+/// are then.
 fn print_answer(
     alloc: Global,
     text: &mut String,

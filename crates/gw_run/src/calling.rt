@@ -22,7 +22,8 @@ use thiserror::Error;
 /// Why a thread of a shift stops what it does.
 #[derive(Clone, Copy, Debug, PartialEq, Eq, Error)]
 pub enum End {
-    /// The link is lost: its other end closed it, a read or a write failed, or what came is no message.
+    /// The link is lost: its other end closed it, a read or a write failed, or what came is no
+    /// message.
     #[error("the link is lost")]
     Lost,
     /// The shift has had all its calls.
@@ -34,7 +35,8 @@ pub enum End {
     /// The pass has seen more calls than the shift has.
     #[error("a pass has seen more calls than the shift has")]
     Behind,
-    /// The gateway is halted, since a write of its journal has failed, and refused to be opened anew.
+    /// The gateway is halted, since a write of its journal has failed, and refused to be opened
+    /// anew.
     #[error("the gateway is halted, and refused to be opened anew")]
     Halted,
     /// The gateway was halted, and was opened anew.
@@ -42,7 +44,8 @@ pub enum End {
     Reopened,
 }
 
-/// Makes a call, once it is claimed. Says what the gateway answered, or why the call did not reach it.
+/// Makes a call, once it is claimed. Says what the gateway answered, or why the call did not reach
+/// it.
 #[tactic(auto, using(crate::proofs::Adding::adds_none))]
 pub(crate) fn call<T: Wait, R: Replica, D: Disk + Drop>(
     rt: &T,
@@ -81,7 +84,8 @@ fn reached(fault: CallFault) -> Result<NodeFault, End>
     }
 }
 
-/// What a refusal of the gateway means for what it was asked: that is dropped. Only want of memory ends anything.
+/// What a refusal of the gateway means for what it was asked: that is dropped. Only want of memory
+/// ends anything.
 pub(crate) fn dropped(fault: &NodeFault) -> Result<(), End>
     ensures { IfErr result (λ end. end ≡ ends.Memory) }
 {

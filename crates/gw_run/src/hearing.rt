@@ -45,7 +45,8 @@ pub(crate) fn listen<S: Read + Drop>(
     }
 }
 
-/// Nothing came. An end that does not say its number for too long is given up: it keeps another from its place.
+/// Nothing came. An end that does not say its number for too long is given up: it keeps another
+/// from its place.
 fn wait_on<S: Drop>(link: &mut Link<S>) -> Result<(), End> {
     link.silence = link.silence.saturating_add(1);
     if link.other.is_none() && link.silence > MOST_SILENCE {
@@ -54,7 +55,8 @@ fn wait_on<S: Drop>(link: &mut Link<S>) -> Result<(), End> {
     Ok(())
 }
 
-/// Takes a piece of the stream. What is no message ends the link, once what came before it was heard.
+/// Takes a piece of the stream. What is no message ends the link, once what came before it was
+/// heard.
 fn take_in<S: Drop>(alloc: Global, link: &mut Link<S>, piece: &[u8]) -> Result<(), End> {
     match link.incoming.feed(alloc, piece) {
         Err(LinkFault::Memory) => Err(End::Memory),
@@ -101,8 +103,8 @@ fn heard(alloc: Global, message: LinkMessage) -> Result<Said, End> {
     }
 }
 
-/// Takes the deltas that came. What the gateway refuses is dropped, also where it is halted; where the shift has had all its calls the rest
-/// waits for the next one.
+/// Takes the deltas that came. What the gateway refuses is dropped, also where it is halted; where
+/// the shift has had all its calls the rest waits for the next one.
 #[tactic(auto, using(crate::proofs::Adding::adds_more, crate::proofs::Adding::adds_none))]
 pub(crate) fn hear_all<T: Wait, R: Replica, D: Disk + Drop, S: Drop>(
     rt: &T,
@@ -132,8 +134,8 @@ pub(crate) fn hear_all<T: Wait, R: Replica, D: Disk + Drop, S: Drop>(
     unreachable!()
 }
 
-/// Answers the digest that came, once what was said so far went out, and once a shift: who asks and does not listen, or asks and
-/// asks, is not answered without end.
+/// Answers the digest that came, once what was said so far went out, and once a shift: who asks and
+/// does not listen, or asks and asks, is not answered without end.
 pub(crate) fn answer<T: Wait, R: Replica, D: Disk + Drop, S: Drop>(
     rt: &T,
     alloc: Global,

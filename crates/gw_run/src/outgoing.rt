@@ -1,5 +1,5 @@
-//! What is to go out over a link. It goes out as the stream takes it, and what comes is read and heard meanwhile: two ends that have much to
-//! say to each other would else wait for each other.
+//! What is to go out over a link. It goes out as the stream takes it, and what comes is read and
+//! heard meanwhile: two ends that have much to say to each other would else wait for each other.
 
 ghost use Rattle.gw_net.specs.Messages.{IsNumbered};
 
@@ -10,11 +10,12 @@ use gw_net::{LinkMessage, link_out};
 use std::alloc::Global;
 use std::io::{Error, ErrorKind, Write};
 
-/// How many octets may wait for a stream to take them before no more deltas are told and the link is given up. An answer may be longer.
+/// How many octets may wait for a stream to take them before no more deltas are told and the link
+/// is given up. An answer may be longer.
 const MOST_BEHIND: usize = 67_108_864;
 
-/// How often in turn a stream may take nothing before the link is given up: who takes in a long delta reads nothing meanwhile. Each time it is
-/// waited for as long as the stream's time says.
+/// How often in turn a stream may take nothing before the link is given up: who takes in a long
+/// delta reads nothing meanwhile. Each time it is waited for as long as the stream's time says.
 const MOST_STALLS: u32 = 1_500;
 
 /// How many octets are written at once.
@@ -69,8 +70,9 @@ pub(crate) fn is_behind<S: Drop>(link: &Link<S>) -> bool {
     link.behind > MOST_BEHIND
 }
 
-/// Lets go out what the stream takes in some writes, fewer at a shift's end. A stream that took less than it was given has no more room, and is not waited for.
-/// Where it took nothing for too long the link is lost.
+/// Lets go out what the stream takes in some writes, fewer at a shift's end. A stream that took
+/// less than it was given has no more room, and is not waited for. Where it took nothing for too
+/// long the link is lost.
 pub(crate) fn pump<S: Write + Drop>(link: &mut Link<S>, phase: Phase) -> Result<(), End> {
     let most = if phase == Phase::Quiet {
         LAST_WRITES

@@ -20,8 +20,9 @@ use std::sync::{Arc, Wait};
 /// How many deltas are asked of the shift at once.
 const AT_ONCE: usize = 64;
 
-/// How often a read finds nothing, ten milliseconds each, before this end says its number again: some thirty seconds. Where the other end is gone, and
-/// nobody was told so, the system tells it behind such a message, and the link is made anew.
+/// How often a read finds nothing, ten milliseconds each, before this end says its number again:
+/// some thirty seconds. Where the other end is gone, and nobody was told so, the system tells it
+/// behind such a message, and the link is made anew.
 const MOST_QUIET: u32 = 3_000;
 
 /// Says the number of this gateway.
@@ -74,8 +75,9 @@ fn say_again<S: Drop>(alloc: Global, link: &mut Link<S>, gateway: u8) -> Result<
     say_hello(alloc, link, gateway)
 }
 
-/// Says the number of this gateway and what it has, once; and its number again where nothing came for long. A link whose other end has
-/// the number of this gateway is at an end: it is this gateway itself, or one that may not be there.
+/// Says the number of this gateway and what it has, once; and its number again where nothing came
+/// for long. A link whose other end has the number of this gateway is at an end: it is this gateway
+/// itself, or one that may not be there.
 pub(crate) fn greet<T: Wait, R: Replica, D: Disk + Drop, S: Drop>(
     rt: &T,
     alloc: Global,
@@ -107,7 +109,8 @@ pub(crate) fn greet<T: Wait, R: Replica, D: Disk + Drop, S: Drop>(
     }
 }
 
-/// The same once the digest is known; a gateway whose digest would be too large says its number alone.
+/// The same once the digest is known; a gateway whose digest would be too large says its number
+/// alone.
 fn say_greeting<S: Drop>(
     alloc: Global,
     link: &mut Link<S>,

@@ -30,8 +30,9 @@ pub struct Seat {
     pub end: Option<End>,
 }
 
-/// Lets links talk at a seat until the shift is over. Those that are still open then wait for the next one. A link that waits for a seat
-/// when the shift is over gets one all the same: it has to tell what the gateway made in the shift.
+/// Lets links talk at a seat until the shift is over. Those that are still open then wait for the
+/// next one. A link that waits for a seat when the shift is over gets one all the same: it has to
+/// tell what the gateway made in the shift.
 pub fn sit<T: Wait + Clock, R: Replica, D: Disk + Drop, S: Read + Write + Drop>(
     rt: &T,
     alloc: Global,

@@ -15,7 +15,8 @@ pub enum Phase {
     Quiet,
 }
 
-/// Tells the threads of a shift how far it is, lets them wait for that, and gives out its calls: who makes one has claimed it before.
+/// Tells the threads of a shift how far it is, lets them wait for that, and gives out its calls:
+/// who makes one has claimed it before.
 #[derive(Drop)]
 pub struct Stage {
     phase: Mutex<Phase>,

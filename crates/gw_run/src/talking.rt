@@ -19,8 +19,9 @@ use std::time::Clock;
 /// How many milliseconds a link that may make no more calls waits for the end of the shift.
 const A_MOMENT: u64 = 20;
 
-/// Talks over a link until the shift is over, and then has told of each delta that the gateway made in it: `Full`, and the link
-/// stays open; what its stream has not taken by then goes out in the next one. Or says why the link, or more, is at an end.
+/// Talks over a link until the shift is over, and then has told of each delta that the gateway made
+/// in it: `Full`, and the link stays open; what its stream has not taken by then goes out in the
+/// next one. Or says why the link, or more, is at an end.
 #[tactic(auto, using(crate::proofs::Adding::adds_more, crate::proofs::Adding::adds_none))]
 pub(crate) fn talk<T: Wait + Clock, R: Replica, D: Disk + Drop, S: Read + Write + Drop>(
     rt: &T,
@@ -46,7 +47,8 @@ pub(crate) fn talk<T: Wait + Clock, R: Replica, D: Disk + Drop, S: Read + Write 
     unreachable!()
 }
 
-/// Hears what has come, and tells what is new: once what was said before went out, or at the shift's end.
+/// Hears what has come, and tells what is new: once what was said before went out, or at the
+/// shift's end.
 #[tactic(auto, using(crate::proofs::Adding::adds_more, crate::proofs::Adding::adds_none))]
 fn take_turn<T: Wait, R: Replica, D: Disk + Drop, S: Write + Drop>(
     rt: &T,
@@ -94,8 +96,8 @@ fn hear_in_turn<T: Wait, R: Replica, D: Disk + Drop, S: Drop>(
     answer(rt, alloc, shift, pass, link, stage)
 }
 
-/// Tells what is new, where that is due, and lets go out what the stream takes. A stream that took nothing lately is not waited for at
-/// the shift's end.
+/// Tells what is new, where that is due, and lets go out what the stream takes. A stream that took
+/// nothing lately is not waited for at the shift's end.
 fn tell<T: Wait, R: Replica, D: Disk + Drop, S: Write + Drop>(
     rt: &T,
     alloc: Global,

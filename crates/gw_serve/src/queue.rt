@@ -103,7 +103,8 @@ impl Lesson<Datagram, Hand> for Drains {
     ghost use Rattle.gw_serve.specs.Count.{weigh};
     ghost use Rattle.gw_serve.specs.inner.Queue.{numbers};
 
-    ghost fact = { λ v items. (h : ℕ → ℕ) → weigh h v.sent ≡ weigh h v.taken + weigh h (numbers items) };
+    ghost fact = { λ v items. (h : ℕ → ℕ)
+          → weigh h v.sent ≡ weigh h v.taken + weigh h (numbers items) };
 }
 
 /// The end at which numbers are sent.

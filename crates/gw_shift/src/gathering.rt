@@ -27,8 +27,8 @@ fn told(answer: &Answer) -> Option<&Arc<Out>>
     }
 }
 
-/// Shares of what was answered to calls that made a delta, with their numbers, at most so many. The first call has the number
-/// after `before`.
+/// Shares of what was answered to calls that made a delta, with their numbers, at most so many. The
+/// first call has the number after `before`.
 #[tactic(auto, using(crate::proofs::Handing::gathered, crate::proofs::Handing::passed_over))]
 pub(crate) fn shares(
     alloc: Global,

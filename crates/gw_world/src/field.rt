@@ -216,8 +216,8 @@ pub(crate) fn want_of_memory(fault: &NodeFault) -> WorldFault
 
 /// A gateway stops, with so many bytes of each slot left that were not synced, and is opened again.
 ///
-/// What a crash leaves of its disk stands for a set, and no journal is begun, so a failure that is arranged is not met. So nothing refuses
-/// the opening but want of memory.
+/// What a crash leaves of its disk stands for a set, and no journal is begun, so a failure that is
+/// arranged is not met. So nothing refuses the opening but want of memory.
 fn open_again<R: Replica>(
     alloc: Global,
     node: Node<R, MemoryDisk>,
@@ -246,8 +246,8 @@ fn open_again<R: Replica>(
     }
 }
 
-/// The gateway in this place stops, with so many bytes of each slot left that were not synced, and is opened again: how many records
-/// it reads then.
+/// The gateway in this place stops, with so many bytes of each slot left that were not synced, and
+/// is opened again: how many records it reads then.
 pub fn restart_at<R: Replica>(
     alloc: Global,
     nodes: &mut Vec<Node<R, MemoryDisk>>,

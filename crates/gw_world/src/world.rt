@@ -17,7 +17,8 @@ use thiserror::Error;
 pub struct World<G> {
     /// An answer for each event, in their order.
     pub answers: Sequence<Answer>,
-    /// The deltas that were made, or that answered a digest, in their order; the first has number 1.
+    /// The deltas that were made, or that answered a digest, in their order; the first has number
+    /// 1.
     pub deltas: Sequence<Delta>,
     /// The gateways, in the order of their configs.
     pub gateways: Sequence<G>,

@@ -1,4 +1,5 @@
-//! Compacting: what a journal must keep is written into its other slot, and the journal goes on there.
+//! Compacting: what a journal must keep is written into its other slot, and the journal goes on
+//! there.
 
 ghost use Rattle.std.specs.Prelude.{ℕ, ◌≡◌, ◌≤◌, ◌<◌, ◌⊎◌, ◌++◌, true, false, None, flat_map, take, IfOk, IfErr, OnOk, OnErr, IsErrOf};
 ghost use Rattle.std.specs.List.{AllByRecursion};
@@ -56,7 +57,8 @@ pub(crate) fn base_of(
     Ok(bytes)
 }
 
-/// Writes all of a slot anew: what was in it is cut away, and the bytes go out in one append and are synced.
+/// Writes all of a slot anew: what was in it is cut away, and the bytes go out in one append and
+/// are synced.
 pub(crate) fn write_anew<D: Disk>(
     disk: &mut D,
     slot: Slot,

@@ -34,11 +34,12 @@ impl<D: Disk + Drop> Journal<D> {
     ghost use Rattle.jr_journal.specs.Parts as parts;
     ghost use Rattle.jr_journal.specs.Opening.{synced_slots, recovered, slot_read, generation_read, is_quiet, IsUnhurt, LeavesNoMore};
 
-    /// Opens the journal of a gateway on a disk, and gives the deltas of its records. First all bytes of both slots are
-    /// made durable, then they are read; a record that the end cuts is cut away, and on an empty disk a journal is begun.
+    /// Opens the journal of a gateway on a disk, and gives the deltas of its records. First all
+    /// bytes of both slots are made durable, then they are read; a record that the end cuts is cut
+    /// away, and on an empty disk a journal is begun.
     ///
-    /// With a fault the disk comes back. `Foreign` and `BadRecord` are told of what is in the slots, `Disk` only where
-    /// the disk failed, `Memory` where memory ran out.
+    /// With a fault the disk comes back. `Foreign` and `BadRecord` are told of what is in the
+    /// slots, `Disk` only where the disk failed, `Memory` where memory ran out.
     pub fn open(
         alloc: Global,
         disk: D,
@@ -79,10 +80,12 @@ impl<D: Disk + Drop> Journal<D> {
         // A failure that is arranged for an append stays arranged, unless a journal is begun.
         ensures quiet { D.honest → IsTrue (is_quiet (D.outlook disk)
             (is_fresh (image (D.slots disk)))) →
-            IfOk result (λ made. D.starved (disk_of made.0) ≡ false → D.outlook (disk_of made.0) ≡ D.outlook disk) }
+            IfOk result (λ made. D.starved (disk_of made.0) ≡ false
+              → D.outlook (disk_of made.0) ≡ D.outlook disk) }
         ensures blameless { D.honest → IsTrue
             (is_quiet (D.outlook disk) (is_fresh (image (D.slots disk)))) →
-            IfErr result (λ refused. D.starved refused.0 ≡ false → (refused.1 ≢ JournalFault.Disk) × (D.outlook refused.0 ≡ D.outlook disk)) }
+            IfErr result (λ refused. D.starved refused.0 ≡ false
+              → (refused.1 ≢ JournalFault.Disk) × (D.outlook refused.0 ≡ D.outlook disk)) }
     {
         let mut disk = disk;
         match recover(alloc, &mut disk, gateway) {
@@ -106,10 +109,11 @@ impl<D: Disk + Drop> Journal<D> {
         }
     }
 
-    /// Adds a record. At `Ok` it is synced. After `Disk` the journal is halted, and a crash leaves the records
-    /// from before, or these and the new one.
+    /// Adds a record. At `Ok` it is synced. After `Disk` the journal is halted, and a crash leaves
+    /// the records from before, or these and the new one.
     ///
-    /// `Halted` where a write has failed before; else `Memory`, and nothing was written; else `Disk`.
+    /// `Halted` where a write has failed before; else `Memory`, and nothing was written; else
+    /// `Disk`.
     pub fn append(&mut self, alloc: Global, delta: &Delta) -> Result<(), JournalFault>
         ensures halted { IsErrOf result JournalFault.Halted ↔ (parts.is_halted self.old ≡ true) }
         ensures same { (gateway_of self.new ≡ gateway_of self.old)
@@ -164,11 +168,13 @@ impl<D: Disk + Drop> Journal<D> {
         Ok(())
     }
 
-    /// Writes the journal anew: the other slot gets a header of the next generation, the base and the seal, in one append that is
-    /// synced, and the journal goes on there. The base takes the place of all records that were there.
+    /// Writes the journal anew: the other slot gets a header of the next generation, the base and
+    /// the seal, in one append that is synced, and the journal goes on there. The base takes the
+    /// place of all records that were there.
     ///
-    /// `Halted` where a write has failed before; else `Foreign` where the generation is the last that a header can hold; else `Memory`:
-    /// nothing was written then. Else `Disk`: the journal is halted, and a crash leaves the records from before, or the base.
+    /// `Halted` where a write has failed before; else `Foreign` where the generation is the last
+    /// that a header can hold; else `Memory`: nothing was written then. Else `Disk`: the journal is
+    /// halted, and a crash leaves the records from before, or the base.
     #[tactic(auto, using(crate::proofs::Appending::number_kept))]
     pub fn compact(&mut self, alloc: Global, base: &[Delta]) -> Result<(), JournalFault>
         ensures halted { IsErrOf result JournalFault.Halted ↔ (parts.is_halted self.old ≡ true) }
@@ -187,14 +193,17 @@ impl<D: Disk + Drop> Journal<D> {
             × (generation_of self.new ≡ generation_of self.old)) }
         ensures halts { IsErrOf result JournalFault.Disk → parts.is_halted self.new ≡ true }
         ensures refused { IfErr result (λ fault. IsBeforeWriting fault
-            → (disk_of self.new ≡ disk_of self.old) × (parts.is_halted self.new ≡ parts.is_halted self.old)) }
+            → (disk_of self.new ≡ disk_of self.old)
+            × (parts.is_halted self.new ≡ parts.is_halted self.old)) }
         ensures counts { D.failures (disk_of self.old) ≤ D.failures (disk_of self.new) }
         ensures cause { IsErrOf result JournalFault.Disk
             → D.failures (disk_of self.old) < D.failures (disk_of self.new) }
         ensures starved { D.starved (disk_of self.old) ≡ true
             → D.starved (disk_of self.new) ≡ true }
         ensures exact { D.honest → OnOk result (D.slots (disk_of self.new) ≡
-            after_append None (emptied (D.slots (disk_of self.old)) (spec.other (slot_of self.old))) (spec.other (slot_of self.old)) (base_bytes (gateway_of self.old) (generation_of self.old + 1) base.now)) }
+            after_append None (emptied (D.slots (disk_of self.old)) (spec.other (slot_of self.old)))
+              (spec.other (slot_of self.old))
+              (base_bytes (gateway_of self.old) (generation_of self.old + 1) base.now)) }
         // After it every crash leaves the base and nothing else.
         ensures durable { D.honest → OnOk result
             (Leaves (gateway_of self.old) (D.slots (disk_of self.new)) base.now) }
@@ -204,7 +213,11 @@ impl<D: Disk + Drop> Journal<D> {
             (records (gateway_of self.old) (image (D.slots (disk_of self.old)))) base.now }
         // Where it is known which failure is arranged, so are the outcome and the slots.
         ensures known { D.honest → D.starved (disk_of self.new) ≡ false → IsTried result →
-            AppendedAs (D.outlook (disk_of self.old)) (emptied (D.slots (disk_of self.old)) (spec.other (slot_of self.old))) (spec.other (slot_of self.old)) (base_bytes (gateway_of self.old) (generation_of self.old + 1) base.now) result (D.slots (disk_of self.new)) (D.outlook (disk_of self.new)) }
+            AppendedAs (D.outlook (disk_of self.old))
+              (emptied (D.slots (disk_of self.old)) (spec.other (slot_of self.old)))
+              (spec.other (slot_of self.old))
+              (base_bytes (gateway_of self.old) (generation_of self.old + 1) base.now) result
+              (D.slots (disk_of self.new)) (D.outlook (disk_of self.new)) }
     {
         if self.is_halted() {
             return Err(JournalFault::Halted);
@@ -222,9 +235,11 @@ impl<D: Disk + Drop> Journal<D> {
         Ok(())
     }
 
-    /// Opens the journal once more, as it stands on its disk, halted or not, and gives the deltas of its records.
+    /// Opens the journal once more, as it stands on its disk, halted or not, and gives the deltas
+    /// of its records.
     ///
-    /// The faults are those of an opening. After `Memory` the journal is halted or not as before; after each other fault it is halted.
+    /// The faults are those of an opening. After `Memory` the journal is halted or not as before;
+    /// after each other fault it is halted.
     pub fn reopen(&mut self, alloc: Global) -> Result<Vec<Delta>, JournalFault>
         ensures same { gateway_of self.new ≡ gateway_of self.old }
         ensures starts { OnOk result (parts.is_halted self.new ≡ false) }
@@ -295,7 +310,8 @@ impl<D: Disk + Drop> Journal<D> {
         }
     }
 
-    /// Halts the journal: nothing more is written until it is opened once more. The disk stays as it is.
+    /// Halts the journal: nothing more is written until it is opened once more. The disk stays as
+    /// it is.
     pub fn halt(&mut self)
         ensures halted { parts.is_halted self.new ≡ true }
         ensures disk { disk_of self.new ≡ disk_of self.old }
@@ -347,8 +363,9 @@ impl Journal<MemoryDisk> {
         self.disk.starved()
     }
 
-    /// Arranges a failure on its disk, in place of one that was arranged before, and changes nothing else: the next append
-    /// goes out and its sync fails, or the next append stops after so many bytes.
+    /// Arranges a failure on its disk, in place of one that was arranged before, and changes
+    /// nothing else: the next append goes out and its sync fails, or the next append stops after so
+    /// many bytes.
     pub fn fail_next(&mut self, bytes: usize, sync: bool)
         ensures disk { disk_of self.new ≡ failing bytes sync (disk_of self.old) }
         ensures same { (gateway_of self.new ≡ gateway_of self.old)

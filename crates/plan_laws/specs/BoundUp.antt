@@ -15,4 +15,5 @@ IsClientUp g S c = (is_owned g (seen_of S) c ≡ true) × (can_wake (view c S).s
 
 -- and so is each client that is bound
 abbrev pub IsUp : ℕ → List Op → Local → Type 0
-IsUp g S local = AllByRecursion (λ (binding : Binding). IsClientUp g S binding.client) local.bindings
+IsUp g S local =
+    AllByRecursion (λ (binding : Binding). IsClientUp g S binding.client) local.bindings

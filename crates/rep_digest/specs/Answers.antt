@@ -23,7 +23,8 @@ ranges_of ranges (Some o) = ranges o
 -- the ranges that an entry of a client has of an origin, or none
 abbrev pub ranges_in : (OriginEntry → List (ℕ × ℕ)) → ℕ → Option ClientEntry → List (ℕ × ℕ)
 ranges_in ranges origin None = []
-ranges_in ranges origin (Some entry) = ranges_of ranges (find (λ o. origin == o.origin) entry.origins)
+ranges_in ranges origin (Some entry) =
+    ranges_of ranges (find (λ o. origin == o.origin) entry.origins)
 
 abbrev pub acknowledged_in : ℕ → Option ClientEntry → List (ℕ × ℕ)
 acknowledged_in origin entry = ranges_in (λ o. o.acknowledged) origin entry
@@ -42,7 +43,9 @@ covers_operation digest c name = sees (entry_of c digest) name
 
 -- messages that wait or are acknowledged
 abbrev pub covers_put : List ClientEntry → List ℕ → ℕ × ℕ → Bool
-covers_put digest c name = in_ranges name.0 (waiting_in name.1 (entry_of c digest)) || in_ranges name.0 (acknowledged_in name.1 (entry_of c digest))
+covers_put digest c name =
+    in_ranges name.0 (waiting_in name.1 (entry_of c digest))
+    || in_ranges name.0 (acknowledged_in name.1 (entry_of c digest))
 
 -- acknowledgements that it has
 abbrev pub covers_acknowledgement : List ClientEntry → List ℕ → ℕ × ℕ → Bool
@@ -50,9 +53,14 @@ covers_acknowledgement digest c name = in_ranges name.0 (acknowledged_in name.1 
 
 -- X is the set S without what the digest covers
 pub record IsRest (digest : List ClientEntry) (S X : List Op) : Type 0 where
-  pub operations_left : (c : List ℕ) (name : Stamp × ℕ) → operation_at c X name ≡ (if covers_operation digest c name then None else operation_at c S name)
-  pub puts_left : (c : List ℕ) (name : ℕ × ℕ) → put_at c X name ≡ (if covers_put digest c name then None else put_at c S name)
-  pub acknowledgements_left : (c : List ℕ) (name : ℕ × ℕ) → is_acknowledged c X name ≡ (not (covers_acknowledgement digest c name) && is_acknowledged c S name)
+  pub operations_left : (c : List ℕ) (name : Stamp × ℕ)
+      → operation_at c X name
+      ≡ (if covers_operation digest c name then None else operation_at c S name)
+  pub puts_left : (c : List ℕ) (name : ℕ × ℕ)
+      → put_at c X name ≡ (if covers_put digest c name then None else put_at c S name)
+  pub acknowledgements_left : (c : List ℕ) (name : ℕ × ℕ)
+      → is_acknowledged c X name
+      ≡ (not (covers_acknowledgement digest c name) && is_acknowledged c S name)
 
 -- the deltas, one after the other, are what must be kept of S and what the digest does not cover
 abbrev pub IsAnswer : List ClientEntry → List Op → List (List Op) → Type 0

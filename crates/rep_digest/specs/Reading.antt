@@ -23,11 +23,15 @@ origin_of x = record { origin = x.0; acknowledged = x.1.0; waiting = x.1.1 }
 
 -- an origin of which something is said
 unfoldable pub origin_at : Reader OriginEntry
-origin_at = ranged has_ranges (made origin_of (both (ranged is_counted octet_at) (both ranges_at ranges_at)))
+origin_at =
+    ranged has_ranges (made origin_of
+      (both (ranged is_counted octet_at) (both ranges_at ranges_at)))
 
 -- epoch, gateway and prefix are all 0, or none of them is
 abbrev pub is_seen : ℕ × (ℕ × ℕ) → Bool
-is_seen x = if x.0 == 0 then (x.1.0 == 0) && (x.1.1 == 0) else nat_le 1 x.1.0 && nat_le 1 x.1.1 && nat_le x.1.1 256
+is_seen x =
+    if x.0 == 0 then (x.1.0 == 0) && (x.1.1 == 0)
+    else nat_le 1 x.1.0 && nat_le 1 x.1.1 && nat_le x.1.1 256
 
 abbrev pub stamp_of : ℕ × (ℕ × ℕ) → Option Stamp
 stamp_of x = if x.0 == 0 then None else Some (record { epoch = x.0; gateway = x.1.0 })

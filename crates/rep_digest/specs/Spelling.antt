@@ -31,7 +31,8 @@ seen_octets (Some stamp) prefix = big_bytes 8 stamp.epoch ++ stamp.gateway ∷ b
 
 -- an entry: client, stamp, prefix and origins
 abbrev pub entry_octets : ClientEntry → List ℕ
-entry_octets e = client_octets e.client ++ (seen_octets e.stamp e.prefix ++ origins_octets e.origins)
+entry_octets e =
+    client_octets e.client ++ (seen_octets e.stamp e.prefix ++ origins_octets e.origins)
 
 -- a digest is the text of its entries
 abbrev pub spelling : List ClientEntry → List ℕ

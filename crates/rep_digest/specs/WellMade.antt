@@ -27,7 +27,9 @@ pub record IsOrigin (o : OriginEntry) : Type 0 where
 -- no stamp and no prefix; or a stamp of which 1 to 256 operations are there without a gap
 abbrev pub IsSeen : Option Stamp → ℕ → Type 0
 IsSeen None prefix = prefix ≡ 0
-IsSeen (Some s) prefix = (1 ≤ s.epoch) × (s.epoch < 2 ^ 64) × (1 ≤ s.gateway) × (s.gateway < 2 ^ 8) × (1 ≤ prefix) × (prefix ≤ 256)
+IsSeen (Some s) prefix =
+    (1 ≤ s.epoch) × (s.epoch < 2 ^ 64) × (1 ≤ s.gateway) × (s.gateway < 2 ^ 8) × (1 ≤ prefix)
+    × (prefix ≤ 256)
 
 -- origins in strictly ascending order
 abbrev pub OriginsAscend : List OriginEntry → Type 0

@@ -22,8 +22,8 @@ use rep_model::Replica;
 use rep_ops::{ClientId, Delta, Op, OpsFault, deltas_of};
 use std::alloc::Global;
 
-/// The operations that a replica must keep and that a digest does not cover, as deltas in the order of their names,
-/// each but the last as full as 8,388,608 octets allow. `Memory` is the only fault.
+/// The operations that a replica must keep and that a digest does not cover, as deltas in the order
+/// of their names, each but the last as full as 8,388,608 octets allow. `Memory` is the only fault.
 pub fn answer<R: Replica>(
     alloc: Global,
     replica: &R,
@@ -142,7 +142,9 @@ fn add_left_by(
 /// Whether a message waits or is acknowledged.
 fn covers(entry: &ClientEntry, origin: u8, seq: u64) -> bool
     requires { IsEntry entry.now }
-    ensures { result ≡ (range_list.in_ranges seq (spec.waiting_in origin (Some entry.now)) || range_list.in_ranges seq
+    ensures { result
+          ≡ (range_list.in_ranges seq (spec.waiting_in origin (Some entry.now))
+            || range_list.in_ranges seq
         (spec.acknowledged_in origin (Some entry.now))) }
 {
     in_ranges(seq, waiting_in(entry, origin)) || in_ranges(seq, acknowledged_in(entry, origin))

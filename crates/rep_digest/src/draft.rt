@@ -76,7 +76,8 @@ fn note_waiting(
     Ok(())
 }
 
-/// Puts a range of acknowledgements behind those of its origin. The time is logarithmic, but for an origin that is new.
+/// Puts a range of acknowledgements behind those of its origin. The time is logarithmic, but for an
+/// origin that is new.
 fn note_range(
     alloc: Global,
     origins: &mut Vec<OriginEntry>,
@@ -107,7 +108,8 @@ fn note_range(
     Ok(())
 }
 
-/// Puts the number of a message behind those of its origin. The time is logarithmic, but for an origin that is new.
+/// Puts the number of a message behind those of its origin. The time is logarithmic, but for an
+/// origin that is new.
 fn note_put(alloc: Global, origins: &mut Vec<OriginEntry>, put: &Put) -> Result<(), NoMemory>
     requires { AreDrafted origins.old.items }
     ensures { (A : List Acknowledged) (P : List Put) → origins.old.items ≡ drafted_origins A P

@@ -5,8 +5,8 @@ ghost use Rattle.std.specs.Prelude.{◌≡◌};
 use octets::Sequence;
 use rep_ops::{ClientId, Stamp};
 
-/// What a digest says of one origin's messages for a client. Ranges of sequence numbers are in ascending order,
-/// and neither overlap nor touch.
+/// What a digest says of one origin's messages for a client. Ranges of sequence numbers are in
+/// ascending order, and neither overlap nor touch.
 #[derive(Debug, Drop)]
 pub struct OriginEntry {
     /// The gateway that made the messages.

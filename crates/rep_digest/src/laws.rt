@@ -1,4 +1,5 @@
-//! The laws of digests and answers. Each function does nothing; its contract is a law, proved for all sets.
+//! The laws of digests and answers. Each function does nothing; its contract is a law, proved for
+//! all sets.
 
 ghost use Rattle.std.specs.Prelude.{◌≡◌, ◌++◌, ℕ, List, Ok};
 ghost use Rattle.rep_op.specs.declared.op.Op.{Op};
@@ -12,8 +13,8 @@ ghost use Rattle.rep_digest.specs.Spelling.{spelling, IsWithinLimit};
 ghost use Rattle.rep_digest.specs.Reading.{reading};
 ghost use Rattle.rep_digest.specs.declared.entry.ClientEntry.{ClientEntry};
 
-/// An answer completes: T with the answer X of S to the digest of T keeps what T with all of S keeps, whatever Y comes
-/// later.
+/// An answer completes: T with the answer X of S to the digest of T keeps what T with all of S
+/// keeps, whatever Y comes later.
 pub fn answer_completes()
     ensures { (S T X Y : List Op) → IsRest (digest T) (keep S) X
         → Same (keep ((T ++ X) ++ Y)) (keep ((T ++ S) ++ Y)) }
@@ -29,7 +30,8 @@ pub fn one_reading()
         → reading bytes ≡ Ok d → IsDigest d × IsWithinLimit d × (bytes ≡ spelling d) }
 {}
 
-/// What counts as a set has its digest, and the answer of what counts as a set is the answer of the set.
+/// What counts as a set has its digest, and the answer of what counts as a set is the answer of the
+/// set.
 pub fn digest_laws()
     ensures digest { (S K : List Op) → CountsAs S K → digest K ≡ digest S }
     ensures answer { (d : List ClientEntry) (S K : List Op) (deltas : List (List Op)) →

@@ -18,7 +18,8 @@ use rep_model::Puts;
 use rep_ops::Put;
 use std::mem;
 
-/// What is staged of a client: its log and its acknowledgements, where they change, and the messages that are new.
+/// What is staged of a client: its log and its acknowledgements, where they change, and the
+/// messages that are new.
 #[derive(Debug, Drop)]
 pub struct Change {
     /// The session operations as they will be, where some are new.

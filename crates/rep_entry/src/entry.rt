@@ -8,7 +8,8 @@ use rep_model::{ClientView, Puts};
 use rep_ops::Put;
 use std::alloc::Global;
 
-/// What the replica keeps of one client. What its operations say is read off here, and nowhere worked out again.
+/// What the replica keeps of one client. What its operations say is read off here, and nowhere
+/// worked out again.
 #[derive(Debug, Drop)]
 pub struct Entry {
     /// The view: stamp, prefix and session of the operations below, and the messages that wait.

@@ -1,5 +1,6 @@
-//! The acknowledged messages of a client. Those that are acknowledged in order are one range, however many
-//! they are: a first range that begins at 1 ends at the watermark, and the others are the exceptions above it.
+//! The acknowledged messages of a client. Those that are acknowledged in order are one range,
+//! however many they are: a first range that begins at 1 ends at the watermark, and the others are
+//! the exceptions above it.
 
 ghost use Rattle.std.specs.Prelude.{◌≡◌, ◌+◌, ◌≤◌, ◌<◌, ◌==◌, ◌++◌, ◌∷◌, [], map, not, length, ℕ, List, ◌||◌, IfOk, OnOk};
 ghost use Rattle.std.specs.List.{list_any};
@@ -18,8 +19,8 @@ use std::alloc::Global;
 use std::collections::BTreeMap;
 use std::marker::Model;
 
-/// The acknowledged sequence numbers of each origin, as ranges in ascending order that do not touch. Contracts see the
-/// origins in ascending order, each with its ranges.
+/// The acknowledged sequence numbers of each origin, as ranges in ascending order that do not
+/// touch. Contracts see the origins in ascending order, each with its ranges.
 #[derive(Debug, Drop)]
 pub struct Acks {
     origins: BTreeMap<u8, Vec<(u64, u64)>>,
@@ -73,7 +74,8 @@ impl Acks {
         ensures origins { OnOk result (AreOrigins self.new) }
         ensures covers { OnOk result ((name : ℕ × ℕ)
             → list_any (covers name) (ranges_in self.new)
-            ≡ (list_any (covers name) (ranges_in self.old) || covers name (origin, (first, last)))) }
+            ≡ (list_any (covers name) (ranges_in self.old)
+              || covers name (origin, (first, last)))) }
     {
         let more = with_range(alloc, (first, last), self.numbers(origin))?;
         self.origins.insert(origin, more)?;

@@ -1,4 +1,5 @@
-//! Session operations of one client, in the order of their names, so that none is looked for one by one.
+//! Session operations of one client, in the order of their names, so that none is looked for one by
+//! one.
 
 ghost use Rattle.std.specs.Prelude.{◌≡◌, ◌+◌, ◌++◌, ◌≤◌, ℕ, List, [], count_by, filter, length, not, None, Some, IfOk, OnOk, T, vec_capacity};
 ghost use Rattle.std.specs.FinMap.{find, put, is_sorted};
@@ -97,8 +98,8 @@ impl Known {
         Ok(Known { ops })
     }
 
-    /// Moves operations behind those that are there: these stay where they are, if there is room for all, and go to `room` else,
-    /// which is empty.
+    /// Moves operations behind those that are there: these stay where they are, if there is room
+    /// for all, and go to `room` else, which is empty.
     pub fn move_behind(&mut self, more: Known, room: Vec<NamedOp>)
         requires empty { room.items ≡ [] }
         requires room { length self.old + length more ≤ vec_capacity room }
@@ -120,7 +121,8 @@ fn copy_ops(alloc: Global, ops: &[NamedOp]) -> Result<Vec<NamedOp>, NoMemory>
     Ok(made)
 }
 
-/// Where an operation of that name stands among operations in order, or where it would go. The time is logarithmic.
+/// Where an operation of that name stands among operations in order, or where it would go. The time
+/// is logarithmic.
 fn place_of(ops: &[NamedOp], stamp: Stamp, counter: u16) -> Result<usize, usize>
     requires { T (is_sorted operation_cmp ops.now) }
     ensures place { IsPlace (λ op. operation_cmp op.0 (stamp, counter)) ops.now result }
@@ -140,7 +142,8 @@ pub(crate) fn find_op<'a>(ops: &'a [NamedOp], stamp: Stamp, counter: u8) -> Opti
     }
 }
 
-/// Of the operations, which stand in order, those from a stamp on; contracts see that none of these is left out. The time is logarithmic.
+/// Of the operations, which stand in order, those from a stamp on; contracts see that none of these
+/// is left out. The time is logarithmic.
 pub(crate) fn from_stamp(ops: &[NamedOp], stamp: Stamp) -> &[NamedOp]
     requires { T (is_sorted operation_cmp ops.now) }
     ensures kept { filter (λ e. not (spec.is_below e.0.0 (Some stamp))) result.now
@@ -155,7 +158,8 @@ pub(crate) fn from_stamp(ops: &[NamedOp], stamp: Stamp) -> &[NamedOp]
     }
 }
 
-/// How many of the operations, which stand in order, wait for earlier ones. The time is logarithmic.
+/// How many of the operations, which stand in order, wait for earlier ones. The time is
+/// logarithmic.
 pub(crate) fn count_waiting(ops: &[NamedOp], visible: Option<Stamp>, prefix: u16) -> usize
     requires { T (is_sorted operation_cmp ops.now) }
     ensures { result ≡ count_by (waits visible prefix) (keys_of ops.now) }
@@ -166,7 +170,8 @@ pub(crate) fn count_waiting(ops: &[NamedOp], visible: Option<Stamp>, prefix: u16
     }
 }
 
-/// How many of the operations, which stand in order, have this name or come behind it. The time is logarithmic.
+/// How many of the operations, which stand in order, have this name or come behind it. The time is
+/// logarithmic.
 fn count_from(ops: &[NamedOp], stamp: Stamp, counter: u16) -> usize
     requires { T (is_sorted operation_cmp ops.now) }
     ensures { result ≡ count_by (waits (Some stamp) counter) (keys_of ops.now) }

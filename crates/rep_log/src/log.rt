@@ -25,8 +25,9 @@ use sn_session::{Session, SessionOp};
 use std::alloc::Global;
 use std::mem;
 
-/// The session operations of a client as they will be, and what they come to. Those that are there stay where they are, with more
-/// behind them, as long as each new one comes behind all; else they are given up, and those of them that stay are copied.
+/// The session operations of a client as they will be, and what they come to. Those that are there
+/// stay where they are, with more behind them, as long as each new one comes behind all; else they
+/// are given up, and those of them that stay are copied.
 #[derive(Debug, Drop)]
 pub struct Log {
     /// The visible stamp.
@@ -117,7 +118,8 @@ impl Log {
     /// How many operations wait for earlier ones.
     pub fn count_parked(&self, known: &Known) -> Result<usize, NoMemory>
         ensures { IfOk result (λ count. count
-            ≡ count_by (waits self.now.stamp self.now.prefix) (keys_of (all_of known.now self.now))) }
+            ≡ count_by (waits self.now.stamp self.now.prefix)
+              (keys_of (all_of known.now self.now))) }
     {
         let first = count_waiting(self.left(known), self.stamp, self.prefix);
         let more = count_waiting(self.more.as_slice(), self.stamp, self.prefix);
@@ -140,7 +142,8 @@ impl Log {
         Ok(())
     }
 
-    /// Sees to it that an operation of that name comes behind all that was there and is not given up.
+    /// Sees to it that an operation of that name comes behind all that was there and is not given
+    /// up.
     fn make_way(&mut self, alloc: Global, known: &Known, name: (Stamp, u8)) -> Result<(), NoMemory>
         requires { T (is_sorted operation_cmp (all_of known.now self.old)) }
         ensures same { OnOk result (all_of known.now self.new ≡ all_of known.now self.old) }

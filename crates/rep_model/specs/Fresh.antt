@@ -27,9 +27,10 @@ next_epoch c S = one_more (greatest_epoch c S)
 abbrev pub seq_of : List ℕ → ℕ → Op → ℕ
 seq_of c gateway (OfSession d stamp counter change) = 0
 seq_of c gateway (OfPut d put) = if same_client c d && (gateway == put.origin) then put.seq else 0
-seq_of c gateway (Ack d origin first last) = if same_client c d && (gateway == origin) && nat_le first last then last else 0
+seq_of c gateway (Ack d origin first last) =
+    if same_client c d && (gateway == origin) && nat_le first last then last else 0
 
--- the sequence number of the gateway's next put for the client: one more than the greatest among puts and
--- acknowledgements; none after the last
+-- the sequence number of the gateway's next put for the client: one more than the greatest among
+-- puts and acknowledgements; none after the last
 abbrev pub next_seq : List ℕ → ℕ → List Op → Option ℕ
 next_seq c gateway S = one_more (largest (seq_of c gateway) S)

@@ -13,7 +13,8 @@ abbrev pub is_below : Stamp → Option Stamp → Bool
 is_below stamp None = false
 is_below stamp (Some seen) = is_lt (stamp_cmp stamp seen)
 
--- an operation is kept unless it is a session operation below the visible stamp or an acknowledged put
+-- an operation is kept unless it is a session operation below the visible stamp or an acknowledged
+-- put
 abbrev pub is_kept : List Op → Op → Bool
 is_kept S (OfSession c stamp counter change) = not (is_below stamp (visible c S))
 is_kept S (OfPut c put) = not (is_acknowledged c S (put.seq, put.origin))

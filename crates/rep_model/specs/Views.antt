@@ -83,14 +83,16 @@ pending c S = map (λ e. e.1) (in_order put_cmp (unacknowledged c S))
 
 -- the view of a client
 abbrev pub view : List ℕ → List Op → ClientView
-view c S = record { stamp = visible c S; prefix = length (history c S); session = session_of (history c S); pending = pending c S }
+view c S =
+    record { stamp = visible c S; prefix = length (history c S); session = session_of (history c S);
+      pending = pending c S }
 
 -- the view of a client that no operation names
 abbrev pub unseen : ClientView
 unseen = record { stamp = None; prefix = 0; session = None; pending = [] }
 
--- the client that an operation names, as an entry under its own name; a range of acknowledgements without a sequence number
--- names none
+-- the client that an operation names, as an entry under its own name; a range of acknowledgements
+-- without a sequence number names none
 abbrev pub named : Op → Option (List ℕ × List ℕ)
 named (OfSession c stamp counter change) = Some (c, c)
 named (OfPut c put) = Some (c, c)

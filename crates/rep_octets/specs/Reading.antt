@@ -1,4 +1,5 @@
--- Reading an operation from left to right, up to the first fault. A reader gives a value and the octets behind it.
+-- Reading an operation from left to right, up to the first fault. A reader gives a value and the
+-- octets behind it.
 use Rattle.std.specs.Prelude.{Option, Some, None, ◌≡◌, ℕ, zero, suc, ◌==◌, Bool, ◌&&◌, not, if◌then◌else◌, nat_le, nat_lt, List, [], ◌∷◌, ◌++◌, length, take, drop, Result, Ok, Err}
 use Rattle.std.specs.Int.{Width, w16, w64, byte_len, from_be_bytes}
 use Rattle.std.specs.declared.cmp.Ordering.{Ordering}
@@ -65,11 +66,14 @@ octet_at (octet ∷ rest) = Ok (octet, rest)
 
 -- so many octets
 abbrev pub octets_at : ℕ → Reader (List ℕ)
-octets_at n bytes = if nat_lt (length bytes) n then Err faults.Truncated else Ok (take n bytes, drop n bytes)
+octets_at n bytes =
+    if nat_lt (length bytes) n then Err faults.Truncated else Ok (take n bytes, drop n bytes)
 
 -- a number, the most significant octet first
 abbrev pub number_at : Width → Reader ℕ
-number_at w bytes = if nat_lt (length bytes) (byte_len w) then Err faults.Truncated else Ok (from_be_bytes w (take (byte_len w) bytes), drop (byte_len w) bytes)
+number_at w bytes =
+    if nat_lt (length bytes) (byte_len w) then Err faults.Truncated
+    else Ok (from_be_bytes w (take (byte_len w) bytes), drop (byte_len w) bytes)
 
 -- a size that is in range, and so many octets
 abbrev pub sized_at : (ℕ → Bool) → Reader ℕ → Reader (List ℕ)
@@ -83,7 +87,9 @@ unfoldable pub client_at : Reader (List ℕ)
 client_at = sized_at (λ n. nat_le 1 n && nat_le n MAX_CLIENT_ID) octet_at
 
 unfoldable pub topic_at : Reader (List ℕ)
-topic_at = ranged (λ name. not (has_wildcard name)) (sized_at (λ n. nat_le 1 n && nat_le n MAX_TOPIC) (number_at w16))
+topic_at =
+    ranged (λ name. not (has_wildcard name))
+      (sized_at (λ n. nat_le 1 n && nat_le n MAX_TOPIC) (number_at w16))
 
 unfoldable pub body_at : Reader (List ℕ)
 body_at = sized_at (λ n. nat_le n MAX_MESSAGE) (number_at w16)
@@ -94,14 +100,20 @@ unfoldable pub flag_at : Reader Bool
 flag_at = made (λ n. n == 1) (ranged (λ n. nat_le n 1) octet_at)
 
 abbrev pub presence_of : ℕ → Presence
-presence_of n = if n == 0 then presences.Active else (if n == 1 then presences.Asleep else (if n == 2 then presences.Awake else (if n == 3 then presences.Disconnected else presences.Lost)))
+presence_of n =
+    if n == 0 then presences.Active
+    else (if n == 1 then presences.Asleep
+      else (if n == 2 then presences.Awake
+        else (if n == 3 then presences.Disconnected else presences.Lost)))
 
 unfoldable pub presence_at : Reader Presence
 presence_at = made presence_of (ranged (λ n. nat_le n 4) octet_at)
 
 -- a part that may be there
 abbrev pub option_at : {A : Type 0} → Reader A → Reader (Option A)
-option_at read bytes = flag_at bytes >>= λ flag. if flag.0 then (read flag.1 >>= λ x. Ok (Some x.0, x.1)) else Ok (None, flag.1)
+option_at read bytes =
+    flag_at bytes >>= λ flag.
+      if flag.0 then (read flag.1 >>= λ x. Ok (Some x.0, x.1)) else Ok (None, flag.1)
 
 -- so many values, behind those that were read
 abbrev pub many_at : {A : Type 0} → Reader A → ℕ → List A → Reader (List A)
@@ -121,13 +133,16 @@ abbrev pub table_at : {A : Type 0} → (A → A → Ordering) → Reader A → R
 table_at cmp read = ranged (is_ascending cmp) (counted_at read)
 
 unfoldable pub filter_at : Reader (List ℕ)
-filter_at = ranged (λ name. wildcards_stand_alone (levels name)) (sized_at (λ n. nat_le 1 n && nat_le n MAX_TOPIC) (number_at w16))
+filter_at =
+    ranged (λ name. wildcards_stand_alone (levels name))
+      (sized_at (λ n. nat_le 1 n && nat_le n MAX_TOPIC) (number_at w16))
 
 unfoldable pub qos_at : Reader ℕ
 qos_at = ranged is_qos octet_at
 
 abbrev pub phase_of : ℕ → Phase
-phase_of n = if n == 0 then phases.Registering else (if n == 1 then phases.Published else phases.Released)
+phase_of n =
+    if n == 0 then phases.Registering else (if n == 1 then phases.Published else phases.Released)
 
 unfoldable pub phase_at : Reader Phase
 phase_at = made phase_of (ranged (λ n. nat_le n 2) octet_at)
@@ -160,7 +175,9 @@ abbrev pub exchange_of : ℕ × (ℕ × (ℕ × Phase)) → Outbound
 exchange_of x = record { origin = x.0; seq = x.1.0; msg_id = x.1.1.0; phase = x.1.1.1 }
 
 unfoldable pub exchange_at : Reader Outbound
-exchange_at = made exchange_of (both (ranged is_counted octet_at) (both (ranged is_counted (number_at w64)) (both (number_at w16) phase_at)))
+exchange_at =
+    made exchange_of (both (ranged is_counted octet_at)
+      (both (ranged is_counted (number_at w64)) (both (number_at w16) phase_at)))
 
 unfoldable pub topics_at : Reader (List TopicEntry)
 topics_at = table_at topic_cmp entry_at
@@ -192,7 +209,8 @@ abbrev pub Parts : Type 0
 Parts = List TopicEntry × (List Subscription × (Option Will × (List ℕ × Option Outbound)))
 
 unfoldable pub parts_at : Reader Parts
-parts_at = both topics_at (both subscriptions_at (both some_will_at (both received_at some_exchange_at)))
+parts_at =
+    both topics_at (both subscriptions_at (both some_will_at (both received_at some_exchange_at)))
 
 abbrev pub session_of : Head × Parts → Session
 session_of x = record {
@@ -214,7 +232,8 @@ unfoldable pub set_presence_at : Reader SessionOp
 set_presence_at = made (λ x. SetPresence x.0 x.1) (both presence_at (number_at w16))
 
 unfoldable pub set_outbound_at : Reader SessionOp
-set_outbound_at = made (λ x. SetOutbound x.1 x.0) (both (ranged is_counted (number_at w16)) some_exchange_at)
+set_outbound_at =
+    made (λ x. SetOutbound x.1 x.0) (both (ranged is_counted (number_at w16)) some_exchange_at)
 
 -- the fields of a change, by its tag
 abbrev pub fields_at : ℕ → Reader SessionOp
@@ -222,12 +241,15 @@ fields_at tag bytes =
     if tag == 0 then made (λ session. Take session) session_at bytes else (
     if tag == 1 then set_presence_at bytes else (
     if tag == 2 then made (λ entry. Register entry.id entry.name entry.known) entry_at bytes else (
-    if tag == 3 then made (λ subscription. Subscribe subscription.filter subscription.qos) subscription_at bytes else (
+    if tag == 3
+    then made (λ subscription. Subscribe subscription.filter subscription.qos) subscription_at bytes
+    else (
     if tag == 4 then made (λ asked. Unsubscribe asked) filter_at bytes else (
     if tag == 5 then made (λ asked. SetWillTopic asked) some_topic_at bytes else (
     if tag == 6 then made (λ message. WillMsg message) body_at bytes else (
     if tag == 7 then made (λ id. Received id) (number_at w16) bytes else (
-    if tag == 8 then made (λ id. Released id) (number_at w16) bytes else set_outbound_at bytes))))))))
+    if tag == 8 then made (λ id. Released id) (number_at w16) bytes
+    else set_outbound_at bytes))))))))
 
 -- tag 0, a Take, stands at counter 0 and nowhere else; the others are 1 to 9
 abbrev pub is_tag : ℕ → ℕ → Bool
@@ -242,13 +264,21 @@ abbrev pub session_op_of : List ℕ × (ℕ × (ℕ × (ℕ × SessionOp))) → 
 session_op_of x = OfSession x.0 (record { epoch = x.1.0; gateway = x.1.1.0 }) x.1.1.1.0 x.1.1.1.1
 
 unfoldable pub session_op_at : Reader Op
-session_op_at = made session_op_of (both client_at (both (ranged is_counted (number_at w64)) (both (ranged is_counted octet_at) (by_first octet_at change_at))))
+session_op_at =
+    made session_op_of (both client_at
+      (both (ranged is_counted (number_at w64))
+        (both (ranged is_counted octet_at) (by_first octet_at change_at))))
 
 abbrev pub put_op_of : List ℕ × (ℕ × (ℕ × (List ℕ × (ℕ × List ℕ)))) → Op
-put_op_of x = OfPut x.0 (record { origin = x.1.0; seq = x.1.1.0; topic = x.1.1.1.0; qos = x.1.1.1.1.0; body = x.1.1.1.1.1 })
+put_op_of x =
+    OfPut x.0 (record { origin = x.1.0; seq = x.1.1.0; topic = x.1.1.1.0; qos = x.1.1.1.1.0;
+      body = x.1.1.1.1.1 })
 
 unfoldable pub put_op_at : Reader Op
-put_op_at = made put_op_of (both client_at (both (ranged is_counted octet_at) (both (ranged is_counted (number_at w64)) (both topic_at (both qos_at body_at)))))
+put_op_at =
+    made put_op_of (both client_at
+      (both (ranged is_counted octet_at)
+        (both (ranged is_counted (number_at w64)) (both topic_at (both qos_at body_at)))))
 
 abbrev pub ack_of : List ℕ × (ℕ × (ℕ × ℕ)) → Op
 ack_of x = Ack x.0 x.1.0 x.1.1.0 x.1.1.1
@@ -262,10 +292,13 @@ ack_at = made ack_of (both client_at (both (ranged is_counted octet_at) range_at
 
 -- an operation, by its kind
 abbrev pub of_kind_at : ℕ → Reader Op
-of_kind_at kind bytes = if kind == 1 then session_op_at bytes else (if kind == 2 then put_op_at bytes else ack_at bytes)
+of_kind_at kind bytes =
+    if kind == 1 then session_op_at bytes else (if kind == 2 then put_op_at bytes else ack_at bytes)
 
 unfoldable pub op_at : Reader Op
-op_at bytes = ranged (λ kind. nat_le 1 kind && nat_le kind 3) octet_at bytes >>= λ kind. of_kind_at kind.0 kind.1
+op_at bytes =
+    ranged (λ kind. nat_le 1 kind && nat_le kind 3) octet_at bytes >>= λ kind.
+      of_kind_at kind.0 kind.1
 
 -- ---- what a function returned, against reading
 

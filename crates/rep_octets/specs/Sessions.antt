@@ -1,4 +1,5 @@
--- The spelling of a session and of a change as octets. Numbers have the most significant octet first.
+-- The spelling of a session and of a change as octets. Numbers have the most significant octet
+-- first.
 use Rattle.std.specs.Prelude.{ℕ, Bool, true, false, List, [], ◌∷◌, ◌++◌, length, Option, Some, None}
 use Rattle.std.specs.List.{flat_map}
 use Rattle.byteorder.specs.Endian.{big_bytes}
@@ -58,18 +59,23 @@ will_topic_octets asked = asked.qos ∷ flag_octet asked.retain ∷ text_octets 
 
 -- the same, and its message
 abbrev pub will_octets : Will → List ℕ
-will_octets will = (will.qos ∷ flag_octet will.retain ∷ text_octets will.topic) ++ text_octets will.message
+will_octets will =
+    (will.qos ∷ flag_octet will.retain ∷ text_octets will.topic) ++ text_octets will.message
 
 -- an exchange: origin, sequence number, message id, phase
 abbrev pub exchange_octets : Outbound → List ℕ
-exchange_octets exchange = (exchange.origin ∷ big_bytes 8 exchange.seq) ++ big_bytes 2 exchange.msg_id ++ phase_octet exchange.phase ∷ []
+exchange_octets exchange =
+    (exchange.origin ∷ big_bytes 8 exchange.seq) ++ big_bytes 2 exchange.msg_id
+    ++ phase_octet exchange.phase ∷ []
 
--- a session: presence, clean, duration, next message id, topic ids, subscriptions, will, received message ids, exchange
+-- a session: presence, clean, duration, next message id, topic ids, subscriptions, will, received
+-- message ids, exchange
 abbrev pub session_octets : Session → List ℕ
 session_octets session =
     (presence_octet session.presence ∷ flag_octet session.clean ∷ [])
     ++ big_bytes 2 session.duration ++ big_bytes 2 session.next_id
-    ++ table_octets topic_octets session.topics ++ table_octets subscription_octets session.subscriptions
+    ++ table_octets topic_octets session.topics
+    ++ table_octets subscription_octets session.subscriptions
     ++ option_octets will_octets session.will ++ table_octets (big_bytes 2) session.received
     ++ option_octets exchange_octets session.outbound
 
@@ -84,4 +90,5 @@ change_octets (SetWillTopic asked) = 5 ∷ option_octets will_topic_octets asked
 change_octets (WillMsg message) = 6 ∷ text_octets message
 change_octets (Received id) = 7 ∷ big_bytes 2 id
 change_octets (Released id) = 8 ∷ big_bytes 2 id
-change_octets (SetOutbound exchange next_id) = 9 ∷ big_bytes 2 next_id ++ option_octets exchange_octets exchange
+change_octets (SetOutbound exchange next_id) =
+    9 ∷ big_bytes 2 next_id ++ option_octets exchange_octets exchange

@@ -12,11 +12,14 @@ client_octets name = length name ∷ name
 
 -- a message: origin, sequence number, topic, quality of service and body
 abbrev pub put_octets : Put → List ℕ
-put_octets put = (put.origin ∷ big_bytes 8 put.seq) ++ text_octets put.topic ++ put.qos ∷ text_octets put.body
+put_octets put =
+    (put.origin ∷ big_bytes 8 put.seq) ++ text_octets put.topic ++ put.qos ∷ text_octets put.body
 
 -- an operation: its kind, its client and its fields
 abbrev pub op_octets : Op → List ℕ
 op_octets (OfSession client stamp counter change) =
-    1 ∷ client_octets client ++ big_bytes 8 stamp.epoch ++ stamp.gateway ∷ counter ∷ change_octets change
+    1 ∷ client_octets client ++ big_bytes 8 stamp.epoch
+    ++ stamp.gateway ∷ counter ∷ change_octets change
 op_octets (OfPut client put) = 2 ∷ client_octets client ++ put_octets put
-op_octets (Ack client origin first last) = 3 ∷ client_octets client ++ (origin ∷ big_bytes 8 first) ++ big_bytes 8 last
+op_octets (Ack client origin first last) =
+    3 ∷ client_octets client ++ (origin ∷ big_bytes 8 first) ++ big_bytes 8 last

@@ -1,4 +1,5 @@
--- What a writer leaves: the text behind what was there, or, where memory ran out, at least what was there.
+-- What a writer leaves: the text behind what was there, or, where memory ran out, at least what was
+-- there.
 use Rattle.std.specs.Prelude.{◌≡◌, ℕ, List, ◌++◌, length, take, Result, Ok, Err}
 use Rattle.octets.specs.declared.memory.NoMemory.{NoMemory}
 

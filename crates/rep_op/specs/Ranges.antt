@@ -1,4 +1,5 @@
--- Which values of a session and of a change are in range. The order and the size of a session's tables are their types' own.
+-- Which values of a session and of a change are in range. The order and the size of a session's
+-- tables are their types' own.
 use Rattle.std.specs.Prelude.{ℕ, Bool, true, ◌&&◌, nat_le, List, length, Option, Some, None}
 use Rattle.std.specs.List.{list_all}
 use Rattle.sn_session.specs.Levels.{is_qos}
@@ -42,7 +43,8 @@ is_exchange (Some exchange) = nat_le 1 exchange.origin && nat_le 1 exchange.seq
 -- the next message id is not 0
 abbrev pub is_session : Session → Bool
 is_session session =
-    nat_le 1 session.next_id && list_all is_topic session.topics && list_all is_subscription session.subscriptions
+    nat_le 1 session.next_id && list_all is_topic session.topics
+    && list_all is_subscription session.subscriptions
     && is_will session.will && is_exchange session.outbound
 
 abbrev pub is_change : SessionOp → Bool

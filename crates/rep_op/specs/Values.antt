@@ -1,4 +1,5 @@
--- Which values operations of the program have. In a law a number of an operation ranges over all numbers.
+-- Which values operations of the program have. In a law a number of an operation ranges over all
+-- numbers.
 use Rattle.std.specs.Prelude.{◌<◌, ◌^◌, List, Option, Some, None}
 use Rattle.std.specs.List.{AllByRecursion}
 use Rattle.std.specs.Ordering.{nat_cmp}
@@ -36,16 +37,19 @@ IsWillTopicValue (Some asked) = IsName asked.topic
 -- an origin of 8 bits, a sequence number of 64, a message id of 16
 abbrev pub IsExchangeValue : Option Outbound → Type 0
 IsExchangeValue None = Unit {0}
-IsExchangeValue (Some exchange) = (exchange.origin < 2 ^ 8) × (exchange.seq < 2 ^ 64) × (exchange.msg_id < 2 ^ 16)
+IsExchangeValue (Some exchange) =
+    (exchange.origin < 2 ^ 8) × (exchange.seq < 2 ^ 64) × (exchange.msg_id < 2 ^ 16)
 
 -- numbers of 16 bits, and tables of values
 pub record IsSessionValue (session : Session) : Type 0 where
   pub duration : session.duration < 2 ^ 16
   pub next_id : session.next_id < 2 ^ 16
   pub topics : IsTable topic_cmp session.topics × AllByRecursion IsEntryValue session.topics
-  pub subscriptions : IsTable subscription_cmp session.subscriptions × AllByRecursion IsSubscriptionValue session.subscriptions
+  pub subscriptions : IsTable subscription_cmp session.subscriptions
+      × AllByRecursion IsSubscriptionValue session.subscriptions
   pub will : IsWillValue session.will
-  pub received : IsTable nat_cmp session.received × AllByRecursion (λ id. id < 2 ^ 16) session.received
+  pub received : IsTable nat_cmp session.received
+      × AllByRecursion (λ id. id < 2 ^ 16) session.received
   pub outbound : IsExchangeValue session.outbound
 
 abbrev pub IsChangeValue : SessionOp → Type 0
@@ -60,11 +64,16 @@ IsChangeValue (Received id) = id < 2 ^ 16
 IsChangeValue (Released id) = id < 2 ^ 16
 IsChangeValue (SetOutbound exchange next_id) = (next_id < 2 ^ 16) × IsExchangeValue exchange
 
--- clients and topics that are some, gateways and counters of 8 bits, epochs and sequence numbers of 64
+-- clients and topics that are some, gateways and counters of 8 bits, epochs and sequence numbers of
+-- 64
 abbrev pub IsValue : Op → Type 0
-IsValue (OfSession client stamp counter change) = IsClientId client × (stamp.epoch < 2 ^ 64) × (stamp.gateway < 2 ^ 8) × (counter < 2 ^ 8) × IsChangeValue change
-IsValue (OfPut client put) = IsClientId client × (put.origin < 2 ^ 8) × (put.seq < 2 ^ 64) × IsName put.topic
-IsValue (Ack client origin first last) = IsClientId client × (origin < 2 ^ 8) × (first < 2 ^ 64) × (last < 2 ^ 64)
+IsValue (OfSession client stamp counter change) =
+    IsClientId client × (stamp.epoch < 2 ^ 64) × (stamp.gateway < 2 ^ 8) × (counter < 2 ^ 8)
+    × IsChangeValue change
+IsValue (OfPut client put) =
+    IsClientId client × (put.origin < 2 ^ 8) × (put.seq < 2 ^ 64) × IsName put.topic
+IsValue (Ack client origin first last) =
+    IsClientId client × (origin < 2 ^ 8) × (first < 2 ^ 64) × (last < 2 ^ 64)
 
 abbrev pub AreValues : List Op → Type 0
 AreValues ops = AllByRecursion IsValue ops

@@ -17,11 +17,13 @@ is_stamp stamp = nat_le 1 stamp.epoch && nat_le 1 stamp.gateway
 abbrev pub is_counted : ℕ → SessionOp → Bool
 is_counted counter change = if is_take change then counter == 0 else nat_lt 0 counter
 
--- a message has an origin, a sequence number, a quality of service of 0 to 2 and at most 4,096 octets
+-- a message has an origin, a sequence number, a quality of service of 0 to 2 and at most 4,096
+-- octets
 abbrev pub is_put : Put → Bool
 is_put put = nat_le 1 put.origin && nat_le 1 put.seq && is_qos put.qos && is_message put.body
 
 abbrev pub is_well_made : Op → Bool
-is_well_made (OfSession client stamp counter change) = is_stamp stamp && is_counted counter change && is_change change
+is_well_made (OfSession client stamp counter change) =
+    is_stamp stamp && is_counted counter change && is_change change
 is_well_made (OfPut client put) = is_put put
 is_well_made (Ack client origin first last) = nat_le 1 origin && nat_le 1 first && nat_le first last

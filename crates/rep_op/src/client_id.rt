@@ -12,7 +12,8 @@ use std::marker::Model;
 /// The most octets of a client's name.
 pub const MAX_CLIENT_ID: usize = 23;
 
-/// The name of a client: 1 to 23 octets (MQTT-SN 1.2 section 5.3.1). Contracts see the list of its octets.
+/// The name of a client: 1 to 23 octets (MQTT-SN 1.2 section 5.3.1). Contracts see the list of its
+/// octets.
 #[derive(Debug, Drop)]
 pub struct ClientId {
     octets: Octets,

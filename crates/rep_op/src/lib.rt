@@ -1,4 +1,5 @@
-//! What operations are, one at a time: who they are of, how they are named, and which values they may have.
+//! What operations are, one at a time: who they are of, how they are named, and which values they
+//! may have.
 //!
 //! A gateway's state is a *set of operations*. There are three kinds (`Op`): a change of a client's
 //! session, a message put for a client, and the acknowledgement of messages. Each has a name, and a
@@ -11,9 +12,10 @@
 //! - `value`: what the types promise of an operation's parts.
 //! - `fault`: why operations, or octets, are refused.
 //!
-//! The definitions are in `specs/`: `Orders` (names, their order, names in common), `Sets` (what a set has under a name, equal sets,
-//! consistent sets), `Ranges` and `WellMade` (values in range), `Values` (what the types promise), `ClientIds` and `Faults`. Lemmas on
-//! names and on sets are in `proofs/`: `Names`, `Sets`.
+//! The definitions are in `specs/`: `Orders` (names, their order, names in common), `Sets` (what a
+//! set has under a name, equal sets, consistent sets), `Ranges` and `WellMade` (values in range),
+//! `Values` (what the types promise), `ClientIds` and `Faults`. Lemmas on names and on sets are in
+//! `proofs/`: `Names`, `Sets`.
 #![tactic(auto)]
 
 mod client_id;

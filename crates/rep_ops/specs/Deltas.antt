@@ -9,7 +9,8 @@ use Rattle.rep_op.specs.WellMade.{is_well_made}
 
 -- ranges of acknowledgements of one client and origin neither overlap nor touch
 abbrev pub IsApart : Op → Op → Type 0
-IsApart (Ack c origin first last) (Ack d other start end) = c ≡ d → origin ≡ other → last + 1 < start
+IsApart (Ack c origin first last) (Ack d other start end) =
+    c ≡ d → origin ≡ other → last + 1 < start
 IsApart a b = Unit {0}
 
 -- one operation may stand right before the other

@@ -23,10 +23,12 @@ pub record IsDeltaOf (ops d : List Op) : Type 0 where
   pub delta : IsDelta d
   pub same : Same d ops
 
--- Why the operations make no delta. An operation that is not well made goes before two of one name, and these before the size.
+-- Why the operations make no delta. An operation that is not well made goes before two of one name,
+-- and these before the size.
 abbrev pub IsRefusal : List Op → OpsFault → Type 0
 IsRefusal ops faults.Kind = ¬ (AreWellMade ops)
 IsRefusal ops faults.Twice = AreWellMade ops × HasTwice ops
-IsRefusal ops faults.Limit = AreApart ops × ((d : List Op) × IsDeltaOf ops d × (max_octets < length (spelling d)))
+IsRefusal ops faults.Limit =
+    AreApart ops × ((d : List Op) × IsDeltaOf ops d × (max_octets < length (spelling d)))
 IsRefusal ops faults.Memory = Unit {0}
 IsRefusal ops fault = ⊥

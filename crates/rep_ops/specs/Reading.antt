@@ -1,4 +1,5 @@
--- Reading a delta from left to right, up to the first fault. A reader gives a value and the octets behind it.
+-- Reading a delta from left to right, up to the first fault. A reader gives a value and the octets
+-- behind it.
 use Rattle.std.specs.Prelude.{ℕ, zero, suc, ◌+◌, ◌==◌, Bool, true, ◌&&◌, if◌then◌else◌, nat_lt, List, [], ◌∷◌, ◌++◌, length, slice_index, ◌<◌, Result, Ok, Err}
 use Rattle.std.specs.Int.{w32}
 use Rattle.std.specs.Ordering.{is_lt}
@@ -20,27 +21,39 @@ follows_last next (a ∷ []) x = next a x
 follows_last next (a ∷ b ∷ more) x = follows_last next (b ∷ more) x
 
 -- so many values, behind those that were read
-unfoldable pub listed_at : {A : Type 0} → Reader A → (List A → A → Bool) → ℕ → List A → Reader (List A)
+unfoldable pub listed_at : {A : Type 0} → Reader A → (List A → A → Bool) → ℕ → List A
+    → Reader (List A)
 listed_at read follows zero front bytes = Ok (front, bytes)
-listed_at read follows (suc n) front bytes = read bytes >>= λ x. if follows front x.0 then listed_at read follows n (front ++ x.0 ∷ []) x.1 else Err faults.Order
+listed_at read follows (suc n) front bytes =
+    read bytes >>= λ x.
+      if follows front x.0 then listed_at read follows n (front ++ x.0 ∷ []) x.1
+      else Err faults.Order
 
 -- the version, the count and the values
 unfoldable pub text_at : {A : Type 0} → Reader A → (List A → A → Bool) → Reader (List A)
-text_at read follows bytes = octet_at bytes >>= λ version. if version.0 == 1 then (number_at w32 version.1 >>= λ count. listed_at read follows count.0 [] count.1) else Err faults.Version
+text_at read follows bytes =
+    octet_at bytes >>= λ version.
+      if version.0 == 1
+      then (number_at w32 version.1 >>= λ count. listed_at read follows count.0 [] count.1)
+      else Err faults.Version
 
 -- a text, and nothing behind it
 unfoldable pub whole_at : {A : Type 0} → Reader (List A) → List ℕ → Result (List A) OpsFault
 whole_at read bytes = read bytes >>= λ x. if length x.1 == 0 then Ok x.0 else Err faults.Trailing
 
 -- what the octets say, or why they are no such text
-abbrev pub reading_of : {A : Type 0} → Reader A → (List A → A → Bool) → List ℕ → Result (List A) OpsFault
-reading_of read follows bytes = if nat_lt max_octets (length bytes) then Err faults.Limit else whole_at (text_at read follows) bytes
+abbrev pub reading_of : {A : Type 0} → Reader A → (List A → A → Bool) → List ℕ
+    → Result (List A) OpsFault
+reading_of read follows bytes =
+    if nat_lt max_octets (length bytes) then Err faults.Limit
+    else whole_at (text_at read follows) bytes
 
 -- ---- deltas
 
 -- the test of `IsApart`
 abbrev pub is_apart : Op → Op → Bool
-is_apart (Ack c origin first last) (Ack d other start end) = if same_client c d && (origin == other) then nat_lt (last + 1) start else true
+is_apart (Ack c origin first last) (Ack d other start end) =
+    if same_client c d && (origin == other) then nat_lt (last + 1) start else true
 is_apart a b = true
 
 -- whether the operation may stand right behind the other

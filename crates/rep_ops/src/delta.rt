@@ -22,8 +22,8 @@ use rep_op::{Op, OpsFault};
 use std::alloc::Global;
 use std::marker::Model;
 
-/// A set of operations, in the order of their names; acknowledgements that touch are one range, and it
-/// is spelled in at most 8,388,608 octets. Contracts see the list of its operations.
+/// A set of operations, in the order of their names; acknowledgements that touch are one range, and
+/// it is spelled in at most 8,388,608 octets. Contracts see the list of its operations.
 #[derive(Debug, Drop)]
 pub struct Delta {
     pub(crate) ops: Vec<Op>,
@@ -40,7 +40,8 @@ impl Model for Delta {
 
     ghost view = { λ d. d.ops.items };
 
-    ghost invariant = { λ d. IsDelta d.ops.items × IsWithinLimit d.ops.items × AreValues d.ops.items };
+    ghost invariant = { λ d. IsDelta d.ops.items × IsWithinLimit d.ops.items
+          × AreValues d.ops.items };
 }
 
 impl Delta {
@@ -56,8 +57,8 @@ impl Delta {
     /// The delta that is the set of these operations: sorted by their names, with ranges of
     /// acknowledgements that touch joined.
     ///
-    /// `Kind` for an operation that no delta may hold; else `Twice` for two that have a name in common;
-    /// else `Limit` where the delta would be spelled in more than 8,388,608 octets.
+    /// `Kind` for an operation that no delta may hold; else `Twice` for two that have a name in
+    /// common; else `Limit` where the delta would be spelled in more than 8,388,608 octets.
     pub fn from_ops(alloc: Global, ops: Vec<Op>) -> Result<Delta, OpsFault>
         ensures ok { IfOk result (λ d. AreApart ops.items × IsDeltaOf ops.items d
             × IsWithinLimit d) }
@@ -99,10 +100,11 @@ impl Delta {
 
     /// The delta that octets spell.
     ///
-    /// `Limit` for more than 8,388,608 octets; else the first of these from the left: `Version` for a
-    /// version other than 1, `Truncated` where the octets end, `Kind` for a value out of range (a length,
-    /// count or tag as soon as it is read, any other value when it is whole), `Order` for an operation that
-    /// may not stand behind the one before it, and last `Trailing` for octets behind the delta.
+    /// `Limit` for more than 8,388,608 octets; else the first of these from the left: `Version` for
+    /// a version other than 1, `Truncated` where the octets end, `Kind` for a value out of range (a
+    /// length, count or tag as soon as it is read, any other value when it is whole), `Order` for
+    /// an operation that may not stand behind the one before it, and last `Trailing` for octets
+    /// behind the delta.
     pub fn decode(alloc: Global, bytes: &[u8]) -> Result<Delta, OpsFault>
         // What is read is spelled so.
         ensures ok { IfOk result (IsSpelled bytes.now) }
@@ -203,7 +205,8 @@ pub fn one_reading()
 
 /// No spelling begins another.
 pub fn no_prefix()
-    // Where two spellings stand in front of the same octets they are the same, and so is what is behind them.
+    // Where two spellings stand in front of the same octets they are the same, and so is what is
+    // behind them.
     ensures free { (a b : List Op) (x y : List ℕ) → IsDelta a → AreValues a → IsWithinLimit a
         → IsDelta b → AreValues b → IsWithinLimit b
         → spelling a ++ x ≡ spelling b ++ y → (a ≡ b) × (x ≡ y) }
@@ -212,5 +215,6 @@ pub fn no_prefix()
         → spelling d ≡ front ++ rest → rest ≢ [] → reading front ≡ Err OpsFault.Truncated }
     // What stands behind is told by `Trailing`.
     ensures behind { (d : List Op) (rest : List ℕ) → IsDelta d → AreValues d → rest ≢ []
-        → length (spelling d ++ rest) ≤ max_octets → reading (spelling d ++ rest) ≡ Err OpsFault.Trailing }
+        → length (spelling d ++ rest) ≤ max_octets
+        → reading (spelling d ++ rest) ≡ Err OpsFault.Trailing }
 {}

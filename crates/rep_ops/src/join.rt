@@ -44,7 +44,8 @@ pub fn has_twice(ops: &[Op]) -> bool
     false
 }
 
-/// Whether the second has the name of the first, or is a range that begins within it or right behind.
+/// Whether the second has the name of the first, or is a range that begins within it or right
+/// behind.
 fn joins(a: &Op, b: &Op) -> bool
     ensures { result ≡ spec.joins a.now b.now }
 {
@@ -109,8 +110,8 @@ fn put_behind(out: &mut Vec<Op>, op: Op) -> Result<(), NoMemory>
     Ok(())
 }
 
-/// Joins operations that are in the order of their names: of one name the first stays, and ranges that
-/// overlap or touch are one.
+/// Joins operations that are in the order of their names: of one name the first stays, and ranges
+/// that overlap or touch are one.
 pub fn join_names(alloc: Global, ops: Vec<Op>) -> Result<Vec<Op>, NoMemory>
     ensures { IfOk result (λ out. out.items ≡ spec.joined ops.items) }
 {

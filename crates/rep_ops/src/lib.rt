@@ -1,19 +1,24 @@
 //! Deltas: sets of operations that travel in one piece.
 //!
-//! A set of operations has one delta: the operations in the order of their names, each name once, ranges of acknowledgements that
-//! touch joined. A delta has one spelling of at most 8,388,608 octets, and is what gateways send to one another and what a record of a
-//! journal holds. What operations are says rep_op, and how one of them is spelled rep_octets; both are passed on from here.
+//! A set of operations has one delta: the operations in the order of their names, each name once,
+//! ranges of acknowledgements that touch joined. A delta has one spelling of at most 8,388,608
+//! octets, and is what gateways send to one another and what a record of a journal holds. What
+//! operations are says rep_op, and how one of them is spelled rep_octets; both are passed on from
+//! here.
 //!
-//! - `delta`: a set of operations that travels in one piece (`Delta`): made of operations, copied, written
-//!   as octets and read again.
-//! - `join`: what makes a list of operations the list of a delta: order, no name twice, ranges joined.
+//! - `delta`: a set of operations that travels in one piece (`Delta`): made of operations, copied,
+//!   written as octets and read again.
+//! - `join`: what makes a list of operations the list of a delta: order, no name twice, ranges
+//!   joined.
 //! - `size`, `session_size`: what a delta may hold, and how many octets it is spelled in.
 //! - `split`: a set of any size as deltas that fit (`deltas_of`).
 //! - `write`, `read`: the format.
 //!
-//! The definitions are in `specs/`: `Deltas` (what a delta may hold), `Making` (which operations make one), `Splitting` (a set as deltas
-//! that fit), `Spelling` (the octets of a delta), `Reading` (what octets say, up to the first fault), `Formats` (both as a relation).
-//! `one_delta`, `one_reading` and `no_prefix` state the laws: a set has one delta, a delta one spelling, and no spelling begins another.
+//! The definitions are in `specs/`: `Deltas` (what a delta may hold), `Making` (which operations
+//! make one), `Splitting` (a set as deltas that fit), `Spelling` (the octets of a delta), `Reading`
+//! (what octets say, up to the first fault), `Formats` (both as a relation). `one_delta`,
+//! `one_reading` and `no_prefix` state the laws: a set has one delta, a delta one spelling, and no
+//! spelling begins another.
 #![tactic(auto)]
 
 mod delta;

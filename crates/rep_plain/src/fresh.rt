@@ -46,7 +46,8 @@ fn add_to_group(
 ) -> Result<(), NoMemory>
     ensures { (D : List Op)
         → IsGrown (rows_of table.now.entries) D (groups_of groups.old.entries)
-        → OnOk result (IsGrown (rows_of table.now.entries) (D ++ op ∷ []) (groups_of groups.new.entries)) }
+        → OnOk result (IsGrown (rows_of table.now.entries) (D ++ op ∷ [])
+          (groups_of groups.new.entries)) }
 {
     let client = op.client().copied(alloc)?;
     let mut ops = take_group(alloc, table, groups, &client)?;
@@ -55,7 +56,8 @@ fn add_to_group(
     Ok(())
 }
 
-/// Takes the operations of a client out of the groups, or else copies those that the table has of it.
+/// Takes the operations of a client out of the groups, or else copies those that the table has of
+/// it.
 fn take_group(
     alloc: Global,
     table: &Table,
@@ -67,7 +69,8 @@ fn take_group(
         (own client.now (rows_of table.now.entries))) }
     ensures others { (c : List ℕ)
         → is_eq (client_cmp client.now c) ≡ false
-        → find client_cmp c (groups_of groups.new.entries) ≡ find client_cmp c (groups_of groups.old.entries) }
+        → find client_cmp c (groups_of groups.new.entries)
+        ≡ find client_cmp c (groups_of groups.old.entries) }
 {
     match groups.remove(client) {
         Some(ops) => Ok(ops),

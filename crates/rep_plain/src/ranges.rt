@@ -1,4 +1,5 @@
-//! Acknowledgements as ranges of sequence numbers. What a range costs does not depend on its length.
+//! Acknowledgements as ranges of sequence numbers. What a range costs does not depend on its
+//! length.
 
 ghost use Rattle.std.specs.Prelude.{◌≡◌, ◌+◌, ℕ, List, ◌∷◌, IfOk, nat_lt, nat_le, if◌then◌else◌, max, sum_by};
 ghost use Rattle.std.specs.List.{filter_map, list_any};
@@ -123,7 +124,8 @@ fn with_numbers(
     }
 }
 
-/// Ranges in ascending order with one more; those that overlap or touch become one. Fails only for want of memory.
+/// Ranges in ascending order with one more; those that overlap or touch become one. Fails only for
+/// want of memory.
 pub fn with_range(
     alloc: Global,
     range: (u64, u64),

@@ -1,4 +1,5 @@
-//! The session operations of a client: their prefix, the session that they make, and those that wait.
+//! The session operations of a client: their prefix, the session that they make, and those that
+//! wait.
 
 ghost use Rattle.std.specs.Prelude.{◌≡◌, ℕ, List, ◌∷◌, length, filter, IfOk, OnOk};
 ghost use Rattle.std.specs.FinMap.{find};
@@ -60,7 +61,8 @@ fn note_operation(
     Ok(())
 }
 
-/// How many operations of the stamp there are from 0 on without a gap, and the session that they make.
+/// How many operations of the stamp there are from 0 on without a gap, and the session that they
+/// make.
 pub(crate) fn replay(
     alloc: Global,
     known: &BTreeMap<(Stamp, u8), SessionOp>,
@@ -84,7 +86,8 @@ pub(crate) fn replay(
     Ok((256, session))
 }
 
-/// A session after one more operation; a Take begins it. One that finds its table full leaves it as it was. Fails only for want of memory.
+/// A session after one more operation; a Take begins it. One that finds its table full leaves it as
+/// it was. Fails only for want of memory.
 pub fn changed(
     alloc: Global,
     session: Option<Session>,

@@ -88,8 +88,8 @@ fn begun(alloc: Global, entry: &Entry, op: &Op) -> Result<Group, NoMemory>
     Ok((op.client().copied(alloc)?, fresh))
 }
 
-/// Where the group of a client stands among groups in order, or where it would go. A delta's operations are in the order of their
-/// clients, so the last group is looked at first.
+/// Where the group of a client stands among groups in order, or where it would go. A delta's
+/// operations are in the order of their clients, so the last group is looked at first.
 fn place_of(groups: &[Group], client: &ClientId) -> Result<usize, usize>
     requires { T (is_sorted client_cmp groups.now) }
     ensures { IsPlace (λ group. client_cmp group.0 client.now) groups.now result }

@@ -53,8 +53,8 @@ fn keep_named(clients: &mut Vec<ClientId>, table: &Table)
     clients.retain(|client| has_operations(table, client.bytes()));
 }
 
-/// The client at a place among those that have operations, in ascending order, with its entry, where so many have some. Where
-/// all of them have, nothing is looked for.
+/// The client at a place among those that have operations, in ascending order, with its entry,
+/// where so many have some. Where all of them have, nothing is looked for.
 pub(crate) fn named_at<'a>(
     table: &'a Table,
     places: &'a [Place],
@@ -76,8 +76,8 @@ pub(crate) fn named_at<'a>(
     client_at(table, places, at)
 }
 
-/// The client at a place among those that have operations, in ascending order, with its entry. Each call walks from the first
-/// client on.
+/// The client at a place among those that have operations, in ascending order, with its entry. Each
+/// call walks from the first client on.
 fn walk_to<'a>(
     table: &'a Table,
     places: &'a [Place],
@@ -105,8 +105,9 @@ fn walk_to<'a>(
     None
 }
 
-/// The next client from a place on, among those that have operations, where so many have some, that may ask for the topic, with its
-/// entry and the place behind it. Where all of them have operations, those that are passed over are told by their marks alone.
+/// The next client from a place on, among those that have operations, where so many have some, that
+/// may ask for the topic, with its entry and the place behind it. Where all of them have
+/// operations, those that are passed over are told by their marks alone.
 pub(crate) fn next_asking<'a>(
     table: &'a Table,
     places: &'a [Place],

@@ -1,8 +1,8 @@
 //! Which topics a client's filters may ask for, as a few marks.
 //!
-//! Each topic has one of 64 marks, made of its octets. Of a client those are kept that the topics may have for which its filters
-//! ask; a filter with a wildcard may ask for any. So a publication passes over most clients that it is not for, and looks at no
-//! filter of theirs.
+//! Each topic has one of 64 marks, made of its octets. Of a client those are kept that the topics
+//! may have for which its filters ask; a filter with a wildcard may ask for any. So a publication
+//! passes over most clients that it is not for, and looks at no filter of theirs.
 
 ghost use Rattle.std.specs.Prelude.{◌≡◌, ◌<◌};
 ghost use Rattle.rep_state.specs.Interests.{AsksWithin, AskWithin, SessionWithin};

@@ -29,7 +29,8 @@ pub(crate) fn last_epoch(table: &Table, client: &ClientId) -> u64
 pub(crate) fn last_seq(table: &Table, client: &ClientId, gateway: u8) -> u64
     requires { AreKept (by_client table.now.entries) }
     ensures { result
-        ≡ largest (seq_of client.now gateway) (own client.now (rows_of (by_client table.now.entries))) }
+        ≡ largest (seq_of client.now gateway)
+          (own client.now (rows_of (by_client table.now.entries))) }
 {
     match entry_of(table, client.bytes()) {
         Some(entry) => greatest_seq(entry, gateway),
@@ -67,7 +68,8 @@ fn larger(a: u64, b: u64) -> u64
     a.max(b)
 }
 
-/// The greatest sequence number of the gateway's messages, which stand in order: that of its last one; or 0.
+/// The greatest sequence number of the gateway's messages, which stand in order: that of its last
+/// one; or 0.
 fn greatest_put(puts: &[Put], gateway: u8) -> u64
     requires { Rising puts.now }
     ensures { result ≡ largest (seq_from gateway) puts.now }

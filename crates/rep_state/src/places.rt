@@ -1,7 +1,8 @@
-//! The names of the clients in order, each with the index of its entry in the table, and with the marks of the topics that it may
-//! ask for.
+//! The names of the clients in order, each with the index of its entry in the table, and with the
+//! marks of the topics that it may ask for.
 //!
-//! A walk over all clients in order sorts nothing and looks for nothing, and one for a publication looks at marks alone.
+//! A walk over all clients in order sorts nothing and looks for nothing, and one for a publication
+//! looks at marks alone.
 
 ghost use Rattle.std.specs.Prelude.{◌≡◌, ◌+◌, ◌<◌, ◌≤◌, ◌∷◌, [], IfOk, IsTrue, MatchOption, length, map, drop, vec_len, vec_capacity};
 ghost use Rattle.std.specs.Map.{keys_of};

@@ -22,7 +22,8 @@ use std::marker::Model;
 pub struct Folded {
     /// The clients. An empty place is seen by no query.
     table: Table,
-    /// Their names in ascending order, each with the index of its entry and the marks of what it may ask for.
+    /// Their names in ascending order, each with the index of its entry and the marks of what it
+    /// may ask for.
     places: Vec<Place>,
     /// How many clients have operations.
     named: usize,

@@ -1,4 +1,5 @@
--- What the rows of REGISTER, SUBSCRIBE, UNSUBSCRIBE and the updates of wills promise, and what they leave alone.
+-- What the rows of REGISTER, SUBSCRIBE, UNSUBSCRIBE and the updates of wills promise, and what they
+-- leave alone.
 use Rattle.std.specs.Prelude.{◌≡◌, ℕ, true, List, [], fold, Some, None}
 use Rattle.sn_session.specs.declared.session.Session.{Session}
 use Rattle.sn_session.specs.Session.{applied}
@@ -20,7 +21,8 @@ session_after s d = fold applied s d.changes
 -- the id stands for the name from then on, and the client knows it
 abbrev pub StandsFor : List ℕ → Session → NamedId → Type 0
 StandsFor name s named =
-    topic_of named.id (session_after s (changed_if named.change nothing)).topics ≡ Some (record { id = named.id; name = name; known = true })
+    topic_of named.id (session_after s (changed_if named.change nothing)).topics
+    ≡ Some (record { id = named.id; name = name; known = true })
 
 -- the session has the filter at that quality of service
 abbrev pub IsSubscribed : List ℕ → ℕ → Session → Type 0

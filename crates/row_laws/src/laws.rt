@@ -1,5 +1,5 @@
-//! The laws of plans. Each function does nothing; its contract is a law, proved for every draft, so for
-//! every row of the step table.
+//! The laws of plans. Each function does nothing; its contract is a law, proved for every draft, so
+//! for every row of the step table.
 
 ghost use Rattle.std.specs.Prelude.{◌≡◌, ℕ, ◌++◌, ◌⊎◌, [], List, Option, Some, true, Contains};
 ghost use Rattle.std.specs.List.{AllByRecursion};
@@ -31,10 +31,10 @@ ghost use Rattle.sn_plan.specs.Plans.{plan_of};
 ghost use Rattle.sn_plan.specs.Own.{IsOwn, HasNoneOf, AddsNone, AreFresh, IsOneEach, Waits, messages, IsOfDraft, MakesNoMessage};
 ghost use Rattle.sn_plan.specs.Flush.{IsFlush, AreFlush, Shows, session_with};
 
-/// A gateway writes under names of its own: the session operations of a plan are of the client that the
-/// plan is for and under stamps with the gateway's number, the messages have the gateway as origin, and
-/// the acknowledgements are of that client. So nothing that a gateway writes stands under a stamp of
-/// another.
+/// A gateway writes under names of its own: the session operations of a plan are of the client that
+/// the plan is for and under stamps with the gateway's number, the messages have the gateway as
+/// origin, and the acknowledgements are of that client. So nothing that a gateway writes stands
+/// under a stamp of another.
 pub fn own_names()
     ensures own { (g : ℕ) (c : List ℕ) (seen : Seen) (d : Drafted) (plan : Plan)
         → plan_of g c seen d ≡ Some plan → AllByRecursion (IsOwn g c) plan.ops }
@@ -43,9 +43,9 @@ pub fn own_names()
         → HasNoneOf other e plan.ops }
 {}
 
-/// No step loses a message: what waits for a client waits after the step, or the step itself has the
-/// acknowledgement of it. Messages for other clients than the plan's all go on waiting. A draft that
-/// changes nothing makes no operations, and then nobody's view changes.
+/// No step loses a message: what waits for a client waits after the step, or the step itself has
+/// the acknowledgement of it. Messages for other clients than the plan's all go on waiting. A draft
+/// that changes nothing makes no operations, and then nobody's view changes.
 pub fn only_acknowledged()
     ensures leaves { (g : ℕ) (c : List ℕ) (S : List Op) (d : Drafted) (plan : Plan)
         → plan_of g c (seen_of S) d ≡ Some plan → (e : List ℕ) (name : ℕ × ℕ) (put : Put)
@@ -58,10 +58,11 @@ pub fn only_acknowledged()
         → view e (S ++ plan.ops) ≡ view e S }
 {}
 
-/// What a step writes is what the client's view then says. Where the gateway's own operations of the
-/// client are flush, the session after the step is the one before it with the changes of the draft applied in order,
-/// the visible stamp is the one that the numbering reached, and the prefix its counter. Without changes
-/// stamp, prefix and session stay, and those of other clients stay always.
+/// What a step writes is what the client's view then says. Where the gateway's own operations of
+/// the client are flush, the session after the step is the one before it with the changes of the
+/// draft applied in order, the visible stamp is the one that the numbering reached, and the prefix
+/// its counter. Without changes stamp, prefix and session stay, and those of other clients stay
+/// always.
 pub fn reads_back()
     ensures written { (g : ℕ) (c : List ℕ) (S : List Op) (d : Drafted) (plan : Plan) → IsFlush g c S
         → plan_of g c (seen_of S) d ≡ Some plan → ¬ (d.changes ≡ []) → (w : Written)
@@ -81,9 +82,9 @@ pub fn reads_back()
         × ((view e (S ++ plan.ops)).session ≡ (view e S).session) }
 {}
 
-/// No name is used twice: neither is a session operation or message of a plan written under a name that
-/// stands in the set, nor under one that stands before it in the plan. So the set stays consistent, and
-/// a gateway never refuses what it made itself for a conflict.
+/// No name is used twice: neither is a session operation or message of a plan written under a name
+/// that stands in the set, nor under one that stands before it in the plan. So the set stays
+/// consistent, and a gateway never refuses what it made itself for a conflict.
 pub fn fresh_names()
     ensures fresh { (g : ℕ) (c : List ℕ) (S : List Op) (d : Drafted) (plan : Plan) → IsFlush g c S
         → IsOneEach d.puts → plan_of g c (seen_of S) d ≡ Some plan → AreFresh S plan.ops }
@@ -105,9 +106,9 @@ pub fn messages_wait()
         → AllByRecursion (Waits (S ++ plan.ops) c d.acks) plan.ops }
 {}
 
-/// A gateway stays flush: it is at the start, after each step of its own, for the client of the step and
-/// for all others, and after it takes what others made, also where its own operations come back to it.
-/// Equal sets are flush alike, so it does not matter how the operations travel.
+/// A gateway stays flush: it is at the start, after each step of its own, for the client of the
+/// step and for all others, and after it takes what others made, also where its own operations come
+/// back to it. Equal sets are flush alike, so it does not matter how the operations travel.
 pub fn stays_flush()
     ensures start { (g : ℕ) (c : List ℕ) → IsFlush g c [] }
     ensures step { (g : ℕ) (c : List ℕ) (S : List Op) (d : Drafted) (plan : Plan) → IsFlush g c S
@@ -119,9 +120,10 @@ pub fn stays_flush()
         → IsFlush g c B }
 {}
 
-/// In a field where each gateway has a number of its own, a gateway never learns of its own session operations from
-/// another: what a step made stands in the set of the gateway that made it, for ever, and is under no
-/// stamp of another. So each delta of the field is one of which `stays_flush` speaks.
+/// In a field where each gateway has a number of its own, a gateway never learns of its own session
+/// operations from another: what a step made stands in the set of the gateway that made it, for
+/// ever, and is under no stamp of another. So each delta of the field is one of which `stays_flush`
+/// speaks.
 pub fn adds_none()
     ensures own { (g : ℕ) (c : List ℕ) (S : List Op) (d : Drafted) (plan : Plan) → IsFlush g c S
         → plan_of g c (seen_of S) d ≡ Some plan → (delta : List Op) → Same delta plan.ops
@@ -161,9 +163,10 @@ pub fn rows_make_no_message()
         → MakesNoMessage (other g local a frame now) }
 {}
 
-/// The laws hold of every row: its plan is the plan of a draft. Where that has at most one message a client, a gateway
-/// whose set is flush for all clients never refuses for a conflict what it made itself, stays flush when it takes it, and
-/// loses a message by it only where the step itself acknowledges it.
+/// The laws hold of every row: its plan is the plan of a draft. Where that has at most one message
+/// a client, a gateway whose set is flush for all clients never refuses for a conflict what it made
+/// itself, stays flush when it takes it, and loses a message by it only where the step itself
+/// acknowledges it.
 pub fn every_row()
     ensures drafted { (g : ℕ) (seen : Seen) (row : Row) (plan : Plan) → IsOneEach row.draft.puts
         → plan_of_row g seen row ≡ Some plan → IsOfDraft g seen plan }
@@ -178,8 +181,8 @@ pub fn every_row()
         ⊎ (is_acknowledged c delta name ≡ true) }
 {}
 
-/// A binding joins one address and one client: the address is that client's, the binding stands in the
-/// list, and no other has the address or the client.
+/// A binding joins one address and one client: the address is that client's, the binding stands in
+/// the list, and no other has the address or the client.
 pub fn one_binding()
     ensures client { (a : Addr) (c : List ℕ) (bindings : List Binding)
         → client_at a (bound a c bindings) ≡ Some c }

@@ -1,10 +1,12 @@
 //! Laws of plans and of the rows that need no other message: nothing that runs is built on them.
 //!
 //! - `laws`: what holds of every plan, proved for every draft and so for every row.
-//! - `request_laws`: what a client may rely on that registers a topic, subscribes or ends a subscription.
+//! - `request_laws`: what a client may rely on that registers a topic, subscribes or ends a
+//!   subscription.
 //!
-//! Each function does nothing; its contract is a law. The definitions are those of `sn_plan` (`Own`, `Flush`) and
-//! `specs/RequestLaws.antt`. A field's laws (`gw_world`) and those of steps (`step_laws`) are proved from these.
+//! Each function does nothing; its contract is a law. The definitions are those of `sn_plan`
+//! (`Own`, `Flush`) and `specs/RequestLaws.antt`. A field's laws (`gw_world`) and those of steps
+//! (`step_laws`) are proved from these.
 #![tactic(auto)]
 
 mod laws;

@@ -1,5 +1,5 @@
-//! The laws of REGISTER, SUBSCRIBE, UNSUBSCRIBE and the updates of wills. Each function does nothing; its contract is a law,
-//! proved for all sessions.
+//! The laws of REGISTER, SUBSCRIBE, UNSUBSCRIBE and the updates of wills. Each function does
+//! nothing; its contract is a law, proved for all sessions.
 
 ghost use Rattle.std.specs.Prelude.{◌≡◌, ℕ, false, List, Option, Some, IfSome};
 ghost use Rattle.sn_topic.specs.Table.{Entries};
@@ -18,8 +18,8 @@ ghost use Rattle.sn_subscribe.specs.Subscription.{id_asked, subscribe, unsubscri
 ghost use Rattle.sn_flow.specs.WillUpdate.{will_topic_update, will_msg_update};
 ghost use Rattle.row_laws.specs.RequestLaws.{ChangesSessionOnly, session_after, StandsFor, IsSubscribed, IsUnsubscribed};
 
-/// A client that registers a name, subscribes, unsubscribes or updates its will loses no message by it and gets none: these
-/// rows acknowledge nothing, put nothing and change no binding.
+/// A client that registers a name, subscribes, unsubscribes or updates its will loses no message by
+/// it and gets none: these rows acknowledge nothing, put nothing and change no binding.
 pub fn requests_keep_messages()
     ensures registers { (a : Addr) (s : Session) (msg_id : ℕ) (name : List ℕ)
         → ChangesSessionOnly (register a s msg_id name) }
@@ -39,12 +39,14 @@ pub fn given_id_stands()
         → IfSome (id_for s name) (StandsFor name s) }
 {}
 
-/// A SUBSCRIBE that finds room and an id leaves the filter at the quality of service that was asked for.
+/// A SUBSCRIBE that finds room and an id leaves the filter at the quality of service that was asked
+/// for.
 pub fn subscribe_lasts()
     ensures { (p : Entries) (a : Addr) (s : Session) (bits msg_id : ℕ) (field filter : List ℕ)
         (qos : ℕ) (named : NamedId) →
         qos_asked (qos_of bits) ≡ Some qos → topics_asked p (kind_of bits) field ≡ Topics filter →
-        filter_has_no_room filter s.subscriptions ≡ false → id_asked s (kind_of bits) field filter ≡ Some named →
+        filter_has_no_room filter s.subscriptions ≡ false
+        → id_asked s (kind_of bits) field filter ≡ Some named →
         IsSubscribed filter qos (session_after s (subscribe p a s bits msg_id field)) }
 {}
 

@@ -1,4 +1,5 @@
--- The rows of PUBACK, PUBREC, PUBCOMP and REGACK of a client (MQTT-SN 1.2 sections 6.5, 6.6 and 6.10).
+-- The rows of PUBACK, PUBREC, PUBCOMP and REGACK of a client (MQTT-SN 1.2 sections 6.5, 6.6 and
+-- 6.10).
 use Rattle.std.specs.Prelude.{ℕ, ◌==◌, Bool, true, false, ◌&&◌, if◌then◌else◌, List, [], Option, Some, None}
 use Rattle.sn_topic.specs.Table.{Entries}
 use Rattle.sn_session.specs.declared.outbound.Outbound.{Outbound as Exchange}
@@ -34,7 +35,8 @@ same_phase Released Released = true
 
 abbrev pub if_awaits : Phase → ℕ → Option Exchange → Option Exchange
 if_awaits phase msg_id None = None
-if_awaits phase msg_id (Some x) = if same_phase x.phase phase && (x.msg_id == msg_id) then Some x else None
+if_awaits phase msg_id (Some x) =
+    if same_phase x.phase phase && (x.msg_id == msg_id) then Some x else None
 
 -- the open exchange, where it is in this phase and has this message id
 abbrev pub awaiting : Session → List Put → Phase → ℕ → Option Exchange
@@ -72,9 +74,11 @@ entry_if_normal entry (Some form) = entry_by_kind entry form.kind
 
 -- the entry of a topic that is published under its id
 abbrev pub entry_published : Entries → Session → List ℕ → Option TopicEntry
-entry_published predefined s name = entry_if_normal (topic_named name s.topics) (form_again predefined s name)
+entry_published predefined s name =
+    entry_if_normal (topic_named name s.topics) (form_again predefined s name)
 
--- the client does not know the id: it is forgotten, and the message goes on waiting; by another form the message is done with
+-- the client does not know the id: it is forgotten, and the message goes on waiting; by another
+-- form the message is done with
 abbrev pub forgotten : Session → Put → Option TopicEntry → Drafted
 forgotten s put None = done s put
 forgotten s put (Some entry) = over s (told entry false nothing)
@@ -84,7 +88,8 @@ abbrev pub puback_put : Entries → Session → ℕ → Put → Drafted
 puback_put predefined s code put =
     if code == 0 then (if put.qos == 1 then done s put else nothing)
     else (if code == 1 then nothing
-    else (if code == 2 then forgotten s put (entry_published predefined s put.topic) else done s put))
+    else (if code == 2 then forgotten s put (entry_published predefined s put.topic)
+      else done s put))
 
 abbrev pub puback_of : Entries → Session → ℕ → Option Put → Drafted
 puback_of predefined s code None = nothing
@@ -92,16 +97,19 @@ puback_of predefined s code (Some put) = puback_put predefined s code put
 
 -- PUBACK
 abbrev pub puback : Entries → Session → List Put → ℕ → ℕ → Drafted
-puback predefined s pending msg_id code = puback_of predefined s code (put_awaiting s pending Published msg_id)
+puback predefined s pending msg_id code =
+    puback_of predefined s code (put_awaiting s pending Published msg_id)
 
 -- the answer to PUBREC, which is a frame of the open exchange
 abbrev pub pubrel_sent : Peer → ℕ → Drafted → Drafted
-pubrel_sent peer msg_id d = moved (Resent peer.client peer.moment) (sent peer.address (frames.PubRel msg_id) d)
+pubrel_sent peer msg_id d =
+    moved (Resent peer.client peer.moment) (sent peer.address (frames.PubRel msg_id) d)
 
 -- the message is with the client, and the exchange waits for PUBCOMP
 abbrev pub released : Session → Exchange → Drafted
 released s x =
-    changed (Outbound (Some (record x { phase = Released })) s.next_id) (acked (message_of x) nothing)
+    changed (Outbound (Some (record x { phase = Released })) s.next_id)
+      (acked (message_of x) nothing)
 
 abbrev pub is_at_two : Option Put → Bool
 is_at_two None = false
@@ -110,7 +118,8 @@ is_at_two (Some put) = put.qos == 2
 -- the exchange of a message at quality of service 2, where it waits for this PUBREC
 abbrev pub awaiting_pubrec : Session → List Put → ℕ → Option Exchange
 awaiting_pubrec s pending msg_id =
-    if is_at_two (put_awaiting s pending Published msg_id) then awaiting s pending Published msg_id else None
+    if is_at_two (put_awaiting s pending Published msg_id) then awaiting s pending Published msg_id
+    else None
 
 abbrev pub pubrec_again : Peer → ℕ → Option Exchange → Drafted
 pubrec_again peer msg_id None = sent peer.address (frames.PubRel msg_id) nothing
@@ -153,8 +162,10 @@ regack s pending msg_id code = regack_of s code (put_awaiting s pending Register
 
 -- an acknowledgement of a connected client; what nothing waits for does nothing
 abbrev pub acknowledge : Entries → Peer → Session → List Put → Frame → Drafted
-acknowledge predefined peer s pending (frames.PubAck topic_id msg_id code) = puback predefined s pending msg_id code
+acknowledge predefined peer s pending (frames.PubAck topic_id msg_id code) =
+    puback predefined s pending msg_id code
 acknowledge predefined peer s pending (frames.PubRec msg_id) = pubrec peer s pending msg_id
 acknowledge predefined peer s pending (frames.PubComp msg_id) = pubcomp s pending msg_id
-acknowledge predefined peer s pending (frames.RegAck topic_id msg_id code) = regack s pending msg_id code
+acknowledge predefined peer s pending (frames.RegAck topic_id msg_id code) =
+    regack s pending msg_id code
 acknowledge predefined peer s pending frame = nothing

@@ -58,8 +58,10 @@ acknowledged predefined seen peer frame =
 
 abbrev pub ack_of : Entries → Seen → Addr → Option (List ℕ) → Frame → ℕ → Row
 ack_of predefined seen a None frame now = turned_away a
-ack_of predefined seen a (Some c) frame now = served c now (acknowledged predefined seen (peer_at a c now) frame)
+ack_of predefined seen a (Some c) frame now =
+    served c now (acknowledged predefined seen (peer_at a c now) frame)
 
 -- PUBACK, PUBREC, PUBCOMP and REGACK
 abbrev pub ack_in : Entries → Seen → Local → Addr → Frame → ℕ → Row
-ack_in predefined seen local a frame now = ack_of predefined seen a (client_at a local.bindings) frame now
+ack_in predefined seen local a frame now =
+    ack_of predefined seen a (client_at a local.bindings) frame now

@@ -149,8 +149,8 @@ fn entry_published<'a>(
     entry_if_normal(session.topic_named(name), form)
 }
 
-/// The client does not know the id: it is forgotten, and the message goes on waiting. By another form the message is done
-/// with.
+/// The client does not know the id: it is forgotten, and the message goes on waiting. By another
+/// form the message is done with.
 fn forget(
     alloc: Global,
     session: &Session,
@@ -427,8 +427,8 @@ fn regack(
     regack_of(alloc, session, code, put)
 }
 
-/// An acknowledgement of a connected client: PUBACK, PUBREC, PUBCOMP or REGACK. What nothing waits for does nothing, but
-/// PUBREC is always answered.
+/// An acknowledgement of a connected client: PUBACK, PUBREC, PUBCOMP or REGACK. What nothing waits
+/// for does nothing, but PUBREC is always answered.
 pub fn acknowledge(
     alloc: Global,
     predefined: &Predefined,

@@ -73,7 +73,8 @@ fn publish_connected<R: Replica>(
     now: u64,
 ) -> Result<Row, NoMemory>
     ensures { IfOk result (λ row. row ≡ publish_of config.now.predefined
-        (seen_of (R.kept replica.now)) from (bindings.client_at from dialogs.now.local.bindings) flags.bits
+        (seen_of (R.kept replica.now)) from
+          (bindings.client_at from dialogs.now.local.bindings) flags.bits
         topic msg_id body.now now) }
 {
     match dialogs.client_at(from) {
@@ -84,8 +85,8 @@ fn publish_connected<R: Replica>(
     }
 }
 
-/// PUBLISH: a client publishes a message. Who subscribed to the topic gets it. At quality of service -1 the client needs no
-/// connection, and nothing follows.
+/// PUBLISH: a client publishes a message. Who subscribed to the topic gets it. At quality of
+/// service -1 the client needs no connection, and nothing follows.
 pub fn publish_in<R: Replica>(
     alloc: Global,
     config: &Config,

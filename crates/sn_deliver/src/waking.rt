@@ -1,4 +1,5 @@
-//! Waking: a client comes back from sleep, here or at another gateway (MQTT-SN 1.2 sections 6.11 and 6.14).
+//! Waking: a client comes back from sleep, here or at another gateway (MQTT-SN 1.2 sections 6.11
+//! and 6.14).
 
 ghost use Rattle.std.specs.Prelude.{◌≡◌, ◌≤◌, length, IfOk, OnOk};
 ghost use Rattle.std.specs.Option.{option_copied};
@@ -21,7 +22,8 @@ use sn_plan::{Draft, Follow, Row, bind_to, heard_row, turn_away, unseen, view_or
 use sn_session::{Presence, Session, SessionOp};
 use std::alloc::Global;
 
-/// The client is claimed: where another gateway owns it, it is taken over with the session as it is.
+/// The client is claimed: where another gateway owns it, it is taken over with the session as it
+/// is.
 fn claimed(
     alloc: Global,
     gateway: u8,
@@ -223,8 +225,8 @@ pub fn client_id(alloc: Global, octets: &[u8]) -> Result<ClientId, NoMemory>
     }
 }
 
-/// PINGREQ: with the id of a client it wakes that client, which is claimed from the gateway that has it; without, the one that is
-/// bound to the address.
+/// PINGREQ: with the id of a client it wakes that client, which is claimed from the gateway that
+/// has it; without, the one that is bound to the address.
 pub fn wake<R: Replica>(
     alloc: Global,
     config: &Config,

@@ -1,5 +1,6 @@
--- What follows a row: Resend or Delivery, by the session as the row has changed it, and the messages that waited before the step
--- and that the row does not acknowledge (MQTT-SN 1.2 sections 6.6, 6.10, 6.13 and 6.14).
+-- What follows a row: Resend or Delivery, by the session as the row has changed it, and the
+-- messages that waited before the step and that the row does not acknowledge (MQTT-SN 1.2 sections
+-- 6.6, 6.10, 6.13 and 6.14).
 use Rattle.std.specs.Prelude.{ℕ, List, Option, Some, None}
 use Rattle.sn_topic.specs.Table.{Entries}
 use Rattle.sn_session.specs.declared.session.Session.{Session}

@@ -1,4 +1,5 @@
-//! Delivery: a client is sent the messages that wait for it (MQTT-SN 1.2 sections 6.6, 6.10 and 6.14).
+//! Delivery: a client is sent the messages that wait for it (MQTT-SN 1.2 sections 6.6, 6.10 and
+//! 6.14).
 
 ghost use Rattle.std.specs.Prelude.{◌≡◌, ◌≤◌, IfOk, OnOk};
 ghost use Rattle.sn_frame.specs.declared.frame.TheConstants.{MAX_FRAME};
@@ -24,7 +25,8 @@ use sn_session::{Outbound, Phase, Presence, Session, SessionOp};
 use sn_topic::{Predefined, TopicName};
 use std::alloc::Global;
 
-/// The id that a client is told for a topic, and the change that the session needs for it, if it needs one.
+/// The id that a client is told for a topic, and the change that the session needs for it, if it
+/// needs one.
 #[derive(Debug, Drop)]
 pub struct ToldId {
     /// The topic id.
@@ -100,7 +102,8 @@ fn fresh_id(alloc: Global, name: &TopicName, id: u16) -> Result<ToldId, NoMemory
     })
 }
 
-/// The id that the client is told for a name: that of its entry, or else the least free one; nothing where no id is free.
+/// The id that the client is told for a name: that of its entry, or else the least free one;
+/// nothing where no id is free.
 fn id_to_tell(
     alloc: Global,
     session: &Session,
@@ -120,8 +123,8 @@ fn id_to_tell(
     }
 }
 
-/// And then the REGISTER for a message whose topic needs registering. Where no id is free the message is acknowledged
-/// unsent. Answers whether Delivery stops.
+/// And then the REGISTER for a message whose topic needs registering. Where no id is free the
+/// message is acknowledged unsent. Answers whether Delivery stops.
 fn register_first(
     alloc: Global,
     peer: &Peer,
@@ -147,8 +150,8 @@ fn register_first(
     Ok(true)
 }
 
-/// And then the PUBLISH of a message whose topic has a form. At quality of service 0 it is done with, else an exchange
-/// begins. Answers whether Delivery stops.
+/// And then the PUBLISH of a message whose topic has a form. At quality of service 0 it is done
+/// with, else an exchange begins. Answers whether Delivery stops.
 fn publish_now(
     alloc: Global,
     peer: &Peer,
@@ -297,7 +300,8 @@ pub fn deliver_if(
     deliver_left(alloc, predefined, peer, session, pending, draft)
 }
 
-/// And then Delivery, by the session as the step so far has changed it. A session that did not change is not copied.
+/// And then Delivery, by the session as the step so far has changed it. A session that did not
+/// change is not copied.
 pub fn then_deliver(
     alloc: Global,
     predefined: &Predefined,

@@ -59,8 +59,9 @@ pub fn is_left(acks: &[(u64, u8)], put: &Put) -> bool
     !is_done(acks, name_of(put))
 }
 
-/// Whether a message that waits is left, where the messages are asked for in their order. `turn` is the place of the acknowledgement
-/// that comes next, if they come in that order too, as those of a CONNECT with CleanSession do: then none is looked for.
+/// Whether a message that waits is left, where the messages are asked for in their order. `turn` is
+/// the place of the acknowledgement that comes next, if they come in that order too, as those of a
+/// CONNECT with CleanSession do: then none is looked for.
 pub fn is_left_in_turn(acks: &[(u64, u8)], turn: &mut usize, put: &Put) -> bool
     ensures { result ≡ spec.is_left acks.now put.now }
 {
@@ -117,7 +118,8 @@ fn is_open_in(session: &Session, phase: Phase, put: Option<&Put>) -> bool
     }
 }
 
-/// Whether an exchange is open. One that waits for PUBCOMP is, whatever waits: its message is not looked for.
+/// Whether an exchange is open. One that waits for PUBCOMP is, whatever waits: its message is not
+/// looked for.
 fn is_open_among(session: &Session, acks: &[(u64, u8)], pending: &[Put], exchange: Outbound) -> bool
     ensures { result ≡ spec.is_open_in session.now exchange.phase
         (spec.put_left acks.now pending.now (spec.message_of exchange)) }

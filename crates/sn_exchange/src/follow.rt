@@ -105,8 +105,8 @@ fn followed<R: Replica>(
     }
 }
 
-/// The plan of a row with what follows it: Resend or Delivery, by the session as the row has changed it, and the messages that
-/// waited before the step and are not acknowledged by the row.
+/// The plan of a row with what follows it: Resend or Delivery, by the session as the row has
+/// changed it, and the messages that waited before the step and are not acknowledged by the row.
 pub fn deliver_next<R: Replica>(
     alloc: Global,
     config: &Config,

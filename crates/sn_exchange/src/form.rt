@@ -88,7 +88,8 @@ pub fn form_of(predefined: &Predefined, session: &Session, name: &TopicName) -> 
     predefined_form(predefined, name)
 }
 
-/// How a topic is named whose PUBLISH was sent: also by the id of an entry that the client may have forgotten since.
+/// How a topic is named whose PUBLISH was sent: also by the id of an entry that the client may have
+/// forgotten since.
 pub fn form_again(predefined: &Predefined, session: &Session, name: &TopicName) -> Option<Form>
     ensures { result ≡ spec.form_again predefined.now session.now name.now }
 {

@@ -1,4 +1,5 @@
-//! A message goes out to a client, and again where it is not answered (MQTT-SN 1.2 sections 6.6 and 6.13).
+//! A message goes out to a client, and again where it is not answered (MQTT-SN 1.2 sections 6.6 and
+//! 6.13).
 //!
 //! - `form`: how a message's topic is written to a client.
 //! - `exchange`: the exchange by which it is handed over, and what is left to hand over.

@@ -1,4 +1,5 @@
-//! Resend: the frame of the open exchange is sent again, under the same message id (MQTT-SN 1.2 section 6.13).
+//! Resend: the frame of the open exchange is sent again, under the same message id (MQTT-SN 1.2
+//! section 6.13).
 
 ghost use Rattle.std.specs.Prelude.{◌≡◌, ◌≤◌, IfOk, OnOk};
 ghost use Rattle.std.specs.Option.{option_copied};
@@ -159,7 +160,8 @@ fn resend_in(
     }
 }
 
-/// And then Resend of an exchange. Where its topic has neither form nor entry, the exchange ends and Delivery follows.
+/// And then Resend of an exchange. Where its topic has neither form nor entry, the exchange ends
+/// and Delivery follows.
 fn resend(
     alloc: Global,
     predefined: &Predefined,
@@ -199,7 +201,8 @@ fn resend_if(
     exchange: Option<Outbound>,
     draft: &mut Draft,
 ) -> Result<(), NoMemory>
-    ensures { OnOk result (draft.new ≡ spec.resend_if predefined.now peer.now session.now pending.now
+    ensures { OnOk result
+          (draft.new ≡ spec.resend_if predefined.now peer.now session.now pending.now
         exchange draft.old) }
 {
     match exchange {
@@ -224,8 +227,8 @@ fn resend_or_deliver(
     resend_if(alloc, predefined, peer, session, pending, exchange, draft)
 }
 
-/// And then Resend, where an exchange is open, else Delivery: by the session as the step so far has changed it. A session
-/// that did not change is not copied.
+/// And then Resend, where an exchange is open, else Delivery: by the session as the step so far has
+/// changed it. A session that did not change is not copied.
 pub fn then_resend(
     alloc: Global,
     predefined: &Predefined,

@@ -136,7 +136,8 @@ fn connect_row(
     }
 }
 
-/// CONNECT: the client is refused, asked for its will, or taken over and bound to the address it speaks from.
+/// CONNECT: the client is refused, asked for its will, or taken over and bound to the address it
+/// speaks from.
 pub fn connect<R: Replica>(
     alloc: Global,
     replica: &R,
@@ -224,8 +225,8 @@ fn disconnect_bound<R: Replica>(
     heard_row(alloc, Some(client), now, row)
 }
 
-/// DISCONNECT: the client falls asleep, or leaves. From an address without binding it is answered and
-/// nothing else.
+/// DISCONNECT: the client falls asleep, or leaves. From an address without binding it is answered
+/// and nothing else.
 pub fn disconnect<R: Replica>(
     alloc: Global,
     replica: &R,

@@ -64,8 +64,8 @@ fn set_topic(alloc: Global, to: Addr, topic: Option<WillTopic>) -> Result<Draft,
     }
 }
 
-/// WILLTOPICUPD: the client gives its will another topic, or deletes it. WILLTOPICRESP says whether it is done: a topic
-/// that is no name, or a quality of service of bits 11, is refused.
+/// WILLTOPICUPD: the client gives its will another topic, or deletes it. WILLTOPICRESP says whether
+/// it is done: a topic that is no name, or a quality of service of bits 11, is refused.
 pub fn will_topic_update(alloc: Global, to: Addr, will: &Option<Will>) -> Result<Draft, NoMemory>
     ensures { IfOk result (λ draft. draft ≡ spec.will_topic_update to will.now) }
 {
@@ -99,8 +99,8 @@ fn accept_message(alloc: Global, to: Addr, message: Message) -> Result<Draft, No
     Ok(draft)
 }
 
-/// WILLMSGUPD: the client gives its will another message. WILLMSGRESP says whether it is done: a message of more than
-/// 4,096 octets is refused, and so is any without a will.
+/// WILLMSGUPD: the client gives its will another message. WILLMSGRESP says whether it is done: a
+/// message of more than 4,096 octets is refused, and so is any without a will.
 pub fn will_msg_update(
     alloc: Global,
     to: Addr,

@@ -1,4 +1,5 @@
-//! WILLTOPIC and WILLMSG (MQTT-SN 1.2 sections 6.2 and 6.3), and their updates of a bound client (section 6.4).
+//! WILLTOPIC and WILLMSG (MQTT-SN 1.2 sections 6.2 and 6.3), and their updates of a bound client
+//! (section 6.4).
 
 ghost use Rattle.std.specs.Prelude.{◌≡◌, Some, IfOk};
 ghost use Rattle.std.specs.Option.{option_copied};
@@ -125,8 +126,8 @@ fn topic_in<R: Replica>(
     }
 }
 
-/// WILLTOPIC: where the address has a dialog that waits for it, the client is asked for the message, or, with
-/// nothing in it, is accepted without a will.
+/// WILLTOPIC: where the address has a dialog that waits for it, the client is asked for the
+/// message, or, with nothing in it, is accepted without a will.
 pub fn will_topic<R: Replica>(
     alloc: Global,
     replica: &R,
@@ -200,7 +201,8 @@ fn message_in<R: Replica>(
     }
 }
 
-/// WILLMSG: where the address has a dialog that waits for it, the client is accepted with that will.
+/// WILLMSG: where the address has a dialog that waits for it, the client is accepted with that
+/// will.
 pub fn will_msg<R: Replica>(
     alloc: Global,
     replica: &R,
@@ -242,7 +244,8 @@ pub fn will_topic_update(
     will: &Option<Will>,
     now: u64,
 ) -> Result<Row, NoMemory>
-    ensures { IfOk result (λ row. row ≡ spec.will_topic_update dialogs.now.local from will.now now) }
+    ensures { IfOk result
+          (λ row. row ≡ spec.will_topic_update dialogs.now.local from will.now now) }
 {
     match dialogs.client_at(from) {
         None => turn_away(alloc, from),

@@ -86,8 +86,8 @@ fn is_bound(bindings: &[Binding], address: Addr, client: &ClientId) -> bool
     }
 }
 
-/// The address and the client belong together now, and neither to another. There is room for one more.
-/// Where they belong together already, the time is logarithmic.
+/// The address and the client belong together now, and neither to another. There is room for one
+/// more. Where they belong together already, the time is logarithmic.
 pub fn bind(bindings: &mut Vec<Binding>, address: Addr, client: ClientId)
     requires ascend { AreBindings bindings.old.items }
     requires room { vec_len bindings.old + 1 ≤ vec_capacity bindings.old }

@@ -60,8 +60,8 @@ impl Request {
     }
 }
 
-/// A CONNECT with a will that is not accepted yet: the client is asked for its will first (MQTT-SN 1.2
-/// section 6.2).
+/// A CONNECT with a will that is not accepted yet: the client is asked for its will first (MQTT-SN
+/// 1.2 section 6.2).
 #[derive(Debug, Drop)]
 pub struct WillDialog {
     /// What the CONNECT asks for.
@@ -98,7 +98,8 @@ pub enum LocalChange {
     Heard { client: ClientId, moment: u64 },
     /// The first frame of a new exchange was sent to the client at a moment.
     Sent { client: ClientId, moment: u64 },
-    /// A frame of the open exchange was sent to the client again at a moment. The number of tries stays.
+    /// A frame of the open exchange was sent to the client again at a moment. The number of tries
+    /// stays.
     Resent { client: ClientId, moment: u64 },
     /// At a moment the frame of the open exchange was due to be sent again: there is one try more.
     Retried { client: ClientId, moment: u64 },
@@ -110,9 +111,10 @@ pub enum LocalChange {
     Advertised { moment: u64 },
 }
 
-/// The local state of a gateway: which address is which client, from which addresses a will is awaited,
-/// when which client was heard of, and when the gateway advertised itself. It begins empty, and is gone when
-/// the gateway stops. The bindings ascend by address, and no client has two; the timers ascend by client.
+/// The local state of a gateway: which address is which client, from which addresses a will is
+/// awaited, when which client was heard of, and when the gateway advertised itself. It begins
+/// empty, and is gone when the gateway stops. The bindings ascend by address, and no client has
+/// two; the timers ascend by client.
 #[derive(Debug, Drop)]
 pub struct Dialogs {
     bindings: Vec<Binding>,
@@ -131,7 +133,8 @@ impl Model for Dialogs {
     ghost Value = { Roomy };
 
     ghost view = { λ d. record {
-      local = record { bindings = d.bindings.items; dialogs = d.dialogs.items; timers = d.timers.items; advertised = d.advertised };
+      local = record { bindings = d.bindings.items; dialogs = d.dialogs.items;
+        timers = d.timers.items; advertised = d.advertised };
       room = record {
         bindings = vec_capacity d.bindings - vec_len d.bindings;
         dialogs = vec_capacity d.dialogs - vec_len d.dialogs;
@@ -185,7 +188,8 @@ impl Dialogs {
         )
     }
 
-    /// Drops the bindings and the timers of clients that the gateway does not own. Will dialogs stay.
+    /// Drops the bindings and the timers of clients that the gateway does not own. Will dialogs
+    /// stay.
     pub fn keep_owned<R: Replica>(&mut self, gateway: u8, replica: &R)
         ensures { self.new.local ≡ owned gateway (seen_of (R.kept replica.now)) self.old.local }
     {

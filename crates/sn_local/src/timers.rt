@@ -102,7 +102,8 @@ fn sent_at(client: ClientId, moment: u64, before: Option<&Timer>) -> Timer
     }
 }
 
-/// The first frame of a new exchange was sent to the client at this moment. There is room for one more timer.
+/// The first frame of a new exchange was sent to the client at this moment. There is room for one
+/// more timer.
 pub fn send_anew(timers: &mut Vec<Timer>, client: ClientId, moment: u64)
     requires room { vec_len timers.old + 1 ≤ vec_capacity timers.old }
     requires order { AreTimers timers.old.items }
@@ -136,7 +137,8 @@ fn resent_at(client: ClientId, moment: u64, before: Option<&Timer>) -> Timer
     }
 }
 
-/// A frame of the open exchange was sent to the client again at this moment. There is room for one more timer.
+/// A frame of the open exchange was sent to the client again at this moment. There is room for one
+/// more timer.
 pub fn send_again(timers: &mut Vec<Timer>, client: ClientId, moment: u64)
     requires room { vec_len timers.old + 1 ≤ vec_capacity timers.old }
     requires order { AreTimers timers.old.items }

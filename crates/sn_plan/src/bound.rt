@@ -17,7 +17,8 @@ use sn_local::{Addr, LocalChange, Timer};
 use sn_session::Session;
 use std::alloc::Global;
 
-/// And then the address and the client belong together, and the client's timer begins at this moment.
+/// And then the address and the client belong together, and the client's timer begins at this
+/// moment.
 pub fn bind_to(
     alloc: Global,
     draft: &mut Draft,

@@ -35,7 +35,8 @@ impl Model for Writer {
 
     ghost Value = { Written };
 
-    ghost view = { λ w. record { epoch = w.epoch; counter = w.counter; next = w.next; session = w.session; ops = w.ops.items } };
+    ghost view = { λ w. record { epoch = w.epoch; counter = w.counter; next = w.next;
+          session = w.session; ops = w.ops.items } };
 }
 
 /// Changes the session. An operation that finds its table full leaves it as it was.
@@ -172,8 +173,8 @@ impl Writer {
         Ok(())
     }
 
-    /// A change that is no Take; where 256 operations stand under the stamp, a Take of the session so
-    /// far goes first.
+    /// A change that is no Take; where 256 operations stand under the stamp, a Take of the session
+    /// so far goes first.
     fn counted(
         &mut self,
         alloc: Global,

@@ -27,8 +27,8 @@ fn searched(alloc: Global, config: &Config, to: Addr) -> Result<Row, NoMemory>
     Ok(Row::of_none(draft))
 }
 
-/// SEARCHGW, the frames that only go from a gateway to a client or between others, and every frame that no
-/// other call is for.
+/// SEARCHGW, the frames that only go from a gateway to a client or between others, and every frame
+/// that no other call is for.
 pub fn other(
     alloc: Global,
     config: &Config,

@@ -24,15 +24,16 @@ pub enum Follow {
     Nothing,
     /// The client is sent the messages that wait for it (MQTT-SN 1.2 sections 6.6, 6.10 and 6.14).
     Delivery,
-    /// The frame of the client's open exchange is sent again (section 6.13); without one, as `Delivery`.
+    /// The frame of the client's open exchange is sent again (section 6.13); without one, as
+    /// `Delivery`.
     Resend,
 }
 
 /// What a frame does, before its operations have names.
 #[derive(Debug, Drop)]
 pub struct Row {
-    /// Whose session changes, and who is served by what follows. Where it is nobody the draft has messages, frames and local
-    /// changes alone.
+    /// Whose session changes, and who is served by what follows. Where it is nobody the draft has
+    /// messages, frames and local changes alone.
     pub client: Option<ClientId>,
     /// What is done.
     pub draft: Draft,

@@ -46,7 +46,8 @@ fn by_entry(alloc: Global, session: &Session, id: u16) -> Result<Meant, NoMemory
 
 /// The topic of a short name.
 fn by_short(alloc: Global, topic: u16) -> Result<Meant, NoMemory>
-    ensures { IfOk result (λ meant. meant ≡ spec.named (asking.name_asked (spec.short_name topic))) }
+    ensures { IfOk result
+          (λ meant. meant ≡ spec.named (asking.name_asked (spec.short_name topic))) }
 {
     let octets = [(topic / 256) as u8, (topic % 256) as u8];
     match name_asked(alloc, &octets)? {
@@ -55,8 +56,8 @@ fn by_short(alloc: Global, topic: u16) -> Result<Meant, NoMemory>
     }
 }
 
-/// The topic that a topic field of this type stands for (MQTT-SN 1.2 section 5.3.11): `Refused` with code 2 where it stands for
-/// none, and with code 3 where the type has no meaning.
+/// The topic that a topic field of this type stands for (MQTT-SN 1.2 section 5.3.11): `Refused`
+/// with code 2 where it stands for none, and with code 3 where the type has no meaning.
 pub fn topic_meant(
     alloc: Global,
     predefined: &Predefined,
@@ -64,7 +65,8 @@ pub fn topic_meant(
     kind: TopicIdType,
     topic: u16,
 ) -> Result<Meant, NoMemory>
-    ensures { IfOk result (λ meant. meant ≡ spec.topic_meant predefined.now session.now kind topic) }
+    ensures { IfOk result
+          (λ meant. meant ≡ spec.topic_meant predefined.now session.now kind topic) }
 {
     match kind {
         TopicIdType::Normal => by_entry(alloc, session, topic),

@@ -26,7 +26,8 @@ fn puts_draft<R: Replica>(
     qos: QosLevel,
     body: &Message,
 ) -> Result<Draft, NoMemory>
-    ensures { IfOk result (λ draft. draft ≡ put_all (recipients.puts_for (seen_of (R.kept replica.now))
+    ensures { IfOk result
+          (λ draft. draft ≡ put_all (recipients.puts_for (seen_of (R.kept replica.now))
         name.now qos body.now) nothing) }
 {
     let puts = puts_for(alloc, replica, name, qos, body)?;
@@ -95,7 +96,8 @@ fn spread_once<R: Replica>(
     }
 }
 
-/// Exactly once: the recipients get it, where they have not got it under this message id, and PUBREC says so.
+/// Exactly once: the recipients get it, where they have not got it under this message id, and
+/// PUBREC says so.
 fn spread_twice<R: Replica>(
     alloc: Global,
     replica: &R,
@@ -170,8 +172,8 @@ fn publish_meant<R: Replica>(
     }
 }
 
-/// PUBLISH of a connected client: the recipients get a message, and the client an answer at the quality of service that it
-/// asks for, or a refusal by PUBACK.
+/// PUBLISH of a connected client: the recipients get a message, and the client an answer at the
+/// quality of service that it asks for, or a refusal by PUBACK.
 pub fn publish<R: Replica>(
     alloc: Global,
     predefined: &Predefined,
@@ -200,7 +202,8 @@ pub fn publish<R: Replica>(
     )
 }
 
-/// A publication without a connection, on what its topic field is about. A message of more than 4,096 octets is for nobody.
+/// A publication without a connection, on what its topic field is about. A message of more than
+/// 4,096 octets is for nobody.
 fn spread_meant<R: Replica>(
     alloc: Global,
     replica: &R,
@@ -219,8 +222,8 @@ fn spread_meant<R: Replica>(
     }
 }
 
-/// PUBLISH without a connection, by a predefined id or a short name. The recipients get it at most once, and nothing is
-/// answered.
+/// PUBLISH without a connection, by a predefined id or a short name. The recipients get it at most
+/// once, and nothing is answered.
 pub fn publish_unconnected<R: Replica>(
     alloc: Global,
     predefined: &Predefined,

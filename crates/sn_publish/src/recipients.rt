@@ -1,5 +1,6 @@
-//! Who gets a publication, and at which quality of service (MQTT-SN 1.2 section 6.10). A publication goes from candidate to
-//! candidate, and passes over clients that are not subscribed to its topic.
+//! Who gets a publication, and at which quality of service (MQTT-SN 1.2 section 6.10). A
+//! publication goes from candidate to candidate, and passes over clients that are not subscribed to
+//! its topic.
 
 ghost use Rattle.std.specs.Prelude.{◌≡◌, filter, IfOk};
 ghost use Rattle.std.specs.Option.{option_map};
@@ -19,7 +20,8 @@ use std::alloc::Global;
 /// How many messages may wait for a client before it is no recipient any more.
 pub const MAX_PENDING: usize = 1024;
 
-/// At this quality of service, where there is room and the client is there or gets the message at least once.
+/// At this quality of service, where there is room and the client is there or gets the message at
+/// least once.
 fn admitted(pending: &[Put], presence: Presence, qos: QosLevel) -> Option<QosLevel>
     ensures { result ≡ spec.admitted pending.now presence qos }
 {
@@ -81,8 +83,8 @@ fn put_at(
     }
 }
 
-/// A message for each recipient of the publication, in the order of the clients. Only candidates are asked: whoever the
-/// replica passes over is not subscribed, and is no recipient.
+/// A message for each recipient of the publication, in the order of the clients. Only candidates
+/// are asked: whoever the replica passes over is not subscribed, and is no recipient.
 pub fn puts_for<R: Replica>(
     alloc: Global,
     replica: &R,

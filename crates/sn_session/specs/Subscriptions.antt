@@ -20,7 +20,8 @@ subscription_cmp a b = filter_cmp a.filter b.filter
 
 -- the table with this subscription for its filter
 abbrev pub with_subscription : Subscription → List Subscription → List Subscription
-with_subscription subscription subscriptions = with_entry subscription_cmp subscription subscriptions
+with_subscription subscription subscriptions =
+    with_entry subscription_cmp subscription subscriptions
 
 -- the table without the subscription of a filter
 abbrev pub without_filter : List ℕ → List Subscription → List Subscription
@@ -36,7 +37,8 @@ qos_of asked subscriptions = option_map (λ s. s.qos) (subscription_of asked sub
 
 -- this filter cannot be set: it would be one more than there is room for
 abbrev pub filter_has_no_room : List ℕ → List Subscription → Bool
-filter_has_no_room asked subscriptions = is_table_full subscriptions && is_none (subscription_of asked subscriptions)
+filter_has_no_room asked subscriptions =
+    is_table_full subscriptions && is_none (subscription_of asked subscriptions)
 
 -- the qualities of service of the filters that ask for a topic
 abbrev pub asked_qos : List ℕ → List Subscription → List ℕ
@@ -58,7 +60,9 @@ pub record IsGreatest (numbers : List ℕ) (greatest : ℕ) : Type 0 where
 
 -- equality of subscriptions as a test
 abbrev pub subscription_eq : Subscription → Subscription → Bool
-subscription_eq a b = eq_of_both (on (λ s. s.filter) (pointwise nat_eq)) (on (λ s. s.qos) nat_eq) a b
+subscription_eq a b =
+    eq_of_both (on (λ s. s.filter) (pointwise nat_eq)) (on (λ s. s.qos) nat_eq) a b
 
 pub subscription_equiv : IsEquivalence subscription_eq
-subscription_equiv = and_equiv (on_equiv (λ s. s.filter) nat_list_eq_equiv) (on_equiv (λ s. s.qos) nat_eq_equiv)
+subscription_equiv =
+    and_equiv (on_equiv (λ s. s.filter) nat_list_eq_equiv) (on_equiv (λ s. s.qos) nat_eq_equiv)

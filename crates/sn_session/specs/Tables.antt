@@ -28,4 +28,5 @@ by_order Greater a b c = c
 -- the entry in its place, in place of one that is equal in the order
 abbrev pub with_entry : {E : Type 0} → (E → E → Ordering) → E → List E → List E
 with_entry cmp entry [] = entry ∷ []
-with_entry cmp entry (a ∷ rest) = by_order (cmp entry a) (entry ∷ a ∷ rest) (entry ∷ rest) (a ∷ with_entry cmp entry rest)
+with_entry cmp entry (a ∷ rest) =
+    by_order (cmp entry a) (entry ∷ a ∷ rest) (entry ∷ rest) (a ∷ with_entry cmp entry rest)

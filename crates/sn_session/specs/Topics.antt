@@ -41,7 +41,8 @@ topic_has_no_room id topics = is_table_full topics && is_none (topic_of id topic
 -- the least number from n on that is not the id of an entry
 abbrev pub least_unused : ℕ → List TopicEntry → ℕ
 least_unused n [] = n
-least_unused n (entry ∷ rest) = if nat_lt n entry.id then n else least_unused (if entry.id == n then n + 1 else n) rest
+least_unused n (entry ∷ rest) =
+    if nat_lt n entry.id then n else least_unused (if entry.id == n then n + 1 else n) rest
 
 -- the least id from 1 on that is not in use, while there is room for one more
 abbrev pub free_id : List TopicEntry → Option ℕ
@@ -60,7 +61,11 @@ pub record IsLeastIdOf (name : List ℕ) (topics : List TopicEntry) (id : ℕ) :
 
 -- equality of entries as a test
 abbrev pub topic_eq : TopicEntry → TopicEntry → Bool
-topic_eq a b = eq_of_both (on (λ e. e.id) nat_eq) (eq_of_both (on (λ e. e.name) (pointwise nat_eq)) (on (λ e. e.known) beq)) a b
+topic_eq a b =
+    eq_of_both (on (λ e. e.id) nat_eq)
+      (eq_of_both (on (λ e. e.name) (pointwise nat_eq)) (on (λ e. e.known) beq)) a b
 
 pub topic_equiv : IsEquivalence topic_eq
-topic_equiv = and_equiv (on_equiv (λ e. e.id) nat_eq_equiv) (and_equiv (on_equiv (λ e. e.name) nat_list_eq_equiv) (on_equiv (λ e. e.known) bool_eq_equiv))
+topic_equiv =
+    and_equiv (on_equiv (λ e. e.id) nat_eq_equiv)
+      (and_equiv (on_equiv (λ e. e.name) nat_list_eq_equiv) (on_equiv (λ e. e.known) bool_eq_equiv))

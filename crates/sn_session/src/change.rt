@@ -51,7 +51,8 @@ pub enum SessionOp {
     Released {
         id: u16,
     },
-    /// The gateway began an exchange, took it further or ended it; the next one has this message id.
+    /// The gateway began an exchange, took it further or ended it; the next one has this message
+    /// id.
     Outbound {
         exchange: Option<Outbound>,
         next_id: u16,
@@ -122,8 +123,8 @@ impl Session {
         }
     }
 
-    /// Changes the session by one operation. `Full` exactly where a table of 256 entries would grow. On an error the
-    /// session is as it was.
+    /// Changes the session by one operation. `Full` exactly where a table of 256 entries would
+    /// grow. On an error the session is as it was.
     pub fn apply(&mut self, alloc: Global, change: &SessionOp) -> Result<(), SessionFault>
         ensures ok { OnOk result (self.new ≡ applied self.old change.now) }
         ensures err { OnErr result (self.new ≡ self.old) }

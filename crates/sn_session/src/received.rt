@@ -42,7 +42,8 @@ impl Received {
         }
     }
 
-    /// The table of these ids; nothing where they do not strictly ascend, or there are more than 256.
+    /// The table of these ids; nothing where they do not strictly ascend, or there are more than
+    /// 256.
     pub fn from_sorted(ids: Vec<u16>) -> Option<Received>
         ensures { MatchOption result (¬ (IsTable nat_cmp ids.items)) (λ made. (made ≡ ids.items)
             × IsTable nat_cmp ids.items) }
@@ -90,7 +91,8 @@ impl Received {
         self.ids.len() >= MAX_ENTRIES && !self.contains(id)
     }
 
-    /// Adds an id, if it is not there. `Full` exactly where it would be the 257th; on an error the table is as it was.
+    /// Adds an id, if it is not there. `Full` exactly where it would be the 257th; on an error the
+    /// table is as it was.
     pub fn add(&mut self, id: u16) -> Result<(), SessionFault>
         ensures ok { OnOk result (self.new ≡ with_received id self.old) }
         ensures err { OnErr result (self.new ≡ self.old) }

@@ -81,7 +81,8 @@ impl Session {
         self.topics.topic_id(name)
     }
 
-    /// The least topic id from 1 on that is not in use; nothing where 256 are. So it is at most 257.
+    /// The least topic id from 1 on that is not in use; nothing where 256 are. So it is at most
+    /// 257.
     pub fn free_id(&self) -> Option<u16>
         ensures value { result ≡ free_id self.now.topics }
         ensures least { IfSome result (IsLeastUnused self.now.topics) }
@@ -97,7 +98,8 @@ impl Session {
         self.subscriptions.qos_of(filter)
     }
 
-    /// The greatest quality of service of the filters that ask for a topic; nothing where none does.
+    /// The greatest quality of service of the filters that ask for a topic; nothing where none
+    /// does.
     pub fn subscribed_qos(&self, name: &TopicName) -> Option<QosLevel>
         ensures value { result ≡ subscribed_qos name.now self.now.subscriptions }
         ensures greatest { IfSome result (IsGreatest (asked_qos name.now self.now.subscriptions)) }

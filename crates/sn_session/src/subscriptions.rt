@@ -38,8 +38,8 @@ impl Subscription {
     }
 }
 
-/// The subscriptions of a session: at most 256, strictly ascending by the octets of their filters. Contracts see
-/// the list of them.
+/// The subscriptions of a session: at most 256, strictly ascending by the octets of their filters.
+/// Contracts see the list of them.
 #[derive(Debug, Drop)]
 pub struct Subscriptions {
     entries: Vec<Subscription>,
@@ -68,7 +68,8 @@ impl Subscriptions {
         }
     }
 
-    /// The table of these entries; nothing where their filters do not strictly ascend, or there are more than 256.
+    /// The table of these entries; nothing where their filters do not strictly ascend, or there are
+    /// more than 256.
     pub fn from_sorted(entries: Vec<Subscription>) -> Option<Subscriptions>
         ensures { MatchOption result (¬ (IsTable subscription_cmp entries.items))
             (λ made. (made ≡ entries.items) × IsTable subscription_cmp entries.items) }
@@ -120,7 +121,8 @@ impl Subscriptions {
         self.entries.len() >= MAX_ENTRIES && self.qos_of(filter).is_none()
     }
 
-    /// The greatest quality of service of the filters that ask for a topic; nothing where none does.
+    /// The greatest quality of service of the filters that ask for a topic; nothing where none
+    /// does.
     pub fn subscribed_qos(&self, name: &TopicName) -> Option<QosLevel>
         ensures value { result ≡ subscribed_qos name.now self.now }
         ensures greatest { IfSome result (IsGreatest (asked_qos name.now self.now)) }
@@ -134,8 +136,8 @@ impl Subscriptions {
         greatest
     }
 
-    /// Sets the subscription of a filter. `Full` exactly where it would be the 257th; on an error the table is as it
-    /// was. A filter that is there takes no memory.
+    /// Sets the subscription of a filter. `Full` exactly where it would be the 257th; on an error
+    /// the table is as it was. A filter that is there takes no memory.
     pub fn set(&mut self, alloc: Global, filter: &Filter, qos: QosLevel) -> Result<(), SessionFault>
         ensures ok { OnOk result (self.new ≡ with_subscription
             (record { filter = filter.now; qos = qos }) self.old) }

@@ -39,7 +39,8 @@ impl TopicEntry {
     }
 }
 
-/// The topic ids of a session: at most 256, strictly ascending. Contracts see the list of the entries.
+/// The topic ids of a session: at most 256, strictly ascending. Contracts see the list of the
+/// entries.
 #[derive(Debug, Drop)]
 pub struct Topics {
     entries: Vec<TopicEntry>,
@@ -135,7 +136,8 @@ impl Topics {
         }
     }
 
-    /// Sets the entry of an id. `Full` exactly where it would be the 257th entry; on an error the table is as it was.
+    /// Sets the entry of an id. `Full` exactly where it would be the 257th entry; on an error the
+    /// table is as it was.
     pub fn set(
         &mut self,
         alloc: Global,
@@ -161,7 +163,8 @@ impl Topics {
         Ok(())
     }
 
-    /// The least id from 1 on that is not in use; nothing where there are 256 entries. So it is at most 257.
+    /// The least id from 1 on that is not in use; nothing where there are 256 entries. So it is at
+    /// most 257.
     pub fn free_id(&self) -> Option<u16>
         ensures value { result ≡ free_id self.now }
         ensures least { IfSome result (IsLeastUnused self.now) }
@@ -193,7 +196,8 @@ impl Topics {
         Ok(Topics { entries })
     }
 
-    /// The table of these entries; nothing where their ids do not strictly ascend, or there are more than 256.
+    /// The table of these entries; nothing where their ids do not strictly ascend, or there are
+    /// more than 256.
     pub fn from_sorted(entries: Vec<TopicEntry>) -> Option<Topics>
         ensures { MatchOption result (¬ (IsTable topic_cmp entries.items))
             (λ made. (made ≡ entries.items) × IsTable topic_cmp entries.items) }

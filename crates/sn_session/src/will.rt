@@ -60,8 +60,8 @@ impl Will {
     }
 }
 
-/// Sets the topic of a will: a new will has an empty message, one that is there keeps its message. No topic deletes
-/// the will. On an error it is as it was.
+/// Sets the topic of a will: a new will has an empty message, one that is there keeps its message.
+/// No topic deletes the will. On an error it is as it was.
 pub fn set_topic(
     will: &mut Option<Will>,
     alloc: Global,

@@ -13,7 +13,9 @@ use Rattle.sn_plan.specs.Drafts.{Drafted, nothing, changed_if, sent}
 
 -- the id of an entry of the name, which the client knows from now on
 abbrev pub entry_id : List ℕ → TopicEntry → NamedId
-entry_id name entry = record { id = entry.id; change = if entry.known then None else Some (Register entry.id name true) }
+entry_id name entry =
+    record { id = entry.id;
+      change = if entry.known then None else Some (Register entry.id name true) }
 
 -- a new id of the name
 abbrev pub new_id : List ℕ → ℕ → NamedId
@@ -23,14 +25,16 @@ abbrev pub entry_or_free : List ℕ → Option TopicEntry → Option ℕ → Opt
 entry_or_free name None free = option_map (new_id name) free
 entry_or_free name (Some entry) free = Some (entry_id name entry)
 
--- the id of a name, and the change that the session needs for it: that of its entry, or else the least free one, if there is one
+-- the id of a name, and the change that the session needs for it: that of its entry, or else the
+-- least free one, if there is one
 abbrev pub id_for : Session → List ℕ → Option NamedId
 id_for s name = entry_or_free name (topic_named name s.topics) (free_id s.topics)
 
 -- code 1, congestion, where no id is free
 abbrev pub registered : Addr → ℕ → Option NamedId → Drafted
 registered a msg_id None = sent a (frames.RegAck 0 msg_id 1) nothing
-registered a msg_id (Some named) = sent a (frames.RegAck named.id msg_id 0) (changed_if named.change nothing)
+registered a msg_id (Some named) =
+    sent a (frames.RegAck named.id msg_id 0) (changed_if named.change nothing)
 
 abbrev pub register_name : Addr → Session → ℕ → Option (List ℕ) → Drafted
 register_name a s msg_id None = sent a (frames.RegAck 0 msg_id 3) nothing

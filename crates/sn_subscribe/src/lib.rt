@@ -1,4 +1,5 @@
-//! A client is told the id of a topic, subscribes, and ends a subscription (MQTT-SN 1.2 sections 6.5, 6.9 and 6.10).
+//! A client is told the id of a topic, subscribes, and ends a subscription (MQTT-SN 1.2 sections
+//! 6.5, 6.9 and 6.10).
 //!
 //! Rows of the step table, as those of `sn_flow` are.
 //!

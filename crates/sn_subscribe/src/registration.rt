@@ -50,8 +50,8 @@ fn new_id(alloc: Global, name: &TopicName, id: u16) -> Result<NamedId, NoMemory>
     })
 }
 
-/// The id of the name, and the change that the session needs for it: that of its entry, or else the least free one;
-/// nothing where no id is free.
+/// The id of the name, and the change that the session needs for it: that of its entry, or else the
+/// least free one; nothing where no id is free.
 pub fn id_for(
     alloc: Global,
     session: &Session,
@@ -105,8 +105,8 @@ fn refuse(alloc: Global, to: Addr, msg_id: u16, code: u8) -> Result<Draft, NoMem
     Draft::reply(alloc, to, &answer)
 }
 
-/// REGISTER: the client names a topic and asks for its id, which it knows from then on. REGACK has the id, or says why
-/// there is none: the octets are no topic name, or 256 ids are in use.
+/// REGISTER: the client names a topic and asks for its id, which it knows from then on. REGACK has
+/// the id, or says why there is none: the octets are no topic name, or 256 ids are in use.
 pub fn register(
     alloc: Global,
     to: Addr,

@@ -130,7 +130,8 @@ fn subscribe_to(
     filter: Filter,
     qos: QosLevel,
 ) -> Result<Draft, NoMemory>
-    ensures { IfOk result (λ draft. draft ≡ spec.subscribe_to to session.now flags.bits msg_id field.now
+    ensures { IfOk result
+          (λ draft. draft ≡ spec.subscribe_to to session.now flags.bits msg_id field.now
         filter qos) }
 {
     if session.subscriptions.has_no_room(&filter) {
@@ -162,8 +163,9 @@ fn subscribe_asked(
     }
 }
 
-/// SUBSCRIBE: the client asks for topics, by a filter, a predefined id or a short name. SUBACK has the quality of
-/// service that was asked for and the topic id, if there is one, or says why it is refused; then nothing changes.
+/// SUBSCRIBE: the client asks for topics, by a filter, a predefined id or a short name. SUBACK has
+/// the quality of service that was asked for and the topic id, if there is one, or says why it is
+/// refused; then nothing changes.
 pub fn subscribe(
     alloc: Global,
     predefined: &Predefined,
@@ -203,8 +205,8 @@ fn unsubscribe_asked(session: &Session, asked: Asked) -> Option<SessionOp>
     }
 }
 
-/// UNSUBSCRIBE: the client no longer asks for topics, which it names as in SUBSCRIBE. UNSUBACK is the answer whatever
-/// it asks for. Messages that wait for the client go on waiting.
+/// UNSUBSCRIBE: the client no longer asks for topics, which it names as in SUBSCRIBE. UNSUBACK is
+/// the answer whatever it asks for. Messages that wait for the client go on waiting.
 pub fn unsubscribe(
     alloc: Global,
     predefined: &Predefined,

@@ -1,5 +1,5 @@
--- What time asks for: which client is due, and for what (MQTT-SN 1.2 sections 6.11, 6.13 and 6.14). Moments and durations are in
--- seconds.
+-- What time asks for: which client is due, and for what (MQTT-SN 1.2 sections 6.11, 6.13 and 6.14).
+-- Moments and durations are in seconds.
 use Rattle.std.specs.Prelude.{ℕ, ◌+◌, ◌-◌, ◌*◌, ◌/◌, Bool, false, ◌&&◌, ◌||◌, if◌then◌else◌, nat_lt, nat_le, List, [], ◌∷◌, length, Option, Some, None}
 use Rattle.sn_session.specs.declared.session.Session.{Session}
 use Rattle.sn_session.specs.declared.outbound.Outbound.{Outbound}
@@ -25,7 +25,8 @@ abbrev pub patience : ℕ → ℕ
 patience duration = (3 * duration + 1) / 2
 
 abbrev pub is_silent : ℕ → Session → Timer → Bool
-is_silent now s timer = nat_lt 0 s.duration && nat_le (patience s.duration) (elapsed now timer.heard)
+is_silent now s timer =
+    nat_lt 0 s.duration && nat_le (patience s.duration) (elapsed now timer.heard)
 
 -- whether nothing was heard for too long of a client that is Active, Asleep or Awake
 abbrev pub is_overdue : ℕ → Session → Option Timer → Bool
@@ -35,7 +36,8 @@ is_overdue now s (Some timer) = is_up s.presence && is_silent now s timer
 -- a frame that is not answered for 10 seconds is sent again, four times; then the client is lost
 abbrev pub due_again : ℕ → Addr → Timer → Option Due
 due_again now a timer =
-    if nat_le 10 (elapsed now timer.sent) then (if nat_le 4 timer.tries then Some Loss else Some (Retry a)) else None
+    if nat_le 10 (elapsed now timer.sent)
+    then (if nat_le 4 timer.tries then Some Loss else Some (Retry a)) else None
 
 abbrev pub due_exchange : ℕ → Addr → Option Timer → Option Due
 due_exchange now a None = None
@@ -43,7 +45,8 @@ due_exchange now a (Some timer) = due_again now a timer
 
 -- without an open exchange Delivery is due where messages wait, or the client is Awake
 abbrev pub due_delivery : Session → List Put → Addr → Option Due
-due_delivery s pending a = if is_awake s.presence || nat_lt 0 (length pending) then Some (Delivery a) else None
+due_delivery s pending a =
+    if is_awake s.presence || nat_lt 0 (length pending) then Some (Delivery a) else None
 
 abbrev pub due_by : ℕ → Session → List Put → Addr → Option Timer → Option Outbound → Option Due
 due_by now s pending a timer None = due_delivery s pending a
@@ -57,11 +60,14 @@ due_at now s pending timer (Some a) =
 
 abbrev pub due_session : ℕ → List Put → Option Timer → Option Addr → Option Session → Option Due
 due_session now pending timer a None = None
-due_session now pending timer a (Some s) = if is_overdue now s timer then Some Loss else due_at now s pending timer a
+due_session now pending timer a (Some s) =
+    if is_overdue now s timer then Some Loss else due_at now s pending timer a
 
 abbrev pub due_view : ℕ → Local → ℕ → List ℕ → ClientView → Option Due
 due_view g local now c v =
-    if is_stamp_of g v.stamp then due_session now v.pending (timer_of c local.timers) (address_of c local.bindings) v.session else None
+    if is_stamp_of g v.stamp
+    then due_session now v.pending (timer_of c local.timers) (address_of c local.bindings) v.session
+    else None
 
 -- what is due with a client that the gateway owns
 abbrev pub due_with : ℕ → Seen → Local → ℕ → List ℕ → Option Due
@@ -74,4 +80,5 @@ or_later later c (Some reason) = Some (c, reason)
 -- the first of these clients that is due, and for what
 abbrev pub first_due : ℕ → Seen → Local → ℕ → List (List ℕ) → Option (List ℕ × Due)
 first_due g seen local now [] = None
-first_due g seen local now (c ∷ rest) = or_later (first_due g seen local now rest) c (due_with g seen local now c)
+first_due g seen local now (c ∷ rest) =
+    or_later (first_due g seen local now rest) c (due_with g seen local now c)

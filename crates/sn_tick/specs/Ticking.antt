@@ -32,18 +32,22 @@ use Rattle.sn_tick.specs.Due.{elapsed, first_due}
 
 -- and then no dialog at this address, where its CONNECT is a minute ago
 abbrev pub dialog_ended : ℕ → Drafted → WillDialog → Drafted
-dialog_ended now d dialog = if nat_le 60 (elapsed now dialog.begun) then moved (EndDialog dialog.request.address) d else d
+dialog_ended now d dialog =
+    if nat_le 60 (elapsed now dialog.begun) then moved (EndDialog dialog.request.address) d else d
 
 -- and then none of these dialogs that is so old
 abbrev pub dialogs_ended : ℕ → List WillDialog → Drafted → Drafted
 dialogs_ended now dialogs d = fold (dialog_ended now) d dialogs
 
--- whether a client needs a timer: the gateway owns it, it is Active, Asleep or Awake, and it has none
+-- whether a client needs a timer: the gateway owns it, it is Active, Asleep or Awake, and it has
+-- none
 abbrev pub needs_timer : ℕ → List Timer → List ℕ → ClientView → Bool
-needs_timer g timers c v = is_stamp_of g v.stamp && can_wake v.session && is_none (timer_of c timers)
+needs_timer g timers c v =
+    is_stamp_of g v.stamp && can_wake v.session && is_none (timer_of c timers)
 
 abbrev pub timer_begun : ℕ → Seen → List Timer → ℕ → Drafted → List ℕ → Drafted
-timer_begun g seen timers now d c = if needs_timer g timers c (seen.of c) then moved (Heard c now) d else d
+timer_begun g seen timers now d c =
+    if needs_timer g timers c (seen.of c) then moved (Heard c now) d else d
 
 -- and then a timer for each of these clients that needs one
 abbrev pub timers_begun : ℕ → Seen → List Timer → ℕ → List (List ℕ) → Drafted → Drafted
@@ -51,7 +55,8 @@ timers_begun g seen timers now clients d = fold (timer_begun g seen timers now) 
 
 -- what every tick does first
 abbrev pub cleaned : ℕ → Seen → Local → ℕ → Drafted
-cleaned g seen local now = timers_begun g seen local.timers now seen.all (dialogs_ended now local.dialogs nothing)
+cleaned g seen local now =
+    timers_begun g seen local.timers now seen.all (dialogs_ended now local.dialogs nothing)
 
 abbrev pub is_long_ago : ℕ → ℕ → Option ℕ → Bool
 is_long_ago advertise now None = true
@@ -59,14 +64,16 @@ is_long_ago advertise now (Some last) = nat_le advertise (elapsed now last)
 
 -- whether the gateway is to advertise itself
 abbrev pub may_advertise : ℕ → List Addr → ℕ → Option ℕ → Bool
-may_advertise advertise field now last = nat_lt 0 advertise && nat_lt 0 (length field) && is_long_ago advertise now last
+may_advertise advertise field now last =
+    nat_lt 0 advertise && nat_lt 0 (length field) && is_long_ago advertise now last
 
 abbrev pub advertised_to : ℕ → ℕ → Drafted → Addr → Drafted
 advertised_to g advertise d a = sent a (frames.Advertise g advertise) d
 
 -- and then ADVERTISE to each address of the field
 abbrev pub advertised : ℕ → ℕ → List Addr → ℕ → Drafted → Drafted
-advertised g advertise field now d = moved (Advertised now) (fold (advertised_to g advertise) d field)
+advertised g advertise field now d =
+    moved (Advertised now) (fold (advertised_to g advertise) d field)
 
 -- the messages of the will of a client, if it has one
 abbrev pub will_puts : Seen → List ℕ → Option Will → List NewPut
@@ -75,18 +82,21 @@ will_puts seen c (Some will) = puts_of_will seen c will
 
 -- and then the client is lost: its will is published, and it has no address any more
 abbrev pub lost : Seen → List ℕ → Session → Drafted → Drafted
-lost seen c s d = moved (Unbind c) (changed (Presence Lost s.duration) (put_all (will_puts seen c s.will) d))
+lost seen c s d =
+    moved (Unbind c) (changed (Presence Lost s.duration) (put_all (will_puts seen c s.will) d))
 
 -- one try more: Resend, where an exchange is open, else Delivery
 abbrev pub retried : ℕ → Drafted → List ℕ → Row
 retried now d c = row_of follows.Resend c (moved (Retried c now) d)
 
--- the plan of what is due with a client: it is lost; or there is one try more, and Resend; or Delivery
+-- the plan of what is due with a client: it is lost; or there is one try more, and Resend; or
+-- Delivery
 abbrev pub plan_due : ℕ → Entries → Seen → ℕ → Drafted → List ℕ → Due → Option Plan
 plan_due g predefined seen now d c Loss = plan_of g c seen (lost seen c (session_of seen c) d)
 plan_due g predefined seen now d c (Retry a) =
     deliver_next g predefined seen a now (retried now d c)
-plan_due g predefined seen now d c (Delivery a) = deliver_next g predefined seen a now (row_of follows.Delivery c d)
+plan_due g predefined seen now d c (Delivery a) =
+    deliver_next g predefined seen a now (row_of follows.Delivery c d)
 
 abbrev pub plan_if_due : ℕ → Entries → Seen → ℕ → Drafted → Option (List ℕ × Due) → Option Plan
 plan_if_due g predefined seen now d None = Some (plan_without d)
@@ -95,9 +105,11 @@ plan_if_due g predefined seen now d (Some found) = plan_due g predefined seen no
 -- one thing a tick: ADVERTISE; else what is due with the least client that is due; else nothing
 abbrev pub one_thing : ℕ → ℕ → List Addr → Entries → Seen → Local → ℕ → Drafted → Option Plan
 one_thing g advertise field predefined seen local now d =
-    if may_advertise advertise field now local.advertised then Some (plan_without (advertised g advertise field now d))
+    if may_advertise advertise field now local.advertised
+    then Some (plan_without (advertised g advertise field now d))
     else plan_if_due g predefined seen now d (first_due g seen local now seen.all)
 
 -- a tick
 abbrev pub tick : ℕ → ℕ → List Addr → Entries → Seen → Local → ℕ → Option Plan
-tick g advertise field predefined seen local now = one_thing g advertise field predefined seen local now (cleaned g seen local now)
+tick g advertise field predefined seen local now =
+    one_thing g advertise field predefined seen local now (cleaned g seen local now)

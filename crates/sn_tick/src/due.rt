@@ -1,4 +1,5 @@
-//! What time asks for: which client is due, and for what (MQTT-SN 1.2 sections 6.11, 6.13 and 6.14).
+//! What time asks for: which client is due, and for what (MQTT-SN 1.2 sections 6.11, 6.13 and
+//! 6.14).
 
 ghost use Rattle.std.specs.Prelude.{◌≡◌, ◌≤◌, Option, None, IfOk, IsTrue};
 ghost use Rattle.std.specs.Option.{option_copied};
@@ -173,7 +174,8 @@ fn is_at_rest(now: u64, pending: &[Put], timer: Option<&Timer>, session: &Option
     due_session(now, pending, timer, Some(anywhere), session).is_none()
 }
 
-/// What is due with a client of this view. Its address is looked up only where something may be due.
+/// What is due with a client of this view. Its address is looked up only where something may be
+/// due.
 pub(crate) fn due_view(
     gateway: u8,
     dialogs: &Dialogs,

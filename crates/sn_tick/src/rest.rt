@@ -53,7 +53,8 @@ fn none_asks<R: Replica>(gateway: u8, replica: &R, dialogs: &Dialogs, now: u64) 
     true
 }
 
-/// Whether it was found that a tick of this moment has nothing to do. It has nothing to do at any moment before it then.
+/// Whether it was found that a tick of this moment has nothing to do. It has nothing to do at any
+/// moment before it then.
 pub fn is_idle<R: Replica>(config: &Config, replica: &R, dialogs: &Dialogs, now: u64) -> bool
     ensures { IsTrue result → IsTrue (spec.is_idle config.now.gateway config.now.advertise
         config.now.field

@@ -350,9 +350,10 @@ fn one_thing<R: Replica>(
     plan_if_due(alloc, config, replica, now, draft, found)
 }
 
-/// A tick: will dialogs of a minute end, clients without a timer get one, and then one thing is done. The gateway advertises
-/// itself where that is due; else it does what is due with the least client with which something is due: it is lost, or the
-/// frame of its open exchange is sent again, or messages are.
+/// A tick: will dialogs of a minute end, clients without a timer get one, and then one thing is
+/// done. The gateway advertises itself where that is due; else it does what is due with the least
+/// client with which something is due: it is lost, or the frame of its open exchange is sent again,
+/// or messages are.
 pub fn tick<R: Replica>(
     alloc: Global,
     config: &Config,

@@ -9,9 +9,9 @@ use crate::filter::Filter;
 use crate::level::{first_level, is_hash, is_plus};
 use crate::name::TopicName;
 
-/// Whether a filter asks for a topic. `+` stands for any one level and a `#` at the end for all levels
-/// that are left, also for none, so `t/#` asks for `t`. A filter that begins with a wildcard asks for no
-/// name that begins with `$`. The time is linear in both.
+/// Whether a filter asks for a topic. `+` stands for any one level and a `#` at the end for all
+/// levels that are left, also for none, so `t/#` asks for `t`. A filter that begins with a wildcard
+/// asks for no name that begins with `$`. The time is linear in both.
 pub fn matches(filter: &Filter, name: &TopicName) -> bool
     ensures rule { IsTrue result ↔ Matches filter.now name.now }
     ensures value { result ≡ is_match filter.now name.now }

@@ -11,7 +11,8 @@ use octets::{NoMemory, Octets};
 use std::alloc::Global;
 use std::marker::Model;
 
-/// The name of a topic: 1 to 256 octets without a wildcard. Contracts see it as the list of its octets.
+/// The name of a topic: 1 to 256 octets without a wildcard. Contracts see it as the list of its
+/// octets.
 #[derive(Debug, Drop)]
 pub struct TopicName {
     octets: Octets,

@@ -11,8 +11,9 @@ use octets::NoMemory;
 use std::alloc::Global;
 use std::marker::Model;
 
-/// Predefined topic ids with their names (MQTT-SN 1.2 section 6.7). Contracts see the list of the entries in
-/// the order in which they were given. Each look-up reads the entries from the front, since tables are small.
+/// Predefined topic ids with their names (MQTT-SN 1.2 section 6.7). Contracts see the list of the
+/// entries in the order in which they were given. Each look-up reads the entries from the front,
+/// since tables are small.
 #[derive(Debug, Drop)]
 pub struct Predefined {
     entries: Vec<(u16, TopicName)>,
@@ -30,8 +31,8 @@ impl Model for Predefined {
 }
 
 impl Predefined {
-    /// The table of these entries. `Id` is answered where an id is 0 or 65535, or stands twice. The entries
-    /// are kept as they are, so no memory is taken. The time is quadratic in their number.
+    /// The table of these entries. `Id` is answered where an id is 0 or 65535, or stands twice. The
+    /// entries are kept as they are, so no memory is taken. The time is quadratic in their number.
     pub fn new(_alloc: Global, entries: Vec<(u16, TopicName)>) -> Result<Predefined, TopicFault>
         ensures ok { IfOk result (λ table. (table ≡ entries.items)
             × IsTrue (spec.is_table entries.items)) }
@@ -58,7 +59,8 @@ impl Predefined {
     /// The least id that stands for a name.
     pub fn id(&self, name: &TopicName) -> Option<u16>
         ensures rule { MatchOption result (ids_of name.now self.now ≡ [])
-            (λ id. Contains (ids_of name.now self.now) id × All (λ other. id ≤ other) (ids_of name.now self.now)) }
+            (λ id. Contains (ids_of name.now self.now) id
+              × All (λ other. id ≤ other) (ids_of name.now self.now)) }
         ensures value { result ≡ least (ids_of name.now self.now) }
     {
         let mut least = None;

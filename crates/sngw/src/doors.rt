@@ -11,10 +11,12 @@ use std::thread;
 use std::thread::Threads;
 use std::time::{Clock, Duration};
 
-/// How many milliseconds a read of a link waits. So often a link looks for deltas to tell, and whether its shift is over.
+/// How many milliseconds a read of a link waits. So often a link looks for deltas to tell, and
+/// whether its shift is over.
 const A_READ: u64 = 10;
 
-/// How many milliseconds a write of a link waits. What the other end has not taken by then waits, and what it says is read.
+/// How many milliseconds a write of a link waits. What the other end has not taken by then waits,
+/// and what it says is read.
 const A_WRITE: u64 = 10;
 
 /// How many milliseconds a peer has to take a call.

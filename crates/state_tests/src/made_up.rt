@@ -1,4 +1,5 @@
-//! Made-up operations: what stands under a name follows from the name, so that no two contradict each other.
+//! Made-up operations: what stands under a name follows from the name, so that no two contradict
+//! each other.
 
 use octets::Octets;
 use rep_ops::{ClientId, Delta, Op, Put, Stamp};

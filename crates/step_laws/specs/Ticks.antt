@@ -13,15 +13,17 @@ use Rattle.sn_tick.specs.Ticking.{may_advertise, tick}
 -- whether a tick does something: it is time for ADVERTISE, or something is due with a client
 abbrev pub does_something : ℕ → ℕ → List Addr → Seen → Local → ℕ → Bool
 does_something g advertise field seen local now =
-    may_advertise advertise field now local.advertised || is_some (first_due g seen local now seen.all)
+    may_advertise advertise field now local.advertised
+    || is_some (first_due g seen local now seen.all)
 
 -- a tick that was not refused: its plan, and the delta in which its operations came into the set
 pub record Ticked : Type 0 where
   pub plan : Plan
   pub delta : List Op
 
--- these are ticks of the moment now, one after the other, by a gateway with this set and this local state: each is the tick of what
--- the ones before it left. Ticks that are refused change nothing and are not among them.
+-- these are ticks of the moment now, one after the other, by a gateway with this set and this local
+-- state: each is the tick of what the ones before it left. Ticks that are refused change nothing
+-- and are not among them.
 abbrev pub AreTicks : ℕ → ℕ → List Addr → Entries → ℕ → List Op → Local → List Ticked → Type 0
 AreTicks g advertise field predefined now S local [] = Unit {0}
 AreTicks g advertise field predefined now S local (t ∷ rest) =

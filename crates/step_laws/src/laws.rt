@@ -1,4 +1,5 @@
-//! Laws of publications and of time. Each function does nothing; its contract is a law, proved for all sessions and messages.
+//! Laws of publications and of time. Each function does nothing; its contract is a law, proved for
+//! all sessions and messages.
 
 ghost use Rattle.std.specs.Prelude.{◌≡◌, ◌≤◌, ℕ, ◌+◌, ◌*◌, false, true, List, length, None, Some};
 ghost use Rattle.sn_topic.specs.Table.{Entries};
@@ -20,20 +21,21 @@ ghost use Rattle.sn_tick.specs.Ticking.{tick};
 ghost use Rattle.step_laws.specs.Ticks.{Ticked, AreTicks, busy, does_something, set_behind, local_behind};
 ghost use Rattle.step_laws.specs.Laws.{DeliveryKeeps, OneExchange, PutsOnce, ResentWithDup, TickIsQuiet, TickSettles};
 
-/// Delivery loses no message: it acknowledges none but those that it sends at quality of service 0, and those for whose topic
-/// no id is left. The PUBLISH of each of the first is among its frames.
+/// Delivery loses no message: it acknowledges none but those that it sends at quality of service 0,
+/// and those for whose topic no id is left. The PUBLISH of each of the first is among its frames.
 pub fn delivery_keeps()
     ensures { DeliveryKeeps }
 {}
 
-/// Exactly once: the first publication of a message id at quality of service 2 records the id; nothing but its release and a session
-/// that is taken over as a whole ends that; and until then a publication of the id makes no message.
+/// Exactly once: the first publication of a message id at quality of service 2 records the id;
+/// nothing but its release and a session that is taken over as a whole ends that; and until then a
+/// publication of the id makes no message.
 pub fn puts_once()
     ensures { PutsOnce }
 {}
 
-/// One exchange at a time: while one is open, Delivery begins no other; and whatever follows a row changes nothing of the session, or
-/// first ends the exchange that is open.
+/// One exchange at a time: while one is open, Delivery begins no other; and whatever follows a row
+/// changes nothing of the session, or first ends the exchange that is open.
 pub fn one_exchange()
     ensures { OneExchange }
 {}
@@ -48,8 +50,8 @@ pub fn tick_is_quiet()
     ensures { TickIsQuiet }
 {}
 
-/// A tick that has nothing to do makes, notes and sends nothing; and where a tick of a moment has nothing to do, none of a
-/// moment before it has, as long as nothing changes.
+/// A tick that has nothing to do makes, notes and sends nothing; and where a tick of a moment has
+/// nothing to do, none of a moment before it has, as long as nothing changes.
 pub fn idle_lasts()
     ensures nothing { (g advertise : ℕ) (field : List Addr) (predefined : Entries) (seen : Seen)
         (local : Local) (now : ℕ) → is_idle g advertise field seen local now ≡ true
@@ -59,14 +61,16 @@ pub fn idle_lasts()
         → is_idle g advertise field seen local earlier ≡ true }
 {}
 
-/// What is due with a client is settled when a tick has done it: nothing is due with that client any more at the same moment.
+/// What is due with a client is settled when a tick has done it: nothing is due with that client
+/// any more at the same moment.
 pub fn tick_settles()
     ensures { TickSettles }
 {}
 
-/// Ticks of one moment come to an end. Where the set of a gateway is flush and has n clients, at most (n + 1) * (n + 1) ticks of one
-/// moment do something, however many there are; so behind that many, those that are refused not counted, there is nothing to do.
-/// Once there is nothing to do, there is nothing to do behind more ticks of the moment, and nothing is due with any client.
+/// Ticks of one moment come to an end. Where the set of a gateway is flush and has n clients, at
+/// most (n + 1) * (n + 1) ticks of one moment do something, however many there are; so behind that
+/// many, those that are refused not counted, there is nothing to do. Once there is nothing to do,
+/// there is nothing to do behind more ticks of the moment, and nothing is due with any client.
 pub fn ticks_end()
     ensures bound { (g advertise : ℕ) (field : List Addr) (predefined : Entries) (now : ℕ)
         (S : List Op) (local : Local) (ticks : List Ticked) → AreFlush g S
@@ -90,9 +94,9 @@ pub fn ticks_end()
         → due_with g (seen_of S) local now c ≡ None }
 {}
 
-/// The laws of `sn_flow` hold of every step and of every tick: each of their plans is the plan of a draft with at most one message
-/// a client. So no step loses a message but by an acknowledgement of its own, and a gateway whose set is flush never refuses for a
-/// conflict what it made itself.
+/// The laws of `sn_flow` hold of every step and of every tick: each of their plans is the plan of a
+/// draft with at most one message a client. So no step loses a message but by an acknowledgement of
+/// its own, and a gateway whose set is flush never refuses for a conflict what it made itself.
 pub fn every_step()
     ensures steps { (g : ℕ) (predefined : Entries) (S : List Op) (local : Local) (a : Addr)
         (frame : Frame) (now : ℕ) (plan : Plan) → step g predefined (seen_of S) local a frame now

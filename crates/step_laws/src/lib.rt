@@ -1,7 +1,8 @@
 //! Laws of deliveries, of publications and of time: nothing that runs is built on them.
 //!
-//! Each function of `laws` does nothing; its contract is a law, proved for all sessions and messages. The definitions are in `specs/`:
-//! `Laws`, and `Ticks` (ticks of one moment, one after the other).
+//! Each function of `laws` does nothing; its contract is a law, proved for all sessions and
+//! messages. The definitions are in `specs/`: `Laws`, and `Ticks` (ticks of one moment, one after
+//! the other).
 #![tactic(auto)]
 
 mod laws;

@@ -27,7 +27,8 @@ pub(crate) fn print_outcome(text: &mut String, outcome: &Outcome) -> Result<(), 
     }
 }
 
-/// What became of the datagrams: by their numbers, or, where serving ended early, the calls of the history.
+/// What became of the datagrams: by their numbers, or, where serving ended early, the calls of the
+/// history.
 pub(crate) fn print_calls(
     alloc: Global,
     text: &mut String,

@@ -1,4 +1,5 @@
--- How a digest is worked out of what a replica hands out, and what is left of it by the digest of another.
+-- How a digest is worked out of what a replica hands out, and what is left of it by the digest of
+-- another.
 use Rattle.std.specs.Prelude.{◌≡◌, ℕ, ◌+◌, ◌-◌, ◌==◌, Bool, false, ◌&&◌, ◌||◌, if◌then◌else◌, nat_le, nat_lt, List, [], ◌∷◌, ◌++◌, map, filter, fold, Option, Some, None}
 use Rattle.std.specs.List.{filter_map}
 use Rattle.rep_op.specs.declared.op.Put.{Put}
@@ -21,7 +22,8 @@ use Rattle.rep_digest.specs.Answers.{entry_of, acknowledged_in, waiting_in, sees
 abbrev pub acknowledged_by : List ℕ → Op → Option Acknowledged
 acknowledged_by c (OfSession d stamp counter change) = None
 acknowledged_by c (OfPut d put) = None
-acknowledged_by c (Ack d origin first last) = if same_client c d then Some (record { origin = origin; first = first; last = last }) else None
+acknowledged_by c (Ack d origin first last) =
+    if same_client c d then Some (record { origin = origin; first = first; last = last }) else None
 
 abbrev pub group : List Op → List ℕ → List Acknowledged
 group W c = filter_map (acknowledged_by c) W
@@ -60,7 +62,8 @@ drafted_origins acks pending = filter has_ranges (map (drafted acks pending) (nu
 
 -- what some acknowledgements and messages say
 abbrev pub AreDrafted : List OriginEntry → Type 0
-AreDrafted origins = (acks : List Acknowledged) × (pending : List Put) × (origins ≡ drafted_origins acks pending)
+AreDrafted origins =
+    (acks : List Acknowledged) × (pending : List Put) × (origins ≡ drafted_origins acks pending)
 
 abbrev pub drafted_entry : List ℕ → ClientView → List Acknowledged → ClientEntry
 drafted_entry c view acks = record {
@@ -114,9 +117,13 @@ ack_of c origin r = Ack c origin r.0 r.1
 
 -- what an entry leaves of an operation
 abbrev pub left_of : Option ClientEntry → Op → List Op
-left_of entry (OfSession c stamp counter change) = if sees entry (stamp, counter) then [] else OfSession c stamp counter change ∷ []
-left_of entry (OfPut c put) = if in_ranges put.seq (waiting_in put.origin entry) || in_ranges put.seq (acknowledged_in put.origin entry) then [] else OfPut c put ∷ []
-left_of entry (Ack c origin first last) = map (ack_of c origin) (outside (first, last) (acknowledged_in origin entry))
+left_of entry (OfSession c stamp counter change) =
+    if sees entry (stamp, counter) then [] else OfSession c stamp counter change ∷ []
+left_of entry (OfPut c put) =
+    if in_ranges put.seq (waiting_in put.origin entry)
+    || in_ranges put.seq (acknowledged_in put.origin entry) then [] else OfPut c put ∷ []
+left_of entry (Ack c origin first last) =
+    map (ack_of c origin) (outside (first, last) (acknowledged_in origin entry))
 
 -- what a digest leaves of an operation
 abbrev pub left_by : List ClientEntry → Op → List Op

@@ -23,4 +23,5 @@ IsGap sought (a ∷ rest) (suc i) = (sought a ≡ Less) × IsGap sought rest i
 -- what a search for it answers: the place where it stands, or else the one where it would go
 abbrev pub IsPlace : {E : Type 0} → (E → Ordering) → List E → Result ℕ ℕ → Type 0
 IsPlace sought entries result =
-    MatchResult result (λ at. (at < length entries) × IsAt sought entries at) (λ at. (at ≤ length entries) × IsGap sought entries at)
+    MatchResult result (λ at. (at < length entries) × IsAt sought entries at)
+      (λ at. (at ≤ length entries) × IsGap sought entries at)
