@@ -112,8 +112,10 @@ impl Disk for FileDisk {
     ghost honest = { ⊥ };
 
     ghost slots = { λ _.
-          record { first = record { synced = []; unsynced = [] };
-            second = record { synced = []; unsynced = [] } } };
+        record {
+          first = record { synced = []; unsynced = [] };
+          second = record { synced = []; unsynced = [] };
+        } };
 
     ghost failures = { λ disk. disk.failures.count };
 

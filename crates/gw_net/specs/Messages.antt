@@ -56,4 +56,4 @@ unfoldable pub message_at : ℕ → List ℕ → Option LinkMessage
 message_at kind body =
     if kind == 1 then hello_at body
     else (if kind == 2 then read_or_none (λ d. OfDigest d) (digest_reading body)
-      else read_or_none (λ d. OfDelta d) (delta_reading body))
+    else read_or_none (λ d. OfDelta d) (delta_reading body))

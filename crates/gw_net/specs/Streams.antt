@@ -25,7 +25,7 @@ sized_at kind (Err fault) = Ok None
 sized_at kind (Ok read) =
     if nat_lt max_octets read.0 then Err faults.TooLong
     else (if nat_lt (length read.1) read.0 then Ok None
-      else with_body (message_at kind (take read.0 read.1)) (drop read.0 read.1))
+    else with_body (message_at kind (take read.0 read.1)) (drop read.0 read.1))
 
 -- the kind is looked at first
 unfoldable pub front : List ℕ → Front
@@ -41,7 +41,7 @@ Ends rest (Some fault) = front rest ≡ Err fault
 -- the messages are the longest list whose spellings, one after the other, begin the stream; behind
 -- them stands the fault, or no whole message
 pub record IsRead (stream : List ℕ) (messages : List LinkMessage) (fault : Option LinkFault)
-      (rest : List ℕ) : Type 0 where
+    (rest : List ℕ) : Type 0 where
   pub all : AllByRecursion IsMessage messages
   pub parts : stream ≡ flat_map spelling messages ++ rest
   pub ends : Ends rest fault

@@ -96,7 +96,7 @@ impl<R: Replica, D: Disk + Drop> Node<R, D> {
         ensures restarts { D.honest → IfOk result (λ node. (S refused : List Op)
             → StandsFor config.gateway S refused (image (D.slots disk)) →
             HasTaken (S ++ ops_of (records config.gateway (image (D.slots disk)))) []
-              (state_of R.kept node)) }
+            (state_of R.kept node)) }
         // Where nothing was refused, that is the set itself.
         ensures durable { D.honest → IfOk result (λ node. (S : List Op)
             → StandsFor config.gateway S [] (image (D.slots disk))
@@ -123,11 +123,11 @@ impl<R: Replica, D: Disk + Drop> Node<R, D> {
         ensures quiet { D.honest → IsTrue (is_quiet (D.outlook disk)
             (is_fresh (image (D.slots disk)))) →
             IfOk result (λ node. D.starved (disk_of node) ≡ false
-              → D.outlook (disk_of node) ≡ D.outlook disk) }
+            → D.outlook (disk_of node) ≡ D.outlook disk) }
         ensures blameless { D.honest → IsTrue
             (is_quiet (D.outlook disk) (is_fresh (image (D.slots disk)))) →
             IfErr result (λ refused. D.starved refused.0 ≡ false
-              → (IsDiskFault (told refused.1) → ⊥) × (D.outlook refused.0 ≡ D.outlook disk)) }
+            → (IsDiskFault (told refused.1) → ⊥) × (D.outlook refused.0 ≡ D.outlook disk)) }
     {
         let Ok(replica) = R::empty(alloc) else {
             return Err((disk, NodeFault::Memory));
@@ -340,7 +340,7 @@ impl<R: Replica, D: Disk + Drop> Node<R, D> {
     /// The clients that the node knows, in ascending order.
     pub fn clients(&self, alloc: Global) -> Result<Vec<ClientId>, NodeFault>
         ensures ok { IfOk result
-              (λ all. all.items ≡ views.clients (state_of R.kept self.now).kept) }
+            (λ all. all.items ≡ views.clients (state_of R.kept self.now).kept) }
         ensures err { IfErr result (λ fault. fault ≡ faults.Memory) }
     {
         match self.replica.clients(alloc) {

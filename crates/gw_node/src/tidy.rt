@@ -31,7 +31,7 @@ fn is_left<R: Replica>(gateway: u8, replica: &R, dialogs: &Dialogs, client: &Cli
 /// Whether the operation leaves the gateway all clients of which it knows an address or a timer.
 fn leaves_all<R: Replica>(gateway: u8, replica: &R, dialogs: &Dialogs, op: &Op) -> bool
     ensures { result
-          ≡ spec.leaves_all gateway (seen_of (R.kept replica.now)) dialogs.now.local op.now }
+        ≡ spec.leaves_all gateway (seen_of (R.kept replica.now)) dialogs.now.local op.now }
 {
     match op {
         Op::Session {
@@ -74,7 +74,7 @@ fn leave_all<R: Replica>(gateway: u8, replica: &R, dialogs: &Dialogs, ops: &[Op]
 /// Whether these changes note nobody whom the gateway does not own.
 fn note_owned<R: Replica>(gateway: u8, replica: &R, changes: &[LocalChange]) -> bool
     ensures { result
-          ≡ list_all (spec.notes_owned gateway (seen_of (R.kept replica.now))) changes.now }
+        ≡ list_all (spec.notes_owned gateway (seen_of (R.kept replica.now))) changes.now }
 {
     changes
         .iter()

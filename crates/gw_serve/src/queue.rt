@@ -104,7 +104,7 @@ impl Lesson<Datagram, Hand> for Drains {
     ghost use Rattle.gw_serve.specs.inner.Queue.{numbers};
 
     ghost fact = { λ v items. (h : ℕ → ℕ)
-          → weigh h v.sent ≡ weigh h v.taken + weigh h (numbers items) };
+        → weigh h v.sent ≡ weigh h v.taken + weigh h (numbers items) };
 }
 
 /// The end at which numbers are sent.

@@ -78,7 +78,7 @@ pub trait Disk {
         ensures bytes { honest → from + length buffer.old
             ≤ length (bytes_of (at (slots self.old) slot)) →
             OnOk result (buffer.new
-              ≡ take (length buffer.old) (drop from (bytes_of (at (slots self.old) slot)))) };
+            ≡ take (length buffer.old) (drop from (bytes_of (at (slots self.old) slot)))) };
 
     /// Adds bytes at the end of a slot. On an error the first `written` of them went out.
     fn append(&mut self, slot: Slot, bytes: &[u8]) -> Result<(), Short>
@@ -90,12 +90,12 @@ pub trait Disk {
         // is.
         ensures wanting { starved self.old ≡ false → starved self.new ≡ true →
             IsWanting result (slots self.old) (slots self.new) (outlook self.old)
-              (outlook self.new) }
+            (outlook self.new) }
         // Where memory was refused before, the call goes as arranged, or it is refused again.
         ensures again { starved self.old ≡ true →
             AppendsAs (outlook self.old) (length bytes.now) result (outlook self.new)
             ⊎ IsWanting result (slots self.old) (slots self.new) (outlook self.old)
-              (outlook self.new) }
+            (outlook self.new) }
         ensures within { IfErr result (λ short. short.written ≤ length bytes.now) }
         ensures ok { honest → OnOk result (slots self.new ≡ replaced (slots self.old) slot
             (appended (at (slots self.old) slot) bytes.now)) }

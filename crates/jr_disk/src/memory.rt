@@ -27,8 +27,10 @@ impl Model for MemorySlot {
 
     ghost Value = { SlotBytes };
 
-    ghost view = { λ s. record { synced = take s.synced s.bytes.items;
-          unsynced = drop s.synced s.bytes.items } };
+    ghost view = { λ s. record {
+      synced = take s.synced s.bytes.items;
+      unsynced = drop s.synced s.bytes.items;
+    } };
 
     ghost invariant = { λ s. s.synced ≤ length s.bytes.items };
 }
@@ -155,8 +157,12 @@ impl Model for MemoryDisk {
 
     ghost Value = { MemoryState };
 
-    ghost view = { λ d. record { slots = d.slots; plan = d.plan; starved = d.starved;
-          failures = d.failures.count } };
+    ghost view = { λ d. record {
+      slots = d.slots;
+      plan = d.plan;
+      starved = d.starved;
+      failures = d.failures.count;
+    } };
 }
 
 impl MemoryDisk {

@@ -81,11 +81,11 @@ impl<D: Disk + Drop> Journal<D> {
         ensures quiet { D.honest → IsTrue (is_quiet (D.outlook disk)
             (is_fresh (image (D.slots disk)))) →
             IfOk result (λ made. D.starved (disk_of made.0) ≡ false
-              → D.outlook (disk_of made.0) ≡ D.outlook disk) }
+            → D.outlook (disk_of made.0) ≡ D.outlook disk) }
         ensures blameless { D.honest → IsTrue
             (is_quiet (D.outlook disk) (is_fresh (image (D.slots disk)))) →
             IfErr result (λ refused. D.starved refused.0 ≡ false
-              → (refused.1 ≢ JournalFault.Disk) × (D.outlook refused.0 ≡ D.outlook disk)) }
+            → (refused.1 ≢ JournalFault.Disk) × (D.outlook refused.0 ≡ D.outlook disk)) }
     {
         let mut disk = disk;
         match recover(alloc, &mut disk, gateway) {
@@ -202,8 +202,8 @@ impl<D: Disk + Drop> Journal<D> {
             → D.starved (disk_of self.new) ≡ true }
         ensures exact { D.honest → OnOk result (D.slots (disk_of self.new) ≡
             after_append None (emptied (D.slots (disk_of self.old)) (spec.other (slot_of self.old)))
-              (spec.other (slot_of self.old))
-              (base_bytes (gateway_of self.old) (generation_of self.old + 1) base.now)) }
+            (spec.other (slot_of self.old))
+            (base_bytes (gateway_of self.old) (generation_of self.old + 1) base.now)) }
         // After it every crash leaves the base and nothing else.
         ensures durable { D.honest → OnOk result
             (Leaves (gateway_of self.old) (D.slots (disk_of self.new)) base.now) }
@@ -214,10 +214,10 @@ impl<D: Disk + Drop> Journal<D> {
         // Where it is known which failure is arranged, so are the outcome and the slots.
         ensures known { D.honest → D.starved (disk_of self.new) ≡ false → IsTried result →
             AppendedAs (D.outlook (disk_of self.old))
-              (emptied (D.slots (disk_of self.old)) (spec.other (slot_of self.old)))
-              (spec.other (slot_of self.old))
-              (base_bytes (gateway_of self.old) (generation_of self.old + 1) base.now) result
-              (D.slots (disk_of self.new)) (D.outlook (disk_of self.new)) }
+            (emptied (D.slots (disk_of self.old)) (spec.other (slot_of self.old)))
+            (spec.other (slot_of self.old))
+            (base_bytes (gateway_of self.old) (generation_of self.old + 1) base.now) result
+            (D.slots (disk_of self.new)) (D.outlook (disk_of self.new)) }
     {
         if self.is_halted() {
             return Err(JournalFault::Halted);

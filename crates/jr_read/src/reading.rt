@@ -156,7 +156,7 @@ pub fn read(
     // Each record stands at its place in the slot that is read.
     ensures places { IfOk result (λ reading.
         ArePlaced (octets_in (slots_of first.now second.now) reading.slot) reading.places.items
-          reading.records.items) }
+        reading.records.items) }
     ensures whole { IfOk result (λ reading.
         reading.whole
         ≡ length (bytes_of (at (recovered gateway (slots_of first.now second.now)) reading.slot))) }

@@ -39,8 +39,12 @@ origin_entries c S = filter has_ranges (map (origin_entry c S) (numbers_from 1 2
 -- gap, and its messages
 abbrev pub client_entry : List Op → List ℕ → ClientEntry
 client_entry S c =
-    record { client = c; stamp = visible c S; prefix = length (history c S);
-      origins = origin_entries c S }
+    record {
+      client = c;
+      stamp = visible c S;
+      prefix = length (history c S);
+      origins = origin_entries c S;
+    }
 
 -- an entry for each client of the set, in ascending order
 abbrev pub digest : List Op → List ClientEntry

@@ -25,7 +25,7 @@ origin_of x = record { origin = x.0; acknowledged = x.1.0; waiting = x.1.1 }
 unfoldable pub origin_at : Reader OriginEntry
 origin_at =
     ranged has_ranges (made origin_of
-      (both (ranged is_counted octet_at) (both ranges_at ranges_at)))
+    (both (ranged is_counted octet_at) (both ranges_at ranges_at)))
 
 -- epoch, gateway and prefix are all 0, or none of them is
 abbrev pub is_seen : ℕ × (ℕ × ℕ) → Bool

@@ -143,8 +143,8 @@ fn add_left_by(
 fn covers(entry: &ClientEntry, origin: u8, seq: u64) -> bool
     requires { IsEntry entry.now }
     ensures { result
-          ≡ (range_list.in_ranges seq (spec.waiting_in origin (Some entry.now))
-            || range_list.in_ranges seq
+        ≡ (range_list.in_ranges seq (spec.waiting_in origin (Some entry.now))
+        || range_list.in_ranges seq
         (spec.acknowledged_in origin (Some entry.now))) }
 {
     in_ranges(seq, waiting_in(entry, origin)) || in_ranges(seq, acknowledged_in(entry, origin))

@@ -103,7 +103,7 @@ fn note_range(
     requires { IsStrictlySortedBy client_cmp clients.now }
     ensures { (W : List Op) → groups.old.items ≡ spec.groups clients.now W
         → OnOk result (groups.new.items
-          ≡ spec.groups clients.now (W ++ OfAck client.now range.origin
+        ≡ spec.groups clients.now (W ++ OfAck client.now range.origin
         range.first range.last ∷ [])) }
 {
     match place(clients, client) {

@@ -74,7 +74,7 @@ fn entries_of<R: Replica>(
     requires { length groups.now ≡ length clients.now }
     ensures { (W : List Op) → groups.now ≡ spec.groups clients.now W
         → IfOk result (λ entries. entries.items
-          ≡ map (λ c. drafted_entry c (view c (R.kept replica.now)) (group W c)) clients.now) }
+        ≡ map (λ c. drafted_entry c (view c (R.kept replica.now)) (group W c)) clients.now) }
 {
     let mut entries = Vec::with_capacity(alloc, clients.len())?;
     for i in 0..clients.len() {

@@ -75,7 +75,7 @@ impl Acks {
         ensures covers { OnOk result ((name : ℕ × ℕ)
             → list_any (covers name) (ranges_in self.new)
             ≡ (list_any (covers name) (ranges_in self.old)
-              || covers name (origin, (first, last)))) }
+            || covers name (origin, (first, last)))) }
     {
         let more = with_range(alloc, (first, last), self.numbers(origin))?;
         self.origins.insert(origin, more)?;

@@ -119,7 +119,7 @@ impl Log {
     pub fn count_parked(&self, known: &Known) -> Result<usize, NoMemory>
         ensures { IfOk result (λ count. count
             ≡ count_by (waits self.now.stamp self.now.prefix)
-              (keys_of (all_of known.now self.now))) }
+            (keys_of (all_of known.now self.now))) }
     {
         let first = count_waiting(self.left(known), self.stamp, self.prefix);
         let more = count_waiting(self.more.as_slice(), self.stamp, self.prefix);

@@ -18,7 +18,7 @@ NoneAsks topic S cs = AllByRecursion (λ c. is_subscribed topic (view c S) ≡ f
 -- of the clients from a place on, none asks for the topic before this one, which is followed by
 -- those behind it
 pub record IsCandidate (topic : List ℕ) (S : List Op) (place behind : ℕ) (c : List ℕ)
-      (seen : ClientView) : Type 0 where
+    (seen : ClientView) : Type 0 where
   pub passed : List (List ℕ)
   pub stands : drop place (clients S) ≡ passed ++ c ∷ drop behind (clients S)
   pub none_asks : NoneAsks topic S passed

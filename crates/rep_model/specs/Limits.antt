@@ -28,7 +28,7 @@ is_parked seen prefix e = not (is_below e.0.0 seen) && not (is_in_prefix seen pr
 abbrev pub parked : List ℕ → List Op → List ((Stamp × ℕ) × SessionOp)
 parked c S =
     filter (is_parked (visible c S) (length (history c S)))
-      (in_order operation_cmp (operations c S))
+    (in_order operation_cmp (operations c S))
 
 -- a range of acknowledgements of the client and the origin
 abbrev pub range_of : List ℕ → ℕ → Op → Option (ℕ × ℕ)

@@ -84,8 +84,12 @@ pending c S = map (λ e. e.1) (in_order put_cmp (unacknowledged c S))
 -- the view of a client
 abbrev pub view : List ℕ → List Op → ClientView
 view c S =
-    record { stamp = visible c S; prefix = length (history c S); session = session_of (history c S);
-      pending = pending c S }
+    record {
+      stamp = visible c S;
+      prefix = length (history c S);
+      session = session_of (history c S);
+      pending = pending c S;
+    }
 
 -- the view of a client that no operation names
 abbrev pub unseen : ClientView

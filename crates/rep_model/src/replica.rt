@@ -87,7 +87,7 @@ pub trait Replica: Drop {
         ensures { MatchOption result
             (NoneAsks topic.now (kept self.now) (drop place (clients (kept self.now))))
             (λ found. IsCandidate topic.now
-              (kept self.now) place found.0 found.1.now found.2.now) };
+            (kept self.now) place found.0 found.1.now found.2.now) };
 
     /// The epoch of the client's next Take; nothing after the last.
     fn next_epoch(&self, client: &ClientId) -> Option<u64>

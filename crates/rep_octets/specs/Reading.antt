@@ -89,7 +89,7 @@ client_at = sized_at (λ n. nat_le 1 n && nat_le n MAX_CLIENT_ID) octet_at
 unfoldable pub topic_at : Reader (List ℕ)
 topic_at =
     ranged (λ name. not (has_wildcard name))
-      (sized_at (λ n. nat_le 1 n && nat_le n MAX_TOPIC) (number_at w16))
+    (sized_at (λ n. nat_le 1 n && nat_le n MAX_TOPIC) (number_at w16))
 
 unfoldable pub body_at : Reader (List ℕ)
 body_at = sized_at (λ n. nat_le n MAX_MESSAGE) (number_at w16)
@@ -103,8 +103,8 @@ abbrev pub presence_of : ℕ → Presence
 presence_of n =
     if n == 0 then presences.Active
     else (if n == 1 then presences.Asleep
-      else (if n == 2 then presences.Awake
-        else (if n == 3 then presences.Disconnected else presences.Lost)))
+    else (if n == 2 then presences.Awake
+    else (if n == 3 then presences.Disconnected else presences.Lost)))
 
 unfoldable pub presence_at : Reader Presence
 presence_at = made presence_of (ranged (λ n. nat_le n 4) octet_at)
@@ -113,7 +113,7 @@ presence_at = made presence_of (ranged (λ n. nat_le n 4) octet_at)
 abbrev pub option_at : {A : Type 0} → Reader A → Reader (Option A)
 option_at read bytes =
     flag_at bytes >>= λ flag.
-      if flag.0 then (read flag.1 >>= λ x. Ok (Some x.0, x.1)) else Ok (None, flag.1)
+    if flag.0 then (read flag.1 >>= λ x. Ok (Some x.0, x.1)) else Ok (None, flag.1)
 
 -- so many values, behind those that were read
 abbrev pub many_at : {A : Type 0} → Reader A → ℕ → List A → Reader (List A)
@@ -135,7 +135,7 @@ table_at cmp read = ranged (is_ascending cmp) (counted_at read)
 unfoldable pub filter_at : Reader (List ℕ)
 filter_at =
     ranged (λ name. wildcards_stand_alone (levels name))
-      (sized_at (λ n. nat_le 1 n && nat_le n MAX_TOPIC) (number_at w16))
+    (sized_at (λ n. nat_le 1 n && nat_le n MAX_TOPIC) (number_at w16))
 
 unfoldable pub qos_at : Reader ℕ
 qos_at = ranged is_qos octet_at
@@ -177,7 +177,7 @@ exchange_of x = record { origin = x.0; seq = x.1.0; msg_id = x.1.1.0; phase = x.
 unfoldable pub exchange_at : Reader Outbound
 exchange_at =
     made exchange_of (both (ranged is_counted octet_at)
-      (both (ranged is_counted (number_at w64)) (both (number_at w16) phase_at)))
+    (both (ranged is_counted (number_at w64)) (both (number_at w16) phase_at)))
 
 unfoldable pub topics_at : Reader (List TopicEntry)
 topics_at = table_at topic_cmp entry_at
@@ -266,19 +266,24 @@ session_op_of x = OfSession x.0 (record { epoch = x.1.0; gateway = x.1.1.0 }) x.
 unfoldable pub session_op_at : Reader Op
 session_op_at =
     made session_op_of (both client_at
-      (both (ranged is_counted (number_at w64))
-        (both (ranged is_counted octet_at) (by_first octet_at change_at))))
+    (both (ranged is_counted (number_at w64))
+    (both (ranged is_counted octet_at) (by_first octet_at change_at))))
 
 abbrev pub put_op_of : List ℕ × (ℕ × (ℕ × (List ℕ × (ℕ × List ℕ)))) → Op
 put_op_of x =
-    OfPut x.0 (record { origin = x.1.0; seq = x.1.1.0; topic = x.1.1.1.0; qos = x.1.1.1.1.0;
-      body = x.1.1.1.1.1 })
+    OfPut x.0 (record {
+      origin = x.1.0;
+      seq = x.1.1.0;
+      topic = x.1.1.1.0;
+      qos = x.1.1.1.1.0;
+      body = x.1.1.1.1.1;
+    })
 
 unfoldable pub put_op_at : Reader Op
 put_op_at =
     made put_op_of (both client_at
-      (both (ranged is_counted octet_at)
-        (both (ranged is_counted (number_at w64)) (both topic_at (both qos_at body_at)))))
+    (both (ranged is_counted octet_at)
+    (both (ranged is_counted (number_at w64)) (both topic_at (both qos_at body_at)))))
 
 abbrev pub ack_of : List ℕ × (ℕ × (ℕ × ℕ)) → Op
 ack_of x = Ack x.0 x.1.0 x.1.1.0 x.1.1.1
@@ -298,7 +303,7 @@ of_kind_at kind bytes =
 unfoldable pub op_at : Reader Op
 op_at bytes =
     ranged (λ kind. nat_le 1 kind && nat_le kind 3) octet_at bytes >>= λ kind.
-      of_kind_at kind.0 kind.1
+    of_kind_at kind.0 kind.1
 
 -- ---- what a function returned, against reading
 

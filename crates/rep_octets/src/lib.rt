@@ -23,7 +23,7 @@ mod write;
 mod write_session;
 
 pub use read::{
-    read_client, read_counted_eight, read_counted_octet, read_eight, read_four, read_octet, read_op,
-    read_two,
+    read_client, read_counted_eight, read_counted_octet, read_eight, read_four, read_octet,
+    read_op, read_two,
 };
 pub use write::{write_client, write_op};

@@ -26,16 +26,16 @@ unfoldable pub listed_at : {A : Type 0} → Reader A → (List A → A → Bool)
 listed_at read follows zero front bytes = Ok (front, bytes)
 listed_at read follows (suc n) front bytes =
     read bytes >>= λ x.
-      if follows front x.0 then listed_at read follows n (front ++ x.0 ∷ []) x.1
-      else Err faults.Order
+    if follows front x.0 then listed_at read follows n (front ++ x.0 ∷ []) x.1
+    else Err faults.Order
 
 -- the version, the count and the values
 unfoldable pub text_at : {A : Type 0} → Reader A → (List A → A → Bool) → Reader (List A)
 text_at read follows bytes =
     octet_at bytes >>= λ version.
-      if version.0 == 1
-      then (number_at w32 version.1 >>= λ count. listed_at read follows count.0 [] count.1)
-      else Err faults.Version
+    if version.0 == 1
+    then (number_at w32 version.1 >>= λ count. listed_at read follows count.0 [] count.1)
+    else Err faults.Version
 
 -- a text, and nothing behind it
 unfoldable pub whole_at : {A : Type 0} → Reader (List A) → List ℕ → Result (List A) OpsFault

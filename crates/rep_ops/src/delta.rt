@@ -41,7 +41,7 @@ impl Model for Delta {
     ghost view = { λ d. d.ops.items };
 
     ghost invariant = { λ d. IsDelta d.ops.items × IsWithinLimit d.ops.items
-          × AreValues d.ops.items };
+        × AreValues d.ops.items };
 }
 
 impl Delta {

@@ -47,7 +47,7 @@ fn add_to_group(
     ensures { (D : List Op)
         → IsGrown (rows_of table.now.entries) D (groups_of groups.old.entries)
         → OnOk result (IsGrown (rows_of table.now.entries) (D ++ op ∷ [])
-          (groups_of groups.new.entries)) }
+        (groups_of groups.new.entries)) }
 {
     let client = op.client().copied(alloc)?;
     let mut ops = take_group(alloc, table, groups, &client)?;

@@ -73,7 +73,7 @@ impl Replica for Plain {
     ghost after = { λ rows staged. flat (moved rows staged.0) };
 
     ghost ready = { λ rows staged. HaveRoom rows staged.0
-          × (staged.1 ≡ count_named (moved rows staged.0)) };
+        × (staged.1 ≡ count_named (moved rows staged.0)) };
 
     fn empty(alloc: Global) -> Result<Plain, TakeFault> {
         Ok(Plain {

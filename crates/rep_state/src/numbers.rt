@@ -30,7 +30,7 @@ pub(crate) fn last_seq(table: &Table, client: &ClientId, gateway: u8) -> u64
     requires { AreKept (by_client table.now.entries) }
     ensures { result
         ≡ largest (seq_of client.now gateway)
-          (own client.now (rows_of (by_client table.now.entries))) }
+        (own client.now (rows_of (by_client table.now.entries))) }
 {
     match entry_of(table, client.bytes()) {
         Some(entry) => greatest_seq(entry, gateway),

@@ -89,7 +89,7 @@ puback_put predefined s code put =
     if code == 0 then (if put.qos == 1 then done s put else nothing)
     else (if code == 1 then nothing
     else (if code == 2 then forgotten s put (entry_published predefined s put.topic)
-      else done s put))
+    else done s put))
 
 abbrev pub puback_of : Entries → Session → ℕ → Option Put → Drafted
 puback_of predefined s code None = nothing
@@ -109,7 +109,7 @@ pubrel_sent peer msg_id d =
 abbrev pub released : Session → Exchange → Drafted
 released s x =
     changed (Outbound (Some (record x { phase = Released })) s.next_id)
-      (acked (message_of x) nothing)
+    (acked (message_of x) nothing)
 
 abbrev pub is_at_two : Option Put → Bool
 is_at_two None = false

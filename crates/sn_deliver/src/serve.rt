@@ -74,7 +74,7 @@ fn publish_connected<R: Replica>(
 ) -> Result<Row, NoMemory>
     ensures { IfOk result (λ row. row ≡ publish_of config.now.predefined
         (seen_of (R.kept replica.now)) from
-          (bindings.client_at from dialogs.now.local.bindings) flags.bits
+        (bindings.client_at from dialogs.now.local.bindings) flags.bits
         topic msg_id body.now now) }
 {
     match dialogs.client_at(from) {

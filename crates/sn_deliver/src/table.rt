@@ -13,9 +13,7 @@ use super::waking::{client_id, wake};
 use octets::NoMemory;
 use rep_model::Replica;
 use sn_exchange::deliver_next;
-use sn_flow::{
-    connect, disconnect, will_msg, will_msg_update, will_topic, will_topic_update,
-};
+use sn_flow::{connect, disconnect, will_msg, will_msg_update, will_topic, will_topic_update};
 use sn_frame::{Flags, Frame};
 use sn_local::{Addr, Config, Dialogs, StepFault};
 use sn_plan::{Plan, Row, other};

@@ -36,8 +36,12 @@ begun peer s put phase frame d =
     moved (Sent peer.client peer.moment)
     (sent peer.address frame
     (changed (Outbound (Some
-      (record { origin = put.origin; seq = put.seq; msg_id = s.next_id;
-        phase = phase })) (next_after s.next_id)) d))
+    (record {
+      origin = put.origin;
+      seq = put.seq;
+      msg_id = s.next_id;
+      phase = phase;
+    })) (next_after s.next_id)) d))
 
 -- a new id of the name, which the client does not know yet
 abbrev pub fresh_id : List ℕ → ℕ → ToldId
@@ -55,9 +59,11 @@ id_to_tell s name = entry_or_fresh name (topic_named name s.topics) (free_id s.t
 -- a message whose topic needs registering; where no id is free it is acknowledged unsent
 abbrev pub register_first : Peer → Session → Put → Option ToldId → Drafted → Stop
 register_first peer s put None d = (false, acked (name_of put) d)
-register_first peer s put (Some told) d =
-    (true, begun peer s put Registering (frames.Register told.id s.next_id put.topic)
-      (changed_if told.change d))
+register_first peer s put (Some told) d = (
+  true,
+  begun peer s put Registering (frames.Register told.id s.next_id put.topic)
+      (changed_if told.change d),
+)
 
 -- a message whose topic has a form: at quality of service 0 it is sent and done with, else an
 -- exchange begins

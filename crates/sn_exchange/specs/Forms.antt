@@ -39,7 +39,7 @@ predefined_form predefined name = option_map by_predefined (least (ids_of name p
 abbrev pub form_of : Entries → Session → List ℕ → Option Form
 form_of predefined s name =
     option_or (known_form (topic_named name s.topics))
-      (option_or (short_form name) (predefined_form predefined name))
+    (option_or (short_form name) (predefined_form predefined name))
 
 -- the same once the PUBLISH was sent: also by the id of an entry that the client may have forgotten
 -- since
@@ -66,4 +66,4 @@ dup_bit again = if again then 128 else 0
 abbrev pub publication : Bool → Put → ℕ → Form → Frame
 publication again put msg_id form =
     frames.Publish (record { bits = dup_bit again + qos_bits put.qos + kind_bits form.kind })
-      form.topic msg_id put.body
+    form.topic msg_id put.body

@@ -202,7 +202,7 @@ fn resend_if(
     draft: &mut Draft,
 ) -> Result<(), NoMemory>
     ensures { OnOk result
-          (draft.new ≡ spec.resend_if predefined.now peer.now session.now pending.now
+        (draft.new ≡ spec.resend_if predefined.now peer.now session.now pending.now
         exchange draft.old) }
 {
     match exchange {

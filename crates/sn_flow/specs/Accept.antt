@@ -38,8 +38,12 @@ going_on false (Some s) = unknowing s
 -- an accepted client is Active; the rest is as it asked
 abbrev pub as_asked : Request → GivenWill → Session → Session
 as_asked request given s =
-    record s { presence = Active; clean = request.clean; duration = request.duration;
-      will = will_after given s.will }
+    record s {
+      presence = Active;
+      clean = request.clean;
+      duration = request.duration;
+      will = will_after given s.will;
+    }
 
 -- the session that an accepted client has
 abbrev pub accepted : Request → GivenWill → Option Session → Session

@@ -43,7 +43,7 @@ refusal_of seen dialogs a c flags protocol =
 abbrev pub ask_topic : Request → ℕ → Drafted
 ask_topic request now =
     sent request.address frames.WillTopicReq
-      (moved (Ask (record { request = request; begun = now; awaited = Topic })) nothing)
+    (moved (Ask (record { request = request; begun = now; awaited = Topic })) nothing)
 
 -- a CONNECT that is not refused: without a will it is accepted, and the session keeps the will that
 -- it has
@@ -62,13 +62,13 @@ abbrev pub connect : Seen → Local → Addr → ℕ → ℕ → ℕ → List �
 connect seen local a flags protocol duration c now =
     heard_row (client_at a local.bindings) now
     (connect_row (request_of a flags duration c) (has_bit flags 3) (seen.of c) now
-      (refusal_of seen local.dialogs a c flags protocol))
+    (refusal_of seen local.dialogs a c flags protocol))
 
 -- the client says good-bye: its session stays as it is
 abbrev pub leave : Addr → List ℕ → Session → Drafted
 leave a c s =
     sent a (frames.Disconnect None)
-      (moved (Unbind c) (changed (Presence Disconnected s.duration) nothing))
+    (moved (Unbind c) (changed (Presence Disconnected s.duration) nothing))
 
 -- the client falls asleep for a duration, and keeps its address
 abbrev pub fall_asleep : Addr → ℕ → Drafted

@@ -24,7 +24,7 @@ topic_from (Some name) (Some qos) retain =
 abbrev pub topic_asked : Will → Option WillTopic
 topic_asked will =
     topic_from (name_asked will.topic) (qos_asked (qos_of will.flags.bits))
-      (has_bit will.flags.bits 4)
+    (has_bit will.flags.bits 4)
 
 -- the will has this topic from now on, or is deleted
 abbrev pub topic_accepted : Addr → Option WillTopic → Drafted

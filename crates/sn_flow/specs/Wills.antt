@@ -37,7 +37,7 @@ not_supported = 3
 abbrev pub dismissed : Request → ℕ → Row
 dismissed request code =
     row_of Nothing request.client
-      (sent request.address (frames.ConnAck code) (moved (EndDialog request.address) nothing))
+    (sent request.address (frames.ConnAck code) (moved (EndDialog request.address) nothing))
 
 -- a dialog that ends with a connection, if there is room for the client still
 abbrev pub concluded : Seen → Request → GivenWill → ℕ → Row
@@ -50,7 +50,7 @@ abbrev pub ask_message : WillDialog → WillTopic → Row
 ask_message dialog topic =
     row_of Nothing dialog.request.client
     (sent dialog.request.address frames.WillMsgReq
-      (moved (Ask (record dialog { awaited = Message topic })) nothing))
+    (moved (Ask (record dialog { awaited = Message topic })) nothing))
 
 -- code 3, not supported, where the topic is no topic
 abbrev pub topic_given : WillDialog → Option WillTopic → Row

@@ -245,7 +245,7 @@ pub fn will_topic_update(
     now: u64,
 ) -> Result<Row, NoMemory>
     ensures { IfOk result
-          (λ row. row ≡ spec.will_topic_update dialogs.now.local from will.now now) }
+        (λ row. row ≡ spec.will_topic_update dialogs.now.local from will.now now) }
 {
     match dialogs.client_at(from) {
         None => turn_away(alloc, from),

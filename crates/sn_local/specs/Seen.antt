@@ -16,5 +16,10 @@ pub record Seen : Type 0 where
 
 abbrev pub seen_of : List Op → Seen
 seen_of S =
-    record { all = clients S; is_there = λ c. is_named c S; of = λ c. view c S;
-      epoch = λ c. next_epoch c S; seq = λ c g. next_seq c g S }
+    record {
+      all = clients S;
+      is_there = λ c. is_named c S;
+      of = λ c. view c S;
+      epoch = λ c. next_epoch c S;
+      seq = λ c g. next_seq c g S;
+    }

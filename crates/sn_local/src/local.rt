@@ -133,8 +133,12 @@ impl Model for Dialogs {
     ghost Value = { Roomy };
 
     ghost view = { λ d. record {
-      local = record { bindings = d.bindings.items; dialogs = d.dialogs.items;
-        timers = d.timers.items; advertised = d.advertised };
+      local = record {
+        bindings = d.bindings.items;
+        dialogs = d.dialogs.items;
+        timers = d.timers.items;
+        advertised = d.advertised;
+      };
       room = record {
         bindings = vec_capacity d.bindings - vec_len d.bindings;
         dialogs = vec_capacity d.dialogs - vec_len d.dialogs;

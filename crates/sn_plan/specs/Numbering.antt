@@ -80,8 +80,13 @@ epoch_of (Some stamp) = stamp.epoch
 -- at the start of a step
 abbrev pub start_of : ℕ → ClientView → Option ℕ → Written
 start_of g v next =
-    record { epoch = epoch_of v.stamp; counter = own_counter g v.prefix v.stamp; next = next;
-      session = unwrap_or v.session empty_session; ops = [] }
+    record {
+      epoch = epoch_of v.stamp;
+      counter = own_counter g v.prefix v.stamp;
+      next = next;
+      session = unwrap_or v.session empty_session;
+      ops = [];
+    }
 
 -- a message under a sequence number of the gateway's
 abbrev pub put_at_seq : ℕ → NewPut → ℕ → Op

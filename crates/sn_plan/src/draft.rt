@@ -44,8 +44,13 @@ impl Model for Draft {
 
     ghost Value = { Drafted };
 
-    ghost view = { λ d. record { changes = d.changes.items; acks = d.acks.items;
-          puts = d.puts.items; sends = d.sends.items; local = d.local.items } };
+    ghost view = { λ d. record {
+      changes = d.changes.items;
+      acks = d.acks.items;
+      puts = d.puts.items;
+      sends = d.sends.items;
+      local = d.local.items;
+    } };
 }
 
 impl Draft {

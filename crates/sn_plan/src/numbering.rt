@@ -35,8 +35,13 @@ impl Model for Writer {
 
     ghost Value = { Written };
 
-    ghost view = { λ w. record { epoch = w.epoch; counter = w.counter; next = w.next;
-          session = w.session; ops = w.ops.items } };
+    ghost view = { λ w. record {
+      epoch = w.epoch;
+      counter = w.counter;
+      next = w.next;
+      session = w.session;
+      ops = w.ops.items;
+    } };
 }
 
 /// Changes the session. An operation that finds its table full leaves it as it was.

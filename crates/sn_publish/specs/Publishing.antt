@@ -72,7 +72,7 @@ spread_twice seen a s topic msg_id body name =
     if is_received msg_id s.received then sent a (frames.PubRec msg_id) nothing
     else (if id_has_no_room msg_id s.received then sent a (frames.PubAck topic msg_id 1) nothing
     else sent a (frames.PubRec msg_id)
-      (changed (Received msg_id) (put_all (puts_for seen name 2 body) nothing)))
+    (changed (Received msg_id) (put_all (puts_for seen name 2 body) nothing)))
 
 abbrev pub publish_at : Seen → Addr → Session → ℕ → ℕ → List ℕ → List ℕ → Qos → Drafted
 publish_at seen a s topic msg_id body name levels.Zero = spread seen name body
@@ -91,7 +91,7 @@ publish_meant seen a s topic msg_id body qos (Topic name) =
 abbrev pub publish : Entries → Seen → Addr → Session → ℕ → ℕ → ℕ → List ℕ → Drafted
 publish predefined seen a s bits topic msg_id body =
     publish_meant seen a s topic msg_id body (qos_of bits)
-      (publication_meant predefined s bits topic body)
+    (publication_meant predefined s bits topic body)
 
 abbrev pub spread_meant : Seen → List ℕ → Meant → Drafted
 spread_meant seen body (Refused code) = nothing

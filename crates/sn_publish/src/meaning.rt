@@ -47,7 +47,7 @@ fn by_entry(alloc: Global, session: &Session, id: u16) -> Result<Meant, NoMemory
 /// The topic of a short name.
 fn by_short(alloc: Global, topic: u16) -> Result<Meant, NoMemory>
     ensures { IfOk result
-          (λ meant. meant ≡ spec.named (asking.name_asked (spec.short_name topic))) }
+        (λ meant. meant ≡ spec.named (asking.name_asked (spec.short_name topic))) }
 {
     let octets = [(topic / 256) as u8, (topic % 256) as u8];
     match name_asked(alloc, &octets)? {
@@ -66,7 +66,7 @@ pub fn topic_meant(
     topic: u16,
 ) -> Result<Meant, NoMemory>
     ensures { IfOk result
-          (λ meant. meant ≡ spec.topic_meant predefined.now session.now kind topic) }
+        (λ meant. meant ≡ spec.topic_meant predefined.now session.now kind topic) }
 {
     match kind {
         TopicIdType::Normal => by_entry(alloc, session, topic),

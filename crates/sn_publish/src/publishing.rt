@@ -27,7 +27,7 @@ fn puts_draft<R: Replica>(
     body: &Message,
 ) -> Result<Draft, NoMemory>
     ensures { IfOk result
-          (λ draft. draft ≡ put_all (recipients.puts_for (seen_of (R.kept replica.now))
+        (λ draft. draft ≡ put_all (recipients.puts_for (seen_of (R.kept replica.now))
         name.now qos body.now) nothing) }
 {
     let puts = puts_for(alloc, replica, name, qos, body)?;

@@ -12,8 +12,17 @@ use Rattle.sn_session.specs.Wills.{with_will_topic, with_will_message}
 -- the session of a client of which nothing is known
 abbrev pub empty_session : Session
 empty_session =
-    record { presence = Active; clean = false; duration = 0; next_id = 1; topics = [];
-      subscriptions = []; will = None; received = []; outbound = None }
+    record {
+      presence = Active;
+      clean = false;
+      duration = 0;
+      next_id = 1;
+      topics = [];
+      subscriptions = [];
+      will = None;
+      received = [];
+      outbound = None;
+    }
 
 -- whether the operation finds the table full that it would make grow
 abbrev pub is_full : Session → SessionOp → Bool
@@ -34,11 +43,15 @@ changed session (Take taken) = taken
 changed session (SetPresence presence duration) =
     record session { presence = presence; duration = duration }
 changed session (Register id name known) =
-    record session { topics = with_topic
-      (record { id = id; name = name; known = known }) session.topics }
+    record session {
+      topics = with_topic
+          (record { id = id; name = name; known = known }) session.topics;
+    }
 changed session (Subscribe filter qos) =
-    record session { subscriptions = with_subscription
-      (record { filter = filter; qos = qos }) session.subscriptions }
+    record session {
+      subscriptions = with_subscription
+          (record { filter = filter; qos = qos }) session.subscriptions;
+    }
 changed session (Unsubscribe filter) =
     record session { subscriptions = without_filter filter session.subscriptions }
 changed session (WillTopic asked) = record session { will = with_will_topic asked session.will }

@@ -63,9 +63,9 @@ pub record IsLeastIdOf (name : List ℕ) (topics : List TopicEntry) (id : ℕ) :
 abbrev pub topic_eq : TopicEntry → TopicEntry → Bool
 topic_eq a b =
     eq_of_both (on (λ e. e.id) nat_eq)
-      (eq_of_both (on (λ e. e.name) (pointwise nat_eq)) (on (λ e. e.known) beq)) a b
+    (eq_of_both (on (λ e. e.name) (pointwise nat_eq)) (on (λ e. e.known) beq)) a b
 
 pub topic_equiv : IsEquivalence topic_eq
 topic_equiv =
     and_equiv (on_equiv (λ e. e.id) nat_eq_equiv)
-      (and_equiv (on_equiv (λ e. e.name) nat_list_eq_equiv) (on_equiv (λ e. e.known) bool_eq_equiv))
+    (and_equiv (on_equiv (λ e. e.name) nat_list_eq_equiv) (on_equiv (λ e. e.known) bool_eq_equiv))

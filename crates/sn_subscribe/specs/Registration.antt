@@ -14,8 +14,10 @@ use Rattle.sn_plan.specs.Drafts.{Drafted, nothing, changed_if, sent}
 -- the id of an entry of the name, which the client knows from now on
 abbrev pub entry_id : List ℕ → TopicEntry → NamedId
 entry_id name entry =
-    record { id = entry.id;
-      change = if entry.known then None else Some (Register entry.id name true) }
+    record {
+      id = entry.id;
+      change = if entry.known then None else Some (Register entry.id name true);
+    }
 
 -- a new id of the name
 abbrev pub new_id : List ℕ → ℕ → NamedId

@@ -93,4 +93,4 @@ unsubscribe_asked s (Topics filter) = unsubscribe_change s filter
 abbrev pub unsubscribe : Entries → Addr → Session → ℕ → ℕ → List ℕ → Drafted
 unsubscribe predefined a s bits msg_id field =
     sent a (frames.UnsubAck msg_id)
-      (changed_if (unsubscribe_asked s (topics_asked predefined (kind_of bits) field)) nothing)
+    (changed_if (unsubscribe_asked s (topics_asked predefined (kind_of bits) field)) nothing)

@@ -27,7 +27,7 @@ abbrev pub subscribe_of : Entries → Seen → Addr → Option (List ℕ) → �
 subscribe_of predefined seen a None bits msg_id field now = turned_away a
 subscribe_of predefined seen a (Some c) bits msg_id field now =
     heard_row (Some c) now
-      (row_of Delivery c (subscribe_draft predefined a (session_of seen c) bits msg_id field))
+    (row_of Delivery c (subscribe_draft predefined a (session_of seen c) bits msg_id field))
 
 -- SUBSCRIBE
 abbrev pub subscribe : Entries → Seen → Local → Addr → ℕ → ℕ → List ℕ → ℕ → Row
@@ -38,7 +38,7 @@ abbrev pub unsubscribe_of : Entries → Seen → Addr → Option (List ℕ) → 
 unsubscribe_of predefined seen a None bits msg_id field now = turned_away a
 unsubscribe_of predefined seen a (Some c) bits msg_id field now =
     heard_row (Some c) now
-      (row_of Delivery c (unsubscribe_draft predefined a (session_of seen c) bits msg_id field))
+    (row_of Delivery c (unsubscribe_draft predefined a (session_of seen c) bits msg_id field))
 
 -- UNSUBSCRIBE
 abbrev pub unsubscribe : Entries → Seen → Local → Addr → ℕ → ℕ → List ℕ → ℕ → Row

@@ -131,7 +131,7 @@ fn subscribe_to(
     qos: QosLevel,
 ) -> Result<Draft, NoMemory>
     ensures { IfOk result
-          (λ draft. draft ≡ spec.subscribe_to to session.now flags.bits msg_id field.now
+        (λ draft. draft ≡ spec.subscribe_to to session.now flags.bits msg_id field.now
         filter qos) }
 {
     if session.subscriptions.has_no_room(&filter) {

@@ -23,4 +23,4 @@ abbrev pub is_idle : ℕ → ℕ → List Addr → Seen → Local → ℕ → Bo
 is_idle g advertise field seen local now =
     not (may_advertise advertise field now local.advertised)
     && (not (list_any (is_old now) local.dialogs)
-      && not (list_any (asks g seen local now) seen.all))
+    && not (list_any (asks g seen local now) seen.all))

@@ -56,7 +56,7 @@ fn slash_at(octets: &[u8]) -> Option<usize>
 pub fn first_level(octets: &[u8]) -> (&[u8], Option<&[u8]>)
     ensures { MatchOption result.1 (levels octets.now ≡ result.0.now ∷ [])
         (λ rest. (length rest.now < length octets.now)
-          × (levels octets.now ≡ result.0.now ∷ levels rest.now)) }
+        × (levels octets.now ≡ result.0.now ∷ levels rest.now)) }
 {
     match slash_at(octets) {
         None => (octets, None),

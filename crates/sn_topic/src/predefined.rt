@@ -60,7 +60,7 @@ impl Predefined {
     pub fn id(&self, name: &TopicName) -> Option<u16>
         ensures rule { MatchOption result (ids_of name.now self.now ≡ [])
             (λ id. Contains (ids_of name.now self.now) id
-              × All (λ other. id ≤ other) (ids_of name.now self.now)) }
+            × All (λ other. id ≤ other) (ids_of name.now self.now)) }
         ensures value { result ≡ least (ids_of name.now self.now) }
     {
         let mut least = None;

@@ -61,7 +61,7 @@ IsOfOneDone predefined peer s pending sends name =
 abbrev pub DeliveryKeeps : Type 0
 DeliveryKeeps =
     (predefined : Entries) (peer : Peer) (s : Session) (pending : List Put) (d : Drafted)
-      (name : ℕ × ℕ)
+    (name : ℕ × ℕ)
     → Contains (deliver predefined peer s pending d).acks name
     → Contains d.acks name
     ⊎ IsOfOneDone predefined peer s pending (deliver predefined peer s pending d).sends name
@@ -97,26 +97,26 @@ EndsFirst before next_id after =
 -- beside it.
 pub record OneExchange : Type 0 where
   pub delivered : (predefined : Entries) (peer : Peer) (s : Session) (pending : List Put)
-        (d : Drafted) (x : Exchange)
+      (d : Drafted) (x : Exchange)
       → open_exchange (so_far s d) d.acks pending ≡ Some x
       → then_deliver predefined peer s pending d ≡ d
   pub followed : (predefined : Entries) (peer : Peer) (s : Session) (pending : List Put)
-        (d : Drafted) (follow : Follow) (x : Exchange)
+      (d : Drafted) (follow : Follow) (x : Exchange)
       → open_exchange (so_far s d) d.acks pending ≡ Some x
       → EndsFirst d.changes (so_far s d).next_id
-        (followed_by predefined peer s pending d follow).changes
+      (followed_by predefined peer s pending d follow).changes
 
 -- a PUBLISH that is sent again has DUP, and the message id of its exchange
 abbrev pub ResentWithDup : Type 0
 ResentWithDup =
     (predefined : Entries) (peer : Peer) (s : Session) (pending : List Put) (x : Exchange)
-      (put : Put) (form : Form) (d : Drafted)
+    (put : Put) (form : Form) (d : Drafted)
     → x.phase ≡ Published → put_left d.acks pending (message_of x) ≡ Some put
     → form_again predefined s put.topic ≡ Some form
     → (resend predefined peer s pending x d).sends
     ≡ (sent peer.address
-      (frames.Publish (record { bits = 128 + qos_bits put.qos + kind_bits form.kind }) form.topic
-        x.msg_id put.body) d).sends
+    (frames.Publish (record { bits = 128 + qos_bits put.qos + kind_bits form.kind }) form.topic
+    x.msg_id put.body) d).sends
 
 -- a plan that makes no operation and sends no frame
 abbrev pub IsQuiet : Plan → Type 0
@@ -126,7 +126,7 @@ IsQuiet plan = (plan.ops ≡ []) × (plan.sends ≡ [])
 abbrev pub TickIsQuiet : Type 0
 TickIsQuiet =
     (g advertise : ℕ) (field : List Addr) (predefined : Entries) (seen : Seen) (local : Local)
-      (now : ℕ)
+    (now : ℕ)
     → may_advertise advertise field now local.advertised ≡ false
     → first_due g seen local now seen.all ≡ None
     → (plan : Plan) × (tick g advertise field predefined seen local now ≡ Some plan) × IsQuiet plan
@@ -144,7 +144,7 @@ abbrev pub due_after : ℕ → List ℕ → Session → List Put → List Timer 
     → Option Due
 due_after now c s pending timers a d =
     due_session now (left d.acks pending) (timer_of c (timers_after timers d.local)) a
-      (Some (so_far s d))
+    (Some (so_far s d))
 
 -- what a tick does with a client behind what it did first
 abbrev pub due_draft : Entries → Seen → ℕ → List ℕ → Drafted → Due → Drafted
@@ -159,8 +159,8 @@ due_draft predefined seen now c d (Delivery a) =
 abbrev pub TickSettles : Type 0
 TickSettles =
     (predefined : Entries) (seen : Seen) (now : ℕ) (c : List ℕ) (timers : List Timer)
-      (a b : Option Addr) (d : Drafted) (reason : Due)
+    (a b : Option Addr) (d : Drafted) (reason : Due)
     → AreApart (seen.of c).pending → d.changes ≡ [] → d.acks ≡ []
     → due_after now c (session_of seen c) (seen.of c).pending timers a d ≡ Some reason
     → due_after now c (session_of seen c) (seen.of c).pending timers b
-      (due_draft predefined seen now c d reason) ≡ None
+    (due_draft predefined seen now c d reason) ≡ None

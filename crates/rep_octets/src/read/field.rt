@@ -76,7 +76,7 @@ pub fn read_eight(bytes: &[u8]) -> Result<(u64, &[u8]), OpsFault>
 /// A number of two octets that is not 0.
 pub fn read_counted_two(bytes: &[u8]) -> Result<(u16, &[u8]), OpsFault>
     ensures { Gives (λ x. (x.0, x.1.now)) result
-          (ranged spec.is_counted (number_at w16) bytes.now) }
+        (ranged spec.is_counted (number_at w16) bytes.now) }
 {
     let (number, rest) = read_two(bytes)?;
     if number == 0 {
@@ -88,7 +88,7 @@ pub fn read_counted_two(bytes: &[u8]) -> Result<(u16, &[u8]), OpsFault>
 /// A topic id that is not reserved.
 pub fn read_topic_id(bytes: &[u8]) -> Result<(u16, &[u8]), OpsFault>
     ensures { Gives (λ x. (x.0, x.1.now)) result
-          (ranged ranges.is_topic_id (number_at w16) bytes.now) }
+        (ranged ranges.is_topic_id (number_at w16) bytes.now) }
 {
     let (id, rest) = read_two(bytes)?;
     if !is_topic_id(id) {
@@ -100,7 +100,7 @@ pub fn read_topic_id(bytes: &[u8]) -> Result<(u16, &[u8]), OpsFault>
 /// A number of eight octets that is not 0.
 pub fn read_counted_eight(bytes: &[u8]) -> Result<(u64, &[u8]), OpsFault>
     ensures { Gives (λ x. (x.0, x.1.now)) result
-          (ranged spec.is_counted (number_at w64) bytes.now) }
+        (ranged spec.is_counted (number_at w64) bytes.now) }
 {
     let (number, rest) = read_eight(bytes)?;
     if number == 0 {

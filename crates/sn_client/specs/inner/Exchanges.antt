@@ -20,8 +20,12 @@ beginning frame awaited =
 -- a publication behind the registration of its topic's name
 abbrev pub registering : Publication → List ℕ → ℕ → Talk
 registering p name id =
-    record { awaited = waits.Registration id; pending = Some (frames.Register 0 id name);
-      planned = Some p; outcome = None }
+    record {
+      awaited = waits.Registration id;
+      pending = Some (frames.Register 0 id name);
+      planned = Some p;
+      outcome = None;
+    }
 
 -- a publication by the id of its topic
 abbrev pub frame_by_id : Publication → ℕ → Frame

@@ -24,4 +24,4 @@ IsGap sought (a ∷ rest) (suc i) = (sought a ≡ Less) × IsGap sought rest i
 abbrev pub IsPlace : {E : Type 0} → (E → Ordering) → List E → Result ℕ ℕ → Type 0
 IsPlace sought entries result =
     MatchResult result (λ at. (at < length entries) × IsAt sought entries at)
-      (λ at. (at ≤ length entries) × IsGap sought entries at)
+    (λ at. (at ≤ length entries) × IsGap sought entries at)
