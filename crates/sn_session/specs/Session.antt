@@ -4,9 +4,9 @@ use Rattle.sn_session.specs.declared.presence.Presence.TheVariants.{Active}
 use Rattle.sn_session.specs.declared.session.Session.{Session}
 use Rattle.sn_session.specs.declared.change.SessionOp.{SessionOp}
 use Rattle.sn_session.specs.declared.change.SessionOp.TheVariants.{Take, Presence as SetPresence, Register, Subscribe, Unsubscribe, WillTopic, WillMsg, Received, Released, Outbound}
-use Rattle.sn_session.specs.Topics.{with_topic, topic_has_no_room}
-use Rattle.sn_session.specs.Subscriptions.{with_subscription, without_filter, filter_has_no_room}
-use Rattle.sn_session.specs.Received.{with_received, without_received, id_has_no_room}
+use Rattle.sn_tables.specs.Topics.{with_topic, topic_has_no_room}
+use Rattle.sn_tables.specs.Subscriptions.{with_subscription, without_filter, filter_has_no_room}
+use Rattle.sn_tables.specs.Received.{with_received, without_received, id_has_no_room}
 use Rattle.sn_session.specs.Wills.{with_will_topic, with_will_message}
 
 -- the session of a client of which nothing is known

@@ -4,13 +4,12 @@ ghost use Rattle.std.specs.Prelude.{◌≡◌, ◌↔◌, IfOk, OnOk, OnErr, IsE
 ghost use Rattle.sn_session.specs.Session.{applied, is_full, is_take};
 
 use super::message::Message;
-use crate::fault::SessionFault;
 use crate::outbound::Outbound;
 use crate::presence::Presence;
-use crate::qos_level::QosLevel;
 use crate::session::Session;
 use crate::will::{WillTopic, set_message, set_topic};
 use octets::NoMemory;
+use sn_tables::{QosLevel, SessionFault};
 use sn_topic::{Filter, TopicName};
 use std::alloc::Global;
 

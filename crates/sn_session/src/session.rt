@@ -2,19 +2,15 @@
 
 ghost use Rattle.std.specs.Prelude.{◌≡◌, ◌≤◌, IfOk, IfErr, IfSome, option_copied};
 ghost use Rattle.sn_session.specs.Session.{empty_session};
-ghost use Rattle.sn_session.specs.Topics.{topic_of, topic_named, topic_id, free_id, IsLeastUnused, IsLeastIdOf};
-ghost use Rattle.sn_session.specs.Subscriptions.{qos_of, asked_qos, subscribed_qos, IsGreatest};
-ghost use Rattle.sn_session.specs.Received.{is_received};
+ghost use Rattle.sn_tables.specs.Topics.{topic_of, topic_named, topic_id, free_id, IsLeastUnused, IsLeastIdOf};
+ghost use Rattle.sn_tables.specs.Subscriptions.{qos_of, asked_qos, subscribed_qos, IsGreatest};
+ghost use Rattle.sn_tables.specs.Received.{is_received};
 
-use crate::fault::SessionFault;
 use crate::outbound::Outbound;
 use crate::presence::Presence;
-use crate::qos_level::QosLevel;
-use crate::received::Received;
-use crate::subscriptions::Subscriptions;
-use crate::topics::{TopicEntry, Topics};
 use crate::will::Will;
 use octets::NoMemory;
+use sn_tables::{QosLevel, Received, SessionFault, Subscriptions, TopicEntry, Topics};
 use sn_topic::{Filter, TopicName};
 use std::alloc::Global;
 
@@ -135,7 +131,7 @@ impl Session {
         })
     }
 
-    /// The same, where want of memory is a fault of this crate.
+    /// The same, where want of memory is a `SessionFault`.
     pub fn copy(&self, alloc: Global) -> Result<Session, SessionFault>
         ensures ok { IfOk result (λ made. made ≡ self.now) }
         ensures err { IfErr result (λ fault. fault ≡ SessionFault.Memory) }

@@ -4,8 +4,8 @@ ghost use Rattle.std.specs.Prelude.{◌≡◌, IfOk, OnOk, OnErr};
 ghost use Rattle.sn_session.specs.Wills.{with_will_topic, with_will_message};
 
 use super::message::Message;
-use super::qos_level::QosLevel;
 use octets::NoMemory;
+use sn_tables::QosLevel;
 use sn_topic::TopicName;
 use std::alloc::Global;
 
