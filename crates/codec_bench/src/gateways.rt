@@ -8,7 +8,8 @@ use octets::Octets;
 use rep_model::Replica;
 use rep_ops::{ClientId, Delta, Op, OpsFault, Put, Stamp};
 use rep_plain::Plain;
-use sn_session::{Message, QosLevel, Session, SessionOp};
+use sn_session::{Message, Session, SessionOp};
+use sn_tables::QosLevel;
 use sn_topic::TopicName;
 use std::alloc::Global;
 

@@ -4,7 +4,8 @@
 use crate::numbers::Numbers;
 use octets::Octets;
 use rep_ops::{ClientId, Op, OpsFault, Put, Stamp};
-use sn_session::{Message, Presence, QosLevel, Session, SessionOp};
+use sn_session::{Message, Presence, Session, SessionOp};
+use sn_tables::QosLevel;
 use sn_topic::TopicName;
 use std::alloc::{AllocError, Global};
 

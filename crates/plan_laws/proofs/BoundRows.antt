@@ -7,13 +7,13 @@ use Rattle.sn_session.specs.declared.presence.Presence.TheVariants.{Active, Asle
 use Rattle.sn_session.specs.declared.outbound.Outbound.{Outbound as Exchange}
 use Rattle.sn_session.specs.declared.outbound.Phase.TheVariants.{Registering, Published, Released}
 use Rattle.sn_session.specs.declared.session.Session.{Session}
-use Rattle.sn_session.specs.declared.topics.TopicEntry.{TopicEntry}
+use Rattle.sn_tables.specs.declared.topics.TopicEntry.{TopicEntry}
 use Rattle.sn_session.specs.declared.will.WillTopic.{WillTopic}
 use Rattle.sn_session.specs.declared.change.SessionOp.TheVariants.{Take, Presence, Register, Subscribe, Unsubscribe, WillTopic as SetTopic, WillMsg, Received, Released as Release, Outbound}
-use Rattle.sn_session.specs.Received.{is_received, id_has_no_room}
+use Rattle.sn_tables.specs.Received.{is_received, id_has_no_room}
 use Rattle.sn_session.specs.Session.{empty_session}
-use Rattle.sn_session.specs.Topics.{topic_named, free_id}
-use Rattle.sn_session.specs.Subscriptions.{qos_of as subscribed_at, filter_has_no_room}
+use Rattle.sn_tables.specs.Topics.{topic_named, free_id}
+use Rattle.sn_tables.specs.Subscriptions.{qos_of as subscribed_at, filter_has_no_room}
 use Rattle.sn_frame.specs.declared.flags.Qos.{Qos}
 use Rattle.sn_frame.specs.declared.flags.Qos.TheVariants as levels
 use Rattle.sn_frame.specs.declared.flags.TopicIdType.{TopicIdType}

@@ -14,7 +14,7 @@ use Rattle.sn_frame.specs.declared.frame.Frame.TheVariants as frames
 use Rattle.sn_frame.specs.FlagBits.{qos_of}
 use Rattle.rep_op.specs.declared.op.Op.{Op}
 use Rattle.rep_ops.specs.Making.{AreWellMade, AreApart}
-use Rattle.sn_session.specs.Levels.{is_qos}
+use Rattle.sn_tables.specs.Levels.{is_qos}
 use Rattle.rep_op.specs.Ranges.{is_message, is_will}
 use Rattle.rep_op.specs.Sets.{Same}
 use Rattle.rep_op.specs.WellMade.{is_well_made}

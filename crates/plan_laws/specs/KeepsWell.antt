@@ -3,7 +3,7 @@ use Rattle.std.specs.Prelude.{ℕ, ◌≤◌, Bool, true, List, IsTrue}
 use Rattle.std.specs.List.{AllByRecursion}
 use Rattle.rep_op.specs.declared.op.Op.{Op}
 use Rattle.rep_ops.specs.Making.{AreWellMade}
-use Rattle.sn_session.specs.Levels.{is_qos}
+use Rattle.sn_tables.specs.Levels.{is_qos}
 use Rattle.sn_local.specs.declared.local.Awaited.{Awaited}
 use Rattle.sn_local.specs.declared.local.Awaited.TheVariants.{Topic, Message}
 use Rattle.sn_local.specs.declared.local.WillDialog.{WillDialog}

@@ -7,10 +7,10 @@ use Rattle.std.specs.Cmp.{on_total}
 use Rattle.std.proofs.lemmas.Bool.{and_from}
 use Rattle.std.proofs.lemmas.Option.{same_Some}
 use Rattle.std.specs.List.{find, AllByRecursion}
-use Rattle.sn_session.specs.Tables.{is_ascending}
-use Rattle.sn_session.specs.inner.Tables.{IsAt, IsGap}
-use Rattle.sn_session.proofs.Ascending.{Ascends, from_test}
-use Rattle.sn_session.proofs.Places.{find_at, find_gap}
+use Rattle.sn_tables.specs.Tables.{is_ascending}
+use Rattle.sn_tables.specs.inner.Tables.{IsAt, IsGap}
+use Rattle.sn_tables.proofs.Ascending.{Ascends, from_test}
+use Rattle.sn_tables.proofs.Places.{find_at, find_gap}
 use Rattle.rep_digest.specs.declared.entry.ClientEntry.{ClientEntry}
 use Rattle.rep_digest.specs.Answers.{entry_of}
 use Rattle.rep_digest.specs.WellMade.{ClientsAscend}

@@ -10,8 +10,8 @@ use Rattle.rep_op.specs.declared.op.Op.TheVariants.{Ack}
 use Rattle.rep_op.specs.Orders.{client_cmp}
 use Rattle.rep_op.specs.Sets.{same_client}
 use Rattle.rep_model.proofs.Readers.{client_total}
-use Rattle.sn_session.specs.inner.Tables.{AllAbove, IsAt, IsGap}
-use Rattle.sn_session.proofs.Ascending.{Ascends}
+use Rattle.sn_tables.specs.inner.Tables.{AllAbove, IsAt, IsGap}
+use Rattle.sn_tables.proofs.Ascending.{Ascends}
 use Rattle.rep_digest.specs.declared.groups.Acknowledged.{Acknowledged}
 use Rattle.rep_digest.specs.inner.Steps.{acknowledged_by, group, groups}
 

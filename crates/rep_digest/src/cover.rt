@@ -2,7 +2,7 @@
 
 ghost use Rattle.std.specs.Prelude.{◌≡◌, ◌==◌, Some, None, MatchOption};
 ghost use Rattle.std.specs.List.{find};
-ghost use Rattle.sn_session.specs.inner.Tables.{IsPlace};
+ghost use Rattle.sn_tables.specs.inner.Tables.{IsPlace};
 ghost use Rattle.rep_op.specs.Orders.{client_cmp};
 ghost use Rattle.rep_model.specs.Keep as keeps;
 ghost use Rattle.rep_model.specs.Limits as limits;

@@ -7,7 +7,7 @@ ghost use Rattle.std.specs.Map.{keys_of};
 ghost use Rattle.std.specs.List.Sorted.{IsSearchInRange};
 ghost use Rattle.std.specs.Option.{option_copied};
 ghost use Rattle.sn_session.specs.declared.change.SessionOp.{SessionOp as OfChange};
-ghost use Rattle.sn_session.specs.inner.Tables.{IsPlace};
+ghost use Rattle.sn_tables.specs.inner.Tables.{IsPlace};
 ghost use Rattle.rep_op.specs.declared.op.Stamp.{Stamp as OfStamp};
 ghost use Rattle.rep_op.specs.Orders.{operation_cmp};
 ghost use Rattle.rep_model.specs.Keep as spec;

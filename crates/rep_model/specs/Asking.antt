@@ -1,7 +1,7 @@
 -- Which clients a publication may pass over.
 use Rattle.std.specs.Prelude.{◌≡◌, ℕ, Bool, false, List, ◌∷◌, ◌++◌, drop, is_some, option_and_then}
 use Rattle.std.specs.List.{AllByRecursion}
-use Rattle.sn_session.specs.Subscriptions.{subscribed_qos}
+use Rattle.sn_tables.specs.Subscriptions.{subscribed_qos}
 use Rattle.rep_op.specs.declared.op.Op.{Op}
 use Rattle.rep_model.specs.declared.view.ClientView.{ClientView}
 use Rattle.rep_model.specs.Views.{view, clients}

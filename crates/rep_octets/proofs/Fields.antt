@@ -10,7 +10,7 @@ use Rattle.sn_session.specs.declared.presence.Presence.TheVariants as presences
 use Rattle.sn_session.specs.declared.outbound.Phase.{Phase}
 use Rattle.sn_session.specs.declared.outbound.Phase.TheVariants as phases
 use Rattle.rep_op.specs.ClientIds.{IsClientId}
-use Rattle.sn_session.specs.Levels.{is_qos}
+use Rattle.sn_tables.specs.Levels.{is_qos}
 use Rattle.rep_octets.specs.Reading.{ranged, octet_at, number_at, sized_at, client_at, topic_at, filter_at, body_at, flag_at, presence_of, presence_at, phase_of, phase_at, qos_at}
 use Rattle.rep_octets.specs.Spelling.{client_octets}
 use Rattle.rep_octets.specs.Sessions.{text_octets, flag_octet, presence_octet, phase_octet}

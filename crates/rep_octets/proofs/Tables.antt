@@ -6,7 +6,7 @@ use Rattle.std.specs.List.{flat_map, AllByRecursion}
 use Rattle.std.specs.declared.cmp.Ordering.{Ordering}
 use Rattle.std.proofs.lemmas.Bool.{leb-true, le-leb}
 use Rattle.std.proofs.lemmas.List.{append-nil}
-use Rattle.sn_session.specs.Tables.{is_ascending, IsTable}
+use Rattle.sn_tables.specs.Tables.{is_ascending, IsTable}
 use Rattle.rep_op.specs.declared.fault.OpsFault.{OpsFault}
 use Rattle.rep_octets.specs.Reading.{Reader, ◌>>=◌, ranged, number_at, flag_at, option_at, many_at, counted_by, counted_at, table_at}
 use Rattle.rep_octets.specs.Sessions.{flag_octet, option_octets, table_octets}

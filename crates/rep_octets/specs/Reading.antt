@@ -12,14 +12,14 @@ use Rattle.sn_session.specs.declared.outbound.Phase.{Phase}
 use Rattle.sn_session.specs.declared.outbound.Phase.TheVariants as phases
 use Rattle.sn_session.specs.declared.outbound.Outbound.{Outbound}
 use Rattle.sn_session.specs.declared.session.Session.{Session}
-use Rattle.sn_session.specs.declared.topics.TopicEntry.{TopicEntry}
-use Rattle.sn_session.specs.declared.subscriptions.Subscription.{Subscription}
+use Rattle.sn_tables.specs.declared.topics.TopicEntry.{TopicEntry}
+use Rattle.sn_tables.specs.declared.subscriptions.Subscription.{Subscription}
 use Rattle.sn_session.specs.declared.will.Will.{Will}
 use Rattle.sn_session.specs.declared.will.WillTopic.{WillTopic}
-use Rattle.sn_session.specs.declared.table.TheConstants.{MAX_ENTRIES}
-use Rattle.sn_session.specs.Tables.{is_ascending}
-use Rattle.sn_session.specs.Topics.{topic_cmp}
-use Rattle.sn_session.specs.Subscriptions.{subscription_cmp}
+use Rattle.sn_tables.specs.declared.table.TheConstants.{MAX_ENTRIES}
+use Rattle.sn_tables.specs.Tables.{is_ascending}
+use Rattle.sn_tables.specs.Topics.{topic_cmp}
+use Rattle.sn_tables.specs.Subscriptions.{subscription_cmp}
 use Rattle.sn_session.specs.declared.change.SessionOp.{SessionOp}
 use Rattle.sn_session.specs.declared.change.SessionOp.TheVariants.{Take, Presence as SetPresence, Register, Subscribe, Unsubscribe, WillTopic as SetWillTopic, WillMsg, Received, Released, Outbound as SetOutbound}
 use Rattle.rep_op.specs.declared.fault.OpsFault.{OpsFault}
@@ -28,7 +28,7 @@ use Rattle.rep_op.specs.declared.client_id.TheConstants.{MAX_CLIENT_ID}
 use Rattle.sn_session.specs.declared.message.TheConstants.{MAX_MESSAGE}
 use Rattle.rep_op.specs.declared.op.Op.{Op}
 use Rattle.rep_op.specs.declared.op.Op.TheVariants.{Session as OfSession, Put as OfPut, Ack}
-use Rattle.sn_session.specs.Levels.{is_qos}
+use Rattle.sn_tables.specs.Levels.{is_qos}
 use Rattle.rep_op.specs.Ranges.{is_topic_id}
 
 -- ---- readers

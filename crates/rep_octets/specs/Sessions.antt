@@ -8,8 +8,8 @@ use Rattle.sn_session.specs.declared.presence.Presence.TheVariants as presences
 use Rattle.sn_session.specs.declared.outbound.Phase.{Phase}
 use Rattle.sn_session.specs.declared.outbound.Phase.TheVariants as phases
 use Rattle.sn_session.specs.declared.session.Session.{Session}
-use Rattle.sn_session.specs.declared.topics.TopicEntry.{TopicEntry}
-use Rattle.sn_session.specs.declared.subscriptions.Subscription.{Subscription}
+use Rattle.sn_tables.specs.declared.topics.TopicEntry.{TopicEntry}
+use Rattle.sn_tables.specs.declared.subscriptions.Subscription.{Subscription}
 use Rattle.sn_session.specs.declared.will.Will.{Will}
 use Rattle.sn_session.specs.declared.will.WillTopic.{WillTopic}
 use Rattle.sn_session.specs.declared.outbound.Outbound.{Outbound}

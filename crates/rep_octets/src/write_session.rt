@@ -10,10 +10,8 @@ ghost use Rattle.rep_octets.specs.Sessions.{text_octets, flag_octet, presence_oc
 ghost use Rattle.rep_octets.specs.Writing.{Writes};
 
 use octets::{NoMemory, append_u16, append_u64};
-use sn_session::{
-    Outbound, Phase, Presence, Received, Session, SessionOp, Subscription, Subscriptions,
-    TopicEntry, Topics, Will, WillTopic,
-};
+use sn_session::{Outbound, Phase, Presence, Session, SessionOp, Will, WillTopic};
+use sn_tables::{Received, Subscription, Subscriptions, TopicEntry, Topics};
 
 /// The octet of a presence.
 fn presence_code(presence: Presence) -> u8

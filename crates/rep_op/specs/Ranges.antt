@@ -2,11 +2,11 @@
 -- tables are their types' own.
 use Rattle.std.specs.Prelude.{ℕ, Bool, true, ◌&&◌, nat_le, List, length, Option, Some, None}
 use Rattle.std.specs.List.{list_all}
-use Rattle.sn_session.specs.Levels.{is_qos}
+use Rattle.sn_tables.specs.Levels.{is_qos}
 use Rattle.sn_session.specs.declared.message.TheConstants.{MAX_MESSAGE}
 use Rattle.sn_session.specs.declared.session.Session.{Session}
-use Rattle.sn_session.specs.declared.topics.TopicEntry.{TopicEntry}
-use Rattle.sn_session.specs.declared.subscriptions.Subscription.{Subscription}
+use Rattle.sn_tables.specs.declared.topics.TopicEntry.{TopicEntry}
+use Rattle.sn_tables.specs.declared.subscriptions.Subscription.{Subscription}
 use Rattle.sn_session.specs.declared.will.Will.{Will}
 use Rattle.sn_session.specs.declared.will.WillTopic.{WillTopic}
 use Rattle.sn_session.specs.declared.outbound.Outbound.{Outbound}

@@ -4,12 +4,12 @@ use Rattle.std.specs.Prelude.{◌<◌, ◌^◌, List, Option, Some, None}
 use Rattle.std.specs.List.{AllByRecursion}
 use Rattle.std.specs.Ordering.{nat_cmp}
 use Rattle.sn_topic.specs.Topics.{IsName, IsFilter}
-use Rattle.sn_session.specs.Tables.{IsTable}
-use Rattle.sn_session.specs.Topics.{topic_cmp}
-use Rattle.sn_session.specs.Subscriptions.{subscription_cmp}
+use Rattle.sn_tables.specs.Tables.{IsTable}
+use Rattle.sn_tables.specs.Topics.{topic_cmp}
+use Rattle.sn_tables.specs.Subscriptions.{subscription_cmp}
 use Rattle.sn_session.specs.declared.session.Session.{Session}
-use Rattle.sn_session.specs.declared.topics.TopicEntry.{TopicEntry}
-use Rattle.sn_session.specs.declared.subscriptions.Subscription.{Subscription}
+use Rattle.sn_tables.specs.declared.topics.TopicEntry.{TopicEntry}
+use Rattle.sn_tables.specs.declared.subscriptions.Subscription.{Subscription}
 use Rattle.sn_session.specs.declared.will.Will.{Will}
 use Rattle.sn_session.specs.declared.will.WillTopic.{WillTopic}
 use Rattle.sn_session.specs.declared.outbound.Outbound.{Outbound}

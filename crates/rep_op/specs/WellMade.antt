@@ -2,7 +2,7 @@
 use Rattle.std.specs.Prelude.{ℕ, ◌==◌, Bool, ◌&&◌, if◌then◌else◌, nat_le, nat_lt}
 use Rattle.sn_session.specs.declared.change.SessionOp.{SessionOp}
 use Rattle.sn_session.specs.Session.{is_take}
-use Rattle.sn_session.specs.Levels.{is_qos}
+use Rattle.sn_tables.specs.Levels.{is_qos}
 use Rattle.rep_op.specs.Ranges.{is_change, is_message}
 use Rattle.rep_op.specs.declared.op.Stamp.{Stamp}
 use Rattle.rep_op.specs.declared.op.Put.{Put}

@@ -5,7 +5,8 @@ ghost use Rattle.rep_op.specs.Orders.{stamp_cmp, client_of};
 
 use super::client_id::ClientId;
 use octets::NoMemory;
-use sn_session::{Message, QosLevel, SessionOp};
+use sn_session::{Message, SessionOp};
+use sn_tables::QosLevel;
 use sn_topic::TopicName;
 use std::alloc::Global;
 use std::cmp::Ordering;

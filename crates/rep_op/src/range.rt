@@ -4,9 +4,8 @@ ghost use Rattle.std.specs.Prelude.{◌≡◌};
 ghost use Rattle.std.specs.List.{list_all};
 ghost use Rattle.rep_op.specs.Ranges as spec;
 
-use sn_session::{
-    MAX_MESSAGE, Outbound, Session, SessionOp, Subscription, TopicEntry, Will, WillTopic,
-};
+use sn_session::{MAX_MESSAGE, Outbound, Session, SessionOp, Will, WillTopic};
+use sn_tables::{Subscription, TopicEntry};
 
 /// Whether a topic id is not reserved.
 pub fn is_topic_id(id: u16) -> bool

@@ -5,7 +5,8 @@ ghost use Rattle.std.specs.List.{AllByRecursion};
 ghost use Rattle.rep_op.specs.Values.{IsEntryValue, IsSubscriptionValue, IsWillValue, IsWillTopicValue, IsExchangeValue, IsSessionValue, IsChangeValue, IsValue};
 
 use super::op::{Op, Put};
-use sn_session::{Outbound, Session, SessionOp, Subscription, TopicEntry, Will, WillTopic};
+use sn_session::{Outbound, Session, SessionOp, Will, WillTopic};
+use sn_tables::{Subscription, TopicEntry};
 
 /// What the types of a topic id promise.
 fn entry_is_value(entry: &TopicEntry)

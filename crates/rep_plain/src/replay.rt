@@ -13,7 +13,8 @@ ghost use Rattle.rep_plain.specs.Steps.{waits};
 
 use octets::NoMemory;
 use rep_ops::{ClientId, Op, Stamp};
-use sn_session::{Session, SessionFault, SessionOp};
+use sn_session::{Session, SessionOp};
+use sn_tables::SessionFault;
 use std::alloc::Global;
 use std::cmp::Ordering;
 use std::collections::BTreeMap;

@@ -17,12 +17,12 @@ use Rattle.std.specs.FinMap.Entries.{find-put}
 use Rattle.std.proofs.lemmas.Map.Views.{tells_apart}
 use Rattle.sn_topic.specs.Levels.{is_wildcard, has_wildcard, is_hash, is_plus, is_only, levels, begins_with_wildcard}
 use Rattle.sn_topic.specs.Matching.{is_match, levels_match, level_agrees, no_level, begins_with_dollar}
-use Rattle.sn_session.specs.Tables.{with_entry}
-use Rattle.sn_session.specs.inner.Tables.{IsAt, IsGap, AllAbove}
-use Rattle.sn_session.specs.Subscriptions.{asked_qos, subscribed_qos, or_greater}
+use Rattle.sn_tables.specs.Tables.{with_entry}
+use Rattle.sn_tables.specs.inner.Tables.{IsAt, IsGap, AllAbove}
+use Rattle.sn_tables.specs.Subscriptions.{asked_qos, subscribed_qos, or_greater}
 use Rattle.sn_session.specs.declared.session.Session.{Session}
-use Rattle.sn_session.specs.declared.subscriptions.Subscription.{Subscription}
-use Rattle.sn_session.proofs.Ascending.{all_with}
+use Rattle.sn_tables.specs.declared.subscriptions.Subscription.{Subscription}
+use Rattle.sn_tables.proofs.Ascending.{all_with}
 use Rattle.rep_op.specs.Orders.{client_cmp}
 use Rattle.rep_model.specs.Asking.{is_subscribed, NoneAsks}
 use Rattle.rep_model.specs.Views.{view}

@@ -8,7 +8,8 @@ ghost use Rattle.std.specs.Prelude.{◌≡◌, ◌<◌};
 ghost use Rattle.rep_state.specs.Interests.{AsksWithin, AskWithin, SessionWithin};
 ghost use Rattle.rep_state.specs.Interests as spec;
 
-use sn_session::{Session, Subscription};
+use sn_session::Session;
+use sn_tables::Subscription;
 use sn_topic::Filter;
 
 /// Every mark.

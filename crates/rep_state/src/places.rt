@@ -6,8 +6,8 @@
 
 ghost use Rattle.std.specs.Prelude.{◌≡◌, ◌+◌, ◌<◌, ◌≤◌, ◌∷◌, [], IfOk, IsTrue, MatchOption, length, map, drop, vec_len, vec_capacity};
 ghost use Rattle.std.specs.Map.{keys_of};
-ghost use Rattle.sn_session.specs.Tables.{is_ascending, with_entry};
-ghost use Rattle.sn_session.specs.inner.Tables.{IsPlace};
+ghost use Rattle.sn_tables.specs.Tables.{is_ascending, with_entry};
+ghost use Rattle.sn_tables.specs.inner.Tables.{IsPlace};
 ghost use Rattle.rep_op.specs.Orders.{client_cmp};
 ghost use Rattle.rep_state.specs.Tables.{by_client, names_at, ArePlaces};
 ghost use Rattle.rep_state.specs.inner.Tables.{place_cmp};

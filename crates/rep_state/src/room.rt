@@ -2,7 +2,7 @@
 
 ghost use Rattle.std.specs.Prelude.{◌≡◌, IsSome, IsTrue, is_some, IfOk, OnOk, List};
 ghost use Rattle.std.specs.FinMap.{find, put};
-ghost use Rattle.sn_session.specs.Tables.{is_ascending};
+ghost use Rattle.sn_tables.specs.Tables.{is_ascending};
 ghost use Rattle.rep_op.specs.Orders.{client_cmp};
 ghost use Rattle.rep_plain.specs.Rows.{moved};
 ghost use Rattle.rep_state.specs.Tables.{by_client, rows_of, AreKept, ArePlaces};

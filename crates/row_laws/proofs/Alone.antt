@@ -4,8 +4,8 @@ use Rattle.std.specs.declared.cmp.Ordering.TheVariants.{Less, Equal, Greater}
 use Rattle.std.specs.List.{AllByRecursion}
 use Rattle.std.proofs.lemmas.Bool.{and_parts, and_from}
 use Rattle.std.proofs.lemmas.List.Elements.{All-from_recursion, All-contains}
-use Rattle.sn_session.specs.Tables.{with_entry, by_order}
-use Rattle.sn_session.proofs.Ascending.{all_weaker, all_with}
+use Rattle.sn_tables.specs.Tables.{with_entry, by_order}
+use Rattle.sn_tables.proofs.Ascending.{all_weaker, all_with}
 use Rattle.rep_op.specs.Sets.{same_client}
 use Rattle.sn_local.specs.declared.config.Addr.{Addr}
 use Rattle.sn_local.specs.declared.local.Binding.{Binding}

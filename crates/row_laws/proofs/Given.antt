@@ -6,14 +6,14 @@ use Rattle.std.proofs.lemmas.Slice.Eq.{bytes_eq-Decides}
 use Rattle.std.specs.List.{AllByRecursion, find}
 use Rattle.std.specs.declared.cmp.Ordering.TheVariants.{Less, Equal, Greater}
 use Rattle.sn_session.specs.declared.session.Session.{Session}
-use Rattle.sn_session.specs.declared.topics.TopicEntry.{TopicEntry}
+use Rattle.sn_tables.specs.declared.topics.TopicEntry.{TopicEntry}
 use Rattle.sn_session.specs.declared.change.SessionOp.{SessionOp}
 use Rattle.sn_session.specs.declared.change.SessionOp.TheVariants.{Register}
-use Rattle.sn_session.specs.Tables.{IsTable, is_table_full, by_order}
-use Rattle.sn_session.specs.Topics.{topic_cmp, topic_of, topic_named, with_topic, topic_has_no_room, free_id, least_unused}
+use Rattle.sn_tables.specs.Tables.{IsTable, is_table_full, by_order}
+use Rattle.sn_tables.specs.Topics.{topic_cmp, topic_of, topic_named, with_topic, topic_has_no_room, free_id, least_unused}
 use Rattle.sn_session.specs.Session.{applied, changed, is_full}
-use Rattle.sn_session.proofs.Ascending.{Ascends, from_test}
-use Rattle.sn_session.proofs.TopicPlaces.{topic_total}
+use Rattle.sn_tables.proofs.Ascending.{Ascends, from_test}
+use Rattle.sn_tables.proofs.TopicPlaces.{topic_total}
 use Rattle.sn_subscribe.specs.Registration.{entry_or_free, id_for}
 use Rattle.row_laws.specs.RequestLaws.{StandsFor}
 

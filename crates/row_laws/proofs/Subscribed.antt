@@ -8,13 +8,13 @@ use Rattle.std.specs.Cmp.Lexicographic.{nat_list_cmp_total, texts_ties}
 use Rattle.std.specs.declared.cmp.Ordering.TheVariants.{Less, Equal, Greater}
 use Rattle.sn_topic.specs.Table.{Entries}
 use Rattle.sn_session.specs.declared.session.Session.{Session}
-use Rattle.sn_session.specs.declared.topics.TopicEntry.{TopicEntry}
-use Rattle.sn_session.specs.declared.subscriptions.Subscription.{Subscription}
+use Rattle.sn_tables.specs.declared.topics.TopicEntry.{TopicEntry}
+use Rattle.sn_tables.specs.declared.subscriptions.Subscription.{Subscription}
 use Rattle.sn_session.specs.declared.change.SessionOp.{SessionOp}
 use Rattle.sn_session.specs.declared.change.SessionOp.TheVariants.{Register, Subscribe, Unsubscribe}
-use Rattle.sn_session.specs.Tables.{by_order}
-use Rattle.sn_session.specs.Topics.{topic_named, free_id, topic_has_no_room}
-use Rattle.sn_session.specs.Subscriptions.{filter_cmp, subscription_cmp, subscription_of, qos_of as subscribed_at, with_subscription, without_filter, filter_has_no_room}
+use Rattle.sn_tables.specs.Tables.{by_order}
+use Rattle.sn_tables.specs.Topics.{topic_named, free_id, topic_has_no_room}
+use Rattle.sn_tables.specs.Subscriptions.{filter_cmp, subscription_cmp, subscription_of, qos_of as subscribed_at, with_subscription, without_filter, filter_has_no_room}
 use Rattle.sn_session.specs.Session.{applied, changed}
 use Rattle.sn_frame.specs.declared.flags.TopicIdType.{TopicIdType}
 use Rattle.sn_frame.specs.declared.flags.TopicIdType.TheVariants as kinds

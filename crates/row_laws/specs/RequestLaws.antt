@@ -3,8 +3,8 @@
 use Rattle.std.specs.Prelude.{◌≡◌, ℕ, true, List, [], fold, Some, None}
 use Rattle.sn_session.specs.declared.session.Session.{Session}
 use Rattle.sn_session.specs.Session.{applied}
-use Rattle.sn_session.specs.Topics.{topic_of}
-use Rattle.sn_session.specs.Subscriptions.{qos_of}
+use Rattle.sn_tables.specs.Topics.{topic_of}
+use Rattle.sn_tables.specs.Subscriptions.{qos_of}
 use Rattle.sn_subscribe.specs.declared.registration.NamedId.{NamedId}
 use Rattle.sn_plan.specs.Drafts.{Drafted, nothing, changed_if}
 

@@ -4,9 +4,9 @@
 ghost use Rattle.std.specs.Prelude.{◌≡◌, ℕ, false, List, Option, Some, IfSome};
 ghost use Rattle.sn_topic.specs.Table.{Entries};
 ghost use Rattle.sn_session.specs.declared.session.Session.{Session};
-ghost use Rattle.sn_session.specs.Tables.{IsTable};
-ghost use Rattle.sn_session.specs.Topics.{topic_cmp};
-ghost use Rattle.sn_session.specs.Subscriptions.{filter_has_no_room};
+ghost use Rattle.sn_tables.specs.Tables.{IsTable};
+ghost use Rattle.sn_tables.specs.Topics.{topic_cmp};
+ghost use Rattle.sn_tables.specs.Subscriptions.{filter_has_no_room};
 ghost use Rattle.sn_frame.specs.declared.frame.Will.{Will};
 ghost use Rattle.sn_frame.specs.FlagBits.{qos_of, kind_of};
 ghost use Rattle.sn_local.specs.declared.config.Addr.{Addr};

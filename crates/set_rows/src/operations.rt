@@ -7,7 +7,8 @@ use crate::fields::{
 use crate::stop::Stop;
 use octets::Octets;
 use rep_ops::{ClientId, Op, OpsFault, Put, Stamp};
-use sn_session::{QosLevel, Session};
+use sn_session::Session;
+use sn_tables::QosLevel;
 use std::alloc::Global;
 
 /// `op CLIENT EPOCH.GATEWAY COUNTER CHANGE`: a change of a session.

@@ -10,7 +10,8 @@ use sn_exchange::{Form, Peer, form_again, message_of, open_exchange, put_named, 
 use sn_frame::{Frame, TopicIdType};
 use sn_local::LocalChange;
 use sn_plan::Draft;
-use sn_session::{Outbound, Phase, Session, SessionOp, TopicEntry};
+use sn_session::{Outbound, Phase, Session, SessionOp};
+use sn_tables::TopicEntry;
 use sn_topic::{Predefined, TopicName};
 use std::alloc::Global;
 

@@ -4,8 +4,8 @@ use Rattle.std.specs.Prelude.{ℕ, ◌+◌, ◌*◌, ◌==◌, Bool, if◌then�
 use Rattle.std.specs.Option.{option_map, option_or}
 use Rattle.sn_topic.specs.Table.{Entries, ids_of, least}
 use Rattle.sn_session.specs.declared.session.Session.{Session}
-use Rattle.sn_session.specs.declared.topics.TopicEntry.{TopicEntry}
-use Rattle.sn_session.specs.Topics.{topic_named}
+use Rattle.sn_tables.specs.declared.topics.TopicEntry.{TopicEntry}
+use Rattle.sn_tables.specs.Topics.{topic_named}
 use Rattle.sn_frame.specs.declared.flags.TopicIdType.{TopicIdType}
 use Rattle.sn_frame.specs.declared.flags.TopicIdType.TheVariants as kinds
 use Rattle.sn_frame.specs.declared.frame.Frame.{Frame}

@@ -10,7 +10,8 @@ ghost use Rattle.sn_exchange.specs.Forms as spec;
 use octets::NoMemory;
 use rep_ops::Put;
 use sn_frame::{Flags, Frame, TopicIdType};
-use sn_session::{QosLevel, Session, TopicEntry};
+use sn_session::Session;
+use sn_tables::{QosLevel, TopicEntry};
 use sn_topic::{Predefined, TopicName};
 use std::alloc::Global;
 

@@ -17,7 +17,8 @@ use rep_ops::Put;
 use sn_frame::Frame;
 use sn_local::LocalChange;
 use sn_plan::Draft;
-use sn_session::{Outbound, Phase, Session, SessionOp, TopicEntry};
+use sn_session::{Outbound, Phase, Session, SessionOp};
+use sn_tables::TopicEntry;
 use sn_topic::Predefined;
 use std::alloc::Global;
 

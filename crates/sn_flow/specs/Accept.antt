@@ -5,7 +5,7 @@ use Rattle.sn_session.specs.declared.session.Session.{Session}
 use Rattle.sn_session.specs.declared.will.Will.{Will}
 use Rattle.sn_session.specs.declared.change.SessionOp.TheVariants.{Take}
 use Rattle.sn_session.specs.Session.{empty_session}
-use Rattle.sn_session.specs.Topics.{unknown}
+use Rattle.sn_tables.specs.Topics.{unknown}
 use Rattle.rep_op.specs.declared.op.Put.{Put}
 use Rattle.rep_model.specs.declared.view.ClientView.{ClientView}
 use Rattle.sn_frame.specs.declared.frame.Frame.TheVariants as frames

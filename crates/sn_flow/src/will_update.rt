@@ -9,7 +9,8 @@ use octets::{NoMemory, Octets};
 use sn_frame::{Flags, Frame, Will};
 use sn_local::Addr;
 use sn_plan::{ACCEPTED, Draft, NOT_SUPPORTED, name_asked, qos_asked};
-use sn_session::{Message, QosLevel, Session, SessionOp, WillTopic};
+use sn_session::{Message, Session, SessionOp, WillTopic};
+use sn_tables::QosLevel;
 use sn_topic::TopicName;
 use std::alloc::Global;
 

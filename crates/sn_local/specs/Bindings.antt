@@ -3,7 +3,7 @@ use Rattle.std.specs.Prelude.{ℕ, ◌==◌, Bool, false, ◌&&◌, not, if◌th
 use Rattle.std.specs.declared.cmp.Ordering.{Ordering}
 use Rattle.std.specs.List.{IsDistinct}
 use Rattle.std.specs.Ordering.{nat_cmp, ordering_then}
-use Rattle.sn_session.specs.Tables.{is_ascending, with_entry}
+use Rattle.sn_tables.specs.Tables.{is_ascending, with_entry}
 use Rattle.rep_op.specs.declared.op.Stamp.{Stamp}
 use Rattle.rep_op.specs.Sets.{same_client}
 use Rattle.sn_local.specs.declared.config.Addr.{Addr}

@@ -2,7 +2,7 @@
 -- again.
 use Rattle.std.specs.Prelude.{ℕ, ◌+◌, ◌==◌, Bool, IsTrue, if◌then◌else◌, List, [], ◌∷◌, filter, fold, Option, Some, None}
 use Rattle.std.specs.declared.cmp.Ordering.{Ordering}
-use Rattle.sn_session.specs.Tables.{is_ascending, with_entry}
+use Rattle.sn_tables.specs.Tables.{is_ascending, with_entry}
 use Rattle.rep_op.specs.Orders.{client_cmp}
 use Rattle.rep_op.specs.Sets.{same_client}
 use Rattle.sn_local.specs.declared.local.Timer.{Timer}

@@ -4,8 +4,8 @@
 ghost use Rattle.std.specs.Prelude.{◌≡◌, ◌+◌, ◌≤◌, true, filter, vec_len};
 ghost use Rattle.std.specs.Option.{option_copied};
 ghost use Rattle.std.specs.Vec.{vec_capacity};
-ghost use Rattle.sn_session.specs.Tables.{with_entry};
-ghost use Rattle.sn_session.specs.inner.Tables.{IsPlace};
+ghost use Rattle.sn_tables.specs.Tables.{with_entry};
+ghost use Rattle.sn_tables.specs.inner.Tables.{IsPlace};
 ghost use Rattle.sn_local.specs.Bindings.{AreBindings, address_cmp, binding_cmp};
 ghost use Rattle.sn_local.specs.Bindings.{bound, unbound, owned_bindings};
 ghost use Rattle.sn_local.specs.Bindings as spec;

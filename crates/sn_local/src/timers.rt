@@ -3,7 +3,7 @@
 ghost use Rattle.std.specs.Prelude.{◌≡◌, ◌+◌, ◌≤◌, vec_len};
 ghost use Rattle.std.specs.Option.{option_copied};
 ghost use Rattle.std.specs.Vec.{vec_capacity};
-ghost use Rattle.sn_session.specs.inner.Tables.{IsPlace};
+ghost use Rattle.sn_tables.specs.inner.Tables.{IsPlace};
 ghost use Rattle.rep_op.specs.Orders.{client_cmp};
 ghost use Rattle.sn_local.specs.Timers.{AreTimers, timed, heard, sent_anew, sent_again, tried_again, owned_timers};
 ghost use Rattle.sn_local.specs.Timers as spec;

@@ -4,7 +4,7 @@ use Rattle.std.specs.declared.cmp.Ordering.{Ordering}
 use Rattle.std.specs.declared.cmp.Ordering.TheVariants.{Less, Equal, Greater}
 use Rattle.std.specs.List.{list_all}
 use Rattle.std.proofs.lemmas.Bool.{and_parts, and_from}
-use Rattle.sn_session.specs.Tables.{with_entry, by_order}
+use Rattle.sn_tables.specs.Tables.{with_entry, by_order}
 
 module _ {E : Type 0} (p : E → Bool) where
   pub all-entered : (cmp : E → E → Ordering) (e : E) (xs : List E) → p e ≡ true → list_all p xs ≡ true → list_all p (with_entry cmp e xs) ≡ true

@@ -8,7 +8,7 @@ ghost use Rattle.sn_plan.specs.Asking as spec;
 use super::codes::{INVALID_ID, NOT_SUPPORTED};
 use octets::NoMemory;
 use sn_frame::{Qos, TopicIdType};
-use sn_session::QosLevel;
+use sn_tables::QosLevel;
 use sn_topic::{Filter, Predefined, TopicFault, TopicName};
 use std::alloc::Global;
 

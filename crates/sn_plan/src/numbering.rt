@@ -13,7 +13,8 @@ use octets::NoMemory;
 use rep_model::{ClientView, Replica};
 use rep_ops::{ClientId, Op, Put, Stamp};
 use sn_local::StepFault;
-use sn_session::{Session, SessionFault, SessionOp};
+use sn_session::{Session, SessionOp};
+use sn_tables::SessionFault;
 use std::alloc::{AllocError, Global};
 use std::marker::Model;
 

@@ -3,12 +3,12 @@ use Rattle.std.specs.Prelude.{ℕ, ◌/◌, ◌%◌, if◌then◌else◌, List, 
 use Rattle.std.specs.Option.{option_map}
 use Rattle.sn_topic.specs.Table.{Entries, name_of}
 use Rattle.sn_session.specs.declared.session.Session.{Session}
-use Rattle.sn_session.specs.declared.topics.TopicEntry.{TopicEntry}
+use Rattle.sn_tables.specs.declared.topics.TopicEntry.{TopicEntry}
 use Rattle.sn_session.specs.declared.change.SessionOp.{SessionOp}
 use Rattle.sn_session.specs.declared.change.SessionOp.TheVariants.{Received, Released}
 use Rattle.sn_session.specs.Session.{empty_session}
-use Rattle.sn_session.specs.Topics.{topic_of}
-use Rattle.sn_session.specs.Received.{is_received, id_has_no_room}
+use Rattle.sn_tables.specs.Topics.{topic_of}
+use Rattle.sn_tables.specs.Received.{is_received, id_has_no_room}
 use Rattle.sn_frame.specs.declared.flags.Qos.{Qos}
 use Rattle.sn_frame.specs.declared.flags.Qos.TheVariants as levels
 use Rattle.sn_frame.specs.declared.flags.TopicIdType.{TopicIdType}

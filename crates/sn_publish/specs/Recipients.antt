@@ -5,7 +5,7 @@ use Rattle.std.specs.List.{filter_map}
 use Rattle.sn_session.specs.declared.presence.Presence.{Presence}
 use Rattle.sn_session.specs.declared.session.Session.{Session}
 use Rattle.sn_session.specs.declared.will.Will.{Will}
-use Rattle.sn_session.specs.Subscriptions.{subscribed_qos}
+use Rattle.sn_tables.specs.Subscriptions.{subscribed_qos}
 use Rattle.rep_op.specs.declared.op.Put.{Put}
 use Rattle.rep_op.specs.Sets.{same_client}
 use Rattle.rep_model.specs.declared.view.ClientView.{ClientView}

@@ -5,7 +5,7 @@ ghost use Rattle.std.specs.Option.{option_copied, option_map};
 ghost use Rattle.sn_publish.specs.Publishing.{entry_name};
 ghost use Rattle.sn_publish.specs.Publishing as spec;
 ghost use Rattle.sn_plan.specs.Asking as asking;
-ghost use Rattle.sn_session.specs.Topics.{topic_of};
+ghost use Rattle.sn_tables.specs.Topics.{topic_of};
 
 use octets::NoMemory;
 use sn_frame::TopicIdType;

@@ -14,7 +14,8 @@ use rep_model::Replica;
 use sn_frame::{Flags, Frame, Qos};
 use sn_local::Addr;
 use sn_plan::Draft;
-use sn_session::{Message, QosLevel, Session, SessionOp};
+use sn_session::{Message, Session, SessionOp};
+use sn_tables::QosLevel;
 use sn_topic::{Predefined, TopicName};
 use std::alloc::Global;
 

@@ -13,7 +13,8 @@ use octets::NoMemory;
 use rep_model::{ClientView, Replica};
 use rep_ops::{ClientId, Put};
 use sn_plan::{NewPut, is_up};
-use sn_session::{Message, Presence, QosLevel, Session, Will};
+use sn_session::{Message, Presence, Session, Will};
+use sn_tables::QosLevel;
 use sn_topic::TopicName;
 use std::alloc::Global;
 

@@ -2,9 +2,9 @@
 use Rattle.std.specs.Prelude.{ℕ, true, if◌then◌else◌, List, Option, Some, None}
 use Rattle.std.specs.Option.{option_map}
 use Rattle.sn_session.specs.declared.session.Session.{Session}
-use Rattle.sn_session.specs.declared.topics.TopicEntry.{TopicEntry}
+use Rattle.sn_tables.specs.declared.topics.TopicEntry.{TopicEntry}
 use Rattle.sn_session.specs.declared.change.SessionOp.TheVariants.{Register}
-use Rattle.sn_session.specs.Topics.{topic_named, free_id}
+use Rattle.sn_tables.specs.Topics.{topic_named, free_id}
 use Rattle.sn_frame.specs.declared.frame.Frame.TheVariants as frames
 use Rattle.sn_local.specs.declared.config.Addr.{Addr}
 use Rattle.sn_subscribe.specs.declared.registration.NamedId.{NamedId}

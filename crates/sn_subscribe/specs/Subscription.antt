@@ -4,7 +4,7 @@ use Rattle.sn_topic.specs.Table.{Entries}
 use Rattle.sn_session.specs.declared.session.Session.{Session}
 use Rattle.sn_session.specs.declared.change.SessionOp.{SessionOp}
 use Rattle.sn_session.specs.declared.change.SessionOp.TheVariants.{Subscribe, Unsubscribe}
-use Rattle.sn_session.specs.Subscriptions.{qos_of as subscribed_at, filter_has_no_room}
+use Rattle.sn_tables.specs.Subscriptions.{qos_of as subscribed_at, filter_has_no_room}
 use Rattle.sn_frame.specs.declared.flags.TopicIdType.{TopicIdType}
 use Rattle.sn_frame.specs.declared.flags.TopicIdType.TheVariants as kinds
 use Rattle.sn_frame.specs.declared.frame.Frame.{Frame}

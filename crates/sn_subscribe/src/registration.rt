@@ -9,7 +9,8 @@ use octets::NoMemory;
 use sn_frame::Frame;
 use sn_local::Addr;
 use sn_plan::{ACCEPTED, CONGESTION, Draft, NOT_SUPPORTED, name_asked};
-use sn_session::{Session, SessionOp, TopicEntry};
+use sn_session::{Session, SessionOp};
+use sn_tables::TopicEntry;
 use sn_topic::TopicName;
 use std::alloc::Global;
 

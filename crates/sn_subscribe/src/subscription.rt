@@ -13,7 +13,8 @@ use sn_local::Addr;
 use sn_plan::{
     ACCEPTED, Asked, CONGESTION, Draft, NOT_SUPPORTED, id_in, name_asked, qos_asked, topics_asked,
 };
-use sn_session::{QosLevel, Session, SessionOp};
+use sn_session::{Session, SessionOp};
+use sn_tables::QosLevel;
 use sn_topic::{Filter, Predefined, TopicName};
 use std::alloc::Global;
 

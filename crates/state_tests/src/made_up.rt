@@ -3,7 +3,8 @@
 
 use octets::Octets;
 use rep_ops::{ClientId, Delta, Op, Put, Stamp};
-use sn_session::{Message, Presence, QosLevel, Session, SessionOp};
+use sn_session::{Message, Presence, Session, SessionOp};
+use sn_tables::QosLevel;
 use sn_topic::TopicName;
 use std::alloc::Global;
 use std::test::Fail;

@@ -6,9 +6,9 @@ use Rattle.sn_session.specs.declared.outbound.Outbound.{Outbound as Exchange}
 use Rattle.sn_session.specs.declared.outbound.Phase.{Phase}
 use Rattle.sn_session.specs.declared.outbound.Phase.TheVariants.{Registering, Published, Released}
 use Rattle.sn_session.specs.declared.session.Session.{Session}
-use Rattle.sn_session.specs.declared.topics.TopicEntry.{TopicEntry}
+use Rattle.sn_tables.specs.declared.topics.TopicEntry.{TopicEntry}
 use Rattle.sn_session.specs.declared.change.SessionOp.{SessionOp}
-use Rattle.sn_session.specs.Topics.{topic_named}
+use Rattle.sn_tables.specs.Topics.{topic_named}
 use Rattle.rep_op.specs.declared.op.Put.{Put}
 use Rattle.sn_local.specs.declared.config.Addr.{Addr}
 use Rattle.sn_local.specs.declared.local.WillDialog.{WillDialog}

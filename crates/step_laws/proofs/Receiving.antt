@@ -3,13 +3,13 @@ use Rattle.std.proofs.Common.{◌≡◌, ℕ, ◌==◌, Bool, true, false, not, 
 use Rattle.std.specs.Ordering.{nat_cmp}
 use Rattle.std.specs.Cmp.{nat_cmp_total, tied_itself}
 use Rattle.std.proofs.lemmas.Cmp.{ranked}
-use Rattle.sn_session.specs.Tables.{by_order, with_entry}
-use Rattle.sn_session.specs.Received.{is_received, with_received, without_received}
+use Rattle.sn_tables.specs.Tables.{by_order, with_entry}
+use Rattle.sn_tables.specs.Received.{is_received, with_received, without_received}
 use Rattle.sn_session.specs.Session.{applied, is_full, changed as changed_by}
 use Rattle.sn_session.specs.declared.session.Session.{Session}
 use Rattle.sn_session.specs.declared.change.SessionOp.{SessionOp}
 use Rattle.sn_session.specs.declared.change.SessionOp.TheVariants.{Take, Presence, Register, Subscribe, Unsubscribe, WillTopic, WillMsg, Received, Released, Outbound}
-use Rattle.sn_session.proofs.Numbers.{tied}
+use Rattle.sn_tables.proofs.Numbers.{tied}
 use Rattle.step_laws.specs.Laws.{ends_received}
 
 itself : (id : ℕ) → (id == id) ≡ true

@@ -9,10 +9,10 @@ use Rattle.sn_session.specs.declared.outbound.Outbound.{Outbound as Exchange}
 use Rattle.sn_session.specs.declared.outbound.Phase.{Phase}
 use Rattle.sn_session.specs.declared.outbound.Phase.TheVariants.{Registering, Published, Released}
 use Rattle.sn_session.specs.declared.session.Session.{Session}
-use Rattle.sn_session.specs.declared.topics.TopicEntry.{TopicEntry}
+use Rattle.sn_tables.specs.declared.topics.TopicEntry.{TopicEntry}
 use Rattle.sn_session.specs.declared.change.SessionOp.TheVariants.{Register}
-use Rattle.sn_session.specs.Tables.{is_table_full, by_order}
-use Rattle.sn_session.specs.Topics.{topic_cmp, topic_of, topic_named, with_topic, free_id, least_unused}
+use Rattle.sn_tables.specs.Tables.{is_table_full, by_order}
+use Rattle.sn_tables.specs.Topics.{topic_cmp, topic_of, topic_named, with_topic, free_id, least_unused}
 use Rattle.sn_session.specs.Session.{applied, changed as changed_session}
 use Rattle.rep_op.specs.declared.op.Put.{Put}
 use Rattle.sn_plan.specs.Names.{name_of}

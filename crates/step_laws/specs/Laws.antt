@@ -7,7 +7,7 @@ use Rattle.sn_session.specs.declared.session.Session.{Session}
 use Rattle.sn_session.specs.declared.change.SessionOp.{SessionOp}
 use Rattle.sn_session.specs.declared.change.SessionOp.TheVariants.{Take, Released, Outbound as OutboundSet}
 use Rattle.sn_session.specs.Session.{applied}
-use Rattle.sn_session.specs.Received.{is_received, id_has_no_room}
+use Rattle.sn_tables.specs.Received.{is_received, id_has_no_room}
 use Rattle.sn_frame.specs.declared.frame.Frame.TheVariants as frames
 use Rattle.sn_frame.specs.Grammar.{spelling}
 use Rattle.rep_op.specs.declared.op.Put.{Put}

@@ -1,7 +1,7 @@
 //! The parts of a session.
 
 ghost use Rattle.std.specs.Prelude.{◌≡◌, true, false, IfOk, IfErr};
-ghost use Rattle.sn_session.specs.Levels.{is_qos};
+ghost use Rattle.sn_tables.specs.Levels.{is_qos};
 ghost use Rattle.rep_octets.specs.Reading.{Gives, flag_at, presence_at, phase_at, filter_at, entry_at, subscription_at, will_topic_at, will_at, exchange_at, some_will_at, some_topic_at, some_exchange_at};
 
 use super::field::{
@@ -9,7 +9,8 @@ use super::field::{
     read_topic_id, read_two,
 };
 use rep_op::OpsFault;
-use sn_session::{Outbound, Phase, Presence, QosLevel, Subscription, TopicEntry, Will, WillTopic};
+use sn_session::{Outbound, Phase, Presence, Will, WillTopic};
+use sn_tables::{QosLevel, Subscription, TopicEntry};
 use sn_topic::{Filter, MAX_TOPIC};
 use std::alloc::Global;
 

@@ -10,7 +10,8 @@ use super::part::{
 };
 use super::table::{read_received, read_subscriptions, read_topics};
 use rep_op::OpsFault;
-use sn_session::{Presence, Session, SessionOp, Subscription, TopicEntry};
+use sn_session::{Presence, Session, SessionOp};
+use sn_tables::{Subscription, TopicEntry};
 use std::alloc::Global;
 
 /// Where the client is, whether its session is clean, how long, and the next message id.

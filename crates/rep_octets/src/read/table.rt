@@ -2,13 +2,13 @@
 
 ghost use Rattle.std.specs.Prelude.{◌≡◌, ◌≤◌, nat_le, []};
 ghost use Rattle.std.specs.Int.{w16};
-ghost use Rattle.sn_session.specs.declared.table.TheConstants.{MAX_ENTRIES};
+ghost use Rattle.sn_tables.specs.declared.table.TheConstants.{MAX_ENTRIES};
 ghost use Rattle.rep_octets.specs.Reading.{Gives, ranged, number_at, many_at, entry_at, subscription_at, topics_at, subscriptions_at, received_at};
 
 use super::field::read_two;
 use super::part::{read_entry, read_subscription};
 use rep_op::OpsFault;
-use sn_session::{MAX_ENTRIES, Received, Subscription, Subscriptions, TopicEntry, Topics};
+use sn_tables::{MAX_ENTRIES, Received, Subscription, Subscriptions, TopicEntry, Topics};
 use std::alloc::Global;
 
 /// How many entries a table has.

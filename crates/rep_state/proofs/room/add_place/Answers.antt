@@ -1,5 +1,5 @@
 use Rattle.std.proofs.Common.{◌≡◌, ℕ, true, is_some, sym, ap, subst, ◌∙◌, Vec, Global}
-use Rattle.sn_session.specs.Tables.{is_ascending, with_entry}
+use Rattle.sn_tables.specs.Tables.{is_ascending, with_entry}
 use Rattle.std.specs.Map.{lookup}
 use Rattle.std.specs.FinMap.{find, put}
 use Rattle.std.specs.Prelude.{bytes_eq}

@@ -1,7 +1,7 @@
 use Rattle.std.proofs.Common.{◌≡◌, ℕ, List, T, None, Some, sym, ap, subst, ◌∙◌}
 use Rattle.std.specs.FinMap.{find, put as with, is_sorted}
 use Rattle.std.specs.FinMap.Entries.{is_sorted-put}
-use Rattle.sn_session.specs.inner.Tables.{IsGap}
+use Rattle.sn_tables.specs.inner.Tables.{IsGap}
 use Rattle.rep_op.specs.declared.op.Put.{Put}
 use Rattle.rep_op.specs.Orders.{put_cmp}
 use Rattle.rep_model.proofs.Readers.{put_total}

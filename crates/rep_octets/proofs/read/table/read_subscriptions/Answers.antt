@@ -1,4 +1,4 @@
-use Rattle.sn_session.specs.Subscriptions.{subscription_cmp}
+use Rattle.sn_tables.specs.Subscriptions.{subscription_cmp}
 use Rattle.rep_octets.specs.Reading.{subscriptions_at, subscription_at}
 use Rattle.rep_octets.proofs.Many.{table_refused}
 use Rattle.rep_octets.proofs.read.table.read_subscriptions.Goals as goal

@@ -1,4 +1,4 @@
-use Rattle.sn_session.specs.Topics.{topic_cmp}
+use Rattle.sn_tables.specs.Topics.{topic_cmp}
 use Rattle.rep_octets.specs.Reading.{topics_at, entry_at}
 use Rattle.rep_octets.proofs.Many.{table_refused}
 use Rattle.rep_octets.proofs.read.table.read_topics.Goals as goal
