@@ -2,7 +2,8 @@
 
 use crate::gateways::{asker, peer};
 use anyhow::Result;
-use rep_digest::{Digest, answer, digest_of};
+use rep_answer::answer;
+use rep_digest::{Digest, digest_of};
 use rep_model::Replica;
 use rep_ops::Delta;
 use rep_plain::Plain;

@@ -1,7 +1,8 @@
 //! Digests and answers of replicas.
 
 use crate::gateways::{put, take, taken};
-use rep_digest::{Digest, answer, digest_of};
+use rep_answer::answer;
+use rep_digest::{Digest, digest_of};
 use rep_model::Replica;
 use rep_ops::Delta;
 use rep_plain::Plain;

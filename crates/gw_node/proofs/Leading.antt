@@ -7,7 +7,8 @@ use Rattle.rep_ops.specs.Spelling.{max_octets}
 use Rattle.rep_digest.specs.declared.entry.ClientEntry.{ClientEntry}
 use Rattle.rep_digest.specs.Digests.{digest}
 use Rattle.rep_digest.specs.Spelling.{spelling, IsWithinLimit as IsDigestWithinLimit}
-use Rattle.rep_digest.proofs.Completing.{same_digest, same_answer}
+use Rattle.rep_digest.proofs.Counted.{same_digest}
+use Rattle.rep_answer.proofs.Completing.{same_answer}
 use Rattle.rep_model.specs.Views.{view}
 use Rattle.rep_model.specs.Taking.{AllAgree}
 use Rattle.rep_model.proofs.Joins.{view-counts, same_trans}

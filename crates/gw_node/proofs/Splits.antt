@@ -14,7 +14,7 @@ use Rattle.rep_op.proofs.Sets.{Same-sym, Same-trans}
 use Rattle.rep_model.specs.Keep.{keep, CountsAs}
 use Rattle.rep_model.specs.Held.{IsHeld}
 use Rattle.rep_model.proofs.Joins.{same_refl}
-use Rattle.rep_digest.specs.Answers.{IsRest, IsAnswer}
+use Rattle.rep_answer.specs.Answers.{IsRest, IsAnswer}
 use Rattle.rep_digest.specs.declared.entry.ClientEntry.{ClientEntry}
 
 no-cons : {A : Type 0} (x : A) (xs : List A) → [] ≡ x ∷ xs → ⊥

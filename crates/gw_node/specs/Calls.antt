@@ -11,7 +11,7 @@ use Rattle.rep_model.specs.Taking.{Fits}
 use Rattle.rep_ops.specs.Spelling.{max_octets, IsWithinLimit as IsDeltaWithinLimit}
 use Rattle.rep_digest.specs.declared.entry.ClientEntry.{ClientEntry}
 use Rattle.rep_digest.specs.Digests.{digest}
-use Rattle.rep_digest.specs.Answers.{IsAnswer}
+use Rattle.rep_answer.specs.Answers.{IsAnswer}
 use Rattle.rep_digest.specs.Spelling.{spelling, IsWithinLimit}
 use Rattle.sn_plan.specs.declared.plan.Plan.{Plan}
 use Rattle.sn_local.specs.Seen.{seen_of}

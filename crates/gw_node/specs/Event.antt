@@ -10,7 +10,7 @@ use Rattle.rep_op.specs.Orders.{client_of}
 use Rattle.rep_ops.specs.Making.{AreApart, IsDeltaOf, IsRefusal}
 use Rattle.rep_ops.specs.Spelling.{max_octets, IsWithinLimit}
 use Rattle.rep_digest.specs.declared.entry.ClientEntry.{ClientEntry}
-use Rattle.rep_digest.specs.Answers.{IsAnswer}
+use Rattle.rep_answer.specs.Answers.{IsAnswer}
 use Rattle.rep_digest.specs.Digests.{digest}
 use Rattle.rep_digest.specs.Spelling.{spelling, IsWithinLimit as IsDigestWithinLimit}
 use Rattle.rep_model.specs.declared.fault.Limit.{Limit}

@@ -17,7 +17,7 @@ use Rattle.rep_model.specs.Views.{visible}
 use Rattle.rep_model.proofs.Joins.{all-left, all-right, all-moved}
 use Rattle.rep_model.proofs.Readers.{operation_at_keep, put_at_keep, is_acknowledged_keep}
 use Rattle.rep_digest.specs.declared.entry.ClientEntry.{ClientEntry}
-use Rattle.rep_digest.specs.Answers.{covers_operation, covers_put, covers_acknowledgement, IsRest, IsAnswer}
+use Rattle.rep_answer.specs.Answers.{covers_operation, covers_put, covers_acknowledgement, IsRest, IsAnswer}
 use Rattle.rep_digest.specs.Digests.{digest}
 use Rattle.gw_answer.specs.declared.out.Out.{Out}
 use Rattle.gw_answer.specs.declared.refusal.Refusal.{Refusal}

@@ -27,7 +27,7 @@ use Rattle.rep_model.proofs.Named.{clients-named, clients-ascend}
 use Rattle.rep_model.proofs.Limits.{in-acknowledged, apart-acknowledged}
 use Rattle.rep_digest.specs.Digests.{number_of, waiting, origin_entry, has_ranges, numbers_from, origin_entries, client_entry, digest}
 use Rattle.rep_digest.specs.WellMade.{IsRange, IsOrigin, IsSeen, IsEntry, ClientsAscend, IsDigest}
-use Rattle.rep_digest.proofs.Covered.{waiting_there}
+use Rattle.rep_digest.proofs.Waiting.{waiting_there}
 use Rattle.rep_digest.proofs.Said.{are_numbers}
 use Rattle.rep_digest.proofs.Occurring.{origins_up}
 

@@ -23,7 +23,7 @@ use Rattle.rep_op.specs.Values.{AreValues}
 use Rattle.rep_digest.specs.WellMade.{IsDigest}
 use Rattle.rep_digest.proofs.Said.{group_ranges, ranges_rising, waiting_said}
 use Rattle.rep_digest.proofs.Made.{digest_made}
-use Rattle.rep_digest.proofs.Completing.{same_digest}
+use Rattle.rep_digest.proofs.Counted.{same_digest}
 
 module _ (K W : List Op) (d : IsDeltaOf (keep K) W) where
   -- what is handed out counts as what is kept
