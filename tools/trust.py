@@ -36,7 +36,7 @@ PARTS = [
      "neither does it whether it gets a set or the answer to its digest.",
      "Nothing here says when gateways exchange what they have, or that every delta arrives.",
      ["rep_model::join_laws", "rep_model::keep_laws", "rep_model::order_laws", "rep_model::consistency", "rep_model::Replica",
-      "rep_digest::answer_completes", "set_laws::set_order", "set_laws::set_joins", "set_laws::one_element"],
+      "rep_answer::answer_completes", "set_laws::set_order", "set_laws::set_joins", "set_laws::one_element"],
      []),
     ("A field never contradicts itself",
      "A field is a list of gateways, and of the deltas that they made. Events happen to it one after the other, and `run` gives "

@@ -8,14 +8,8 @@ use Rattle.rep_op.specs.declared.op.Op.{Op}
 use Rattle.rep_op.specs.declared.op.Op.TheVariants.{Ack}
 use Rattle.rep_op.specs.Orders.{client_cmp}
 use Rattle.rep_op.specs.Sets.{same_client}
-<<<<<<< HEAD
-use Rattle.rep_model.proofs.Readers.{client_total}
 use Rattle.sn_tables.specs.inner.Tables.{AllAbove, IsAt, IsGap}
 use Rattle.sn_tables.proofs.Ascending.{Ascends}
-=======
-use Rattle.sn_session.specs.inner.Tables.{AllAbove, IsAt, IsGap}
-use Rattle.sn_session.proofs.Ascending.{Ascends}
->>>>>>> 82552c51 (Not proved yet: digests and the answer to one in two crates)
 use Rattle.rep_digest.specs.declared.groups.Acknowledged.{Acknowledged}
 use Rattle.rep_digest.specs.inner.Steps.{acknowledged_by, group, groups}
 

@@ -2,15 +2,9 @@ use Rattle.std.proofs.Common.{◌≡◌, rules}
 use Rattle.std.proofs.lemmas.Fn.{always_returns_same}
 use Rattle.rep_op.specs.Orders.{client_cmp}
 use Rattle.rep_model.proofs.Readers.{client_total}
-<<<<<<< HEAD:crates/rep_digest/proofs/cover/place/Answers.antt
 use Rattle.sn_tables.proofs.Places.{placed}
 use Rattle.rep_answer.proofs.Finding.{entries_ascend}
 use Rattle.rep_answer.proofs.cover.place.Goals as goal
-=======
-use Rattle.sn_session.proofs.Places.{placed}
-use Rattle.rep_answer.proofs.Finding.{entries_ascend}
-use Rattle.rep_answer.proofs.cover.place.Goals as goal
->>>>>>> 82552c51 (Not proved yet: digests and the answer to one in two crates):crates/rep_answer/proofs/cover/place/Answers.antt
 
 -- the closure compares an entry's client with the one that is sought
 pub returns : goal.returns
