@@ -7,11 +7,10 @@ ghost use Rattle.gw_play.specs.Playing.{IsAnswered};
 ghost use Rattle.gw_play.specs.inner.Playing.{IsOutcome};
 ghost use Rattle.gw_play.specs.Printing.{answers_text};
 
-use super::fault::ScriptFault;
 use super::printing::{print_answers, print_bad_line, print_world_fault};
 use super::reading::{ReadFault, Source, read_all};
 use super::replica::Held;
-use super::script::parse;
+use gw_script::{ScriptFault, parse};
 use gw_world::run;
 use rep_model::Replica;
 use std::alloc::{AllocError, Global};
