@@ -1,6 +1,6 @@
 //! What outlives a shift: the links of a gateway, and when its clock last ticked.
 
-use crate::link::{Link, Origin};
+use gw_link::{Link, Origin};
 use std::alloc::Global;
 use std::sync::atomic::{AtomicU64, Ordering};
 use std::sync::{Mutex, Wait};

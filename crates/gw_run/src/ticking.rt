@@ -3,9 +3,8 @@
 ghost use Rattle.std.specs.Prelude.{◌≡◌, Some, None, MatchResult};
 ghost use Rattle.gw_run.specs.Clock.{AddsOfClock, OpensAs};
 
-use crate::calling::{End, call, dropped, is_halted};
 use crate::pool::Pool;
-use crate::stage::{Phase, Stage};
+use gw_link::{End, Phase, Stage, call, dropped, is_halted};
 use gw_node::{Out, Step};
 use gw_shift::{Pass, Shift};
 use gw_wire::{Post, moment};

@@ -2,7 +2,7 @@
 
 ghost use Rattle.std.specs.Prelude.{◌≡◌, true};
 ghost use Rattle.std.specs.Arc.{arc_value};
-ghost use Rattle.gw_run.specs.Adding.{is_of_link};
+ghost use Rattle.gw_link.specs.Adding.{is_of_link};
 
 use gw_net::LinkIn;
 use gw_node::Step;
@@ -30,7 +30,8 @@ pub(crate) struct Heard {
 #[derive(Drop)]
 pub struct Link<S: Drop> {
     pub(crate) stream: S,
-    pub(crate) origin: Origin,
+    /// Which end made the connection.
+    pub origin: Origin,
     /// The octets of a message that is not whole.
     pub(crate) incoming: LinkIn,
     /// The deltas that came and were not heard yet, in their order.
@@ -87,7 +88,9 @@ impl<S: Drop> Link<S> {
     }
 
     /// A new shift numbers its calls from 1; what the last one made was told.
-    pub(crate) fn begin_shift(&mut self) {
+    pub fn begin_shift(&mut self)
+        ensures { self.new.origin ≡ self.old.origin }
+    {
         self.told = 0;
         self.answered = false;
     }

@@ -1,6 +1,6 @@
 //! A link during a shift.
 
-ghost use Rattle.gw_run.specs.Adding.{Adds, is_of_link};
+ghost use Rattle.gw_link.specs.Adding.{Adds, is_of_link};
 
 use crate::calling::End;
 use crate::hearing::{answer, hear_all, listen};
@@ -23,7 +23,7 @@ const A_MOMENT: u64 = 20;
 /// in it: `Full`, and the link stays open; what its stream has not taken by then goes out in the
 /// next one. Or says why the link, or more, is at an end.
 #[tactic(auto, using(crate::proofs::Adding::adds_more, crate::proofs::Adding::adds_none))]
-pub(crate) fn talk<T: Wait + Clock, R: Replica, D: Disk + Drop, S: Read + Write + Drop>(
+pub fn talk<T: Wait + Clock, R: Replica, D: Disk + Drop, S: Read + Write + Drop>(
     rt: &T,
     alloc: Global,
     shift: &Shift<R, D>,

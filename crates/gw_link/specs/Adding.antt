@@ -14,17 +14,6 @@ AddsEach IsSuch before after =
 abbrev pub Adds : (Step → Bool) → Holder → Holder → Type 0
 Adds is before after = AddsEach (λ (held : Held). is held.step ≡ true) before after
 
--- the clock's
-abbrev pub is_tick : Step → Bool
-is_tick (steps.Frame from bytes now) = false
-is_tick (steps.Take delta) = false
-is_tick (steps.Tick now) = true
-is_tick (steps.View client) = false
-is_tick steps.Digest = false
-is_tick (steps.Answer digest) = false
-is_tick steps.Compact = false
-is_tick steps.Reopen = false
-
 -- another gateway's: a delta is taken, a digest is given or answered
 abbrev pub is_of_link : Step → Bool
 is_of_link (steps.Frame from bytes now) = false

@@ -1,7 +1,7 @@
 //! What goes out over a link.
 
 ghost use Rattle.std.specs.Prelude.{◌≡◌};
-ghost use Rattle.gw_run.specs.Adding.{Adds, is_of_link};
+ghost use Rattle.gw_link.specs.Adding.{Adds, is_of_link};
 
 use crate::calling::{End, call, dropped};
 use crate::link::Link;

@@ -5,10 +5,10 @@ ghost use Rattle.std.specs.Arc.{arc_value};
 ghost use Rattle.gw_answer.specs.Answers.{said, told};
 ghost use Rattle.gw_answer.specs.declared.step.Step.{Step as AnyStep};
 ghost use Rattle.gw_shift.specs.Calling.{Made};
-ghost use Rattle.gw_run.specs.Adding.{Adds};
-ghost use Rattle.gw_run.specs.Clock.{says_halted, CannotCall};
-ghost use Rattle.gw_run.specs.inner.Clock.{reached_by};
-ghost use Rattle.gw_run.specs.declared.calling.End.TheVariants as ends;
+ghost use Rattle.gw_link.specs.Adding.{Adds};
+ghost use Rattle.gw_link.specs.Calling.{says_halted, CannotCall};
+ghost use Rattle.gw_link.specs.inner.Calling.{reached_by};
+ghost use Rattle.gw_link.specs.declared.calling.End.TheVariants as ends;
 
 use crate::stage::Stage;
 use gw_node::{Answer, NodeFault, Step};
@@ -47,7 +47,7 @@ pub enum End {
 /// Makes a call, once it is claimed. Says what the gateway answered, or why the call did not reach
 /// it.
 #[tactic(auto, using(crate::proofs::Adding::adds_none))]
-pub(crate) fn call<T: Wait, R: Replica, D: Disk + Drop>(
+pub fn call<T: Wait, R: Replica, D: Disk + Drop>(
     rt: &T,
     alloc: Global,
     shift: &Shift<R, D>,
@@ -86,7 +86,7 @@ fn reached(fault: CallFault) -> Result<NodeFault, End>
 
 /// What a refusal of the gateway means for what it was asked: that is dropped. Only want of memory
 /// ends anything.
-pub(crate) fn dropped(fault: &NodeFault) -> Result<(), End>
+pub fn dropped(fault: &NodeFault) -> Result<(), End>
     ensures { IfErr result (λ end. end ≡ ends.Memory) }
 {
     match fault {
@@ -96,7 +96,7 @@ pub(crate) fn dropped(fault: &NodeFault) -> Result<(), End>
 }
 
 /// Whether the gateway refused since it is halted.
-pub(crate) fn is_halted(fault: &NodeFault) -> bool
+pub fn is_halted(fault: &NodeFault) -> bool
     ensures { result ≡ says_halted (Err (told fault.now)) }
 {
     matches!(fault, NodeFault::Halted)
