@@ -1,7 +1,8 @@
 //! How links are made: peers are dialled, others are accepted.
 
+use gw_link::{Link, Origin, Phase, Stage};
 use gw_main::options::Settings;
-use gw_run::{Link, Origin, Phase, Pool, Stage};
+use gw_run::Pool;
 use gw_wire::address;
 use sn_local::Addr;
 use std::alloc::Global;

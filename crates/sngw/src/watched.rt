@@ -3,7 +3,7 @@
 ghost use Rattle.std.specs.Prelude.{◌≡◌};
 
 use crate::late::Late;
-use gw_run::{Phase, Stage};
+use gw_link::{Phase, Stage};
 use gw_wire::{Arrival, Wire, WireFault};
 use jr_disk::Failures;
 use std::sync::Wait;
