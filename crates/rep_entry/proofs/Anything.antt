@@ -6,7 +6,7 @@ use Rattle.sn_session.specs.declared.change.SessionOp.{SessionOp}
 use Rattle.rep_op.specs.declared.op.Stamp.{Stamp}
 use Rattle.rep_op.specs.declared.op.Put.{Put}
 use Rattle.rep_op.specs.declared.op.Op.{Op}
-use Rattle.rep_plain.specs.Rows.{has_any}
+use Rattle.rep_shared.specs.Rows.{has_any}
 use Rattle.rep_entry.specs.declared.entry.Entry.{Entry}
 use Rattle.rep_log.specs.Origins.{ranges_in}
 use Rattle.rep_log.specs.Kept.{of_log, of_mail, of_acks}

@@ -5,8 +5,8 @@ use Rattle.std.proofs.lemmas.List.{length-append}
 use Rattle.std.proofs.lemmas.List.Elements.{filter-append}
 use Rattle.rep_op.specs.declared.op.Put.{Put}
 use Rattle.rep_op.specs.WellMade.{is_put}
-use Rattle.rep_plain.specs.Steps.{capped}
-use Rattle.rep_plain.proofs.Prepared.{all_filter}
+use Rattle.rep_shared.specs.Steps.{capped}
+use Rattle.rep_shared.proofs.Flat.{all_filter}
 use Rattle.rep_op.specs.Orders.{operation_cmp}
 use Rattle.rep_model.specs.Limits.{parked, exceptions}
 use Rattle.rep_log.specs.declared.log.Log.{Log}

@@ -4,7 +4,7 @@ use Rattle.std.specs.FinMap.{is_sorted}
 use Rattle.rep_op.specs.declared.op.Put.{Put}
 use Rattle.rep_op.specs.Orders.{operation_cmp}
 use Rattle.rep_model.specs.Limits.{parked, exceptions}
-use Rattle.rep_plain.specs.Steps.{capped}
+use Rattle.rep_shared.specs.Steps.{capped}
 use Rattle.rep_log.specs.declared.log.Log.{Log}
 use Rattle.rep_entry.specs.declared.entry.Entry.{Entry}
 use Rattle.rep_log.specs.Logs.{IsFolded, all_of, known_on}

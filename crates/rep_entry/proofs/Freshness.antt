@@ -12,7 +12,7 @@ use Rattle.rep_op.specs.WellMade.{is_put}
 use Rattle.rep_model.specs.Views.{in_order}
 use Rattle.rep_model.proofs.Lookup.{or_else}
 use Rattle.rep_model.proofs.Readers.{put_total, put_exact}
-use Rattle.rep_plain.proofs.Flat.{all_put}
+use Rattle.rep_shared.proofs.Flat.{all_put}
 use Rattle.rep_entry.specs.declared.span.Span.{Span}
 use Rattle.rep_log.specs.Mail.{Range, name_of, covers, Above, Rising, NoneCovered, named_puts, put_named, InOne, weave}
 use Rattle.rep_entry.specs.Spans.{IsFreeOutside}

@@ -20,9 +20,9 @@ use Rattle.rep_model.specs.Ranges.{AreApartFrom}
 use Rattle.rep_model.specs.Views.{named}
 use Rattle.rep_model.proofs.Readers.{operation_total, operation_exact}
 use Rattle.rep_model.proofs.Joins.{all-both, all-weaker}
-use Rattle.rep_plain.specs.Rows.{IsOwnOp, IsOwn}
-use Rattle.rep_plain.proofs.Counting.{all_found}
-use Rattle.rep_plain.proofs.Flat.{named_client}
+use Rattle.rep_shared.specs.Rows.{IsOwnOp, IsOwn}
+use Rattle.rep_shared.proofs.Counting.{all_found}
+use Rattle.rep_shared.proofs.Flat.{named_client}
 use Rattle.rep_log.specs.Logs.{IsKeptIn}
 use Rattle.rep_log.specs.Mail.{Range}
 use Rattle.rep_log.specs.Origins.{ranges_in, IsOrigin, AreOrigins}

@@ -12,7 +12,7 @@ use Rattle.rep_op.specs.WellMade.{is_stamp, is_counted, is_put}
 use Rattle.rep_op.specs.Ranges.{is_change}
 use Rattle.rep_model.specs.Keep.{keep}
 use Rattle.rep_model.specs.Limits.{parked, exceptions}
-use Rattle.rep_plain.specs.Steps.{capped}
+use Rattle.rep_shared.specs.Steps.{capped}
 use Rattle.rep_log.specs.declared.log.Log.{Log}
 use Rattle.rep_entry.specs.declared.entry.Entry.{Entry}
 use Rattle.rep_entry.specs.declared.fresh.Fresh.{Fresh}

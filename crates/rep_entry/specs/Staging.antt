@@ -11,8 +11,8 @@ use Rattle.rep_op.specs.Orders.{client_cmp, operation_cmp}
 use Rattle.rep_op.specs.Sets.{operations, puts}
 use Rattle.rep_model.specs.declared.fault.TheConstants.{MOST_PENDING, MOST_PARKED, MOST_EXCEPTIONS}
 use Rattle.rep_model.specs.Limits.{parked, exceptions}
-use Rattle.rep_plain.specs.Rows.{own}
-use Rattle.rep_plain.specs.Steps.{capped}
+use Rattle.rep_shared.specs.Rows.{own}
+use Rattle.rep_shared.specs.Steps.{capped}
 use Rattle.rep_log.specs.declared.log.Log.{Log}
 use Rattle.rep_entry.specs.declared.change.Change.{Change}
 use Rattle.rep_log.specs.Logs.{IsFolded, all_of, whole_of}

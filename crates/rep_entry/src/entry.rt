@@ -1,7 +1,7 @@
 //! What the replica keeps of one client.
 
 ghost use Rattle.std.specs.Prelude.{◌≡◌, ◌||◌, ◌==◌, not, length, ℕ, List, [], None};
-ghost use Rattle.rep_plain.specs.Rows.{has_any};
+ghost use Rattle.rep_shared.specs.Rows.{has_any};
 
 use rep_log::{Acks, Known, NamedOp};
 use rep_model::{ClientView, Puts};

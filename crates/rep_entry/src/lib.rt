@@ -23,16 +23,19 @@
 //! - `weaving`, `settling`: messages that wait, with new ones in their places, without the
 //!   acknowledged ones.
 //! - `span`: sequence numbers from one to another, and where the messages that have them stand.
+//! - `interest`: which topics a client's filters may ask for, as a few marks.
 //!
 //! The definitions are in `specs/`: `Spans`, `Entries` (what holds of an entry, what a change
-//! builds on, and what holds of a change) and `Staging` (the same as it is staged). Lemmas that
-//! carry the step from one operation to the next are in `proofs/`: `Steps`, `One`, `Changes`,
-//! `Changing`; of names in order: `Rising`, `Names`, `Newcomers`.
+//! builds on, and what holds of a change), `Staging` (the same as it is staged) and `Interests`
+//! (marks). Lemmas that carry the step from one operation to the next are in `proofs/`: `Steps`,
+//! `One`, `Changes`, `Changing`; of names in order: `Rising`, `Names`, `Newcomers`; of marks:
+//! `Asking`.
 #![tactic(auto)]
 
 mod change;
 mod entry;
 mod fresh;
+mod interest;
 mod news;
 mod searching;
 mod settling;
@@ -42,6 +45,7 @@ mod weaving;
 pub use change::{Change, put_into};
 pub use entry::Entry;
 pub use fresh::Fresh;
+pub use interest::{has_mark, mark_of, marks_of};
 pub use news::News;
 pub use octets::NoMemory;
 pub use searching::find_put;

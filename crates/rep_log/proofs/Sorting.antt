@@ -16,7 +16,7 @@ use Rattle.rep_op.specs.declared.op.Stamp.{Stamp}
 use Rattle.rep_op.specs.Orders.{stamp_cmp, operation_cmp}
 use Rattle.rep_model.specs.Keep.{is_below}
 use Rattle.rep_model.proofs.Lookup.{or_else, find_both}
-use Rattle.rep_plain.specs.Steps.{waits}
+use Rattle.rep_shared.specs.Steps.{waits}
 
 first : (a b : Bool) → T (a && b) → T a
 first true b p = tt

@@ -7,14 +7,14 @@ ghost use Rattle.std.specs.List.{list_any};
 ghost use Rattle.std.specs.BTreeMap.{values};
 ghost use Rattle.rep_op.specs.declared.op.Op.TheVariants.{Ack};
 ghost use Rattle.rep_model.specs.Ranges.{is_within, in_ranges};
-ghost use Rattle.rep_plain.specs.Steps.{capped};
+ghost use Rattle.rep_shared.specs.Steps.{capped};
 ghost use Rattle.rep_log.specs.Kept.{of_acks};
 ghost use Rattle.rep_log.specs.Mail.{covers};
 ghost use Rattle.rep_log.specs.Origins.{origins_of, ranges_at, ranges_in, AreOrigins, above_gaps};
 
 use octets::NoMemory;
 use rep_ops::{ClientId, Op};
-use rep_plain::{above_gap, with_range};
+use rep_shared::{above_gap, with_range};
 use std::alloc::Global;
 use std::collections::BTreeMap;
 use std::marker::Model;

@@ -11,7 +11,7 @@ ghost use Rattle.sn_tables.specs.inner.Tables.{IsPlace};
 ghost use Rattle.rep_op.specs.declared.op.Stamp.{Stamp as OfStamp};
 ghost use Rattle.rep_op.specs.Orders.{operation_cmp};
 ghost use Rattle.rep_model.specs.Keep as spec;
-ghost use Rattle.rep_plain.specs.Steps.{waits};
+ghost use Rattle.rep_shared.specs.Steps.{waits};
 
 use super::behind::put_behind;
 use octets::NoMemory;

@@ -12,7 +12,7 @@ ghost use Rattle.rep_op.specs.Orders.{operation_cmp};
 ghost use Rattle.sn_session.specs.declared.change.SessionOp.{SessionOp};
 ghost use Rattle.rep_model.specs.Keep as spec;
 ghost use Rattle.rep_model.specs.Views.{session_of};
-ghost use Rattle.rep_plain.specs.Steps.{waits};
+ghost use Rattle.rep_shared.specs.Steps.{waits};
 ghost use Rattle.rep_log.specs.Logs.{history_in};
 ghost use Rattle.rep_log.specs.Logs.{IsKeptIn};
 

@@ -11,7 +11,7 @@ ghost use Rattle.rep_log.specs.inner.Logs.{IsReplayed};
 use super::known::{NamedOp, find_op};
 use octets::NoMemory;
 use rep_ops::Stamp;
-use rep_plain::changed;
+use rep_shared::changed;
 use sn_session::{Session, SessionOp};
 use std::alloc::Global;
 

@@ -7,7 +7,7 @@ use Rattle.rep_op.specs.Orders.{client_cmp}
 use Rattle.rep_model.specs.declared.fault.TheConstants.{MOST_CLIENTS, MOST_PENDING, MOST_PARKED, MOST_EXCEPTIONS}
 use Rattle.rep_plain.specs.declared.entry.Entry.{Entry}
 use Rattle.rep_plain.specs.Entries.{IsWorkedOut}
-use Rattle.rep_plain.specs.Rows.{IsOwn, count_named}
+use Rattle.rep_shared.specs.Rows.{IsOwn, count_named}
 
 -- the operations of each client
 abbrev pub rows_of : List (List ℕ × Entry) → List (List ℕ × List Op)

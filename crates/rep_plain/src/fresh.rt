@@ -8,7 +8,7 @@ ghost use Rattle.std.specs.FinMap.{find, is_sorted};
 ghost use Rattle.rep_op.specs.declared.op.Op.{Op};
 ghost use Rattle.rep_op.specs.Orders.{client_cmp};
 ghost use Rattle.rep_plain.specs.Entries.{IsWorkedOut};
-ghost use Rattle.rep_plain.specs.Rows.{own};
+ghost use Rattle.rep_shared.specs.Rows.{own};
 ghost use Rattle.rep_plain.specs.inner.Rows.{IsGrown};
 ghost use Rattle.rep_plain.specs.Tables.{rows_of};
 ghost use Rattle.rep_plain.specs.inner.Tables.{groups_of};

@@ -12,13 +12,11 @@
 //! - `held`: what must be kept, as deltas.
 //! - `entry`: a client's operations and what they come to.
 //! - `reading`, `replay`, `waiting`, `ranges`: visible stamp, prefix and session, messages that
-//!   wait, acknowledgements. Three small functions of theirs serve the folded replica too: what one
-//!   operation makes of a session (`changed`), a range among others (`with_range`), and how many
-//!   numbers stand above a gap (`above_gap`).
+//!   wait, acknowledgements.
 //!
-//! The definitions are in `specs/`: `Rows` (clients with their operations, and what a move makes of
-//! them), `Entries` and `Tables` (what the replica's table keeps), `Steps` (small steps of the
-//! loops).
+//! What clients with their operations are, and what the folded replica needs as well, is in
+//! `rep_shared`. The definitions here are in `specs/`: `Entries` and `Tables` (what the replica's
+//! table keeps).
 #![tactic(auto)]
 
 mod entry;
@@ -34,6 +32,4 @@ mod table;
 mod waiting;
 
 pub use plain::{Plain, Staged};
-pub use ranges::{above_gap, with_range};
 pub use rep_model::{ClientView, Limit, Puts, Replica, TakeFault};
-pub use replay::changed;

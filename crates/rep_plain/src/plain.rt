@@ -63,7 +63,7 @@ impl Model for Staged {
 
 impl Replica for Plain {
     ghost use Rattle.std.specs.Prelude.{◌≡◌};
-    ghost use Rattle.rep_plain.specs.Rows.{flat, moved, count_named};
+    ghost use Rattle.rep_shared.specs.Rows.{flat, moved, count_named};
     ghost use Rattle.rep_plain.specs.Tables.{HaveRoom};
 
     type Staged = Staged;

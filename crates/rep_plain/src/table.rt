@@ -4,8 +4,8 @@ ghost use Rattle.std.specs.Prelude.{◌≡◌, ◌+◌, ◌∷◌, [], List, ℕ
 ghost use Rattle.std.specs.List.{list_any, AllByRecursion};
 ghost use Rattle.std.specs.FinMap.{find, is_sorted};
 ghost use Rattle.rep_op.specs.Orders.{client_cmp};
-ghost use Rattle.rep_plain.specs.Rows.{own, flat, has_any};
-ghost use Rattle.rep_plain.specs.inner.Rows.{count_new, named_rows};
+ghost use Rattle.rep_shared.specs.Rows.{own, flat, has_any};
+ghost use Rattle.rep_shared.specs.inner.Rows.{count_new, named_rows};
 ghost use Rattle.rep_plain.specs.Tables.{rows_of};
 ghost use Rattle.rep_plain.specs.inner.Tables.{passed_by, too_many_pending, too_many_parked, too_many_exceptions};
 

@@ -14,10 +14,10 @@ use Rattle.rep_model.proofs.Lookup.{or_else}
 use Rattle.rep_model.proofs.Readers.{client_exact, operation_at_keep, put_at_keep, is_acknowledged_keep}
 use Rattle.rep_model.proofs.Joins.{counts-between}
 use Rattle.rep_model.proofs.Named.{is_named-counts}
-use Rattle.rep_plain.specs.Rows.{flat, own, or_nothing, moved, has_any, IsOwn}
-use Rattle.rep_plain.specs.inner.Rows.{of_client, AreRows}
-use Rattle.rep_plain.proofs.Single.{operation_at_own, put_at_own, is_acknowledged_own, visible_own}
-use Rattle.rep_plain.proofs.Flat.{of_flat, find_in_moved, rows_moved, named_any}
+use Rattle.rep_shared.specs.Rows.{flat, own, or_nothing, moved, has_any, IsOwn}
+use Rattle.rep_shared.specs.inner.Rows.{of_client, AreRows}
+use Rattle.rep_shared.proofs.Single.{operation_at_own, put_at_own, is_acknowledged_own, visible_own}
+use Rattle.rep_shared.proofs.Flat.{of_flat, find_in_moved, rows_moved, named_any}
 use Rattle.rep_entry.specs.declared.entry.Entry.{Entry}
 use Rattle.rep_entry.specs.declared.fresh.Fresh.{Fresh}
 use Rattle.rep_entry.specs.Entries.{row_of, IsFresh, fresh_row}

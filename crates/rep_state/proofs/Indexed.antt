@@ -14,7 +14,7 @@ use Rattle.indexmap.specs.IndexMap.{insert_entry}
 use Rattle.rep_op.specs.Orders.{client_cmp}
 use Rattle.rep_model.proofs.Lookup.{is_sorted-in_order}
 use Rattle.rep_model.proofs.Readers.{client_total, client_exact}
-use Rattle.rep_plain.proofs.Counting.{all_found}
+use Rattle.rep_shared.proofs.Counting.{all_found}
 use Rattle.sn_tables.specs.Tables.{is_ascending, with_entry}
 use Rattle.sn_tables.specs.inner.Tables.{IsAt, IsGap}
 use Rattle.sn_tables.proofs.Ascending.{Ascends, to_test, all_with, less}

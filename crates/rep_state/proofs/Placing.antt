@@ -9,9 +9,9 @@ use Rattle.rep_op.specs.declared.op.Op.{Op}
 use Rattle.rep_op.specs.Orders.{client_cmp}
 use Rattle.rep_model.specs.Limits.{parked, exceptions}
 use Rattle.rep_model.proofs.Readers.{client_total, client_exact}
-use Rattle.rep_plain.specs.Rows.{flat, own, or_nothing, moved, has_any, count_named}
-use Rattle.rep_plain.specs.Steps.{capped}
-use Rattle.rep_plain.proofs.Flat.{all_put, count_put, moved_last, one_if}
+use Rattle.rep_shared.specs.Rows.{flat, own, or_nothing, moved, has_any, count_named}
+use Rattle.rep_shared.specs.Steps.{capped}
+use Rattle.rep_shared.proofs.Flat.{all_put, count_put, moved_last, one_if}
 use Rattle.rep_entry.specs.declared.entry.Entry.{Entry}
 use Rattle.rep_entry.specs.Entries.{row_of, IsEntry}
 use Rattle.rep_state.specs.Tables.{rows_of, IsKept, AreKept}

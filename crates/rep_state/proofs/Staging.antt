@@ -11,9 +11,9 @@ use Rattle.rep_op.specs.declared.op.Put.{Put}
 use Rattle.rep_op.specs.declared.op.Op.{Op}
 use Rattle.rep_op.specs.Orders.{client_cmp}
 use Rattle.rep_model.proofs.Readers.{client_total, client_exact}
-use Rattle.rep_plain.specs.Rows.{own, moved}
-use Rattle.rep_plain.specs.inner.Tables.{passed_of}
-use Rattle.rep_plain.proofs.Flat.{all_put}
+use Rattle.rep_shared.specs.Rows.{own, moved}
+use Rattle.rep_shared.specs.inner.Tables.{passed_of}
+use Rattle.rep_shared.proofs.Flat.{all_put}
 use Rattle.sn_session.specs.declared.change.SessionOp.{SessionOp}
 use Rattle.rep_op.specs.declared.op.Stamp.{Stamp}
 use Rattle.rep_model.specs.Limits.{parked, exceptions}

@@ -17,11 +17,11 @@ use Rattle.rep_op.specs.WellMade.{is_well_made}
 use Rattle.rep_model.specs.Keep.{keep}
 use Rattle.rep_model.proofs.Joins.{same_trans, all-both, all-weaker}
 use Rattle.rep_model.proofs.Readers.{client_total, client_exact, same_client-true}
-use Rattle.rep_plain.specs.Rows.{flat, own, or_nothing, has_any, IsOwn, IsOwnOp}
-use Rattle.rep_plain.specs.inner.Rows.{of_client}
-use Rattle.rep_plain.proofs.Kept.{made_rows}
-use Rattle.rep_plain.proofs.Counting.{all_found}
-use Rattle.rep_plain.proofs.Flat.{of_flat, found_own}
+use Rattle.rep_shared.specs.Rows.{flat, own, or_nothing, has_any, IsOwn, IsOwnOp}
+use Rattle.rep_shared.specs.inner.Rows.{of_client}
+use Rattle.rep_shared.proofs.Kept.{made_rows}
+use Rattle.rep_shared.proofs.Counting.{all_found}
+use Rattle.rep_shared.proofs.Flat.{of_flat, found_own}
 use Rattle.rep_entry.specs.declared.entry.Entry.{Entry}
 use Rattle.rep_entry.specs.declared.fresh.Fresh.{Fresh}
 use Rattle.rep_entry.specs.Entries.{row_of, IsEntry, IsFresh, fresh_row}

@@ -15,22 +15,20 @@
 //! - `table`, `room`: the table of clients, the limits, room for fresh entries and their move.
 //! - `places`: the clients in order, each with the marks of what it asks for; the next that a
 //!   publication may be for.
-//! - `interest`: which topics a client's filters may ask for, as a few marks.
 //! - `agreeing`: whether a delta contradicts what is kept.
 //! - `grouping`: what a delta changes of each client that it names.
 //! - `numbers`, `held`: the last numbers of a client; all clients in order, and what is kept of
 //!   them.
 //!
-//! The definitions are in `specs/`: `Tables` (of clients), `Interests` (marks); for private
-//! functions, `Groups` (the changes of a delta, client by client) and `Staging` (the same as they
-//! are staged). Lemmas from a client to all of them are in `proofs/`: `Groups`, `Working`,
+//! The definitions are in `specs/`: `Tables` (of clients), `Interests` (places with marks); for
+//! private functions, `Groups` (the changes of a delta, client by client) and `Staging` (the same
+//! as they are staged). Lemmas from a client to all of them are in `proofs/`: `Groups`, `Working`,
 //! `Passing`, `Fitting`, `Staging`; of places and moves: `Rows`, `Placing`, `Walking`.
 #![tactic(auto)]
 
 mod agreeing;
 mod grouping;
 mod held;
-mod interest;
 mod numbers;
 mod places;
 mod replica;

@@ -2,7 +2,7 @@
 
 ghost use Rattle.std.specs.Prelude.{◌≡◌, ℕ, List, max};
 ghost use Rattle.rep_model.specs.Fresh.{greatest_epoch, seq_of, largest};
-ghost use Rattle.rep_plain.specs.Rows.{own};
+ghost use Rattle.rep_shared.specs.Rows.{own};
 ghost use Rattle.rep_entry.specs.Entries.{row_of};
 ghost use Rattle.rep_log.specs.Mail.{Rising};
 ghost use Rattle.rep_entry.specs.inner.Numbers.{epoch_of, seq_from};

@@ -13,10 +13,9 @@ ghost use Rattle.rep_state.specs.Tables.{by_client, names_at, ArePlaces};
 ghost use Rattle.rep_state.specs.inner.Tables.{place_cmp};
 ghost use Rattle.rep_state.specs.inner.Interests.{marked, NoneMarked, IsPassed};
 
-use super::interest::has_mark;
 use super::table::Table;
 use octets::NoMemory;
-use rep_entry::Entry;
+use rep_entry::{Entry, has_mark};
 use rep_ops::ClientId;
 use std::alloc::Global;
 

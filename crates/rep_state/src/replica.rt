@@ -69,7 +69,7 @@ impl Model for Staged {
 
 impl Replica for Folded {
     ghost use Rattle.std.specs.Prelude.{◌≡◌};
-    ghost use Rattle.rep_plain.specs.Rows.{flat, moved, count_named};
+    ghost use Rattle.rep_shared.specs.Rows.{flat, moved, count_named};
     ghost use Rattle.rep_entry.specs.Staging.{planned, AreReady};
 
     type Staged = Staged;

@@ -5,8 +5,8 @@ ghost use Rattle.std.specs.Option.{option_copied};
 ghost use Rattle.std.specs.List.{list_any};
 ghost use Rattle.std.specs.FinMap.{find};
 ghost use Rattle.rep_op.specs.Orders.{client_cmp};
-ghost use Rattle.rep_plain.specs.Rows.{own, has_any};
-ghost use Rattle.rep_plain.specs.inner.Tables.{passed_of};
+ghost use Rattle.rep_shared.specs.Rows.{own, has_any};
+ghost use Rattle.rep_shared.specs.inner.Tables.{passed_of};
 ghost use Rattle.rep_state.specs.Tables.{by_client, rows_of};
 
 use indexmap::IndexMap;

@@ -7,7 +7,7 @@ use Rattle.std.proofs.lemmas.Map.Views.{tells_apart}
 use Rattle.rep_op.specs.declared.op.Op.{Op}
 use Rattle.rep_op.specs.Orders.{client_cmp, client_of}
 use Rattle.rep_model.proofs.Readers.{client_exact}
-use Rattle.rep_plain.specs.Rows.{own}
+use Rattle.rep_shared.specs.Rows.{own}
 use Rattle.rep_plain.specs.inner.Rows.{grown}
 use Rattle.rep_plain.specs.Tables.{rows_of}
 use Rattle.rep_plain.specs.inner.Tables.{groups_of}

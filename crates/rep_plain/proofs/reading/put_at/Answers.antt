@@ -1,5 +1,5 @@
 use Rattle.std.proofs.Common.{◌+◌, sym, ap, ◌∙◌, drop}
-use Rattle.rep_plain.proofs.Places.{drop_here}
+use Rattle.rep_shared.proofs.Places.{drop_here}
 use Rattle.std.specs.Option.{option_copied}
 use Rattle.rep_plain.specs.inner.Steps.{first_of_two}
 use Rattle.rep_op.specs.Sets.{put_at}

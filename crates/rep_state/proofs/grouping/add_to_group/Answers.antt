@@ -8,7 +8,7 @@ use Rattle.rep_op.specs.Orders.{client_cmp, client_of}
 use Rattle.rep_op.specs.Sets.{Same}
 use Rattle.rep_model.specs.Keep.{keep}
 use Rattle.rep_model.proofs.Readers.{client_total}
-use Rattle.rep_plain.specs.Rows.{own}
+use Rattle.rep_shared.specs.Rows.{own}
 use Rattle.rep_entry.specs.declared.entry.Entry.{Entry}
 use Rattle.rep_entry.specs.declared.fresh.Fresh.{Fresh}
 use Rattle.rep_entry.specs.Entries.{IsEntry, IsFresh, IsStep, fresh_row}
