@@ -49,6 +49,3 @@ fn work(alloc: Global, line: &str) -> Result<String> {
         _ => bail!("the works are frames, deltas, records and digests"),
     }
 }
-
-#[cfg(test)]
-mod tests;
