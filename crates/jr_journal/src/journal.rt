@@ -355,6 +355,7 @@ impl Journal<MemoryDisk> {
     ghost use Rattle.std.specs.Prelude.{◌≡◌};
     ghost use Rattle.jr_disk.specs.Memory.{failing};
     ghost use Rattle.jr_journal.specs.Parts.{disk_of, gateway_of, slot_of, generation_of};
+    ghost use Rattle.jr_journal.specs.Parts as parts;
 
     /// Whether memory was refused in the disk.
     pub fn starved(&self) -> bool
