@@ -12,8 +12,8 @@ import sys
 
 from sessions import frame, seconds
 
-# Messages per second that this script told on 2026-11-23, when the plain replica was the only one, of an idle machine of this kind: by
-# publications to 1,000 at a time, and one by one. On a slower machine they were 53,300 and 3,200.
+# Messages per second that this script told when the plain replica was the only one, on a machine said to be idle: by publications to 1,000
+# at a time, and one by one. On a slower machine they were 53,300 and 3,200. Day and machine are not known, so the ratio is a rough one.
 FIRST_MANY, FIRST_LONG = 62000, 3400
 
 
