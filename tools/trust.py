@@ -28,7 +28,7 @@ PARTS = [
      "the client.",
      "Nothing here says that a message ever reaches a client: that needs a client that answers, and time.",
      ["rep_model::leaves_only", "rep_model::pending_laws", "rep_model::Replica::kept", "rep_model::Replica::view_of",
-      "sn_flow::only_acknowledged", "sn_flow::messages_wait", "sn_deliver::every_step"],
+      "row_laws::only_acknowledged", "row_laws::messages_wait", "step_laws::every_step"],
      []),
     ("Sets join in any order",
      "Gateways that exchange what they have end with equal sets, in whatever order and however often it comes, as long as the sets "
@@ -36,7 +36,7 @@ PARTS = [
      "neither does it whether it gets a set or the answer to its digest.",
      "Nothing here says when gateways exchange what they have, or that every delta arrives.",
      ["rep_model::join_laws", "rep_model::keep_laws", "rep_model::order_laws", "rep_model::consistency", "rep_model::Replica",
-      "rep_digest::answer_completes", "set_laws::set_order", "set_laws::set_joins", "set_laws::one_element"],
+      "rep_answer::answer_completes", "set_laws::set_order", "set_laws::set_joins", "set_laws::one_element"],
      []),
     ("A field never contradicts itself",
      "A field is a list of gateways, and of the deltas that they made. Events happen to it one after the other, and `run` gives "
@@ -53,10 +53,10 @@ PARTS = [
      "A step is a function of its configuration, what it has taken, what it knows besides, the frame, the sender and the time.",
      "The table says a second time what the programs do. That it is what the standard asks for is for you to judge. A function may "
      "always answer that memory ran out.",
-     ["sn_deliver::step", "sn_deliver::tick", "sn_flow::connect", "sn_flow::disconnect", "sn_flow::will_topic", "sn_flow::will_msg",
-      "sn_flow::will_topic_update", "sn_flow::will_msg_update", "sn_flow::register", "sn_flow::subscribe", "sn_flow::unsubscribe",
+     ["sn_deliver::step", "sn_tick::tick", "sn_flow::connect", "sn_flow::disconnect", "sn_flow::will_topic", "sn_flow::will_msg",
+      "sn_flow::will_topic_update", "sn_flow::will_msg_update", "sn_subscribe::register", "sn_subscribe::subscribe", "sn_subscribe::unsubscribe",
       "sn_plan::other", "plan_laws::every_plan", "plan_laws::bound_up"],
-     ["sn_deliver/Steps/step", "sn_deliver/Ticking/tick", "sn_local/Locals/after_all", "sn_local/Locals/owned"]),
+     ["sn_deliver/Steps/step", "sn_tick/Ticking/tick", "sn_local/Locals/after_all", "sn_local/Locals/owned"]),
     ("The disk",
      "What a gateway makes or takes is written and synced before it is answered. After every crash its journal gives what counts as "
      "all that was answered for, or that and the one record that was being written; amid a compaction, the old records or all that "

@@ -6,8 +6,8 @@ use std::alloc::{AllocError, Global};
 /// How many datagrams the stream has.
 const COUNT: usize = 10_000;
 
-/// A kind of datagram: the octet of the message's type, the first octet of the body, the fewest octets of
-/// the body, and how many more it may have.
+/// A kind of datagram: the octet of the message's type, the first octet of the body, the fewest
+/// octets of the body, and how many more it may have.
 type Shape = (u8, u8, u8, u8);
 
 /// Each message of MQTT-SN 1.2, and those that publish more than once.
@@ -47,7 +47,7 @@ const SHAPES: [Shape; 32] = [
 ];
 
 /// The stream. One datagram in four has the long form of Length where the short one would do.
-pub fn stream(alloc: Global) -> Result<Vec<Vec<u8>>, AllocError> {
+pub(crate) fn stream(alloc: Global) -> Result<Vec<Vec<u8>>, AllocError> {
     let mut numbers = Numbers::new();
     let mut made = Vec::new(alloc);
     for _ in 0..COUNT {

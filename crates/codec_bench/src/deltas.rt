@@ -8,7 +8,7 @@ use std::alloc::Global;
 
 /// Encodes and decodes the delta so often, and says how many operations were read, and what was
 /// written.
-pub fn run(alloc: Global, rounds: u32) -> Result<String> {
+pub(crate) fn run(alloc: Global, rounds: u32) -> Result<String> {
     let delta = Delta::from_ops(alloc, operations(alloc)?)?;
     let mut bytes = Vec::new(alloc);
     let mut count = 0_u64;

@@ -2,15 +2,16 @@
 
 use crate::gateways::{asker, peer};
 use anyhow::Result;
-use rep_digest::{Digest, answer, digest_of};
+use rep_answer::answer;
+use rep_digest::{Digest, digest_of};
 use rep_model::Replica;
 use rep_ops::Delta;
 use rep_plain::Plain;
 use std::alloc::Global;
 
-/// Makes the digest of what the one gateway has, and the other's answer to it, so often, and says how large they are beside all that
-/// the other holds.
-pub fn run(alloc: Global, rounds: u32) -> Result<String> {
+/// Makes the digest of what the one gateway has, and the other's answer to it, so often, and says
+/// how large they are beside all that the other holds.
+pub(crate) fn run(alloc: Global, rounds: u32) -> Result<String> {
     let asker = asker(alloc)?;
     let peer = peer(alloc)?;
     for _ in 0..rounds {

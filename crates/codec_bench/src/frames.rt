@@ -6,9 +6,9 @@ use anyhow::Result;
 use sn_frame::{decode, encode};
 use std::alloc::Global;
 
-/// Decodes and encodes the stream so often, and says how many datagrams that were, and what the last
-/// round wrote.
-pub fn run(alloc: Global, rounds: u32) -> Result<String> {
+/// Decodes and encodes the stream so often, and says how many datagrams that were, and what the
+/// last round wrote.
+pub(crate) fn run(alloc: Global, rounds: u32) -> Result<String> {
     let datagrams = stream(alloc)?;
     let mut out = Vec::new(alloc);
     let mut count = 0_u64;

@@ -1,5 +1,6 @@
-//! Two gateways of which one was away: each has 1,000 clients with a session and 20 messages of four origins, with bodies of 64 octets.
-//! One message in a hundred has not come to the one that was away.
+//! Two gateways of which one was away: each has 1,000 clients with a session and 20 messages of
+//! four origins, with bodies of 64 octets. One message in a hundred has not come to the one that
+//! was away.
 
 use crate::numbers::Numbers;
 use anyhow::Result;
@@ -7,7 +8,8 @@ use octets::Octets;
 use rep_model::Replica;
 use rep_ops::{ClientId, Delta, Op, OpsFault, Put, Stamp};
 use rep_plain::Plain;
-use sn_session::{Message, QosLevel, Session, SessionOp};
+use sn_session::{Message, Session, SessionOp};
+use sn_tables::QosLevel;
 use sn_topic::TopicName;
 use std::alloc::Global;
 
@@ -21,17 +23,17 @@ const ORIGINS: u16 = 4;
 const BODY: usize = 64;
 
 /// The gateway that has all.
-pub fn peer(alloc: Global) -> Result<Plain> {
+pub(crate) fn peer(alloc: Global) -> Result<Plain> {
     taken(alloc, operations(alloc, false)?)
 }
 
 /// The gateway that was away.
-pub fn asker(alloc: Global) -> Result<Plain> {
+pub(crate) fn asker(alloc: Global) -> Result<Plain> {
     taken(alloc, operations(alloc, true)?)
 }
 
 /// A gateway that has taken these operations.
-pub fn taken(alloc: Global, ops: Vec<Op>) -> Result<Plain> {
+pub(crate) fn taken(alloc: Global, ops: Vec<Op>) -> Result<Plain> {
     let delta = Delta::from_ops(alloc, ops)?;
     let mut replica = Plain::empty(alloc)?;
     let staged = replica.prepare(alloc, &delta)?;
@@ -69,7 +71,7 @@ fn name(alloc: Global, client: u16) -> Result<ClientId, OpsFault> {
 }
 
 /// The client's session.
-pub fn take(alloc: Global, client: u16) -> Result<Op, OpsFault> {
+pub(crate) fn take(alloc: Global, client: u16) -> Result<Op, OpsFault> {
     let mut session = Session::empty(alloc);
     session.duration = 60;
     Ok(Op::Session {
@@ -84,7 +86,7 @@ pub fn take(alloc: Global, client: u16) -> Result<Op, OpsFault> {
 }
 
 /// A message for the client.
-pub fn put(alloc: Global, client: u16, message: u16) -> Result<Op, OpsFault> {
+pub(crate) fn put(alloc: Global, client: u16, message: u16) -> Result<Op, OpsFault> {
     let put = Put {
         origin: 1 + (message % ORIGINS) as u8,
         seq: 1 + u64::from(message / ORIGINS),

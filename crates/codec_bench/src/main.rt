@@ -1,9 +1,9 @@
 //! Work for the two codecs, the journal and digests, so that a stopwatch outside can time it.
 //!
 //! Each line of standard input names a work and how often it is done, as `frames 100`, `deltas 20`,
-//! `records 1000` or `digests 10`.
-//! The program makes its own data, the same in each run, and prints counts and a checksum of what the
-//! codec wrote. It reads no clock. The folder bench/ has the stopwatch, and the same work in C.
+//! `records 1000` or `digests 10`. The program makes its own data, the same in each run, and prints
+//! counts and a checksum of what the codec wrote. It reads no clock. The folder bench/ has the
+//! stopwatch, and the same work in C.
 //!
 //! - `numbers`: a sequence of numbers that is the same in each run (`Numbers`, `checksum`).
 //! - `datagrams`: a mixed stream of datagrams.
@@ -49,6 +49,3 @@ fn work(alloc: Global, line: &str) -> Result<String> {
         _ => bail!("the works are frames, deltas, records and digests"),
     }
 }
-
-#[cfg(test)]
-mod tests;

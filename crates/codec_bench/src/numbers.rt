@@ -8,12 +8,12 @@ pub struct Numbers {
 
 impl Numbers {
     /// The sequence from its start.
-    pub fn new() -> Numbers {
+    pub(crate) fn new() -> Numbers {
         Numbers { state: 1 }
     }
 
     /// The next number: the high half of a linear congruential generator's state.
-    pub fn next(&mut self) -> u16 {
+    pub(crate) fn next(&mut self) -> u16 {
         self.state = self
             .state
             .wrapping_mul(1_664_525)
@@ -22,13 +22,13 @@ impl Numbers {
     }
 
     /// The next octet.
-    pub fn octet(&mut self) -> u8 {
+    pub(crate) fn octet(&mut self) -> u8 {
         (self.next() % 256) as u8
     }
 }
 
 /// The FNV-1a checksum of octets.
-pub fn checksum(octets: &[u8]) -> u64 {
+pub(crate) fn checksum(octets: &[u8]) -> u64 {
     let mut sum = 0xcbf2_9ce4_8422_2325_u64;
     for octet in octets {
         sum = (sum ^ u64::from(*octet)).wrapping_mul(0x0100_0000_01b3);

@@ -1,10 +1,11 @@
-//! The operations of a delta of about 8 MiB: 100 clients, each with a Take, three changes of presence,
-//! 20 puts with bodies of 4,096 octets and five ranges of acknowledgements.
+//! The operations of a delta of about 8 MiB: 100 clients, each with a Take, three changes of
+//! presence, 20 puts with bodies of 4,096 octets and five ranges of acknowledgements.
 
 use crate::numbers::Numbers;
 use octets::Octets;
 use rep_ops::{ClientId, Op, OpsFault, Put, Stamp};
-use sn_session::{Message, Presence, QosLevel, Session, SessionOp};
+use sn_session::{Message, Presence, Session, SessionOp};
+use sn_tables::QosLevel;
 use sn_topic::TopicName;
 use std::alloc::{AllocError, Global};
 
@@ -26,7 +27,7 @@ const STAMP: Stamp = Stamp {
 };
 
 /// All of them.
-pub fn operations(alloc: Global) -> Result<Vec<Op>, OpsFault> {
+pub(crate) fn operations(alloc: Global) -> Result<Vec<Op>, OpsFault> {
     let mut ops = Vec::new(alloc);
     let mut numbers = Numbers::new();
     for client in 0..CLIENTS {
@@ -45,7 +46,7 @@ pub fn operations(alloc: Global) -> Result<Vec<Op>, OpsFault> {
 }
 
 /// One change of one client's session.
-pub fn presence(alloc: Global) -> Result<Vec<Op>, OpsFault> {
+pub(crate) fn presence(alloc: Global) -> Result<Vec<Op>, OpsFault> {
     let mut ops = Vec::new(alloc);
     ops.push(change(alloc, 0, 1)?)?;
     Ok(ops)

@@ -6,8 +6,9 @@ use jr_journal::{Journal, MemoryDisk};
 use rep_ops::Delta;
 use std::alloc::Global;
 
-/// Appends so many records of one change of a session to a new journal on a disk in memory, each synced, and says how many it appended.
-pub fn run(alloc: Global, rounds: u32) -> Result<String> {
+/// Appends so many records of one change of a session to a new journal on a disk in memory, each
+/// synced, and says how many it appended.
+pub(crate) fn run(alloc: Global, rounds: u32) -> Result<String> {
     let delta = Delta::from_ops(alloc, presence(alloc)?)?;
     let mut journal = match Journal::open(alloc, MemoryDisk::new(alloc), 1) {
         Ok((journal, _)) => journal,

@@ -1,8 +1,8 @@
 -- Where a session is taken.
 use Rattle.std.specs.Prelude.{◌≡◌, ◌↔◌, true}
 use Rattle.sn_session.specs.Session.{is_take}
-use Rattle.rep_ops.specs.declared.op.Op.{Op}
-use Rattle.rep_ops.specs.declared.op.Op.TheVariants.{Session as OfSession, Put as OfPut, Ack}
+use Rattle.rep_op.specs.declared.op.Op.{Op}
+use Rattle.rep_op.specs.declared.op.Op.TheVariants.{Session as OfSession, Put as OfPut, Ack}
 
 -- a session operation has counter 0 exactly where it takes the session
 abbrev pub IsTakeAtZero : Op → Type 0

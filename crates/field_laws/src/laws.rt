@@ -4,11 +4,11 @@ ghost use Rattle.std.specs.Prelude.{◌≡◌, ◌⊎◌, [], ◌++◌, ℕ, Boo
 ghost use Rattle.std.specs.List.{AllByRecursion};
 ghost use Rattle.sn_session.specs.declared.session.Session.{Session};
 ghost use Rattle.sn_session.specs.declared.change.SessionOp.{SessionOp};
-ghost use Rattle.rep_ops.specs.declared.op.Stamp.{Stamp};
-ghost use Rattle.rep_ops.specs.declared.op.Op.{Op};
-ghost use Rattle.rep_ops.specs.declared.op.Op.TheVariants.{Session as OfSession};
+ghost use Rattle.rep_op.specs.declared.op.Stamp.{Stamp};
+ghost use Rattle.rep_op.specs.declared.op.Op.{Op};
+ghost use Rattle.rep_op.specs.declared.op.Op.TheVariants.{Session as OfSession};
 ghost use Rattle.rep_ops.specs.Making.{AreApart};
-ghost use Rattle.rep_ops.specs.Sets.{operation_at, Same};
+ghost use Rattle.rep_op.specs.Sets.{operation_at, Same};
 ghost use Rattle.sn_local.specs.declared.config.Addr.{Addr};
 ghost use Rattle.sn_local.specs.declared.config.Config.{Config};
 ghost use Rattle.sn_plan.specs.declared.plan.Plan.{Plan};
@@ -34,8 +34,8 @@ ghost use Rattle.field_laws.specs.OwnPlans.{AreNumbered, IsTooLong};
 ghost use Rattle.field_laws.specs.Takes.{IsTakeAtZero};
 
 /// In every run, whatever comes to a gateway: it keeps well, and the operations of its plan can be
-/// written. They are well made, with counter 0 exactly at those that take a session, and no two have a
-/// name in common.
+/// written. They are well made, with counter 0 exactly at those that take a session, and no two
+/// have a name in common.
 pub fn own_plans()
     ensures keeps { (configs : List Config) (events : List Event) (answers : List Answer)
         (field : Field) (number i : ℕ) (gateway : Gateway) → AreNumbered configs
@@ -48,8 +48,8 @@ pub fn own_plans()
         → AreApart plan.ops }
 {}
 
-/// In every run Full of what a gateway made itself means that a limit would be passed, or that the delta
-/// would have more than 8 MiB. It means nothing else.
+/// In every run Full of what a gateway made itself means that a limit would be passed, or that the
+/// delta would have more than 8 MiB. It means nothing else.
 pub fn own_full()
     ensures { (configs : List Config) (events : List Event) (answers : List Answer)
         (field : Field) (number i : ℕ) (gateway new : Gateway) (occasion : Occasion) (now : ℕ)
@@ -60,8 +60,9 @@ pub fn own_full()
         × (IsTooMuch gateway plan refusals.Full ⊎ IsTooLong plan) }
 {}
 
-/// In every run, whatever comes to a gateway: it owns each client that is bound at it, and that client is
-/// Active, Asleep or Awake. So a frame from a bound address finds a session, and a client that is up.
+/// In every run, whatever comes to a gateway: it owns each client that is bound at it, and that
+/// client is Active, Asleep or Awake. So a frame from a bound address finds a session, and a client
+/// that is up.
 pub fn bound_clients()
     ensures up { (configs : List Config) (events : List Event) (answers : List Answer)
         (field : Field) (number i : ℕ) (gateway : Gateway)
@@ -75,8 +76,8 @@ pub fn bound_clients()
         × (is_up s.presence ≡ true) }
 {}
 
-/// In every run counter 0 stands exactly at the operations that take a session: in each delta of the
-/// list, in what each gateway has taken, and in whatever its replica keeps of that.
+/// In every run counter 0 stands exactly at the operations that take a session: in each delta of
+/// the list, in what each gateway has taken, and in whatever its replica keeps of that.
 pub fn takes_at_zero()
     ensures listed { (configs : List Config) (events : List Event) (answers : List Answer)
         (field : Field) (delta : List Op) → Run (new_field configs) events answers field
@@ -92,10 +93,10 @@ pub fn takes_at_zero()
         → IsTakeAtZero (OfSession c stamp counter change) }
 {}
 
-/// What a gateway made is in its own journal. At any moment behind the event that made a delta, whatever
-/// failed, stopped or was compacted since: what a crash leaves of the disk of the gateway that made it
-/// (a journal that stands for that gateway's set, as the contract of `run` says of each) has the delta, up
-/// to what must be kept.
+/// What a gateway made is in its own journal. At any moment behind the event that made a delta,
+/// whatever failed, stopped or was compacted since: what a crash leaves of the disk of the gateway
+/// that made it (a journal that stands for that gateway's set, as the contract of `run` says of
+/// each) has the delta, up to what must be kept.
 pub fn stored()
     ensures { (configs : List Config) (events more : List Event) (answers replies : List Answer)
         (old mid new : Field) (event : Event) (answer : Answer) (delta : List Op) (i : ℕ)

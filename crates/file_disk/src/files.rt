@@ -25,7 +25,8 @@ enum Trust {
     Sound,
     /// It was cut to nothing, and none of what came behind that was synced yet.
     Fresh,
-    /// A sync of them failed. The system tells that once, and would tell a second sync of the same octets as done.
+    /// A sync of them failed. The system tells that once, and would tell a second sync of the same
+    /// octets as done.
     Doubtful,
 }
 
@@ -37,8 +38,8 @@ struct Trusts {
 }
 
 impl FileDisk {
-    /// The files at a path with `.0` and `.1` behind it; one that is not there is made, and its name is made durable. No call has
-    /// failed.
+    /// The files at a path with `.0` and `.1` behind it; one that is not there is made, and its
+    /// name is made durable. No call has failed.
     ///
     /// The faults: `Files`, a file cannot be opened or made; `Memory`.
     pub fn at<R: Files<File = File>>(
@@ -86,8 +87,9 @@ impl FileDisk {
         }
     }
 
-    /// What is known of a slot behind a sync that failed. Of one that was cut to nothing, and not synced since, nothing is owed to anybody: it is cut to
-    /// nothing once more, and then nothing is left to doubt.
+    /// What is known of a slot behind a sync that failed. Of one that was cut to nothing, and not
+    /// synced since, nothing is owed to anybody: it is cut to nothing once more, and then nothing
+    /// is left to doubt.
     fn trust_behind_failure(&self, slot: Slot) -> Trust {
         if self.trust(slot) == Trust::Fresh && set_length(self.file(slot), 0) {
             return Trust::Fresh;
@@ -109,7 +111,11 @@ impl Disk for FileDisk {
     // Nobody has proved that the system's files are an honest disk.
     ghost honest = { ⊥ };
 
-    ghost slots = { λ _. record { first = record { synced = []; unsynced = [] }; second = record { synced = []; unsynced = [] } } };
+    ghost slots = { λ _.
+        record {
+          first = record { synced = []; unsynced = [] };
+          second = record { synced = []; unsynced = [] };
+        } };
 
     ghost failures = { λ disk. disk.failures.count };
 
@@ -168,7 +174,8 @@ impl Disk for FileDisk {
     }
 }
 
-/// What is known of a slot behind a cut to so many octets. Of what was cut to nothing nothing is left to doubt.
+/// What is known of a slot behind a cut to so many octets. Of what was cut to nothing nothing is
+/// left to doubt.
 fn trust_behind_cut(before: Trust, cut: bool, len: usize) -> Trust {
     if !cut {
         return Trust::Doubtful;
@@ -179,7 +186,8 @@ fn trust_behind_cut(before: Trust, cut: bool, len: usize) -> Trust {
     before
 }
 
-/// Takes the last octets, which are so many, away again: a full disk is not to be full of what did not go out whole. How many of them are left.
+/// Takes the last octets, which are so many, away again: a full disk is not to be full of what did
+/// not go out whole. How many of them are left.
 fn take_back(file: &File, written: usize) -> usize
     ensures { result ≤ written }
 {

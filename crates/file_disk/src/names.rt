@@ -40,8 +40,8 @@ pub(crate) fn open_slot<R: Files<File = File>>(
     }
 }
 
-/// Whether no other program has the file open as its journal: from now on this one has. Where the file system knows no locks nobody is kept
-/// away.
+/// Whether no other program has the file open as its journal: from now on this one has. Where the
+/// file system knows no locks nobody is kept away.
 fn is_mine(file: &File) -> bool {
     let Err(why) = file.try_lock() else {
         return true;
@@ -52,8 +52,9 @@ fn is_mine(file: &File) -> bool {
     }
 }
 
-/// The file under a number of its own, above those of the standard streams. Where one of these was closed when the program
-/// began, the file that is opened next has its number, and what the program prints would stand in the journal.
+/// The file under a number of its own, above those of the standard streams. Where one of these was
+/// closed when the program began, the file that is opened next has its number, and what the program
+/// prints would stand in the journal.
 fn apart(file: File) -> Result<File, FileDiskFault> {
     if file.as_raw_fd() > LAST_STANDARD {
         return Ok(file);

@@ -34,8 +34,8 @@ pub(crate) fn octets(alloc: Global, fields: &[&str]) -> Result<Vec<u8>, Stop> {
     Ok(octets)
 }
 
-/// The octets that a field writes: `-` for none, a text behind an apostrophe, hexadecimal digits, or these behind
-/// how often they stand.
+/// The octets that a field writes: `-` for none, a text behind an apostrophe, hexadecimal digits,
+/// or these behind how often they stand.
 pub(crate) fn field_octets(alloc: Global, field: &str) -> Result<Vec<u8>, Stop> {
     if field == "-" {
         return Ok(Vec::new(alloc));

@@ -149,8 +149,8 @@ fn brief(alloc: Global, datagram: &[u8]) -> Result<String, Stop> {
     }
 }
 
-/// What an octet in the place of MsgType and a body are; behind it what they are with a Length of three octets, where
-/// that is something else.
+/// What an octet in the place of MsgType and a body are; behind it what they are with a Length of
+/// three octets, where that is something else.
 fn both_forms(alloc: Global, kind: u8, body: &[u8]) -> Result<String, Stop> {
     if body.len() > SHORT_BODY {
         return Err(Stop::Line);
@@ -190,7 +190,8 @@ pub(crate) fn types(alloc: Global, text: &mut String, fields: &[&str]) -> Result
     Ok(())
 }
 
-/// `bodies KIND OCTETS ..`: what each beginning of this body is behind an octet in the place of MsgType.
+/// `bodies KIND OCTETS ..`: what each beginning of this body is behind an octet in the place of
+/// MsgType.
 pub(crate) fn bodies(alloc: Global, text: &mut String, fields: &[&str]) -> Result<(), Stop> {
     let [kind, rest @ ..] = fields else {
         return Err(Stop::Line);

@@ -1,14 +1,16 @@
-//! Worked rows of datagrams, topic names and filters: what no clause says, as that calls succeed, and octets written out by hand
-//! from the tables of MQTT-SN 1.2 section 5.
+//! Worked rows of datagrams, topic names and filters: what no clause says, as that calls succeed,
+//! and octets written out by hand from the tables of MQTT-SN 1.2 section 5.
 //!
-//! A contract lets a call answer want of memory in place of almost anything; a row does not. Standard input holds rows, each
-//! behind a line `== NAME`; empty lines and those that begin with `#` are skipped. Each row begins with no frame and no predefined
-//! id. The program prints each name, and below it what the lines of the row give; of a line that is none of these, `no such line`
-//! and the line.
+//! A contract lets a call answer want of memory in place of almost anything; a row does not.
+//! Standard input holds rows, each behind a line `== NAME`; empty lines and those that begin with
+//! `#` are skipped. Each row begins with no frame and no predefined id. The program prints each
+//! name, and below it what the lines of the row give; of a line that is none of these,
+//! `no such line` and the line.
 //!
-//! A line is words with one space between them. Numbers are decimal. OCTETS are words of hexadecimal digits, in as many as is
-//! pleasant; `COUNTxDIGITS` are the octets of the digits, so often; a word behind an apostrophe, as `'t/a`, is the octets of its
-//! text, and `-` is no octet. A KIND, a FILTER and a NAME are one such word.
+//! A line is words with one space between them. Numbers are decimal. OCTETS are words of
+//! hexadecimal digits, in as many as is pleasant; `COUNTxDIGITS` are the octets of the digits, so
+//! often; a word behind an apostrophe, as `'t/a`, is the octets of its text, and `-` is no octet. A
+//! KIND, a FILTER and a NAME are one such word.
 //!
 //! | Datagrams | |
 //! |---|---|
@@ -18,8 +20,9 @@
 //! | `bodies KIND OCTETS ..` | what each beginning of this body is behind one octet in the place of MsgType |
 //! | `beginnings OCTETS ..` | what each beginning of a datagram is |
 //!
-//! The last three tell only the name of the message or the number of the fault, from which octet or number of octets on. `types` and
-//! `bodies` try each body with either form of Length (section 5.2.1), and say so if the two give different answers.
+//! The last three tell only the name of the message or the number of the fault, from which octet or
+//! number of octets on. `types` and `bodies` try each body with either form of Length (section
+//! 5.2.1), and say so if the two give different answers.
 //!
 //! | Topics (sections 5.3.11, 5.3.12 and 6.7) | |
 //! |---|---|

@@ -1,14 +1,16 @@
 //! A call of a gateway as a value, and what it answers.
 //!
-//! What a call answers (`Answer`) is shared and not copied: the caller, a history and a printer may each hold a share of one
-//! answer. Shares are taken before the journal is written, so that nothing behind the write can want memory. Contracts see
-//! an answer's value, whoever has a share of it (`said`, `told`).
+//! What a call answers (`Answer`) is shared and not copied: the caller, a history and a printer may
+//! each hold a share of one answer. Shares are taken before the journal is written, so that nothing
+//! behind the write can want memory. Contracts see an answer's value, whoever has a share of it
+//! (`said`, `told`).
 //!
 //! - `step`: a call, with its arguments (`Step`).
 //! - `out`: what is answered (`Out`).
 //! - `fault`: why a gateway refuses (`NodeFault`), with the number of each fault.
 //! - `shares`: three shares of an answer, and three copies of a name (`Shares`, `Names`).
-//! - `refusal`: a refusal with such shares (`Refusal`), and an answer out of them, once or three times.
+//! - `refusal`: a refusal with such shares (`Refusal`), and an answer out of them, once or three
+//!   times.
 //! - `same`, `same_out`: whether two calls, or two answers, are equal (`same_step`, `same_answer`).
 //!
 //! The definitions are in `specs/Answers`.

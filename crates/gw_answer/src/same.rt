@@ -1,5 +1,5 @@
-//! Whether two calls, or two answers, are equal. No memory is taken, and nothing is shared or owned by the answer: it says
-//! whether contracts see one value.
+//! Whether two calls, or two answers, are equal. No memory is taken, and nothing is shared or owned
+//! by the answer: it says whether contracts see one value.
 
 ghost use Rattle.std.specs.Prelude.{◌≡◌, ◌↔◌, IsTrue};
 ghost use Rattle.gw_answer.specs.Answers.{told, said};

@@ -31,7 +31,8 @@ impl Model for Shares {
 
     ghost view = { λ s. arc_value s.first };
 
-    ghost invariant = { λ s. (arc_value s.second ≡ arc_value s.first) × (arc_value s.third ≡ arc_value s.first) };
+    ghost invariant = { λ s. (arc_value s.second ≡ arc_value s.first)
+        × (arc_value s.third ≡ arc_value s.first) };
 }
 
 impl Shares {

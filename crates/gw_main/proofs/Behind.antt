@@ -1,6 +1,6 @@
 -- What a gateway has taken, from one call of its tending to the next.
 use Rattle.std.proofs.Common.{◌≡◌, false, List, [], ◌++◌, sym, subst, inl, inr}
-use Rattle.rep_ops.specs.declared.op.Op.{Op}
+use Rattle.rep_op.specs.declared.op.Op.{Op}
 use Rattle.jr_disk.specs.declared.disk.Disk.{Ghosts}
 use Rattle.gw_node.specs.Parts.{State, is_halted}
 use Rattle.gw_node.specs.Carrying.{TakesNothing, TakesAgain}

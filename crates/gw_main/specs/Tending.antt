@@ -1,6 +1,6 @@
 -- What becomes of a gateway that is tended between two shifts.
 use Rattle.std.specs.Prelude.{◌≡◌, ◌⊎◌, true, false, List, [], ◌++◌, Ok, Err}
-use Rattle.rep_ops.specs.declared.op.Op.{Op}
+use Rattle.rep_op.specs.declared.op.Op.{Op}
 use Rattle.jr_disk.specs.declared.disk.Disk.{Ghosts}
 use Rattle.jr_journal.specs.declared.fault.JournalFault.TheVariants as journal
 use Rattle.gw_answer.specs.declared.out.Out.{Out}

@@ -4,7 +4,7 @@ ghost use Rattle.std.specs.Prelude.{◌≡◌, ◌==◌, ◌<◌, length, positi
 ghost use Rattle.gw_main.specs.Addresses.{cut, host_from, host_of, address_of};
 
 use super::number::{number_u8, number_u16};
-use sn_flow::Addr;
+use sn_local::Addr;
 
 /// The first place of an octet.
 fn place_of(text: &[u8], mark: u8) -> Option<usize>
@@ -49,8 +49,8 @@ fn host(text: &[u8]) -> Option<u32>
     host_from(a, b, c, d)
 }
 
-/// The address that a text writes as `a.b.c.d:port`: numbers in decimal digits, without a sign, those of the host below 256 and the
-/// port below 65,536. Nothing where it writes none.
+/// The address that a text writes as `a.b.c.d:port`: numbers in decimal digits, without a sign,
+/// those of the host below 256 and the port below 65,536. Nothing where it writes none.
 pub fn address(text: &[u8]) -> Option<Addr>
     ensures { result ≡ address_of text.now }
 {

@@ -1,7 +1,7 @@
 //! Opening a gateway as its settings say.
 
 ghost use Rattle.std.specs.Prelude.{◌≡◌, IfOk, IfErr, length};
-ghost use Rattle.rep_model.specs.Views.{clients as clients_of};
+ghost use Rattle.rep_model.specs.Views as spec;
 ghost use Rattle.jr_disk.specs.Disk.{image};
 ghost use Rattle.jr_journal.specs.Records.{records};
 ghost use Rattle.gw_node.specs.Parts.{state_of, records_of};
@@ -17,19 +17,20 @@ use gw_node::{Node, NodeFault};
 use jr_journal::{Disk, JournalFault};
 use octets::{NoMemory, Sequence};
 use rep_model::Replica;
-use sn_flow::Config;
+use sn_local::Config;
 use std::alloc::Global;
 use std::io::Write;
 
 /// The status of a program whose journal cannot be opened.
 pub const NO_JOURNAL: u8 = 2;
 
-/// Opens the gateway of these settings on a disk, and prints how it stands: its number, how many records its journal has, and of
-/// how many clients it knows.
+/// Opens the gateway of these settings on a disk, and prints how it stands: its number, how many
+/// records its journal has, and of how many clients it knows.
 ///
-/// Where it cannot be opened the line names the journal's fault by its number, and the answer is the program's status, 2: J1 the disk
-/// failed; J2 the slots are no journal of this gateway; J3 a record is damaged, or contradicts those before it; J4 memory ran out.
-/// A line that cannot be printed is let go.
+/// Where it cannot be opened the line names the journal's fault by its number, and the answer is
+/// the program's status, 2: J1 the disk failed; J2 the slots are no journal of this gateway; J3 a
+/// record is damaged, or contradicts those before it; J4 memory ran out. A line that cannot be
+/// printed is let go.
 pub fn begin<R: Replica, D: Disk + Drop, O: Write, E: Write>(
     alloc: Global,
     settings: &Settings,
@@ -78,7 +79,7 @@ fn open<R: Replica, D: Disk + Drop>(
         Keeps (ops_of (records settings.now.gateway (image (D.slots disk))))
         (state_of R.kept opened.0).kept) }
     ensures clients { IfOk result (λ opened. opened.1
-        ≡ length (clients_of (state_of R.kept opened.0).kept)) }
+        ≡ length (spec.clients (state_of R.kept opened.0).kept)) }
     ensures may { IfErr result (λ fault. MayRefuse (told fault)) }
 {
     let Ok(config) = config_of(alloc, settings) else {
@@ -111,8 +112,9 @@ fn config_of(alloc: Global, settings: &Settings) -> Result<Config, NoMemory>
     })
 }
 
-/// The number of the journal's fault by which a refused opening is told: 1 the disk failed; 2 the slots are no journal of this gateway;
-/// 3 a record is damaged, or does not fit to those before it; 4 memory ran out.
+/// The number of the journal's fault by which a refused opening is told: 1 the disk failed; 2 the
+/// slots are no journal of this gateway; 3 a record is damaged, or does not fit to those before it;
+/// 4 memory ran out.
 pub fn number_of(fault: &NodeFault) -> u8
     ensures { result ≡ number_of (told fault.now) }
 {

@@ -29,7 +29,8 @@ pub enum Key {
     /// How many calls a shift has: 1 to 4,096, or else 4,096.
     #[error("steps")]
     Steps,
-    /// How many seconds pass between two ADVERTISE (MQTT-SN 1.2 section 5.4.1): 0 to 65,535; 0, or else, for none.
+    /// How many seconds pass between two ADVERTISE (MQTT-SN 1.2 section 5.4.1): 0 to 65,535; 0, or
+    /// else, for none.
     #[error("advertise")]
     Advertise,
     /// The addresses that ADVERTISE goes to, or else none.

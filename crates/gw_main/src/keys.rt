@@ -9,7 +9,7 @@ ghost use Rattle.gw_main.specs.inner.Reading.{IsBadAt};
 
 use super::addresses::address;
 use super::fault::{Key, SettingsFault};
-use sn_flow::Addr;
+use sn_local::Addr;
 use std::alloc::Global;
 use toml::{Table, Value};
 

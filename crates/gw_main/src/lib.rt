@@ -10,9 +10,10 @@
 //! - `beginning`: a gateway as its settings say, opened (`begin`).
 //! - `tending`: what is done with it between two shifts (`tend`).
 //!
-//! The definitions are in `specs/`: `Numbers`, `Addresses`, `Keys` (how keys are written), `Reading` (what a document says of each
-//! key, and which key is the first that it says nothing good of), `Beginning` (what the gateway is told, and how a refused opening is),
-//! `Tending` (what becomes of a gateway that is tended).
+//! The definitions are in `specs/`: `Numbers`, `Addresses`, `Keys` (how keys are written),
+//! `Reading` (what a document says of each key, and which key is the first that it says nothing
+//! good of), `Beginning` (what the gateway is told, and how a refused opening is), `Tending` (what
+//! becomes of a gateway that is tended).
 #![tactic(auto)]
 
 mod addresses;

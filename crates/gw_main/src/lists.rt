@@ -9,7 +9,7 @@ ghost use Rattle.gw_main.specs.declared.fault.Key.TheVariants as keys;
 use super::fault::{Key, SettingsFault};
 use super::keys::{address_item, found, number_in};
 use octets::NoMemory;
-use sn_flow::Addr;
+use sn_local::Addr;
 use sn_topic::{Predefined, TopicFault, TopicName};
 use std::alloc::Global;
 use toml::{Table, Value};

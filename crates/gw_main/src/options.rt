@@ -1,6 +1,6 @@
 //! What the settings hold.
 
-use sn_flow::Addr;
+use sn_local::Addr;
 use sn_topic::Predefined;
 
 /// What a daemon is told when it starts.

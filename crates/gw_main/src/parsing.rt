@@ -13,10 +13,11 @@ use gw_shift::MAX_STEPS;
 use std::alloc::Global;
 use toml::Table;
 
-/// Reads settings. Each key has its value, or its default where it is not there; other keys are ignored.
+/// Reads settings. Each key has its value, or its default where it is not there; other keys are
+/// ignored.
 ///
-/// The faults: `Text`, the text is no TOML document; `Key`, the first key that is missing without a default, out of range or of
-/// another kind; or `Memory`.
+/// The faults: `Text`, the text is no TOML document; `Key`, the first key that is missing without a
+/// default, out of range or of another kind; or `Memory`.
 pub fn settings(alloc: Global, text: &str) -> Result<Settings, SettingsFault>
     ensures ok { IfOk result (IsRead text.now) }
     ensures err { IfErr result (IsRefused text.now) }

@@ -1,7 +1,8 @@
 //! What is done with a gateway between two shifts.
 
 ghost use Rattle.std.specs.Prelude.{◌≡◌, true, false, OnOk, OnErr, IfErr, MatchResult};
-ghost use Rattle.gw_node.specs.Parts.{state_of, is_halted as is_stopped};
+ghost use Rattle.gw_node.specs.Parts.{state_of};
+ghost use Rattle.gw_node.specs.Parts as spec;
 ghost use Rattle.gw_answer.specs.Answers.{told};
 ghost use Rattle.gw_node.specs.Opening.{ReopenCall};
 ghost use Rattle.gw_node.specs.Carrying.{TakesNothing, TakesAgain};
@@ -21,18 +22,19 @@ pub enum Tended {
     Reopened,
 }
 
-/// Tends a gateway between two shifts. One that is halted is opened anew from its journal. Then the journal is written anew without what no
-/// longer counts; where its generation is the last there is, or memory ran out, it stays as it is, and where the disk failed in
-/// that, the gateway is opened anew from what the disk holds.
+/// Tends a gateway between two shifts. One that is halted is opened anew from its journal. Then the
+/// journal is written anew without what no longer counts; where its generation is the last there
+/// is, or memory ran out, it stays as it is, and where the disk failed in that, the gateway is
+/// opened anew from what the disk holds.
 ///
-/// A gateway that was tended is not halted. The fault is that of an opening, want of memory too, and the gateway is halted then. Whatever it
-/// had taken it has taken still.
+/// A gateway that was tended is not halted. The fault is that of an opening, want of memory too,
+/// and the gateway is halted then. Whatever it had taken it has taken still.
 pub fn tend<R: Replica, D: Disk + Drop>(
     alloc: Global,
     node: &mut Node<R, D>,
 ) -> Result<Tended, NodeFault>
-    ensures runs { OnOk result (is_stopped (state_of R.kept node.new) ≡ false) }
-    ensures halts { OnErr result (is_stopped (state_of R.kept node.new) ≡ true) }
+    ensures runs { OnOk result (spec.is_halted (state_of R.kept node.new) ≡ false) }
+    ensures halts { OnErr result (spec.is_halted (state_of R.kept node.new) ≡ true) }
     ensures tended { MatchResult result (λ tended. IsTended (state_of R.kept node.old) tended
         (state_of R.kept node.new)) (λ fault. IsGivenUp (state_of R.kept node.old) (told fault)
         (state_of R.kept node.new)) }
@@ -66,14 +68,15 @@ fn open_anew<R: Replica, D: Disk + Drop>(
     }
 }
 
-/// Writes the journal of a gateway anew that is not halted. Where the disk failed in that the gateway is opened anew.
+/// Writes the journal of a gateway anew that is not halted. Where the disk failed in that the
+/// gateway is opened anew.
 fn compact<R: Replica, D: Disk + Drop>(
     alloc: Global,
     node: &mut Node<R, D>,
 ) -> Result<Tended, NodeFault>
-    requires { is_stopped (state_of R.kept node.old) ≡ false }
-    ensures runs { OnOk result (is_stopped (state_of R.kept node.new) ≡ false) }
-    ensures halts { OnErr result (is_stopped (state_of R.kept node.new) ≡ true) }
+    requires { spec.is_halted (state_of R.kept node.old) ≡ false }
+    ensures runs { OnOk result (spec.is_halted (state_of R.kept node.new) ≡ false) }
+    ensures halts { OnErr result (spec.is_halted (state_of R.kept node.new) ≡ true) }
     ensures ends { MatchResult result (λ tended. EndsAs (state_of R.kept node.old) tended
         (state_of R.kept node.new)) (λ fault. EndsRefused (state_of R.kept node.old) (told fault)
         (state_of R.kept node.new)) }

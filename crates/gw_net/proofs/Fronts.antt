@@ -7,11 +7,12 @@ use Rattle.std.proofs.lemmas.Bool.{cases_Bool, and_parts, eqb-false, ltb-false}
 use Rattle.std.proofs.lemmas.List.{length-append, length-take, take-append-drop, drop_at}
 use Rattle.std.proofs.lemmas.Grind.{flat_map-append}
 use Rattle.byteorder.specs.Endian.{big_bytes}
-use Rattle.rep_ops.specs.declared.fault.OpsFault.{OpsFault}
-use Rattle.rep_ops.specs.declared.op.Op.{Op}
-use Rattle.rep_ops.specs.Reading.{AreOctets, number_at, reading as delta_reading}
+use Rattle.rep_op.specs.declared.fault.OpsFault.{OpsFault}
+use Rattle.rep_op.specs.declared.op.Op.{Op}
+use Rattle.rep_ops.specs.Reading.{AreOctets, reading as delta_reading}
+use Rattle.rep_octets.specs.Reading.{number_at}
 use Rattle.rep_ops.specs.Spelling.{max_octets}
-use Rattle.rep_ops.proofs.Laws.{IsBytes, Taken, number_law, wide32}
+use Rattle.rep_octets.proofs.Laws.{IsBytes, Taken, number_law, wide32}
 use Rattle.rep_ops.proofs.Format.{read_spelled as delta_spelled}
 use Rattle.rep_digest.specs.declared.entry.ClientEntry.{ClientEntry}
 use Rattle.rep_digest.specs.Reading.{reading as digest_reading}

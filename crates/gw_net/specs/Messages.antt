@@ -1,10 +1,10 @@
 -- Link messages and their octets.
 use Rattle.std.specs.Prelude.{ℕ, ◌≤◌, ◌<◌, ◌^◌, ◌==◌, if◌then◌else◌, nat_le, List, [], ◌∷◌, ◌++◌, length, Option, Some, None, Result, Ok, Err}
 use Rattle.byteorder.specs.Endian.{big_bytes}
-use Rattle.rep_ops.specs.declared.fault.OpsFault.{OpsFault}
+use Rattle.rep_op.specs.declared.fault.OpsFault.{OpsFault}
 use Rattle.rep_ops.specs.Deltas.{IsDelta}
 use Rattle.rep_ops.specs.Spelling.{spelling as delta_spelling, IsWithinLimit as IsDeltaWithinLimit}
-use Rattle.rep_ops.specs.Values.{AreValues}
+use Rattle.rep_op.specs.Values.{AreValues}
 use Rattle.rep_ops.specs.Reading.{reading as delta_reading}
 use Rattle.rep_digest.specs.Reading.{reading as digest_reading}
 use Rattle.rep_digest.specs.Spelling.{spelling as digest_spelling, IsWithinLimit as IsDigestWithinLimit}
@@ -55,4 +55,5 @@ hello_at (gateway ∷ more ∷ rest) = None
 unfoldable pub message_at : ℕ → List ℕ → Option LinkMessage
 message_at kind body =
     if kind == 1 then hello_at body
-    else (if kind == 2 then read_or_none (λ d. OfDigest d) (digest_reading body) else read_or_none (λ d. OfDelta d) (delta_reading body))
+    else (if kind == 2 then read_or_none (λ d. OfDigest d) (digest_reading body)
+    else read_or_none (λ d. OfDelta d) (delta_reading body))

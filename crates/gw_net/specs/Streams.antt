@@ -2,15 +2,16 @@
 use Rattle.std.specs.Prelude.{◌≡◌, ℕ, ◌&&◌, if◌then◌else◌, nat_le, nat_lt, List, [], ◌∷◌, ◌++◌, length, take, drop, Option, Some, None, Result, Ok, Err}
 use Rattle.std.specs.Int.{w32}
 use Rattle.std.specs.List.{flat_map, AllByRecursion}
-use Rattle.rep_ops.specs.declared.fault.OpsFault.{OpsFault}
-use Rattle.rep_ops.specs.Reading.{number_at}
+use Rattle.rep_op.specs.declared.fault.OpsFault.{OpsFault}
+use Rattle.rep_octets.specs.Reading.{number_at}
 use Rattle.rep_ops.specs.Spelling.{max_octets}
 use Rattle.gw_net.specs.declared.fault.LinkFault.{LinkFault}
 use Rattle.gw_net.specs.declared.fault.LinkFault.TheVariants as faults
 use Rattle.gw_net.specs.declared.message.LinkMessage.{LinkMessage}
 use Rattle.gw_net.specs.Messages.{spelling, IsMessage, message_at}
 
--- the message in front of a stream and the octets behind it; nothing where octets are wanting; or a fault
+-- the message in front of a stream and the octets behind it; nothing where octets are wanting; or a
+-- fault
 abbrev pub Front : Type 0
 Front = Result (Option (LinkMessage × List ℕ)) LinkFault
 
@@ -23,21 +24,24 @@ abbrev pub sized_at : ℕ → Result (ℕ × List ℕ) OpsFault → Front
 sized_at kind (Err fault) = Ok None
 sized_at kind (Ok read) =
     if nat_lt max_octets read.0 then Err faults.TooLong
-    else (if nat_lt (length read.1) read.0 then Ok None else with_body (message_at kind (take read.0 read.1)) (drop read.0 read.1))
+    else (if nat_lt (length read.1) read.0 then Ok None
+    else with_body (message_at kind (take read.0 read.1)) (drop read.0 read.1))
 
 -- the kind is looked at first
 unfoldable pub front : List ℕ → Front
 front [] = Ok None
-front (kind ∷ rest) = if nat_le 1 kind && nat_le kind 3 then sized_at kind (number_at w32 rest) else Err faults.Kind
+front (kind ∷ rest) =
+    if nat_le 1 kind && nat_le kind 3 then sized_at kind (number_at w32 rest) else Err faults.Kind
 
 -- what stands behind the messages: no whole message, or the fault
 abbrev pub Ends : List ℕ → Option LinkFault → Type 0
 Ends rest None = front rest ≡ Ok None
 Ends rest (Some fault) = front rest ≡ Err fault
 
--- the messages are the longest list whose spellings, one after the other, begin the stream; behind them stands the fault, or no
--- whole message
-pub record IsRead (stream : List ℕ) (messages : List LinkMessage) (fault : Option LinkFault) (rest : List ℕ) : Type 0 where
+-- the messages are the longest list whose spellings, one after the other, begin the stream; behind
+-- them stands the fault, or no whole message
+pub record IsRead (stream : List ℕ) (messages : List LinkMessage) (fault : Option LinkFault)
+    (rest : List ℕ) : Type 0 where
   pub all : AllByRecursion IsMessage messages
   pub parts : stream ≡ flat_map spelling messages ++ rest
   pub ends : Ends rest fault

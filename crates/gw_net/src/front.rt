@@ -2,11 +2,13 @@
 
 ghost use Rattle.std.specs.Prelude.{◌≡◌, Ok, Err, MatchOption};
 ghost use Rattle.std.specs.Int.{w32};
-ghost use Rattle.rep_ops.specs.Reading.{number_at, reading as delta_reading};
-ghost use Rattle.rep_digest.specs.Reading.{reading as digest_reading};
+ghost use Rattle.rep_octets.specs.Reading.{number_at};
+ghost use Rattle.rep_ops.specs.Reading as reading;
+ghost use Rattle.rep_digest.specs.Reading as digests;
 ghost use Rattle.gw_net.specs.declared.message.LinkMessage.TheVariants.{Digest as OfDigest, Delta as OfDelta};
 ghost use Rattle.gw_net.specs.Messages.{hello_at, read_or_none, message_at};
-ghost use Rattle.gw_net.specs.Streams.{front as stream_front, sized_at};
+ghost use Rattle.gw_net.specs.Streams.{sized_at};
+ghost use Rattle.gw_net.specs.Streams as spec;
 ghost use Rattle.gw_net.specs.inner.Streams.{IsFront, IsBody};
 
 use super::fault::LinkFault;
@@ -18,10 +20,11 @@ use std::alloc::Global;
 
 /// The message in front of the octets, and the octets behind it; nothing where octets are wanting.
 ///
-/// `Kind` as soon as the kind is there, `TooLong` as soon as the length is, `Body` when the body is whole.
+/// `Kind` as soon as the kind is there, `TooLong` as soon as the length is, `Body` when the body is
+/// whole.
 #[tactic(auto, unfolding(crate::specs::Streams::front))]
 pub fn front(alloc: Global, bytes: &[u8]) -> Result<Option<(LinkMessage, &[u8])>, LinkFault>
-    ensures { IsFront (λ x. (x.0, x.1.now)) result (stream_front bytes.now) }
+    ensures { IsFront (λ x. (x.0, x.1.now)) result (spec.front bytes.now) }
 {
     let (kind, rest) = match bytes {
         [] => return Ok(None),
@@ -100,7 +103,7 @@ fn read_hello(body: &[u8]) -> Result<LinkMessage, LinkFault>
 
 /// A digest.
 fn read_digest(alloc: Global, body: &[u8]) -> Result<LinkMessage, LinkFault>
-    ensures { IsBody result (read_or_none (λ d. OfDigest d) (digest_reading body.now)) }
+    ensures { IsBody result (read_or_none (λ d. OfDigest d) (digests.reading body.now)) }
 {
     match Digest::decode(alloc, body) {
         Ok(digest) => Ok(LinkMessage::Digest(digest)),
@@ -111,7 +114,7 @@ fn read_digest(alloc: Global, body: &[u8]) -> Result<LinkMessage, LinkFault>
 
 /// A delta.
 fn read_delta(alloc: Global, body: &[u8]) -> Result<LinkMessage, LinkFault>
-    ensures { IsBody result (read_or_none (λ d. OfDelta d) (delta_reading body.now)) }
+    ensures { IsBody result (read_or_none (λ d. OfDelta d) (reading.reading body.now)) }
 {
     match Delta::decode(alloc, body) {
         Ok(delta) => Ok(LinkMessage::Delta(delta)),

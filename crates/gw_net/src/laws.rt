@@ -11,9 +11,11 @@ pub fn one_stream()
     // What a stream says and what a piece behind its rest says is what both together say.
     ensures joined { (stream piece rest after : List ℕ) (messages more : List LinkMessage)
         (fault : Option LinkFault)
-        → IsRead stream messages None rest → IsRead (rest ++ piece) more fault after → IsRead (stream ++ piece) (messages ++ more) fault after }
+        → IsRead stream messages None rest → IsRead (rest ++ piece) more fault after
+        → IsRead (stream ++ piece) (messages ++ more) fault after }
     // No stream says two things.
     ensures one { (stream rest other : List ℕ) (messages more : List LinkMessage)
         (fault cause : Option LinkFault)
-        → IsRead stream messages fault rest → IsRead stream more cause other → (messages ≡ more) × (fault ≡ cause) × (rest ≡ other) }
+        → IsRead stream messages fault rest → IsRead stream more cause other
+        → (messages ≡ more) × (fault ≡ cause) × (rest ≡ other) }
 {}

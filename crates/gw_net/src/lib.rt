@@ -1,7 +1,7 @@
 //! Links between gateways.
 //!
-//! Two gateways that are linked say their numbers, then what they have (digests), then what the other lacks (deltas). A link
-//! carries octets in pieces of any size.
+//! Two gateways that are linked say their numbers, then what they have (digests), then what the
+//! other lacks (deltas). A link carries octets in pieces of any size.
 //!
 //! - `message`: what is said (`LinkMessage`).
 //! - `fault`: why a link is given up.
@@ -10,8 +10,8 @@
 //! - `outgoing`: the end at which messages go out (`link_out`).
 //! - `laws`: that a stream says one thing, however it is cut.
 //!
-//! The definitions are in `specs/`: `Messages` (messages and their octets), `Streams` (what a stream says), `Pieces` (what pieces of it
-//! give), `Writing` (what goes out).
+//! The definitions are in `specs/`: `Messages` (messages and their octets), `Streams` (what a
+//! stream says), `Pieces` (what pieces of it give), `Writing` (what goes out).
 #![tactic(auto)]
 
 mod fault;

@@ -3,8 +3,8 @@
 use rep_digest::Digest;
 use rep_ops::Delta;
 
-/// What gateways say to one another over a link. A message is spelled as one octet of kind, four octets with the length of
-/// its body, and the body.
+/// What gateways say to one another over a link. A message is spelled as one octet of kind, four
+/// octets with the length of its body, and the body.
 #[derive(Debug, Drop)]
 pub enum LinkMessage {
     /// Kind 1: the number of the gateway at this end. Its body is one octet.

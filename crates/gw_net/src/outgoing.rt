@@ -14,10 +14,11 @@ use octets::{NoMemory, append_u32};
 use std::alloc::Global;
 use std::io::Write;
 
-/// Writes a message. The number of a hello is not 0: no gateway has that number, and no link reads it.
+/// Writes a message. The number of a hello is not 0: no gateway has that number, and no link reads
+/// it.
 ///
-/// `Write` where a write failed or took no octet: exactly the first `written` octets of the message went out. `Memory`, and
-/// nothing was written.
+/// `Write` where a write failed or took no octet: exactly the first `written` octets of the message
+/// went out. `Memory`, and nothing was written.
 pub fn link_out<W: Write>(
     alloc: Global,
     writer: &mut W,

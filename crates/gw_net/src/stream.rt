@@ -18,8 +18,8 @@ pub struct Fed {
     pub fault: Option<LinkFault>,
 }
 
-/// The end of a link at which octets come in, in pieces. Contracts see the octets that wait for the rest of their message, and
-/// whether the link has failed.
+/// The end of a link at which octets come in, in pieces. Contracts see the octets that wait for the
+/// rest of their message, and whether the link has failed.
 #[derive(Debug, Drop)]
 pub struct LinkIn {
     waiting: Option<Vec<u8>>,
@@ -48,7 +48,8 @@ impl LinkIn {
         }
     }
 
-    /// Takes a piece, and gives the messages that are whole now, with the fault behind them, if there is one.
+    /// Takes a piece, and gives the messages that are whole now, with the fault behind them, if
+    /// there is one.
     ///
     /// `Failed` after a fault; `Memory`, and the link is as it was.
     pub fn feed(&mut self, alloc: Global, piece: &[u8]) -> Result<Fed, LinkFault>
@@ -75,7 +76,8 @@ impl LinkIn {
     }
 }
 
-/// Takes a piece behind the octets that wait, and the whole messages out of them. On an error what waits is as it was.
+/// Takes a piece behind the octets that wait, and the whole messages out of them. On an error what
+/// waits is as it was.
 fn take_piece(alloc: Global, waiting: &mut Vec<u8>, piece: &[u8]) -> Result<Fed, LinkFault>
     ensures ok { IfOk result (λ fed. IsRead (waiting.old.items ++ piece.now) fed.messages.items
         fed.fault waiting.new.items) }

@@ -3,12 +3,12 @@ use Rattle.std.proofs.Common.{◌≡◌, ℕ, Bool, true, false, cond, not, if�
 use Rattle.std.proofs.lemmas.List.{append-nil}
 use Rattle.std.proofs.lemmas.List.Concat.{flat_map-append}
 use Rattle.sn_session.specs.declared.change.SessionOp.{SessionOp}
-use Rattle.rep_ops.specs.declared.op.Stamp.{Stamp}
-use Rattle.rep_ops.specs.declared.op.Put.{Put}
-use Rattle.rep_ops.specs.declared.op.Op.{Op}
-use Rattle.rep_ops.specs.declared.op.Op.TheVariants.{Session as OfSession, Put as OfPut, Ack}
-use Rattle.rep_ops.specs.Orders.{operation_cmp, put_cmp}
-use Rattle.rep_ops.specs.Sets.{same_client, operation_of, operation_at, put_of, put_at, is_acknowledged, Agrees, Within, Same}
+use Rattle.rep_op.specs.declared.op.Stamp.{Stamp}
+use Rattle.rep_op.specs.declared.op.Put.{Put}
+use Rattle.rep_op.specs.declared.op.Op.{Op}
+use Rattle.rep_op.specs.declared.op.Op.TheVariants.{Session as OfSession, Put as OfPut, Ack}
+use Rattle.rep_op.specs.Orders.{operation_cmp, put_cmp}
+use Rattle.rep_op.specs.Sets.{same_client, operation_of, operation_at, put_of, put_at, is_acknowledged, Agrees, Within, Same}
 use Rattle.rep_model.specs.Views.{visible}
 use Rattle.rep_model.specs.Keep.{is_below, keep, CountsAs}
 use Rattle.rep_model.specs.Taking.{AllAgree}

@@ -1,6 +1,6 @@
 -- From what the parts of a call come to, to the call.
 use Rattle.std.proofs.Common.{◌≡◌, ◌≢◌, ℕ, ◌==◌, false, List, [], ◌∷◌, ◌++◌, length, Some, Result, Ok, Err, refl, ap, inl, inr}
-use Rattle.rep_ops.specs.declared.op.Op.{Op}
+use Rattle.rep_op.specs.declared.op.Op.{Op}
 use Rattle.rep_ops.specs.Deltas.{IsDelta}
 use Rattle.rep_ops.specs.Making.{AreApart, IsDeltaOf}
 use Rattle.rep_ops.specs.Spelling.{IsWithinLimit}

@@ -1,10 +1,10 @@
 -- How what is kept follows what was taken.
 use Rattle.std.proofs.Common.{◌≡◌, ◌≢◌, ℕ, Bool, true, false, not, List, ◌++◌, if◌then◌else◌, Option, Some, None, IfSome, Contains, refl, sym, ap, ◌∙◌, subst}
 use Rattle.sn_session.specs.declared.change.SessionOp.{SessionOp}
-use Rattle.rep_ops.specs.declared.op.Put.{Put}
-use Rattle.rep_ops.specs.declared.op.Op.{Op}
-use Rattle.rep_ops.specs.declared.op.Op.TheVariants.{Session as OfSession, Put as OfPut, Ack}
-use Rattle.rep_ops.specs.Sets.{operation_at, put_at, is_acknowledged, Agrees, Same}
+use Rattle.rep_op.specs.declared.op.Put.{Put}
+use Rattle.rep_op.specs.declared.op.Op.{Op}
+use Rattle.rep_op.specs.declared.op.Op.TheVariants.{Session as OfSession, Put as OfPut, Ack}
+use Rattle.rep_op.specs.Sets.{operation_at, put_at, is_acknowledged, Agrees, Same}
 use Rattle.rep_model.specs.declared.fault.Limit.{Limit}
 use Rattle.rep_model.specs.declared.fault.TakeFault.TheVariants as take_faults
 use Rattle.rep_model.specs.Views.{visible}

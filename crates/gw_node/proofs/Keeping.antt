@@ -1,9 +1,9 @@
 -- How what is kept follows what was taken.
 use Rattle.std.proofs.Common.{◌≡◌, ◌⊎◌, List, [], ◌++◌, Option, Some, None, Contains, sym, ◌∙◌, inl, inr, subst}
 use Rattle.std.proofs.lemmas.List.Elements.{Contains-append_left, Contains-append_right}
-use Rattle.rep_ops.specs.declared.op.Op.{Op}
-use Rattle.rep_ops.specs.declared.op.Op.TheVariants.{Session as OfSession, Put as OfPut}
-use Rattle.rep_ops.specs.Sets.{operation_at, put_at}
+use Rattle.rep_op.specs.declared.op.Op.{Op}
+use Rattle.rep_op.specs.declared.op.Op.TheVariants.{Session as OfSession, Put as OfPut}
+use Rattle.rep_op.specs.Sets.{operation_at, put_at}
 use Rattle.rep_model.specs.Keep.{IsKeptOf}
 use Rattle.rep_model.proofs.Joins.{counts-refl, counts-join}
 use Rattle.rep_model.proofs.Lookup.{or_else}

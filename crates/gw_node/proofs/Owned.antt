@@ -3,11 +3,11 @@ use Rattle.std.proofs.Common.{◌≡◌, ℕ, Bool, true, false, cond, not, ◌&
 use Rattle.std.specs.List.{list_all, list_any, cons_option}
 use Rattle.std.proofs.lemmas.Bool.{and_parts, and_from, or_right}
 use Rattle.std.proofs.lemmas.List.Elements.{filter_map-append}
-use Rattle.rep_ops.specs.declared.op.Stamp.{Stamp}
-use Rattle.rep_ops.specs.declared.op.Op.{Op}
-use Rattle.rep_ops.specs.declared.op.Op.TheVariants.{Session as OfSession, Put as OfPut, Ack}
-use Rattle.rep_ops.specs.Orders.{stamp_cmp}
-use Rattle.rep_ops.specs.Sets.{same_client, operation_of, operations}
+use Rattle.rep_op.specs.declared.op.Stamp.{Stamp}
+use Rattle.rep_op.specs.declared.op.Op.{Op}
+use Rattle.rep_op.specs.declared.op.Op.TheVariants.{Session as OfSession, Put as OfPut, Ack}
+use Rattle.rep_op.specs.Orders.{stamp_cmp}
+use Rattle.rep_op.specs.Sets.{same_client, operation_of, operations}
 use Rattle.rep_model.specs.Views.{greatest, take_stamp, names, visible}
 use Rattle.rep_model.specs.Keep.{IsKeptOf}
 use Rattle.rep_model.proofs.Readers.{same_client-true}
@@ -21,7 +21,7 @@ use Rattle.sn_local.specs.Locals.{Local, after_all, owned}
 use Rattle.sn_local.specs.Bindings.{binding_cmp, is_apart, is_of_other, binding_change, bindings_after, address_of, is_stamp_of, is_owned, has_owned}
 use Rattle.sn_local.specs.Timers.{timer_cmp, timer_of, heard_at, sent_at, resent_at, retried_at, timer_change, timers_after, times_owned}
 use Rattle.sn_local.proofs.Entries.{same_client-itself}
-use Rattle.sn_flow.proofs.Entered.{all-entered, all-filtered}
+use Rattle.sn_plan.proofs.Entered.{all-entered, all-filtered}
 use Rattle.gw_node.specs.inner.Tidy.{are_owned, WereOwned, tidied, is_stranger, leaves_all, notes_owned}
 
 -- ---- lists

@@ -2,14 +2,14 @@
 use Rattle.std.proofs.Common.{◌≡◌, ℕ, ◌≤◌, true, List, [], ◌∷◌, ◌++◌, Option, Some, None, IfSome, refl, sym, subst, inl, inr}
 use Rattle.std.specs.List.{AllByRecursion}
 use Rattle.std.proofs.lemmas.Bool.{and_from, le-leb, eq-eqb}
-use Rattle.rep_ops.specs.declared.op.Op.{Op}
-use Rattle.rep_ops.specs.declared.op.Op.TheVariants.{Session as OfSession, Put as OfPut, Ack}
-use Rattle.rep_ops.specs.Deltas.{IsDelta, HasTwice}
-use Rattle.rep_ops.specs.Orders.{operation_cmp, put_cmp}
-use Rattle.rep_ops.specs.Sets.{operation_of, operation_at, put_of, put_at, acknowledges, Stands, IsConsistent, Agrees, Within}
+use Rattle.rep_op.specs.declared.op.Op.{Op}
+use Rattle.rep_op.specs.declared.op.Op.TheVariants.{Session as OfSession, Put as OfPut, Ack}
+use Rattle.rep_ops.specs.Deltas.{IsDelta}
+use Rattle.rep_op.specs.Orders.{HasTwice, operation_cmp, put_cmp}
+use Rattle.rep_op.specs.Sets.{operation_of, operation_at, put_of, put_at, acknowledges, Stands, IsConsistent, Agrees, Within}
 use Rattle.rep_ops.proofs.Joined.{rising_ascending}
 use Rattle.rep_ops.proofs.Rising.{rising_apart}
-use Rattle.rep_ops.proofs.Sets.{IsIn, find_of, operation_exact, put_exact, operations_single, puts_single, any_in}
+use Rattle.rep_op.proofs.Sets.{IsIn, find_of, operation_exact, put_exact, operations_single, puts_single, any_in}
 use Rattle.sn_local.proofs.Entries.{same_client-itself}
 use Rattle.rep_model.specs.Taking.{AllAgree}
 use Rattle.rep_model.proofs.Joins.{all-weaker}

@@ -3,17 +3,18 @@ use Rattle.std.proofs.Common.{◌≡◌, ◌⊎◌, ◌+◌, ◌<◌, ◌≤◌,
 use Rattle.std.specs.List.{AllByRecursion, flat_map}
 use Rattle.std.proofs.lemmas.Grind.{flat_map-append}
 use Rattle.std.proofs.lemmas.List.{length-append}
-use Rattle.rep_ops.specs.declared.op.Op.{Op}
+use Rattle.rep_op.specs.declared.op.Op.{Op}
 use Rattle.rep_ops.specs.Making.{IsDeltaOf}
-use Rattle.rep_ops.specs.Sets.{Same}
-use Rattle.rep_ops.specs.Spelling.{op_octets, spelling, IsWithinLimit}
+use Rattle.rep_op.specs.Sets.{Same}
+use Rattle.rep_octets.specs.Spelling.{op_octets}
+use Rattle.rep_ops.specs.Spelling.{spelling, IsWithinLimit}
 use Rattle.rep_ops.specs.Splitting.{all_of, IsPart, AreFull, IsSplit, AreDeltasOf}
 use Rattle.rep_ops.proofs.Canonical.{one_delta}
-use Rattle.rep_ops.proofs.Sets.{Same-sym, Same-trans}
+use Rattle.rep_op.proofs.Sets.{Same-sym, Same-trans}
 use Rattle.rep_model.specs.Keep.{keep, CountsAs}
 use Rattle.rep_model.specs.Held.{IsHeld}
 use Rattle.rep_model.proofs.Joins.{same_refl}
-use Rattle.rep_digest.specs.Answers.{IsRest, IsAnswer}
+use Rattle.rep_answer.specs.Answers.{IsRest, IsAnswer}
 use Rattle.rep_digest.specs.declared.entry.ClientEntry.{ClientEntry}
 
 no-cons : {A : Type 0} (x : A) (xs : List A) → [] ≡ x ∷ xs → ⊥

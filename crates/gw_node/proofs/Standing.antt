@@ -4,10 +4,10 @@ use Rattle.std.specs.Prelude.{IsSome}
 use Rattle.std.proofs.lemmas.Bool.{lt-ltb, le-ltb}
 use Rattle.std.proofs.lemmas.List.{length-append}
 use Rattle.std.proofs.lemmas.List.Elements.{All-from_recursion, All-contains}
-use Rattle.rep_ops.specs.declared.op.Op.{Op}
-use Rattle.rep_ops.specs.declared.op.Op.TheVariants.{Session as OfSession, Put as OfPut}
+use Rattle.rep_op.specs.declared.op.Op.{Op}
+use Rattle.rep_op.specs.declared.op.Op.TheVariants.{Session as OfSession, Put as OfPut}
 use Rattle.rep_ops.specs.Deltas.{IsDelta}
-use Rattle.rep_ops.specs.Sets.{operation_at, put_at, Stands as StandsIn, IsConsistent}
+use Rattle.rep_op.specs.Sets.{operation_at, put_at, Stands as StandsIn, IsConsistent}
 use Rattle.rep_model.specs.Keep.{CountsAs, IsKeptOf}
 use Rattle.rep_model.specs.Taking.{AllAgree, Fits}
 use Rattle.sn_local.specs.Locals.{Local}

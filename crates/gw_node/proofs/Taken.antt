@@ -1,9 +1,9 @@
 -- What a node has taken, from call to call.
 use Rattle.std.proofs.Common.{◌≡◌, ◌≢◌, ℕ, Bool, true, false, true≢false, List, [], ◌∷◌, ◌++◌, length, Option, Some, None, Result, Ok, Err, refl, sym, ap, ◌∙◌, subst, inl, inr, ◌⊎◌, arith}
 use Rattle.std.proofs.lemmas.List.{append-nil, take_all}
-use Rattle.rep_ops.specs.declared.op.Op.{Op}
+use Rattle.rep_op.specs.declared.op.Op.{Op}
 use Rattle.rep_ops.specs.Deltas.{IsDelta}
-use Rattle.rep_ops.specs.Sets.{IsConsistent, Same}
+use Rattle.rep_op.specs.Sets.{IsConsistent, Same}
 use Rattle.rep_model.specs.Held.{IsHeld}
 use Rattle.rep_model.specs.Keep.{keep, CountsAs, IsKeptOf}
 use Rattle.rep_model.specs.Roomy.{IsRoomy}

@@ -1,7 +1,7 @@
 -- What each call of a node may answer, and the node after it. A node that is halted refuses first
 -- of all.
 use Rattle.std.specs.Prelude.{◌≡◌, ◌≢◌, ◌⊎◌, ◌<◌, ℕ, true, false, length, if◌then◌else◌, List, [], ◌∷◌, ◌++◌, Some, None, Result, Ok, Err}
-use Rattle.rep_ops.specs.declared.op.Op.{Op}
+use Rattle.rep_op.specs.declared.op.Op.{Op}
 use Rattle.rep_ops.specs.Deltas.{IsDelta}
 use Rattle.rep_ops.specs.Making.{AreApart, IsDeltaOf}
 use Rattle.rep_model.specs.Views.{view, is_named}
@@ -11,7 +11,7 @@ use Rattle.rep_model.specs.Taking.{Fits}
 use Rattle.rep_ops.specs.Spelling.{max_octets, IsWithinLimit as IsDeltaWithinLimit}
 use Rattle.rep_digest.specs.declared.entry.ClientEntry.{ClientEntry}
 use Rattle.rep_digest.specs.Digests.{digest}
-use Rattle.rep_digest.specs.Answers.{IsAnswer}
+use Rattle.rep_answer.specs.Answers.{IsAnswer}
 use Rattle.rep_digest.specs.Spelling.{spelling, IsWithinLimit}
 use Rattle.sn_plan.specs.declared.plan.Plan.{Plan}
 use Rattle.sn_local.specs.Seen.{seen_of}

@@ -1,6 +1,6 @@
 -- Whatever set a node has taken before a call, which it has taken after it.
 use Rattle.std.specs.Prelude.{ℕ, List, [], ◌++◌, Option, Some, None, Result, Ok, Err}
-use Rattle.rep_ops.specs.declared.op.Op.{Op}
+use Rattle.rep_op.specs.declared.op.Op.{Op}
 use Rattle.rep_ops.specs.Making.{IsDeltaOf}
 use Rattle.rep_model.specs.Taking.{AllAgree}
 use Rattle.sn_plan.specs.declared.plan.Plan.{Plan}

@@ -2,15 +2,15 @@
 -- if it makes one. What is made or taken is in the journal then. Where the disk fails the gateway
 -- is halted: it refuses everything that would change it, until it is opened again.
 use Rattle.std.specs.Prelude.{◌≡◌, ◌≢◌, ◌⊎◌, ◌<◌, ℕ, true, false, length, List, [], ◌∷◌, ◌++◌, Option, Some, None, Result, Ok, Err, Contains}
-use Rattle.rep_ops.specs.declared.op.Op.{Op}
-use Rattle.rep_ops.specs.declared.op.Op.TheVariants.{Session as OfSession, Put as OfPut}
-use Rattle.rep_ops.specs.declared.fault.OpsFault.{OpsFault}
-use Rattle.rep_ops.specs.declared.fault.OpsFault.TheVariants as ops_faults
-use Rattle.rep_ops.specs.Orders.{client_of}
+use Rattle.rep_op.specs.declared.op.Op.{Op}
+use Rattle.rep_op.specs.declared.op.Op.TheVariants.{Session as OfSession, Put as OfPut}
+use Rattle.rep_op.specs.declared.fault.OpsFault.{OpsFault}
+use Rattle.rep_op.specs.declared.fault.OpsFault.TheVariants as ops_faults
+use Rattle.rep_op.specs.Orders.{client_of}
 use Rattle.rep_ops.specs.Making.{AreApart, IsDeltaOf, IsRefusal}
 use Rattle.rep_ops.specs.Spelling.{max_octets, IsWithinLimit}
 use Rattle.rep_digest.specs.declared.entry.ClientEntry.{ClientEntry}
-use Rattle.rep_digest.specs.Answers.{IsAnswer}
+use Rattle.rep_answer.specs.Answers.{IsAnswer}
 use Rattle.rep_digest.specs.Digests.{digest}
 use Rattle.rep_digest.specs.Spelling.{spelling, IsWithinLimit as IsDigestWithinLimit}
 use Rattle.rep_model.specs.declared.fault.Limit.{Limit}

@@ -3,7 +3,7 @@
 -- failed. Nobody was told of that one, but it may be on the disk; there is none as long as the
 -- gateway goes on.
 use Rattle.std.specs.Prelude.{Bool, true, false, List, [], ◌++◌}
-use Rattle.rep_ops.specs.declared.op.Op.{Op}
+use Rattle.rep_op.specs.declared.op.Op.{Op}
 use Rattle.sn_local.specs.declared.config.Config.{Config}
 use Rattle.sn_local.specs.Locals.{Local, no_local}
 use Rattle.jr_disk.specs.Disk.{Image}

@@ -12,7 +12,7 @@ use Rattle.sn_plan.specs.declared.plan.Plan.{Plan}
 use Rattle.sn_local.specs.Seen.{Seen}
 use Rattle.sn_local.specs.Locals.{Local}
 use Rattle.sn_deliver.specs.Steps.{step}
-use Rattle.sn_deliver.specs.Ticking.{tick}
+use Rattle.sn_tick.specs.Ticking.{tick}
 
 -- a datagram from an address; or a tick of the clock
 pub data Occasion : Type 0 where

@@ -1,6 +1,6 @@
 -- Opening a node: it takes what its journal holds.
 use Rattle.std.specs.Prelude.{◌≡◌, ◌≢◌, ◌⊎◌, ◌≤◌, ◌<◌, ℕ, true, false, IsTrue, List, [], ◌∷◌, ◌++◌, length, Some, None, take, slice_get, Result, Ok, Err}
-use Rattle.rep_ops.specs.declared.op.Op.{Op}
+use Rattle.rep_op.specs.declared.op.Op.{Op}
 use Rattle.rep_model.specs.Taking.{Fits}
 use Rattle.sn_local.specs.declared.config.Config.{Config}
 use Rattle.sn_local.specs.Locals.{no_local}

@@ -1,11 +1,11 @@
 -- What a node's plan comes to, by what its replica keeps.
 use Rattle.std.specs.Prelude.{◌≡◌, ◌≢◌, ℕ, List, [], ◌∷◌, ◌++◌, Option, Some, None}
-use Rattle.rep_ops.specs.declared.op.Op.{Op}
-use Rattle.rep_ops.specs.declared.fault.OpsFault.{OpsFault}
-use Rattle.rep_ops.specs.declared.fault.OpsFault.TheVariants as ops_faults
+use Rattle.rep_op.specs.declared.op.Op.{Op}
+use Rattle.rep_op.specs.declared.fault.OpsFault.{OpsFault}
+use Rattle.rep_op.specs.declared.fault.OpsFault.TheVariants as ops_faults
 use Rattle.rep_ops.specs.Making.{IsDeltaOf, IsRefusal}
 use Rattle.rep_ops.specs.Spelling.{IsWithinLimit}
-use Rattle.rep_ops.specs.Values.{AreValues}
+use Rattle.rep_op.specs.Values.{AreValues}
 use Rattle.rep_model.specs.declared.fault.Limit.{Limit}
 use Rattle.rep_model.specs.declared.fault.TakeFault.TheVariants as take_faults
 use Rattle.rep_model.specs.Keep.{IsKeptOf}

@@ -1,6 +1,6 @@
 -- Nodes, and the gateways that they stand for.
 use Rattle.std.specs.Prelude.{◌≡◌, ℕ, false, IsTrue, List, [], Option, Some, Result, Ok, Err}
-use Rattle.rep_ops.specs.declared.op.Op.{Op}
+use Rattle.rep_op.specs.declared.op.Op.{Op}
 use Rattle.rep_ops.specs.Making.{IsDeltaOf}
 use Rattle.rep_model.specs.Taking.{AllAgree}
 use Rattle.sn_plan.specs.declared.plan.Plan.{Plan}
@@ -70,9 +70,9 @@ abbrev pub fated : Option Failure → Gateway → Gateway
 fated fate gateway = record gateway { drive = record gateway.drive { plan = fate } }
 
 -- The node stood for the gateway, and stands for the next one, to which what happened leads: as if
--- the failure that came, or none, had been arranged. On an honest disk to which no memory was refused
--- it is the one that was known, if one was, and it is known again. And what the gateway has taken
--- lasts there, if it did before, where what the call took contradicts nothing of it.
+-- the failure that came, or none, had been arranged. On an honest disk to which no memory was
+-- refused it is the one that was known, if one was, and it is known again. And what the gateway has
+-- taken lasts there, if it did before, where what the call took contradicts nothing of it.
 pub record LeadsTo {D : Type 0} {G : Ghosts D} (Happens : Gateway → Gateway → List (List Op)
     → Type 0) (Agrees : Type 0) (gateway : Gateway) (old new : State G) : Type 0 where
   pub fate : Option Failure

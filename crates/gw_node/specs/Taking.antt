@@ -1,8 +1,8 @@
 -- What a node has taken, and what a crash would leave of it.
 use Rattle.std.specs.Prelude.{◌≡◌, ◌⊎◌, ℕ, false, List, [], ◌++◌, None}
 use Rattle.std.specs.List.{flat_map}
-use Rattle.rep_ops.specs.declared.op.Op.{Op}
-use Rattle.rep_ops.specs.Sets.{Within, IsConsistent}
+use Rattle.rep_op.specs.declared.op.Op.{Op}
+use Rattle.rep_op.specs.Sets.{Within, IsConsistent}
 use Rattle.rep_model.specs.Keep.{keep, CountsAs}
 use Rattle.rep_model.specs.Roomy.{IsRoomy}
 use Rattle.jr_disk.specs.declared.disk.Disk.{Ghosts}

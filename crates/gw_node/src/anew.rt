@@ -1,4 +1,5 @@
-//! The journal is written anew, from what is kept; or it is read anew, and the node keeps what it reads.
+//! The journal is written anew, from what is kept; or it is read anew, and the node keeps what it
+//! reads.
 
 ghost use Rattle.std.specs.Prelude.{◌≡◌, ◌↔◌, [], IsTrue, IfOk, IfErr};
 ghost use Rattle.rep_model.specs.Held.{IsHeld};
@@ -17,7 +18,7 @@ use jr_journal::{Disk, Journal, JournalFault};
 use octets::Sequence;
 use rep_model::Replica;
 use rep_ops::Delta;
-use sn_flow::Dialogs;
+use sn_local::Dialogs;
 use std::alloc::Global;
 
 /// What is kept, as deltas.
@@ -79,7 +80,8 @@ fn is_wanting(refusal: &Refusal) -> bool
     }
 }
 
-/// Takes what was read, and nothing but that. `halted`: whether the node had been halted before its journal was read.
+/// Takes what was read, and nothing but that. `halted`: whether the node had been halted before its
+/// journal was read.
 fn refill<R: Replica, D: Disk + Drop>(
     alloc: Global,
     node: &mut Node<R, D>,

@@ -1,5 +1,5 @@
-//! A plan is carried out, and a delta is taken: room, delta, journal, replica, local state, in this order. What can be refused is
-//! refused before the journal is written; behind it nothing can be.
+//! A plan is carried out, and a delta is taken: room, delta, journal, replica, local state, in this
+//! order. What can be refused is refused before the journal is written; behind it nothing can be.
 
 ghost use Rattle.std.specs.Prelude.{◌≡◌, ◌≢◌, ◌++◌, [], IfOk, IfErr, OnOk, unwrap_or};
 ghost use Rattle.rep_ops.specs.Deltas.{IsDelta};
@@ -22,7 +22,7 @@ use jr_journal::{Disk, Journal, JournalFault};
 use octets::Sequence;
 use rep_model::{Replica, TakeFault};
 use rep_ops::{Delta, Op, OpsFault};
-use sn_flow::Plan;
+use sn_plan::Plan;
 use std::alloc::Global;
 
 /// The delta of these operations.
@@ -159,8 +159,9 @@ pub(crate) fn note<R: Replica, D: Disk + Drop>(
     Ok(answer)
 }
 
-/// Carries out a plan with operations: they become one delta, which is written to the journal and taken, and what the plan notes is
-/// noted. `excuse` is answered where the journal cannot be written.
+/// Carries out a plan with operations: they become one delta, which is written to the journal and
+/// taken, and what the plan notes is noted. `excuse` is answered where the journal cannot be
+/// written.
 pub(crate) fn carry_out<R: Replica, D: Disk + Drop>(
     alloc: Global,
     node: &mut Node<R, D>,
@@ -201,7 +202,8 @@ pub(crate) fn carry_out<R: Replica, D: Disk + Drop>(
     }
 }
 
-/// Takes a delta: it is written to the journal, and clients that another gateway now owns have no address here any more.
+/// Takes a delta: it is written to the journal, and clients that another gateway now owns have no
+/// address here any more.
 pub(crate) fn take_in<R: Replica, D: Disk + Drop>(
     alloc: Global,
     node: &mut Node<R, D>,

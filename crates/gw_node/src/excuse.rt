@@ -4,11 +4,12 @@ ghost use Rattle.std.specs.Prelude.{◌≡◌, ◌≤◌, IfOk, IfSome};
 ghost use Rattle.sn_frame.specs.declared.frame.TheConstants.{MAX_FRAME};
 ghost use Rattle.sn_frame.specs.Bodies.{IsMessage};
 ghost use Rattle.sn_frame.specs.Grammar.{total_of};
-ghost use Rattle.gw_node.specs.Excuses.{accepts as would_accept, unpublished as unpublished_of, excuse_of as defined_excuse, excuses as defined_excuses};
+ghost use Rattle.gw_node.specs.Excuses as spec;
 
 use octets::{NoMemory, Sequence};
-use sn_flow::{Addr, Draft, Send, plan_without};
 use sn_frame::{Flags, Frame, Qos};
+use sn_local::{Addr, Send};
+use sn_plan::{Draft, plan_without};
 use std::alloc::Global;
 
 /// Return code 1: congestion (MQTT-SN 1.2 section 5.3.10).
@@ -16,7 +17,7 @@ const CONGESTION: u8 = 1;
 
 /// Whether the first of these datagrams accepts a connection.
 fn accepts(sends: &[Send]) -> bool
-    ensures { result ≡ would_accept sends.now }
+    ensures { result ≡ spec.accepts sends.now }
 {
     match sends.first() {
         Some(send) => send.bytes.as_slice() == [3, 5, 0].as_slice(),
@@ -26,7 +27,7 @@ fn accepts(sends: &[Send]) -> bool
 
 /// The refusal of a publication, where it is answered.
 fn unpublished(qos: Qos, topic: u16, msg_id: u16) -> Option<Frame>
-    ensures { result ≡ unpublished_of qos topic msg_id }
+    ensures { result ≡ spec.unpublished qos topic msg_id }
 {
     match qos {
         Qos::One | Qos::Two => Some(Frame::PubAck {
@@ -40,7 +41,7 @@ fn unpublished(qos: Qos, topic: u16, msg_id: u16) -> Option<Frame>
 
 /// The refusal of a frame, in the place of these datagrams.
 fn excuse_of(frame: &Frame, sends: &[Send]) -> Option<Frame>
-    ensures excuse { result ≡ defined_excuse frame.now sends.now }
+    ensures excuse { result ≡ spec.excuse_of frame.now sends.now }
     ensures sound { IfSome result (λ excuse. IsMessage excuse × (total_of excuse ≤ MAX_FRAME)) }
 {
     match frame {
@@ -82,7 +83,7 @@ pub(crate) fn excuses(
     frame: &Frame,
     sends: &[Send],
 ) -> Result<Sequence<Send>, NoMemory>
-    ensures { IfOk result (λ made. made ≡ defined_excuses from frame.now sends.now) }
+    ensures { IfOk result (λ made. made ≡ spec.excuses from frame.now sends.now) }
 {
     match excuse_of(frame, sends) {
         None => Ok(Sequence::empty(alloc)),

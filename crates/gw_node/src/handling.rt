@@ -5,8 +5,9 @@ ghost use Rattle.rep_digest.specs.Spelling.{IsWithinLimit};
 ghost use Rattle.sn_frame.specs.Bodies.{IsMessage, IsValue};
 ghost use Rattle.sn_frame.specs.Grammar.{Spells};
 ghost use Rattle.gw_node.specs.Occasions.{Datagram, Clock};
-ghost use Rattle.gw_node.specs.Excuses.{excuses as defined_excuses};
-ghost use Rattle.gw_node.specs.Parts.{state_of, is_halted as is_stopped};
+ghost use Rattle.gw_node.specs.Excuses as spec;
+ghost use Rattle.gw_node.specs.Parts.{state_of};
+ghost use Rattle.gw_node.specs.Parts as parts;
 ghost use Rattle.gw_answer.specs.Answers.{only_sends};
 ghost use Rattle.gw_node.specs.Calls.{OwnCall, shows, DigestCall, AnswerCall, StepCall};
 ghost use Rattle.gw_node.specs.inner.Handling.{IsNoFrameBy, IsNoPlan, planned_for, ticked, CarriedOut, Answers, IsIdleAt};
@@ -19,12 +20,15 @@ use super::node::Node;
 use gw_answer::{Out, Refusal, Shares, Step};
 use jr_journal::Disk;
 use octets::Sequence;
-use rep_digest::{Digest, answer, digest_of};
+use rep_answer::answer;
+use rep_digest::{Digest, digest_of};
 use rep_model::Replica;
 use rep_ops::{ClientId, OpsFault};
-use sn_deliver::{is_idle, step as plan_step, tick as plan_tick};
-use sn_flow::{Addr, Plan, StepFault};
+use sn_deliver::step as plan_step;
 use sn_frame::{Frame, FrameFault, decode};
+use sn_local::{Addr, StepFault};
+use sn_plan::Plan;
+use sn_tick::{is_idle, tick as plan_tick};
 use std::alloc::Global;
 
 /// The frame that a datagram spells.
@@ -93,7 +97,7 @@ fn carry_for_frame<R: Replica, D: Disk + Drop>(
     plan: Plan,
 ) -> Result<Shares, Refusal>
     ensures { CarriedOut (state_of R.kept node.old) plan
-        (only_sends (defined_excuses from frame.now plan.sends)) result (state_of R.kept node.new) }
+        (only_sends (spec.excuses from frame.now plan.sends)) result (state_of R.kept node.new) }
 {
     if plan.ops.is_empty() {
         return note(alloc, node, plan);
@@ -132,7 +136,7 @@ fn answer_frame<R: Replica, D: Disk + Drop>(
 ) -> Result<Shares, Refusal>
     requires { IsMessage frame.now }
     ensures { Answers (state_of R.kept node.old) (planned_for (state_of R.kept node.old) from
-        frame.now now) (defined_excuses from frame.now) result (state_of R.kept node.new) }
+        frame.now now) (spec.excuses from frame.now) result (state_of R.kept node.new) }
 {
     match plan_for(alloc, node, from, frame, now) {
         Ok(plan) => carry_for_frame(alloc, node, from, frame, plan),
@@ -163,8 +167,9 @@ pub(crate) fn handle_frame<R: Replica, D: Disk + Drop>(
 /// How many seconds ahead it is found out that ticks have nothing to do.
 const AHEAD: u64 = 10;
 
-/// Whether it is known that a tick of this moment has nothing to do. Where it was not known it is looked for some seconds
-/// ahead, so that the ticks until then need not look, as long as nothing changes.
+/// Whether it is known that a tick of this moment has nothing to do. Where it was not known it is
+/// looked for some seconds ahead, so that the ticks until then need not look, as long as nothing
+/// changes.
 fn is_idle_at<R: Replica, D: Disk>(node: &mut Node<R, D>, now: u64) -> bool
     ensures same { state_of R.kept node.new ≡ state_of R.kept node.old }
     ensures idle { IsTrue result → IsIdleAt (state_of R.kept node.old) now }
@@ -196,7 +201,7 @@ fn answer_tick<R: Replica, D: Disk + Drop>(
     node: &mut Node<R, D>,
     now: u64,
 ) -> Result<Shares, Refusal>
-    requires { is_stopped (state_of R.kept node.old) ≡ false }
+    requires { parts.is_halted (state_of R.kept node.old) ≡ false }
     ensures { OwnCall (state_of R.kept node.old) Clock now result (state_of R.kept node.new) }
 {
     match plan_of_tick(alloc, node, now) {

@@ -1,26 +1,33 @@
 //! One gateway, with its journal.
 //!
-//! A datagram, a tick or a delta from another gateway is one call of a `Node`. What it makes or takes is written to the
-//! journal, and synced, before the replica has it and before anything is answered. Where the journal cannot be written the
-//! call is refused, the replica and the local state are as before, and the node is halted: it refuses every such call until
-//! it is opened again, from what its disk holds. A journal does not grow for ever: it is compacted to what the replica keeps.
+//! A datagram, a tick or a delta from another gateway is one call of a `Node`. What it makes or
+//! takes is written to the journal, and synced, before the replica has it and before anything is
+//! answered. Where the journal cannot be written the call is refused, the replica and the local
+//! state are as before, and the node is halted: it refuses every such call until it is opened
+//! again, from what its disk holds. A journal does not grow for ever: it is compacted to what the
+//! replica keeps.
 //!
 //! - `node`: a gateway (`Node`) and its calls.
 //! - `opening`: a gateway is opened, and takes what its journal holds.
 //! - `handling`: what the calls do, up to the answer.
-//! - `carrying`: a plan is carried out, a delta is taken: room, delta, journal, replica, local state, in this order.
+//! - `carrying`: a plan is carried out, a delta is taken: room, delta, journal, replica, local
+//!   state, in this order.
 //! - `anew`: the journal is written anew from what is kept, or read anew.
 //! - `excuse`: what a client is told where its frame came to nothing for want of a disk.
 //! - `tidy`: whether each address and each timer is of a client that the gateway owns.
 //! - `laws`: what an opening finds that goes on with what was taken (`opening_laws`).
 //!
-//! A call as a value (`Step`), and what is answered (`Out`, `NodeFault`), are in the crate `gw_answer`.
+//! A call as a value (`Step`), and what is answered (`Out`, `NodeFault`), are in the crate
+//! `gw_answer`.
 //!
-//! The definitions are in `specs/`: `Occasions` (datagrams, ticks and their plans), `Parts` (what contracts see of a node),
-//! `Plans` (what a plan comes to), `Calls` (what each call may answer), `Failures` (which answers tell of the disk), `Writing` (what becomes of the journal), `Excuses`,
-//! `Taking` (what a node has taken, and what a crash leaves of it), `Arranging` (a failure is arranged), `Carrying` (how a call carries that on), `Opening`.
-//! What a gateway is to its operator, and what each call does to it, is in `Gateways`, `Drives` (the disk under it) and `Event`; and that a node
-//! stands for one, before each call and after it, in `Standing`. `Handling` is for private functions.
+//! The definitions are in `specs/`: `Occasions` (datagrams, ticks and their plans), `Parts` (what
+//! contracts see of a node), `Plans` (what a plan comes to), `Calls` (what each call may answer),
+//! `Failures` (which answers tell of the disk), `Writing` (what becomes of the journal), `Excuses`,
+//! `Taking` (what a node has taken, and what a crash leaves of it), `Arranging` (a failure is
+//! arranged), `Carrying` (how a call carries that on), `Opening`. What a gateway is to its
+//! operator, and what each call does to it, is in `Gateways`, `Drives` (the disk under it) and
+//! `Event`; and that a node stands for one, before each call and after it, in `Standing`.
+//! `Handling` is for private functions.
 #![tactic(auto)]
 
 mod anew;

@@ -15,10 +15,11 @@ use jr_journal::{Disk, Journal, MemoryDisk};
 use rep_digest::Digest;
 use rep_model::Replica;
 use rep_ops::{ClientId, Delta};
-use sn_flow::{Addr, Config, Dialogs};
+use sn_local::{Addr, Config, Dialogs};
 use std::alloc::Global;
 
-/// A gateway: what it was told, what it keeps of what it has taken, which address is which client, and its journal.
+/// A gateway: what it was told, what it keeps of what it has taken, which address is which client,
+/// and its journal.
 #[derive(Drop)]
 pub struct Node<R: Replica, D: Disk> {
     pub(crate) config: Config,
@@ -36,10 +37,10 @@ pub struct Node<R: Replica, D: Disk> {
 
 impl<R: Replica, D: Disk + Drop> Node<R, D> {
     ghost use Rattle.std.specs.Prelude.{◌≡◌, ◌≤◌, ◌<◌, ◌++◌, List, [], None, true, false, length, IfOk, IfErr, OnOk, IsTrue, MatchResult};
-    ghost use Rattle.rep_ops.specs.declared.op.Op.{Op};
+    ghost use Rattle.rep_op.specs.declared.op.Op.{Op};
     ghost use Rattle.rep_model.specs.Keep.{CountsAs};
     ghost use Rattle.rep_model.specs.Held.{IsHeld};
-    ghost use Rattle.rep_model.specs.Views.{clients as clients_of};
+    ghost use Rattle.rep_model.specs.Views as views;
     ghost use Rattle.jr_disk.specs.Disk.{image};
     ghost use Rattle.jr_journal.specs.Records.{records};
     ghost use Rattle.jr_journal.specs.Faults.{is_fresh, fault_of};
@@ -47,7 +48,8 @@ impl<R: Replica, D: Disk + Drop> Node<R, D> {
     ghost use Rattle.gw_answer.specs.declared.fault.NodeFault.TheVariants as faults;
     ghost use Rattle.gw_answer.specs.declared.step.Step.TheVariants as steps;
     ghost use Rattle.gw_node.specs.Occasions.{Datagram, Clock};
-    ghost use Rattle.gw_node.specs.Parts.{state_of, is_halted as is_stopped, disk_of, records_of};
+    ghost use Rattle.gw_node.specs.Parts.{state_of, disk_of, records_of};
+    ghost use Rattle.gw_node.specs.Parts as spec;
     ghost use Rattle.gw_answer.specs.Answers.{told, said};
     ghost use Rattle.gw_node.specs.Calls.{OwnCall, TakeCall, ViewCall, DigestCall, AnswerCall, CompactCall, StepCall};
     ghost use Rattle.gw_node.specs.Keeping.{Keeps};
@@ -56,14 +58,15 @@ impl<R: Replica, D: Disk + Drop> Node<R, D> {
     ghost use Rattle.gw_node.specs.Carrying.{CarriesOn, OwnCarriesOn, TakesNothing, ReopenCarriesOn, StepCarriesOn};
     ghost use Rattle.gw_node.specs.Standing.{EventOn};
 
-    /// Opens a gateway on the disk of its journal, and takes what the journal holds; nothing of that is written again. The
-    /// gateway begins without bindings, dialogs and timers.
+    /// Opens a gateway on the disk of its journal, and takes what the journal holds; nothing of
+    /// that is written again. The gateway begins without bindings, dialogs and timers.
     ///
-    /// First the journal is opened: `Disk` only where the disk failed, with nothing to be sent; `Journal` for what is in the
-    /// slots. Then its records are taken, one after the other: `Conflict` and `Full` for one that does not fit to those
-    /// before it. `Memory` may stand in the place of each. With a fault the disk comes back. Its slots may be synced by
-    /// then, a torn record cut away or a journal begun; on an honest disk no crash leaves what it could not have left
-    /// before.
+    /// First the journal is opened: `Disk` only where the disk failed, with nothing to be sent;
+    /// `Journal` for what is in the slots. Then its records are taken, one after the other:
+    /// `Conflict` and `Full` for one that does not fit to those before it. `Memory` may stand in
+    /// the place of each. With a fault the disk comes back. Its slots may be synced by then, a torn
+    /// record cut away or a journal begun; on an honest disk no crash leaves what it could not have
+    /// left before.
     pub fn open(alloc: Global, config: Config, disk: D) -> Result<Node<R, D>, (D, NodeFault)>
         ensures starts { IfOk result (λ node. IsStarted config (state_of R.kept node)) }
         ensures may { IfErr result (λ refused. MayRefuse (told refused.1)) }
@@ -92,7 +95,8 @@ impl<R: Replica, D: Disk + Drop> Node<R, D> {
         // beside whatever set it had taken before it stopped.
         ensures restarts { D.honest → IfOk result (λ node. (S refused : List Op)
             → StandsFor config.gateway S refused (image (D.slots disk)) →
-            HasTaken (S ++ ops_of (records config.gateway (image (D.slots disk)))) [] (state_of R.kept node)) }
+            HasTaken (S ++ ops_of (records config.gateway (image (D.slots disk)))) []
+            (state_of R.kept node)) }
         // Where nothing was refused, that is the set itself.
         ensures durable { D.honest → IfOk result (λ node. (S : List Op)
             → StandsFor config.gateway S [] (image (D.slots disk))
@@ -102,12 +106,14 @@ impl<R: Replica, D: Disk + Drop> Node<R, D> {
             config.gateway (image (D.slots disk))) }
         ensures known { D.honest → IfOk result (λ node. D.slots (disk_of node) ≡ recovered
             config.gateway (image (D.slots disk))) }
-        // It is refused exactly where the format says so, or a record does not fit, or the disk failed, or memory ran out.
+        // It is refused exactly where the format says so, or a record does not fit, or the disk
+        // failed, or memory ran out.
         ensures found { D.honest → OnOk result
             (fault_of config.gateway (image (D.slots disk)) ≡ None) }
         ensures fault { D.honest → IfErr result (λ refused. IsOpenFault config.gateway
             (image (D.slots disk)) (told refused.1)) }
-        // Refused for another cause than the disk, it leaves the slots as they were, synced, or as an opening leaves them.
+        // Refused for another cause than the disk, it leaves the slots as they were, synced, or as
+        // an opening leaves them.
         ensures slots { D.honest → IfErr result (λ refused. LeavesSlots config.gateway
             (D.slots disk) (told refused.1) (D.slots refused.0)) }
         // Whatever refused it, no crash leaves what it could not have left before.
@@ -116,10 +122,12 @@ impl<R: Replica, D: Disk + Drop> Node<R, D> {
         // A failure that is arranged for an append stays arranged, unless a journal is begun.
         ensures quiet { D.honest → IsTrue (is_quiet (D.outlook disk)
             (is_fresh (image (D.slots disk)))) →
-            IfOk result (λ node. D.starved (disk_of node) ≡ false → D.outlook (disk_of node) ≡ D.outlook disk) }
+            IfOk result (λ node. D.starved (disk_of node) ≡ false
+            → D.outlook (disk_of node) ≡ D.outlook disk) }
         ensures blameless { D.honest → IsTrue
             (is_quiet (D.outlook disk) (is_fresh (image (D.slots disk)))) →
-            IfErr result (λ refused. D.starved refused.0 ≡ false → (IsDiskFault (told refused.1) → ⊥) × (D.outlook refused.0 ≡ D.outlook disk)) }
+            IfErr result (λ refused. D.starved refused.0 ≡ false
+            → (IsDiskFault (told refused.1) → ⊥) × (D.outlook refused.0 ≡ D.outlook disk)) }
     {
         let Ok(replica) = R::empty(alloc) else {
             return Err((disk, NodeFault::Memory));
@@ -133,18 +141,21 @@ impl<R: Replica, D: Disk + Drop> Node<R, D> {
         }
     }
 
-    /// A datagram comes from an address at a moment, which is in seconds. The step table says what becomes of it (MQTT-SN
-    /// 1.2 section 6; the frames are those of section 5.4). The operations of the step, if there are any, become one delta.
-    /// It is written to the journal and synced, then it is taken and what the step notes is noted; `sends` of the answer is
-    /// what is to be sent, and `made` is the delta, for the other gateways. A step without operations writes nothing.
+    /// A datagram comes from an address at a moment, which is in seconds. The step table says what
+    /// becomes of it (MQTT-SN 1.2 section 6; the frames are those of section 5.4). The operations
+    /// of the step, if there are any, become one delta. It is written to the journal and synced,
+    /// then it is taken and what the step notes is noted; `sends` of the answer is what is to be
+    /// sent, and `made` is the delta, for the other gateways. A step without operations writes
+    /// nothing.
     ///
-    /// The faults, in the order in which they are looked for: `Halted`, a write of the journal has failed; `Frame`, the
-    /// bytes are no frame; `Exhausted`, the step needs an epoch or a sequence number after the last; `Conflict` and `Full`,
-    /// its operations cannot be taken, or make no delta; `Disk`, the disk failed. `Memory` may stand in the place of each.
+    /// The faults, in the order in which they are looked for: `Halted`, a write of the journal has
+    /// failed; `Frame`, the bytes are no frame; `Exhausted`, the step needs an epoch or a sequence
+    /// number after the last; `Conflict` and `Full`, its operations cannot be taken, or make no
+    /// delta; `Disk`, the disk failed. `Memory` may stand in the place of each.
     ///
-    /// After `Disk` the node is halted, and what it keeps and knows is as before; `out` of the fault is to be sent: return
-    /// code 1, congestion (section 5.3.10), where the frame's answer has a return code. After each other fault nothing has
-    /// changed.
+    /// After `Disk` the node is halted, and what it keeps and knows is as before; `out` of the
+    /// fault is to be sent: return code 1, congestion (section 5.3.10), where the frame's answer
+    /// has a return code. After each other fault nothing has changed.
     pub fn frame(&mut self, alloc: Global, from: Addr, bytes: &[u8], now: u64) -> Answer
         ensures call { OwnCall (state_of R.kept self.old) (Datagram from bytes.now) now
             (said result) (state_of R.kept self.new) }
@@ -156,14 +167,15 @@ impl<R: Replica, D: Disk + Drop> Node<R, D> {
         one_share(handle_frame(alloc, self, from, bytes, now))
     }
 
-    /// A delta of another gateway comes. If it has operations it is written to the journal and synced; then it is taken, and
-    /// bindings and timers of clients that another gateway now owns are dropped. Nothing is sent, and the delta is not
-    /// handed on.
+    /// A delta of another gateway comes. If it has operations it is written to the journal and
+    /// synced; then it is taken, and bindings and timers of clients that another gateway now owns
+    /// are dropped. Nothing is sent, and the delta is not handed on.
     ///
-    /// The faults, in the order in which they are looked for: `Halted`, a write of the journal has failed; `Conflict` and
-    /// `Full`, the delta does not fit to what is kept; `Disk`, the disk failed. `Memory` may stand in the place of each.
-    /// After `Disk` the node is halted, what it keeps and knows is as before, and nothing is to be sent. After each other
-    /// fault nothing has changed.
+    /// The faults, in the order in which they are looked for: `Halted`, a write of the journal has
+    /// failed; `Conflict` and `Full`, the delta does not fit to what is kept; `Disk`, the disk
+    /// failed. `Memory` may stand in the place of each. After `Disk` the node is halted, what it
+    /// keeps and knows is as before, and nothing is to be sent. After each other fault nothing has
+    /// changed.
     pub fn take(&mut self, alloc: Global, delta: &Delta) -> Answer
         ensures call { TakeCall (state_of R.kept self.old) delta.now (said result)
             (state_of R.kept self.new) }
@@ -175,11 +187,12 @@ impl<R: Replica, D: Disk + Drop> Node<R, D> {
         one_share(take_in(alloc, self, delta))
     }
 
-    /// Time goes by: it is this moment, in seconds. One thing is done that is due: ADVERTISE (MQTT-SN 1.2 section 6.1), or
-    /// what is due with one client: it is lost, and its will is published (6.3, 6.14); a frame is sent again (6.13);
-    /// messages that wait are delivered (6.10). What is written to the journal, taken, noted and sent is as with `frame`,
-    /// and so are the faults, of which `Frame` never comes. Nobody waits for the answer to a tick, so after `Disk` nothing
-    /// is to be sent.
+    /// Time goes by: it is this moment, in seconds. One thing is done that is due: ADVERTISE
+    /// (MQTT-SN 1.2 section 6.1), or what is due with one client: it is lost, and its will is
+    /// published (6.3, 6.14); a frame is sent again (6.13); messages that wait are delivered
+    /// (6.10). What is written to the journal, taken, noted and sent is as with `frame`, and so are
+    /// the faults, of which `Frame` never comes. Nobody waits for the answer to a tick, so after
+    /// `Disk` nothing is to be sent.
     pub fn tick(&mut self, alloc: Global, now: u64) -> Answer
         ensures call { OwnCall (state_of R.kept self.old) Clock now (said result)
             (state_of R.kept self.new) }
@@ -191,8 +204,8 @@ impl<R: Replica, D: Disk + Drop> Node<R, D> {
         one_share(handle_tick(alloc, self, now))
     }
 
-    /// Somebody asks for a client's view: `view` of the answer, or none where nothing names the client. A halted node
-    /// answers too. The only fault is `Memory`.
+    /// Somebody asks for a client's view: `view` of the answer, or none where nothing names the
+    /// client. A halted node answers too. The only fault is `Memory`.
     pub fn view(&self, alloc: Global, client: &ClientId) -> Answer
         ensures call { ViewCall (state_of R.kept self.now) client.now (said result)
             (state_of R.kept self.now) }
@@ -202,8 +215,8 @@ impl<R: Replica, D: Disk + Drop> Node<R, D> {
         one_share(handle_view(alloc, self, client))
     }
 
-    /// A gateway asks for the digest: `digest` of the answer. A halted node answers too. The faults: `Full` where the digest
-    /// would be longer than 8,388,608 octets, or `Memory`.
+    /// A gateway asks for the digest: `digest` of the answer. A halted node answers too. The
+    /// faults: `Full` where the digest would be longer than 8,388,608 octets, or `Memory`.
     pub fn digest(&self, alloc: Global) -> Answer
         ensures call { DigestCall (state_of R.kept self.now) (said result)
             (state_of R.kept self.now) }
@@ -213,9 +226,9 @@ impl<R: Replica, D: Disk + Drop> Node<R, D> {
         one_share(handle_digest(alloc, self))
     }
 
-    /// A gateway asks for what its digest does not cover: `answer`, the operations that must be kept here and that the digest
-    /// does not cover. With them that gateway has what it would have with all that this one has. A halted node answers too.
-    /// The only fault is `Memory`.
+    /// A gateway asks for what its digest does not cover: `answer`, the operations that must be
+    /// kept here and that the digest does not cover. With them that gateway has what it would have
+    /// with all that this one has. A halted node answers too. The only fault is `Memory`.
     pub fn answer(&self, alloc: Global, digest: &Digest) -> Answer
         ensures call { AnswerCall (state_of R.kept self.now) digest.now (said result)
             (state_of R.kept self.now) }
@@ -225,13 +238,15 @@ impl<R: Replica, D: Disk + Drop> Node<R, D> {
         one_share(handle_answer(alloc, self, digest))
     }
 
-    /// The journal is to hold what is kept, and nothing else: what is kept is written into its other slot and synced, and the journal
-    /// goes on there. The node keeps and knows what it did, and nothing is sent.
+    /// The journal is to hold what is kept, and nothing else: what is kept is written into its
+    /// other slot and synced, and the journal goes on there. The node keeps and knows what it did,
+    /// and nothing is sent.
     ///
-    /// The faults, in the order in which they are looked for: `Halted`, a write of the journal has failed; `Journal` with `Foreign`, the
-    /// journal's generation is the last that a header can hold; `Disk`, the disk failed. `Memory` may stand in the place of each.
-    /// After `Disk` the node is halted, and a crash leaves the records from before, or what is kept. After each other fault nothing
-    /// has changed.
+    /// The faults, in the order in which they are looked for: `Halted`, a write of the journal has
+    /// failed; `Journal` with `Foreign`, the journal's generation is the last that a header can
+    /// hold; `Disk`, the disk failed. `Memory` may stand in the place of each. After `Disk` the
+    /// node is halted, and a crash leaves the records from before, or what is kept. After each
+    /// other fault nothing has changed.
     pub fn compact(&mut self, alloc: Global) -> Answer
         ensures call { CompactCall (state_of R.kept self.old) (said result)
             (state_of R.kept self.new) }
@@ -242,11 +257,12 @@ impl<R: Replica, D: Disk + Drop> Node<R, D> {
         one_share(handle_compact(alloc, self))
     }
 
-    /// The gateway is opened again, halted or not, from what its disk holds; see `open`. It goes on without bindings, dialogs and timers,
-    /// and nothing is sent. A delta that was refused with `Disk` is taken if all of it had reached the disk, else it is cut away.
+    /// The gateway is opened again, halted or not, from what its disk holds; see `open`. It goes on
+    /// without bindings, dialogs and timers, and nothing is sent. A delta that was refused with
+    /// `Disk` is taken if all of it had reached the disk, else it is cut away.
     ///
-    /// The faults are those of `open`. After each of them the node keeps and knows what it did; it is halted, but after `Memory` it is
-    /// halted or not as before.
+    /// The faults are those of `open`. After each of them the node keeps and knows what it did; it
+    /// is halted, but after `Memory` it is halted or not as before.
     pub fn reopen(&mut self, alloc: Global) -> Answer
         ensures call { ReopenCall (state_of R.kept self.old) (said result)
             (state_of R.kept self.new) }
@@ -258,8 +274,8 @@ impl<R: Replica, D: Disk + Drop> Node<R, D> {
         one_share(handle_reopen(alloc, self))
     }
 
-    /// A call as a value. Its answer is given three times: the shares are taken before the journal is written, so that a call that was
-    /// done can always be told.
+    /// A call as a value. Its answer is given three times: the shares are taken before the journal
+    /// is written, so that a call that was done can always be told.
     pub fn step(&mut self, alloc: Global, step: &Step) -> (Answer, Answer, Answer)
         ensures call { StepCall (state_of R.kept self.old) step.now (said result.0)
             (state_of R.kept self.new) }
@@ -282,7 +298,7 @@ impl<R: Replica, D: Disk + Drop> Node<R, D> {
 
     /// Whether a write has failed since the node was opened, or an attempt to open it again.
     pub fn is_halted(&self) -> bool
-        ensures { result ≡ is_stopped (state_of R.kept self.now) }
+        ensures { result ≡ spec.is_halted (state_of R.kept self.now) }
     {
         self.journal.is_halted()
     }
@@ -309,8 +325,8 @@ impl<R: Replica, D: Disk + Drop> Node<R, D> {
         self.records
     }
 
-    /// The operations that must be kept, in the order of their names, as deltas of which each but the last is as full as it can be.
-    /// A halted node tells them too. The only fault is `Memory`.
+    /// The operations that must be kept, in the order of their names, as deltas of which each but
+    /// the last is as full as it can be. A halted node tells them too. The only fault is `Memory`.
     pub fn held(&self, alloc: Global) -> Result<Vec<Delta>, NodeFault>
         ensures ok { IfOk result (λ deltas. IsHeld (state_of R.kept self.now).kept deltas.items) }
         ensures err { IfErr result (λ fault. fault ≡ faults.Memory) }
@@ -323,7 +339,8 @@ impl<R: Replica, D: Disk + Drop> Node<R, D> {
 
     /// The clients that the node knows, in ascending order.
     pub fn clients(&self, alloc: Global) -> Result<Vec<ClientId>, NodeFault>
-        ensures ok { IfOk result (λ all. all.items ≡ clients_of (state_of R.kept self.now).kept) }
+        ensures ok { IfOk result
+            (λ all. all.items ≡ views.clients (state_of R.kept self.now).kept) }
         ensures err { IfErr result (λ fault. fault ≡ faults.Memory) }
     {
         match self.replica.clients(alloc) {
@@ -345,8 +362,9 @@ impl<R: Replica> Node<R, MemoryDisk> {
         self.journal.starved()
     }
 
-    /// Arranges a failure on the disk of its journal, in place of one that was arranged before, and changes nothing else: the
-    /// next append goes out and its sync fails, or the next append stops after so many bytes.
+    /// Arranges a failure on the disk of its journal, in place of one that was arranged before, and
+    /// changes nothing else: the next append goes out and its sync fails, or the next append stops
+    /// after so many bytes.
     pub fn fail_next(&mut self, bytes: usize, sync: bool)
         ensures call { Arranges bytes sync (state_of R.kept self.old) (state_of R.kept self.new) }
         ensures taken { TakesNothing (state_of R.kept self.old) (state_of R.kept self.new) }

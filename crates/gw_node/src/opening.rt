@@ -2,7 +2,7 @@
 
 ghost use Rattle.std.specs.Prelude.{◌≡◌, [], length, IfOk, IfErr, IfSome, OnOk};
 ghost use Rattle.std.specs.Arc.{arc_value};
-ghost use Rattle.jr_journal.specs.Parts.{disk_of as disk_under};
+ghost use Rattle.jr_journal.specs.Parts as spec;
 ghost use Rattle.sn_local.specs.Locals.{no_local};
 ghost use Rattle.gw_node.specs.Parts.{state_of, records_of};
 ghost use Rattle.gw_answer.specs.Answers.{told, only_sends};
@@ -19,7 +19,7 @@ use jr_journal::{Disk, Journal, JournalFault};
 use octets::Sequence;
 use rep_model::Replica;
 use rep_ops::Delta;
-use sn_flow::{Config, Dialogs};
+use sn_local::{Config, Dialogs};
 use std::alloc::Global;
 use std::sync::Arc;
 
@@ -60,7 +60,7 @@ pub(crate) fn start<R: Replica, D: Disk + Drop>(
     ensures keeps { IfOk result (λ node. Keeps (ops_of deltas.items) (state_of R.kept node).kept) }
     ensures fits { OnOk result (FitInTurn [] deltas.items) }
     ensures none { IfOk result (λ node. deltas.items ≡ [] → (state_of R.kept node).kept ≡ []) }
-    ensures disk { IfErr result (λ refused. refused.0 ≡ disk_under journal) }
+    ensures disk { IfErr result (λ refused. refused.0 ≡ spec.disk_of journal) }
     ensures err { IfErr result (λ refused. DoNotFit deltas.items (told refused.1)) }
 {
     let mut replica = replica;

@@ -1,26 +1,28 @@
-//! Whether each address and each timer is of a client that the gateway owns, so that behind a delta nobody need be looked for.
+//! Whether each address and each timer is of a client that the gateway owns, so that behind a delta
+//! nobody need be looked for.
 
 ghost use Rattle.std.specs.Prelude.{◌≡◌, true, length};
 ghost use Rattle.std.specs.List.{list_all};
 ghost use Rattle.sn_local.specs.Seen.{seen_of};
 ghost use Rattle.sn_local.specs.Locals.{after_all, owned, IsRoomFor};
-ghost use Rattle.gw_node.specs.inner.Tidy.{WereOwned, are_owned as each_is_owned, is_stranger as stranger_test, is_left as left_test, leaves_all as leaves_test, notes_owned as owner_test};
+ghost use Rattle.gw_node.specs.inner.Tidy.{WereOwned};
+ghost use Rattle.gw_node.specs.inner.Tidy as spec;
 
 use octets::Sequence;
 use rep_model::Replica;
 use rep_ops::{ClientId, Op};
-use sn_flow::{Dialogs, LocalChange, is_owned};
+use sn_local::{Dialogs, LocalChange, is_owned};
 
 /// Whether the client has neither an address nor a timer.
 fn is_stranger(dialogs: &Dialogs, client: &ClientId) -> bool
-    ensures { result ≡ stranger_test client.now dialogs.now.local }
+    ensures { result ≡ spec.is_stranger client.now dialogs.now.local }
 {
     dialogs.address_of(client).is_none() && dialogs.timer_of(client).is_none()
 }
 
 /// Whether the gateway owns the client, or the client has neither an address nor a timer.
 fn is_left<R: Replica>(gateway: u8, replica: &R, dialogs: &Dialogs, client: &ClientId) -> bool
-    ensures { result ≡ left_test gateway (seen_of (R.kept replica.now)) dialogs.now.local
+    ensures { result ≡ spec.is_left gateway (seen_of (R.kept replica.now)) dialogs.now.local
         client.now }
 {
     is_owned(gateway, replica, client) || is_stranger(dialogs, client)
@@ -28,7 +30,8 @@ fn is_left<R: Replica>(gateway: u8, replica: &R, dialogs: &Dialogs, client: &Cli
 
 /// Whether the operation leaves the gateway all clients of which it knows an address or a timer.
 fn leaves_all<R: Replica>(gateway: u8, replica: &R, dialogs: &Dialogs, op: &Op) -> bool
-    ensures { result ≡ leaves_test gateway (seen_of (R.kept replica.now)) dialogs.now.local op.now }
+    ensures { result
+        ≡ spec.leaves_all gateway (seen_of (R.kept replica.now)) dialogs.now.local op.now }
 {
     match op {
         Op::Session {
@@ -42,7 +45,7 @@ fn leaves_all<R: Replica>(gateway: u8, replica: &R, dialogs: &Dialogs, op: &Op) 
 
 /// Whether the change notes nobody whom the gateway does not own.
 fn notes_owned<R: Replica>(gateway: u8, replica: &R, change: &LocalChange) -> bool
-    ensures { result ≡ owner_test gateway (seen_of (R.kept replica.now)) change.now }
+    ensures { result ≡ spec.notes_owned gateway (seen_of (R.kept replica.now)) change.now }
 {
     match change {
         LocalChange::Bind { client, .. } => is_owned(gateway, replica, client),
@@ -58,10 +61,11 @@ fn notes_owned<R: Replica>(gateway: u8, replica: &R, change: &LocalChange) -> bo
     }
 }
 
-/// Whether these operations, which the replica has taken, leave the gateway all clients of which it knows an address or a timer.
+/// Whether these operations, which the replica has taken, leave the gateway all clients of which it
+/// knows an address or a timer.
 fn leave_all<R: Replica>(gateway: u8, replica: &R, dialogs: &Dialogs, ops: &[Op]) -> bool
     ensures { result ≡ list_all
-        (leaves_test gateway (seen_of (R.kept replica.now)) dialogs.now.local) ops.now }
+        (spec.leaves_all gateway (seen_of (R.kept replica.now)) dialogs.now.local) ops.now }
 {
     ops.iter()
         .all(|op| leaves_all(gateway, replica, dialogs, op))
@@ -69,15 +73,16 @@ fn leave_all<R: Replica>(gateway: u8, replica: &R, dialogs: &Dialogs, ops: &[Op]
 
 /// Whether these changes note nobody whom the gateway does not own.
 fn note_owned<R: Replica>(gateway: u8, replica: &R, changes: &[LocalChange]) -> bool
-    ensures { result ≡ list_all (owner_test gateway (seen_of (R.kept replica.now))) changes.now }
+    ensures { result
+        ≡ list_all (spec.notes_owned gateway (seen_of (R.kept replica.now))) changes.now }
 {
     changes
         .iter()
         .all(|change| notes_owned(gateway, replica, change))
 }
 
-/// Carries out changes for which there is room, and tells whether each address and each timer is of a client that the gateway
-/// owns, where that was known before.
+/// Carries out changes for which there is room, and tells whether each address and each timer is of
+/// a client that the gateway owns, where that was known before.
 pub(crate) fn note_changes<R: Replica>(
     gateway: u8,
     replica: &R,
@@ -86,10 +91,10 @@ pub(crate) fn note_changes<R: Replica>(
     changes: Sequence<LocalChange>,
 ) -> bool
     requires room { IsRoomFor (length changes) dialogs.old.room }
-    requires known { known ≡ true → each_is_owned gateway (seen_of (R.kept replica.now))
+    requires known { known ≡ true → spec.are_owned gateway (seen_of (R.kept replica.now))
         dialogs.old.local ≡ true }
     ensures done { dialogs.new.local ≡ after_all dialogs.old.local changes }
-    ensures owned { result ≡ true → each_is_owned gateway (seen_of (R.kept replica.now))
+    ensures owned { result ≡ true → spec.are_owned gateway (seen_of (R.kept replica.now))
         dialogs.new.local ≡ true }
 {
     if known && note_owned(gateway, replica, changes.as_slice()) {
@@ -113,7 +118,7 @@ pub(crate) fn note_taken<R: Replica>(
     requires known { known ≡ true → WereOwned gateway (R.kept replica.now) ops.now
         dialogs.old.local }
     ensures done { dialogs.new.local ≡ after_all dialogs.old.local changes }
-    ensures owned { result ≡ true → each_is_owned gateway (seen_of (R.kept replica.now))
+    ensures owned { result ≡ true → spec.are_owned gateway (seen_of (R.kept replica.now))
         dialogs.new.local ≡ true }
 {
     if known && leave_all(gateway, replica, dialogs, ops) {
@@ -122,8 +127,9 @@ pub(crate) fn note_taken<R: Replica>(
     note_changes(gateway, replica, dialogs, false, changes)
 }
 
-/// Drops the bindings and the timers of clients that the gateway does not own, where it has taken these operations. Where it
-/// was known that before them there were none, few of them are looked for.
+/// Drops the bindings and the timers of clients that the gateway does not own, where it has taken
+/// these operations. Where it was known that before them there were none, few of them are looked
+/// for.
 pub(crate) fn keep_owned<R: Replica>(
     gateway: u8,
     replica: &R,
@@ -134,7 +140,7 @@ pub(crate) fn keep_owned<R: Replica>(
     requires { known ≡ true → WereOwned gateway (R.kept replica.now) ops.now dialogs.old.local }
     ensures dropped { dialogs.new.local
         ≡ owned gateway (seen_of (R.kept replica.now)) dialogs.old.local }
-    ensures owned { each_is_owned gateway (seen_of (R.kept replica.now)) dialogs.new.local ≡ true }
+    ensures owned { spec.are_owned gateway (seen_of (R.kept replica.now)) dialogs.new.local ≡ true }
 {
     if known && leave_all(gateway, replica, dialogs, ops) {
         return;

@@ -2,30 +2,15 @@
 use Rattle.std.proofs.Common.{◌≡◌, ◌++◌, [], ◌∷◌, None, Some, refl}
 use Rattle.std.specs.Prelude.{codes, Ok, Err}
 use Rattle.std.specs.Fmt.{digits}
-use Rattle.hex.specs.Hex.{decode_of, decode_pairs, encode_with}
+use Rattle.hex.specs.Hex.{encode_with}
 use Rattle.gw_world.specs.declared.event.Answer.TheVariants as answers
 use Rattle.gw_answer.specs.declared.refusal.Refusal.TheVariants as refusals
 use Rattle.gw_answer.specs.Answers.{only_sends}
 use Rattle.gw_world.specs.declared.world.WorldFault.TheVariants as world_faults
 use Rattle.sn_frame.specs.declared.fault.FrameFault.TheVariants as frame_faults
-use Rattle.gw_play.specs.Commands.{fields_of}
-use Rattle.gw_play.specs.Numbers.{value_of}
 use Rattle.gw_play.specs.Texts.{line_end}
 use Rattle.gw_play.specs.Printing.{send_line, refusal_text, said_text, put_line, client_text, answers_text}
 use Rattle.gw_play.specs.inner.Printing.{world_fault_line, bad_line_text}
-
--- a field of leading zeros
-zeros : value_of (codes "0040") ≡ 40
-zeros = refl
-
--- a space too many makes an empty field
-fields : fields_of (codes "show  1") ≡ codes "show" ∷ [] ∷ codes "1" ∷ []
-fields = refl
-
--- digits of either case
-letters : decode_of (codes "aF00") ≡ Ok (0xaf ∷ 0 ∷ [])
-unfolding decode_pairs
-letters = refl
 
 -- a CONNACK for port 7
 datagram : send_line (record { to = record { host = 0; port = 7 }; bytes = 3 ∷ 5 ∷ 0 ∷ [] }) ≡ codes "to 7 030500" ++ line_end

@@ -1,4 +1,1 @@
-pub mod Digits
 mod Examples
-pub mod Growth
-pub mod Lines

@@ -7,18 +7,17 @@ ghost use Rattle.gw_play.specs.Playing.{IsAnswered};
 ghost use Rattle.gw_play.specs.inner.Playing.{IsOutcome};
 ghost use Rattle.gw_play.specs.Printing.{answers_text};
 
-use super::fault::ScriptFault;
 use super::printing::{print_answers, print_bad_line, print_world_fault};
 use super::reading::{ReadFault, Source, read_all};
 use super::replica::Held;
-use super::script::parse;
+use gw_script::{ScriptFault, parse};
 use gw_world::run;
 use rep_model::Replica;
 use std::alloc::{AllocError, Global};
 use std::io::{self, Write};
 
-/// Reads a script, runs it and prints what comes of it. The exit status is 0 where all was read, run and
-/// written, and otherwise 1.
+/// Reads a script, runs it and prints what comes of it. The exit status is 0 where all was read,
+/// run and written, and otherwise 1.
 pub fn play<S: Source, W: Write>(alloc: Global, source: &mut S, writer: &mut W) -> u8
     ensures reads { S.reads source.new ≤ S.reads source.old + 2 ^ 24 }
     ensures ended { result ≡ 0 → IsAtEnd (S.remaining source.new) }

@@ -13,7 +13,7 @@ use super::text::hexadecimal;
 use gw_world::{Answer, NodeFault, Out, WorldFault};
 use rep_model::ClientView;
 use rep_ops::{ClientId, Delta, Put, Stamp};
-use sn_flow::Send;
+use sn_local::Send;
 use sn_session::{Presence, Session};
 use std::alloc::{AllocError, Global};
 
@@ -29,7 +29,8 @@ pub fn print_answers(alloc: Global, answers: &[Answer]) -> Result<String, AllocE
     Ok(text)
 }
 
-/// The lines of an answer. `before` deltas are in the field's list; the result is how many there are then.
+/// The lines of an answer. `before` deltas are in the field's list; the result is how many there
+/// are then.
 fn print_answer(
     alloc: Global,
     text: &mut String,

@@ -4,7 +4,8 @@ ghost use Rattle.std.specs.Prelude.{◌≡◌, ◌++◌, OnOk, flat_map, string_
 ghost use Rattle.gw_play.specs.Sessions.{tables_text, topic_line, known_word, subscription_line, will_line, will_text, received_line, phase_word, outbound_line, outbound_text};
 
 use super::text::hexadecimal;
-use sn_session::{Outbound, Phase, Session, Subscription, TopicEntry, Will};
+use sn_session::{Outbound, Phase, Session, Will};
+use sn_tables::{Subscription, TopicEntry};
 use std::alloc::{AllocError, Global};
 
 /// The lines of a session's tables.

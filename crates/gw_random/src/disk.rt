@@ -19,7 +19,8 @@ pub(crate) fn may_go_on(seat: &Seat, event: &Event) -> bool {
     }
 }
 
-/// A gateway did what an event asks, and made or took this. It must have written that, or its journal anew.
+/// A gateway did what an event asks, and made or took this. It must have written that, or its
+/// journal anew.
 pub(crate) fn is_written(
     alloc: Global,
     seat: &mut Seat,
@@ -50,7 +51,8 @@ fn base_of(alloc: Global, seat: &Seat) -> Result<u64, NoMemory> {
     Ok(held.len() as u64)
 }
 
-/// A gateway refused. Only frames that are none may be refused, what would pass a limit, and what meets a disk that fails.
+/// A gateway refused. Only frames that are none may be refused, what would pass a limit, and what
+/// meets a disk that fails.
 pub(crate) fn follow_fault<R: Replica>(
     alloc: Global,
     field: &Field,
@@ -120,7 +122,8 @@ fn copy_of(alloc: Global, delta: Option<&Delta>) -> Result<Option<Delta>, NoMemo
     }
 }
 
-/// What the event of this index makes where no failure was arranged for its gateway from the event `first` on.
+/// What the event of this index makes where no failure was arranged for its gateway from the event
+/// `first` on.
 fn made_without<R: Replica>(
     alloc: Global,
     field: &Field,
@@ -146,7 +149,8 @@ fn made_without<R: Replica>(
     }
 }
 
-/// Whether an event is played again: not where it only shows, or arranges a failure for this gateway late.
+/// Whether an event is played again: not where it only shows, or arranges a failure for this
+/// gateway late.
 fn is_played(event: &Event, number: u8, is_late: bool) -> bool {
     match event {
         Event::Show { .. } => false,

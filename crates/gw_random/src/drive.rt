@@ -81,7 +81,8 @@ impl Drive {
         self.refused = refused;
     }
 
-    /// What a restart left that kept so many bytes and told so many records. A journal written anew has `base` records.
+    /// What a restart left that kept so many bytes and told so many records. A journal written anew
+    /// has `base` records.
     pub(crate) fn left(&self, keep: u64, told: u64, base: u64) -> Left {
         let Some(failure) = self.met else {
             return left_if(told == self.records, Left::Before);

@@ -7,8 +7,8 @@ use octets::NoMemory;
 use rep_model::Replica;
 use std::alloc::Global;
 
-/// The events, and behind them an exchange: each gateway is opened again, asks each other, and takes what is answered. Nothing
-/// where the events cannot be played.
+/// The events, and behind them an exchange: each gateway is opened again, asks each other, and
+/// takes what is answered. Nothing where the events cannot be played.
 pub(crate) fn with_exchange<R: Replica>(
     alloc: Global,
     field: &Field,

@@ -5,7 +5,7 @@ use gw_world::{Answer, Event, World, WorldFault, run};
 use octets::{NoMemory, Sequence};
 use rep_model::Replica;
 use rep_ops::Delta;
-use sn_flow::Config;
+use sn_local::Config;
 use sn_topic::{Predefined, TopicName};
 use std::alloc::Global;
 

@@ -117,7 +117,8 @@ fn register(alloc: Global, draw: &mut Draw) -> Result<Frame, NoMemory> {
     })
 }
 
-/// The flags and the topic of a SUBSCRIBE or UNSUBSCRIBE: in full, by its predefined id, or a short name.
+/// The flags and the topic of a SUBSCRIBE or UNSUBSCRIBE: in full, by its predefined id, or a short
+/// name.
 fn topic_asked(alloc: Global, draw: &mut Draw) -> Result<(Flags, Octets), NoMemory> {
     let bits = service(draw);
     match draw.octet_below(6) {
@@ -154,7 +155,8 @@ fn unsubscribe(alloc: Global, draw: &mut Draw) -> Result<Frame, NoMemory> {
     })
 }
 
-/// The bits of a topic field's type, and the field: an id of the session, the predefined id, or a short name.
+/// The bits of a topic field's type, and the field: an id of the session, the predefined id, or a
+/// short name.
 fn topic_field(draw: &mut Draw) -> (u8, u16) {
     match draw.octet_below(4) {
         0 => (1, PREDEFINED_ID),

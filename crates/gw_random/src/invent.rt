@@ -7,8 +7,8 @@ use super::listed::Listed;
 use gw_world::{Answer, Event, NodeFault, Out};
 use octets::NoMemory;
 use rep_model::Replica;
-use sn_flow::Addr;
 use sn_frame::{Frame, decode};
+use sn_local::Addr;
 use std::alloc::Global;
 
 /// How many rounds a script has. Between two of them it is played, so that the next can answer.

@@ -45,7 +45,8 @@ impl Listed {
         }
     }
 
-    /// The number of a delta that the gateway is to take: mostly one that it has not, and sometimes any.
+    /// The number of a delta that the gateway is to take: mostly one that it has not, and sometimes
+    /// any.
     pub(crate) fn choose(
         &mut self,
         alloc: Global,

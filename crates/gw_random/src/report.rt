@@ -35,7 +35,8 @@ pub struct Report {
     pub found: Option<Found>,
 }
 
-/// Plays random scripts over so many gateways, of so many events in all, and says where one differs from the definitions.
+/// Plays random scripts over so many gateways, of so many events in all, and says where one differs
+/// from the definitions.
 pub fn random_run<R: Replica>(
     alloc: Global,
     seed: u64,

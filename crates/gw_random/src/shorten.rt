@@ -158,8 +158,8 @@ fn leave_out<R: Replica>(
     Ok(true)
 }
 
-/// The events without one, which follows so many deltas and added so many. These are taken no more, and later ones have other
-/// numbers.
+/// The events without one, which follows so many deltas and added so many. These are taken no more,
+/// and later ones have other numbers.
 fn without(
     alloc: Global,
     events: &[Event],

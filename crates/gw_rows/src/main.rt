@@ -1,12 +1,14 @@
 //! Worked scripts, each played by itself, on both replicas; and scripts that are made from a seed.
 //!
-//! Standard input holds scripts, each behind a line `== NAME`. A script is what stands between two such lines, without the
-//! line feed in front of the second: so a script that ends with a line feed has an empty line behind it. For each script
-//! the program prints that line, what is printed for the script, and a line with the exit status. Each is played on the folded
-//! replica and on the plain one; where these do not print the same, what the plain one prints stands below.
+//! Standard input holds scripts, each behind a line `== NAME`. A script is what stands between two
+//! such lines, without the line feed in front of the second: so a script that ends with a line feed
+//! has an empty line behind it. For each script the program prints that line, what is printed for
+//! the script, and a line with the exit status. Each is played on the folded replica and on the
+//! plain one; where these do not print the same, what the plain one prints stands below.
 //!
-//! A script of the one line `random SEED EVENTS GATEWAYS` stands for scripts that are made from a seed, of so many events in all: each
-//! is played, and what gateways show is compared with what the definitions say (`gw_random`).
+//! A script of the one line `random SEED EVENTS GATEWAYS` stands for scripts that are made from a
+//! seed, of so many events in all: each is played, and what gateways show is compared with what the
+//! definitions say (`gw_random`).
 #![tactic(auto)]
 
 use anyhow::{Context, Result, bail};
@@ -61,7 +63,8 @@ fn play_row(alloc: Global, row: &str, printed: &mut Vec<u8>) -> Result<()> {
     }
 }
 
-/// Plays a script on the folded replica, and on the plain one, and prints what comes of it; twice where these differ.
+/// Plays a script on the folded replica, and on the plain one, and prints what comes of it; twice
+/// where these differ.
 fn play_on_both(alloc: Global, script: &str, printed: &mut Vec<u8>) -> Result<()> {
     let folded = played::<Held>(alloc, script)?;
     let plain = played::<Plain>(alloc, script)?;
@@ -82,7 +85,8 @@ fn played<R: Replica>(alloc: Global, script: &str) -> Result<Vec<u8>> {
     Ok(printed)
 }
 
-/// Plays scripts from a seed on the folded replica, and prints whether gateways showed what the definitions say.
+/// Plays scripts from a seed on the folded replica, and prints whether gateways showed what the
+/// definitions say.
 fn play_random(alloc: Global, words: &str, printed: &mut Vec<u8>) -> Result<()> {
     let words: Vec<&str> = words.trim_end().split(' ').collect(alloc)?;
     let [seed, events, gateways] = words.as_slice() else {

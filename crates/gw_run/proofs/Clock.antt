@@ -15,12 +15,12 @@ use Rattle.gw_shift.specs.Calls.{Held, Holder}
 use Rattle.gw_shift.specs.Calling.{Made, NotMade}
 use Rattle.gw_shift.specs.declared.fault.CallFault.{CallFault}
 use Rattle.gw_shift.specs.declared.fault.CallFault.TheVariants as faults
-use Rattle.gw_run.specs.Adding.{AddsEach}
-use Rattle.gw_run.specs.Clock.{CannotCall, says_halted, IsLiveTick, FindsHalted, OpensAs, EndsAs, AddsOfClock}
-use Rattle.gw_run.specs.inner.Clock.{reached_by}
-use Rattle.gw_run.specs.declared.calling.End.{End}
-use Rattle.gw_run.specs.declared.calling.End.TheVariants as ends
-use Rattle.gw_run.proofs.Adding.{each_none, each_one, each_more}
+use Rattle.gw_link.specs.Adding.{AddsEach}
+use Rattle.gw_link.specs.Calling.{CannotCall, says_halted}
+use Rattle.gw_link.specs.declared.calling.End.{End}
+use Rattle.gw_link.specs.declared.calling.End.TheVariants as ends
+use Rattle.gw_link.proofs.Adding.{each_none, each_one, each_more}
+use Rattle.gw_run.specs.Clock.{IsLiveTick, FindsHalted, OpensAs, EndsAs, AddsOfClock}
 
 -- nothing was called
 pub clock_none : (before after : Holder) → after ≡ before → AddsOfClock before None after

@@ -1,35 +1,27 @@
 -- What the clock's thread adds to its pass, and why it ended.
 use Rattle.std.specs.Prelude.{◌≡◌, ◌⊎◌, ℕ, Bool, true, false, Option, Some, None, Result, Ok, Err}
+use Rattle.gw_answer.specs.declared.step.Step.{Step}
 use Rattle.gw_answer.specs.declared.step.Step.TheVariants as steps
 use Rattle.gw_answer.specs.declared.out.Out.{Out}
 use Rattle.gw_answer.specs.declared.refusal.Refusal.{Refusal}
 use Rattle.gw_answer.specs.declared.refusal.Refusal.TheVariants as refusals
 use Rattle.gw_shift.specs.Calls.{Held, Holder}
 use Rattle.gw_shift.specs.Calling.{Made}
-use Rattle.gw_run.specs.Adding.{AddsEach, is_tick}
-use Rattle.gw_run.specs.declared.calling.End.{End}
-use Rattle.gw_run.specs.declared.calling.End.TheVariants as ends
+use Rattle.gw_link.specs.Adding.{AddsEach}
+use Rattle.gw_link.specs.Calling.{CannotCall, says_halted}
+use Rattle.gw_link.specs.declared.calling.End.{End}
+use Rattle.gw_link.specs.declared.calling.End.TheVariants as ends
 
--- why a call may not reach the gateway
-abbrev pub CannotCall : End → Type 0
-CannotCall ends.Lost = ⊥
-CannotCall ends.Full = Unit {0}
-CannotCall ends.Memory = Unit {0}
-CannotCall ends.Behind = Unit {0}
-CannotCall ends.Halted = ⊥
-CannotCall ends.Reopened = ⊥
-
--- the gateway refused since it is halted
-abbrev pub says_halted : Result Out Refusal → Bool
-says_halted (Ok out) = false
-says_halted (Err (refusals.Frame fault)) = false
-says_halted (Err refusals.Halted) = true
-says_halted (Err (refusals.Disk out)) = false
-says_halted (Err (refusals.Conflict client)) = false
-says_halted (Err refusals.Full) = false
-says_halted (Err refusals.Exhausted) = false
-says_halted (Err refusals.Memory) = false
-says_halted (Err (refusals.Journal fault)) = false
+-- the clock's calls
+abbrev pub is_tick : Step → Bool
+is_tick (steps.Frame from bytes now) = false
+is_tick (steps.Take delta) = false
+is_tick (steps.Tick now) = true
+is_tick (steps.View client) = false
+is_tick steps.Digest = false
+is_tick (steps.Answer digest) = false
+is_tick steps.Compact = false
+is_tick steps.Reopen = false
 
 -- a tick that did not find the gateway halted
 abbrev pub IsLiveTick : Held → Type 0

@@ -1,6 +1,6 @@
 //! What outlives a shift: the links of a gateway, and when its clock last ticked.
 
-use crate::link::{Link, Origin};
+use gw_link::{Link, Origin};
 use std::alloc::Global;
 use std::sync::atomic::{AtomicU64, Ordering};
 use std::sync::{Mutex, Wait};
@@ -20,7 +20,8 @@ struct Links<S: Drop> {
     accepted: usize,
 }
 
-/// What outlives a shift: the links that wait for a seat, how many are open, and the second in which the clock last ticked.
+/// What outlives a shift: the links that wait for a seat, how many are open, and the second in
+/// which the clock last ticked.
 #[derive(Drop)]
 pub struct Pool<S: Drop> {
     links: Mutex<Links<S>>,
@@ -108,7 +109,8 @@ impl<S: Drop> Pool<S> {
         self.links.lock(rt).waiting.pop()
     }
 
-    /// A link has talked to the end of the shift, and has no seat before the next one. Where memory ran out it is closed.
+    /// A link has talked to the end of the shift, and has no seat before the next one. Where memory
+    /// ran out it is closed.
     pub(crate) fn give_back<T: Wait>(&self, rt: &T, link: Link<S>) {
         let mut links = self.links.lock(rt);
         let origin = link.origin;
@@ -117,7 +119,8 @@ impl<S: Drop> Pool<S> {
         }
     }
 
-    /// Closes each link that has no seat. The other ends dial again, or are dialled, and say anew what they have.
+    /// Closes each link that has no seat. The other ends dial again, or are dialled, and say anew
+    /// what they have.
     pub fn close_all<T: Wait>(&self, rt: &T) {
         self.begin_shift(rt);
         let waiting = self.links.lock(rt).waiting.len();

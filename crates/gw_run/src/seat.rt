@@ -1,12 +1,10 @@
 //! A seat for links: in each shift one link at a time talks there, with the seat's pass.
 
 ghost use Rattle.std.specs.Prelude.{◌≡◌};
-ghost use Rattle.gw_run.specs.Adding.{Adds, is_of_link};
+ghost use Rattle.gw_link.specs.Adding.{Adds, is_of_link};
 
-use crate::calling::End;
 use crate::pool::Pool;
-use crate::stage::{Phase, Stage};
-use crate::talking::talk;
+use gw_link::{End, Phase, Stage, talk};
 use gw_shift::{Pass, Shift};
 use jr_disk::Disk;
 use rep_model::Replica;
@@ -30,8 +28,9 @@ pub struct Seat {
     pub end: Option<End>,
 }
 
-/// Lets links talk at a seat until the shift is over. Those that are still open then wait for the next one. A link that waits for a seat
-/// when the shift is over gets one all the same: it has to tell what the gateway made in the shift.
+/// Lets links talk at a seat until the shift is over. Those that are still open then wait for the
+/// next one. A link that waits for a seat when the shift is over gets one all the same: it has to
+/// tell what the gateway made in the shift.
 pub fn sit<T: Wait + Clock, R: Replica, D: Disk + Drop, S: Read + Write + Drop>(
     rt: &T,
     alloc: Global,
@@ -64,7 +63,7 @@ pub fn sit<T: Wait + Clock, R: Replica, D: Disk + Drop, S: Read + Write + Drop>(
 }
 
 /// The same with room for what is read.
-#[tactic(auto, using(crate::proofs::Adding::adds_more, crate::proofs::Adding::adds_none))]
+#[tactic(auto, using(gw_link::proofs::Adding::adds_more, gw_link::proofs::Adding::adds_none))]
 fn sit_with<T: Wait + Clock, R: Replica, D: Disk + Drop, S: Read + Write + Drop>(
     rt: &T,
     alloc: Global,

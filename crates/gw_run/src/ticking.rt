@@ -3,9 +3,8 @@
 ghost use Rattle.std.specs.Prelude.{◌≡◌, Some, None, MatchResult};
 ghost use Rattle.gw_run.specs.Clock.{AddsOfClock, OpensAs};
 
-use crate::calling::{End, call, dropped, is_halted};
 use crate::pool::Pool;
-use crate::stage::{Phase, Stage};
+use gw_link::{End, Phase, Stage, call, dropped, is_halted};
 use gw_node::{Out, Step};
 use gw_shift::{Pass, Shift};
 use gw_wire::{Post, moment};
@@ -24,14 +23,16 @@ const A_LOOK: u64 = 100;
 /// How many seconds pass between two ticks at most, where nothing stood still.
 const A_BREATH: u64 = 2;
 
-/// Ticks in each second while the shift is serving: until a tick gives nothing, and no oftener than `MOST_TICKS`. What a tick has to
-/// send is sent at once. A second in which it has ticked in an earlier shift is left out, unless that shift had no call left for it.
+/// Ticks in each second while the shift is serving: until a tick gives nothing, and no oftener than
+/// `MOST_TICKS`. What a tick has to send is sent at once. A second in which it has ticked in an
+/// earlier shift is left out, unless that shift had no call left for it.
 ///
-/// A tick that finds the gateway halted is the last one: the next call opens the gateway anew, and the shift is closed, however that
-/// ends.
+/// A tick that finds the gateway halted is the last one: the next call opens the gateway anew, and
+/// the shift is closed, however that ends.
 ///
-/// The pass comes back with these calls and nothing else. It says why it ended, where that is not the shift's end: `Reopened` where
-/// the gateway was opened anew, `Halted` where that was refused; `Full`, `Behind` or `Memory` where a call could not be made.
+/// The pass comes back with these calls and nothing else. It says why it ended, where that is not
+/// the shift's end: `Reopened` where the gateway was opened anew, `Halted` where that was refused;
+/// `Full`, `Behind` or `Memory` where a call could not be made.
 #[tactic(auto, using(crate::proofs::Clock::clock_later, crate::proofs::Clock::clock_none))]
 pub fn tick_all<T: Wait + Clock, R: Replica, D: Disk + Drop, P: Post, S: Drop>(
     rt: &T,
@@ -84,8 +85,9 @@ fn tick_in_turn<T: Wait + Clock, R: Replica, D: Disk + Drop, P: Post, S: Drop>(
     (pass, end)
 }
 
-/// Waits for a moment where the machine, or the gateway at a shift's end, stood still for seconds. What clients have sent meanwhile is read first: else a
-/// client would be taken for lost whose message is there.
+/// Waits for a moment where the machine, or the gateway at a shift's end, stood still for seconds.
+/// What clients have sent meanwhile is read first: else a client would be taken for lost whose
+/// message is there.
 fn let_in_first<T: Wait + Clock, S: Drop>(rt: &T, stage: &Stage, pool: &Pool<S>) {
     if pool.is_late(moment(rt), A_BREATH) {
         stage.wait(rt, Phase::Serving, A_LOOK);
@@ -117,7 +119,8 @@ fn tick_out<T: Wait + Clock, R: Replica, D: Disk + Drop, P: Post>(
     (pass, None)
 }
 
-/// Ticks once, and sends what that gave. Says whether it gave anything. Where the gateway is halted, the next call opens it anew.
+/// Ticks once, and sends what that gave. Says whether it gave anything. Where the gateway is
+/// halted, the next call opens it anew.
 fn tick_once<T: Wait + Clock, R: Replica, D: Disk + Drop, P: Post>(
     rt: &T,
     alloc: Global,

@@ -1,24 +1,30 @@
 //! A bell by which the reader wakes workers that found the queue empty.
 //!
-//! A worker that finds it empty sleeps until the bell rings. To wake it costs more than the call of a small datagram, so a worker that has
-//! just worked first looks for a ring for some tens of microseconds: a client that waits for its answer sends its next datagram by
-//! then. One worker looks at a time, and a ring for which one looks wakes nobody.
+//! A worker that finds it empty sleeps until the bell rings. To wake it costs more than the call of
+//! a small datagram, so a worker that has just worked first looks for a ring for some tens of
+//! microseconds: a client that waits for its answer sends its next datagram by then. One worker
+//! looks at a time, and a ring for which one looks wakes nobody.
 //!
 //! Each ring brings a worker to the queue behind it:
 //!
 //! - The count of rings and what is said beside it change under the lock alone.
-//! - A worker reads the count before it goes to the queue. It says that it looks, and it falls asleep, only where the count is still the same under
-//!   the lock. So a ring from before finds it awake, and it goes to the queue once more.
-//! - The first ring behind a worker's word that it looks takes that word back, under the lock, and wakes nobody. That worker does not
-//!   sleep: it sees the other count while it looks, or finds it under the lock before it would sleep. Either way it goes to the queue.
-//! - Any other ring wakes one who sleeps. Where nobody sleeps, all are awake and go to the queue before they sleep.
-//! - A worker whose look has ended takes its word back itself where the count is the same: no ring has come, so the word is its own.
+//! - A worker reads the count before it goes to the queue. It says that it looks, and it falls
+//!   asleep, only where the count is still the same under the lock. So a ring from before finds it
+//!   awake, and it goes to the queue once more.
+//! - The first ring behind a worker's word that it looks takes that word back, under the lock, and
+//!   wakes nobody. That worker does not sleep: it sees the other count while it looks, or finds it
+//!   under the lock before it would sleep. Either way it goes to the queue.
+//! - Any other ring wakes one who sleeps. Where nobody sleeps, all are awake and go to the queue
+//!   before they sleep.
+//! - A worker whose look has ended takes its word back itself where the count is the same: no ring
+//!   has come, so the word is its own.
 
 use std::hint::spin_loop;
 use std::sync::atomic::{AtomicU64, Ordering};
 use std::sync::{Condvar, Mutex, Wait};
 
-/// How often a worker looks for a ring before it sleeps. A look lasts some ten to fifty nanoseconds.
+/// How often a worker looks for a ring before it sleeps. A look lasts some ten to fifty
+/// nanoseconds.
 const LOOKS: u32 = 1_000;
 
 #[derive(Drop)]
@@ -93,7 +99,8 @@ impl Bell {
         }
     }
 
-    /// Waits for a ring since then. A worker that has just worked looks for one before it sleeps, unless another does.
+    /// Waits for a ring since then. A worker that has just worked looks for one before it sleeps,
+    /// unless another does.
     pub(crate) fn wait_past<R: Wait>(&self, rt: &R, heard: Heard, has_worked: bool) {
         let is_looking = has_worked && self.begin_look(rt, heard);
         if is_looking && self.has_rung_soon(heard) {

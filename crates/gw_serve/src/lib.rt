@@ -1,8 +1,9 @@
 //! Datagrams become calls of a shift: one reader, and a worker for each pass.
 //!
-//! The reader numbers what comes and puts it into a queue of 64; a datagram that finds the queue full is dropped without a
-//! number. A worker takes a number, makes the call under the shift's lock, and sends the replies behind it, so that another
-//! worker's call goes on meanwhile. At the end each number is accounted for: it became a call, or it was left.
+//! The reader numbers what comes and puts it into a queue of 64; a datagram that finds the queue
+//! full is dropped without a number. A worker takes a number, makes the call under the shift's
+//! lock, and sends the replies behind it, so that another worker's call goes on meanwhile. At the
+//! end each number is accounted for: it became a call, or it was left.
 //!
 //! - `serving`: the whole (`serve`), and what it hands back (`Served`, `ServeFault`).
 //! - `reader`: datagrams are numbered and put into the queue.
@@ -10,8 +11,9 @@
 //! - `queue`: the queue and the rule over it.
 //! - `bell`: how workers are woken that found the queue empty.
 //!
-//! The definitions are in `specs/`: `Count` (lists of numbers, counted), `Queue` (the rule: what was sent was taken, or is in the
-//! queue), `Serving` (what passes gain), `Handling` (what becomes of a datagram), `Work` (a worker's place before and after its work).
+//! The definitions are in `specs/`: `Count` (lists of numbers, counted), `Queue` (the rule: what
+//! was sent was taken, or is in the queue), `Serving` (what passes gain), `Handling` (what becomes
+//! of a datagram), `Work` (a worker's place before and after its work).
 #![tactic(auto)]
 
 mod bell;

@@ -6,7 +6,7 @@ ghost use Rattle.gw_serve.specs.inner.Queue.{hand, numbers, whole, Balanced};
 
 use crossbeam_channel::protocol::{Join, Lesson, Outcome, Protocol, Split};
 use crossbeam_channel::{Pass, RuledReceiver, RuledSender};
-use sn_flow::Addr;
+use sn_local::Addr;
 use std::collections::LinkedList;
 
 /// A numbered datagram.
@@ -103,7 +103,8 @@ impl Lesson<Datagram, Hand> for Drains {
     ghost use Rattle.gw_serve.specs.Count.{weigh};
     ghost use Rattle.gw_serve.specs.inner.Queue.{numbers};
 
-    ghost fact = { λ v items. (h : ℕ → ℕ) → weigh h v.sent ≡ weigh h v.taken + weigh h (numbers items) };
+    ghost fact = { λ v items. (h : ℕ → ℕ)
+        → weigh h v.sent ≡ weigh h v.taken + weigh h (numbers items) };
 }
 
 /// The end at which numbers are sent.

@@ -55,15 +55,17 @@ pub struct ServeFault<'a, R: Replica, D: Disk> {
     pub cause: Cause,
 }
 
-/// Serves datagrams until the shift has had all its calls, or for so many turns of the reader and then until the queue is empty.
+/// Serves datagrams until the shift has had all its calls, or for so many turns of the reader and
+/// then until the queue is empty.
 ///
-/// One thread reads; there is a worker for each pass. Each datagram that finds room in the queue gets the next number, from 1 on;
-/// one that finds the queue full is dropped without a number. Replies are sent behind the lock, also those of a gateway whose
-/// disk has just failed.
+/// One thread reads; there is a worker for each pass. Each datagram that finds room in the queue
+/// gets the next number, from 1 on; one that finds the queue full is dropped without a number.
+/// Replies are sent behind the lock, also those of a gateway whose disk has just failed.
 ///
-/// Each number is handed back once, in `taken` or in `left`. The passes hold what they held and the calls of `taken`, pass by
-/// pass, and nothing else. The faults: `Wire`, a receive failed; `Memory`; `Behind`, a pass has seen more calls than the
-/// shift has. With each of them every pass comes back too, and has gained nothing but calls of datagrams.
+/// Each number is handed back once, in `taken` or in `left`. The passes hold what they held and the
+/// calls of `taken`, pass by pass, and nothing else. The faults: `Wire`, a receive failed;
+/// `Memory`; `Behind`, a pass has seen more calls than the shift has. With each of them every pass
+/// comes back too, and has gained nothing but calls of datagrams.
 pub fn serve<'a, T, R, D, W, P, G>(
     rt: &T,
     alloc: Global,
@@ -193,7 +195,8 @@ where
     }
 }
 
-/// The cause of the workers, or else that of the reader, which is the ordinary end of a shift as well.
+/// The cause of the workers, or else that of the reader, which is the ordinary end of a shift as
+/// well.
 fn first_cause(reader: Option<Cause>, worker: Option<Trouble>) -> Option<Cause>
     ensures none { result ≡ None → worker ≡ None }
     ensures wire { result ≡ Some causes.Wire → reader ≡ Some causes.Wire }

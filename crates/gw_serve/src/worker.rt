@@ -116,8 +116,8 @@ pub fn work<T: Wait, R: Replica, D: Disk + Drop, P: Post, G: Gate>(
     seat
 }
 
-/// Takes numbers until the queue is closed and empty. Room for a number is made before it is taken, so each that was taken is
-/// told of.
+/// Takes numbers until the queue is closed and empty. Room for a number is made before it is taken,
+/// so each that was taken is told of.
 fn take_all<T: Wait, R: Replica, D: Disk + Drop, P: Post, G: Gate>(
     rt: &T,
     alloc: Global,
@@ -251,7 +251,8 @@ fn handle<T: Wait, R: Replica, D: Disk + Drop, P: Post, G: Gate>(
     }
 }
 
-/// What a refused call means for its datagram. A gateway whose disk failed may still have something to send.
+/// What a refused call means for its datagram. A gateway whose disk failed may still have something
+/// to send.
 fn refused<P: Post, G: Gate>(post: &P, gate: &G, number: u64, fault: CallFault) -> Handled
     ensures { IsRefused fault result }
 {

@@ -1,6 +1,6 @@
 -- A legal history that goes on.
 use Rattle.std.proofs.Common.{◌≡◌, ◌+◌, ℕ, List, [], ◌∷◌, ◌++◌, refl, sym, subst, arith, Result}
-use Rattle.rep_ops.specs.declared.op.Op.{Op}
+use Rattle.rep_op.specs.declared.op.Op.{Op}
 use Rattle.rep_model.specs.Held.{IsHeld}
 use Rattle.jr_disk.specs.declared.disk.Disk.{Ghosts}
 use Rattle.gw_answer.specs.declared.out.Out.{Out}

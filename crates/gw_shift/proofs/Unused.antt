@@ -1,6 +1,6 @@
 -- A pass that made no call adds nothing to what passes account for.
 use Rattle.std.proofs.Common.{◌≡◌, ◌||◌, ℕ, List, [], ◌∷◌, ◌++◌, refl, ◌∙◌, ap, arith}
-use Rattle.rep_ops.specs.declared.op.Op.{Op}
+use Rattle.rep_op.specs.declared.op.Op.{Op}
 use Rattle.gw_shift.specs.Calls.{Call, Held, Holder}
 use Rattle.gw_shift.specs.Closing.{Accounts, HaveOpening, AreOwn, AreKnown, has_number, is_held, taken_by, times_held, unused}
 

@@ -1,6 +1,6 @@
 -- Calls of a node, as a history and as passes hold them.
 use Rattle.std.specs.Prelude.{ℕ, List, Result}
-use Rattle.rep_ops.specs.declared.op.Op.{Op}
+use Rattle.rep_op.specs.declared.op.Op.{Op}
 use Rattle.gw_answer.specs.declared.step.Step.{Step}
 use Rattle.gw_answer.specs.declared.out.Out.{Out}
 use Rattle.gw_answer.specs.declared.refusal.Refusal.{Refusal}

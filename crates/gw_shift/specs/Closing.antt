@@ -1,6 +1,6 @@
 -- When the passes that are given back hold just the calls of a history.
 use Rattle.std.specs.Prelude.{◌≡◌, ◌≢◌, ◌<◌, ◌≤◌, ◌+◌, ◌-◌, ◌==◌, ◌⊎◌, ◌||◌, ℕ, Bool, true, false, if◌then◌else◌, List, [], ◌∷◌, length, Some, slice_get}
-use Rattle.rep_ops.specs.declared.op.Op.{Op}
+use Rattle.rep_op.specs.declared.op.Op.{Op}
 use Rattle.gw_shift.specs.Calls.{Call, Held, Holder}
 use Rattle.gw_shift.specs.Passes.{Ascend}
 use Rattle.gw_shift.specs.declared.fault.CloseFault.{CloseFault}

@@ -1,7 +1,7 @@
 //! Whether passes hold the calls of a history.
 
 ghost use Rattle.std.specs.Prelude.{◌≡◌, ◌↔◌, ◌≤◌, ◌-◌, IsTrue, MatchOption, slice_get, length};
-ghost use Rattle.rep_ops.specs.declared.op.Op.{Op};
+ghost use Rattle.rep_op.specs.declared.op.Op.{Op};
 ghost use Rattle.gw_shift.specs.declared.shift.TheConstants.{MAX_STEPS};
 ghost use Rattle.gw_shift.specs.Closing.{StandsIn, has_number, is_held, AreOwn, AreKnown, HaveOpening, IsStrangeIn, IsStrange, taken_by};
 ghost use Rattle.gw_shift.specs.inner.Closing.{AllStand, EachStands, IsElsewhere, AreApart};
@@ -167,9 +167,10 @@ fn are_apart(passes: &[Pass]) -> bool
     true
 }
 
-/// The number of the first call of several passes that the history has not so, or that another of them holds. Passes of different places
-/// whose calls all stand in the history hold none in common, so that each call is looked at once. Only where that does not hold is each
-/// compared with those of the others.
+/// The number of the first call of several passes that the history has not so, or that another of
+/// them holds. Passes of different places whose calls all stand in the history hold none in common,
+/// so that each call is looked at once. Only where that does not hold is each compared with those
+/// of the others.
 #[tactic(auto, using(crate::proofs::Apart::apart_known))]
 pub(crate) fn first_stranger(history: &[Entry], passes: &[Pass]) -> Option<u64>
     ensures { MatchOption result (AreKnown history.now passes.now)

@@ -2,7 +2,7 @@
 
 ghost use Rattle.std.specs.Prelude.{◌≡◌, ◌+◌, ◌<◌, ◌^◌, ◌++◌, ◌∷◌, [], List, IfOk, MatchOption, None, Some, length, take};
 ghost use Rattle.std.specs.Arc.{arc_value};
-ghost use Rattle.rep_ops.specs.declared.op.Op.{Op};
+ghost use Rattle.rep_op.specs.declared.op.Op.{Op};
 ghost use Rattle.gw_answer.specs.Answers.{said};
 ghost use Rattle.gw_shift.specs.inner.Passes.{made_of, made_after, told_by};
 
@@ -27,8 +27,8 @@ fn told(answer: &Answer) -> Option<&Arc<Out>>
     }
 }
 
-/// Shares of what was answered to calls that made a delta, with their numbers, at most so many. The first call has the number
-/// after `before`.
+/// Shares of what was answered to calls that made a delta, with their numbers, at most so many. The
+/// first call has the number after `before`.
 #[tactic(auto, using(crate::proofs::Handing::gathered, crate::proofs::Handing::passed_over))]
 pub(crate) fn shares(
     alloc: Global,

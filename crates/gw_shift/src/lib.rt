@@ -1,23 +1,28 @@
 //! One gateway that threads share, and one legal history of what they did.
 //!
-//! A shift holds a gateway under a lock, with the history of the calls that were made of it. Who calls has a *pass*, which
-//! holds what its calls were, what they were answered, and their numbers in the history. When the shift is over the passes are
-//! given back, and it is closed: history and passes are compared, and where they do not agree nothing is closed. So what the
-//! passes say is one history, in which each call stands once, and which leads from what the gateway held at the opening to the
-//! gateway that is handed back.
+//! A shift holds a gateway under a lock, with the history of the calls that were made of it. Who
+//! calls has a *pass*, which holds what its calls were, what they were answered, and their numbers
+//! in the history. When the shift is over the passes are given back, and it is closed: history and
+//! passes are compared, and where they do not agree nothing is closed. So what the passes say is
+//! one history, in which each call stands once, and which leads from what the gateway held at the
+//! opening to the gateway that is handed back.
 //!
-//! - `shift`: a gateway under a lock, with its history (`Shift`): open, call, read what was made, end.
+//! - `shift`: a gateway under a lock, with its history (`Shift`): open, call, read what was made,
+//!   end.
 //! - `pass`: who may call it (`Pass`).
 //! - `ended`: the shift is over (`Ended`), and is closed with its passes (`Closed`).
 //! - `entry`: a call as the history and as a pass have it.
 //! - `locked`: what is under the lock.
-//! - `gathering`: the deltas that calls made: shares of them are taken under the lock, copies outside.
+//! - `gathering`: the deltas that calls made: shares of them are taken under the lock, copies
+//!   outside.
 //! - `closing`: whether passes hold the calls of a history.
 //! - `fault`: why something is refused.
-//! - `laws`: passes that account for a history have no stranger among them, and one that made no call may be left out.
+//! - `laws`: passes that account for a history have no stranger among them, and one that made no
+//!   call may be left out.
 //!
-//! The definitions are in `specs/`: `Calls` (a call, and what contracts see of a pass), `Legal` (a legal history), `Passes` (what
-//! passes hold, and which deltas calls made), `Calling` (what a call leaves), `Closing` (when passes and history agree).
+//! The definitions are in `specs/`: `Calls` (a call, and what contracts see of a pass), `Legal` (a
+//! legal history), `Passes` (what passes hold, and which deltas calls made), `Calling` (what a call
+//! leaves), `Closing` (when passes and history agree).
 #![tactic(auto)]
 
 mod closing;

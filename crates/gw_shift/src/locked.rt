@@ -18,7 +18,8 @@ use rep_ops::Delta;
 use std::alloc::Global;
 use std::sync::Arc;
 
-/// A node, with what it held when the shift was opened, and the history of its calls since, for which all room was made then.
+/// A node, with what it held when the shift was opened, and the history of its calls since, for
+/// which all room was made then.
 #[derive(Drop)]
 pub struct Locked<R: Replica, D: Disk> {
     pub(crate) node: Node<R, D>,
@@ -83,8 +84,8 @@ impl<R: Replica, D: Disk + Drop> Locked<R, D> {
         Ok((answer, kept, had + 1))
     }
 
-    /// Shares of what was answered to the calls above a number that made a delta, with the numbers of the calls: the first of
-    /// them, at most so many.
+    /// Shares of what was answered to the calls above a number that made a delta, with the numbers
+    /// of the calls: the first of them, at most so many.
     pub(crate) fn made_above(
         &self,
         alloc: Global,

@@ -2,7 +2,7 @@
 
 ghost use Rattle.std.specs.Prelude.{◌≡◌, ◌≤◌, ◌<◌, ℕ, IfOk, IfErr, Ok, length, vec_capacity, List, []};
 ghost use Rattle.std.specs.Arc.{arc_value};
-ghost use Rattle.rep_ops.specs.declared.op.Op.{Op};
+ghost use Rattle.rep_op.specs.declared.op.Op.{Op};
 ghost use Rattle.rep_model.specs.Held.{IsHeld};
 ghost use Rattle.gw_node.specs.Parts.{state_of};
 ghost use Rattle.gw_shift.specs.declared.shift.TheConstants.{MAX_STEPS};
@@ -54,9 +54,10 @@ fn begun<R: Replica, D: Disk>(
 }
 
 impl<R: Replica, D: Disk + Drop> Shift<R, D> {
-    /// Opens a shift of a gateway, for so many passes and so many calls. What the gateway must keep is the *opening*, of which the
-    /// shift and each pass have a share; the passes hold nothing else. Room for all calls is made here. The only fault is
-    /// `Memory`, with which the gateway comes back as it was.
+    /// Opens a shift of a gateway, for so many passes and so many calls. What the gateway must keep
+    /// is the *opening*, of which the shift and each pass have a share; the passes hold nothing
+    /// else. Room for all calls is made here. The only fault is `Memory`, with which the gateway
+    /// comes back as it was.
     pub fn open(
         alloc: Global,
         node: Node<R, D>,
@@ -87,12 +88,13 @@ impl<R: Replica, D: Disk + Drop> Shift<R, D> {
         Ok((shift, all))
     }
 
-    /// Makes a call at the gateway, under the lock. The pass comes back and holds the call, its answer and its number in the
-    /// history, where the calls are numbered from 1.
+    /// Makes a call at the gateway, under the lock. The pass comes back and holds the call, its
+    /// answer and its number in the history, where the calls are numbered from 1.
     ///
-    /// The faults, in the order in which they are looked for: `ShiftFull`, the history has as many calls as the shift was opened
-    /// for; `Behind`, the pass has seen more calls than this history has; `Node`, the gateway refused, and its refusal is a call of
-    /// the history like any other. After the first two nothing was done, nor after `Memory`, which may stand in their place.
+    /// The faults, in the order in which they are looked for: `ShiftFull`, the history has as many
+    /// calls as the shift was opened for; `Behind`, the pass has seen more calls than this history
+    /// has; `Node`, the gateway refused, and its refusal is a call of the history like any other.
+    /// After the first two nothing was done, nor after `Memory`, which may stand in their place.
     pub fn call(
         &self,
         rt: &impl Wait,
@@ -128,8 +130,8 @@ impl<R: Replica, D: Disk + Drop> Shift<R, D> {
         }
     }
 
-    /// The deltas that the calls above a number made, with the numbers of the calls: the first of them, at most so many. Shares of them
-    /// are taken under the lock, and copies are made outside.
+    /// The deltas that the calls above a number made, with the numbers of the calls: the first of
+    /// them, at most so many. Shares of them are taken under the lock, and copies are made outside.
     ///
     /// The faults: `Behind`, the pass has seen more calls than this history has; or `Memory`.
     #[tactic(auto, using(crate::proofs::Handing::taken_climbs, crate::proofs::Handing::taken_few))]
@@ -152,11 +154,12 @@ impl<R: Replica, D: Disk + Drop> Shift<R, D> {
         }
     }
 
-    /// Ends the shift: the gateway comes back, with what it had to keep at the opening and the history of all its calls. Of which
-    /// calls these are only `Ended::close` tells.
+    /// Ends the shift: the gateway comes back, with what it had to keep at the opening and the
+    /// history of all its calls. Of which calls these are only `Ended::close` tells.
     pub fn end(self) -> Ended<R, D>
         ensures few { length result.history.items ≤ MAX_STEPS }
-        // The calls that come back were answered one after the other, from the opening to the node that comes back.
+        // The calls that come back were answered one after the other, from the opening to the node
+        // that comes back.
         ensures legal { ∥ IsLegal (arc_value result.opening).items result.history.items
             (state_of R.kept result.node) ∥₁ }
     {

@@ -1,11 +1,12 @@
 //! A field of gateways, run from a script, or from scripts that are made from a seed.
 //!
-//! Without arguments the program reads a script from standard input, runs it and prints what each gateway answered on
-//! standard output. Nothing is printed before the whole script was read and run: a bad line is printed
-//! alone, and so is a refused run.
+//! Without arguments the program reads a script from standard input, runs it and prints what each
+//! gateway answered on standard output. Nothing is printed before the whole script was read and
+//! run: a bad line is printed alone, and so is a refused run.
 //!
-//! With `--random SEED` it makes scripts from the seed, plays them, and compares what gateways show with what the definitions say. With
-//! `--plain` gateways keep their operations in the plain replica, which forgets nothing.
+//! With `--random SEED` it makes scripts from the seed, plays them, and compares what gateways show
+//! with what the definitions say. With `--plain` gateways keep their operations in the plain
+//! replica, which forgets nothing.
 //!
 //! - `words`: the words of the command line.
 #![tactic(auto)]
@@ -59,7 +60,8 @@ fn given<T: Env>(rt: &T, alloc: Global) -> Option<Vec<String>> {
     Some(words)
 }
 
-/// Plays random scripts, and prints what came of them. The exit status is 0 where none differs from the definitions.
+/// Plays random scripts, and prints what came of them. The exit status is 0 where none differs from
+/// the definitions.
 fn invent<O: Write, E: Write>(
     alloc: Global,
     plain: bool,
@@ -94,7 +96,8 @@ fn invent_with<R: Replica, O: Write, E: Write>(
     }
 }
 
-/// Prints a report: one line where nothing differs, else the script, and on the other writer what differs.
+/// Prints a report: one line where nothing differs, else the script, and on the other writer what
+/// differs.
 fn tell<O: Write, E: Write>(report: &Report, options: Options, out: &mut O, err: &mut E) -> u8 {
     let Options { seed, gateways, .. } = options;
     let Report {

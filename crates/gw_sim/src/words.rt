@@ -23,7 +23,8 @@ pub struct Options {
     pub gateways: u8,
 }
 
-/// Reads the words, the program's name first. Nothing where they do not parse, `--help` among them, or where memory ran out.
+/// Reads the words, the program's name first. Nothing where they do not parse, `--help` among them,
+/// or where memory ran out.
 pub(crate) fn read_words(alloc: Global, words: &[String]) -> Option<Asked> {
     let plain = Arg::new(alloc, "plain")
         .long("plain")

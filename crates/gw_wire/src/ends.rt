@@ -1,4 +1,5 @@
-//! What a gateway asks of the outside: where datagrams come from, where replies go, and who is told of them.
+//! What a gateway asks of the outside: where datagrams come from, where replies go, and who is told
+//! of them.
 
 use sn_local::Addr;
 use thiserror::Error;

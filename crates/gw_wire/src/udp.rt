@@ -15,7 +15,8 @@ use std::io::ErrorKind;
 use std::net::{Ipv4Addr, Net, SocketAddr, SocketAddrV4};
 use std::time::{Clock, Duration, SystemTime};
 
-/// How many milliseconds a receive waits for a datagram. As long a shift that has had all its calls may go on.
+/// How many milliseconds a receive waits for a datagram. As long a shift that has had all its calls
+/// may go on.
 const A_WHILE: u64 = 10;
 
 /// A UDP socket with what tells that it is readable.
@@ -65,7 +66,8 @@ fn addr_of(from: SocketAddrV4) -> Addr
 }
 
 impl Socket {
-    /// A socket that is bound to an address; with port 0 to a free port. No receive of it has failed.
+    /// A socket that is bound to an address; with port 0 to a free port. No receive of it has
+    /// failed.
     pub fn bind<N: Net>(net: &N, alloc: Global, addr: Addr) -> io::Result<Socket>
         ensures { IfOk result (λ made. made.failures.count ≡ 0) }
     {
@@ -119,8 +121,8 @@ impl<'a, C: Clock> Ears<'a, C> {
         }
     }
 
-    /// A datagram that is there, or comes within a while. Each wait follows a look that found nothing, as edge-triggered
-    /// readiness wants it.
+    /// A datagram that is there, or comes within a while. Each wait follows a look that found
+    /// nothing, as edge-triggered readiness wants it.
     fn wait(&mut self, buffer: &mut [u8]) -> io::Result<Option<(usize, Addr)>>
         ensures { self.new.failures.count ≡ self.old.failures.count }
     {
@@ -132,7 +134,8 @@ impl<'a, C: Clock> Ears<'a, C> {
         self.look(buffer)
     }
 
-    /// A datagram that is there already, in the front of the buffer, if there is one. That a look failed is told by the next receive.
+    /// A datagram that is there already, in the front of the buffer, if there is one. That a look
+    /// failed is told by the next receive.
     pub fn waiting(&self, buffer: &mut [u8]) -> Option<Arrival>
         ensures { IfSome result (λ arrival. arrival.size ≤ length buffer.new) }
     {

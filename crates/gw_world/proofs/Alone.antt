@@ -3,15 +3,16 @@ use Rattle.std.proofs.Common.{◌≡◌, ℕ, ◌≤◌, true, List, ◌++◌, O
 use Rattle.std.proofs.lemmas.Bool.{and_from, or_right, cases_order}
 use Rattle.std.proofs.lemmas.Option.{slice_get-get_or, slice_get_within, get_or_from_slice_get}
 use Rattle.sn_session.specs.declared.change.SessionOp.{SessionOp}
-use Rattle.rep_ops.specs.declared.op.Stamp.{Stamp}
-use Rattle.rep_ops.specs.declared.op.Put.{Put}
-use Rattle.rep_ops.specs.declared.op.Op.{Op}
-use Rattle.rep_ops.specs.declared.op.Op.TheVariants.{Session as OfSession, Put as OfPut, Ack}
-use Rattle.rep_ops.specs.Deltas.{ShareName, HasTwice, IsDelta}
-use Rattle.rep_ops.specs.Sets.{operation_at, put_at, acknowledges, is_acknowledged, Stands, Agrees}
+use Rattle.rep_op.specs.declared.op.Stamp.{Stamp}
+use Rattle.rep_op.specs.declared.op.Put.{Put}
+use Rattle.rep_op.specs.declared.op.Op.{Op}
+use Rattle.rep_op.specs.declared.op.Op.TheVariants.{Session as OfSession, Put as OfPut, Ack}
+use Rattle.rep_op.specs.Orders.{ShareName, HasTwice}
+use Rattle.rep_ops.specs.Deltas.{IsDelta}
+use Rattle.rep_op.specs.Sets.{operation_at, put_at, acknowledges, is_acknowledged, Stands, Agrees}
 use Rattle.rep_ops.proofs.Joined.{rising_ascending}
 use Rattle.rep_ops.proofs.Rising.{rising_apart}
-use Rattle.rep_ops.proofs.Sets.{IsIn, at_in, any_in, one_of_name}
+use Rattle.rep_op.proofs.Sets.{IsIn, at_in, any_in, one_of_name}
 use Rattle.rep_model.proofs.Joins.{within-left}
 use Rattle.rep_model.proofs.Readers.{operation_at_both, put_at_both, is_acknowledged_both}
 use Rattle.sn_plan.specs.Own.{IsFresh}

@@ -4,11 +4,11 @@ use Rattle.std.specs.Prelude.{IsTrue}
 use Rattle.std.specs.List.{AllByRecursion}
 use Rattle.std.proofs.lemmas.List.Elements.{All-from_recursion, All-contains}
 use Rattle.std.proofs.lemmas.Option.{none-some}
-use Rattle.rep_ops.specs.declared.op.Op.{Op}
-use Rattle.rep_ops.specs.declared.op.Op.TheVariants.{Session as OfSession, Put as OfPut, Ack}
+use Rattle.rep_op.specs.declared.op.Op.{Op}
+use Rattle.rep_op.specs.declared.op.Op.TheVariants.{Session as OfSession, Put as OfPut, Ack}
 use Rattle.rep_ops.specs.Deltas.{IsDelta}
-use Rattle.rep_ops.specs.WellMade.{is_well_made}
-use Rattle.rep_ops.specs.Sets.{operation_at, put_at, is_acknowledged, Stands, IsConsistent, Within, Same}
+use Rattle.rep_op.specs.WellMade.{is_well_made}
+use Rattle.rep_op.specs.Sets.{operation_at, put_at, is_acknowledged, Stands, IsConsistent, Within, Same}
 use Rattle.rep_ops.specs.Splitting.{all_of, AreDeltasOf}
 use Rattle.rep_ops.proofs.Joined.{rising_ascending, ascending_rising}
 use Rattle.rep_ops.proofs.Rising.{Past, Rising}
@@ -17,7 +17,7 @@ use Rattle.rep_model.specs.Views.{visible}
 use Rattle.rep_model.proofs.Joins.{all-left, all-right, all-moved}
 use Rattle.rep_model.proofs.Readers.{operation_at_keep, put_at_keep, is_acknowledged_keep}
 use Rattle.rep_digest.specs.declared.entry.ClientEntry.{ClientEntry}
-use Rattle.rep_digest.specs.Answers.{covers_operation, covers_put, covers_acknowledgement, IsRest, IsAnswer}
+use Rattle.rep_answer.specs.Answers.{covers_operation, covers_put, covers_acknowledgement, IsRest, IsAnswer}
 use Rattle.rep_digest.specs.Digests.{digest}
 use Rattle.gw_answer.specs.declared.out.Out.{Out}
 use Rattle.gw_answer.specs.declared.refusal.Refusal.{Refusal}

@@ -3,13 +3,13 @@ use Rattle.std.proofs.Common.{◌≡◌, Bool, ℕ, zero, suc, ◌⊎◌, ◌↔
 use Rattle.std.proofs.lemmas.List.Concat.{flat_map-append}
 use Rattle.std.proofs.lemmas.List.Elements.{All-from_recursion, All-contains, Contains-append_left, Contains-append_right}
 use Rattle.std.proofs.lemmas.Option.{none-some, same_Some}
-use Rattle.rep_ops.specs.declared.op.Op.{Op}
-use Rattle.rep_ops.specs.Sets.{Within, Same}
+use Rattle.rep_op.specs.declared.op.Op.{Op}
+use Rattle.rep_op.specs.Sets.{Within, Same}
 use Rattle.rep_ops.specs.Splitting.{all_of}
 use Rattle.rep_model.specs.Keep.{keep, CountsAs}
 use Rattle.rep_model.proofs.Joins.{all-moved, all-both, same_sym, same_trans, same-absorbed, same-elements}
 use Rattle.rep_model.proofs.Thin.{thin-left, thin-right, thin-same, same_kept}
-use Rattle.rep_digest.proofs.Completing.{completed}
+use Rattle.rep_answer.proofs.Completing.{completed}
 use Rattle.sn_local.specs.declared.config.Config.{Config}
 use Rattle.gw_world.specs.declared.event.Event.{Event}
 use Rattle.gw_world.specs.declared.event.Event.TheVariants.{Frame, Tick, Take, Answer as Asks, WriteFails, Compact, Restart, Show}

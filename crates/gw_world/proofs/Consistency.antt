@@ -5,15 +5,15 @@ use Rattle.std.proofs.Common.{◌≡◌, Bool, refl, ℕ, zero, suc, ◌-◌, �
 use Rattle.std.specs.List.{AllByRecursion}
 use Rattle.std.proofs.lemmas.List.Elements.{All-from_recursion, All-contains}
 use Rattle.std.proofs.lemmas.Option.{none-some, same_Some}
-use Rattle.rep_ops.specs.declared.op.Op.{Op}
-use Rattle.rep_ops.specs.declared.op.Op.TheVariants.{Session as OfSession, Put as OfPut, Ack}
+use Rattle.rep_op.specs.declared.op.Op.{Op}
+use Rattle.rep_op.specs.declared.op.Op.TheVariants.{Session as OfSession, Put as OfPut, Ack}
 use Rattle.rep_ops.specs.Deltas.{IsDelta}
-use Rattle.rep_ops.specs.Sets.{Stands, IsConsistent, Agrees}
+use Rattle.rep_op.specs.Sets.{Stands, IsConsistent, Agrees}
 use Rattle.rep_model.specs.Keep.{keep}
 use Rattle.rep_model.specs.Taking.{AllAgree}
 use Rattle.rep_model.proofs.Joins.{all-moved}
 use Rattle.sn_local.specs.declared.config.Config.{Config}
-use Rattle.sn_flow.proofs.Lists.{all-weaken}
+use Rattle.sn_plan.proofs.Lists.{all-weaken}
 use Rattle.gw_world.specs.declared.event.Event.{Event}
 use Rattle.gw_world.specs.declared.event.Event.TheVariants.{Frame, Tick, Take, Answer as Asks, WriteFails, Compact, Restart, Show}
 use Rattle.gw_world.specs.declared.event.Answer.{Answer}

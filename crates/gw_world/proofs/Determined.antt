@@ -4,9 +4,9 @@ use Rattle.std.specs.Prelude.{◌≢◌}
 use Rattle.std.proofs.lemmas.Option.{none-some, same_Some}
 use Rattle.sn_frame.specs.declared.fault.FrameFault.{FrameFault}
 use Rattle.sn_frame.proofs.Refusals.{one_frame, is_refused, one_first_fault}
-use Rattle.rep_ops.specs.declared.op.Op.{Op}
-use Rattle.rep_ops.specs.declared.fault.OpsFault.{OpsFault}
-use Rattle.rep_ops.specs.declared.fault.OpsFault.TheVariants as ops_faults
+use Rattle.rep_op.specs.declared.op.Op.{Op}
+use Rattle.rep_op.specs.declared.fault.OpsFault.{OpsFault}
+use Rattle.rep_op.specs.declared.fault.OpsFault.TheVariants as ops_faults
 use Rattle.rep_ops.specs.Making.{AreApart, IsDeltaOf, IsRefusal}
 use Rattle.rep_ops.specs.Spelling.{spelling, IsWithinLimit}
 use Rattle.rep_model.specs.Limits.{first_passed}

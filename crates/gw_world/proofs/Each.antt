@@ -2,9 +2,9 @@
 use Rattle.std.proofs.Common.{◌≡◌, ℕ, zero, suc, ◌⊎◌, List, [], ◌∷◌, ◌++◌, set, flat_map, slice_get, Some, refl, sym, subst, inl, inr}
 use Rattle.std.specs.List.{AllByRecursion}
 use Rattle.std.proofs.lemmas.Option.{none-some, same_Some}
-use Rattle.rep_ops.specs.declared.op.Op.{Op}
+use Rattle.rep_op.specs.declared.op.Op.{Op}
 use Rattle.rep_model.proofs.Joins.{all-left, all-right}
-use Rattle.sn_flow.proofs.Lists.{all-append, all-weaken}
+use Rattle.sn_plan.proofs.Lists.{all-append, all-weaken}
 use Rattle.gw_node.specs.Gateways.{Gateway}
 use Rattle.gw_world.specs.Field.{Field}
 use Rattle.gw_world.specs.Whole.{listed, everything}

@@ -2,12 +2,13 @@
 use Rattle.std.proofs.Common.{◌≡◌, ◌<◌, ◌≤◌, ℕ, Bool, true, false, if◌then◌else◌, length, inl, inr, List, Some, Result, Ok, Err, IfOk, OnOk, refl, sym, ap, ◌∙◌, subst, arith}
 use Rattle.std.specs.Prelude.{IsTrue}
 use Rattle.std.specs.List.{AllByRecursion}
-use Rattle.rep_ops.specs.declared.op.Op.{Op}
+use Rattle.rep_op.specs.declared.op.Op.{Op}
 use Rattle.rep_ops.specs.Spelling.{max_octets}
-use Rattle.rep_digest.specs.Answers.{IsAnswer}
+use Rattle.rep_answer.specs.Answers.{IsAnswer}
 use Rattle.rep_digest.specs.Digests.{digest}
 use Rattle.rep_digest.specs.Spelling.{spelling, IsWithinLimit as IsDigestWithinLimit}
-use Rattle.rep_digest.proofs.Completing.{same_digest, same_answer}
+use Rattle.rep_digest.proofs.Counted.{same_digest}
+use Rattle.rep_answer.proofs.Completing.{same_answer}
 use Rattle.jr_disk.specs.declared.disk.Disk.{Ghosts}
 use Rattle.jr_disk.specs.declared.disk.Plan.TheVariants.{Stop, KeepBack}
 use Rattle.jr_disk.specs.Memory.{MemoryState, failing as failing_disk}

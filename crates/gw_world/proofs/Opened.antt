@@ -1,8 +1,8 @@
 -- A node that is opened on the disk of a gateway that stopped, or on an empty one.
 use Rattle.std.proofs.Common.{◌≡◌, ℕ, zero, suc, Bool, false, append-nil, take, length, inl, List, [], Option, Some, None, refl, sym, ap, ◌∙◌, subst}
 use Rattle.std.specs.Prelude.{IsTrue}
-use Rattle.rep_ops.specs.declared.op.Op.{Op}
-use Rattle.rep_ops.specs.Sets.{Within, IsConsistent}
+use Rattle.rep_op.specs.declared.op.Op.{Op}
+use Rattle.rep_op.specs.Sets.{Within, IsConsistent}
 use Rattle.rep_ops.specs.Splitting.{all_of}
 use Rattle.rep_model.specs.Limits.{first_passed}
 use Rattle.rep_model.proofs.Joins.{counts-refl, same_trans}

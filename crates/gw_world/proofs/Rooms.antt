@@ -1,6 +1,6 @@
 -- No gateway passes a limit, nor would it with what it refused.
 use Rattle.std.proofs.Common.{◌≡◌, ℕ, Bool, true, false, true≢false, List, [], ◌∷◌, ◌++◌, append-nil, Option, Some, None, Result, Ok, Err, refl, sym, ap, ◌∙◌, subst}
-use Rattle.rep_ops.specs.declared.op.Op.{Op}
+use Rattle.rep_op.specs.declared.op.Op.{Op}
 use Rattle.rep_model.specs.Limits.{first_passed}
 use Rattle.sn_plan.specs.declared.plan.Plan.{Plan}
 use Rattle.gw_answer.specs.declared.out.Out.{Out}

@@ -3,13 +3,13 @@ use Rattle.std.proofs.Common.{◌≡◌, ℕ, Bool, true, false, ◌-◌, ◌⊎
 use Rattle.std.specs.List.{AllByRecursion}
 use Rattle.std.proofs.lemmas.List.Concat.{flat_map-append}
 use Rattle.std.proofs.lemmas.List.Elements.{All-from_recursion, All-contains, Contains-append_left, Contains-append_right}
-use Rattle.rep_ops.specs.declared.op.Op.{Op}
-use Rattle.rep_ops.specs.Sets.{operation_at, put_at, is_acknowledged, Stands, Within, Same}
+use Rattle.rep_op.specs.declared.op.Op.{Op}
+use Rattle.rep_op.specs.Sets.{operation_at, put_at, is_acknowledged, Stands, Within, Same}
 use Rattle.rep_model.proofs.Joins.{all-moved, same-elements, same_sym, same_trans, within-standing}
 use Rattle.rep_model.proofs.Named.{clients-thin}
 use Rattle.rep_model.proofs.Thin.{thin-same, view-thin}
 use Rattle.sn_local.specs.declared.config.Config.{Config}
-use Rattle.sn_flow.proofs.Lists.{all-append}
+use Rattle.sn_plan.proofs.Lists.{all-append}
 use Rattle.gw_world.specs.declared.event.Event.{Event}
 use Rattle.gw_world.specs.declared.event.Event.TheVariants.{Frame, Tick, Take, Answer as Asks, WriteFails, Compact, Restart, Show}
 use Rattle.gw_world.specs.declared.event.Answer.{Answer}

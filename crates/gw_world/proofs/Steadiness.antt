@@ -3,9 +3,9 @@ use Rattle.std.proofs.Common.{◌≡◌, Bool, false, append-nil, ℕ, ◌⊎◌
 use Rattle.std.specs.List.{AllByRecursion}
 use Rattle.std.specs.Option.{option_to_list}
 use Rattle.std.proofs.lemmas.Option.{none-some, same_Some, slice_get-map}
-use Rattle.rep_ops.specs.declared.op.Op.{Op}
-use Rattle.rep_ops.specs.declared.op.Op.TheVariants.{Session as OfSession, Put as OfPut}
-use Rattle.rep_ops.specs.Sets.{operation_at, put_at, Same}
+use Rattle.rep_op.specs.declared.op.Op.{Op}
+use Rattle.rep_op.specs.declared.op.Op.TheVariants.{Session as OfSession, Put as OfPut}
+use Rattle.rep_op.specs.Sets.{operation_at, put_at, Same}
 use Rattle.rep_ops.specs.Deltas.{IsDelta}
 use Rattle.rep_ops.specs.Making.{IsDeltaOf}
 use Rattle.rep_model.specs.Taking.{AllAgree}
@@ -14,9 +14,9 @@ use Rattle.sn_plan.specs.declared.plan.Plan.{Plan}
 use Rattle.sn_local.specs.Seen.{seen_of}
 use Rattle.sn_plan.specs.Own.{IsOfDraft}
 use Rattle.sn_plan.specs.Flush.{IsFlush, AreFlush}
-use Rattle.sn_deliver.proofs.Drafting.{step-drafted, tick-drafted}
-use Rattle.sn_flow.proofs.Stepping.{step-fits, step-flush, step-new_operation, step-new_put}
-use Rattle.sn_flow.proofs.Flushness.{flush-start, flush-taken}
+use Rattle.step_laws.proofs.Drafting.{step-drafted, tick-drafted}
+use Rattle.row_laws.proofs.Stepping.{step-fits, step-flush, step-new_operation, step-new_put}
+use Rattle.row_laws.proofs.Flushness.{flush-start, flush-taken}
 use Rattle.gw_answer.specs.declared.out.Out.{Out}
 use Rattle.gw_answer.specs.declared.refusal.Refusal.{Refusal}
 use Rattle.gw_answer.specs.declared.refusal.Refusal.TheVariants as refusals

@@ -3,18 +3,18 @@ use Rattle.std.proofs.Common.{◌≡◌, ℕ, zero, suc, ◌⊎◌, List, [], �
 use Rattle.std.specs.List.{AllByRecursion}
 use Rattle.std.proofs.lemmas.List.Elements.{All-from_recursion, All-contains}
 use Rattle.std.proofs.lemmas.Option.{none-some, same_Some}
-use Rattle.rep_ops.specs.declared.op.Op.{Op}
-use Rattle.rep_ops.specs.declared.op.Op.TheVariants.{Session as OfSession, Put as OfPut, Ack}
+use Rattle.rep_op.specs.declared.op.Op.{Op}
+use Rattle.rep_op.specs.declared.op.Op.TheVariants.{Session as OfSession, Put as OfPut, Ack}
 use Rattle.rep_ops.specs.Deltas.{IsDelta}
-use Rattle.rep_ops.specs.Sets.{operation_at, put_at, Stands}
+use Rattle.rep_op.specs.Sets.{operation_at, put_at, Stands}
 use Rattle.rep_model.proofs.Joins.{all-moved}
 use Rattle.sn_plan.specs.declared.plan.Plan.{Plan}
 use Rattle.sn_local.specs.Seen.{seen_of}
 use Rattle.sn_plan.specs.Own.{IsOwn, IsFresh, IsOfDraft}
 use Rattle.sn_plan.specs.Flush.{AreFlush, stamp_of}
-use Rattle.sn_flow.proofs.Lists.{all-append, all-weaken}
-use Rattle.sn_flow.proofs.Names.{plan-own}
-use Rattle.sn_flow.proofs.Stepping.{step-new_operation, step-new_put}
+use Rattle.sn_plan.proofs.Lists.{all-append, all-weaken}
+use Rattle.row_laws.proofs.Names.{plan-own}
+use Rattle.row_laws.proofs.Stepping.{step-new_operation, step-new_put}
 use Rattle.gw_node.specs.Gateways.{Gateway}
 use Rattle.gw_node.specs.Event.{HaveName}
 use Rattle.gw_node.specs.Plans.{IsWritable}

@@ -1,7 +1,7 @@
 -- The deltas that an answer brings.
 use Rattle.std.specs.Prelude.{List, [], Result, Ok, Err}
 use Rattle.std.specs.Option.{option_to_list}
-use Rattle.rep_ops.specs.declared.op.Op.{Op}
+use Rattle.rep_op.specs.declared.op.Op.{Op}
 use Rattle.gw_answer.specs.declared.out.Out.{Out}
 use Rattle.gw_answer.specs.declared.refusal.Refusal.{Refusal}
 

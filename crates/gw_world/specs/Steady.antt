@@ -1,7 +1,7 @@
 -- A field in which no gateway contradicts itself.
 use Rattle.std.specs.Prelude.{ℕ, List}
 use Rattle.std.specs.List.{AllByRecursion}
-use Rattle.rep_ops.specs.declared.op.Op.{Op}
+use Rattle.rep_op.specs.declared.op.Op.{Op}
 use Rattle.sn_plan.specs.Own.{AddsNone}
 use Rattle.sn_plan.specs.Flush.{AreFlush}
 use Rattle.gw_node.specs.Gateways.{Gateway}

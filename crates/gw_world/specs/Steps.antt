@@ -2,8 +2,8 @@
 -- again, or its digest goes to a peer.
 use Rattle.std.specs.Prelude.{◌≡◌, ℕ, length, List, [], Result, Ok, Err}
 use Rattle.std.specs.List.{AllByRecursion}
-use Rattle.rep_ops.specs.declared.op.Op.{Op}
-use Rattle.rep_digest.specs.Answers.{IsAnswer}
+use Rattle.rep_op.specs.declared.op.Op.{Op}
+use Rattle.rep_answer.specs.Answers.{IsAnswer}
 use Rattle.rep_digest.specs.Digests.{digest}
 use Rattle.rep_digest.specs.Spelling.{IsWithinLimit as IsDigestWithinLimit}
 use Rattle.jr_journal.specs.Records.{records}

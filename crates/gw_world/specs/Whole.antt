@@ -1,8 +1,8 @@
 -- A whole field: the sets of all its gateways, all deltas of its list, and what answers tell of.
 use Rattle.std.specs.Prelude.{◌≡◌, ℕ, List, [], ◌++◌, flat_map, Option, Some, None, IfSome, slice_get, Contains}
-use Rattle.rep_ops.specs.declared.op.Op.{Op}
-use Rattle.rep_ops.specs.declared.op.Op.TheVariants.{Session as OfSession, Put as OfPut, Ack}
-use Rattle.rep_ops.specs.Sets.{Stands, Within}
+use Rattle.rep_op.specs.declared.op.Op.{Op}
+use Rattle.rep_op.specs.declared.op.Op.TheVariants.{Session as OfSession, Put as OfPut, Ack}
+use Rattle.rep_op.specs.Sets.{Stands, Within}
 use Rattle.gw_answer.specs.Answers.{said}
 use Rattle.gw_world.specs.declared.event.Event.{Event}
 use Rattle.gw_world.specs.declared.event.Event.TheVariants.{Frame, Tick, Take, Answer as Asks, WriteFails, Compact, Restart, Show}

@@ -4,7 +4,7 @@ use gw_node::{NodeFault, Out};
 use octets::{Octets, Sequence};
 use rep_model::ClientView;
 use rep_ops::ClientId;
-use sn_flow::Addr;
+use sn_local::Addr;
 use std::sync::Arc;
 
 /// What can happen in a field. Gateways go by their numbers.
@@ -32,8 +32,9 @@ pub enum Event {
         gateway: u8,
         peer: u8,
     },
-    /// The next append to a gateway's journal goes wrong: it stops after so many bytes, or after all where there are fewer; or,
-    /// where `sync` is true, all goes out and the sync behind it fails. A failure that was arranged before is forgotten.
+    /// The next append to a gateway's journal goes wrong: it stops after so many bytes, or after
+    /// all where there are fewer; or, where `sync` is true, all goes out and the sync behind it
+    /// fails. A failure that was arranged before is forgotten.
     WriteFails {
         gateway: u8,
         bytes: u64,
@@ -43,8 +44,8 @@ pub enum Event {
     Compact {
         gateway: u8,
     },
-    /// A gateway stops and is opened again. Of each slot of its disk the synced bytes are left, and of the others the first
-    /// `keep`, or all where there are fewer.
+    /// A gateway stops and is opened again. Of each slot of its disk the synced bytes are left, and
+    /// of the others the first `keep`, or all where there are fewer.
     Restart {
         gateway: u8,
         keep: u64,
@@ -91,7 +92,8 @@ impl Event {
 /// The answer to an event.
 #[derive(Debug, Drop)]
 pub enum Answer {
-    /// A gateway's answer to a frame, a tick, a delta or a compaction; a peer's answer to a digest, or why there is no digest.
+    /// A gateway's answer to a frame, a tick, a delta or a compaction; a peer's answer to a digest,
+    /// or why there is no digest.
     Node(Result<Arc<Out>, NodeFault>),
     /// The clients that a gateway knows, in ascending order, with their views.
     Views(Sequence<(ClientId, ClientView)>),

@@ -2,7 +2,7 @@
 
 ghost use Rattle.std.specs.Prelude.{◌≡◌, ◌<◌, false, Ok, IfOk, IfErr, OnOk, IfSome, length, map, vec_len};
 ghost use Rattle.std.specs.List.{AllByRecursion};
-ghost use Rattle.rep_model.specs.Views.{view as view_by};
+ghost use Rattle.rep_model.specs.Views as spec;
 ghost use Rattle.gw_answer.specs.declared.refusal.Refusal.TheVariants as refusals;
 ghost use Rattle.gw_node.specs.Parts.{state_of, disk_of, records_of};
 ghost use Rattle.gw_answer.specs.Answers.{told, said};
@@ -17,7 +17,7 @@ use octets::Sequence;
 use rep_digest::Digest;
 use rep_model::{ClientView, Replica};
 use rep_ops::{ClientId, Delta};
-use sn_flow::Addr;
+use sn_local::Addr;
 use std::alloc::Global;
 use std::sync::Arc;
 
@@ -216,8 +216,8 @@ pub(crate) fn want_of_memory(fault: &NodeFault) -> WorldFault
 
 /// A gateway stops, with so many bytes of each slot left that were not synced, and is opened again.
 ///
-/// What a crash leaves of its disk stands for a set, and no journal is begun, so a failure that is arranged is not met. So nothing refuses
-/// the opening but want of memory.
+/// What a crash leaves of its disk stands for a set, and no journal is begun, so a failure that is
+/// arranged is not met. So nothing refuses the opening but want of memory.
 fn open_again<R: Replica>(
     alloc: Global,
     node: Node<R, MemoryDisk>,
@@ -246,8 +246,8 @@ fn open_again<R: Replica>(
     }
 }
 
-/// The gateway in this place stops, with so many bytes of each slot left that were not synced, and is opened again: how many records
-/// it reads then.
+/// The gateway in this place stops, with so many bytes of each slot left that were not synced, and
+/// is opened again: how many records it reads then.
 pub fn restart_at<R: Replica>(
     alloc: Global,
     nodes: &mut Vec<Node<R, MemoryDisk>>,
@@ -310,7 +310,7 @@ fn view_of<R: Replica>(
     node: &Node<R, MemoryDisk>,
     client: &ClientId,
 ) -> Result<ClientView, WorldFault>
-    ensures ok { IfOk result (λ seen. seen ≡ view_by client.now (state_of R.kept node.now).kept) }
+    ensures ok { IfOk result (λ seen. seen ≡ spec.view client.now (state_of R.kept node.now).kept) }
     ensures err { IfErr result (λ fault. fault ≡ WorldFault.Memory) }
 {
     match node.view(alloc, client) {

@@ -1,10 +1,10 @@
 //! The laws of a field. Each function does nothing; its contract is a law, proved for all runs.
 
 ghost use Rattle.std.specs.Prelude.{◌≡◌, ℕ, ◌⊎◌, ◌↔◌, List, ◌++◌, Some, None, Ok, Err, IfSome, Contains, slice_get};
-ghost use Rattle.rep_ops.specs.declared.op.Op.{Op};
+ghost use Rattle.rep_op.specs.declared.op.Op.{Op};
 ghost use Rattle.rep_ops.specs.Deltas.{IsDelta};
 ghost use Rattle.rep_ops.specs.Making.{IsDeltaOf};
-ghost use Rattle.rep_ops.specs.Sets.{IsConsistent, Within, Same};
+ghost use Rattle.rep_op.specs.Sets.{IsConsistent, Within, Same};
 ghost use Rattle.rep_ops.specs.Splitting.{all_of};
 ghost use Rattle.rep_model.specs.Keep.{keep, CountsAs};
 ghost use Rattle.rep_model.specs.Taking.{AllAgree};
@@ -25,9 +25,9 @@ ghost use Rattle.gw_node.specs.Plans.{IsWritable};
 ghost use Rattle.gw_world.specs.Steady.{IsSteady};
 ghost use Rattle.gw_world.specs.Whole.{listed, everything, number_of, IsHome, AreMadeOnce, made_by, MayMake, NoneFails, told, brought, HasTakenAll};
 
-/// Whatever happens in a field, each gateway stays flush, and what it wrote itself comes back to it as it
-/// wrote it. So the operations that it makes contradict nothing that it has taken, and no datagram and
-/// no tick is ever answered by Conflict.
+/// Whatever happens in a field, each gateway stays flush, and what it wrote itself comes back to it
+/// as it wrote it. So the operations that it makes contradict nothing that it has taken, and no
+/// datagram and no tick is ever answered by Conflict.
 pub fn steady_field()
     ensures steady { (configs : List Config) (events : List Event) (answers : List Answer)
         (field : Field) → Run (new_field configs) events answers field → IsSteady field }
@@ -41,12 +41,12 @@ pub fn steady_field()
         (Err (refusals.Conflict client)) new made → ⊥ }
 {}
 
-/// A field never contradicts itself, whatever fails in it. In whatever all its gateways have taken and all deltas of its list
-/// hold, no name of a session operation or a message stands for two operations, and so in each part of
-/// it, however it is put together. Each delta of the list is a delta, with counter 0 exactly at the
-/// operations that take a session, and can be written. A delta of the list agrees with what any gateway
-/// has taken, and with what it must keep of that; so no delivery of it, and no event of a run at all, is
-/// answered by Conflict.
+/// A field never contradicts itself, whatever fails in it. In whatever all its gateways have taken
+/// and all deltas of its list hold, no name of a session operation or a message stands for two
+/// operations, and so in each part of it, however it is put together. Each delta of the list is a
+/// delta, with counter 0 exactly at the operations that take a session, and can be written. A delta
+/// of the list agrees with what any gateway has taken, and with what it must keep of that; so no
+/// delivery of it, and no event of a run at all, is answered by Conflict.
 pub fn consistent_field()
     ensures consistent { (configs : List Config) (events : List Event) (answers : List Answer)
         (field : Field)
@@ -72,13 +72,14 @@ pub fn consistent_field()
         → Contains answers (Node (Err (faults.Conflict client))) → ⊥ }
 {}
 
-/// No session operation and no message is made twice. Each that is anywhere in a field stands in the set
-/// of the gateway whose number is in its name. What an event adds to a field is named after the gateway
-/// that the event is at: nobody else writes under that number. In all deltas that answers tell of as
-/// made, a name stands in one place; only answers to datagrams and ticks tell of any; and where no
-/// failure is arranged, whatever has a name was told of. The list is what the answers bring, in their order: deltas that were made, and
-/// deltas that answer a digest, which repeat what was made before. Where no digest is sent, in the whole
-/// list a name stands in one place.
+/// No session operation and no message is made twice. Each that is anywhere in a field stands in
+/// the set of the gateway whose number is in its name. What an event adds to a field is named after
+/// the gateway that the event is at: nobody else writes under that number. In all deltas that
+/// answers tell of as made, a name stands in one place; only answers to datagrams and ticks tell of
+/// any; and where no failure is arranged, whatever has a name was told of. The list is what the
+/// answers bring, in their order: deltas that were made, and deltas that answer a digest, which
+/// repeat what was made before. Where no digest is sent, in the whole list a name stands in one
+/// place.
 pub fn made_once()
     ensures home { (configs : List Config) (events : List Event) (answers : List Answer)
         (field : Field) (op : Op) → Run (new_field configs) events answers field
@@ -87,7 +88,8 @@ pub fn made_once()
         (old new : Field) (event : Event) (answer : Answer) (op : Op)
         → Run (new_field configs) events answers old → After old event answer new
         → Contains (everything new) op
-        → Contains (everything old) op ⊎ IfSome (number_of op) (λ number. number ≡ gateway_of event) }
+        → Contains (everything old) op
+        ⊎ IfSome (number_of op) (λ number. number ≡ gateway_of event) }
     ensures once { (configs : List Config) (events : List Event) (answers : List Answer)
         (field : Field)
         → Run (new_field configs) events answers field → AreMadeOnce (told answers) }
@@ -106,20 +108,22 @@ pub fn made_once()
         → AreMadeOnce field.deltas }
 {}
 
-/// Gateways that have taken the same have the same. Two gateways that have taken the same operations, in whatever order and however
-/// often, have equal sets. What a gateway has taken, operation by operation, stands in its set. Two
-/// gateways that have, by whatever operations, all that stands in the field have equal sets. Where no
-/// failure is arranged, nothing stands in a gateway's set that does not stand in the list; so a gateway
-/// that every delta of the list has reached has what the list has, and two of them have equal sets. (A
-/// delta that a gateway refused, and read back when it was opened again, is in no list until the gateway
-/// answers a digest.) And gateways with equal sets show the same.
+/// Gateways that have taken the same have the same. Two gateways that have taken the same
+/// operations, in whatever order and however often, have equal sets. What a gateway has taken,
+/// operation by operation, stands in its set. Two gateways that have, by whatever operations, all
+/// that stands in the field have equal sets. Where no failure is arranged, nothing stands in a
+/// gateway's set that does not stand in the list; so a gateway that every delta of the list has
+/// reached has what the list has, and two of them have equal sets. (A delta that a gateway refused,
+/// and read back when it was opened again, is in no list until the gateway answers a digest.) And
+/// gateways with equal sets show the same.
 pub fn settled_field()
     ensures listed { (configs : List Config) (events : List Event) (answers : List Answer)
         (field : Field) (gateway : Gateway) (op : Op) → Run (new_field configs) events answers field
         → NoneFails events → Contains field.gateways gateway
         → Contains gateway.taken op → Contains (listed field) op }
     ensures within { (configs : List Config) (events : List Event) (answers : List Answer)
-        (field : Field) (gateway : Gateway) → Run (new_field configs) events answers field → NoneFails events
+        (field : Field) (gateway : Gateway) → Run (new_field configs) events answers field
+        → NoneFails events
         → Contains field.gateways gateway → Within gateway.taken (listed field) }
     ensures alike { (configs : List Config) (events : List Event) (answers : List Answer)
         (field : Field) (one other : Gateway) → Run (new_field configs) events answers field
@@ -131,13 +135,15 @@ pub fn settled_field()
         → Run (new_field configs) events answers field → Contains field.gateways gateway
         → ((op : Op) → Contains part op → Contains gateway.taken op) → Within part gateway.taken }
     ensures all { (configs : List Config) (events : List Event) (answers : List Answer)
-        (field : Field) (gateway : Gateway) → Run (new_field configs) events answers field → NoneFails events
+        (field : Field) (gateway : Gateway) → Run (new_field configs) events answers field
+        → NoneFails events
         → Contains field.gateways gateway
         → HasTakenAll field gateway → Same gateway.taken (listed field) }
     ensures complete { (configs : List Config) (events : List Event) (answers : List Answer)
         (field : Field) (one other : Gateway) → Run (new_field configs) events answers field
         → Contains field.gateways one → Contains field.gateways other
-        → Within (everything field) one.taken → Within (everything field) other.taken → Same one.taken other.taken }
+        → Within (everything field) one.taken → Within (everything field) other.taken
+        → Same one.taken other.taken }
     ensures settled { (configs : List Config) (events : List Event) (answers : List Answer)
         (field : Field) (one other : Gateway) → Run (new_field configs) events answers field
         → NoneFails events → Contains field.gateways one → Contains field.gateways other
@@ -145,10 +151,11 @@ pub fn settled_field()
     ensures shown { (one other : List Op) → Same one other → shown one ≡ shown other }
 {}
 
-/// The answer to its digest completes a gateway. With the deltas that a peer answers, in whatever order
-/// and however often they come, a gateway keeps what it would keep with the peer's whole set, whatever
-/// it takes later. And in a run: once what was answered has reached the gateway, by these deltas or by
-/// others, the set that the peer had when it answered has nothing to add to what the gateway keeps.
+/// The answer to its digest completes a gateway. With the deltas that a peer answers, in whatever
+/// order and however often they come, a gateway keeps what it would keep with the peer's whole set,
+/// whatever it takes later. And in a run: once what was answered has reached the gateway, by these
+/// deltas or by others, the set that the peer had when it answered has nothing to add to what the
+/// gateway keeps.
 pub fn answered_field()
     ensures completes { (asker peer : Gateway) (out : Out) (made : List (List Op)) (later : List Op)
         → AnswerStep asker peer (Ok out) made

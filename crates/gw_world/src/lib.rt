@@ -1,12 +1,15 @@
 //! A field of gateways, run from a list of events.
 //!
-//! `run` is the whole system without sockets and clocks: gateways start empty, with their journals on disks in memory,
-//! events come one after the other, and the result is what each gateway answered, what deltas were made or answered, and the
-//! gateways as they then are. A disk may fail in any write, after any number of bytes. A gateway may write its journal anew, and it
-//! may stop and be opened again from what its disk then has: its set stays, and what it refused when the disk failed is in it whole, or
-//! not at all. What `run` must give is defined over sets of operations: what a call does to one gateway in `gw_node` (`Event`,
-//! `Gateways`, `Drives`), the rest here in `specs/`: `Field` (a field, and what events may do to it), `Places`, `Steps` (a gateway stops and
-//! is opened again, a digest goes to a peer), `Worlds` (the result), `Keeping` (nodes and the gateways that they stand for).
+//! `run` is the whole system without sockets and clocks: gateways start empty, with their journals
+//! on disks in memory, events come one after the other, and the result is what each gateway
+//! answered, what deltas were made or answered, and the gateways as they then are. A disk may fail
+//! in any write, after any number of bytes. A gateway may write its journal anew, and it may stop
+//! and be opened again from what its disk then has: its set stays, and what it refused when the
+//! disk failed is in it whole, or not at all. What `run` must give is defined over sets of
+//! operations: what a call does to one gateway in `gw_node` (`Event`, `Gateways`, `Drives`), the
+//! rest here in `specs/`: `Field` (a field, and what events may do to it), `Places`, `Steps` (a
+//! gateway stops and is opened again, a digest goes to a peer), `Worlds` (the result), `Keeping`
+//! (nodes and the gateways that they stand for).
 //!
 //! - `event`: what can happen (`Event`), and what is answered (`Answer`).
 //! - `world`: the result of a run (`World`), or why there is none (`WorldFault`).

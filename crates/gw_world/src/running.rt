@@ -11,7 +11,7 @@ ghost use Rattle.gw_node.specs.Gateways.{new_gateway};
 ghost use Rattle.gw_world.specs.Keeping.{IsShown, AreShown};
 ghost use Rattle.gw_node.specs.Plans.{IsWritable};
 ghost use Rattle.gw_world.specs.Worlds.{IsWorld, IsStop};
-ghost use Rattle.rep_ops.specs.declared.op.Op.{Op};
+ghost use Rattle.rep_op.specs.declared.op.Op.{Op};
 
 use super::event::{Answer, Event};
 use super::field::{
@@ -24,7 +24,7 @@ use jr_journal::MemoryDisk;
 use octets::Sequence;
 use rep_model::Replica;
 use rep_ops::Delta;
-use sn_flow::{Addr, Config};
+use sn_local::{Addr, Config};
 use std::alloc::Global;
 use std::sync::Arc;
 
@@ -184,7 +184,8 @@ fn play_fail<R: Replica>(
     Answer::Nothing
 }
 
-/// The digest of the gateway in one place goes to the gateway in another, and what that one answers joins the list.
+/// The digest of the gateway in one place goes to the gateway in another, and what that one answers
+/// joins the list.
 fn play_ask<R: Replica>(
     alloc: Global,
     nodes: &[Node<R, MemoryDisk>],
@@ -204,7 +205,8 @@ fn play_ask<R: Replica>(
     Ok(Answer::Node(answer))
 }
 
-/// The digest of the gateway in this place goes to the gateway of the number `peer`. Events are numbered.
+/// The digest of the gateway in this place goes to the gateway of the number `peer`. Events are
+/// numbered.
 fn play_answer<R: Replica>(
     alloc: Global,
     nodes: &[Node<R, MemoryDisk>],
@@ -316,7 +318,8 @@ fn play_event<R: Replica>(
 
 /// A gateway that has taken nothing, with its journal on an empty disk.
 ///
-/// The disk stands for no operations and no failure is arranged on it, so nothing refuses the opening but want of memory.
+/// The disk stands for no operations and no failure is arranged on it, so nothing refuses the
+/// opening but want of memory.
 fn new_node<R: Replica>(alloc: Global, config: &Config) -> Result<Node<R, MemoryDisk>, WorldFault>
     ensures ok { IfOk result (λ node. IsShown (new_gateway config.now) (state_of R.kept node)) }
     ensures err { IfErr result (λ fault. fault ≡ WorldFault.Memory) }
@@ -379,21 +382,23 @@ fn play_all<R: Replica>(
     Ok(answers)
 }
 
-/// Runs a field of gateways: the gateways of these configs begin with nothing, and the events come one
-/// after the other.
+/// Runs a field of gateways: the gateways of these configs begin with nothing, and the events come
+/// one after the other.
 ///
-/// Each gateway has its journal on a disk in memory, whose next write fails where an event arranges that. Where an event stops a
-/// gateway and opens it again, it reads that journal, and has the set that it had, with or without the whole of the delta that it
-/// refused: nothing but want of memory can refuse that. The result has an answer for each event, the list of the deltas that were
-/// made or answered, and the gateways. There is no result where an event names a gateway, as the one that it is at or as the
-/// peer, or else a delta that is not there, or memory runs out.
+/// Each gateway has its journal on a disk in memory, whose next write fails where an event arranges
+/// that. Where an event stops a gateway and opens it again, it reads that journal, and has the set
+/// that it had, with or without the whole of the delta that it refused: nothing but want of memory
+/// can refuse that. The result has an answer for each event, the list of the deltas that were made
+/// or answered, and the gateways. There is no result where an event names a gateway, as the one
+/// that it is at or as the peer, or else a delta that is not there, or memory runs out.
 pub fn run<R: Replica>(
     alloc: Global,
     configs: &[Config],
     events: &[Event],
 ) -> Result<World<Node<R, MemoryDisk>>, WorldFault>
-    // At the end no node was refused memory, and of each disk it is known which failure is arranged. What a crash would leave of it stands
-    // for the set of its gateway, or for that with the whole delta that it refused, as the world's `shown` says.
+    // At the end no node was refused memory, and of each disk it is known which failure is
+    // arranged. What a crash would leave of it stands for the set of its gateway, or for that with
+    // the whole delta that it refused, as the world's `shown` says.
     ensures ok { IfOk result (λ world. IsWorld (λ node. state_of R.kept node) configs.now events.now
         world.answers world.deltas world.gateways) }
     ensures err { IfErr result (IsStop configs.now events.now) }

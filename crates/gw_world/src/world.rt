@@ -7,7 +7,7 @@ ghost use Rattle.gw_world.specs.declared.world.WorldFault.TheVariants.{Memory};
 use super::event::Answer;
 use octets::{NoMemory, Sequence};
 use rep_ops::{Delta, OpsFault};
-use sn_flow::StepFault;
+use sn_local::StepFault;
 use std::alloc::{AllocError, AllocFailed};
 use thiserror::Error;
 
@@ -17,7 +17,8 @@ use thiserror::Error;
 pub struct World<G> {
     /// An answer for each event, in their order.
     pub answers: Sequence<Answer>,
-    /// The deltas that were made, or that answered a digest, in their order; the first has number 1.
+    /// The deltas that were made, or that answered a digest, in their order; the first has number
+    /// 1.
     pub deltas: Sequence<Delta>,
     /// The gateways, in the order of their configs.
     pub gateways: Sequence<G>,

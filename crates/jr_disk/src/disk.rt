@@ -31,11 +31,11 @@ pub enum Plan {
     FailSync,
 }
 
-/// Two slots of bytes. A crash leaves of a slot what is synced, and any number of the bytes appended since,
-/// from the first on.
+/// Two slots of bytes. A crash leaves of a slot what is synced, and any number of the bytes
+/// appended since, from the first on.
 ///
-/// On an honest disk each call does what its clauses say. Of any other nothing is known but that a call
-/// fails only where the count of failures rises.
+/// On an honest disk each call does what its clauses say. Of any other nothing is known but that a
+/// call fails only where the count of failures rises.
 pub trait Disk {
     ghost use Rattle.std.specs.Prelude.{Bool, Option, Some, None, true, false, ℕ, ◌≡◌, ◌≤◌, ◌+◌, ◌⊎◌, length, take, drop, OnOk, OnErr, IfOk, IfErr, IsErr};
     ghost use Rattle.jr_disk.specs.Disk.{Slots, HasCause, at, replaced, bytes_of, appended, all_synced, cut_to};
@@ -77,7 +77,8 @@ pub trait Disk {
         ensures same { honest → slots self.new ≡ slots self.old }
         ensures bytes { honest → from + length buffer.old
             ≤ length (bytes_of (at (slots self.old) slot)) →
-            OnOk result (buffer.new ≡ take (length buffer.old) (drop from (bytes_of (at (slots self.old) slot)))) };
+            OnOk result (buffer.new
+            ≡ take (length buffer.old) (drop from (bytes_of (at (slots self.old) slot)))) };
 
     /// Adds bytes at the end of a slot. On an error the first `written` of them went out.
     fn append(&mut self, slot: Slot, bytes: &[u8]) -> Result<(), Short>
@@ -85,13 +86,16 @@ pub trait Disk {
         ensures starved { starved self.old ≡ true → starved self.new ≡ true }
         ensures outlook { starved self.new ≡ false
             → AppendsAs (outlook self.old) (length bytes.now) result (outlook self.new) }
-        // Where memory was refused in it nothing went out, and the failure that is arranged still is.
+        // Where memory was refused in it nothing went out, and the failure that is arranged still
+        // is.
         ensures wanting { starved self.old ≡ false → starved self.new ≡ true →
-            IsWanting result (slots self.old) (slots self.new) (outlook self.old) (outlook self.new) }
+            IsWanting result (slots self.old) (slots self.new) (outlook self.old)
+            (outlook self.new) }
         // Where memory was refused before, the call goes as arranged, or it is refused again.
         ensures again { starved self.old ≡ true →
             AppendsAs (outlook self.old) (length bytes.now) result (outlook self.new)
-            ⊎ IsWanting result (slots self.old) (slots self.new) (outlook self.old) (outlook self.new) }
+            ⊎ IsWanting result (slots self.old) (slots self.new) (outlook self.old)
+            (outlook self.new) }
         ensures within { IfErr result (λ short. short.written ≤ length bytes.now) }
         ensures ok { honest → OnOk result (slots self.new ≡ replaced (slots self.old) slot
             (appended (at (slots self.old) slot) bytes.now)) }

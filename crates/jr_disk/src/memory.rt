@@ -27,7 +27,10 @@ impl Model for MemorySlot {
 
     ghost Value = { SlotBytes };
 
-    ghost view = { λ s. record { synced = take s.synced s.bytes.items; unsynced = drop s.synced s.bytes.items } };
+    ghost view = { λ s. record {
+      synced = take s.synced s.bytes.items;
+      unsynced = drop s.synced s.bytes.items;
+    } };
 
     ghost invariant = { λ s. s.synced ≤ length s.bytes.items };
 }
@@ -139,8 +142,8 @@ impl MemorySlots {
     }
 }
 
-/// A disk in memory. A call fails only where memory was refused, where a failure was arranged, or where a
-/// read goes past the end of a slot; each such call counts as a failure.
+/// A disk in memory. A call fails only where memory was refused, where a failure was arranged, or
+/// where a read goes past the end of a slot; each such call counts as a failure.
 #[derive(Drop)]
 pub struct MemoryDisk {
     slots: MemorySlots,
@@ -154,7 +157,12 @@ impl Model for MemoryDisk {
 
     ghost Value = { MemoryState };
 
-    ghost view = { λ d. record { slots = d.slots; plan = d.plan; starved = d.starved; failures = d.failures.count } };
+    ghost view = { λ d. record {
+      slots = d.slots;
+      plan = d.plan;
+      starved = d.starved;
+      failures = d.failures.count;
+    } };
 }
 
 impl MemoryDisk {
@@ -182,8 +190,8 @@ impl MemoryDisk {
         self.starved
     }
 
-    /// A crash: of each slot the synced bytes are left, and the first so many of those that are not, or all
-    /// where there are fewer.
+    /// A crash: of each slot the synced bytes are left, and the first so many of those that are
+    /// not, or all where there are fewer.
     pub fn crash(&mut self, kept: usize)
         ensures { self.new ≡ crashed_disk kept self.old }
     {
@@ -191,8 +199,8 @@ impl MemoryDisk {
         self.slots.second.crash(kept);
     }
 
-    /// Arranges a failure, in place of one that was arranged before: the next append goes out and its sync
-    /// fails, or the next append stops after so many bytes.
+    /// Arranges a failure, in place of one that was arranged before: the next append goes out and
+    /// its sync fails, or the next append stops after so many bytes.
     pub fn fail_next(&mut self, bytes: usize, sync: bool)
         ensures { self.new ≡ failing bytes sync self.old }
     {
@@ -284,8 +292,8 @@ impl Disk for MemoryDisk {
     }
 }
 
-/// The law that the disk in memory is honest: it does what the clauses of `Disk` say of such a disk. The function does nothing; its contract
-/// is the law.
+/// The law that the disk in memory is honest: it does what the clauses of `Disk` say of such a
+/// disk. The function does nothing; its contract is the law.
 pub fn memory_disk_is_honest()
     ensures { ⟦<MemoryDisk as Disk>⟧.honest }
 {}

@@ -18,8 +18,8 @@ pub enum OnceCall {
     Read,
 }
 
-/// A disk in memory of which one call of a kind fails, without doing anything; that counts as a failure. Each other call is
-/// that of the disk in memory.
+/// A disk in memory of which one call of a kind fails, without doing anything; that counts as a
+/// failure. Each other call is that of the disk in memory.
 #[derive(Drop)]
 pub struct OnceDisk {
     disk: MemoryDisk,
@@ -136,7 +136,8 @@ impl Disk for OnceDisk {
     }
 }
 
-/// The law that the disk of which one call fails is honest. The function does nothing; its contract is the law.
+/// The law that the disk of which one call fails is honest. The function does nothing; its contract
+/// is the law.
 pub fn once_disk_is_honest()
     ensures { ⟦<OnceDisk as Disk>⟧.honest }
 {}

@@ -4,10 +4,11 @@ use Rattle.std.specs.Prelude.{nat_lt, ◌==◌, IfSome}
 use Rattle.std.specs.Int.{w32, from_be_bytes}
 use Rattle.std.proofs.lemmas.Bool.{cases_Bool, ltb-false, le-ltb}
 use Rattle.std.proofs.lemmas.List.{take-take, length-drop, drop-take}
-use Rattle.rep_ops.specs.declared.op.Op.{Op}
-use Rattle.rep_ops.specs.declared.fault.OpsFault.{OpsFault}
-use Rattle.rep_ops.specs.declared.fault.OpsFault.TheVariants as faults
-use Rattle.rep_ops.specs.Reading.{reading, Fails}
+use Rattle.rep_op.specs.declared.op.Op.{Op}
+use Rattle.rep_op.specs.declared.fault.OpsFault.{OpsFault}
+use Rattle.rep_op.specs.declared.fault.OpsFault.TheVariants as faults
+use Rattle.rep_ops.specs.Reading.{reading}
+use Rattle.rep_octets.specs.Reading.{Fails}
 use Rattle.rep_ops.specs.Spelling.{max_octets}
 use Rattle.jr_journal.specs.declared.piece.Piece.TheVariants.{Whole, Seal, Torn, Bad}
 use Rattle.jr_journal.specs.Records.{whole_if, delta_piece, body_at, record_at, piece_at, ended, joined, one_record, one_seal, found}

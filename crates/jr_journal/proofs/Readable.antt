@@ -1,10 +1,10 @@
 -- A delta's bytes are read again, and a record is made of them.
 use Rattle.std.proofs.Common.{◌≡◌, ℕ, List, [], ◌∷◌, ◌++◌, length, ap, ◌∙◌}
 use Rattle.byteorder.specs.Endian.{big_bytes}
-use Rattle.rep_ops.specs.declared.op.Op.{Op}
+use Rattle.rep_op.specs.declared.op.Op.{Op}
 use Rattle.rep_ops.specs.Deltas.{IsDelta}
 use Rattle.rep_ops.specs.Spelling.{spelling, IsWithinLimit}
-use Rattle.rep_ops.specs.Values.{AreValues}
+use Rattle.rep_op.specs.Values.{AreValues}
 use Rattle.rep_ops.proofs.Format.{read_again}
 use Rattle.jr_journal.specs.Records.{delta_bytes, written}
 use Rattle.jr_journal.specs.inner.Records.{IsReadable}

@@ -3,7 +3,7 @@ use Rattle.std.proofs.Common.{◌≡◌, ℕ, ◌+◌, true, false, None, List, 
 use Rattle.std.specs.Prelude.{nat_lt}
 use Rattle.std.proofs.lemmas.Bool.{cases_lt, and_parts, and_from, ltb-true, le-ltb, eqb-true, eq-eqb}
 use Rattle.std.proofs.lemmas.List.{append-nil, take-take, take_all, length-take, length-append}
-use Rattle.rep_ops.specs.declared.op.Op.{Op}
+use Rattle.rep_op.specs.declared.op.Op.{Op}
 use Rattle.jr_disk.specs.declared.disk.Slot.{Slot}
 use Rattle.jr_disk.specs.declared.disk.Slot.TheVariants.{First, Second}
 use Rattle.jr_journal.specs.declared.piece.Found.{Found}

@@ -1,6 +1,6 @@
 -- What a journal keeps true of its disk, and what an append and a compaction do to it.
 use Rattle.std.specs.Prelude.{Option, Some, None, ◌≡◌, ℕ, ◌+◌, ◌-◌, ◌^◌, false, ◌⊎◌, min, List, [], ◌∷◌, ◌++◌, length, take, Result, Ok, Err, IsSome}
-use Rattle.rep_ops.specs.declared.op.Op.{Op}
+use Rattle.rep_op.specs.declared.op.Op.{Op}
 use Rattle.jr_disk.specs.declared.disk.Slot.{Slot}
 use Rattle.jr_disk.specs.declared.disk.Slot.TheVariants.{First, Second}
 use Rattle.jr_disk.specs.declared.disk.Plan.{Plan}

@@ -3,8 +3,8 @@ use Rattle.std.specs.Prelude.{ℕ, zero, suc, ◌+◌, ◌==◌, Bool, true, fal
 use Rattle.std.specs.Int.{w32, w64, from_be_bytes}
 use Rattle.std.specs.Str.{bytes_eq}
 use Rattle.byteorder.specs.Endian.{big_bytes}
-use Rattle.rep_ops.specs.declared.op.Op.{Op}
-use Rattle.rep_ops.specs.declared.fault.OpsFault.{OpsFault}
+use Rattle.rep_op.specs.declared.op.Op.{Op}
+use Rattle.rep_op.specs.declared.fault.OpsFault.{OpsFault}
 use Rattle.rep_ops.specs.Reading.{reading}
 use Rattle.rep_ops.specs.Spelling.{spelling, max_octets}
 use Rattle.jr_journal.specs.declared.piece.Piece.{Piece}

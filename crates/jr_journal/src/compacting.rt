@@ -1,11 +1,13 @@
-//! Compacting: what a journal must keep is written into its other slot, and the journal goes on there.
+//! Compacting: what a journal must keep is written into its other slot, and the journal goes on
+//! there.
 
 ghost use Rattle.std.specs.Prelude.{ℕ, ◌≡◌, ◌≤◌, ◌<◌, ◌⊎◌, ◌++◌, true, false, None, flat_map, take, IfOk, IfErr, OnOk, OnErr, IsErrOf};
 ghost use Rattle.std.specs.List.{AllByRecursion};
 ghost use Rattle.jr_disk.specs.Disk.{at, replaced, appended};
 ghost use Rattle.jr_journal.specs.Records.{header, written, base_bytes};
 ghost use Rattle.jr_journal.specs.inner.Records.{IsReadable};
-ghost use Rattle.jr_journal.specs.Journals.{other as beside, emptied, after_append, AppendedAs};
+ghost use Rattle.jr_journal.specs.Journals.{emptied, after_append, AppendedAs};
+ghost use Rattle.jr_journal.specs.Journals as spec;
 
 use crate::content::MAGIC;
 use crate::fault::JournalFault;
@@ -18,7 +20,7 @@ use std::alloc::Global;
 
 /// The other slot.
 pub(crate) fn other(slot: Slot) -> Slot
-    ensures { result ≡ beside slot }
+    ensures { result ≡ spec.other slot }
 {
     match slot {
         Slot::First => Slot::Second,
@@ -55,7 +57,8 @@ pub(crate) fn base_of(
     Ok(bytes)
 }
 
-/// Writes all of a slot anew: what was in it is cut away, and the bytes go out in one append and are synced.
+/// Writes all of a slot anew: what was in it is cut away, and the bytes go out in one append and
+/// are synced.
 pub(crate) fn write_anew<D: Disk>(
     disk: &mut D,
     slot: Slot,

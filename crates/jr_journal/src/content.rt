@@ -2,7 +2,8 @@
 
 ghost use Rattle.std.specs.Prelude.{◌≡◌, ◌≤◌, ◌<◌, ◌+◌, ◌^◌, length, take, drop, min, IfOk, IfNone, IfSome};
 ghost use Rattle.std.specs.Int.{w64, from_be_bytes};
-ghost use Rattle.jr_journal.specs.Records.{begins as begins_test, after_header, slot_content};
+ghost use Rattle.jr_journal.specs.Records.{after_header, slot_content};
+ghost use Rattle.jr_journal.specs.Records as spec;
 
 use crate::piece::{Found, read_pieces};
 use octets::{NoMemory, read_u64};
@@ -29,7 +30,7 @@ pub enum SlotContent {
 
 /// Whether as many of the first five bytes as are there are those of a header of this gateway.
 fn begins(gateway: u8, bytes: &[u8]) -> bool
-    ensures { result ≡ begins_test gateway bytes.now }
+    ensures { result ≡ spec.begins gateway bytes.now }
 {
     let magic = [MAGIC[0], MAGIC[1], MAGIC[2], MAGIC[3], gateway];
     let count = if bytes.len() < 5 { bytes.len() } else { 5 };

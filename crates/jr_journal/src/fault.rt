@@ -15,7 +15,8 @@ pub enum JournalFault {
     /// Fault 1: the disk failed.
     #[error("the disk failed")]
     Disk,
-    /// Fault 2: the slots are no journal of this gateway; of a compaction, that no further generation can be told.
+    /// Fault 2: the slots are no journal of this gateway; of a compaction, that no further
+    /// generation can be told.
     #[error("the slots are no journal of this gateway")]
     Foreign,
     /// Fault 3: what stands at this place of a slot is no record and no seal that may stand there.

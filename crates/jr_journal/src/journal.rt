@@ -28,21 +28,24 @@ impl<D: Disk + Drop> Journal<D> {
     ghost use Rattle.jr_disk.specs.Disk.{at, image};
     ghost use Rattle.jr_journal.specs.Records.{written, base_bytes, slot_content, generation_in, records};
     ghost use Rattle.jr_journal.specs.Faults.{is_fresh, IsFault, fault_of};
-    ghost use Rattle.jr_journal.specs.Journals.{other as beside, Leaves, LeavesOneMore, LeavesEither, after_append, IsStruck, AppendedAs, IsAppendFault, emptied, last_generation, IsCompactFault, IsBeforeWriting, IsTried};
-    ghost use Rattle.jr_journal.specs.Parts.{disk_of, gateway_of, slot_of, generation_of, is_halted as is_stopped};
+    ghost use Rattle.jr_journal.specs.Journals.{Leaves, LeavesOneMore, LeavesEither, after_append, IsStruck, AppendedAs, IsAppendFault, emptied, last_generation, IsCompactFault, IsBeforeWriting, IsTried};
+    ghost use Rattle.jr_journal.specs.Journals as spec;
+    ghost use Rattle.jr_journal.specs.Parts.{disk_of, gateway_of, slot_of, generation_of};
+    ghost use Rattle.jr_journal.specs.Parts as parts;
     ghost use Rattle.jr_journal.specs.Opening.{synced_slots, recovered, slot_read, generation_read, is_quiet, IsUnhurt, LeavesNoMore};
 
-    /// Opens the journal of a gateway on a disk, and gives the deltas of its records. First all bytes of both slots are
-    /// made durable, then they are read; a record that the end cuts is cut away, and on an empty disk a journal is begun.
+    /// Opens the journal of a gateway on a disk, and gives the deltas of its records. First all
+    /// bytes of both slots are made durable, then they are read; a record that the end cuts is cut
+    /// away, and on an empty disk a journal is begun.
     ///
-    /// With a fault the disk comes back. `Foreign` and `BadRecord` are told of what is in the slots, `Disk` only where
-    /// the disk failed, `Memory` where memory ran out.
+    /// With a fault the disk comes back. `Foreign` and `BadRecord` are told of what is in the
+    /// slots, `Disk` only where the disk failed, `Memory` where memory ran out.
     pub fn open(
         alloc: Global,
         disk: D,
         gateway: u8,
     ) -> Result<(Journal<D>, Vec<Delta>), (D, JournalFault)>
-        ensures starts { IfOk result (λ made. (is_stopped made.0 ≡ false)
+        ensures starts { IfOk result (λ made. (parts.is_halted made.0 ≡ false)
             × (gateway_of made.0 ≡ gateway)) }
         ensures counts { MatchResult result (λ made. D.failures disk ≤ D.failures (disk_of made.0))
             (λ refused. D.failures disk ≤ D.failures refused.0) }
@@ -77,10 +80,12 @@ impl<D: Disk + Drop> Journal<D> {
         // A failure that is arranged for an append stays arranged, unless a journal is begun.
         ensures quiet { D.honest → IsTrue (is_quiet (D.outlook disk)
             (is_fresh (image (D.slots disk)))) →
-            IfOk result (λ made. D.starved (disk_of made.0) ≡ false → D.outlook (disk_of made.0) ≡ D.outlook disk) }
+            IfOk result (λ made. D.starved (disk_of made.0) ≡ false
+            → D.outlook (disk_of made.0) ≡ D.outlook disk) }
         ensures blameless { D.honest → IsTrue
             (is_quiet (D.outlook disk) (is_fresh (image (D.slots disk)))) →
-            IfErr result (λ refused. D.starved refused.0 ≡ false → (refused.1 ≢ JournalFault.Disk) × (D.outlook refused.0 ≡ D.outlook disk)) }
+            IfErr result (λ refused. D.starved refused.0 ≡ false
+            → (refused.1 ≢ JournalFault.Disk) × (D.outlook refused.0 ≡ D.outlook disk)) }
     {
         let mut disk = disk;
         match recover(alloc, &mut disk, gateway) {
@@ -104,26 +109,27 @@ impl<D: Disk + Drop> Journal<D> {
         }
     }
 
-    /// Adds a record. At `Ok` it is synced. After `Disk` the journal is halted, and a crash leaves the records
-    /// from before, or these and the new one.
+    /// Adds a record. At `Ok` it is synced. After `Disk` the journal is halted, and a crash leaves
+    /// the records from before, or these and the new one.
     ///
-    /// `Halted` where a write has failed before; else `Memory`, and nothing was written; else `Disk`.
+    /// `Halted` where a write has failed before; else `Memory`, and nothing was written; else
+    /// `Disk`.
     pub fn append(&mut self, alloc: Global, delta: &Delta) -> Result<(), JournalFault>
-        ensures halted { IsErrOf result JournalFault.Halted ↔ (is_stopped self.old ≡ true) }
+        ensures halted { IsErrOf result JournalFault.Halted ↔ (parts.is_halted self.old ≡ true) }
         ensures same { (gateway_of self.new ≡ gateway_of self.old)
             × (slot_of self.new ≡ slot_of self.old) }
         ensures generation { generation_of self.new ≡ generation_of self.old }
         ensures faults { IfErr result IsAppendFault }
-        ensures goes_on { OnOk result (is_stopped self.new ≡ false) }
-        ensures halts { IsErrOf result JournalFault.Disk → is_stopped self.new ≡ true }
+        ensures goes_on { OnOk result (parts.is_halted self.new ≡ false) }
+        ensures halts { IsErrOf result JournalFault.Disk → parts.is_halted self.new ≡ true }
         ensures counts { D.failures (disk_of self.old) ≤ D.failures (disk_of self.new) }
         ensures cause { IsErrOf result JournalFault.Disk
             → D.failures (disk_of self.old) < D.failures (disk_of self.new) }
         ensures refused { IsErrOf result JournalFault.Memory
             → ((disk_of self.new) ≡ (disk_of self.old))
-            × (is_stopped self.new ≡ is_stopped self.old) }
+            × (parts.is_halted self.new ≡ parts.is_halted self.old) }
         ensures stays { IsErrOf result JournalFault.Halted
-            → ((disk_of self.new) ≡ (disk_of self.old)) × (is_stopped self.new ≡ true) }
+            → ((disk_of self.new) ≡ (disk_of self.old)) × (parts.is_halted self.new ≡ true) }
         ensures starved { D.starved (disk_of self.old) ≡ true
             → D.starved (disk_of self.new) ≡ true }
         ensures exact { D.honest → OnOk result (D.slots (disk_of self.new) ≡ after_append None
@@ -162,37 +168,42 @@ impl<D: Disk + Drop> Journal<D> {
         Ok(())
     }
 
-    /// Writes the journal anew: the other slot gets a header of the next generation, the base and the seal, in one append that is
-    /// synced, and the journal goes on there. The base takes the place of all records that were there.
+    /// Writes the journal anew: the other slot gets a header of the next generation, the base and
+    /// the seal, in one append that is synced, and the journal goes on there. The base takes the
+    /// place of all records that were there.
     ///
-    /// `Halted` where a write has failed before; else `Foreign` where the generation is the last that a header can hold; else `Memory`:
-    /// nothing was written then. Else `Disk`: the journal is halted, and a crash leaves the records from before, or the base.
+    /// `Halted` where a write has failed before; else `Foreign` where the generation is the last
+    /// that a header can hold; else `Memory`: nothing was written then. Else `Disk`: the journal is
+    /// halted, and a crash leaves the records from before, or the base.
     #[tactic(auto, using(crate::proofs::Appending::number_kept))]
     pub fn compact(&mut self, alloc: Global, base: &[Delta]) -> Result<(), JournalFault>
-        ensures halted { IsErrOf result JournalFault.Halted ↔ (is_stopped self.old ≡ true) }
+        ensures halted { IsErrOf result JournalFault.Halted ↔ (parts.is_halted self.old ≡ true) }
         // The generation is the one that the header of the slot in use tells.
-        ensures number { D.honest → is_stopped self.old ≡ false
+        ensures number { D.honest → parts.is_halted self.old ≡ false
             → generation_of self.old ≡ generation_in (slot_content (gateway_of self.old)
             (at (D.slots (disk_of self.old)) (slot_of self.old)).synced) }
-        ensures last { IsErrOf result JournalFault.Foreign ↔ ((is_stopped self.old ≡ false)
+        ensures last { IsErrOf result JournalFault.Foreign ↔ ((parts.is_halted self.old ≡ false)
             × (generation_of self.old ≡ last_generation)) }
         ensures same { gateway_of self.new ≡ gateway_of self.old }
         ensures faults { IfErr result IsCompactFault }
-        ensures goes_on { OnOk result ((is_stopped self.new ≡ false)
-            × (slot_of self.new ≡ beside (slot_of self.old))
+        ensures goes_on { OnOk result ((parts.is_halted self.new ≡ false)
+            × (slot_of self.new ≡ spec.other (slot_of self.old))
             × (generation_of self.new ≡ generation_of self.old + 1)) }
         ensures stays { OnErr result ((slot_of self.new ≡ slot_of self.old)
             × (generation_of self.new ≡ generation_of self.old)) }
-        ensures halts { IsErrOf result JournalFault.Disk → is_stopped self.new ≡ true }
+        ensures halts { IsErrOf result JournalFault.Disk → parts.is_halted self.new ≡ true }
         ensures refused { IfErr result (λ fault. IsBeforeWriting fault
-            → (disk_of self.new ≡ disk_of self.old) × (is_stopped self.new ≡ is_stopped self.old)) }
+            → (disk_of self.new ≡ disk_of self.old)
+            × (parts.is_halted self.new ≡ parts.is_halted self.old)) }
         ensures counts { D.failures (disk_of self.old) ≤ D.failures (disk_of self.new) }
         ensures cause { IsErrOf result JournalFault.Disk
             → D.failures (disk_of self.old) < D.failures (disk_of self.new) }
         ensures starved { D.starved (disk_of self.old) ≡ true
             → D.starved (disk_of self.new) ≡ true }
         ensures exact { D.honest → OnOk result (D.slots (disk_of self.new) ≡
-            after_append None (emptied (D.slots (disk_of self.old)) (beside (slot_of self.old))) (beside (slot_of self.old)) (base_bytes (gateway_of self.old) (generation_of self.old + 1) base.now)) }
+            after_append None (emptied (D.slots (disk_of self.old)) (spec.other (slot_of self.old)))
+            (spec.other (slot_of self.old))
+            (base_bytes (gateway_of self.old) (generation_of self.old + 1) base.now)) }
         // After it every crash leaves the base and nothing else.
         ensures durable { D.honest → OnOk result
             (Leaves (gateway_of self.old) (D.slots (disk_of self.new)) base.now) }
@@ -202,7 +213,11 @@ impl<D: Disk + Drop> Journal<D> {
             (records (gateway_of self.old) (image (D.slots (disk_of self.old)))) base.now }
         // Where it is known which failure is arranged, so are the outcome and the slots.
         ensures known { D.honest → D.starved (disk_of self.new) ≡ false → IsTried result →
-            AppendedAs (D.outlook (disk_of self.old)) (emptied (D.slots (disk_of self.old)) (beside (slot_of self.old))) (beside (slot_of self.old)) (base_bytes (gateway_of self.old) (generation_of self.old + 1) base.now) result (D.slots (disk_of self.new)) (D.outlook (disk_of self.new)) }
+            AppendedAs (D.outlook (disk_of self.old))
+            (emptied (D.slots (disk_of self.old)) (spec.other (slot_of self.old)))
+            (spec.other (slot_of self.old))
+            (base_bytes (gateway_of self.old) (generation_of self.old + 1) base.now) result
+            (D.slots (disk_of self.new)) (D.outlook (disk_of self.new)) }
     {
         if self.is_halted() {
             return Err(JournalFault::Halted);
@@ -220,16 +235,18 @@ impl<D: Disk + Drop> Journal<D> {
         Ok(())
     }
 
-    /// Opens the journal once more, as it stands on its disk, halted or not, and gives the deltas of its records.
+    /// Opens the journal once more, as it stands on its disk, halted or not, and gives the deltas
+    /// of its records.
     ///
-    /// The faults are those of an opening. After `Memory` the journal is halted or not as before; after each other fault it is halted.
+    /// The faults are those of an opening. After `Memory` the journal is halted or not as before;
+    /// after each other fault it is halted.
     pub fn reopen(&mut self, alloc: Global) -> Result<Vec<Delta>, JournalFault>
         ensures same { gateway_of self.new ≡ gateway_of self.old }
-        ensures starts { OnOk result (is_stopped self.new ≡ false) }
+        ensures starts { OnOk result (parts.is_halted self.new ≡ false) }
         ensures halts { IfErr result (λ fault. fault ≢ JournalFault.Memory
-            → is_stopped self.new ≡ true) }
+            → parts.is_halted self.new ≡ true) }
         ensures wanting { IsErrOf result JournalFault.Memory
-            → is_stopped self.new ≡ is_stopped self.old }
+            → parts.is_halted self.new ≡ parts.is_halted self.old }
         ensures stays { OnErr result ((slot_of self.new ≡ slot_of self.old)
             × (generation_of self.new ≡ generation_of self.old)) }
         ensures counts { D.failures (disk_of self.old) ≤ D.failures (disk_of self.new) }
@@ -293,9 +310,10 @@ impl<D: Disk + Drop> Journal<D> {
         }
     }
 
-    /// Halts the journal: nothing more is written until it is opened once more. The disk stays as it is.
+    /// Halts the journal: nothing more is written until it is opened once more. The disk stays as
+    /// it is.
     pub fn halt(&mut self)
-        ensures halted { is_stopped self.new ≡ true }
+        ensures halted { parts.is_halted self.new ≡ true }
         ensures disk { disk_of self.new ≡ disk_of self.old }
         ensures same { (gateway_of self.new ≡ gateway_of self.old)
             × (slot_of self.new ≡ slot_of self.old)
@@ -327,7 +345,7 @@ impl<D: Disk + Drop> Journal<D> {
 
     /// Whether a write has failed since the journal was opened.
     pub fn is_halted(&self) -> bool
-        ensures { result ≡ is_stopped self.now }
+        ensures { result ≡ parts.is_halted self.now }
     {
         self.halted
     }
@@ -336,7 +354,8 @@ impl<D: Disk + Drop> Journal<D> {
 impl Journal<MemoryDisk> {
     ghost use Rattle.std.specs.Prelude.{◌≡◌};
     ghost use Rattle.jr_disk.specs.Memory.{failing};
-    ghost use Rattle.jr_journal.specs.Parts.{disk_of, gateway_of, slot_of, generation_of, is_halted as is_stopped};
+    ghost use Rattle.jr_journal.specs.Parts.{disk_of, gateway_of, slot_of, generation_of};
+    ghost use Rattle.jr_journal.specs.Parts as parts;
 
     /// Whether memory was refused in the disk.
     pub fn starved(&self) -> bool
@@ -345,14 +364,15 @@ impl Journal<MemoryDisk> {
         self.disk.starved()
     }
 
-    /// Arranges a failure on its disk, in place of one that was arranged before, and changes nothing else: the next append
-    /// goes out and its sync fails, or the next append stops after so many bytes.
+    /// Arranges a failure on its disk, in place of one that was arranged before, and changes
+    /// nothing else: the next append goes out and its sync fails, or the next append stops after so
+    /// many bytes.
     pub fn fail_next(&mut self, bytes: usize, sync: bool)
         ensures disk { disk_of self.new ≡ failing bytes sync (disk_of self.old) }
         ensures same { (gateway_of self.new ≡ gateway_of self.old)
             × (slot_of self.new ≡ slot_of self.old)
             × (generation_of self.new ≡ generation_of self.old) }
-        ensures halted { is_stopped self.new ≡ is_stopped self.old }
+        ensures halted { parts.is_halted self.new ≡ parts.is_halted self.old }
     {
         self.disk.fail_next(bytes, sync);
     }

@@ -1,23 +1,25 @@
 //! The journal of a gateway: what it has taken, on a disk that may fail.
 //!
-//! Each delta is one record, and a record counts once it is synced. After any crash the journal gives every record
-//! that was acknowledged, in order, and at most one more: the one whose write was cut off.
+//! Each delta is one record, and a record counts once it is synced. After any crash the journal
+//! gives every record that was acknowledged, in order, and at most one more: the one whose write
+//! was cut off.
 //!
-//! A journal does not grow for ever. A compaction writes what must be kept, its base, into the other slot, and the journal goes on
-//! there; a crash in it leaves the records from before, or the base. The slot in use is not touched before the other one is sealed
-//! and synced.
+//! A journal does not grow for ever. A compaction writes what must be kept, its base, into the
+//! other slot, and the journal goes on there; a crash in it leaves the records from before, or the
+//! base. The slot in use is not touched before the other one is sealed and synced.
 //!
 //! - `piece`, `content`: reading a slot, one function for each definition.
 //! - `record`: a record as it is written.
-//! - `opening`: the steps of an opening: sync both slots, read them, go on in the sealed one of the greater generation and cut its
-//!   torn end away, or begin a new journal.
+//! - `opening`: the steps of an opening: sync both slots, read them, go on in the sealed one of the
+//!   greater generation and cut its torn end away, or begin a new journal.
 //! - `compacting`: what must be kept, written into the other slot.
 //! - `journal`: `Journal`, with `open`, `append`, `compact` and `reopen`.
 //! - `fault`: why a journal refuses.
 //!
-//! What a journal asks of a disk (`Disk`), and disks in memory, are in the crate `jr_disk`. The definitions are in `specs/`: `Records` (from the
-//! bytes of a slot to its records), `Faults` (which fault there is in two slots), `Parts` (what contracts see of a journal),
-//! `Journals` (what a journal keeps true, an append, a compaction), `Opening` (the slots behind an opening).
+//! What a journal asks of a disk (`Disk`), and disks in memory, are in the crate `jr_disk`. The
+//! definitions are in `specs/`: `Records` (from the bytes of a slot to its records), `Faults`
+//! (which fault there is in two slots), `Parts` (what contracts see of a journal), `Journals` (what
+//! a journal keeps true, an append, a compaction), `Opening` (the slots behind an opening).
 #![tactic(auto)]
 
 mod compacting;

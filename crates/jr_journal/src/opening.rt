@@ -1,5 +1,5 @@
-//! Opening a journal: sync both slots, read both, and go on in the sealed one of the greater generation, of which a torn end is
-//! cut away; or begin a new journal.
+//! Opening a journal: sync both slots, read both, and go on in the sealed one of the greater
+//! generation, of which a torn end is cut away; or begin a new journal.
 
 ghost use Rattle.std.specs.Prelude.{◌≡◌, ◌≢◌, ◌≤◌, ◌<◌, ◌⊎◌, ◌+◌, [], true, false, length, IfOk, IfErr, OnOk, OnErr, IsErrOf, IsTrue, None, Some, if◌then◌else◌};
 ghost use Rattle.jr_disk.specs.Disk.{at, replaced, bytes_of, image, all_synced, cut_to};
@@ -321,8 +321,8 @@ fn recovered_by(alloc: Global, opening: Opening) -> Recovered
     }
 }
 
-/// The records of a journal, which is settled behind it: both slots are synced, a torn end is cut away, and where
-/// there was no journal one is begun.
+/// The records of a journal, which is settled behind it: both slots are synced, a torn end is cut
+/// away, and where there was no journal one is begun.
 pub(crate) fn recover<D: Disk>(
     alloc: Global,
     disk: &mut D,

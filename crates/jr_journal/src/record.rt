@@ -10,7 +10,8 @@ use octets::{NoMemory, append_u32};
 use rep_ops::Delta;
 use std::alloc::Global;
 
-/// How many bytes of a delta are made room for at first. Most deltas need no more, so that the list is seldom moved as it grows.
+/// How many bytes of a delta are made room for at first. Most deltas need no more, so that the list
+/// is seldom moved as it grows.
 const FIRST_ROOM: usize = 256;
 
 /// How many bytes stand before a record's delta: its tag and its length.

@@ -3,7 +3,8 @@
 use crate::clients::{exchange, session, will};
 use crate::shown::{message, name};
 use rep_ops::{Op, Put};
-use sn_session::{Message, Outbound, Presence, QosLevel, SessionOp, WillTopic};
+use sn_session::{Message, Outbound, Presence, SessionOp, WillTopic};
+use sn_tables::QosLevel;
 use std::alloc::{AllocError, Global};
 
 /// The lines of an operation.

@@ -5,7 +5,8 @@ use crate::shown::{message, name};
 use rep_model::{ClientView, Replica};
 use rep_ops::ClientId;
 use rep_state::Folded;
-use sn_session::{Outbound, Phase, QosLevel, Session, Will};
+use sn_session::{Outbound, Phase, Session, Will};
+use sn_tables::QosLevel;
 use std::alloc::{AllocError, Global};
 
 /// The lines of all clients.

@@ -33,13 +33,15 @@ pub struct Torn {
 pub struct Findings {
     /// The number of the gateway that would open it, if the journal tells one or one was given.
     pub gateway: Option<u8>,
-    /// The number that a header tells: that of the first slot, or of the second where the first is too short.
+    /// The number that a header tells: that of the first slot, or of the second where the first is
+    /// too short.
     pub told: Option<u8>,
     /// How many octets the first slot has.
     pub first: usize,
     /// How many octets the second slot has.
     pub second: usize,
-    /// The generations that the headers of the first and the second slot tell, where they are whole.
+    /// The generations that the headers of the first and the second slot tell, where they are
+    /// whole.
     pub generations: [Option<u64>; 2],
     /// There is no journal yet: an opening begins one.
     pub is_fresh: bool,

@@ -4,7 +4,8 @@ use crate::changes::presence_word;
 use crate::clients::phase_word;
 use crate::shown::quoted;
 use rep_ops::{Op, Put};
-use sn_session::{Message, Outbound, Presence, QosLevel, Session, SessionOp, Will, WillTopic};
+use sn_session::{Message, Outbound, Presence, Session, SessionOp, Will, WillTopic};
+use sn_tables::QosLevel;
 use sn_topic::{Filter, TopicName};
 use std::alloc::{AllocError, Global};
 

@@ -14,7 +14,8 @@ pub struct Options {
     pub is_json: bool,
 }
 
-/// Reads the words, the program's name first. Nothing where they do not parse, `--help` among them, or where memory ran out.
+/// Reads the words, the program's name first. Nothing where they do not parse, `--help` among them,
+/// or where memory ran out.
 pub(crate) fn read_words(alloc: Global, words: &[String]) -> Option<Options> {
     let path = Arg::new(alloc, "path")
         .required(true)

@@ -1,7 +1,7 @@
 -- What records come to.
 use Rattle.std.specs.Prelude.{◌≡◌, List, Some, take, slice_get}
 use Rattle.std.specs.List.{flat_map}
-use Rattle.rep_ops.specs.declared.op.Op.{Op}
+use Rattle.rep_op.specs.declared.op.Op.{Op}
 use Rattle.rep_model.specs.Keep.{CountsAs}
 use Rattle.rep_model.specs.Taking.{IsFaultOf}
 use Rattle.jr_read.specs.declared.folding.Misfit.{Misfit}

@@ -20,14 +20,15 @@ use std::alloc::Global;
 pub struct Reading {
     /// The deltas of the records.
     pub records: Vec<Delta>,
-    /// The slot that is read, and in which the journal goes on: of those with a seal that of the greater generation, or the first
-    /// where there is no journal yet.
+    /// The slot that is read, and in which the journal goes on: of those with a seal that of the
+    /// greater generation, or the first where there is no journal yet.
     pub slot: Slot,
     /// The generation that its header tells, or 1 where there is no journal yet.
     pub generation: u64,
     /// Where the records stand in that slot, one for each.
     pub places: Vec<Place>,
-    /// How many octets that slot has behind the opening: a torn end is cut away, and where there was no journal one is begun.
+    /// How many octets that slot has behind the opening: a torn end is cut away, and where there
+    /// was no journal one is begun.
     pub whole: usize,
 }
 
@@ -136,8 +137,8 @@ fn octets_of<'a>(slot: Slot, first: &'a [u8], second: &'a [u8]) -> &'a [u8]
     }
 }
 
-/// What an opening as this gateway reads of two slots that hold these octets: exactly the records that
-/// it gives, and the slot in which it goes on, or the fault that it tells.
+/// What an opening as this gateway reads of two slots that hold these octets: exactly the records
+/// that it gives, and the slot in which it goes on, or the fault that it tells.
 ///
 /// `Memory` where memory ran out; that says nothing of the slots.
 pub fn read(
@@ -154,7 +155,8 @@ pub fn read(
         reading.generation ≡ generation_read gateway (slots_of first.now second.now)) }
     // Each record stands at its place in the slot that is read.
     ensures places { IfOk result (λ reading.
-        ArePlaced (octets_in (slots_of first.now second.now) reading.slot) reading.places.items reading.records.items) }
+        ArePlaced (octets_in (slots_of first.now second.now) reading.slot) reading.places.items
+        reading.records.items) }
     ensures whole { IfOk result (λ reading.
         reading.whole
         ≡ length (bytes_of (at (recovered gateway (slots_of first.now second.now)) reading.slot))) }

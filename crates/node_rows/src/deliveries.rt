@@ -10,9 +10,12 @@ use jr_journal::MemoryDisk;
 use octets::Octets;
 use rep_model::{ClientView, Replica};
 use rep_ops::Put;
-use sn_deliver::{Meant, Peer, acknowledge, pubrel, then_deliver, then_resend, topic_meant};
-use sn_flow::{Addr, Draft};
+use sn_deliver::acknowledge;
+use sn_exchange::{Peer, then_deliver, then_resend};
 use sn_frame::{Flags, Frame, decode};
+use sn_local::Addr;
+use sn_plan::Draft;
+use sn_publish::{Meant, pubrel, topic_meant};
 use sn_session::Session;
 use std::alloc::Global;
 

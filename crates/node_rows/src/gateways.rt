@@ -7,7 +7,7 @@ use gw_node::Node;
 use jr_journal::{MemoryDisk, Slot};
 use octets::Sequence;
 use rep_model::Replica;
-use sn_flow::{Addr, Config};
+use sn_local::{Addr, Config};
 use sn_topic::Predefined;
 use std::alloc::Global;
 use std::mem;
@@ -133,7 +133,8 @@ pub(crate) fn slots<R: Replica>(
     print_slot(alloc, text, disk, "second", Slot::Second)
 }
 
-/// `state`: the records of the opening, whether the gateway has halted, and how many clients it knows.
+/// `state`: the records of the opening, whether the gateway has halted, and how many clients it
+/// knows.
 pub(crate) fn state<R: Replica>(
     alloc: Global,
     text: &mut String,

@@ -1,14 +1,16 @@
-//! Worked rows of gateways with their journals, of deliveries and of links: what no clause says, as that calls succeed, and octets
-//! written out by hand.
+//! Worked rows of gateways with their journals, of deliveries and of links: what no clause says, as
+//! that calls succeed, and octets written out by hand.
 //!
-//! A contract lets a call answer want of memory in place of almost anything; a row does not. Standard input holds rows, each
-//! behind a line `== NAME`; empty lines and those that begin with `#` are skipped. Each row begins with nothing: no gateway, an empty
-//! disk, a link on which nothing was said. The program prints each name, and below it what the lines of the row give; of a line that is
-//! none of these, `no such line` and the line.
+//! A contract lets a call answer want of memory in place of almost anything; a row does not.
+//! Standard input holds rows, each behind a line `== NAME`; empty lines and those that begin with
+//! `#` are skipped. Each row begins with nothing: no gateway, an empty disk, a link on which
+//! nothing was said. The program prints each name, and below it what the lines of the row give; of
+//! a line that is none of these, `no such line` and the line.
 //!
-//! A line is words with one space between them. Numbers are decimal, and below 65,536. The name of a client is a word, and stands for the
-//! octets of the word; behind `0x` it is the octets themselves. OCTETS are words: hexadecimal digits in as many as is pleasant, names of
-//! octets, and `-` for none.
+//! A line is words with one space between them. Numbers are decimal, and below 65,536. The name of
+//! a client is a word, and stands for the octets of the word; behind `0x` it is the octets
+//! themselves. OCTETS are words: hexadecimal digits in as many as is pleasant, names of octets, and
+//! `-` for none.
 //!
 //! | Names, which stay from row to row | |
 //! |---|---|
@@ -32,8 +34,9 @@
 //! | `compact`, `reopen` | the journal is written anew; the gateway is opened again in place |
 //! | `thrice CALL` | one of these as a value, with the answer three times |
 //!
-//! Of an answer are printed the datagrams; the number of operations that were made; of a view its stamp, the duration of the session and
-//! how many messages wait. A refusal is printed by its number, as `N3`, with the answer that it brings.
+//! Of an answer are printed the datagrams; the number of operations that were made; of a view its
+//! stamp, the duration of the session and how many messages wait. A refusal is printed by its
+//! number, as `N3`, with the answer that it brings.
 //!
 //! | Deliveries to a client, of which the gateway has a session, at port 7 of host 0 and moment 3; what is drafted is not carried out | |
 //! |---|---|
@@ -41,7 +44,8 @@
 //! | `hear CLIENT OCTETS ..` | the client answers a publication, or releases its own, by this frame |
 //! | `meaning CLIENT OCTETS ..` | what a publication is about with these flags, an octet, and this topic field, two octets: the topic, or a return code |
 //!
-//! Of a draft are printed how many changes of the session there are, the messages that are acknowledged, and the datagrams.
+//! Of a draft are printed how many changes of the session there are, the messages that are
+//! acknowledged, and the datagrams.
 //!
 //! | Digests, and a link | |
 //! |---|---|
@@ -89,7 +93,8 @@ fn main(rt: HostRuntime) -> Result<()> {
     Ok(())
 }
 
-/// What both replicas print, which is the same, and a line that says so; where it is not, what each prints.
+/// What both replicas print, which is the same, and a line that says so; where it is not, what each
+/// prints.
 fn print_both(alloc: Global, lines: &[String]) -> Result<String, Stop> {
     let mut folded = played::<Folded>(alloc, lines)?;
     let plain = played::<Plain>(alloc, lines)?;

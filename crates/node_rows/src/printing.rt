@@ -5,7 +5,8 @@ use gw_net::{LinkFault, LinkMessage};
 use gw_node::{Answer, NodeFault, Out};
 use jr_journal::{Disk, MemoryDisk, Slot};
 use rep_model::ClientView;
-use sn_flow::{Draft, Send as Sending, plan_without};
+use sn_local::Send as Sending;
+use sn_plan::{Draft, plan_without};
 use std::alloc::{AllocError, Global};
 
 /// Octets in hexadecimal digits, `-` for none.

@@ -1,7 +1,8 @@
 //! Octet strings and numbers as octets: what every format of the gateway is made of.
 //!
 //! `Octets` is an owned octet string that contracts see as a list of numbers. `number` reads and
-//! appends numbers with the most significant octet first, as MQTT-SN 1.2 section 5 writes them. `NoMemory` is want of memory.
+//! appends numbers with the most significant octet first, as MQTT-SN 1.2 section 5 writes them.
+//! `NoMemory` is want of memory.
 #![tactic(auto)]
 
 mod memory;

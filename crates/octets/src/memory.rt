@@ -3,8 +3,8 @@
 use std::alloc::{AllocError, AllocFailed};
 use thiserror::Error;
 
-/// Memory ran out. What can fail for nothing else answers this, in every crate; what can fail for more has a fault of its own, of
-/// which this makes one.
+/// Memory ran out. What can fail for nothing else answers this, in every crate; what can fail for
+/// more has a fault of its own, of which this makes one.
 #[derive(Clone, Copy, Debug, PartialEq, Eq, Error)]
 #[error("out of memory")]
 pub struct NoMemory;

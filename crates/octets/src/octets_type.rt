@@ -8,7 +8,8 @@ use std::cmp::Ordering;
 use std::marker::Model;
 use std::sync::ArcSlice;
 
-/// An octet string, which copies share: a copy takes no memory and moves no octet. Contracts see it as the list of its octets.
+/// An octet string, which copies share: a copy takes no memory and moves no octet. Contracts see it
+/// as the list of its octets.
 #[derive(Debug, Drop)]
 pub struct Octets {
     items: ArcSlice<u8>,

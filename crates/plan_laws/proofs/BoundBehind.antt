@@ -3,16 +3,16 @@ use Rattle.std.proofs.Common.{◌≡◌, ◌⊎◌, ℕ, Bool, true, false, not,
 use Rattle.std.specs.List.{AllByRecursion}
 use Rattle.std.proofs.lemmas.List.Sums.{fold-append}
 use Rattle.sn_topic.specs.Table.{Entries}
-use Rattle.sn_session.proofs.Ascending.{all_with}
+use Rattle.sn_tables.proofs.Ascending.{all_with}
 use Rattle.sn_session.specs.declared.session.Session.{Session}
 use Rattle.sn_session.specs.declared.change.SessionOp.{SessionOp}
 use Rattle.sn_session.specs.declared.change.SessionOp.TheVariants.{Take, Presence as SetPresence}
 use Rattle.sn_session.specs.Session.{empty_session, is_full, changed as session_changed, applied}
 use Rattle.sn_frame.specs.declared.frame.Frame.{Frame}
-use Rattle.rep_ops.specs.declared.op.Stamp.{Stamp}
-use Rattle.rep_ops.specs.declared.op.Op.{Op}
-use Rattle.rep_ops.specs.Orders.{stamp_cmp}
-use Rattle.rep_ops.specs.Sets.{Same, same_client, operation_at}
+use Rattle.rep_op.specs.declared.op.Stamp.{Stamp}
+use Rattle.rep_op.specs.declared.op.Op.{Op}
+use Rattle.rep_op.specs.Orders.{stamp_cmp}
+use Rattle.rep_op.specs.Sets.{Same, same_client, operation_at}
 use Rattle.rep_model.specs.Views.{view, visible, gapless, session_of as session_made}
 use Rattle.rep_model.proofs.Lookup.{or_else}
 use Rattle.rep_model.proofs.Greatest.{has, same_greatest}
@@ -40,16 +40,16 @@ use Rattle.sn_local.specs.Seen.{Seen, seen_of}
 use Rattle.sn_plan.specs.Plans.{plan_of, plan_of_puts, plan_without}
 use Rattle.sn_plan.specs.Rows.{row_of, plan_for}
 use Rattle.sn_local.proofs.Entries.{same_client-itself, visible-there}
-use Rattle.sn_flow.proofs.Known.{same-behind}
-use Rattle.sn_flow.proofs.Lists.{and_then-some, map-some, all-append, all-weaken}
-use Rattle.sn_flow.proofs.Outcomes.{written-shown, session-shown, unchanged-shown, others-shown}
-use Rattle.sn_flow.proofs.Reached.{history-own}
-use Rattle.sn_deliver.specs.declared.due.Due.{Due}
-use Rattle.sn_deliver.specs.declared.due.Due.TheVariants as dues
-use Rattle.sn_deliver.specs.Due.{elapsed, first_due}
-use Rattle.sn_deliver.specs.Following.{peer_at, followed_for, followed, deliver_next}
+use Rattle.row_laws.proofs.Known.{same-behind}
+use Rattle.sn_plan.proofs.Lists.{and_then-some, map-some, all-append, all-weaken}
+use Rattle.row_laws.proofs.Outcomes.{written-shown, session-shown, unchanged-shown, others-shown}
+use Rattle.row_laws.proofs.Reached.{history-own}
+use Rattle.sn_tick.specs.declared.due.Due.{Due}
+use Rattle.sn_tick.specs.declared.due.Due.TheVariants as dues
+use Rattle.sn_tick.specs.Due.{elapsed, first_due}
+use Rattle.sn_exchange.specs.Following.{peer_at, followed_for, followed, deliver_next}
 use Rattle.sn_deliver.specs.Steps.{row_for, step}
-use Rattle.sn_deliver.specs.Ticking.{dialog_ended, dialogs_ended, needs_timer, timer_begun, cleaned, may_advertise, advertised_to, advertised, lost, plan_due, plan_if_due, tick}
+use Rattle.sn_tick.specs.Ticking.{dialog_ended, dialogs_ended, needs_timer, timer_begun, cleaned, may_advertise, advertised_to, advertised, lost, plan_due, plan_if_due, tick}
 use Rattle.plan_laws.specs.BoundUp.{IsClientUp, IsUp}
 use Rattle.plan_laws.proofs.BoundDrafts.{KeepsUp, IsNoBind, BindsTo, BeginsAnew, IsViewUp, Stays, Comes, Goes, Fits, followed-fits}
 use Rattle.plan_laws.proofs.BoundRows.{FitsFor, FitsRow, row-fits}

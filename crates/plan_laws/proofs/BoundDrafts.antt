@@ -8,13 +8,13 @@ use Rattle.sn_session.specs.declared.outbound.Outbound.{Outbound as Exchange}
 use Rattle.sn_session.specs.declared.outbound.Phase.{Phase}
 use Rattle.sn_session.specs.declared.outbound.Phase.TheVariants.{Registering, Published, Released}
 use Rattle.sn_session.specs.declared.session.Session.{Session}
-use Rattle.sn_session.specs.declared.topics.TopicEntry.{TopicEntry}
+use Rattle.sn_tables.specs.declared.topics.TopicEntry.{TopicEntry}
 use Rattle.sn_session.specs.declared.change.SessionOp.{SessionOp}
 use Rattle.sn_session.specs.declared.change.SessionOp.TheVariants.{Take, Presence, Outbound}
-use Rattle.sn_session.specs.Topics.{topic_named, free_id}
+use Rattle.sn_tables.specs.Topics.{topic_named, free_id}
 use Rattle.sn_frame.specs.declared.frame.Frame.{Frame}
 use Rattle.sn_frame.specs.declared.frame.Frame.TheVariants as frames
-use Rattle.rep_ops.specs.declared.op.Put.{Put}
+use Rattle.rep_op.specs.declared.op.Put.{Put}
 use Rattle.rep_model.specs.declared.view.ClientView.{ClientView}
 use Rattle.sn_local.specs.declared.config.Addr.{Addr}
 use Rattle.sn_plan.specs.declared.draft.NewPut.{NewPut}
@@ -26,7 +26,7 @@ use Rattle.sn_local.specs.Bindings.{is_stamp_of}
 use Rattle.sn_plan.specs.Drafts.{Drafted, nothing, changed, changed_if, acked, put_all, sent, moved}
 use Rattle.sn_plan.specs.Names.{name_of}
 use Rattle.sn_plan.specs.Others.{is_up, can_wake}
-use Rattle.sn_flow.proofs.Lists.{all-append}
+use Rattle.sn_plan.proofs.Lists.{all-append}
 use Rattle.sn_exchange.specs.declared.form.Form.{Form}
 use Rattle.sn_exchange.specs.declared.peer.Peer.{Peer}
 use Rattle.sn_exchange.specs.declared.delivery.ToldId.{ToldId}
@@ -34,7 +34,7 @@ use Rattle.sn_exchange.specs.Forms.{form_of, form_again, publication}
 use Rattle.sn_exchange.specs.Exchanges.{so_far, left, put_left, message_of, open_exchange, is_served, is_awake}
 use Rattle.sn_exchange.specs.Delivery.{next_after, Stop, begun, entry_or_fresh, id_to_tell, register_first, deliver_by, and_then, deliver, deliver_left, deliver_if}
 use Rattle.sn_exchange.specs.Resending.{register_by, register_again, publish_by, publish_again, resend_in, resend_if}
-use Rattle.sn_deliver.specs.Following.{followed_by}
+use Rattle.sn_exchange.specs.Following.{followed_by}
 
 -- behind the change a client that was up is up; a Take has it so
 abbrev pub KeepsUp : SessionOp → Type 0

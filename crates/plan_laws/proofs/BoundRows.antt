@@ -7,13 +7,13 @@ use Rattle.sn_session.specs.declared.presence.Presence.TheVariants.{Active, Asle
 use Rattle.sn_session.specs.declared.outbound.Outbound.{Outbound as Exchange}
 use Rattle.sn_session.specs.declared.outbound.Phase.TheVariants.{Registering, Published, Released}
 use Rattle.sn_session.specs.declared.session.Session.{Session}
-use Rattle.sn_session.specs.declared.topics.TopicEntry.{TopicEntry}
+use Rattle.sn_tables.specs.declared.topics.TopicEntry.{TopicEntry}
 use Rattle.sn_session.specs.declared.will.WillTopic.{WillTopic}
 use Rattle.sn_session.specs.declared.change.SessionOp.TheVariants.{Take, Presence, Register, Subscribe, Unsubscribe, WillTopic as SetTopic, WillMsg, Received, Released as Release, Outbound}
-use Rattle.sn_session.specs.Received.{is_received, id_has_no_room}
+use Rattle.sn_tables.specs.Received.{is_received, id_has_no_room}
 use Rattle.sn_session.specs.Session.{empty_session}
-use Rattle.sn_session.specs.Topics.{topic_named, free_id}
-use Rattle.sn_session.specs.Subscriptions.{qos_of as subscribed_at, filter_has_no_room}
+use Rattle.sn_tables.specs.Topics.{topic_named, free_id}
+use Rattle.sn_tables.specs.Subscriptions.{qos_of as subscribed_at, filter_has_no_room}
 use Rattle.sn_frame.specs.declared.flags.Qos.{Qos}
 use Rattle.sn_frame.specs.declared.flags.Qos.TheVariants as levels
 use Rattle.sn_frame.specs.declared.flags.TopicIdType.{TopicIdType}
@@ -22,8 +22,8 @@ use Rattle.sn_frame.specs.declared.frame.Frame.{Frame}
 use Rattle.sn_frame.specs.declared.frame.Frame.TheVariants as frames
 use Rattle.sn_frame.specs.declared.frame.Will.{Will}
 use Rattle.sn_frame.specs.FlagBits.{qos_of, kind_of}
-use Rattle.rep_ops.specs.declared.op.Put.{Put}
-use Rattle.rep_ops.specs.declared.op.Op.{Op}
+use Rattle.rep_op.specs.declared.op.Put.{Put}
+use Rattle.rep_op.specs.declared.op.Op.{Op}
 use Rattle.rep_model.specs.declared.view.ClientView.{ClientView}
 use Rattle.rep_model.specs.Views.{view}
 use Rattle.sn_local.specs.declared.config.Addr.{Addr}
@@ -37,7 +37,7 @@ use Rattle.sn_local.specs.declared.local.LocalChange.{LocalChange}
 use Rattle.sn_local.specs.declared.local.LocalChange.TheVariants.{Heard, Resent}
 use Rattle.sn_local.specs.declared.local.Request.{Request}
 use Rattle.sn_local.specs.declared.local.WillDialog.{WillDialog}
-use Rattle.sn_flow.specs.declared.registration.NamedId.{NamedId}
+use Rattle.sn_subscribe.specs.declared.registration.NamedId.{NamedId}
 use Rattle.sn_plan.specs.declared.row.Row.{Row}
 use Rattle.sn_flow.specs.Accept.{accept, has_no_room}
 use Rattle.sn_plan.specs.Asking.{qos_asked, name_asked, topics_asked}
@@ -49,24 +49,24 @@ use Rattle.sn_local.specs.Locals.{Local}
 use Rattle.sn_plan.specs.Names.{name_of}
 use Rattle.sn_plan.specs.Others.{is_up, can_wake, other}
 use Rattle.sn_local.specs.Seen.{Seen, seen_of}
-use Rattle.sn_flow.specs.Registration.{entry_or_free, id_for, registered, register_name}
+use Rattle.sn_subscribe.specs.Registration.{entry_or_free, id_for, registered, register_name}
 use Rattle.sn_plan.specs.Rows.{heard_row, stray}
-use Rattle.sn_flow.specs.Subscription.{suback, refused, id_in_full, id_asked, subscribe_change, subscribed, subscribe_asked, subscribe_at, unsubscribe_asked, unsubscribe as unsubscribe_draft}
-use Rattle.sn_flow.specs.TopicRows.{register_of, subscribe_of, unsubscribe_of}
+use Rattle.sn_subscribe.specs.Subscription.{suback, refused, id_in_full, id_asked, subscribe_change, subscribed, subscribe_asked, subscribe_at, unsubscribe_asked, unsubscribe as unsubscribe_draft}
+use Rattle.sn_subscribe.specs.TopicRows.{register_of, subscribe_of, unsubscribe_of}
 use Rattle.sn_local.specs.WillDialogs.{dialog_at}
 use Rattle.sn_flow.specs.Wills.{congestion, not_supported, dismissed, concluded, topic_given, topic_row, topic_in, topic_at, will_of, message_row, message_in, message_at, topic_update_of, message_update_of}
 use Rattle.sn_flow.specs.WillUpdate.{topic_asked, topic_set, will_topic_update as topic_update, has_no_place, will_msg_update as message_update}
 use Rattle.sn_publish.specs.declared.meaning.Meant.{Meant}
 use Rattle.sn_publish.specs.declared.meaning.Meant.TheVariants as meanings
 use Rattle.sn_exchange.specs.declared.peer.Peer.{Peer}
-use Rattle.sn_exchange.specs.Acknowledging.{awaiting, put_awaiting, over, done, told, entry_published, forgotten, puback_of, pubrel_sent, released, awaiting_pubrec, pubrec_again, pubrec_of, pubcomp_of, registered as registered_by, regack_of, acknowledge}
+use Rattle.sn_deliver.specs.Acknowledging.{awaiting, put_awaiting, over, done, told, entry_published, forgotten, puback_of, pubrel_sent, released, awaiting_pubrec, pubrec_again, pubrec_of, pubcomp_of, registered as registered_by, regack_of, acknowledge}
 use Rattle.sn_exchange.specs.Exchanges.{message_of}
-use Rattle.sn_deliver.specs.Following.{peer_at}
+use Rattle.sn_exchange.specs.Following.{peer_at}
 use Rattle.sn_publish.specs.Publishing.{publication_meant, spread, publish_at, publish_meant, spread_meant, release}
 use Rattle.sn_publish.specs.Recipients.{puts_for}
 use Rattle.sn_deliver.specs.Serving.{publish_of, publish_in_at, pubrel_of, ack_of}
 use Rattle.sn_deliver.specs.Waking.{claimed, has_nothing, woken_by, woken_if, woken, wake_of, wake}
-use Rattle.sn_flow.proofs.Lists.{all-append}
+use Rattle.sn_plan.proofs.Lists.{all-append}
 use Rattle.sn_deliver.specs.Steps.{row_for}
 use Rattle.plan_laws.proofs.BoundDrafts.{KeepsUp, IsNoBind, Fits, fits-nothing, fits-changed, fits-changed_if, fits-acked, fits-put_all, fits-sent, fits-moved, choose-fits}
 

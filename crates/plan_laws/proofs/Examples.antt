@@ -2,8 +2,8 @@
 use Rattle.std.proofs.Common.{◌≡◌, ℕ, true, false, List, [], ◌∷◌, refl}
 use Rattle.sn_session.specs.declared.will.WillTopic.{WillTopic}
 use Rattle.sn_local.specs.declared.local.Awaited.TheVariants.{Topic, Message}
-use Rattle.rep_ops.specs.declared.op.Op.TheVariants.{Session as OfSession, Ack}
-use Rattle.rep_ops.specs.WellMade.{is_well_made}
+use Rattle.rep_op.specs.declared.op.Op.TheVariants.{Session as OfSession, Ack}
+use Rattle.rep_op.specs.WellMade.{is_well_made}
 use Rattle.rep_model.specs.Views.{view, gapless}
 use Rattle.sn_session.specs.declared.change.SessionOp.TheVariants.{Take}
 use Rattle.sn_local.specs.Bindings.{is_owned}

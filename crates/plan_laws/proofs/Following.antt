@@ -8,14 +8,14 @@ use Rattle.sn_session.specs.declared.outbound.Outbound.{Outbound as Exchange}
 use Rattle.sn_session.specs.declared.outbound.Phase.{Phase}
 use Rattle.sn_session.specs.declared.outbound.Phase.TheVariants.{Registering, Published, Released}
 use Rattle.sn_session.specs.declared.session.Session.{Session}
-use Rattle.sn_session.specs.declared.topics.TopicEntry.{TopicEntry}
+use Rattle.sn_tables.specs.declared.topics.TopicEntry.{TopicEntry}
 use Rattle.sn_session.specs.declared.change.SessionOp.TheVariants.{Presence, Register, Outbound}
-use Rattle.sn_session.specs.Tables.{is_table_full}
-use Rattle.sn_session.specs.Topics.{topic_named, free_id, least_unused}
+use Rattle.sn_tables.specs.Tables.{is_table_full}
+use Rattle.sn_tables.specs.Topics.{topic_named, free_id, least_unused}
 use Rattle.sn_frame.specs.declared.frame.Frame.{Frame}
 use Rattle.sn_frame.specs.declared.frame.Frame.TheVariants as frames
-use Rattle.rep_ops.specs.declared.op.Put.{Put}
-use Rattle.rep_ops.specs.Ranges.{is_topic_id, is_topic, is_exchange}
+use Rattle.rep_op.specs.declared.op.Put.{Put}
+use Rattle.rep_op.specs.Ranges.{is_topic_id, is_topic, is_exchange}
 use Rattle.sn_local.specs.declared.config.Addr.{Addr}
 use Rattle.sn_local.specs.declared.local.LocalChange.TheVariants.{Sent, Resent}
 use Rattle.sn_plan.specs.declared.row.Follow.{Follow}
@@ -29,8 +29,8 @@ use Rattle.sn_exchange.specs.Forms.{form_of, form_again, publication}
 use Rattle.sn_exchange.specs.Exchanges.{so_far, is_left, left, put_left, message_of, open_exchange, is_served, is_awake}
 use Rattle.sn_exchange.specs.Delivery.{next_after, Stop, begun, entry_or_fresh, id_to_tell, register_first, deliver_by, none_left, and_then, deliver, deliver_left, deliver_if}
 use Rattle.sn_exchange.specs.Resending.{register_by, register_again, publish_by, publish_again, resend_in, resend_if}
-use Rattle.sn_deliver.specs.Following.{followed_by}
-use Rattle.sn_deliver.specs.Laws.{AreApart}
+use Rattle.sn_exchange.specs.Following.{followed_by}
+use Rattle.step_laws.specs.Laws.{AreApart}
 use Rattle.plan_laws.proofs.Sessions.{Fine, IsChange, fold-fine}
 use Rattle.plan_laws.proofs.Kept.{IsWell}
 use Rattle.plan_laws.proofs.Sound.{Sound, IsNotDone, well-named, others-left, left-all, filter-all, filter-apart, choose-sound, sound-changed, sound-changed_if, sound-acked, sound-sent, sound-moved}

@@ -10,15 +10,15 @@ use Rattle.sn_session.specs.declared.session.Session.{Session}
 use Rattle.sn_session.specs.declared.change.SessionOp.{SessionOp}
 use Rattle.sn_session.specs.declared.change.SessionOp.TheVariants.{Take}
 use Rattle.sn_session.specs.Session.{applied, empty_session}
-use Rattle.rep_ops.specs.declared.op.Stamp.{Stamp}
-use Rattle.rep_ops.specs.declared.op.Put.{Put}
-use Rattle.rep_ops.specs.declared.op.Op.{Op}
-use Rattle.rep_ops.specs.declared.op.Op.TheVariants.{Session as OfSession, Put as OfPut, Ack}
+use Rattle.rep_op.specs.declared.op.Stamp.{Stamp}
+use Rattle.rep_op.specs.declared.op.Put.{Put}
+use Rattle.rep_op.specs.declared.op.Op.{Op}
+use Rattle.rep_op.specs.declared.op.Op.TheVariants.{Session as OfSession, Put as OfPut, Ack}
 use Rattle.rep_ops.specs.Making.{AreWellMade}
-use Rattle.rep_ops.specs.Orders.{operation_cmp, put_cmp}
-use Rattle.rep_ops.specs.Ranges.{is_change, is_session}
-use Rattle.rep_ops.specs.Sets.{same_client, operation_of, operation_at, puts, is_acknowledged}
-use Rattle.rep_ops.specs.WellMade.{is_stamp, is_counted, is_put, is_well_made}
+use Rattle.rep_op.specs.Orders.{operation_cmp, put_cmp}
+use Rattle.rep_op.specs.Ranges.{is_change, is_session}
+use Rattle.rep_op.specs.Sets.{same_client, operation_of, operation_at, puts, is_acknowledged}
+use Rattle.rep_op.specs.WellMade.{is_stamp, is_counted, is_put, is_well_made}
 use Rattle.rep_model.specs.Views.{visible, gapless, then_more, history_at, history, after_change, session_of, unacknowledged, in_order, pending, view}
 use Rattle.rep_model.proofs.Lookup.{find-all}
 use Rattle.rep_model.proofs.Pending.{pending-ascend}
@@ -26,10 +26,10 @@ use Rattle.rep_model.proofs.Readers.{operation_exact, put_total}
 use Rattle.sn_plan.specs.Names.{name_of}
 use Rattle.sn_plan.specs.Bound.{session_of as session_seen}
 use Rattle.sn_local.specs.Seen.{seen_of}
-use Rattle.sn_flow.proofs.Lists.{all-weaken}
+use Rattle.sn_plan.proofs.Lists.{all-weaken}
 use Rattle.sn_local.proofs.Entries.{visible-there}
 use Rattle.sn_exchange.specs.Exchanges.{same_name}
-use Rattle.sn_deliver.specs.Laws.{AreApart}
+use Rattle.step_laws.specs.Laws.{AreApart}
 use Rattle.plan_laws.proofs.Sessions.{Fine, IsChange, fine-from, applied-fine, empty-fine}
 
 -- ---- what stands under a name

@@ -10,15 +10,15 @@ use Rattle.sn_session.specs.declared.outbound.Outbound.{Outbound as Exchange}
 use Rattle.sn_session.specs.declared.outbound.Phase.{Phase}
 use Rattle.sn_session.specs.declared.outbound.Phase.TheVariants.{Registering, Published, Released}
 use Rattle.sn_session.specs.declared.session.Session.{Session}
-use Rattle.sn_session.specs.declared.topics.TopicEntry.{TopicEntry}
+use Rattle.sn_tables.specs.declared.topics.TopicEntry.{TopicEntry}
 use Rattle.sn_session.specs.declared.will.Will.{Will as SessionWill}
 use Rattle.sn_session.specs.declared.will.WillTopic.{WillTopic}
 use Rattle.sn_session.specs.declared.change.SessionOp.{SessionOp}
 use Rattle.sn_session.specs.declared.change.SessionOp.TheVariants.{Take, Presence, Register, Subscribe, Unsubscribe, WillTopic as SetTopic, WillMsg, Received, Released as Release, Outbound}
-use Rattle.sn_session.specs.Received.{is_received, id_has_no_room}
+use Rattle.sn_tables.specs.Received.{is_received, id_has_no_room}
 use Rattle.sn_session.specs.Session.{empty_session}
-use Rattle.sn_session.specs.Topics.{topic_named, free_id}
-use Rattle.sn_session.specs.Subscriptions.{qos_of as subscribed_at, subscribed_qos, filter_has_no_room}
+use Rattle.sn_tables.specs.Topics.{topic_named, free_id}
+use Rattle.sn_tables.specs.Subscriptions.{qos_of as subscribed_at, subscribed_qos, filter_has_no_room}
 use Rattle.sn_frame.specs.declared.flags.Qos.{Qos}
 use Rattle.sn_frame.specs.declared.flags.Qos.TheVariants as levels
 use Rattle.sn_frame.specs.declared.flags.TopicIdType.{TopicIdType}
@@ -27,11 +27,11 @@ use Rattle.sn_frame.specs.declared.frame.Frame.{Frame}
 use Rattle.sn_frame.specs.declared.frame.Frame.TheVariants as frames
 use Rattle.sn_frame.specs.declared.frame.Will.{Will}
 use Rattle.sn_frame.specs.FlagBits.{qos_of, kind_of}
-use Rattle.rep_ops.specs.declared.op.Put.{Put}
-use Rattle.rep_ops.specs.declared.op.Op.{Op}
+use Rattle.rep_op.specs.declared.op.Put.{Put}
+use Rattle.rep_op.specs.declared.op.Op.{Op}
 use Rattle.rep_ops.specs.Making.{AreWellMade}
-use Rattle.sn_session.specs.Levels.{is_qos}
-use Rattle.rep_ops.specs.Ranges.{is_topic_id, is_topic, is_message, is_will, is_will_topic, is_exchange, is_session}
+use Rattle.sn_tables.specs.Levels.{is_qos}
+use Rattle.rep_op.specs.Ranges.{is_topic_id, is_topic, is_message, is_will, is_will_topic, is_exchange, is_session}
 use Rattle.rep_model.specs.declared.view.ClientView.{ClientView}
 use Rattle.rep_model.specs.Views.{view, clients}
 use Rattle.sn_local.specs.declared.config.Addr.{Addr}
@@ -45,7 +45,7 @@ use Rattle.sn_local.specs.declared.local.Awaited.TheVariants.{Topic, Message}
 use Rattle.sn_local.specs.declared.local.LocalChange.TheVariants.{Bind, Unbind, Time, Heard, Resent, Ask, EndDialog}
 use Rattle.sn_local.specs.declared.local.Request.{Request}
 use Rattle.sn_local.specs.declared.local.WillDialog.{WillDialog}
-use Rattle.sn_flow.specs.declared.registration.NamedId.{NamedId}
+use Rattle.sn_subscribe.specs.declared.registration.NamedId.{NamedId}
 use Rattle.sn_plan.specs.declared.row.Row.{Row}
 use Rattle.sn_flow.specs.Accept.{will_after, unknowing, going_on, as_asked, accepted, cleared, accept, has_no_room}
 use Rattle.sn_plan.specs.Asking.{qos_asked, name_asked, topics_asked, id_in}
@@ -57,10 +57,10 @@ use Rattle.sn_local.specs.Locals.{Local}
 use Rattle.sn_plan.specs.Names.{name_of}
 use Rattle.sn_plan.specs.Others.{is_up}
 use Rattle.sn_local.specs.Seen.{Seen, seen_of}
-use Rattle.sn_flow.specs.Registration.{entry_id, new_id, entry_or_free, id_for, registered, register_name, register as register_draft}
+use Rattle.sn_subscribe.specs.Registration.{entry_id, new_id, entry_or_free, id_for, registered, register_name, register as register_draft}
 use Rattle.sn_plan.specs.Rows.{row_of, row_of_none, heard_row, turned_away, stray}
-use Rattle.sn_flow.specs.Subscription.{suback, refused, fixed_id, id_in_full, id_asked, subscribe_change, subscribed, subscribe_to, subscribe_asked, subscribe_at, subscribe as subscribe_draft, unsubscribe_change, unsubscribe_asked, unsubscribe as unsubscribe_draft}
-use Rattle.sn_flow.specs.TopicRows.{register_of, register, subscribe_of, subscribe, unsubscribe_of, unsubscribe}
+use Rattle.sn_subscribe.specs.Subscription.{suback, refused, fixed_id, id_in_full, id_asked, subscribe_change, subscribed, subscribe_to, subscribe_asked, subscribe_at, subscribe as subscribe_draft, unsubscribe_change, unsubscribe_asked, unsubscribe as unsubscribe_draft}
+use Rattle.sn_subscribe.specs.TopicRows.{register_of, register, subscribe_of, subscribe, unsubscribe_of, unsubscribe}
 use Rattle.sn_local.specs.Timers.{started}
 use Rattle.sn_local.specs.WillDialogs.{dialog_at}
 use Rattle.sn_flow.specs.Wills.{congestion, not_supported, dismissed, concluded, ask_message, topic_given, topic_row, topic_in, topic_at, will_topic, will_of, message_row, message_in, message_at, will_msg, topic_update_of, will_topic_update, message_update_of, will_msg_update}
@@ -69,11 +69,11 @@ use Rattle.sn_publish.specs.declared.meaning.Meant.{Meant}
 use Rattle.sn_publish.specs.declared.meaning.Meant.TheVariants as meanings
 use Rattle.sn_exchange.specs.declared.peer.Peer.{Peer}
 use Rattle.sn_exchange.specs.declared.form.Form.{Form}
-use Rattle.sn_exchange.specs.Acknowledging.{same_phase, if_awaits, awaiting, put_of, put_awaiting, over, done, told, entry_by_kind, entry_if_normal, entry_published, forgotten, puback_put, puback_of, pubrel_sent, released, awaiting_pubrec, is_at_two, pubrec_again, pubrec_of, pubcomp_of, registered as registered_by, regack_put, regack_of, acknowledge}
+use Rattle.sn_deliver.specs.Acknowledging.{same_phase, if_awaits, awaiting, put_of, put_awaiting, over, done, told, entry_by_kind, entry_if_normal, entry_published, forgotten, puback_put, puback_of, pubrel_sent, released, awaiting_pubrec, is_at_two, pubrec_again, pubrec_of, pubcomp_of, registered as registered_by, regack_put, regack_of, acknowledge}
 use Rattle.sn_exchange.specs.Exchanges.{same_name, put_named, put_left, message_of, is_open_in, if_open, open_exchange}
-use Rattle.sn_deliver.specs.Following.{peer_at}
+use Rattle.sn_exchange.specs.Following.{peer_at}
 use Rattle.sn_exchange.specs.Forms.{form_again}
-use Rattle.sn_deliver.specs.Laws.{AreApart}
+use Rattle.step_laws.specs.Laws.{AreApart}
 use Rattle.sn_publish.specs.Publishing.{topic_meant, within_limit, publication_meant, spread, spread_once, spread_twice, publish_at, publish_meant, publish, spread_meant, publish_unconnected, release, pubrel}
 use Rattle.sn_publish.specs.Recipients.{admitted, qos_at, qos_in, qos_for, message_for, put_for, puts_among, puts_for, is_another, puts_of_will}
 use Rattle.sn_deliver.specs.Serving.{publish_of, publish_in_at, publish_in, pubrel_of, ack_of, ack_in}

@@ -3,19 +3,19 @@ use Rattle.std.proofs.Common.{◌≡◌, ℕ, Bool, true, false, cond, ◌&&◌,
 use Rattle.std.specs.List.{AllByRecursion, list_all, find}
 use Rattle.std.proofs.lemmas.Bool.{and_parts, and_from}
 use Rattle.sn_session.specs.declared.session.Session.{Session}
-use Rattle.sn_session.specs.declared.topics.TopicEntry.{TopicEntry}
-use Rattle.sn_session.specs.declared.subscriptions.Subscription.{Subscription}
+use Rattle.sn_tables.specs.declared.topics.TopicEntry.{TopicEntry}
+use Rattle.sn_tables.specs.declared.subscriptions.Subscription.{Subscription}
 use Rattle.sn_session.specs.declared.will.Will.{Will}
 use Rattle.sn_session.specs.declared.will.WillTopic.{WillTopic}
 use Rattle.sn_session.specs.declared.change.SessionOp.{SessionOp}
 use Rattle.sn_session.specs.declared.change.SessionOp.TheVariants.{Take, Presence as SetPresence, Register, Subscribe, Unsubscribe, WillTopic as SetWillTopic, WillMsg, Received, Released, Outbound as SetOutbound}
-use Rattle.sn_flow.proofs.Entered.{all-entered, all-filtered}
-use Rattle.sn_session.specs.Topics.{unknown, topic_cmp}
-use Rattle.sn_session.specs.Subscriptions.{subscription_cmp}
+use Rattle.sn_plan.proofs.Entered.{all-entered, all-filtered}
+use Rattle.sn_tables.specs.Topics.{unknown, topic_cmp}
+use Rattle.sn_tables.specs.Subscriptions.{subscription_cmp}
 use Rattle.sn_session.specs.Wills.{with_will_topic, with_will_message}
 use Rattle.sn_session.specs.Session.{empty_session, is_full, changed, applied}
-use Rattle.sn_session.specs.Levels.{is_qos}
-use Rattle.rep_ops.specs.Ranges.{is_message, is_topic, is_subscription, is_will, is_will_topic, is_exchange, is_session, is_change}
+use Rattle.sn_tables.specs.Levels.{is_qos}
+use Rattle.rep_op.specs.Ranges.{is_message, is_topic, is_subscription, is_will, is_will_topic, is_exchange, is_session, is_change}
 
 -- the parts of a session in range
 pub record Fine (s : Session) : Type 0 where

@@ -5,17 +5,17 @@ use Rattle.std.proofs.lemmas.Bool.{and_parts, or_parts}
 use Rattle.std.proofs.lemmas.List.Folds.{list_any-append}
 use Rattle.sn_session.specs.declared.change.SessionOp.{SessionOp}
 use Rattle.sn_frame.specs.declared.frame.Frame.{Frame}
-use Rattle.rep_ops.specs.declared.op.Put.{Put}
-use Rattle.rep_ops.specs.WellMade.{is_put}
+use Rattle.rep_op.specs.declared.op.Put.{Put}
+use Rattle.rep_op.specs.WellMade.{is_put}
 use Rattle.sn_local.specs.declared.config.Addr.{Addr}
 use Rattle.sn_plan.specs.declared.draft.NewPut.{NewPut}
 use Rattle.sn_local.specs.declared.local.LocalChange.{LocalChange}
 use Rattle.sn_local.specs.declared.local.LocalChange.TheVariants.{Ask}
 use Rattle.sn_plan.specs.Names.{name_of}
 use Rattle.sn_plan.specs.Drafts.{Drafted, nothing, changed, changed_if, acked, acked_all, put_all, sent, moved}
-use Rattle.sn_flow.proofs.Lists.{all-append, all-both, all-given}
+use Rattle.sn_plan.proofs.Lists.{all-append, all-both, all-given}
 use Rattle.sn_exchange.specs.Exchanges.{same_name, is_done, is_left, left}
-use Rattle.sn_deliver.specs.Laws.{AreApart}
+use Rattle.step_laws.specs.Laws.{AreApart}
 use Rattle.plan_laws.specs.KeepsWell.{is_asked}
 use Rattle.plan_laws.proofs.Sessions.{IsChange}
 use Rattle.plan_laws.proofs.Kept.{IsWell}

@@ -12,12 +12,12 @@ use Rattle.sn_session.specs.declared.change.SessionOp.TheVariants.{Presence}
 use Rattle.sn_frame.specs.declared.frame.Frame.{Frame}
 use Rattle.sn_frame.specs.declared.frame.Frame.TheVariants as frames
 use Rattle.sn_frame.specs.FlagBits.{qos_of}
-use Rattle.rep_ops.specs.declared.op.Op.{Op}
+use Rattle.rep_op.specs.declared.op.Op.{Op}
 use Rattle.rep_ops.specs.Making.{AreWellMade, AreApart}
-use Rattle.sn_session.specs.Levels.{is_qos}
-use Rattle.rep_ops.specs.Ranges.{is_message, is_will}
-use Rattle.rep_ops.specs.Sets.{Same}
-use Rattle.rep_ops.specs.WellMade.{is_well_made}
+use Rattle.sn_tables.specs.Levels.{is_qos}
+use Rattle.rep_op.specs.Ranges.{is_message, is_will}
+use Rattle.rep_op.specs.Sets.{Same}
+use Rattle.rep_op.specs.WellMade.{is_well_made}
 use Rattle.rep_model.specs.Views.{view, clients}
 use Rattle.sn_local.specs.declared.config.Addr.{Addr}
 use Rattle.sn_plan.specs.declared.draft.NewPut.{NewPut}
@@ -41,18 +41,18 @@ use Rattle.sn_local.specs.Seen.{Seen, seen_of}
 use Rattle.sn_plan.specs.Plans.{plan_of, plan_of_puts, plan_without}
 use Rattle.sn_plan.specs.Rows.{row_of, plan_for, plan_of_row}
 use Rattle.sn_local.specs.WillDialogs.{is_elsewhere, dialogs_elsewhere, dialog_change, dialogs_after}
-use Rattle.sn_flow.proofs.Flushness.{flush-start, flush-taken}
-use Rattle.sn_flow.proofs.Freshness.{plan-fresh}
-use Rattle.sn_flow.proofs.Lists.{and_then-some, map-some, all-append}
-use Rattle.sn_flow.proofs.Stepping.{step-flush}
-use Rattle.sn_deliver.specs.declared.due.Due.{Due}
-use Rattle.sn_deliver.specs.declared.due.Due.TheVariants as dues
-use Rattle.sn_deliver.specs.Due.{elapsed, first_due}
-use Rattle.sn_deliver.specs.Following.{peer_at, followed_for, followed, deliver_next}
+use Rattle.row_laws.proofs.Flushness.{flush-start, flush-taken}
+use Rattle.row_laws.proofs.Freshness.{plan-fresh}
+use Rattle.sn_plan.proofs.Lists.{and_then-some, map-some, all-append}
+use Rattle.row_laws.proofs.Stepping.{step-flush}
+use Rattle.sn_tick.specs.declared.due.Due.{Due}
+use Rattle.sn_tick.specs.declared.due.Due.TheVariants as dues
+use Rattle.sn_tick.specs.Due.{elapsed, first_due}
+use Rattle.sn_exchange.specs.Following.{peer_at, followed_for, followed, deliver_next}
 use Rattle.sn_publish.specs.Recipients.{is_another}
 use Rattle.sn_deliver.specs.Steps.{row_for, step}
-use Rattle.sn_deliver.specs.Ticking.{dialog_ended, dialogs_ended, needs_timer, timer_begun, cleaned, may_advertise, advertised_to, advertised, will_puts, lost, retried, plan_due, plan_if_due, tick}
-use Rattle.sn_deliver.proofs.Drafting.{step-drafted, tick-drafted}
+use Rattle.sn_tick.specs.Ticking.{dialog_ended, dialogs_ended, needs_timer, timer_begun, cleaned, may_advertise, advertised_to, advertised, will_puts, lost, retried, plan_due, plan_if_due, tick}
+use Rattle.step_laws.proofs.Drafting.{step-drafted, tick-drafted}
 use Rattle.plan_laws.specs.KeepsWell.{is_asked, AreAsked, KeepsWell}
 use Rattle.plan_laws.proofs.Sessions.{Fine}
 use Rattle.plan_laws.proofs.Kept.{seen-fine, pending-well, pending-apart}

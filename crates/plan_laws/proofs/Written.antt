@@ -11,16 +11,15 @@ use Rattle.sn_session.specs.declared.session.Session.{Session}
 use Rattle.sn_session.specs.declared.change.SessionOp.{SessionOp}
 use Rattle.sn_session.specs.declared.change.SessionOp.TheVariants.{Take, Presence as SetPresence, Register, Subscribe, Unsubscribe, WillTopic as SetWillTopic, WillMsg, Received, Released, Outbound as SetOutbound}
 use Rattle.sn_session.specs.Session.{applied, empty_session, is_take}
-use Rattle.rep_ops.specs.declared.op.Stamp.{Stamp}
-use Rattle.rep_ops.specs.declared.op.Put.{Put}
-use Rattle.rep_ops.specs.declared.op.Op.{Op}
-use Rattle.rep_ops.specs.declared.op.Op.TheVariants.{Session as OfSession, Put as OfPut, Ack}
-use Rattle.rep_ops.specs.Deltas.{ShareName, HasTwice}
+use Rattle.rep_op.specs.declared.op.Stamp.{Stamp}
+use Rattle.rep_op.specs.declared.op.Put.{Put}
+use Rattle.rep_op.specs.declared.op.Op.{Op}
+use Rattle.rep_op.specs.declared.op.Op.TheVariants.{Session as OfSession, Put as OfPut, Ack}
+use Rattle.rep_op.specs.Orders.{ShareName, HasTwice, put_cmp}
 use Rattle.rep_ops.specs.Making.{AreWellMade, AreApart}
-use Rattle.rep_ops.specs.Ranges.{is_change, is_session}
-use Rattle.rep_ops.specs.Orders.{put_cmp}
-use Rattle.rep_ops.specs.Sets.{operation_at, put_at}
-use Rattle.rep_ops.specs.WellMade.{is_stamp, is_counted, is_put, is_well_made}
+use Rattle.rep_op.specs.Ranges.{is_change, is_session}
+use Rattle.rep_op.specs.Sets.{operation_at, put_at}
+use Rattle.rep_op.specs.WellMade.{is_stamp, is_counted, is_put, is_well_made}
 use Rattle.rep_ops.proofs.Rising.{all_at}
 use Rattle.rep_model.specs.declared.view.ClientView.{ClientView}
 use Rattle.rep_model.specs.Fresh.{one_more, next_epoch, next_seq, greatest_epoch, largest, seq_of}
@@ -36,9 +35,9 @@ use Rattle.sn_plan.specs.Own.{IsFresh, AreFresh}
 use Rattle.sn_local.specs.Seen.{seen_of}
 use Rattle.sn_plan.specs.Plans.{plan_of}
 use Rattle.sn_local.proofs.Entries.{same_client-itself, at_own}
-use Rattle.sn_flow.proofs.Lists.{and_then-some, map-some, all-append, all-weaken, all-given}
-use Rattle.sn_flow.proofs.Names.{IsWritten, start-written}
-use Rattle.sn_flow.proofs.Planned.{IsNumbered, puts-behind, Parts, planned-parts}
+use Rattle.sn_plan.proofs.Lists.{and_then-some, map-some, all-append, all-weaken, all-given}
+use Rattle.row_laws.proofs.Names.{IsWritten, start-written}
+use Rattle.row_laws.proofs.Planned.{IsNumbered, puts-behind, Parts, planned-parts}
 use Rattle.sn_exchange.specs.Exchanges.{same_name}
 use Rattle.plan_laws.proofs.Sessions.{Fine, IsChange, fine-from, fine-to, applied-fine}
 use Rattle.plan_laws.proofs.Kept.{visible-made, seen-fine}

@@ -1,7 +1,7 @@
 -- What holds of the clients that are bound at a gateway.
 use Rattle.std.specs.Prelude.{◌≡◌, ℕ, true, List}
 use Rattle.std.specs.List.{AllByRecursion}
-use Rattle.rep_ops.specs.declared.op.Op.{Op}
+use Rattle.rep_op.specs.declared.op.Op.{Op}
 use Rattle.rep_model.specs.Views.{view}
 use Rattle.sn_local.specs.declared.local.Binding.{Binding}
 use Rattle.sn_local.specs.Bindings.{is_owned}
@@ -15,4 +15,5 @@ IsClientUp g S c = (is_owned g (seen_of S) c ≡ true) × (can_wake (view c S).s
 
 -- and so is each client that is bound
 abbrev pub IsUp : ℕ → List Op → Local → Type 0
-IsUp g S local = AllByRecursion (λ (binding : Binding). IsClientUp g S binding.client) local.bindings
+IsUp g S local =
+    AllByRecursion (λ (binding : Binding). IsClientUp g S binding.client) local.bindings

@@ -1,9 +1,9 @@
 -- What holds of a gateway in every run, and what its plans are made from.
 use Rattle.std.specs.Prelude.{ℕ, ◌≤◌, Bool, true, List, IsTrue}
 use Rattle.std.specs.List.{AllByRecursion}
-use Rattle.rep_ops.specs.declared.op.Op.{Op}
+use Rattle.rep_op.specs.declared.op.Op.{Op}
 use Rattle.rep_ops.specs.Making.{AreWellMade}
-use Rattle.sn_session.specs.Levels.{is_qos}
+use Rattle.sn_tables.specs.Levels.{is_qos}
 use Rattle.sn_local.specs.declared.local.Awaited.{Awaited}
 use Rattle.sn_local.specs.declared.local.Awaited.TheVariants.{Topic, Message}
 use Rattle.sn_local.specs.declared.local.WillDialog.{WillDialog}
@@ -17,10 +17,11 @@ is_asked (Message topic) = is_qos topic.qos
 
 -- and so in every dialog
 abbrev pub AreAsked : List WillDialog → Type 0
-AreAsked dialogs = AllByRecursion (λ (dialog : WillDialog). IsTrue (is_asked dialog.awaited)) dialogs
+AreAsked dialogs =
+    AllByRecursion (λ (dialog : WillDialog). IsTrue (is_asked dialog.awaited)) dialogs
 
--- the gateway has a number from 1 on; what it has written itself reads back; what it has taken is well made; and so are the topics
--- of wills that it was given
+-- the gateway has a number from 1 on; what it has written itself reads back; what it has taken is
+-- well made; and so are the topics of wills that it was given
 pub record KeepsWell (g : ℕ) (S : List Op) (local : Local) : Type 0 where
   pub numbered : 1 ≤ g
   pub flush : AreFlush g S

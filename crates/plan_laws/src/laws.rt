@@ -1,11 +1,12 @@
-//! The laws. Each function does nothing; its contract is a law, proved for every row of the step table.
+//! The laws. Each function does nothing; its contract is a law, proved for every row of the step
+//! table.
 
 ghost use Rattle.std.specs.Prelude.{◌≡◌, ℕ, ◌≤◌, ◌++◌, true, List, [], Some};
 ghost use Rattle.sn_topic.specs.Table.{Entries};
 ghost use Rattle.sn_session.specs.declared.session.Session.{Session};
 ghost use Rattle.sn_frame.specs.declared.frame.Frame.{Frame};
-ghost use Rattle.rep_ops.specs.declared.op.Op.{Op};
-ghost use Rattle.rep_ops.specs.Sets.{Same};
+ghost use Rattle.rep_op.specs.declared.op.Op.{Op};
+ghost use Rattle.rep_op.specs.Sets.{Same};
 ghost use Rattle.rep_ops.specs.Making.{AreApart, AreWellMade, IsDeltaOf};
 ghost use Rattle.rep_model.specs.Views.{view};
 ghost use Rattle.sn_local.specs.declared.config.Addr.{Addr};
@@ -17,12 +18,13 @@ ghost use Rattle.sn_plan.specs.Others.{is_up};
 ghost use Rattle.sn_plan.specs.Own.{AddsNone};
 ghost use Rattle.sn_local.specs.Seen.{Seen, seen_of};
 ghost use Rattle.sn_deliver.specs.Steps.{step};
-ghost use Rattle.sn_deliver.specs.Ticking.{tick};
+ghost use Rattle.sn_tick.specs.Ticking.{tick};
 ghost use Rattle.plan_laws.specs.KeepsWell.{KeepsWell};
 ghost use Rattle.plan_laws.specs.BoundUp.{IsUp};
 
-/// The operations of a plan can always be written: of each frame and of each tick, at a gateway that
-/// keeps well, they are well made, and no two of them have a name in common, acknowledgements neither.
+/// The operations of a plan can always be written: of each frame and of each tick, at a gateway
+/// that keeps well, they are well made, and no two of them have a name in common, acknowledgements
+/// neither.
 pub fn every_plan()
     ensures steps { (g : ℕ) (predefined : Entries) (S : List Op) (local : Local) (a : Addr)
         (frame : Frame) (now : ℕ) (plan : Plan) → KeepsWell g S local
@@ -33,8 +35,8 @@ pub fn every_plan()
         → AreApart plan.ops }
 {}
 
-/// A gateway keeps well, from its start on: when it takes what a step or a tick of its own made, and when
-/// it takes a delta that has nothing new under its own stamps.
+/// A gateway keeps well, from its start on: when it takes what a step or a tick of its own made,
+/// and when it takes a delta that has nothing new under its own stamps.
 pub fn keeps_well()
     ensures start { (g : ℕ) → 1 ≤ g → KeepsWell g [] no_local }
     ensures steps { (g : ℕ) (predefined : Entries) (S : List Op) (local : Local) (a : Addr)
@@ -50,10 +52,10 @@ pub fn keeps_well()
         → KeepsWell g (S ++ delta) (owned g seen local) }
 {}
 
-/// A client that is bound at a gateway is owned by it, and is Active, Asleep or Awake: from its start on,
-/// behind each step and each tick that it carries out, and behind each delta of others that it takes, which
-/// ends the bindings of the clients that it owns no more. So a frame from a bound address finds a session,
-/// and a client that is up.
+/// A client that is bound at a gateway is owned by it, and is Active, Asleep or Awake: from its
+/// start on, behind each step and each tick that it carries out, and behind each delta of others
+/// that it takes, which ends the bindings of the clients that it owns no more. So a frame from a
+/// bound address finds a session, and a client that is up.
 pub fn bound_up()
     ensures start { (g : ℕ) → IsUp g [] no_local }
     ensures steps { (g : ℕ) (predefined : Entries) (S : List Op) (local : Local) (a : Addr)

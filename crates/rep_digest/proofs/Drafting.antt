@@ -6,8 +6,8 @@ use Rattle.std.specs.Ordering.{nat_cmp}
 use Rattle.std.proofs.lemmas.Bool.{or_left, or_right, lt-ltb, ne_eqb, and_from, and_parts}
 use Rattle.std.proofs.lemmas.List.Elements.{filter_map-append}
 use Rattle.std.proofs.lemmas.List.Sums.{fold-append}
-use Rattle.sn_session.specs.inner.Tables.{IsAt, IsGap}
-use Rattle.rep_ops.specs.declared.op.Put.{Put}
+use Rattle.sn_tables.specs.inner.Tables.{IsAt, IsGap}
+use Rattle.rep_op.specs.declared.op.Put.{Put}
 use Rattle.rep_digest.specs.declared.groups.Acknowledged.{Acknowledged}
 use Rattle.rep_digest.specs.declared.entry.OriginEntry.{OriginEntry}
 use Rattle.rep_digest.specs.Digests.{has_ranges}

@@ -3,15 +3,15 @@ use Rattle.std.proofs.Common.{◌≡◌, ℕ, ◌<◌, ◌^◌, true, false, ◌
 use Rattle.std.specs.Prelude.{nat_le}
 use Rattle.std.specs.Int.{w16, w32, w64, to_be_bytes}
 use Rattle.std.proofs.lemmas.Bool.{and_parts, and_from, ne_eqb, eqb-false}
-use Rattle.rep_ops.specs.ClientIds.{IsClientId}
-use Rattle.rep_ops.specs.declared.op.Stamp.{Stamp}
-use Rattle.rep_ops.specs.Reading.{both, made, ranged, octet_at, number_at, is_counted, client_at, range_at}
-use Rattle.rep_ops.specs.Spelling.{client_octets}
-use Rattle.rep_ops.proofs.Laws.{Law, both_law, made_law, ranged_law, same_law, octet_law, number_law, wide16, wide32, wide64}
-use Rattle.rep_ops.proofs.Fields.{one_octet, IsOctet, client_law}
-use Rattle.rep_ops.proofs.Parts.{IsOne, one_law, two_law}
-use Rattle.rep_ops.proofs.Tables.{FitsCounted, counted_law}
-use Rattle.rep_ops.proofs.Operations.{range_text, FitsRange, range_law}
+use Rattle.rep_op.specs.ClientIds.{IsClientId}
+use Rattle.rep_op.specs.declared.op.Stamp.{Stamp}
+use Rattle.rep_octets.specs.Reading.{both, made, ranged, octet_at, number_at, is_counted, client_at, range_at}
+use Rattle.rep_octets.specs.Spelling.{client_octets}
+use Rattle.rep_octets.proofs.Laws.{Law, both_law, made_law, ranged_law, same_law, octet_law, number_law, wide16, wide32, wide64}
+use Rattle.rep_octets.proofs.Fields.{one_octet, IsOctet, client_law}
+use Rattle.rep_octets.proofs.Parts.{IsOne, one_law, two_law}
+use Rattle.rep_octets.proofs.Tables.{FitsCounted, counted_law}
+use Rattle.rep_octets.proofs.Operations.{range_text, FitsRange, range_law}
 use Rattle.rep_digest.specs.declared.entry.OriginEntry.{OriginEntry}
 use Rattle.rep_digest.specs.declared.entry.ClientEntry.{ClientEntry}
 use Rattle.rep_digest.specs.Digests.{has_ranges}

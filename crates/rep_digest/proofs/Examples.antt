@@ -1,17 +1,15 @@
 -- Worked examples of the definitions.
-use Rattle.std.proofs.Common.{◌≡◌, ℕ, List, [], ◌∷◌, refl, true, false}
+use Rattle.std.proofs.Common.{◌≡◌, ℕ, List, [], ◌∷◌, refl, true}
 use Rattle.sn_session.specs.declared.change.SessionOp.TheVariants.{Take}
 use Rattle.sn_session.specs.Session.{empty_session}
-use Rattle.rep_ops.specs.declared.op.Op.{Op}
-use Rattle.rep_ops.specs.declared.op.Op.TheVariants.{Session as OfSession, Put as OfPut, Ack}
+use Rattle.rep_op.specs.declared.op.Op.{Op}
+use Rattle.rep_op.specs.declared.op.Op.TheVariants.{Session as OfSession}
 use Rattle.rep_model.specs.Views.{gapless}
 use Rattle.rep_digest.specs.Digests.{digest, origin_entries, numbers_from}
-use Rattle.rep_digest.specs.Answers.{covers_put, covers_acknowledgement}
 use Rattle.rep_digest.specs.Spelling.{spelling}
-use Rattle.rep_digest.specs.inner.Steps.{outside, left_by}
 
 -- a client `s1`
-abbrev s1 : List ℕ
+abbrev pub s1 : List ℕ
 s1 = 0x73 ∷ 0x31 ∷ []
 
 -- it connected for 60 seconds with a clean session
@@ -26,28 +24,3 @@ digest_octets =
 digest_spelled : spelling (digest (connected ∷ [])) ≡ digest_octets
 unfolding gapless origin_entries numbers_from
 digest_spelled = refl
-
--- of the messages 1 to 3 of gateway 2, 1 and 2 are acknowledged and 3 waits
-abbrev message : ℕ → Op
-message seq = OfPut s1 (record { origin = 2; seq = seq; topic = 0x74 ∷ []; qos = 1; body = [] })
-
-abbrev some_done : List Op
-some_done = message 3 ∷ Ack s1 2 1 2 ∷ []
-
--- message 3 is covered since it waits, and its acknowledgement is not
-put_covered : covers_put (digest some_done) s1 (3, 2) ≡ true
-unfolding gapless origin_entries numbers_from
-put_covered = refl
-
-ack_not_covered : covers_acknowledgement (digest some_done) s1 (3, 2) ≡ false
-unfolding gapless origin_entries numbers_from
-ack_not_covered = refl
-
--- so of the acknowledgements 1 to 4 the last two are left
-left : left_by (digest some_done) (Ack s1 2 1 4) ≡ Ack s1 2 3 4 ∷ []
-unfolding gapless origin_entries numbers_from
-left = refl
-
--- around 3 to 4 and 6 to 6
-around : outside (1, 7) ((3, 4) ∷ (6, 6) ∷ []) ≡ (1, 2) ∷ (5, 5) ∷ (7, 7) ∷ []
-around = refl

@@ -2,16 +2,14 @@
 use Rattle.std.proofs.Common.{◌≡◌, ℕ, zero, suc, false, if◌then◌else◌, List, [], ◌∷◌, ◌++◌, get_or, set, Some, None, refl, sym, ap, ◌∙◌, append-nil, Ordering, Less, Equal, Greater, is_eq}
 use Rattle.std.specs.List.{cons_option}
 use Rattle.std.specs.List.Sorted.{IsStrictlySortedBy}
-use Rattle.std.specs.Ordering.{ordering_reverse}
 use Rattle.std.proofs.lemmas.List.Elements.{filter_map-append}
 use Rattle.std.proofs.lemmas.Map.Text.{is_eq-slice_cmp}
-use Rattle.rep_ops.specs.declared.op.Op.{Op}
-use Rattle.rep_ops.specs.declared.op.Op.TheVariants.{Ack}
-use Rattle.rep_ops.specs.Orders.{client_cmp}
-use Rattle.rep_ops.specs.Sets.{same_client}
-use Rattle.rep_model.proofs.Readers.{client_total}
-use Rattle.sn_session.specs.inner.Tables.{AllAbove, IsAt, IsGap}
-use Rattle.sn_session.proofs.Ascending.{Ascends}
+use Rattle.rep_op.specs.declared.op.Op.{Op}
+use Rattle.rep_op.specs.declared.op.Op.TheVariants.{Ack}
+use Rattle.rep_op.specs.Orders.{client_cmp}
+use Rattle.rep_op.specs.Sets.{same_client}
+use Rattle.sn_tables.specs.inner.Tables.{AllAbove, IsAt, IsGap}
+use Rattle.sn_tables.proofs.Ascending.{Ascends}
 use Rattle.rep_digest.specs.declared.groups.Acknowledged.{Acknowledged}
 use Rattle.rep_digest.specs.inner.Steps.{acknowledged_by, group, groups}
 
@@ -19,15 +17,6 @@ pub ascends_from : (cs : List (List ℕ)) → IsStrictlySortedBy client_cmp cs �
 unfolding IsStrictlySortedBy
 ascends_from [] h = tt
 ascends_from (c ∷ cs) h = (h.0, ascends_from cs h.1)
-
--- the order tells whether the clients are the same
-pub same_by_order : (c d : List ℕ) → same_client c d ≡ is_eq (client_cmp d c)
-same_by_order c d = sym (is_eq-slice_cmp c d) ∙ ap is_eq (client_total.antisymm c d) ∙ back (client_cmp d c)
-  where
-    back : (r : Ordering) → is_eq (ordering_reverse r) ≡ is_eq r
-    back Less = refl
-    back Equal = refl
-    back Greater = refl
 
 module _ (W : List Op) (op : Op) where
   -- a client of whom the operation acknowledges nothing

@@ -1,14 +1,11 @@
-pub mod Covered
-pub mod Completing
+pub mod Waiting
+pub mod Counted
 pub mod Entries
 pub mod Format
 pub mod Grouping
-pub mod Finding
 pub mod Occurring
-pub mod Reaching
 pub mod Drafting
 pub mod Said
 pub mod Made
 pub mod Worked
-pub mod Left
 pub mod Examples

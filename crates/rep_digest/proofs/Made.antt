@@ -4,17 +4,17 @@ use Rattle.std.specs.Prelude.{IsTrue}
 use Rattle.std.specs.List.{filter_map, AllByRecursion}
 use Rattle.std.specs.List.Sorted.{IsStrictlySortedBy}
 use Rattle.std.proofs.lemmas.Bool.{and_parts, and_from, or_left, or_right}
-use Rattle.rep_ops.specs.ClientIds.{IsClientId}
+use Rattle.rep_op.specs.ClientIds.{IsClientId}
 use Rattle.sn_session.specs.declared.change.SessionOp.{SessionOp}
-use Rattle.rep_ops.specs.declared.op.Stamp.{Stamp}
-use Rattle.rep_ops.specs.declared.op.Put.{Put}
-use Rattle.rep_ops.specs.declared.op.Op.{Op}
-use Rattle.rep_ops.specs.declared.op.Op.TheVariants.{Session as OfSession, Put as OfPut, Ack}
-use Rattle.rep_ops.specs.Orders.{client_cmp, operation_cmp, put_cmp}
-use Rattle.rep_ops.specs.Sets.{same_client, operation_of, operation_at, put_of, put_at, acknowledges, is_acknowledged}
+use Rattle.rep_op.specs.declared.op.Stamp.{Stamp}
+use Rattle.rep_op.specs.declared.op.Put.{Put}
+use Rattle.rep_op.specs.declared.op.Op.{Op}
+use Rattle.rep_op.specs.declared.op.Op.TheVariants.{Session as OfSession, Put as OfPut, Ack}
+use Rattle.rep_op.specs.Orders.{client_cmp, operation_cmp, put_cmp, stamp_cmp}
+use Rattle.rep_op.specs.Sets.{same_client, operation_of, operation_at, put_of, put_at, acknowledges, is_acknowledged}
 use Rattle.rep_ops.specs.Making.{AreWellMade}
-use Rattle.rep_ops.specs.WellMade.{is_well_made}
-use Rattle.rep_ops.specs.Values.{AreValues, IsValue}
+use Rattle.rep_op.specs.WellMade.{is_well_made}
+use Rattle.rep_op.specs.Values.{AreValues, IsValue}
 use Rattle.rep_model.specs.Views.{gapless, then_more, visible, history_at, history, pending, clients, names_client, is_named}
 use Rattle.rep_model.specs.Limits.{acknowledged}
 use Rattle.rep_model.specs.Ranges.{in_ranges, is_within, AreApartFrom, AreApart}
@@ -23,12 +23,11 @@ use Rattle.rep_model.proofs.Readers.{stamp_total, operation_exact, put_exact, sa
 use Rattle.rep_model.proofs.Joins.{all-moved as all_moved}
 use Rattle.rep_model.proofs.Ranges.{apart-joined}
 use Rattle.rep_model.proofs.Greatest.{has, greatest-has}
-use Rattle.rep_ops.specs.Orders.{stamp_cmp}
 use Rattle.rep_model.proofs.Named.{clients-named, clients-ascend}
 use Rattle.rep_model.proofs.Limits.{in-acknowledged, apart-acknowledged}
 use Rattle.rep_digest.specs.Digests.{number_of, waiting, origin_entry, has_ranges, numbers_from, origin_entries, client_entry, digest}
 use Rattle.rep_digest.specs.WellMade.{IsRange, IsOrigin, IsSeen, IsEntry, ClientsAscend, IsDigest}
-use Rattle.rep_digest.proofs.Covered.{waiting_there}
+use Rattle.rep_digest.proofs.Waiting.{waiting_there}
 use Rattle.rep_digest.proofs.Said.{are_numbers}
 use Rattle.rep_digest.proofs.Occurring.{origins_up}
 

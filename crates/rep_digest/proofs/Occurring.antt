@@ -5,11 +5,11 @@ use Rattle.std.specs.List.{insert, find}
 use Rattle.std.specs.Cmp.{nat_cmp_is, on_total}
 use Rattle.std.proofs.lemmas.Bool.{and_from, or_left, lt-ltb, ne_eqb, eqb-false}
 use Rattle.std.proofs.lemmas.Cmp.{nat_cmp_total}
-use Rattle.rep_ops.proofs.Names.{nat_equal, nat_less, same_nat}
-use Rattle.sn_session.specs.Tables.{is_ascending}
-use Rattle.sn_session.specs.inner.Tables.{AllAbove, IsAt, IsGap}
-use Rattle.sn_session.proofs.Ascending.{Ascends, from_test}
-use Rattle.sn_session.proofs.Places.{find_at, find_gap}
+use Rattle.rep_op.proofs.Names.{nat_equal, nat_less, same_nat}
+use Rattle.sn_tables.specs.Tables.{is_ascending}
+use Rattle.sn_tables.specs.inner.Tables.{AllAbove, IsAt, IsGap}
+use Rattle.sn_tables.proofs.Ascending.{Ascends, from_test}
+use Rattle.sn_tables.proofs.Places.{find_at, find_gap}
 use Rattle.rep_digest.specs.declared.entry.OriginEntry.{OriginEntry}
 use Rattle.rep_digest.specs.Digests.{has_ranges, numbers_from}
 use Rattle.rep_digest.specs.WellMade.{OriginsAscend}

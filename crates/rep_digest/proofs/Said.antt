@@ -5,14 +5,14 @@ use Rattle.std.specs.List.{list_any, filter_map, cons_option, AllByRecursion}
 use Rattle.std.specs.Ordering.{ordering_then}
 use Rattle.std.specs.FinMap.Entries.{below_all, is_sorted}
 use Rattle.std.proofs.lemmas.Bool.{and_parts, and_from, or_left, or_right, false_from_ne_true}
-use Rattle.rep_ops.specs.declared.op.Put.{Put}
-use Rattle.rep_ops.specs.declared.op.Op.{Op}
-use Rattle.rep_ops.specs.declared.op.Op.TheVariants.{Session as OfSession, Put as OfPut, Ack}
-use Rattle.rep_ops.specs.Orders.{put_cmp}
-use Rattle.rep_ops.specs.Sets.{same_client}
+use Rattle.rep_op.specs.declared.op.Put.{Put}
+use Rattle.rep_op.specs.declared.op.Op.{Op}
+use Rattle.rep_op.specs.declared.op.Op.TheVariants.{Session as OfSession, Put as OfPut, Ack}
+use Rattle.rep_op.specs.Orders.{put_cmp}
+use Rattle.rep_op.specs.Sets.{same_client}
 use Rattle.rep_ops.specs.Making.{AreWellMade}
-use Rattle.rep_ops.specs.WellMade.{is_well_made}
-use Rattle.rep_ops.proofs.Names.{made_range, nat_less, same_nat}
+use Rattle.rep_op.specs.WellMade.{is_well_made}
+use Rattle.rep_op.proofs.Names.{made_range, nat_less, same_nat}
 use Rattle.rep_ops.proofs.Rising.{Past, Rising}
 use Rattle.rep_model.specs.Views.{pending}
 use Rattle.rep_model.specs.Limits.{range_of}

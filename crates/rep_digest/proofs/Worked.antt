@@ -2,7 +2,7 @@
 use Rattle.std.proofs.Common.{◌≡◌, ℕ, zero, suc, ◌+◌, ◌<◌, List, [], ◌∷◌, ◌++◌, map, filter, length, take, get_or, refl, sym, ap, subst, ◌∙◌, arith}
 use Rattle.std.proofs.lemmas.List.{map-append, take_more}
 use Rattle.std.specs.List.{filter_map}
-use Rattle.rep_ops.specs.declared.op.Op.{Op}
+use Rattle.rep_op.specs.declared.op.Op.{Op}
 use Rattle.rep_ops.specs.Making.{IsDeltaOf}
 use Rattle.rep_ops.specs.Splitting.{all_of}
 use Rattle.rep_ops.proofs.Joined.{rising_ascending}
@@ -19,11 +19,11 @@ use Rattle.rep_digest.specs.declared.groups.Acknowledged.{Acknowledged}
 use Rattle.rep_digest.specs.declared.entry.ClientEntry.{ClientEntry}
 use Rattle.rep_digest.specs.Digests.{origin_entry, has_ranges, numbers_from, origin_entries, client_entry, digest}
 use Rattle.rep_digest.specs.inner.Steps.{group, groups, drafted, drafted_entry}
-use Rattle.rep_ops.specs.Values.{AreValues}
+use Rattle.rep_op.specs.Values.{AreValues}
 use Rattle.rep_digest.specs.WellMade.{IsDigest}
 use Rattle.rep_digest.proofs.Said.{group_ranges, ranges_rising, waiting_said}
 use Rattle.rep_digest.proofs.Made.{digest_made}
-use Rattle.rep_digest.proofs.Completing.{same_digest}
+use Rattle.rep_digest.proofs.Counted.{same_digest}
 
 module _ (K W : List Op) (d : IsDeltaOf (keep K) W) where
   -- what is handed out counts as what is kept

@@ -1,8 +1,8 @@
 -- The digest of a set: what a gateway has taken, in few words.
 use Rattle.std.specs.Prelude.{ℕ, zero, suc, ◌+◌, ◌==◌, Bool, ◌||◌, nat_lt, if◌then◌else◌, List, [], ◌∷◌, length, map, filter, Option, Some, None}
 use Rattle.std.specs.List.{filter_map}
-use Rattle.rep_ops.specs.declared.op.Put.{Put}
-use Rattle.rep_ops.specs.declared.op.Op.{Op}
+use Rattle.rep_op.specs.declared.op.Put.{Put}
+use Rattle.rep_op.specs.declared.op.Op.{Op}
 use Rattle.rep_model.specs.Views.{visible, history, pending, clients}
 use Rattle.rep_model.specs.Limits.{joined, acknowledged}
 use Rattle.rep_digest.specs.declared.entry.OriginEntry.{OriginEntry}
@@ -12,13 +12,15 @@ use Rattle.rep_digest.specs.declared.entry.ClientEntry.{ClientEntry}
 abbrev pub number_of : ℕ → Put → Option (ℕ × ℕ)
 number_of origin put = if origin == put.origin then Some (put.seq, put.seq) else None
 
--- the sequence numbers of an origin's messages that wait for the client, as ranges in ascending order that do not touch
+-- the sequence numbers of an origin's messages that wait for the client, as ranges in ascending
+-- order that do not touch
 abbrev pub waiting : List ℕ → ℕ → List Op → List (ℕ × ℕ)
 waiting c origin S = joined (filter_map (number_of origin) (pending c S))
 
 -- what the set says of an origin's messages for the client
 abbrev pub origin_entry : List ℕ → List Op → ℕ → OriginEntry
-origin_entry c S origin = record { origin = origin; acknowledged = acknowledged c origin S; waiting = waiting c origin S }
+origin_entry c S origin =
+    record { origin = origin; acknowledged = acknowledged c origin S; waiting = waiting c origin S }
 
 -- whether anything is said of the origin
 abbrev pub has_ranges : OriginEntry → Bool
@@ -33,9 +35,16 @@ numbers_from start (suc n) = start ∷ numbers_from (start + 1) n
 unfoldable pub origin_entries : List ℕ → List Op → List OriginEntry
 origin_entries c S = filter has_ranges (map (origin_entry c S) (numbers_from 1 255))
 
--- what the set says of a client: the visible stamp, how many of its operations are there without a gap, and its messages
+-- what the set says of a client: the visible stamp, how many of its operations are there without a
+-- gap, and its messages
 abbrev pub client_entry : List Op → List ℕ → ClientEntry
-client_entry S c = record { client = c; stamp = visible c S; prefix = length (history c S); origins = origin_entries c S }
+client_entry S c =
+    record {
+      client = c;
+      stamp = visible c S;
+      prefix = length (history c S);
+      origins = origin_entries c S;
+    }
 
 -- an entry for each client of the set, in ascending order
 abbrev pub digest : List Op → List ClientEntry

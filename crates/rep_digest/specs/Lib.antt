@@ -1,5 +1,4 @@
 pub mod Digests
-pub mod Answers
 pub mod WellMade
 pub mod Spelling
 pub mod Reading

@@ -3,10 +3,11 @@ use Rattle.std.specs.Prelude.{ℕ, ◌+◌, ◌==◌, Bool, true, ◌&&◌, if�
 use Rattle.std.specs.Int.{w16, w32, w64}
 use Rattle.std.specs.List.{list_all}
 use Rattle.std.specs.Ordering.{is_lt}
-use Rattle.rep_ops.specs.declared.fault.OpsFault.{OpsFault}
-use Rattle.rep_ops.specs.declared.op.Stamp.{Stamp}
-use Rattle.rep_ops.specs.Orders.{client_cmp}
-use Rattle.rep_ops.specs.Reading.{Reader, both, made, ranged, octet_at, number_at, is_counted, client_at, range_at, counted_by, follows_last, reading_of}
+use Rattle.rep_op.specs.declared.fault.OpsFault.{OpsFault}
+use Rattle.rep_op.specs.declared.op.Stamp.{Stamp}
+use Rattle.rep_op.specs.Orders.{client_cmp}
+use Rattle.rep_octets.specs.Reading.{Reader, both, made, ranged, octet_at, number_at, is_counted, client_at, range_at, counted_by}
+use Rattle.rep_ops.specs.Reading.{follows_last, reading_of}
 use Rattle.rep_digest.specs.declared.entry.OriginEntry.{OriginEntry}
 use Rattle.rep_digest.specs.declared.entry.ClientEntry.{ClientEntry}
 use Rattle.rep_digest.specs.Digests.{has_ranges}
@@ -22,11 +23,15 @@ origin_of x = record { origin = x.0; acknowledged = x.1.0; waiting = x.1.1 }
 
 -- an origin of which something is said
 unfoldable pub origin_at : Reader OriginEntry
-origin_at = ranged has_ranges (made origin_of (both (ranged is_counted octet_at) (both ranges_at ranges_at)))
+origin_at =
+    ranged has_ranges (made origin_of
+    (both (ranged is_counted octet_at) (both ranges_at ranges_at)))
 
 -- epoch, gateway and prefix are all 0, or none of them is
 abbrev pub is_seen : ℕ × (ℕ × ℕ) → Bool
-is_seen x = if x.0 == 0 then (x.1.0 == 0) && (x.1.1 == 0) else nat_le 1 x.1.0 && nat_le 1 x.1.1 && nat_le x.1.1 256
+is_seen x =
+    if x.0 == 0 then (x.1.0 == 0) && (x.1.1 == 0)
+    else nat_le 1 x.1.0 && nat_le 1 x.1.1 && nat_le x.1.1 256
 
 abbrev pub stamp_of : ℕ × (ℕ × ℕ) → Option Stamp
 stamp_of x = if x.0 == 0 then None else Some (record { epoch = x.0; gateway = x.1.0 })

@@ -2,8 +2,9 @@
 use Rattle.std.specs.Prelude.{ℕ, ◌+◌, ◌≤◌, List, ◌∷◌, ◌++◌, length, Option, Some, None}
 use Rattle.std.specs.List.{flat_map}
 use Rattle.byteorder.specs.Endian.{big_bytes}
-use Rattle.rep_ops.specs.declared.op.Stamp.{Stamp}
-use Rattle.rep_ops.specs.Spelling.{client_octets, text_of, max_octets}
+use Rattle.rep_op.specs.declared.op.Stamp.{Stamp}
+use Rattle.rep_octets.specs.Spelling.{client_octets}
+use Rattle.rep_ops.specs.Spelling.{text_of, max_octets}
 use Rattle.rep_digest.specs.declared.entry.OriginEntry.{OriginEntry}
 use Rattle.rep_digest.specs.declared.entry.ClientEntry.{ClientEntry}
 
@@ -30,7 +31,8 @@ seen_octets (Some stamp) prefix = big_bytes 8 stamp.epoch ++ stamp.gateway ∷ b
 
 -- an entry: client, stamp, prefix and origins
 abbrev pub entry_octets : ClientEntry → List ℕ
-entry_octets e = client_octets e.client ++ (seen_octets e.stamp e.prefix ++ origins_octets e.origins)
+entry_octets e =
+    client_octets e.client ++ (seen_octets e.stamp e.prefix ++ origins_octets e.origins)
 
 -- a digest is the text of its entries
 abbrev pub spelling : List ClientEntry → List ℕ

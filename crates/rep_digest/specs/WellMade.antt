@@ -2,9 +2,9 @@
 use Rattle.std.specs.Prelude.{◌≡◌, ℕ, ◌≤◌, ◌<◌, ◌^◌, List, [], ◌∷◌, Option, Some, None, IsTrue}
 use Rattle.std.specs.List.{AllByRecursion}
 use Rattle.std.specs.declared.cmp.Ordering.TheVariants.{Less}
-use Rattle.rep_ops.specs.ClientIds.{IsClientId}
-use Rattle.rep_ops.specs.declared.op.Stamp.{Stamp}
-use Rattle.rep_ops.specs.Orders.{client_cmp}
+use Rattle.rep_op.specs.ClientIds.{IsClientId}
+use Rattle.rep_op.specs.declared.op.Stamp.{Stamp}
+use Rattle.rep_op.specs.Orders.{client_cmp}
 use Rattle.rep_model.specs.Ranges.{AreApart}
 use Rattle.rep_digest.specs.declared.entry.OriginEntry.{OriginEntry}
 use Rattle.rep_digest.specs.declared.entry.ClientEntry.{ClientEntry}
@@ -27,7 +27,9 @@ pub record IsOrigin (o : OriginEntry) : Type 0 where
 -- no stamp and no prefix; or a stamp of which 1 to 256 operations are there without a gap
 abbrev pub IsSeen : Option Stamp → ℕ → Type 0
 IsSeen None prefix = prefix ≡ 0
-IsSeen (Some s) prefix = (1 ≤ s.epoch) × (s.epoch < 2 ^ 64) × (1 ≤ s.gateway) × (s.gateway < 2 ^ 8) × (1 ≤ prefix) × (prefix ≤ 256)
+IsSeen (Some s) prefix =
+    (1 ≤ s.epoch) × (s.epoch < 2 ^ 64) × (1 ≤ s.gateway) × (s.gateway < 2 ^ 8) × (1 ≤ prefix)
+    × (prefix ≤ 256)
 
 -- origins in strictly ascending order
 abbrev pub OriginsAscend : List OriginEntry → Type 0

@@ -1,7 +1,7 @@
 //! A digest.
 
 ghost use Rattle.std.specs.Prelude.{◌≡◌, ◌⊎◌, ◌++◌, List, Ok, Err, IfOk, IfErr, OnOk, OnErr};
-ghost use Rattle.rep_ops.specs.Reading.{Gives};
+ghost use Rattle.rep_octets.specs.Reading.{Gives};
 ghost use Rattle.rep_digest.specs.WellMade.{IsDigest};
 ghost use Rattle.rep_digest.specs.Spelling.{spelling, IsWithinLimit};
 ghost use Rattle.rep_digest.specs.Reading.{reading};
@@ -15,8 +15,8 @@ use rep_ops::OpsFault;
 use std::alloc::Global;
 use std::marker::Model;
 
-/// What a gateway has taken: an entry for each client, in ascending order. It is spelled in at most 8,388,608 octets.
-/// Contracts see the list of its entries.
+/// What a gateway has taken: an entry for each client, in ascending order. It is spelled in at most
+/// 8,388,608 octets. Contracts see the list of its entries.
 #[derive(Debug, Drop)]
 pub struct Digest {
     pub(crate) entries: Vec<ClientEntry>,
@@ -71,10 +71,11 @@ impl Digest {
 
     /// The digest that octets spell.
     ///
-    /// `Limit` for more than 8,388,608 octets; else the first of these from the left: `Version` for a version
-    /// other than 1, `Truncated` where the octets end, `Kind` for a value out of range (a length as soon as it
-    /// is read, any other value when it is whole), `Order` where clients, origins or ranges are out of order,
-    /// looked at when an entry is whole, and last `Trailing` for octets behind the digest.
+    /// `Limit` for more than 8,388,608 octets; else the first of these from the left: `Version` for
+    /// a version other than 1, `Truncated` where the octets end, `Kind` for a value out of range (a
+    /// length as soon as it is read, any other value when it is whole), `Order` where clients,
+    /// origins or ranges are out of order, looked at when an entry is whole, and last `Trailing`
+    /// for octets behind the digest.
     pub fn decode(alloc: Global, bytes: &[u8]) -> Result<Digest, OpsFault>
         // What is read is spelled so.
         ensures ok { IfOk result (λ d. bytes.now ≡ spelling d) }

@@ -1,7 +1,7 @@
 //! What is said of a client, worked out of its view and its acknowledgements.
 
 ghost use Rattle.std.specs.Prelude.{◌≡◌, ◌+◌, ◌==◌, ◌&&◌, nat_le, ◌++◌, ◌∷◌, [], List, IfOk, OnOk};
-ghost use Rattle.rep_ops.specs.declared.op.Put.{Put};
+ghost use Rattle.rep_op.specs.declared.op.Put.{Put};
 ghost use Rattle.rep_digest.specs.declared.groups.Acknowledged.{Acknowledged};
 ghost use Rattle.rep_digest.specs.inner.Steps.{with_number, drafted_origins, AreDrafted, drafted_entry};
 
@@ -76,7 +76,8 @@ fn note_waiting(
     Ok(())
 }
 
-/// Puts a range of acknowledgements behind those of its origin. The time is logarithmic, but for an origin that is new.
+/// Puts a range of acknowledgements behind those of its origin. The time is logarithmic, but for an
+/// origin that is new.
 fn note_range(
     alloc: Global,
     origins: &mut Vec<OriginEntry>,
@@ -107,7 +108,8 @@ fn note_range(
     Ok(())
 }
 
-/// Puts the number of a message behind those of its origin. The time is logarithmic, but for an origin that is new.
+/// Puts the number of a message behind those of its origin. The time is logarithmic, but for an
+/// origin that is new.
 fn note_put(alloc: Global, origins: &mut Vec<OriginEntry>, put: &Put) -> Result<(), NoMemory>
     requires { AreDrafted origins.old.items }
     ensures { (A : List Acknowledged) (P : List Put) → origins.old.items ≡ drafted_origins A P

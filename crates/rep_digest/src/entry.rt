@@ -5,8 +5,8 @@ ghost use Rattle.std.specs.Prelude.{◌≡◌};
 use octets::Sequence;
 use rep_ops::{ClientId, Stamp};
 
-/// What a digest says of one origin's messages for a client. Ranges of sequence numbers are in ascending order,
-/// and neither overlap nor touch.
+/// What a digest says of one origin's messages for a client. Ranges of sequence numbers are in
+/// ascending order, and neither overlap nor touch.
 #[derive(Debug, Drop)]
 pub struct OriginEntry {
     /// The gateway that made the messages.
@@ -18,11 +18,11 @@ pub struct OriginEntry {
 }
 
 impl OriginEntry {
-    ghost use Rattle.rep_digest.specs.Digests.{has_ranges as ranges_test};
+    ghost use Rattle.rep_digest.specs.Digests as spec;
 
     /// Whether anything is said of the origin.
     pub fn has_ranges(&self) -> bool
-        ensures { result ≡ ranges_test self.now }
+        ensures { result ≡ spec.has_ranges self.now }
     {
         self.acknowledged.len() > 0 || self.waiting.len() > 0
     }

@@ -2,12 +2,12 @@
 
 ghost use Rattle.std.specs.Prelude.{◌≡◌, ◌++◌, ◌∷◌, [], List, length, IfOk, OnOk};
 ghost use Rattle.std.specs.List.Sorted.{IsStrictlySortedBy};
-ghost use Rattle.sn_session.specs.inner.Tables.{IsPlace};
-ghost use Rattle.rep_ops.specs.declared.op.Op.{Op};
-ghost use Rattle.rep_ops.specs.declared.op.Op.TheVariants.{Ack as OfAck};
-ghost use Rattle.rep_ops.specs.Orders.{client_cmp};
+ghost use Rattle.sn_tables.specs.inner.Tables.{IsPlace};
+ghost use Rattle.rep_op.specs.declared.op.Op.{Op};
+ghost use Rattle.rep_op.specs.declared.op.Op.TheVariants.{Ack as OfAck};
+ghost use Rattle.rep_op.specs.Orders.{client_cmp};
 ghost use Rattle.rep_ops.specs.Splitting.{all_of};
-ghost use Rattle.rep_digest.specs.inner.Steps.{groups as all_groups};
+ghost use Rattle.rep_digest.specs.inner.Steps as spec;
 
 use octets::{NoMemory, Sequence};
 use rep_ops::{ClientId, Delta, Op};
@@ -28,7 +28,7 @@ pub fn acknowledgements(
     deltas: &[Delta],
 ) -> Result<Vec<Sequence<Acknowledged>>, NoMemory>
     requires { IsStrictlySortedBy client_cmp clients.now }
-    ensures { IfOk result (λ groups. groups.items ≡ all_groups clients.now (all_of deltas.now)) }
+    ensures { IfOk result (λ groups. groups.items ≡ spec.groups clients.now (all_of deltas.now)) }
 {
     let mut groups = no_groups(alloc, clients)?;
     for delta in deltas {
@@ -39,7 +39,7 @@ pub fn acknowledgements(
 
 /// No acknowledgement, for each client.
 fn no_groups(alloc: Global, clients: &[ClientId]) -> Result<Vec<Sequence<Acknowledged>>, NoMemory>
-    ensures { IfOk result (λ groups. groups.items ≡ all_groups clients.now []) }
+    ensures { IfOk result (λ groups. groups.items ≡ spec.groups clients.now []) }
 {
     let mut groups = Vec::with_capacity(alloc, clients.len())?;
     for _ in clients {
@@ -55,8 +55,8 @@ fn note_all(
     ops: &[Op],
 ) -> Result<(), NoMemory>
     requires { IsStrictlySortedBy client_cmp clients.now }
-    ensures { (W : List Op) → groups.old.items ≡ all_groups clients.now W
-        → OnOk result (groups.new.items ≡ all_groups clients.now (W ++ ops.now)) }
+    ensures { (W : List Op) → groups.old.items ≡ spec.groups clients.now W
+        → OnOk result (groups.new.items ≡ spec.groups clients.now (W ++ ops.now)) }
 {
     for op in ops {
         note(groups, clients, op)?;
@@ -71,8 +71,8 @@ fn note(
     op: &Op,
 ) -> Result<(), NoMemory>
     requires { IsStrictlySortedBy client_cmp clients.now }
-    ensures { (W : List Op) → groups.old.items ≡ all_groups clients.now W
-        → OnOk result (groups.new.items ≡ all_groups clients.now (W ++ op.now ∷ [])) }
+    ensures { (W : List Op) → groups.old.items ≡ spec.groups clients.now W
+        → OnOk result (groups.new.items ≡ spec.groups clients.now (W ++ op.now ∷ [])) }
 {
     match op {
         Op::Session { .. } => Ok(()),
@@ -101,8 +101,9 @@ fn note_range(
     range: Acknowledged,
 ) -> Result<(), NoMemory>
     requires { IsStrictlySortedBy client_cmp clients.now }
-    ensures { (W : List Op) → groups.old.items ≡ all_groups clients.now W
-        → OnOk result (groups.new.items ≡ all_groups clients.now (W ++ OfAck client.now range.origin
+    ensures { (W : List Op) → groups.old.items ≡ spec.groups clients.now W
+        → OnOk result (groups.new.items
+        ≡ spec.groups clients.now (W ++ OfAck client.now range.origin
         range.first range.last ∷ [])) }
 {
     match place(clients, client) {

@@ -1,23 +1,12 @@
-//! The laws of digests and answers. Each function does nothing; its contract is a law, proved for all sets.
+//! The law of the spelling of digests. Its function does nothing; its contract is a law, proved for
+//! all digests.
 
-ghost use Rattle.std.specs.Prelude.{◌≡◌, ◌++◌, ℕ, List, Ok};
-ghost use Rattle.rep_ops.specs.declared.op.Op.{Op};
-ghost use Rattle.rep_ops.specs.Sets.{Same};
-ghost use Rattle.rep_model.specs.Keep.{keep, CountsAs};
-ghost use Rattle.rep_digest.specs.Answers.{IsRest, IsAnswer};
+ghost use Rattle.std.specs.Prelude.{◌≡◌, ℕ, List, Ok};
 ghost use Rattle.rep_ops.specs.Reading.{AreOctets};
-ghost use Rattle.rep_digest.specs.Digests.{digest};
 ghost use Rattle.rep_digest.specs.WellMade.{IsDigest};
 ghost use Rattle.rep_digest.specs.Spelling.{spelling, IsWithinLimit};
 ghost use Rattle.rep_digest.specs.Reading.{reading};
 ghost use Rattle.rep_digest.specs.declared.entry.ClientEntry.{ClientEntry};
-
-/// An answer completes: T with the answer X of S to the digest of T keeps what T with all of S keeps, whatever Y comes
-/// later.
-pub fn answer_completes()
-    ensures { (S T X Y : List Op) → IsRest (digest T) (keep S) X
-        → Same (keep ((T ++ X) ++ Y)) (keep ((T ++ S) ++ Y)) }
-{}
 
 /// The reading of octets and the spelling of digests are one another's inverse.
 pub fn one_reading()
@@ -27,11 +16,4 @@ pub fn one_reading()
     // What is read off octets is spelled so.
     ensures spelled { (bytes : List ℕ) (d : List ClientEntry) → AreOctets bytes
         → reading bytes ≡ Ok d → IsDigest d × IsWithinLimit d × (bytes ≡ spelling d) }
-{}
-
-/// What counts as a set has its digest, and the answer of what counts as a set is the answer of the set.
-pub fn digest_laws()
-    ensures digest { (S K : List Op) → CountsAs S K → digest K ≡ digest S }
-    ensures answer { (d : List ClientEntry) (S K : List Op) (deltas : List (List Op)) →
-        CountsAs S K → IsAnswer d K deltas → IsAnswer d S deltas }
 {}

@@ -5,8 +5,10 @@ mod order;
 mod part;
 
 ghost use Rattle.std.specs.Prelude.{◌≡◌, []};
-ghost use Rattle.rep_ops.specs.Reading.{Gives, listed_at};
-ghost use Rattle.rep_digest.specs.Reading.{entry_at, may_follow as follow_test, reading};
+ghost use Rattle.rep_octets.specs.Reading.{Gives};
+ghost use Rattle.rep_ops.specs.Reading.{listed_at};
+ghost use Rattle.rep_digest.specs.Reading.{entry_at, reading};
+ghost use Rattle.rep_digest.specs.Reading as spec;
 
 use super::entry::ClientEntry;
 use entry::read_entry;
@@ -23,7 +25,7 @@ fn read_entries(
     count: u32,
     bytes: &[u8],
 ) -> Result<(Vec<ClientEntry>, &[u8]), OpsFault>
-    ensures { Gives (λ x. (x.0.items, x.1.now)) result (listed_at entry_at follow_test count []
+    ensures { Gives (λ x. (x.0.items, x.1.now)) result (listed_at entry_at spec.may_follow count []
         bytes.now) }
 {
     let mut entries = Vec::new(alloc);

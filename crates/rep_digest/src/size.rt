@@ -2,7 +2,7 @@
 
 ghost use Rattle.std.specs.Prelude.{◌≡◌, ◌↔◌, length, IsTrue};
 ghost use Rattle.std.specs.List.{flat_map};
-ghost use Rattle.rep_ops.specs.ClientIds.{IsClientId};
+ghost use Rattle.rep_op.specs.ClientIds.{IsClientId};
 ghost use Rattle.rep_digest.specs.Spelling.{ranges_octets, origin_octets, origins_octets, entry_octets, IsWithinLimit};
 ghost use Rattle.rep_digest.specs.inner.Spelling.{Leaves};
 

@@ -1,15 +1,17 @@
 //! The digest of what a replica keeps.
 
 ghost use Rattle.std.specs.Prelude.{◌≡◌, ◌<◌, ◌⊎◌, List, length, map, IfOk, IfErr};
-ghost use Rattle.rep_ops.specs.declared.op.Op.{Op};
+ghost use Rattle.rep_op.specs.declared.op.Op.{Op};
 ghost use Rattle.rep_ops.specs.Spelling.{max_octets};
 ghost use Rattle.rep_ops.specs.Splitting.{all_of};
-ghost use Rattle.rep_ops.specs.Values.{AreValues};
-ghost use Rattle.rep_model.specs.Views.{view, unseen as nothing_seen};
+ghost use Rattle.rep_op.specs.Values.{AreValues};
+ghost use Rattle.rep_model.specs.Views.{view};
+ghost use Rattle.rep_model.specs.Views as views;
 ghost use Rattle.rep_digest.specs.Digests.{digest};
 ghost use Rattle.rep_digest.specs.WellMade.{IsDigest};
 ghost use Rattle.rep_digest.specs.Spelling.{spelling};
-ghost use Rattle.rep_digest.specs.inner.Steps.{group, groups as all_groups, drafted_entry};
+ghost use Rattle.rep_digest.specs.inner.Steps.{group, drafted_entry};
+ghost use Rattle.rep_digest.specs.inner.Steps as spec;
 
 use super::digest::Digest;
 use super::draft::entry_of;
@@ -70,8 +72,9 @@ fn entries_of<R: Replica>(
     groups: &[Sequence<Acknowledged>],
 ) -> Result<Vec<ClientEntry>, NoMemory>
     requires { length groups.now ≡ length clients.now }
-    ensures { (W : List Op) → groups.now ≡ all_groups clients.now W
-        → IfOk result (λ entries. entries.items ≡ map (λ c. drafted_entry c (view c (R.kept replica.now)) (group W c)) clients.now) }
+    ensures { (W : List Op) → groups.now ≡ spec.groups clients.now W
+        → IfOk result (λ entries. entries.items
+        ≡ map (λ c. drafted_entry c (view c (R.kept replica.now)) (group W c)) clients.now) }
 {
     let mut entries = Vec::with_capacity(alloc, clients.len())?;
     for i in 0..clients.len() {
@@ -98,7 +101,7 @@ fn entry_in<R: Replica>(
 
 /// The view of a client that no operation names.
 fn unseen(alloc: Global) -> ClientView
-    ensures { result ≡ nothing_seen }
+    ensures { result ≡ views.unseen }
 {
     ClientView {
         stamp: None,

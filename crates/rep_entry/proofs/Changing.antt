@@ -1,10 +1,10 @@
 -- What is staged of a client is what it is said to be.
 use Rattle.std.proofs.Common.{◌≡◌, ℕ, List, length, Option, Some, None, T, sym, ap, ◌∙◌}
 use Rattle.std.specs.FinMap.{is_sorted}
-use Rattle.rep_ops.specs.declared.op.Put.{Put}
-use Rattle.rep_ops.specs.Orders.{operation_cmp}
+use Rattle.rep_op.specs.declared.op.Put.{Put}
+use Rattle.rep_op.specs.Orders.{operation_cmp}
 use Rattle.rep_model.specs.Limits.{parked, exceptions}
-use Rattle.rep_plain.specs.Steps.{capped}
+use Rattle.rep_shared.specs.Steps.{capped}
 use Rattle.rep_log.specs.declared.log.Log.{Log}
 use Rattle.rep_entry.specs.declared.entry.Entry.{Entry}
 use Rattle.rep_log.specs.Logs.{IsFolded, all_of, known_on}

@@ -4,15 +4,15 @@ use Rattle.std.specs.FinMap.{is_sorted}
 use Rattle.std.specs.Map.{keys_of}
 use Rattle.sn_session.specs.declared.session.Session.{Session}
 use Rattle.sn_session.specs.declared.change.SessionOp.{SessionOp}
-use Rattle.rep_ops.specs.declared.op.Stamp.{Stamp}
-use Rattle.rep_ops.specs.declared.op.Put.{Put}
-use Rattle.rep_ops.specs.Orders.{operation_cmp}
+use Rattle.rep_op.specs.declared.op.Stamp.{Stamp}
+use Rattle.rep_op.specs.declared.op.Put.{Put}
+use Rattle.rep_op.specs.Orders.{operation_cmp}
 use Rattle.rep_model.specs.Views.{in_order, session_of}
 use Rattle.rep_model.specs.Limits.{parked, exceptions, acknowledged, above_a_gap, sum_to}
 use Rattle.rep_model.proofs.Ranges.{same_ranges}
 use Rattle.rep_model.proofs.Limits.{in-acknowledged, apart-acknowledged}
-use Rattle.rep_plain.specs.Steps.{waits}
-use Rattle.rep_plain.proofs.Workings.{parked_names}
+use Rattle.rep_shared.specs.Steps.{waits}
+use Rattle.rep_shared.proofs.Workings.{parked_names}
 use Rattle.rep_log.specs.Logs.{visible_in, history_in, IsFoldedOf}
 use Rattle.rep_log.specs.Mail.{Range, is_left, NoneCovered}
 use Rattle.rep_log.specs.Origins.{ranges_at, ranges_in, AreOrigins, above_gaps}

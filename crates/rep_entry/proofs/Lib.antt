@@ -13,3 +13,4 @@ pub mod Spans
 pub mod Empty
 pub mod Anything
 pub mod Applied
+pub mod Asking

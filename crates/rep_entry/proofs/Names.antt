@@ -4,10 +4,10 @@ use Rattle.std.proofs.lemmas.Bool.Decides.{nat_tests}
 use Rattle.std.proofs.lemmas.Option.{slice_get-get_or}
 use Rattle.std.specs.List.{AllByRecursion}
 use Rattle.std.specs.Ordering.{is_eq, is_lt, ordering_reverse, ordering_then}
-use Rattle.sn_session.specs.inner.Tables.{AllAbove, IsAt, IsGap}
-use Rattle.sn_session.proofs.Ascending.{Ascends}
-use Rattle.rep_ops.specs.declared.op.Put.{Put}
-use Rattle.rep_ops.specs.Orders.{put_cmp}
+use Rattle.sn_tables.specs.inner.Tables.{AllAbove, IsAt, IsGap}
+use Rattle.sn_tables.proofs.Ascending.{Ascends}
+use Rattle.rep_op.specs.declared.op.Put.{Put}
+use Rattle.rep_op.specs.Orders.{put_cmp}
 use Rattle.rep_model.specs.Fresh.{largest}
 use Rattle.rep_model.proofs.Readers.{put_total}
 use Rattle.rep_log.specs.Mail.{name_of, goes_before, front_before, rest_from, weave, IsLess, Rising, put_named}

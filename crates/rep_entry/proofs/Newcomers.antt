@@ -2,9 +2,9 @@
 use Rattle.std.proofs.Common.{◌≡◌, ℕ, zero, suc, List, [], ◌∷◌, T, refl, ap, subst, ◌∙◌}
 use Rattle.std.specs.List.{insert}
 use Rattle.std.specs.FinMap.{put as with, is_sorted}
-use Rattle.sn_session.specs.inner.Tables.{AllAbove, IsGap}
-use Rattle.rep_ops.specs.declared.op.Put.{Put}
-use Rattle.rep_ops.specs.Orders.{put_cmp}
+use Rattle.sn_tables.specs.inner.Tables.{AllAbove, IsGap}
+use Rattle.rep_op.specs.declared.op.Put.{Put}
+use Rattle.rep_op.specs.Orders.{put_cmp}
 use Rattle.rep_model.proofs.Readers.{put_total}
 use Rattle.rep_log.specs.Mail.{name_of, named_puts, Rising}
 use Rattle.rep_entry.specs.Entries.{AreUnderNames, messages}

@@ -8,21 +8,21 @@ use Rattle.std.proofs.lemmas.Option.{same_Some}
 use Rattle.std.proofs.lemmas.Map.Lookups.{CmpEqualImpliesEq}
 use Rattle.std.proofs.lemmas.Map.Views.{tells_apart}
 use Rattle.sn_session.specs.declared.change.SessionOp.{SessionOp}
-use Rattle.rep_ops.specs.declared.op.Stamp.{Stamp}
-use Rattle.rep_ops.specs.declared.op.Put.{Put}
-use Rattle.rep_ops.specs.declared.op.Op.{Op}
-use Rattle.rep_ops.specs.declared.op.Op.TheVariants.{Session as OfSession, Put as OfPut, Ack}
-use Rattle.rep_ops.specs.Orders.{operation_cmp}
-use Rattle.rep_ops.specs.Ranges.{is_change}
-use Rattle.rep_ops.specs.WellMade.{is_stamp, is_counted}
+use Rattle.rep_op.specs.declared.op.Stamp.{Stamp}
+use Rattle.rep_op.specs.declared.op.Put.{Put}
+use Rattle.rep_op.specs.declared.op.Op.{Op}
+use Rattle.rep_op.specs.declared.op.Op.TheVariants.{Session as OfSession, Put as OfPut, Ack}
+use Rattle.rep_op.specs.Orders.{operation_cmp}
+use Rattle.rep_op.specs.Ranges.{is_change}
+use Rattle.rep_op.specs.WellMade.{is_stamp, is_counted}
 use Rattle.rep_model.specs.Keep.{is_below}
 use Rattle.rep_model.specs.Ranges.{AreApartFrom}
 use Rattle.rep_model.specs.Views.{named}
 use Rattle.rep_model.proofs.Readers.{operation_total, operation_exact}
 use Rattle.rep_model.proofs.Joins.{all-both, all-weaker}
-use Rattle.rep_plain.specs.Rows.{IsOwnOp, IsOwn}
-use Rattle.rep_plain.proofs.Counting.{all_found}
-use Rattle.rep_plain.proofs.Flat.{named_client}
+use Rattle.rep_shared.specs.Rows.{IsOwnOp, IsOwn}
+use Rattle.rep_shared.proofs.Counting.{all_found}
+use Rattle.rep_shared.proofs.Flat.{named_client}
 use Rattle.rep_log.specs.Logs.{IsKeptIn}
 use Rattle.rep_log.specs.Mail.{Range}
 use Rattle.rep_log.specs.Origins.{ranges_in, IsOrigin, AreOrigins}

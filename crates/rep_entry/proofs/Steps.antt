@@ -1,8 +1,8 @@
 -- One delta more: what is kept of what is kept and the delta is what is kept of all.
 use Rattle.std.proofs.Common.{◌≡◌, ℕ, Bool, true, false, not, cond, ◌||◌, List, ◌++◌, Option, Some, None, sym, ◌∙◌}
-use Rattle.rep_ops.specs.declared.op.Stamp.{Stamp}
-use Rattle.rep_ops.specs.declared.op.Op.{Op}
-use Rattle.rep_ops.specs.Sets.{operation_at, put_at, is_acknowledged, Within, Same}
+use Rattle.rep_op.specs.declared.op.Stamp.{Stamp}
+use Rattle.rep_op.specs.declared.op.Op.{Op}
+use Rattle.rep_op.specs.Sets.{operation_at, put_at, is_acknowledged, Within, Same}
 use Rattle.rep_model.specs.Views.{visible}
 use Rattle.rep_model.specs.Keep.{is_below, keep, IsKeptOf}
 use Rattle.rep_model.proofs.Lookup.{or_else}

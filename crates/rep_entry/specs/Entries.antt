@@ -3,16 +3,16 @@ use Rattle.std.specs.Prelude.{◌≡◌, ℕ, false, ◌&&◌, List, [], ◌∷�
 use Rattle.std.specs.List.{AllByRecursion, list_any}
 use Rattle.std.specs.FinMap.{is_sorted}
 use Rattle.sn_session.specs.declared.change.SessionOp.{SessionOp}
-use Rattle.rep_ops.specs.declared.op.Stamp.{Stamp}
-use Rattle.rep_ops.specs.declared.op.Put.{Put}
-use Rattle.rep_ops.specs.declared.op.Op.{Op}
-use Rattle.rep_ops.specs.Orders.{operation_cmp, put_cmp}
-use Rattle.rep_ops.specs.Sets.{Same}
-use Rattle.rep_ops.specs.WellMade.{is_stamp, is_counted, is_put}
-use Rattle.rep_ops.specs.Ranges.{is_change}
+use Rattle.rep_op.specs.declared.op.Stamp.{Stamp}
+use Rattle.rep_op.specs.declared.op.Put.{Put}
+use Rattle.rep_op.specs.declared.op.Op.{Op}
+use Rattle.rep_op.specs.Orders.{operation_cmp, put_cmp}
+use Rattle.rep_op.specs.Sets.{Same}
+use Rattle.rep_op.specs.WellMade.{is_stamp, is_counted, is_put}
+use Rattle.rep_op.specs.Ranges.{is_change}
 use Rattle.rep_model.specs.Keep.{keep}
 use Rattle.rep_model.specs.Limits.{parked, exceptions}
-use Rattle.rep_plain.specs.Steps.{capped}
+use Rattle.rep_shared.specs.Steps.{capped}
 use Rattle.rep_log.specs.declared.log.Log.{Log}
 use Rattle.rep_entry.specs.declared.entry.Entry.{Entry}
 use Rattle.rep_entry.specs.declared.fresh.Fresh.{Fresh}

@@ -1,7 +1,7 @@
 -- Where what is acknowledged anew lies.
 use Rattle.std.specs.Prelude.{◌≡◌, ℕ, Bool, false, ◌&&◌, nat_le, List}
 use Rattle.std.specs.List.{list_any, AllByRecursion}
-use Rattle.rep_ops.specs.declared.op.Put.{Put}
+use Rattle.rep_op.specs.declared.op.Put.{Put}
 use Rattle.rep_entry.specs.declared.span.Span.{Span}
 use Rattle.rep_log.specs.Mail.{Range, covers, name_of}
 

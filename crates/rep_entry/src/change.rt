@@ -2,7 +2,7 @@
 
 ghost use Rattle.std.specs.Prelude.{◌≡◌, ◌+◌, ◌≤◌, ◌++◌, [], ℕ, List, T, cond, false, length, vec_capacity};
 ghost use Rattle.std.specs.FinMap.{is_sorted};
-ghost use Rattle.rep_ops.specs.Orders.{operation_cmp};
+ghost use Rattle.rep_op.specs.Orders.{operation_cmp};
 ghost use Rattle.rep_log.specs.Mail.{Rising};
 ghost use Rattle.rep_log.specs.Origins.{origins_after};
 ghost use Rattle.rep_entry.specs.Entries.{base_of};
@@ -18,7 +18,8 @@ use rep_model::Puts;
 use rep_ops::Put;
 use std::mem;
 
-/// What is staged of a client: its log and its acknowledgements, where they change, and the messages that are new.
+/// What is staged of a client: its log and its acknowledgements, where they change, and the
+/// messages that are new.
 #[derive(Debug, Drop)]
 pub struct Change {
     /// The session operations as they will be, where some are new.

@@ -1,14 +1,15 @@
 //! What the replica keeps of one client.
 
 ghost use Rattle.std.specs.Prelude.{◌≡◌, ◌||◌, ◌==◌, not, length, ℕ, List, [], None};
-ghost use Rattle.rep_plain.specs.Rows.{has_any};
+ghost use Rattle.rep_shared.specs.Rows.{has_any};
 
 use rep_log::{Acks, Known, NamedOp};
 use rep_model::{ClientView, Puts};
 use rep_ops::Put;
 use std::alloc::Global;
 
-/// What the replica keeps of one client. What its operations say is read off here, and nowhere worked out again.
+/// What the replica keeps of one client. What its operations say is read off here, and nowhere
+/// worked out again.
 #[derive(Debug, Drop)]
 pub struct Entry {
     /// The view: stamp, prefix and session of the operations below, and the messages that wait.

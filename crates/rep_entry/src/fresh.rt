@@ -1,12 +1,13 @@
-//! What a delta changes of one client, operation by operation. What it does not touch is not copied.
+//! What a delta changes of one client, operation by operation. What it does not touch is not
+//! copied.
 
 ghost use Rattle.std.specs.Prelude.{◌≡◌, ◌+◌, ◌==◌, ◌≤◌, ◌||◌, [], ℕ, List, IsTrue, false, is_some, length, vec_capacity, IfOk, OnOk};
 ghost use Rattle.std.specs.List.{list_any};
 ghost use Rattle.std.specs.FinMap.{find};
-ghost use Rattle.rep_ops.specs.declared.op.Op.TheVariants.{Session as OfSession, Put as OfPut, Ack};
-ghost use Rattle.rep_ops.specs.Orders.{operation_cmp, put_cmp};
-ghost use Rattle.rep_ops.specs.WellMade.{is_well_made};
-ghost use Rattle.rep_plain.specs.Rows.{IsOwnOp};
+ghost use Rattle.rep_op.specs.declared.op.Op.TheVariants.{Session as OfSession, Put as OfPut, Ack};
+ghost use Rattle.rep_op.specs.Orders.{operation_cmp, put_cmp};
+ghost use Rattle.rep_op.specs.WellMade.{is_well_made};
+ghost use Rattle.rep_shared.specs.Rows.{IsOwnOp};
 ghost use Rattle.rep_entry.specs.declared.entry.Entry.{Entry as AnEntry};
 ghost use Rattle.rep_log.specs.Logs.{known_on, whole_of};
 ghost use Rattle.rep_log.specs.Mail.{covers, name_of, put_named, Rising};
@@ -27,8 +28,9 @@ use rep_ops::{Op, Put, Stamp};
 use sn_session::SessionOp;
 use std::alloc::Global;
 
-/// What a delta changes of one client: the log and the acknowledgements as they will be, where something came for them, the
-/// messages that are new, and the sequence numbers that are acknowledged anew, as far as they reach.
+/// What a delta changes of one client: the log and the acknowledgements as they will be, where
+/// something came for them, the messages that are new, and the sequence numbers that are
+/// acknowledged anew, as far as they reach.
 #[derive(Debug, Drop)]
 pub struct Fresh {
     pub(crate) log: Option<Log>,
@@ -255,8 +257,8 @@ fn exceptions_with(entry: &Entry, acks: &Option<Acks>) -> u64
     }
 }
 
-/// Room for the session operations that are there and those behind them, and for half as many more, so that they seldom move;
-/// none where none comes behind them.
+/// Room for the session operations that are there and those behind them, and for half as many more,
+/// so that they seldom move; none where none comes behind them.
 fn log_room_for(alloc: Global, known: &Known, log: &Option<Log>) -> Result<Vec<NamedOp>, NoMemory>
     ensures empty { IfOk result (λ room. room.items ≡ []) }
     ensures room { IfOk result (λ room. HasLogRoom known.now log.now (vec_capacity room)) }
@@ -282,8 +284,8 @@ fn with_half(count: usize, more: usize) -> Result<usize, NoMemory>
     Ok(room)
 }
 
-/// Room for the messages that wait and those that are new, and for half as many more, so that they seldom move; none where none
-/// is new.
+/// Room for the messages that wait and those that are new, and for half as many more, so that they
+/// seldom move; none where none is new.
 fn room_for(alloc: Global, waiting: &[Put], news: &[Put]) -> Result<Vec<Put>, NoMemory>
     ensures empty { IfOk result (λ room. room.items ≡ []) }
     ensures room { IfOk result (λ room. (length news.now == 0) ≡ false

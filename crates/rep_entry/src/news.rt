@@ -2,7 +2,7 @@
 
 ghost use Rattle.std.specs.Prelude.{◌≡◌, [], None, is_some, OnOk};
 ghost use Rattle.std.specs.FinMap.{find, put as with};
-ghost use Rattle.rep_ops.specs.Orders.{put_cmp};
+ghost use Rattle.rep_op.specs.Orders.{put_cmp};
 ghost use Rattle.rep_log.specs.Mail.{name_of};
 ghost use Rattle.rep_entry.specs.Entries.{messages};
 
@@ -21,8 +21,8 @@ pub struct News {
 impl Model for News {
     ghost use Rattle.std.specs.Prelude.{List, ℕ, T};
     ghost use Rattle.std.specs.FinMap.{is_sorted};
-    ghost use Rattle.rep_ops.specs.declared.op.Put.{Put};
-    ghost use Rattle.rep_ops.specs.Orders.{put_cmp};
+    ghost use Rattle.rep_op.specs.declared.op.Put.{Put};
+    ghost use Rattle.rep_op.specs.Orders.{put_cmp};
     ghost use Rattle.rep_log.specs.Mail.{named_puts};
 
     ghost Value = { List ((ℕ × ℕ) × Put) };

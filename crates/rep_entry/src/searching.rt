@@ -1,16 +1,18 @@
-//! Messages that wait, by their names. They stand in the order of their names, so none is looked for one by one.
+//! Messages that wait, by their names. They stand in the order of their names, so none is looked
+//! for one by one.
 
 ghost use Rattle.std.specs.Prelude.{◌≡◌, ◌≤◌, true, false, nat_le, nat_lt, length, take, drop};
 ghost use Rattle.std.specs.List.{AllByRecursion};
 ghost use Rattle.std.specs.List.Sorted.{IsSearchInRange};
 ghost use Rattle.std.specs.Option.{option_copied};
-ghost use Rattle.sn_session.specs.inner.Tables.{IsPlace};
-ghost use Rattle.rep_ops.specs.Orders.{put_cmp};
+ghost use Rattle.sn_tables.specs.inner.Tables.{IsPlace};
+ghost use Rattle.rep_op.specs.Orders.{put_cmp};
 ghost use Rattle.rep_log.specs.Mail.{name_of, put_named, Rising};
 
 use rep_ops::Put;
 
-/// Where a message of that name stands among messages in order, or where it would go. The time is logarithmic.
+/// Where a message of that name stands among messages in order, or where it would go. The time is
+/// logarithmic.
 pub(crate) fn place_of_name(puts: &[Put], seq: u64, origin: u8) -> Result<usize, usize>
     ensures place { Rising puts.now
         → IsPlace (λ put. put_cmp (name_of put) (seq, origin)) puts.now result }
@@ -38,7 +40,8 @@ pub(crate) fn count_below(puts: &[Put], seq: u64) -> usize
     puts.partition_point(|put| put.seq < seq)
 }
 
-/// How many of messages in order have this sequence number or one below it. The time is logarithmic.
+/// How many of messages in order have this sequence number or one below it. The time is
+/// logarithmic.
 pub(crate) fn count_up_to(puts: &[Put], seq: u64) -> usize
     ensures bound { result ≤ length puts.now }
     ensures above { Rising puts.now

@@ -1,7 +1,7 @@
 //! The messages that wait for a client after a change, for which no memory is taken.
 
 ghost use Rattle.std.specs.Prelude.{◌≡◌, ◌+◌, ◌==◌, ◌<◌, ◌≤◌, ◌++◌, [], suc, false, vec_capacity, List, take, drop, filter, length, count_by, IfOk, IsTrue};
-ghost use Rattle.rep_ops.specs.declared.op.Put.{Put};
+ghost use Rattle.rep_op.specs.declared.op.Put.{Put};
 ghost use Rattle.rep_log.specs.Mail.{weave, is_left, NoneCovered, Rising};
 ghost use Rattle.rep_entry.specs.Spans.{AreFreeOutside};
 ghost use Rattle.rep_entry.specs.inner.Mail.{are_behind, left_from};
@@ -58,7 +58,8 @@ fn drop_each(all: &mut Vec<Put>, from: usize, count: usize, acks: &Acks)
     }
 }
 
-/// Drops the messages that are acknowledged. Only those of the span are asked, unless they are many.
+/// Drops the messages that are acknowledged. Only those of the span are asked, unless they are
+/// many.
 fn drop_covered(all: &mut Vec<Put>, span: Span, acks: &Acks)
     requires rising { Rising all.old.items }
     requires free { AreFreeOutside span (ranges_in acks.now) all.old.items }
@@ -93,8 +94,8 @@ fn are_behind(last: &Put, news: &[Put]) -> bool
     }
 }
 
-/// The messages that wait, and new ones. Where none is new nothing is moved, and where all come behind those that wait, these stay where
-/// they are as long as there is room.
+/// The messages that wait, and new ones. Where none is new nothing is moved, and where all come
+/// behind those that wait, these stay where they are as long as there is room.
 fn joined(room: Vec<Put>, mut waiting: Vec<Put>, news: Vec<Put>) -> Vec<Put>
     requires empty { room.items ≡ [] }
     requires room { (length news.items == 0) ≡ false
@@ -112,7 +113,8 @@ fn joined(room: Vec<Put>, mut waiting: Vec<Put>, news: Vec<Put>) -> Vec<Put>
     merge(room, VecDeque::from_vec(waiting), VecDeque::from_vec(news))
 }
 
-/// The messages that wait, and new ones, without those that are acknowledged, which lie in the span.
+/// The messages that wait, and new ones, without those that are acknowledged, which lie in the
+/// span.
 pub(crate) fn settled(
     room: Vec<Put>,
     waiting: Vec<Put>,
@@ -153,7 +155,8 @@ fn count_left(puts: &[Put], span: Span, acks: &Acks) -> usize
     puts.len() - count + count_each(asked, acks)
 }
 
-/// How many messages will wait, where these wait and those are new, and those that are acknowledged lie in the span.
+/// How many messages will wait, where these wait and those are new, and those that are acknowledged
+/// lie in the span.
 pub(crate) fn count_settled(
     waiting: &[Put],
     news: &[Put],

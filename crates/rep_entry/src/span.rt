@@ -1,4 +1,5 @@
-//! Sequence numbers that reach from one to another, and where the messages that have them stand among messages in order.
+//! Sequence numbers that reach from one to another, and where the messages that have them stand
+//! among messages in order.
 
 ghost use Rattle.std.specs.Prelude.{◌≡◌, ◌+◌, ◌≤◌, false, IsTrue, ℕ, List, length, take, drop};
 ghost use Rattle.rep_log.specs.Mail.{Range, NoneCovered, Rising};
@@ -46,7 +47,8 @@ impl Span {
     }
 }
 
-/// Where those of the span stand among messages in order, and how many they are. The time is logarithmic.
+/// Where those of the span stand among messages in order, and how many they are. The time is
+/// logarithmic.
 pub(crate) fn between(puts: &[Put], span: Span) -> (usize, usize)
     ensures bound { result.0 + result.1 ≤ length puts.now }
     ensures front { (ranges : List Range) → Rising puts.now

@@ -14,11 +14,11 @@ use Rattle.std.proofs.lemmas.Map.Lookups.{exact_unsigned}
 use Rattle.rep_model.specs.Ranges.{is_within, in_ranges, AreApartFrom}
 use Rattle.rep_model.specs.Limits.{with_range, above_a_gap, sum_to}
 use Rattle.rep_model.proofs.Ranges.{in-with_range, apart-with_range}
-use Rattle.rep_plain.specs.Steps.{capped}
-use Rattle.rep_plain.proofs.Maps.{insert_is_put, lookup_is_find}
-use Rattle.rep_plain.proofs.Prefixes.{capped_sum}
-use Rattle.rep_plain.proofs.Flat.{find_below, all_put}
-use Rattle.rep_plain.proofs.Found.{find_map, map_put}
+use Rattle.rep_shared.specs.Steps.{capped}
+use Rattle.rep_shared.proofs.Maps.{insert_is_put, lookup_is_find}
+use Rattle.rep_shared.proofs.Numbers.{capped_sum}
+use Rattle.rep_shared.proofs.Flat.{find_below, all_put}
+use Rattle.rep_shared.proofs.Found.{find_map, map_put}
 use Rattle.rep_log.specs.Mail.{covers}
 use Rattle.rep_log.specs.Origins.{origins_of, or_no_range, ranges_at, ranges_in, IsOrigin, AreOrigins, above_gaps}
 

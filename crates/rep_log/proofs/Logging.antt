@@ -10,8 +10,8 @@ use Rattle.rep_model.proofs.Greatest.{has, greatest-has, same_greatest}
 use Rattle.std.specs.FinMap.{find, put}
 use Rattle.sn_session.specs.declared.session.Session.{Session}
 use Rattle.sn_session.specs.declared.change.SessionOp.{SessionOp}
-use Rattle.rep_ops.specs.declared.op.Stamp.{Stamp}
-use Rattle.rep_ops.specs.Orders.{stamp_cmp, operation_cmp}
+use Rattle.rep_op.specs.declared.op.Stamp.{Stamp}
+use Rattle.rep_op.specs.Orders.{stamp_cmp, operation_cmp}
 use Rattle.rep_model.specs.Views.{greatest, greater, take_stamp, names, gapless, then_more, session_of, after_change}
 use Rattle.rep_model.specs.Keep.{is_below}
 use Rattle.rep_model.proofs.Readers.{operation_total, operation_exact, stamp_total, stamp_exact}

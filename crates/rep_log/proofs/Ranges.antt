@@ -1,7 +1,7 @@
 -- The acknowledged ranges of a client, one behind the other.
 use Rattle.std.proofs.Common.{◌≡◌, ℕ, ◌+◌, not, ◌==◌, ◌||◌, List, [], ◌∷◌, ◌++◌, map, length, refl, ap, Vec, Global}
 use Rattle.std.specs.List.{list_any}
-use Rattle.rep_ops.specs.declared.op.Op.TheVariants.{Ack}
+use Rattle.rep_op.specs.declared.op.Op.TheVariants.{Ack}
 use Rattle.rep_log.specs.Mail.{Range}
 use Rattle.rep_log.specs.Origins.{origins_of}
 use Rattle.rep_log.specs.Kept.{of_acks}

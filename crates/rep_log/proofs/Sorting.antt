@@ -10,13 +10,13 @@ use Rattle.std.specs.Ordering.{is_lt, ordering_reverse, ordering_then}
 use Rattle.std.specs.FinMap.{find, put, is_sorted}
 use Rattle.std.specs.FinMap.Entries.{below_all, by_order}
 use Rattle.sn_session.specs.declared.change.SessionOp.{SessionOp}
-use Rattle.sn_session.specs.inner.Tables.{AllAbove, IsAt, IsGap}
-use Rattle.sn_session.proofs.Ascending.{Ascends}
-use Rattle.rep_ops.specs.declared.op.Stamp.{Stamp}
-use Rattle.rep_ops.specs.Orders.{stamp_cmp, operation_cmp}
+use Rattle.sn_tables.specs.inner.Tables.{AllAbove, IsAt, IsGap}
+use Rattle.sn_tables.proofs.Ascending.{Ascends}
+use Rattle.rep_op.specs.declared.op.Stamp.{Stamp}
+use Rattle.rep_op.specs.Orders.{stamp_cmp, operation_cmp}
 use Rattle.rep_model.specs.Keep.{is_below}
 use Rattle.rep_model.proofs.Lookup.{or_else, find_both}
-use Rattle.rep_plain.specs.Steps.{waits}
+use Rattle.rep_shared.specs.Steps.{waits}
 
 first : (a b : Bool) → T (a && b) → T a
 first true b p = tt

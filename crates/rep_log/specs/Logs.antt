@@ -4,8 +4,8 @@ use Rattle.std.specs.List.{filter_map, AllByRecursion}
 use Rattle.std.specs.FinMap.{find}
 use Rattle.sn_session.specs.declared.session.Session.{Session}
 use Rattle.sn_session.specs.declared.change.SessionOp.{SessionOp}
-use Rattle.rep_ops.specs.declared.op.Stamp.{Stamp}
-use Rattle.rep_ops.specs.Orders.{stamp_cmp, operation_cmp}
+use Rattle.rep_op.specs.declared.op.Stamp.{Stamp}
+use Rattle.rep_op.specs.Orders.{stamp_cmp, operation_cmp}
 use Rattle.rep_model.specs.Views.{greatest, take_stamp, names, history_at, session_of}
 use Rattle.rep_model.specs.Keep.{is_below}
 use Rattle.rep_log.specs.declared.log.Log.{Log}

@@ -1,25 +1,26 @@
-//! The acknowledged messages of a client. Those that are acknowledged in order are one range, however many
-//! they are: a first range that begins at 1 ends at the watermark, and the others are the exceptions above it.
+//! The acknowledged messages of a client. Those that are acknowledged in order are one range,
+//! however many they are: a first range that begins at 1 ends at the watermark, and the others are
+//! the exceptions above it.
 
 ghost use Rattle.std.specs.Prelude.{◌≡◌, ◌+◌, ◌≤◌, ◌<◌, ◌==◌, ◌++◌, ◌∷◌, [], map, not, length, ℕ, List, ◌||◌, IfOk, OnOk};
 ghost use Rattle.std.specs.List.{list_any};
 ghost use Rattle.std.specs.BTreeMap.{values};
-ghost use Rattle.rep_ops.specs.declared.op.Op.TheVariants.{Ack};
+ghost use Rattle.rep_op.specs.declared.op.Op.TheVariants.{Ack};
 ghost use Rattle.rep_model.specs.Ranges.{is_within, in_ranges};
-ghost use Rattle.rep_plain.specs.Steps.{capped};
+ghost use Rattle.rep_shared.specs.Steps.{capped};
 ghost use Rattle.rep_log.specs.Kept.{of_acks};
 ghost use Rattle.rep_log.specs.Mail.{covers};
 ghost use Rattle.rep_log.specs.Origins.{origins_of, ranges_at, ranges_in, AreOrigins, above_gaps};
 
 use octets::NoMemory;
 use rep_ops::{ClientId, Op};
-use rep_plain::{above_gap, with_range};
+use rep_shared::{above_gap, with_range};
 use std::alloc::Global;
 use std::collections::BTreeMap;
 use std::marker::Model;
 
-/// The acknowledged sequence numbers of each origin, as ranges in ascending order that do not touch. Contracts see the
-/// origins in ascending order, each with its ranges.
+/// The acknowledged sequence numbers of each origin, as ranges in ascending order that do not
+/// touch. Contracts see the origins in ascending order, each with its ranges.
 #[derive(Debug, Drop)]
 pub struct Acks {
     origins: BTreeMap<u8, Vec<(u64, u64)>>,
@@ -73,7 +74,8 @@ impl Acks {
         ensures origins { OnOk result (AreOrigins self.new) }
         ensures covers { OnOk result ((name : ℕ × ℕ)
             → list_any (covers name) (ranges_in self.new)
-            ≡ (list_any (covers name) (ranges_in self.old) || covers name (origin, (first, last)))) }
+            ≡ (list_any (covers name) (ranges_in self.old)
+            || covers name (origin, (first, last)))) }
     {
         let more = with_range(alloc, (first, last), self.numbers(origin))?;
         self.origins.insert(origin, more)?;

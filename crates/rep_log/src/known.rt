@@ -1,4 +1,5 @@
-//! Session operations of one client, in the order of their names, so that none is looked for one by one.
+//! Session operations of one client, in the order of their names, so that none is looked for one by
+//! one.
 
 ghost use Rattle.std.specs.Prelude.{◌≡◌, ◌+◌, ◌++◌, ◌≤◌, ℕ, List, [], count_by, filter, length, not, None, Some, IfOk, OnOk, T, vec_capacity};
 ghost use Rattle.std.specs.FinMap.{find, put, is_sorted};
@@ -6,11 +7,11 @@ ghost use Rattle.std.specs.Map.{keys_of};
 ghost use Rattle.std.specs.List.Sorted.{IsSearchInRange};
 ghost use Rattle.std.specs.Option.{option_copied};
 ghost use Rattle.sn_session.specs.declared.change.SessionOp.{SessionOp as OfChange};
-ghost use Rattle.sn_session.specs.inner.Tables.{IsPlace};
-ghost use Rattle.rep_ops.specs.declared.op.Stamp.{Stamp as OfStamp};
-ghost use Rattle.rep_ops.specs.Orders.{operation_cmp};
-ghost use Rattle.rep_model.specs.Keep.{is_below as below_test};
-ghost use Rattle.rep_plain.specs.Steps.{waits};
+ghost use Rattle.sn_tables.specs.inner.Tables.{IsPlace};
+ghost use Rattle.rep_op.specs.declared.op.Stamp.{Stamp as OfStamp};
+ghost use Rattle.rep_op.specs.Orders.{operation_cmp};
+ghost use Rattle.rep_model.specs.Keep as spec;
+ghost use Rattle.rep_shared.specs.Steps.{waits};
 
 use super::behind::put_behind;
 use octets::NoMemory;
@@ -32,8 +33,8 @@ impl Model for Known {
     ghost use Rattle.std.specs.Prelude.{List, ℕ, T};
     ghost use Rattle.std.specs.FinMap.{is_sorted};
     ghost use Rattle.sn_session.specs.declared.change.SessionOp.{SessionOp};
-    ghost use Rattle.rep_ops.specs.declared.op.Stamp.{Stamp};
-    ghost use Rattle.rep_ops.specs.Orders.{operation_cmp};
+    ghost use Rattle.rep_op.specs.declared.op.Stamp.{Stamp};
+    ghost use Rattle.rep_op.specs.Orders.{operation_cmp};
 
     ghost Value = { List ((Stamp × ℕ) × SessionOp) };
 
@@ -81,7 +82,7 @@ impl Known {
 
     /// Forgets what is below the stamp.
     pub fn forget_below(&mut self, stamp: Stamp)
-        ensures { self.new ≡ filter (λ e. not (below_test e.0.0 (Some stamp))) self.old }
+        ensures { self.new ≡ filter (λ e. not (spec.is_below e.0.0 (Some stamp))) self.old }
     {
         self.ops.retain(|op| !(op.0.0 < stamp));
     }
@@ -97,8 +98,8 @@ impl Known {
         Ok(Known { ops })
     }
 
-    /// Moves operations behind those that are there: these stay where they are, if there is room for all, and go to `room` else,
-    /// which is empty.
+    /// Moves operations behind those that are there: these stay where they are, if there is room
+    /// for all, and go to `room` else, which is empty.
     pub fn move_behind(&mut self, more: Known, room: Vec<NamedOp>)
         requires empty { room.items ≡ [] }
         requires room { length self.old + length more ≤ vec_capacity room }
@@ -120,7 +121,8 @@ fn copy_ops(alloc: Global, ops: &[NamedOp]) -> Result<Vec<NamedOp>, NoMemory>
     Ok(made)
 }
 
-/// Where an operation of that name stands among operations in order, or where it would go. The time is logarithmic.
+/// Where an operation of that name stands among operations in order, or where it would go. The time
+/// is logarithmic.
 fn place_of(ops: &[NamedOp], stamp: Stamp, counter: u16) -> Result<usize, usize>
     requires { T (is_sorted operation_cmp ops.now) }
     ensures place { IsPlace (λ op. operation_cmp op.0 (stamp, counter)) ops.now result }
@@ -140,11 +142,12 @@ pub(crate) fn find_op<'a>(ops: &'a [NamedOp], stamp: Stamp, counter: u8) -> Opti
     }
 }
 
-/// Of the operations, which stand in order, those from a stamp on; contracts see that none of these is left out. The time is logarithmic.
+/// Of the operations, which stand in order, those from a stamp on; contracts see that none of these
+/// is left out. The time is logarithmic.
 pub(crate) fn from_stamp(ops: &[NamedOp], stamp: Stamp) -> &[NamedOp]
     requires { T (is_sorted operation_cmp ops.now) }
-    ensures kept { filter (λ e. not (below_test e.0.0 (Some stamp))) result.now
-        ≡ filter (λ e. not (below_test e.0.0 (Some stamp))) ops.now }
+    ensures kept { filter (λ e. not (spec.is_below e.0.0 (Some stamp))) result.now
+        ≡ filter (λ e. not (spec.is_below e.0.0 (Some stamp))) ops.now }
     ensures ordered { (more : List ((OfStamp × ℕ) × OfChange))
         → T (is_sorted operation_cmp (ops.now ++ more))
         → T (is_sorted operation_cmp (result.now ++ more)) }
@@ -155,7 +158,8 @@ pub(crate) fn from_stamp(ops: &[NamedOp], stamp: Stamp) -> &[NamedOp]
     }
 }
 
-/// How many of the operations, which stand in order, wait for earlier ones. The time is logarithmic.
+/// How many of the operations, which stand in order, wait for earlier ones. The time is
+/// logarithmic.
 pub(crate) fn count_waiting(ops: &[NamedOp], visible: Option<Stamp>, prefix: u16) -> usize
     requires { T (is_sorted operation_cmp ops.now) }
     ensures { result ≡ count_by (waits visible prefix) (keys_of ops.now) }
@@ -166,7 +170,8 @@ pub(crate) fn count_waiting(ops: &[NamedOp], visible: Option<Stamp>, prefix: u16
     }
 }
 
-/// How many of the operations, which stand in order, have this name or come behind it. The time is logarithmic.
+/// How many of the operations, which stand in order, have this name or come behind it. The time is
+/// logarithmic.
 fn count_from(ops: &[NamedOp], stamp: Stamp, counter: u16) -> usize
     requires { T (is_sorted operation_cmp ops.now) }
     ensures { result ≡ count_by (waits (Some stamp) counter) (keys_of ops.now) }

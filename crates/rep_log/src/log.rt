@@ -7,12 +7,12 @@ ghost use Rattle.std.specs.List.{AllByRecursion};
 ghost use Rattle.std.specs.Map.{keys_of};
 ghost use Rattle.std.specs.Option.{option_copied};
 ghost use Rattle.std.specs.Ordering.{is_lt};
-ghost use Rattle.rep_ops.specs.declared.op.Stamp.{Stamp as OfStamp};
-ghost use Rattle.rep_ops.specs.Orders.{operation_cmp};
+ghost use Rattle.rep_op.specs.declared.op.Stamp.{Stamp as OfStamp};
+ghost use Rattle.rep_op.specs.Orders.{operation_cmp};
 ghost use Rattle.sn_session.specs.declared.change.SessionOp.{SessionOp};
-ghost use Rattle.rep_model.specs.Keep.{is_below as below_test};
+ghost use Rattle.rep_model.specs.Keep as spec;
 ghost use Rattle.rep_model.specs.Views.{session_of};
-ghost use Rattle.rep_plain.specs.Steps.{waits};
+ghost use Rattle.rep_shared.specs.Steps.{waits};
 ghost use Rattle.rep_log.specs.Logs.{history_in};
 ghost use Rattle.rep_log.specs.Logs.{IsKeptIn};
 
@@ -25,8 +25,9 @@ use sn_session::{Session, SessionOp};
 use std::alloc::Global;
 use std::mem;
 
-/// The session operations of a client as they will be, and what they come to. Those that are there stay where they are, with more
-/// behind them, as long as each new one comes behind all; else they are given up, and those of them that stay are copied.
+/// The session operations of a client as they will be, and what they come to. Those that are there
+/// stay where they are, with more behind them, as long as each new one comes behind all; else they
+/// are given up, and those of them that stay are copied.
 #[derive(Debug, Drop)]
 pub struct Log {
     /// The visible stamp.
@@ -43,7 +44,7 @@ pub struct Log {
 
 /// Whether the stamp is below the visible one.
 fn is_below(stamp: Stamp, visible: Option<Stamp>) -> bool
-    ensures { result ≡ below_test stamp visible }
+    ensures { result ≡ spec.is_below stamp visible }
 {
     match visible {
         Some(seen) => stamp < seen,
@@ -117,7 +118,8 @@ impl Log {
     /// How many operations wait for earlier ones.
     pub fn count_parked(&self, known: &Known) -> Result<usize, NoMemory>
         ensures { IfOk result (λ count. count
-            ≡ count_by (waits self.now.stamp self.now.prefix) (keys_of (all_of known.now self.now))) }
+            ≡ count_by (waits self.now.stamp self.now.prefix)
+            (keys_of (all_of known.now self.now))) }
     {
         let first = count_waiting(self.left(known), self.stamp, self.prefix);
         let more = count_waiting(self.more.as_slice(), self.stamp, self.prefix);
@@ -140,7 +142,8 @@ impl Log {
         Ok(())
     }
 
-    /// Sees to it that an operation of that name comes behind all that was there and is not given up.
+    /// Sees to it that an operation of that name comes behind all that was there and is not given
+    /// up.
     fn make_way(&mut self, alloc: Global, known: &Known, name: (Stamp, u8)) -> Result<(), NoMemory>
         requires { T (is_sorted operation_cmp (all_of known.now self.old)) }
         ensures same { OnOk result (all_of known.now self.new ≡ all_of known.now self.old) }
@@ -182,7 +185,7 @@ impl Log {
     fn forget_below(&mut self, alloc: Global, known: &Known, stamp: Stamp) -> Result<(), NoMemory>
         requires { T (is_sorted operation_cmp (all_of known.now self.old)) }
         ensures { OnOk result (all_of known.now self.new
-            ≡ filter (λ e. not (below_test e.0.0 (Some stamp))) (all_of known.now self.old)) }
+            ≡ filter (λ e. not (spec.is_below e.0.0 (Some stamp))) (all_of known.now self.old)) }
     {
         self.begin_anew(alloc, from_stamp(self.left(known), stamp))?;
         self.more.forget_below(stamp);
@@ -236,7 +239,7 @@ impl Log {
     fn take_up(&mut self, alloc: Global, known: &Known, stamp: Stamp) -> Result<(), NoMemory>
         requires { T (is_sorted operation_cmp (all_of known.now self.old)) }
         ensures kept { OnOk result (all_of known.now self.new
-            ≡ filter (λ e. not (below_test e.0.0 (Some stamp))) (all_of known.now self.old)) }
+            ≡ filter (λ e. not (spec.is_below e.0.0 (Some stamp))) (all_of known.now self.old)) }
         ensures stamp { OnOk result (self.new.stamp ≡ Some stamp) }
         ensures prefix { OnOk result (self.new.prefix
             ≡ length (history_in (all_of known.now self.new) (Some stamp))) }

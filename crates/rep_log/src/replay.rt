@@ -3,7 +3,7 @@
 ghost use Rattle.std.specs.Prelude.{◌≡◌, ◌++◌, ◌<◌, length, Some, IfOk, T};
 ghost use Rattle.std.specs.FinMap.{find, is_sorted};
 ghost use Rattle.std.specs.Option.{option_copied};
-ghost use Rattle.rep_ops.specs.Orders.{operation_cmp};
+ghost use Rattle.rep_op.specs.Orders.{operation_cmp};
 ghost use Rattle.rep_model.specs.Views.{session_of};
 ghost use Rattle.rep_log.specs.Logs.{history_in};
 ghost use Rattle.rep_log.specs.inner.Logs.{IsReplayed};
@@ -11,7 +11,7 @@ ghost use Rattle.rep_log.specs.inner.Logs.{IsReplayed};
 use super::known::{NamedOp, find_op};
 use octets::NoMemory;
 use rep_ops::Stamp;
-use rep_plain::changed;
+use rep_shared::changed;
 use sn_session::{Session, SessionOp};
 use std::alloc::Global;
 

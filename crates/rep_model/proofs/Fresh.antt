@@ -6,12 +6,12 @@ use Rattle.std.specs.FinMap.Entries.{is_some-find}
 use Rattle.std.proofs.lemmas.Bool.{or_left, or_right, and_parts, and_from}
 use Rattle.std.proofs.lemmas.Cmp.{ranked, tied_itself}
 use Rattle.std.proofs.lemmas.Map.Views.{tells_apart}
-use Rattle.rep_ops.specs.declared.op.Stamp.{Stamp}
-use Rattle.rep_ops.specs.declared.op.Put.{Put}
-use Rattle.rep_ops.specs.declared.op.Op.{Op}
-use Rattle.rep_ops.specs.declared.op.Op.TheVariants.{Session as OfSession, Put as OfPut, Ack}
-use Rattle.rep_ops.specs.Orders.{stamp_cmp, operation_cmp, put_cmp}
-use Rattle.rep_ops.specs.Sets.{same_client, operations, operation_at, put_of, put_at, acknowledges, is_acknowledged}
+use Rattle.rep_op.specs.declared.op.Stamp.{Stamp}
+use Rattle.rep_op.specs.declared.op.Put.{Put}
+use Rattle.rep_op.specs.declared.op.Op.{Op}
+use Rattle.rep_op.specs.declared.op.Op.TheVariants.{Session as OfSession, Put as OfPut, Ack}
+use Rattle.rep_op.specs.Orders.{stamp_cmp, operation_cmp, put_cmp}
+use Rattle.rep_op.specs.Sets.{same_client, operations, operation_at, put_of, put_at, acknowledges, is_acknowledged}
 use Rattle.rep_model.specs.Views.{names, visible}
 use Rattle.rep_model.specs.Fresh.{largest, one_more, greatest_epoch, next_epoch, seq_of, next_seq}
 use Rattle.rep_model.specs.Keep.{is_below, CountsAs}

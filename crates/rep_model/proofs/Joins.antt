@@ -4,12 +4,12 @@ use Rattle.std.specs.List.{list_any, AllByRecursion}
 use Rattle.std.proofs.lemmas.List.Folds.{Any-from_list_any, list_any_at}
 use Rattle.std.proofs.lemmas.List.Elements.{All-weaker, All-contains, All-contains_itself, All-from_recursion, recursion_from_All}
 use Rattle.sn_session.specs.declared.change.SessionOp.{SessionOp}
-use Rattle.rep_ops.specs.declared.op.Stamp.{Stamp}
-use Rattle.rep_ops.specs.declared.op.Put.{Put}
-use Rattle.rep_ops.specs.declared.op.Op.{Op}
-use Rattle.rep_ops.specs.declared.op.Op.TheVariants.{Session as OfSession, Put as OfPut, Ack}
-use Rattle.rep_ops.specs.Orders.{operation_cmp, put_cmp}
-use Rattle.rep_ops.specs.Sets.{same_client, operation_of, operation_at, put_of, put_at, acknowledges, is_acknowledged, Stands, IsConsistent, Within, Same}
+use Rattle.rep_op.specs.declared.op.Stamp.{Stamp}
+use Rattle.rep_op.specs.declared.op.Put.{Put}
+use Rattle.rep_op.specs.declared.op.Op.{Op}
+use Rattle.rep_op.specs.declared.op.Op.TheVariants.{Session as OfSession, Put as OfPut, Ack}
+use Rattle.rep_op.specs.Orders.{operation_cmp, put_cmp}
+use Rattle.rep_op.specs.Sets.{same_client, operation_of, operation_at, put_of, put_at, acknowledges, is_acknowledged, Stands, IsConsistent, Within, Same}
 use Rattle.rep_model.specs.Views.{pending_at, view}
 use Rattle.rep_model.specs.Keep.{keep, IsKeptOf, CountsAs, Below}
 use Rattle.rep_model.proofs.Lookup.{or_else, is_entry_of, is_some-find_map, find-all}

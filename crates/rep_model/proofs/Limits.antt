@@ -4,11 +4,11 @@ use Rattle.std.specs.List.{list_any, cons_option, AllByRecursion}
 use Rattle.std.specs.FinMap.{find}
 use Rattle.std.specs.FinMap.Entries.{find-where_key, is_sorted, is_sorted-where_key, same_entries}
 use Rattle.std.proofs.lemmas.Bool.{and_parts, false_from_ne_true}
-use Rattle.rep_ops.specs.declared.op.Stamp.{Stamp}
-use Rattle.rep_ops.specs.declared.op.Op.{Op}
-use Rattle.rep_ops.specs.declared.op.Op.TheVariants.{Session as OfSession, Put as OfPut, Ack}
-use Rattle.rep_ops.specs.Orders.{operation_cmp}
-use Rattle.rep_ops.specs.Sets.{same_client, operations, operation_at, is_acknowledged}
+use Rattle.rep_op.specs.declared.op.Stamp.{Stamp}
+use Rattle.rep_op.specs.declared.op.Op.{Op}
+use Rattle.rep_op.specs.declared.op.Op.TheVariants.{Session as OfSession, Put as OfPut, Ack}
+use Rattle.rep_op.specs.Orders.{operation_cmp}
+use Rattle.rep_op.specs.Sets.{same_client, operations, operation_at, is_acknowledged}
 use Rattle.rep_model.specs.declared.fault.Limit.{Limit}
 use Rattle.rep_model.specs.declared.fault.Limit.TheVariants.{Clients, Pending, Parked, Exceptions}
 use Rattle.rep_model.specs.Views.{visible, history, in_order, pending}

@@ -9,11 +9,11 @@ use Rattle.std.proofs.lemmas.Bool.{or_parts, and_parts}
 use Rattle.std.proofs.lemmas.Cmp.{tied_itself, eq_by_cmp_equiv}
 use Rattle.std.proofs.lemmas.Map.Text.{is_eq-slice_cmp}
 use Rattle.std.proofs.lemmas.Map.Views.{tells_apart, Contains-from_any, list_any-from_Contains}
-use Rattle.rep_ops.specs.declared.op.Stamp.{Stamp}
-use Rattle.rep_ops.specs.declared.op.Op.{Op}
-use Rattle.rep_ops.specs.declared.op.Op.TheVariants.{Session as OfSession, Put as OfPut, Ack}
-use Rattle.rep_ops.specs.Orders.{stamp_cmp, operation_cmp, put_cmp, client_cmp}
-use Rattle.rep_ops.specs.Sets.{same_client, operation_of, operations, operation_at, put_of, put_at, acknowledges, is_acknowledged}
+use Rattle.rep_op.specs.declared.op.Stamp.{Stamp}
+use Rattle.rep_op.specs.declared.op.Op.{Op}
+use Rattle.rep_op.specs.declared.op.Op.TheVariants.{Session as OfSession, Put as OfPut, Ack}
+use Rattle.rep_op.specs.Orders.{stamp_cmp, operation_cmp, put_cmp, client_cmp}
+use Rattle.rep_op.specs.Sets.{same_client, operation_of, operations, operation_at, put_of, put_at, acknowledges, is_acknowledged}
 use Rattle.rep_model.specs.Views.{greatest, take_stamp, names, visible, history_at, session_of, in_order, unacknowledged, view, unseen, named, clients, names_client, is_named}
 use Rattle.rep_model.specs.Fresh.{largest, one_more, next_epoch, seq_of, next_seq}
 use Rattle.rep_model.specs.Keep.{is_below, CountsAs}

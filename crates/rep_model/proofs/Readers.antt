@@ -12,12 +12,12 @@ use Rattle.std.proofs.lemmas.Map.Lookups.{CmpEqualImpliesEq, exact_unsigned, exa
 use Rattle.std.proofs.lemmas.Bool.Decides.{nat_tests}
 use Rattle.std.proofs.lemmas.Slice.Eq.{bytes_eq-Decides}
 use Rattle.sn_session.specs.declared.change.SessionOp.{SessionOp}
-use Rattle.rep_ops.specs.declared.op.Stamp.{Stamp}
-use Rattle.rep_ops.specs.declared.op.Put.{Put}
-use Rattle.rep_ops.specs.declared.op.Op.{Op}
-use Rattle.rep_ops.specs.declared.op.Op.TheVariants.{Session as OfSession, Put as OfPut, Ack}
-use Rattle.rep_ops.specs.Orders.{stamp_cmp, operation_cmp, put_cmp, client_cmp}
-use Rattle.rep_ops.specs.Sets.{same_client, operation_of, operations, operation_at, put_of, puts, put_at, acknowledges, is_acknowledged}
+use Rattle.rep_op.specs.declared.op.Stamp.{Stamp}
+use Rattle.rep_op.specs.declared.op.Put.{Put}
+use Rattle.rep_op.specs.declared.op.Op.{Op}
+use Rattle.rep_op.specs.declared.op.Op.TheVariants.{Session as OfSession, Put as OfPut, Ack}
+use Rattle.rep_op.specs.Orders.{stamp_cmp, operation_cmp, put_cmp, client_cmp}
+use Rattle.rep_op.specs.Sets.{same_client, operation_of, operations, operation_at, put_of, puts, put_at, acknowledges, is_acknowledged}
 use Rattle.rep_model.specs.Views.{take_stamp, names, visible}
 use Rattle.rep_model.specs.Keep.{is_below, is_kept, keep}
 use Rattle.rep_model.proofs.Lookup.{or_else, find_both, filter_map-filter, list_any-filter}

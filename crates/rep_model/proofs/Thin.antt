@@ -3,10 +3,10 @@ use Rattle.std.proofs.Common.{◌≡◌, ℕ, Bool, true, false, cond, not, ◌|
 use Rattle.std.specs.FinMap.Entries.{find-where_key, same_entries}
 use Rattle.std.proofs.lemmas.Cmp.{tied_itself}
 use Rattle.sn_session.specs.declared.change.SessionOp.{SessionOp}
-use Rattle.rep_ops.specs.declared.op.Stamp.{Stamp}
-use Rattle.rep_ops.specs.declared.op.Op.{Op}
-use Rattle.rep_ops.specs.Orders.{stamp_cmp, put_cmp}
-use Rattle.rep_ops.specs.Sets.{operation_at, puts, put_at, is_acknowledged, Same}
+use Rattle.rep_op.specs.declared.op.Stamp.{Stamp}
+use Rattle.rep_op.specs.declared.op.Op.{Op}
+use Rattle.rep_op.specs.Orders.{stamp_cmp, put_cmp}
+use Rattle.rep_op.specs.Sets.{operation_at, puts, put_at, is_acknowledged, Same}
 use Rattle.rep_model.specs.Views.{visible, gapless, history_at, history, session_of, unacknowledged, pending_at, in_order, pending, view}
 use Rattle.rep_model.specs.Keep.{is_below, keep, IsKeptOf}
 use Rattle.rep_model.proofs.Lookup.{or_else, find-in_order, is_sorted-in_order}

@@ -1,9 +1,9 @@
 -- The numbers that a gateway takes next.
 use Rattle.std.specs.Prelude.{ℕ, ◌+◌, ◌^◌, ◌==◌, ◌&&◌, if◌then◌else◌, nat_le, nat_lt, List, [], ◌∷◌, Option, Some, None, max}
-use Rattle.rep_ops.specs.declared.op.Stamp.{Stamp}
-use Rattle.rep_ops.specs.declared.op.Op.{Op}
-use Rattle.rep_ops.specs.declared.op.Op.TheVariants.{Session as OfSession, Put as OfPut, Ack}
-use Rattle.rep_ops.specs.Sets.{same_client, operations}
+use Rattle.rep_op.specs.declared.op.Stamp.{Stamp}
+use Rattle.rep_op.specs.declared.op.Op.{Op}
+use Rattle.rep_op.specs.declared.op.Op.TheVariants.{Session as OfSession, Put as OfPut, Ack}
+use Rattle.rep_op.specs.Sets.{same_client, operations}
 use Rattle.rep_model.specs.Views.{names}
 
 -- the greatest of these numbers, or 0
@@ -27,9 +27,10 @@ next_epoch c S = one_more (greatest_epoch c S)
 abbrev pub seq_of : List ℕ → ℕ → Op → ℕ
 seq_of c gateway (OfSession d stamp counter change) = 0
 seq_of c gateway (OfPut d put) = if same_client c d && (gateway == put.origin) then put.seq else 0
-seq_of c gateway (Ack d origin first last) = if same_client c d && (gateway == origin) && nat_le first last then last else 0
+seq_of c gateway (Ack d origin first last) =
+    if same_client c d && (gateway == origin) && nat_le first last then last else 0
 
--- the sequence number of the gateway's next put for the client: one more than the greatest among puts and
--- acknowledgements; none after the last
+-- the sequence number of the gateway's next put for the client: one more than the greatest among
+-- puts and acknowledgements; none after the last
 abbrev pub next_seq : List ℕ → ℕ → List Op → Option ℕ
 next_seq c gateway S = one_more (largest (seq_of c gateway) S)

@@ -1,11 +1,11 @@
 -- What a gateway may not forget of a set.
 use Rattle.std.specs.Prelude.{Bool, true, false, not, List, ◌++◌, filter, Option, Some, None}
 use Rattle.std.specs.Ordering.{is_lt}
-use Rattle.rep_ops.specs.declared.op.Stamp.{Stamp}
-use Rattle.rep_ops.specs.declared.op.Op.{Op}
-use Rattle.rep_ops.specs.declared.op.Op.TheVariants.{Session as OfSession, Put as OfPut, Ack}
-use Rattle.rep_ops.specs.Orders.{stamp_cmp}
-use Rattle.rep_ops.specs.Sets.{is_acknowledged, Within, Same}
+use Rattle.rep_op.specs.declared.op.Stamp.{Stamp}
+use Rattle.rep_op.specs.declared.op.Op.{Op}
+use Rattle.rep_op.specs.declared.op.Op.TheVariants.{Session as OfSession, Put as OfPut, Ack}
+use Rattle.rep_op.specs.Orders.{stamp_cmp}
+use Rattle.rep_op.specs.Sets.{is_acknowledged, Within, Same}
 use Rattle.rep_model.specs.Views.{visible}
 
 -- whether the stamp is below the visible one
@@ -13,7 +13,8 @@ abbrev pub is_below : Stamp → Option Stamp → Bool
 is_below stamp None = false
 is_below stamp (Some seen) = is_lt (stamp_cmp stamp seen)
 
--- an operation is kept unless it is a session operation below the visible stamp or an acknowledged put
+-- an operation is kept unless it is a session operation below the visible stamp or an acknowledged
+-- put
 abbrev pub is_kept : List Op → Op → Bool
 is_kept S (OfSession c stamp counter change) = not (is_below stamp (visible c S))
 is_kept S (OfPut c put) = not (is_acknowledged c S (put.seq, put.origin))

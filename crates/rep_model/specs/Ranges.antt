@@ -10,8 +10,8 @@ is_within n r = nat_le r.0 n && nat_le n r.1
 abbrev pub in_ranges : ℕ → List (ℕ × ℕ) → Bool
 in_ranges n ranges = list_any (is_within n) ranges
 
--- no range ends before it begins; the first begins at start or later, and each other one leaves out a number after the one
--- before it
+-- no range ends before it begins; the first begins at start or later, and each other one leaves out
+-- a number after the one before it
 abbrev pub AreApartFrom : ℕ → List (ℕ × ℕ) → Type 0
 AreApartFrom start [] = Unit {0}
 AreApartFrom start (r ∷ rest) = (start ≤ r.0) × (r.0 ≤ r.1) × AreApartFrom (r.1 + 2) rest

@@ -1,6 +1,6 @@
 -- Whether deltas can be taken one after the other within the limits.
 use Rattle.std.specs.Prelude.{◌≡◌, ℕ, List, None, take}
-use Rattle.rep_ops.specs.declared.op.Op.{Op}
+use Rattle.rep_op.specs.declared.op.Op.{Op}
 use Rattle.rep_ops.specs.Splitting.{all_of}
 use Rattle.rep_model.specs.Limits.{first_passed}
 

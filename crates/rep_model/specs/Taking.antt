@@ -1,9 +1,9 @@
 -- When a replica refuses a delta.
 use Rattle.std.specs.Prelude.{◌≡◌, ◌++◌, List, Some, None, Contains}
 use Rattle.std.specs.List.{AllByRecursion}
-use Rattle.rep_ops.specs.declared.op.Op.{Op}
-use Rattle.rep_ops.specs.Orders.{client_of}
-use Rattle.rep_ops.specs.Sets.{Agrees}
+use Rattle.rep_op.specs.declared.op.Op.{Op}
+use Rattle.rep_op.specs.Orders.{client_of}
+use Rattle.rep_op.specs.Sets.{Agrees}
 use Rattle.rep_model.specs.declared.fault.TakeFault.{TakeFault}
 use Rattle.rep_model.specs.declared.fault.TakeFault.TheVariants.{Conflict, Full, Memory}
 use Rattle.rep_model.specs.Limits.{first_passed}
@@ -17,8 +17,9 @@ pub record Fits (K D : List Op) : Type 0 where
   pub agrees : AllAgree K D
   pub within : first_passed (K ++ D) ≡ None
 
--- why the delta is refused: an operation of the named client contradicts one that is kept; or there is no such operation and
--- both together pass the limit, first of clients, pending, parked and exceptions; or memory ran out
+-- why the delta is refused: an operation of the named client contradicts one that is kept; or there
+-- is no such operation and both together pass the limit, first of clients, pending, parked and
+-- exceptions; or memory ran out
 abbrev pub IsFaultOf : List Op → List Op → TakeFault → Type 0
 IsFaultOf K D (Conflict c) = (o : Op) × Contains D o × (client_of o ≡ c) × (¬ (Agrees K o))
 IsFaultOf K D (Full limit) = AllAgree K D × (first_passed (K ++ D) ≡ Some limit)

@@ -8,12 +8,12 @@ use Rattle.sn_session.specs.declared.session.Session.{Session}
 use Rattle.sn_session.specs.declared.change.SessionOp.{SessionOp}
 use Rattle.sn_session.specs.declared.change.SessionOp.TheVariants.{Take}
 use Rattle.sn_session.specs.Session.{applied}
-use Rattle.rep_ops.specs.declared.op.Stamp.{Stamp}
-use Rattle.rep_ops.specs.declared.op.Put.{Put}
-use Rattle.rep_ops.specs.declared.op.Op.{Op}
-use Rattle.rep_ops.specs.declared.op.Op.TheVariants.{Session as OfSession, Put as OfPut, Ack}
-use Rattle.rep_ops.specs.Orders.{stamp_cmp, put_cmp, client_cmp}
-use Rattle.rep_ops.specs.Sets.{same_client, operations, operation_at, puts, is_acknowledged}
+use Rattle.rep_op.specs.declared.op.Stamp.{Stamp}
+use Rattle.rep_op.specs.declared.op.Put.{Put}
+use Rattle.rep_op.specs.declared.op.Op.{Op}
+use Rattle.rep_op.specs.declared.op.Op.TheVariants.{Session as OfSession, Put as OfPut, Ack}
+use Rattle.rep_op.specs.Orders.{stamp_cmp, put_cmp, client_cmp}
+use Rattle.rep_op.specs.Sets.{same_client, operations, operation_at, puts, is_acknowledged}
 use Rattle.rep_model.specs.declared.view.ClientView.{ClientView}
 
 -- the greater of the two
@@ -83,14 +83,20 @@ pending c S = map (λ e. e.1) (in_order put_cmp (unacknowledged c S))
 
 -- the view of a client
 abbrev pub view : List ℕ → List Op → ClientView
-view c S = record { stamp = visible c S; prefix = length (history c S); session = session_of (history c S); pending = pending c S }
+view c S =
+    record {
+      stamp = visible c S;
+      prefix = length (history c S);
+      session = session_of (history c S);
+      pending = pending c S;
+    }
 
 -- the view of a client that no operation names
 abbrev pub unseen : ClientView
 unseen = record { stamp = None; prefix = 0; session = None; pending = [] }
 
--- the client that an operation names, as an entry under its own name; a range of acknowledgements without a sequence number
--- names none
+-- the client that an operation names, as an entry under its own name; a range of acknowledgements
+-- without a sequence number names none
 abbrev pub named : Op → Option (List ℕ × List ℕ)
 named (OfSession c stamp counter change) = Some (c, c)
 named (OfPut c put) = Some (c, c)

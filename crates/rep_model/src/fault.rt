@@ -28,9 +28,11 @@ pub enum Limit {
     Clients,
     /// More than [`MOST_PENDING`] messages that wait for one client, 16,384.
     Pending,
-    /// More than [`MOST_PARKED`] session operations of one client that wait for earlier ones, 4,096.
+    /// More than [`MOST_PARKED`] session operations of one client that wait for earlier ones,
+    /// 4,096.
     Parked,
-    /// More than [`MOST_EXCEPTIONS`] acknowledgements of one client's messages above one that is not acknowledged, 16,384.
+    /// More than [`MOST_EXCEPTIONS`] acknowledgements of one client's messages above one that is
+    /// not acknowledged, 16,384.
     Exceptions,
 }
 

@@ -1,12 +1,13 @@
-//! The laws of sets and views. Each function does nothing; its contract is a law, proved for all sets.
+//! The laws of sets and views. Each function does nothing; its contract is a law, proved for all
+//! sets.
 
 ghost use Rattle.std.specs.Prelude.{◌≡◌, ℕ, ◌≤◌, ◌++◌, ◌||◌, ◌⊎◌, ◌↔◌, List, Some, None, true, false, IsTrue, Contains};
 ghost use Rattle.std.specs.List.{AllByRecursion};
 ghost use Rattle.std.specs.List.Sorted.{IsStrictlySortedBy};
-ghost use Rattle.rep_ops.specs.Orders.{client_cmp, put_cmp};
-ghost use Rattle.rep_ops.specs.declared.op.Op.{Op};
-ghost use Rattle.rep_ops.specs.declared.op.Put.{Put};
-ghost use Rattle.rep_ops.specs.Sets.{is_acknowledged, IsConsistent, Agrees, Within, Same};
+ghost use Rattle.rep_op.specs.Orders.{client_cmp, put_cmp};
+ghost use Rattle.rep_op.specs.declared.op.Op.{Op};
+ghost use Rattle.rep_op.specs.declared.op.Put.{Put};
+ghost use Rattle.rep_op.specs.Sets.{is_acknowledged, IsConsistent, Agrees, Within, Same};
 ghost use Rattle.rep_model.specs.Views.{pending_at, pending, view, unseen, clients, is_named};
 ghost use Rattle.rep_model.specs.Fresh.{next_epoch, next_seq};
 ghost use Rattle.rep_model.specs.Keep.{keep, IsKeptOf, CountsAs, Below};
@@ -27,9 +28,9 @@ pub fn keep_laws()
     ensures between { (c : List ℕ) (S K : List Op) → IsKeptOf S K → view c K ≡ view c S }
 {}
 
-/// Gateways that exchange what they have end up with the same, in whatever order they do it and however
-/// often: to join sets is idempotent, commutative and associative, and the join is the least set above
-/// both.
+/// Gateways that exchange what they have end up with the same, in whatever order they do it and
+/// however often: to join sets is idempotent, commutative and associative, and the join is the
+/// least set above both.
 pub fn join_laws()
     ensures idempotent { (A : List Op) → Same (A ++ A) A }
     ensures commutative { (A B : List Op) → IsConsistent (A ++ B) → Same (A ++ B) (B ++ A) }
@@ -40,24 +41,26 @@ pub fn join_laws()
     ensures equal { (c : List ℕ) (A B : List Op) → Same A B → view c A ≡ view c B }
 {}
 
-/// No message is lost by a join: what waits for a client in a part of a set waits in the whole set, or
-/// the client has acknowledged it.
+/// No message is lost by a join: what waits for a client in a part of a set waits in the whole set,
+/// or the client has acknowledged it.
 pub fn leaves_only()
     ensures { (S W : List Op) → Within S W → (c : List ℕ) (name : ℕ × ℕ) (put : Put)
         → pending_at c S name ≡ Some put → (pending_at c W name ≡ Some put)
         ⊎ (is_acknowledged c W name ≡ true) }
 {}
 
-/// Two consistent sets are consistent together exactly if the operations of one agree with the other, so
-/// a gateway that compares what it takes with what it keeps finds every contradiction, and no other.
+/// Two consistent sets are consistent together exactly if the operations of one agree with the
+/// other, so a gateway that compares what it takes with what it keeps finds every contradiction,
+/// and no other.
 pub fn consistency()
     ensures together { (K D : List Op) → IsConsistent K → IsConsistent D
         → AllByRecursion (Agrees K) D → IsConsistent (K ++ D) }
     ensures agrees { (K D : List Op) → IsConsistent (K ++ D) → AllByRecursion (Agrees K) D }
 {}
 
-/// No client is forgotten: the clients of what is kept are those of what was taken. The list of clients
-/// has exactly the named ones, in ascending order, each once; of any other client nothing is known.
+/// No client is forgotten: the clients of what is kept are those of what was taken. The list of
+/// clients has exactly the named ones, in ascending order, each once; of any other client nothing
+/// is known.
 pub fn client_laws()
     ensures named { (c : List ℕ) (S : List Op) → is_named c (keep S) ≡ is_named c S }
     ensures kept { (S : List Op) → clients (keep S) ≡ clients S }
@@ -70,8 +73,8 @@ pub fn client_laws()
         → next_seq c gateway S ≡ Some 1 }
 {}
 
-/// A replica that keeps as much as counts answers every question as if it had kept all, refuses for the
-/// same limit, and still does so after it takes more, whatever it forgets then.
+/// A replica that keeps as much as counts answers every question as if it had kept all, refuses for
+/// the same limit, and still does so after it takes more, whatever it forgets then.
 pub fn count_laws()
     ensures itself { (S : List Op) → CountsAs S S }
     ensures taken { (S K Y L : List Op) → CountsAs S K → IsKeptOf (K ++ Y) L → CountsAs (S ++ Y) L }
@@ -86,8 +89,8 @@ pub fn count_laws()
         → first_passed (K ++ Y) ≡ first_passed (S ++ Y) }
 {}
 
-/// Order does not matter: two lists of the same operations, in whatever order and groups they came and
-/// however often, are the same set, and equal sets answer every question alike.
+/// Order does not matter: two lists of the same operations, in whatever order and groups they came
+/// and however often, are the same set, and equal sets answer every question alike.
 pub fn order_laws()
     ensures elements { (A B : List Op) → IsConsistent A
         → ((op : Op) → Contains A op ↔ Contains B op) → Same A B }
@@ -102,8 +105,8 @@ pub fn order_laws()
     ensures limit { (A B : List Op) → Same A B → first_passed A ≡ first_passed B }
 {}
 
-/// The ranges of acknowledgements say exactly what is acknowledged, and there is one way to write them:
-/// in ascending order, neither overlapping nor touching.
+/// The ranges of acknowledgements say exactly what is acknowledged, and there is one way to write
+/// them: in ascending order, neither overlapping nor touching.
 pub fn range_laws()
     ensures says { (c : List ℕ) (origin seq : ℕ) (S : List Op)
         → in_ranges seq (acknowledged c origin S) ≡ is_acknowledged c S (seq, origin) }
@@ -116,8 +119,8 @@ pub fn range_laws()
         → range.0 ≤ range.1 → AreApart (with_range range ranges) }
 {}
 
-/// The messages that wait for a client, as its view lists them: exactly those that are found under their names, in the order
-/// of delivery, each once.
+/// The messages that wait for a client, as its view lists them: exactly those that are found under
+/// their names, in the order of delivery, each once.
 pub fn pending_laws()
     ensures listed { (c : List ℕ) (S : List Op) (put : Put)
         → Contains (pending c S) put ↔ (pending_at c S (put.seq, put.origin) ≡ Some put) }
@@ -129,9 +132,9 @@ pub fn pending_laws()
         ⊎ (is_acknowledged c W (put.seq, put.origin) ≡ true) }
 {}
 
-/// A set that is written down as the deltas of what must be kept of it can be read back: together these deltas are what a replica
-/// may hold of the set, and where the set passes no limit they can be taken one after the other, since no front part of them
-/// passes a limit either.
+/// A set that is written down as the deltas of what must be kept of it can be read back: together
+/// these deltas are what a replica may hold of the set, and where the set passes no limit they can
+/// be taken one after the other, since no front part of them passes a limit either.
 pub fn base_laws()
     ensures between { (S : List Op) (base : List (List Op)) → IsHeld S base
         → IsKeptOf S (all_of base) }

@@ -1,20 +1,21 @@
 //! What a set of operations means, and what a gateway must keep of it.
 //!
-//! A client's *view* is read off the set of operations that a gateway has taken: the visible stamp, how
-//! many of its operations are there without a gap, the session that they make, and the messages that
-//! wait. Nothing else counts: not the order in which the operations came, nor how often.
+//! A client's *view* is read off the set of operations that a gateway has taken: the visible stamp,
+//! how many of its operations are there without a gap, the session that they make, and the messages
+//! that wait. Nothing else counts: not the order in which the operations came, nor how often.
 //!
 //! - `view`: the view of a client, as a value (`ClientView`).
 //! - `laws`: the laws of sets and views, proved of all sets.
-//! - `fault`: why a replica refuses a delta, and how much it holds at most (`MOST_CLIENTS` and the others).
+//! - `fault`: why a replica refuses a delta, and how much it holds at most (`MOST_CLIENTS` and the
+//!   others).
 //! - `replica`: what every replica of a set promises (`Replica`), however it keeps it.
 //!
-//! The definitions are in `specs/`: `Views` (visible stamp, prefix, session, pending), `Fresh` (the next
-//! epoch and sequence number), `Keep` (what may not be forgotten), `Held` (that as deltas), `Ranges` (of
-//! acknowledgements), `Limits` (how much a replica holds), `Roomy` (deltas that fit one after the other), `Asking` (whom a
-//! publication passes over).
-//! The lemmas that crates above cite are in `proofs/`: `Joins`, `Thin`, `Ranges`, `Named`, `Fresh`,
-//! `Limits`, `Agreeing`, `Occurring`, `Roomy`.
+//! The definitions are in `specs/`: `Views` (visible stamp, prefix, session, pending), `Fresh` (the
+//! next epoch and sequence number), `Keep` (what may not be forgotten), `Held` (that as deltas),
+//! `Ranges` (of acknowledgements), `Limits` (how much a replica holds), `Roomy` (deltas that fit
+//! one after the other), `Asking` (whom a publication passes over). The lemmas that crates above
+//! cite are in `proofs/`: `Joins`, `Thin`, `Ranges`, `Named`, `Fresh`, `Limits`, `Agreeing`,
+//! `Occurring`, `Roomy`.
 #![tactic(auto)]
 
 mod fault;

@@ -1,7 +1,7 @@
 //! What every replica of a set of operations promises.
 
 ghost use Rattle.std.specs.Prelude.{◌≡◌, ℕ, ◌+◌, ◌++◌, ◌∷◌, List, [], drop, false, true, IfOk, OnOk, IfErr, MatchOption};
-ghost use Rattle.rep_ops.specs.declared.op.Op.{Op};
+ghost use Rattle.rep_op.specs.declared.op.Op.{Op};
 ghost use Rattle.rep_ops.specs.Making.{AreWellMade};
 ghost use Rattle.rep_model.specs.Views.{view, clients, is_named};
 ghost use Rattle.rep_model.specs.Fresh.{next_epoch, next_seq};
@@ -17,8 +17,8 @@ use std::alloc::Global;
 
 /// A replica of a set of operations.
 ///
-/// `kept` is the set that it keeps. Of a set S that it has taken it may forget session operations below
-/// the visible stamp and acknowledged puts; every answer is the same as for S.
+/// `kept` is the set that it keeps. Of a set S that it has taken it may forget session operations
+/// below the visible stamp and acknowledged puts; every answer is the same as for S.
 pub trait Replica: Drop {
     ghost use Rattle.rep_model.specs.Taking.{Fits, IsFaultOf};
     ghost use Rattle.rep_model.specs.declared.fault.TakeFault.TheVariants.{Memory};
@@ -65,8 +65,8 @@ pub trait Replica: Drop {
         ensures ok { IfOk result (λ all. all.items ≡ clients (kept self.now)) }
         ensures err { IfErr result (λ fault. fault ≡ Memory) };
 
-    /// The client at a place among those that operations name, which stand in ascending order from place 0 on, with its
-    /// view, and the place behind it; nothing behind the last.
+    /// The client at a place among those that operations name, which stand in ascending order from
+    /// place 0 on, with its view, and the place behind it; nothing behind the last.
     fn client_at(&self, place: usize) -> Option<(usize, &ClientId, &ClientView)>
         ensures { MatchOption result
             (drop place (clients (kept self.now)) ≡ [])
@@ -75,9 +75,10 @@ pub trait Replica: Drop {
             × (found.0 ≡ place + 1)
             × (found.2.now ≡ view found.1.now (kept self.now))) };
 
-    /// The next client, from a place on, that may be subscribed to the topic (MQTT-SN 1.2 section 6.10), with its view, and the
-    /// place behind it; nothing only where nobody who is left is subscribed. Whoever is passed over is not. A replica need not pass
-    /// over everybody that it could: whom it finds is to be asked.
+    /// The next client, from a place on, that may be subscribed to the topic (MQTT-SN 1.2 section
+    /// 6.10), with its view, and the place behind it; nothing only where nobody who is left is
+    /// subscribed. Whoever is passed over is not. A replica need not pass over everybody that it
+    /// could: whom it finds is to be asked.
     fn next_candidate(
         &self,
         topic: &TopicName,
@@ -85,7 +86,8 @@ pub trait Replica: Drop {
     ) -> Option<(usize, &ClientId, &ClientView)>
         ensures { MatchOption result
             (NoneAsks topic.now (kept self.now) (drop place (clients (kept self.now))))
-            (λ found. IsCandidate topic.now (kept self.now) place found.0 found.1.now found.2.now) };
+            (λ found. IsCandidate topic.now
+            (kept self.now) place found.0 found.1.now found.2.now) };
 
     /// The epoch of the client's next Take; nothing after the last.
     fn next_epoch(&self, client: &ClientId) -> Option<u64>
@@ -95,9 +97,9 @@ pub trait Replica: Drop {
     fn next_seq(&self, client: &ClientId, gateway: u8) -> Option<u64>
         ensures { result ≡ next_seq client.now gateway (kept self.now) };
 
-    /// The operations that must be kept, in the order of their names, as deltas that are as full as they
-    /// can be: a new one begins where the next operation does not fit. Where nothing must be kept there is
-    /// no delta. Want of memory is the only fault. Whatever is kept is well made.
+    /// The operations that must be kept, in the order of their names, as deltas that are as full as
+    /// they can be: a new one begins where the next operation does not fit. Where nothing must be
+    /// kept there is no delta. Want of memory is the only fault. Whatever is kept is well made.
     fn held(&self, alloc: Global) -> Result<Vec<Delta>, TakeFault>
         ensures ok { IfOk result (λ deltas. IsHeld (kept self.now) deltas.items) }
         ensures made { AreWellMade (kept self.now) }

@@ -16,7 +16,7 @@ pub struct Puts {
 
 impl Model for Puts {
     ghost use Rattle.std.specs.Prelude.{List};
-    ghost use Rattle.rep_ops.specs.declared.op.Put.{Put};
+    ghost use Rattle.rep_op.specs.declared.op.Put.{Put};
 
     ghost Value = { List Put };
 

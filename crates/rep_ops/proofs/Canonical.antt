@@ -8,19 +8,19 @@ use Rattle.std.specs.declared.cmp.Ordering.TheVariants.{Less, Equal, Greater}
 use Rattle.std.proofs.lemmas.Bool.{and_parts, and_from, leb-true, le-leb, eqb-true, eq-eqb, or_cases, or_right, cases_order}
 use Rattle.std.proofs.lemmas.Slice.Eq.{bytes_eq-Decides}
 use Rattle.sn_session.specs.declared.change.SessionOp.{SessionOp}
-use Rattle.rep_ops.specs.declared.op.Stamp.{Stamp}
-use Rattle.rep_ops.specs.declared.op.Put.{Put}
-use Rattle.rep_ops.specs.declared.op.Op.{Op}
-use Rattle.rep_ops.specs.declared.op.Op.TheVariants.{Session as OfSession, Put as OfPut, Ack}
-use Rattle.rep_ops.specs.Deltas.{IsDelta, HasTwice}
+use Rattle.rep_op.specs.declared.op.Stamp.{Stamp}
+use Rattle.rep_op.specs.declared.op.Put.{Put}
+use Rattle.rep_op.specs.declared.op.Op.{Op}
+use Rattle.rep_op.specs.declared.op.Op.TheVariants.{Session as OfSession, Put as OfPut, Ack}
+use Rattle.rep_ops.specs.Deltas.{IsDelta}
+use Rattle.rep_op.specs.Orders.{HasTwice, client_cmp, name_cmp, operation_cmp, put_cmp}
 use Rattle.rep_ops.specs.Making.{AreWellMade}
-use Rattle.rep_ops.specs.Orders.{client_cmp, name_cmp, operation_cmp, put_cmp}
-use Rattle.rep_ops.specs.Sets.{same_client, operation_of, put_of, acknowledges, is_acknowledged, Same}
-use Rattle.rep_ops.specs.WellMade.{is_well_made}
+use Rattle.rep_op.specs.Sets.{same_client, operation_of, put_of, acknowledges, is_acknowledged, Same}
+use Rattle.rep_op.specs.WellMade.{is_well_made}
 use Rattle.rep_ops.proofs.Joined.{rising_ascending}
-use Rattle.rep_ops.proofs.Names.{name_total, name_irreflexive, made_range, then_equal, nat_equal, client_equal}
+use Rattle.rep_op.proofs.Names.{name_total, name_irreflexive, made_range, then_equal, nat_equal, client_equal}
 use Rattle.rep_ops.proofs.Rising.{Past, Rising, ack_below, rising_apart}
-use Rattle.rep_ops.proofs.Sets.{IsIn, find_in, find_of, operation_exact, put_exact, operation_shape, put_shape, operations_single, puts_single, any_in, any_found, Same-sym}
+use Rattle.rep_op.proofs.Sets.{IsIn, find_in, find_of, operation_exact, put_exact, operation_shape, put_shape, operations_single, puts_single, any_in, any_found, Same-sym}
 
 -- ---- one list has what the other has
 

@@ -3,11 +3,12 @@ use Rattle.std.proofs.Common.{◌≡◌, ℕ, List, [], ◌∷◌, Ok, Err, refl
 use Rattle.sn_session.specs.declared.presence.Presence.TheVariants.{Active}
 use Rattle.sn_session.specs.declared.change.SessionOp.TheVariants.{Take}
 use Rattle.sn_session.specs.Session.{empty_session}
-use Rattle.rep_ops.specs.declared.fault.OpsFault.TheVariants as faults
-use Rattle.rep_ops.specs.declared.op.Op.{Op}
-use Rattle.rep_ops.specs.declared.op.Op.TheVariants.{Session as OfSession, Ack}
+use Rattle.rep_op.specs.declared.fault.OpsFault.TheVariants as faults
+use Rattle.rep_op.specs.declared.op.Op.{Op}
+use Rattle.rep_op.specs.declared.op.Op.TheVariants.{Session as OfSession, Ack}
 use Rattle.rep_ops.specs.inner.Joining.{joined}
-use Rattle.rep_ops.specs.Reading.{reading, whole_at, text_at, listed_at, op_at, ack_at, range_at, client_at}
+use Rattle.rep_ops.specs.Reading.{reading, whole_at, text_at, listed_at}
+use Rattle.rep_octets.specs.Reading.{op_at, ack_at, range_at, client_at}
 use Rattle.rep_ops.specs.Spelling.{spelling}
 
 -- a client `s1`

@@ -10,20 +10,22 @@ use Rattle.std.proofs.lemmas.Bool.{cases_Bool, and_parts, and_from, eqb-true, eq
 use Rattle.std.proofs.lemmas.List.{append-nil, nil_from_length, length-append}
 use Rattle.std.proofs.lemmas.Slice.Eq.{bytes_eq-Decides}
 use Rattle.byteorder.specs.Endian.{big_bytes}
-use Rattle.rep_ops.specs.declared.fault.OpsFault.{OpsFault}
-use Rattle.rep_ops.specs.declared.fault.OpsFault.TheVariants as faults
-use Rattle.rep_ops.specs.declared.op.Op.{Op}
-use Rattle.rep_ops.specs.declared.op.Op.TheVariants.{Session as OfSession, Put as OfPut, Ack}
+use Rattle.rep_op.specs.declared.fault.OpsFault.{OpsFault}
+use Rattle.rep_op.specs.declared.fault.OpsFault.TheVariants as faults
+use Rattle.rep_op.specs.declared.op.Op.{Op}
+use Rattle.rep_op.specs.declared.op.Op.TheVariants.{Session as OfSession, Put as OfPut, Ack}
 use Rattle.rep_ops.specs.Deltas.{IsDelta, IsAscending, IsBefore, IsApart}
 use Rattle.rep_ops.specs.Formats.{IsSpelled}
 use Rattle.rep_ops.specs.Making.{AreWellMade}
-use Rattle.rep_ops.specs.Orders.{name_cmp}
-use Rattle.rep_ops.specs.Reading.{AreOctets, op_at, is_apart, is_next, may_follow, reading}
-use Rattle.rep_ops.specs.Sets.{same_client}
-use Rattle.rep_ops.specs.Spelling.{op_octets, spelling, max_octets}
-use Rattle.rep_ops.specs.Values.{AreValues}
+use Rattle.rep_op.specs.Orders.{name_cmp}
+use Rattle.rep_ops.specs.Reading.{AreOctets, is_apart, is_next, may_follow, reading}
+use Rattle.rep_octets.specs.Reading.{op_at}
+use Rattle.rep_op.specs.Sets.{same_client}
+use Rattle.rep_octets.specs.Spelling.{op_octets}
+use Rattle.rep_ops.specs.Spelling.{spelling, max_octets}
+use Rattle.rep_op.specs.Values.{AreValues}
 use Rattle.rep_ops.proofs.Listed.{FitsText, Order, whole_takes, whole_again, one_text, text_cut, text_behind}
-use Rattle.rep_ops.proofs.Operations.{FitsOp, op_law}
+use Rattle.rep_octets.proofs.Operations.{FitsOp, op_law}
 use Rattle.rep_ops.proofs.Sizes.{length_ops}
 
 -- ---- the order

@@ -10,17 +10,17 @@ use Rattle.std.proofs.lemmas.Bool.{cases_Bool, cases_lt, both_ways}
 use Rattle.std.proofs.lemmas.Bool.Decides.{nat_tests}
 use Rattle.std.proofs.lemmas.List.Sorted.{ranks_by}
 use Rattle.sn_session.specs.declared.change.SessionOp.{SessionOp}
-use Rattle.rep_ops.specs.declared.op.Stamp.{Stamp}
-use Rattle.rep_ops.specs.declared.op.Put.{Put}
-use Rattle.rep_ops.specs.declared.op.Op.{Op}
-use Rattle.rep_ops.specs.declared.op.Op.TheVariants.{Session as OfSession, Put as OfPut, Ack}
+use Rattle.rep_op.specs.declared.op.Stamp.{Stamp}
+use Rattle.rep_op.specs.declared.op.Put.{Put}
+use Rattle.rep_op.specs.declared.op.Op.{Op}
+use Rattle.rep_op.specs.declared.op.Op.TheVariants.{Session as OfSession, Put as OfPut, Ack}
 use Rattle.rep_ops.specs.Deltas.{IsDelta, IsAscending, IsBefore}
 use Rattle.rep_ops.specs.inner.Joining.{joins, united, united_from, joined}
 use Rattle.rep_ops.specs.Making.{AreWellMade}
-use Rattle.rep_ops.specs.Orders.{name_cmp, operation_cmp, put_cmp}
-use Rattle.rep_ops.specs.Sets.{same_client, operation_at, put_at, acknowledges, is_acknowledged, Same}
-use Rattle.rep_ops.specs.WellMade.{is_well_made}
-use Rattle.rep_ops.proofs.Names.{made_range, range_made, name_total, share_equal, less_nat, same_client_cmp, same_nat}
+use Rattle.rep_op.specs.Orders.{name_cmp, operation_cmp, put_cmp}
+use Rattle.rep_op.specs.Sets.{same_client, operation_at, put_at, acknowledges, is_acknowledged, Same}
+use Rattle.rep_op.specs.WellMade.{is_well_made}
+use Rattle.rep_op.proofs.Names.{made_range, range_made, name_total, share_equal, less_nat, same_client_cmp, same_nat}
 use Rattle.rep_ops.proofs.Joining.{near_parts, near_joins, all_joined}
 use Rattle.rep_ops.proofs.Rising.{Past, Rising, all_past}
 

@@ -1,9 +1,10 @@
 -- Reading values one after the other, of which each may stand behind those before it, as a loop does.
 use Rattle.std.proofs.Common.{◌≡◌, ℕ, zero, suc, ◌+◌, ◌-◌, ◌<◌, ◌≤◌, Bool, true, false, List, [], ◌∷◌, ◌++◌, length, Result, Ok, Err, Some, refl, sym, ap, ◌∙◌, arith}
 use Rattle.std.specs.Prelude.{slice_get}
-use Rattle.rep_ops.specs.declared.fault.OpsFault.{OpsFault}
-use Rattle.rep_ops.specs.declared.fault.OpsFault.TheVariants as faults
-use Rattle.rep_ops.specs.Reading.{Reader, Fails, follows_last, listed_at}
+use Rattle.rep_op.specs.declared.fault.OpsFault.{OpsFault}
+use Rattle.rep_op.specs.declared.fault.OpsFault.TheVariants as faults
+use Rattle.rep_octets.specs.Reading.{Reader, Fails}
+use Rattle.rep_ops.specs.Reading.{follows_last, listed_at}
 
 module _ {A : Type 0} (next : A → A → Bool) where
   follow_at : (front : List A) (k : ℕ) (last x : A) → suc k ≡ length front → slice_get front k ≡ Some last → follows_last next front x ≡ next last x

@@ -8,20 +8,19 @@ use Rattle.std.specs.Ordering.{is_lt}
 use Rattle.std.specs.Prelude.{IsTrue}
 use Rattle.std.proofs.lemmas.List.Elements.{All-from_recursion, recursion_from_All}
 use Rattle.std.proofs.lemmas.List.Sorted.{All-permutation, IsPermutation-sym}
-use Rattle.rep_ops.specs.declared.fault.OpsFault.{OpsFault}
-use Rattle.rep_ops.specs.declared.fault.OpsFault.TheVariants.{Memory, Twice}
-use Rattle.rep_ops.specs.declared.op.Op.{Op}
-use Rattle.rep_ops.specs.Deltas.{ShareName}
-use Rattle.rep_ops.specs.declared.op.Op.TheVariants.{Session as OfSession, Put as OfPut, Ack}
+use Rattle.rep_op.specs.declared.fault.OpsFault.{OpsFault}
+use Rattle.rep_op.specs.declared.fault.OpsFault.TheVariants.{Memory, Twice}
+use Rattle.rep_op.specs.declared.op.Op.{Op}
+use Rattle.rep_op.specs.Orders.{ShareName, name_cmp}
+use Rattle.rep_op.specs.declared.op.Op.TheVariants.{Session as OfSession, Put as OfPut, Ack}
 use Rattle.rep_ops.specs.inner.Joining.{united, joined}
 use Rattle.rep_ops.specs.Making.{AreWellMade, AreApart, IsDeltaOf}
-use Rattle.rep_ops.specs.Orders.{name_cmp}
-use Rattle.rep_ops.specs.Values.{IsValue, AreValues}
-use Rattle.rep_ops.specs.WellMade.{is_well_made}
+use Rattle.rep_op.specs.Values.{IsValue, AreValues}
+use Rattle.rep_op.specs.WellMade.{is_well_made}
 use Rattle.rep_ops.proofs.Joining.{all_joined}
 use Rattle.rep_ops.proofs.Joined.{delta_joined, same_joined}
 use Rattle.rep_ops.proofs.Rising.{rising_from, rising_apart}
-use Rattle.rep_ops.proofs.Sets.{twice_permutation, same_permutation, Same-sym, Same-trans}
+use Rattle.rep_op.proofs.Sets.{twice_permutation, same_permutation, Same-sym, Same-trans}
 
 pub made_permutation : (xs ys : List Op) → IsPermutation xs ys → AreWellMade xs → AreWellMade ys
 made_permutation xs ys p h =

@@ -8,14 +8,13 @@ use Rattle.std.specs.declared.cmp.Ordering.{Ordering}
 use Rattle.std.specs.declared.cmp.Ordering.TheVariants.{Less, Equal, Greater}
 use Rattle.std.proofs.lemmas.Bool.{cases_lt}
 use Rattle.std.proofs.lemmas.Cmp.{nat_cmp_total, nat_list_cmp_total}
-use Rattle.rep_ops.specs.declared.op.Stamp.{Stamp}
-use Rattle.rep_ops.specs.declared.op.Op.{Op}
-use Rattle.rep_ops.specs.declared.op.Op.TheVariants.{Session as OfSession, Put as OfPut, Ack}
-use Rattle.rep_ops.specs.Deltas.{ShareName, HasTwice}
+use Rattle.rep_op.specs.declared.op.Stamp.{Stamp}
+use Rattle.rep_op.specs.declared.op.Op.{Op}
+use Rattle.rep_op.specs.declared.op.Op.TheVariants.{Session as OfSession, Put as OfPut, Ack}
+use Rattle.rep_op.specs.Orders.{ShareName, HasTwice, client_cmp, name_cmp}
 use Rattle.rep_ops.specs.Making.{AreWellMade}
-use Rattle.rep_ops.specs.Orders.{client_cmp, name_cmp}
-use Rattle.rep_ops.specs.WellMade.{is_well_made}
-use Rattle.rep_ops.proofs.Names.{nat_equal, nat_less, client_equal, same_client_cmp, same_nat, then_less, then_between, name_total, made_range, share_equal}
+use Rattle.rep_op.specs.WellMade.{is_well_made}
+use Rattle.rep_op.proofs.Names.{nat_equal, nat_less, client_equal, same_client_cmp, same_nat, then_less, then_between, name_total, made_range, share_equal}
 
 -- ranges of one client and origin have more than k sequence numbers between them
 abbrev pub IsClear : ℕ → Op → Op → Type 0

@@ -10,16 +10,16 @@ use Rattle.std.proofs.lemmas.List.Sorted.{IsPermutation-sym}
 use Rattle.std.proofs.lemmas.Slice.Eq.{bytes_eq-Decides}
 use Rattle.sn_session.specs.declared.presence.Presence.TheVariants as presences
 use Rattle.sn_session.specs.declared.change.SessionOp.TheVariants.{Presence as SetPresence}
-use Rattle.rep_ops.specs.declared.op.Stamp.{Stamp}
-use Rattle.rep_ops.specs.declared.op.Op.{Op}
-use Rattle.rep_ops.specs.declared.op.Op.TheVariants.{Session as OfSession, Put as OfPut, Ack}
-use Rattle.rep_ops.specs.declared.fault.OpsFault.{OpsFault}
+use Rattle.rep_op.specs.declared.op.Stamp.{Stamp}
+use Rattle.rep_op.specs.declared.op.Op.{Op}
+use Rattle.rep_op.specs.declared.op.Op.TheVariants.{Session as OfSession, Put as OfPut, Ack}
+use Rattle.rep_op.specs.declared.fault.OpsFault.{OpsFault}
 use Rattle.rep_ops.specs.Making.{IsDeltaOf, AreWellMade}
 use Rattle.rep_ops.specs.inner.Joining.{joined}
-use Rattle.rep_ops.specs.Orders.{name_cmp, operation_cmp, put_cmp}
-use Rattle.rep_ops.specs.Sets.{same_client, operation_at, put_at, acknowledges, is_acknowledged, Same}
-use Rattle.rep_ops.proofs.Names.{name_total, same_client_cmp, then_equal}
-use Rattle.rep_ops.proofs.Sets.{in_permutation, any_found, any_in, same_Bool, Same-trans}
+use Rattle.rep_op.specs.Orders.{name_cmp, operation_cmp, put_cmp}
+use Rattle.rep_op.specs.Sets.{same_client, operation_at, put_at, acknowledges, is_acknowledged, Same}
+use Rattle.rep_op.proofs.Names.{name_total, same_client_cmp, then_equal}
+use Rattle.rep_op.proofs.Sets.{in_permutation, any_found, any_in, same_Bool, Same-trans}
 use Rattle.rep_ops.proofs.Joined.{IsSortedByName, operation_front, put_front, equal_is, delta_joined, same_joined}
 use Rattle.rep_ops.proofs.Making.{made_permutation}
 

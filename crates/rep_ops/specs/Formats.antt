@@ -1,6 +1,6 @@
 -- The format as a relation of octets with deltas.
 use Rattle.std.specs.Prelude.{◌≡◌, ℕ, List}
-use Rattle.rep_ops.specs.declared.op.Op.{Op}
+use Rattle.rep_op.specs.declared.op.Op.{Op}
 use Rattle.rep_ops.specs.Deltas.{IsDelta}
 use Rattle.rep_ops.specs.Spelling.{spelling, IsWithinLimit}
 

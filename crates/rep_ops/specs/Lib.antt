@@ -1,16 +1,7 @@
-pub mod ClientIds
-pub mod Faults
-pub mod Orders
-pub mod Sets
-pub mod Ranges
-pub mod Sessions
-pub mod WellMade
 pub mod Deltas
 pub mod Spelling
 pub mod Making
 pub mod Splitting
-pub mod Writing
 pub mod Reading
-pub mod Values
 pub mod Formats
 pub mod inner

@@ -1,28 +1,29 @@
 //! A set of operations that travels in one piece.
 
 ghost use Rattle.std.specs.Prelude.{◌≡◌, ◌≢◌, ◌⊎◌, ◌<◌, ◌≤◌, ◌==◌, ℕ, List, [], Ok, Err, ◌++◌, length, IfOk, IfErr, OnOk, OnErr, ◌↔◌};
-ghost use Rattle.rep_ops.specs.Deltas.{IsDelta, HasTwice};
+ghost use Rattle.rep_ops.specs.Deltas.{IsDelta};
+ghost use Rattle.rep_op.specs.Orders.{HasTwice};
 ghost use Rattle.rep_ops.specs.inner.Joining.{joined};
 ghost use Rattle.rep_ops.specs.Making.{AreWellMade, AreApart, IsDeltaOf, IsRefusal};
 ghost use Rattle.rep_ops.specs.Formats.{IsSpelled};
-ghost use Rattle.rep_ops.specs.Reading.{Gives, reading, AreOctets};
-ghost use Rattle.rep_ops.specs.Sets.{Same};
-ghost use Rattle.rep_ops.specs.Values.{AreValues};
+ghost use Rattle.rep_octets.specs.Reading.{Gives};
+ghost use Rattle.rep_ops.specs.Reading.{reading, AreOctets};
+ghost use Rattle.rep_op.specs.Sets.{Same};
+ghost use Rattle.rep_op.specs.Values.{AreValues};
 ghost use Rattle.rep_ops.specs.Spelling.{spelling, max_octets, IsWithinLimit};
-ghost use Rattle.rep_ops.specs.declared.op.Op.{Op};
+ghost use Rattle.rep_op.specs.declared.op.Op.{Op};
 
-use super::fault::OpsFault;
 use super::join::{has_twice, join_names, sort_by_name};
-use super::op::Op;
 use super::read::read_delta;
 use super::size::{are_well_made, is_within_limit};
 use super::write::write_delta;
 use octets::NoMemory;
+use rep_op::{Op, OpsFault};
 use std::alloc::Global;
 use std::marker::Model;
 
-/// A set of operations, in the order of their names; acknowledgements that touch are one range, and it
-/// is spelled in at most 8,388,608 octets. Contracts see the list of its operations.
+/// A set of operations, in the order of their names; acknowledgements that touch are one range, and
+/// it is spelled in at most 8,388,608 octets. Contracts see the list of its operations.
 #[derive(Debug, Drop)]
 pub struct Delta {
     pub(crate) ops: Vec<Op>,
@@ -30,16 +31,17 @@ pub struct Delta {
 
 impl Model for Delta {
     ghost use Rattle.std.specs.Prelude.{List};
-    ghost use Rattle.rep_ops.specs.declared.op.Op.{Op};
+    ghost use Rattle.rep_op.specs.declared.op.Op.{Op};
     ghost use Rattle.rep_ops.specs.Deltas.{IsDelta};
     ghost use Rattle.rep_ops.specs.Spelling.{IsWithinLimit};
-    ghost use Rattle.rep_ops.specs.Values.{AreValues};
+    ghost use Rattle.rep_op.specs.Values.{AreValues};
 
     ghost Value = { List Op };
 
     ghost view = { λ d. d.ops.items };
 
-    ghost invariant = { λ d. IsDelta d.ops.items × IsWithinLimit d.ops.items × AreValues d.ops.items };
+    ghost invariant = { λ d. IsDelta d.ops.items × IsWithinLimit d.ops.items
+        × AreValues d.ops.items };
 }
 
 impl Delta {
@@ -55,8 +57,8 @@ impl Delta {
     /// The delta that is the set of these operations: sorted by their names, with ranges of
     /// acknowledgements that touch joined.
     ///
-    /// `Kind` for an operation that no delta may hold; else `Twice` for two that have a name in common;
-    /// else `Limit` where the delta would be spelled in more than 8,388,608 octets.
+    /// `Kind` for an operation that no delta may hold; else `Twice` for two that have a name in
+    /// common; else `Limit` where the delta would be spelled in more than 8,388,608 octets.
     pub fn from_ops(alloc: Global, ops: Vec<Op>) -> Result<Delta, OpsFault>
         ensures ok { IfOk result (λ d. AreApart ops.items × IsDeltaOf ops.items d
             × IsWithinLimit d) }
@@ -98,10 +100,11 @@ impl Delta {
 
     /// The delta that octets spell.
     ///
-    /// `Limit` for more than 8,388,608 octets; else the first of these from the left: `Version` for a
-    /// version other than 1, `Truncated` where the octets end, `Kind` for a value out of range (a length,
-    /// count or tag as soon as it is read, any other value when it is whole), `Order` for an operation that
-    /// may not stand behind the one before it, and last `Trailing` for octets behind the delta.
+    /// `Limit` for more than 8,388,608 octets; else the first of these from the left: `Version` for
+    /// a version other than 1, `Truncated` where the octets end, `Kind` for a value out of range (a
+    /// length, count or tag as soon as it is read, any other value when it is whole), `Order` for
+    /// an operation that may not stand behind the one before it, and last `Trailing` for octets
+    /// behind the delta.
     pub fn decode(alloc: Global, bytes: &[u8]) -> Result<Delta, OpsFault>
         // What is read is spelled so.
         ensures ok { IfOk result (IsSpelled bytes.now) }
@@ -202,7 +205,8 @@ pub fn one_reading()
 
 /// No spelling begins another.
 pub fn no_prefix()
-    // Where two spellings stand in front of the same octets they are the same, and so is what is behind them.
+    // Where two spellings stand in front of the same octets they are the same, and so is what is
+    // behind them.
     ensures free { (a b : List Op) (x y : List ℕ) → IsDelta a → AreValues a → IsWithinLimit a
         → IsDelta b → AreValues b → IsWithinLimit b
         → spelling a ++ x ≡ spelling b ++ y → (a ≡ b) × (x ≡ y) }
@@ -211,5 +215,6 @@ pub fn no_prefix()
         → spelling d ≡ front ++ rest → rest ≢ [] → reading front ≡ Err OpsFault.Truncated }
     // What stands behind is told by `Trailing`.
     ensures behind { (d : List Op) (rest : List ℕ) → IsDelta d → AreValues d → rest ≢ []
-        → length (spelling d ++ rest) ≤ max_octets → reading (spelling d ++ rest) ≡ Err OpsFault.Trailing }
+        → length (spelling d ++ rest) ≤ max_octets
+        → reading (spelling d ++ rest) ≡ Err OpsFault.Trailing }
 {}

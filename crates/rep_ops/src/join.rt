@@ -4,14 +4,12 @@ ghost use Rattle.std.specs.Prelude.{◌≡◌, ◌<◌, ◌+◌, ℕ, IsTrue, Is
 ghost use Rattle.std.specs.List.{AllAdjacentBelow};
 ghost use Rattle.std.specs.List.Sorted.{IsPermutation, IsSortedBy, IsStableBy};
 ghost use Rattle.std.specs.Ordering.{is_lt};
-ghost use Rattle.rep_ops.specs.Deltas.{ShareName, HasTwice};
-ghost use Rattle.rep_ops.specs.declared.op.Op.{Op};
-ghost use Rattle.rep_ops.specs.inner.Joining.{joins as join_test, united as united_op, joined as all_joined};
-ghost use Rattle.rep_ops.specs.Orders.{name_cmp};
+ghost use Rattle.rep_op.specs.Orders.{ShareName, HasTwice, name_cmp};
+ghost use Rattle.rep_op.specs.declared.op.Op.{Op};
+ghost use Rattle.rep_ops.specs.inner.Joining as spec;
 
-use super::op::Op;
-use super::order::{name_order, share_name};
 use octets::NoMemory;
+use rep_op::{Op, name_order, share_name};
 use std::alloc::Global;
 
 /// Sorts operations by their names.
@@ -46,9 +44,10 @@ pub fn has_twice(ops: &[Op]) -> bool
     false
 }
 
-/// Whether the second has the name of the first, or is a range that begins within it or right behind.
+/// Whether the second has the name of the first, or is a range that begins within it or right
+/// behind.
 fn joins(a: &Op, b: &Op) -> bool
-    ensures { result ≡ join_test a.now b.now }
+    ensures { result ≡ spec.joins a.now b.now }
 {
     match (a, b) {
         (
@@ -71,7 +70,7 @@ fn joins(a: &Op, b: &Op) -> bool
 
 /// The first of two operations that join; of ranges, as far as both go.
 fn united(a: Op, b: Op) -> Op
-    ensures { result ≡ united_op a b }
+    ensures { result ≡ spec.united a b }
 {
     match (a, b) {
         (
@@ -94,8 +93,8 @@ fn united(a: Op, b: Op) -> Op
 
 /// Puts an operation behind those that are joined, or joins it with the last of them.
 fn put_behind(out: &mut Vec<Op>, op: Op) -> Result<(), NoMemory>
-    ensures { (S : List Op) → out.old.items ≡ all_joined S
-        → OnOk result (out.new.items ≡ all_joined (S ++ op ∷ [])) }
+    ensures { (S : List Op) → out.old.items ≡ spec.joined S
+        → OnOk result (out.new.items ≡ spec.joined (S ++ op ∷ [])) }
 {
     match out.pop() {
         None => out.push(op)?,
@@ -111,10 +110,10 @@ fn put_behind(out: &mut Vec<Op>, op: Op) -> Result<(), NoMemory>
     Ok(())
 }
 
-/// Joins operations that are in the order of their names: of one name the first stays, and ranges that
-/// overlap or touch are one.
+/// Joins operations that are in the order of their names: of one name the first stays, and ranges
+/// that overlap or touch are one.
 pub fn join_names(alloc: Global, ops: Vec<Op>) -> Result<Vec<Op>, NoMemory>
-    ensures { IfOk result (λ out. out.items ≡ all_joined ops.items) }
+    ensures { IfOk result (λ out. out.items ≡ spec.joined ops.items) }
 {
     let mut out = Vec::with_capacity(alloc, ops.len())?;
     for op in ops {

@@ -1,65 +1,17 @@
 //! How many octets a delta is spelled in, and whether its operations are well made.
 
 ghost use Rattle.std.specs.Prelude.{◌≡◌, ◌≤◌, ◌↔◌, length, IsTrue};
+ghost use Rattle.rep_op.specs.Values.{AreValues};
+ghost use Rattle.rep_op.specs.WellMade as spec;
+ghost use Rattle.rep_octets.specs.Spelling.{op_octets, put_octets};
 ghost use Rattle.rep_ops.specs.Making.{AreWellMade};
-ghost use Rattle.rep_ops.specs.Values.{AreValues};
-ghost use Rattle.rep_ops.specs.Spelling.{op_octets, put_octets, spelling, IsWithinLimit};
-ghost use Rattle.rep_ops.specs.WellMade.{is_stamp as stamp_test, is_counted as count_test, is_put as put_test, is_well_made as made_test};
+ghost use Rattle.rep_ops.specs.Spelling.{IsWithinLimit};
 
-use super::op::{Op, Put, Stamp};
-use super::range::is_change;
 use super::session_size::change_size;
-use super::value::is_value;
-use sn_session::{MAX_MESSAGE, SessionOp};
+use rep_op::{Op, Put, is_value, is_well_made};
 
 /// The most octets of a delta.
 pub const MAX_OCTETS: usize = 8_388_608;
-
-/// Whether epoch and gateway begin at 1.
-fn is_stamp(stamp: Stamp) -> bool
-    ensures { result ≡ stamp_test stamp }
-{
-    stamp.epoch >= 1 && stamp.gateway >= 1
-}
-
-/// Whether counter 0 is a Take, and no other counter.
-fn is_counted(counter: u8, change: &SessionOp) -> bool
-    ensures { result ≡ count_test counter change.now }
-{
-    if change.is_take() {
-        counter == 0
-    } else {
-        counter > 0
-    }
-}
-
-/// Whether the values of a message are in range.
-fn is_put(put: &Put) -> bool
-    ensures { result ≡ put_test put.now }
-{
-    put.origin >= 1 && put.seq >= 1 && put.qos.number() <= 2 && put.body.len() <= MAX_MESSAGE
-}
-
-/// Whether a delta may hold the operation.
-pub fn is_well_made(op: &Op) -> bool
-    ensures { result ≡ made_test op.now }
-{
-    match op {
-        Op::Session {
-            stamp,
-            counter,
-            change,
-            ..
-        } => is_stamp(*stamp) && is_counted(*counter, change) && is_change(change),
-        Op::Put { put, .. } => is_put(put),
-        Op::Ack {
-            origin,
-            first,
-            last,
-            ..
-        } => *origin >= 1 && *first >= 1 && *first <= *last,
-    }
-}
 
 /// Whether a delta may hold the operations.
 pub fn are_well_made(ops: &[Op]) -> bool
@@ -77,7 +29,7 @@ pub fn are_well_made(ops: &[Op]) -> bool
 
 /// How many octets a message is spelled in.
 fn put_size(put: &Put) -> usize
-    requires { IsTrue (put_test put.now) }
+    requires { IsTrue (spec.is_put put.now) }
     ensures size { result ≡ length (put_octets put.now) }
     ensures small { result ≤ 4366 }
 {
@@ -86,7 +38,7 @@ fn put_size(put: &Put) -> usize
 
 /// How many octets an operation is spelled in.
 pub fn op_size(op: &Op) -> usize
-    requires { IsTrue (made_test op.now) }
+    requires { IsTrue (spec.is_well_made op.now) }
     ensures size { result ≡ length (op_octets op.now) }
     ensures small { result ≤ 150000 }
 {

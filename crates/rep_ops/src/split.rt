@@ -7,19 +7,19 @@ ghost use Rattle.rep_ops.specs.Splitting.{IsSplit, AreDeltasOf};
 
 use super::delta::Delta;
 use super::join::{join_names, sort_stably};
-use super::op::Op;
 use super::size::{MAX_OCTETS, op_size};
-use super::value::is_value;
 use octets::NoMemory;
+use rep_op::{Op, is_value};
 use std::alloc::Global;
 use std::mem;
 
 /// The octets of a delta without operations.
 const NO_OCTETS: usize = 5;
 
-/// The deltas that together are the set of these operations, in the order of their names: of one name
-/// the first counts, and ranges of acknowledgements that overlap or touch are one. A new delta begins
-/// where the next operation does not fit into 8,388,608 octets. Of no operations there is no delta.
+/// The deltas that together are the set of these operations, in the order of their names: of one
+/// name the first counts, and ranges of acknowledgements that overlap or touch are one. A new delta
+/// begins where the next operation does not fit into 8,388,608 octets. Of no operations there is no
+/// delta.
 ///
 /// `Memory` is the only fault.
 pub fn deltas_of(alloc: Global, ops: Vec<Op>) -> Result<Vec<Delta>, NoMemory>
@@ -29,7 +29,8 @@ pub fn deltas_of(alloc: Global, ops: Vec<Op>) -> Result<Vec<Delta>, NoMemory>
     split(alloc, whole(alloc, ops)?)
 }
 
-/// The operations of the delta that is the set of these, however large; of one name the first counts.
+/// The operations of the delta that is the set of these, however large; of one name the first
+/// counts.
 fn whole(alloc: Global, ops: Vec<Op>) -> Result<Vec<Op>, NoMemory>
     requires { AreWellMade ops.items }
     ensures { IfOk result (λ d. IsDeltaOf ops.items d.items) }

@@ -1,31 +1,20 @@
--- One operation more in front of a list.
+-- One put more in front of a list, and what ranges cover of it.
 use Rattle.std.proofs.Common.{◌≡◌, ℕ, true, false, not, ◌&&◌, ◌||◌, ◌==◌, nat_le, if◌then◌else◌, List, [], ◌∷◌, map, filter, Some, None, refl, sym, ap, ◌∙◌, nat_eq}
 use Rattle.std.specs.List.{filter_map, list_any, cons_option}
-use Rattle.std.specs.Cmp.Lexicographic.{pointwise, nat_list_eq_equiv}
+use Rattle.std.specs.Cmp.Lexicographic.{pointwise}
 use Rattle.std.specs.BTreeMap.{insert_entry}
 use Rattle.std.specs.FinMap.{put as place}
-use Rattle.sn_session.specs.declared.change.SessionOp.{SessionOp}
-use Rattle.rep_ops.specs.declared.op.Stamp.{Stamp}
-use Rattle.rep_ops.specs.declared.op.Put.{Put}
-use Rattle.rep_ops.specs.declared.op.Op.{Op}
-use Rattle.rep_ops.specs.declared.op.Op.TheVariants.{Session as OfSession, Put as OfPut, Ack}
-use Rattle.rep_ops.specs.Orders.{operation_cmp, put_cmp}
-use Rattle.rep_ops.specs.Sets.{same_client, operations, puts, is_acknowledged}
+use Rattle.rep_op.specs.declared.op.Put.{Put}
+use Rattle.rep_op.specs.declared.op.Op.{Op}
+use Rattle.rep_op.specs.declared.op.Op.TheVariants.{Session as OfSession, Put as OfPut, Ack}
+use Rattle.rep_op.specs.Orders.{put_cmp}
+use Rattle.rep_op.specs.Sets.{same_client, puts, is_acknowledged}
 use Rattle.rep_model.specs.Views.{in_order, pending}
 use Rattle.rep_model.specs.Limits.{range_of}
 use Rattle.rep_plain.specs.declared.ranges.Range.{Range}
 use Rattle.rep_plain.specs.inner.Steps.{range_in, covers, numbers, unacknowledged_by}
-use Rattle.rep_plain.proofs.Maps.{insert_is_put}
-
--- the test of two clients the other way round
-pub same_back : (c d : List ℕ) → pointwise nat_eq d c ≡ true → same_client c d ≡ true
-same_back c d h = nat_list_eq_equiv.symm c d ∙ h
-
-pub entered_operation : (c d : List ℕ) (stamp : Stamp) (counter : ℕ) (change : SessionOp) (op : Op) (S : List Op) (es : List ((Stamp × ℕ) × SessionOp)) → op ≡ OfSession d stamp counter change → pointwise nat_eq d c ≡ true → es ≡ in_order operation_cmp (operations c S) → insert_entry operation_cmp es (stamp, counter) change ≡ in_order operation_cmp (operations c (op ∷ S))
-entered_operation c d stamp counter change op S es is same h =
-    insert_is_put operation_cmp (stamp, counter) change es
-    ∙ ap (λ rest. place operation_cmp (stamp, counter) change rest) h
-    ∙ sym (ap (λ o. in_order operation_cmp (operations c (o ∷ S))) is ∙ ap (λ b. in_order operation_cmp (cons_option (if b then Some ((stamp, counter), change) else None) (operations c S))) (same_back c d same))
+use Rattle.rep_shared.proofs.Maps.{insert_is_put}
+use Rattle.rep_shared.proofs.Entering.{same_back}
 
 pub entered_put : (c d : List ℕ) (p : Put) (op : Op) (ranges : List Range) (S : List Op) (es : List ((ℕ × ℕ) × Put)) → op ≡ OfPut d p → pointwise nat_eq d c ≡ true → list_any (covers (p.seq, p.origin)) ranges ≡ false → es ≡ in_order put_cmp (unacknowledged_by ranges c S) → insert_entry put_cmp es (p.seq, p.origin) p ≡ in_order put_cmp (unacknowledged_by ranges c (op ∷ S))
 entered_put c d p op ranges S es is same free h =

@@ -1,80 +1,33 @@
 -- What a look-up in the table says of its rows.
-use Rattle.std.proofs.Common.{◌≡◌, ℕ, Bool, true, false, cond, List, [], ◌∷◌, map, Option, Some, None, is_some, T, Bor, refl, sym, ap, ◌∙◌, subst, Ordering, Less, Equal, Greater, ◌&&◌, IfSome, Contains}
+use Rattle.std.proofs.Common.{◌≡◌, ℕ, false, List, [], ◌∷◌, Option, Some, None, is_some, T, Bor, refl, sym, ap, ◌∙◌, subst, ◌&&◌, nat_le, ◌==◌}
 use Rattle.std.specs.Option.{option_map, option_copied}
 use Rattle.std.specs.List.{AllByRecursion, list_any}
-use Rattle.std.specs.List.Sorted.{IsStrictlySortedBy}
-use Rattle.std.specs.Ordering.{eq_by_cmp, is_lt}
-use Rattle.std.specs.Map.{lookup, keys_of}
+use Rattle.std.specs.Map.{lookup}
 use Rattle.std.specs.BTreeMap.{is_at}
-use Rattle.std.specs.FinMap.{find, put, is_sorted}
-use Rattle.std.specs.FinMap.Entries.{below_all, by_order}
-use Rattle.std.proofs.lemmas.Map.Keys.{sorted_head, sorted_tail}
-use Rattle.rep_ops.specs.declared.op.Op.{Op}
-use Rattle.rep_ops.specs.declared.op.Stamp.{Stamp}
-use Rattle.rep_ops.specs.declared.op.Op.TheVariants.{Session as OfSession, Put as OfPut, Ack}
-use Rattle.rep_ops.specs.Orders.{client_cmp, client_of}
-use Rattle.rep_ops.specs.Sets.{operation_at, put_at, Agrees}
-use Rattle.rep_model.specs.Taking.{IsFaultOf}
-use Rattle.rep_model.specs.declared.fault.TakeFault.{TakeFault}
-use Rattle.rep_model.specs.declared.fault.TakeFault.TheVariants.{Conflict, Full, Memory}
+use Rattle.std.specs.FinMap.{find}
+use Rattle.rep_op.specs.declared.op.Op.{Op}
+use Rattle.rep_op.specs.declared.op.Op.TheVariants.{Session as OfSession, Put as OfPut, Ack}
+use Rattle.rep_op.specs.Orders.{client_cmp, client_of}
+use Rattle.rep_op.specs.Sets.{same_client}
 use Rattle.rep_plain.specs.declared.entry.Entry.{Entry}
-use Rattle.rep_plain.specs.Rows.{flat, own, or_nothing, IsOwn}
-use Rattle.rep_plain.specs.inner.Rows.{AreRows}
+use Rattle.rep_shared.specs.Rows.{flat, own, or_nothing, IsOwn}
+use Rattle.rep_shared.specs.inner.Rows.{AreRows, of_client}
 use Rattle.rep_plain.specs.Tables.{rows_of, AreEntries, IsTable}
-use Rattle.rep_plain.specs.inner.Tables.{is_known, has_range, IsRefusalOf}
-use Rattle.rep_plain.proofs.Maps.{lookup_is_find}
-use Rattle.rep_plain.proofs.Single.{operation_at_own, put_at_own, has_range_own}
-use Rattle.rep_plain.proofs.Flat.{of_flat}
+use Rattle.rep_plain.specs.inner.Tables.{is_known, has_range}
+use Rattle.rep_shared.proofs.Maps.{lookup_is_find}
+use Rattle.rep_shared.proofs.Single.{tests_own}
+use Rattle.rep_shared.proofs.Flat.{of_flat}
+use Rattle.rep_shared.proofs.Found.{find_map, sorted_map, operation_row, put_row}
 
 pub is_some_copied : {X : Type 0} (o : Option (Bor X)) → is_some o ≡ is_some (option_copied o)
 is_some_copied None = refl
 is_some_copied (Some x) = refl
-
--- a look-up among values that are read
-pub find_map : {K V X : Type 0} (R : K → K → Ordering) (f : V → X) (k : K) (es : List (K × V)) → find R k (map (λ e. (e.0, f e.1)) es) ≡ option_map f (find R k es)
-find_map R f k [] = refl
-find_map R f k (e ∷ es) =
-    elim (eq_by_cmp R k e.0) as (λ b. cond b (Some (f e.1)) (find R k (map (λ e. (e.0, f e.1)) es)) ≡ option_map f (cond b (Some e.1) (find R k es))) [ true ↦ refl | false ↦ find_map R f k es ]
 
 pub find_rows : (c : List ℕ) (es : List (List ℕ × Entry)) → find client_cmp c (rows_of es) ≡ option_map (λ (e : Entry). e.ops.items) (find client_cmp c es)
 find_rows c es = find_map client_cmp (λ (e : Entry). e.ops.items) c es
 
 pub own_found : (c : List ℕ) (es : List (List ℕ × Entry)) (o : Option Entry) → o ≡ lookup (is_at (client_cmp c)) es → or_nothing (option_map (λ (e : Entry). e.ops.items) o) ≡ own c (rows_of es)
 own_found c es o h = ap (λ o. or_nothing (option_map (λ (e : Entry). e.ops.items) o)) (h ∙ lookup_is_find client_cmp c es) ∙ sym (ap or_nothing (find_rows c es))
-
--- the order of the keys is the order of the entries
-below_from_keys : {K X : Type 0} (R : K → K → Ordering) (k : K) (es : List (K × X)) → AllByRecursion (λ y. R k y ≡ Less) (keys_of es) → T (below_all R k es)
-below_from_keys R k [] h = tt
-below_from_keys R k (e ∷ es) h = both (is_lt (R k e.0)) (below_all R k es) (subst (λ r. T (is_lt r)) (sym h.0) tt) (below_from_keys R k es h.1)
-  where
-    both : (a b : Bool) → T a → T b → T (a && b)
-    both true b p q = q
-    both false b p q = p
-
-pub sorted_from_keys : {K X : Type 0} (R : K → K → Ordering) (es : List (K × X)) → IsStrictlySortedBy R (keys_of es) → T (is_sorted R es)
-sorted_from_keys R [] h = tt
-sorted_from_keys R (e ∷ es) h = both (below_all R e.0 es) (is_sorted R es) (below_from_keys R e.0 es (sorted_head R e.0 (keys_of es) h)) (sorted_from_keys R es (sorted_tail R e.0 (keys_of es) h))
-  where
-    both : (a b : Bool) → T a → T b → T (a && b)
-    both true b p q = q
-    both false b p q = p
-
-pub below_map : {K V X : Type 0} (R : K → K → Ordering) (f : V → X) (k : K) (es : List (K × V)) → below_all R k (map (λ e. (e.0, f e.1)) es) ≡ below_all R k es
-below_map R f k [] = refl
-below_map R f k (e ∷ es) = ap (λ b. is_lt (R k e.0) && b) (below_map R f k es)
-
-pub sorted_map : {K V X : Type 0} (R : K → K → Ordering) (f : V → X) (es : List (K × V)) → is_sorted R (map (λ e. (e.0, f e.1)) es) ≡ is_sorted R es
-sorted_map R f [] = refl
-sorted_map R f (e ∷ es) = λ i. below_map R f e.0 es i && sorted_map R f es i
-
-pub map_put : {K V X : Type 0} (R : K → K → Ordering) (f : V → X) (k : K) (v : V) (es : List (K × V)) → map (λ e. (e.0, f e.1)) (put R k v es) ≡ put R k (f v) (map (λ e. (e.0, f e.1)) es)
-map_put R f k v [] = refl
-map_put R f k v (e ∷ es) =
-    elim (R k e.0) as (λ r. map (λ e. (e.0, f e.1)) (by_order r ((k, v) ∷ e ∷ es) ((e.0, v) ∷ es) (e ∷ put R k v es)) ≡ by_order r ((k, f v) ∷ (e.0, f e.1) ∷ map (λ e. (e.0, f e.1)) es) ((e.0, f v) ∷ map (λ e. (e.0, f e.1)) es) ((e.0, f e.1) ∷ put R k (f v) (map (λ e. (e.0, f e.1)) es))) [
-      | Less ↦ refl
-      | Equal ↦ refl
-      | Greater ↦ ap (λ rest. (e.0, f e.1) ∷ rest) (map_put R f k v es)
-    ]
 
 -- what is said of each entry, and of each row
 owned_rows : (es : List (List ℕ × Entry)) → AreEntries es → AllByRecursion (λ row. IsOwn row.0 row.1) (rows_of es)
@@ -86,30 +39,17 @@ table_rows es n h = record { sorted = subst T (sym (sorted_map client_cmp (λ (e
 
 -- ---- one operation against the rows
 
+module _ (c : List ℕ) (S : List Op) where
+  other_has_range : (origin first last : ℕ) (op : Op) → same_client c (client_of op) ≡ false → has_range c origin first last op ≡ false
+  other_has_range origin first last (OfSession d stamp counter change) e = refl
+  other_has_range origin first last (OfPut d put) e = refl
+  other_has_range origin first last (Ack d o start end) e = ap (λ b. b && (origin == o) && nat_le start first && nat_le last end) e
+
+  pub has_range_own : (origin first last : ℕ) → list_any (has_range c origin first last) S ≡ list_any (has_range c origin first last) (of_client c S)
+  has_range_own origin first last = tests_own c (has_range c origin first last) (other_has_range origin first last) S
+
 module _ (rows : List (List ℕ × List Op)) (are : AreRows rows) where
-  operation_row : (c : List ℕ) (name : Stamp × ℕ) → operation_at c (flat rows) name ≡ operation_at c (own c rows) name
-  operation_row c name = operation_at_own c (flat rows) name ∙ ap (λ S. operation_at c S name) (of_flat c rows are)
-
-  put_row : (c : List ℕ) (name : ℕ × ℕ) → put_at c (flat rows) name ≡ put_at c (own c rows) name
-  put_row c name = put_at_own c (flat rows) name ∙ ap (λ S. put_at c S name) (of_flat c rows are)
-
-  pub agrees_flat : (op : Op) → Agrees (own (client_of op) rows) op → Agrees (flat rows) op
-  agrees_flat (OfSession c stamp counter change) h = subst (λ o. IfSome o (λ kept. kept ≡ change)) (sym (operation_row c (stamp, counter))) h
-  agrees_flat (OfPut c p) h = subst (λ o. IfSome o (λ kept. kept ≡ p)) (sym (put_row c (p.seq, p.origin))) h
-  agrees_flat (Ack c origin low high) h = tt
-
-  pub agrees_own : (op : Op) → Agrees (flat rows) op → Agrees (own (client_of op) rows) op
-  agrees_own (OfSession c stamp counter change) h = subst (λ o. IfSome o (λ kept. kept ≡ change)) (operation_row c (stamp, counter)) h
-  agrees_own (OfPut c p) h = subst (λ o. IfSome o (λ kept. kept ≡ p)) (put_row c (p.seq, p.origin)) h
-  agrees_own (Ack c origin low high) h = tt
-
   pub known_row : (op : Op) → is_known (own (client_of op) rows) op ≡ is_known (flat rows) op
-  known_row (OfSession c stamp counter change) = ap is_some (sym (operation_row c (stamp, counter)))
-  known_row (OfPut c p) = ap is_some (sym (put_row c (p.seq, p.origin)))
+  known_row (OfSession c stamp counter change) = ap is_some (sym (operation_row rows are c (stamp, counter)))
+  known_row (OfPut c p) = ap is_some (sym (put_row rows are c (p.seq, p.origin)))
   known_row (Ack c origin low high) = sym (has_range_own c (flat rows) origin low high ∙ ap (λ S. list_any (has_range c origin low high) S) (of_flat c rows are))
-
--- a refusal of one operation refuses the delta
-pub refused : (K D : List Op) (op : Op) (fault : TakeFault) → Contains D op → IsRefusalOf K op fault → IsFaultOf K D fault
-refused K D op (Conflict c) here h = (op, here, h.0, h.1)
-refused K D op (Full limit) here h = absurd h
-refused K D op Memory here h = tt

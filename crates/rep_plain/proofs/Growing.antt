@@ -8,14 +8,15 @@ use Rattle.std.specs.FinMap.{find}
 use Rattle.std.specs.Cmp.{tied_itself}
 use Rattle.std.proofs.lemmas.List.Elements.{filter-append}
 use Rattle.std.proofs.lemmas.Map.Text.{is_eq-slice_cmp}
-use Rattle.rep_ops.specs.declared.op.Op.{Op}
-use Rattle.rep_ops.specs.Orders.{client_cmp, client_of}
-use Rattle.rep_ops.specs.Sets.{same_client}
+use Rattle.rep_op.specs.declared.op.Op.{Op}
+use Rattle.rep_op.specs.Orders.{client_cmp, client_of}
+use Rattle.rep_op.specs.Sets.{same_client}
 use Rattle.rep_model.proofs.Readers.{client_total}
-use Rattle.rep_plain.specs.Rows.{own, has_any}
-use Rattle.rep_plain.specs.inner.Rows.{of_client, grown}
-use Rattle.rep_plain.proofs.Maps.{lookup_is_find}
-use Rattle.rep_plain.proofs.Found.{find_map}
+use Rattle.rep_shared.specs.Rows.{own, has_any}
+use Rattle.rep_shared.specs.inner.Rows.{of_client}
+use Rattle.rep_plain.specs.inner.Rows.{grown}
+use Rattle.rep_shared.proofs.Maps.{lookup_is_find}
+use Rattle.rep_shared.proofs.Found.{find_map}
 
 -- a look-up in a map, read
 pub look_up : {V : Type 0} (f : V → List Op) (c : List ℕ) (es : List (List ℕ × V)) (o : Option V) → o ≡ lookup (is_at (client_cmp c)) es → option_map f o ≡ find client_cmp c (map (λ e. (e.0, f e.1)) es)

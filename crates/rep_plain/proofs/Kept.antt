@@ -4,26 +4,27 @@ use Rattle.std.specs.Prelude.{IsTrue}
 use Rattle.std.specs.List.{filter_map, AllByRecursion}
 use Rattle.std.specs.FinMap.{find}
 use Rattle.std.proofs.lemmas.List.Elements.{filter-append}
-use Rattle.rep_ops.specs.declared.op.Op.{Op}
-use Rattle.rep_ops.specs.declared.op.Op.TheVariants.{Session as OfSession, Put as OfPut, Ack}
+use Rattle.rep_op.specs.declared.op.Op.{Op}
+use Rattle.rep_op.specs.declared.op.Op.TheVariants.{Session as OfSession, Put as OfPut, Ack}
 use Rattle.rep_ops.specs.Making.{AreWellMade}
-use Rattle.rep_ops.specs.Orders.{client_cmp, client_of}
-use Rattle.rep_ops.specs.Sets.{is_acknowledged}
-use Rattle.rep_ops.specs.WellMade.{is_well_made}
+use Rattle.rep_op.specs.Orders.{client_cmp, client_of}
+use Rattle.rep_op.specs.Sets.{is_acknowledged}
+use Rattle.rep_op.specs.WellMade.{is_well_made}
 use Rattle.rep_model.specs.Views.{visible}
 use Rattle.rep_model.specs.Keep.{is_below, is_kept, keep}
 use Rattle.rep_model.proofs.Readers.{client_total}
 use Rattle.rep_plain.specs.declared.entry.Entry.{Entry}
 use Rattle.rep_plain.specs.declared.ranges.Range.{Range}
-use Rattle.rep_plain.specs.Rows.{flat, own, or_nothing, IsOwn, IsOwnOp}
-use Rattle.rep_plain.specs.inner.Rows.{kept_rows, AreRows}
+use Rattle.rep_shared.specs.Rows.{flat, own, or_nothing, IsOwn, IsOwnOp}
+use Rattle.rep_plain.specs.inner.Rows.{kept_rows}
+use Rattle.rep_shared.specs.inner.Rows.{AreRows}
 use Rattle.rep_plain.specs.inner.Steps.{range_in, must_stay}
 use Rattle.rep_plain.specs.Tables.{IsEntry}
-use Rattle.rep_plain.proofs.Counting.{all_found}
+use Rattle.rep_shared.proofs.Counting.{all_found}
 use Rattle.rep_plain.proofs.Entering.{covers_acknowledged}
-use Rattle.rep_plain.proofs.Flat.{of_flat, named_client}
-use Rattle.rep_plain.proofs.Prepared.{all_filter}
-use Rattle.rep_plain.proofs.Single.{visible_own, is_acknowledged_own}
+use Rattle.rep_shared.proofs.Flat.{of_flat, named_client, all_filter}
+use Rattle.rep_shared.proofs.Single.{visible_own, is_acknowledged_own}
+use Rattle.rep_shared.proofs.Kept.{both_made, own_made}
 
 filter_same : {A : Type 0} (P : A → Type 0) (p q : A → Bool) → ((x : A) → P x → p x ≡ q x) → (xs : List A) → AllByRecursion P xs → filter p xs ≡ filter q xs
 filter_same P p q same [] h = refl
@@ -67,19 +68,6 @@ module _ (rows : List (List ℕ × List Op)) (are : AreRows rows) where
   pub kept_flat : kept_rows rows ≡ keep (flat rows)
   kept_flat = kept_in_rows rows (all_found client_cmp client_total rows are.sorted) are.owned
 
-both_made : (xs ys : List Op) → AreWellMade xs → AreWellMade ys → AreWellMade (xs ++ ys)
-both_made [] ys h g = g
-both_made (x ∷ xs) ys h g = (h.0, both_made xs ys h.1 g)
-
-own_made : (c : List ℕ) (ops : List Op) → IsOwn c ops → AreWellMade ops
-own_made c [] h = tt
-own_made c (op ∷ ops) h = (h.0.1, own_made c ops h.1)
-
 pub kept_made : (rows : List (List ℕ × List Op)) → AllByRecursion (λ row. IsOwn row.0 row.1) rows → AreWellMade (kept_rows rows)
 kept_made [] h = tt
 kept_made (row ∷ rows) h = both_made (keep row.1) (kept_rows rows) (all_filter (λ op. IsTrue (is_well_made op)) (is_kept row.1) row.1 (own_made row.0 row.1 h.0)) (kept_made rows h.1)
-
--- what rows hold is well made
-pub made_rows : (rows : List (List ℕ × List Op)) → AllByRecursion (λ row. IsOwn row.0 row.1) rows → AreWellMade (flat rows)
-made_rows [] h = tt
-made_rows (row ∷ rows) h = both_made row.1 (flat rows) (own_made row.0 row.1 h.0) (made_rows rows h.1)

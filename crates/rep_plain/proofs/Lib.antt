@@ -1,10 +1,6 @@
-pub mod Places
-pub mod Maps
 pub mod Prefixes
 pub mod Entering
 pub mod Workings
-pub mod Single
-pub mod Flat
 pub mod Taking
 pub mod Counting
 pub mod Found
@@ -12,4 +8,3 @@ pub mod Growing
 pub mod Moves
 pub mod Prepared
 pub mod Kept
-pub mod Walks

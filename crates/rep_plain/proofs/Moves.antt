@@ -1,6 +1,6 @@
 -- Places in the table, and moves into them.
-use Rattle.std.proofs.Common.{◌≡◌, ℕ, ◌+◌, true, false, not, cond, ◌==◌, if◌then◌else◌, List, [], ◌∷◌, ◌++◌, length, Option, Some, None, is_some, IsSome, T, refl, sym, ap, ◌∙◌, subst, arith, Less, Equal, Greater, is_eq, nat_lt, ◌<◌, ◌^◌, true≢false}
-use Rattle.std.specs.Option.{option_map, SomeIff}
+use Rattle.std.proofs.Common.{◌≡◌, ℕ, true, false, not, cond, ◌==◌, List, [], ◌∷◌, ◌++◌, length, Option, Some, None, is_some, IsSome, T, refl, sym, ap, ◌∙◌, subst, arith, Less, Equal, Greater, is_eq}
+use Rattle.std.specs.Option.{option_map}
 use Rattle.std.specs.List.{AllByRecursion}
 use Rattle.std.specs.Ordering.{eq_by_cmp}
 use Rattle.std.specs.Cmp.{tied_itself}
@@ -11,21 +11,21 @@ use Rattle.std.specs.FinMap.Entries.{by_order, is_sorted-put, find-put}
 use Rattle.std.proofs.lemmas.Map.Views.{tells_apart}
 use Rattle.std.proofs.lemmas.Bool.Decides.{nat_tests}
 use Rattle.std.proofs.lemmas.Option.{same_Some}
-use Rattle.rep_ops.specs.declared.op.Op.{Op}
-use Rattle.rep_ops.specs.Orders.{client_cmp}
+use Rattle.rep_op.specs.declared.op.Op.{Op}
+use Rattle.rep_op.specs.Orders.{client_cmp}
 use Rattle.rep_model.specs.Views.{view, is_named}
-use Rattle.rep_model.specs.Fresh.{one_more}
 use Rattle.rep_model.proofs.Readers.{client_total, client_exact}
 use Rattle.rep_model.proofs.Joins.{all-both, all-weaker}
 use Rattle.rep_plain.specs.declared.entry.Entry.{Entry}
 use Rattle.rep_plain.specs.Entries.{IsWorkedOut}
-use Rattle.rep_plain.specs.Rows.{flat, own, or_nothing, moved, has_any, count_named, IsOwn}
+use Rattle.rep_shared.specs.Rows.{flat, own, or_nothing, moved, has_any, count_named, IsOwn}
 use Rattle.rep_plain.specs.Tables.{rows_of, IsEntry, AreEntries, IsTable, HaveRoom}
 use Rattle.rep_plain.specs.inner.Tables.{IsRoomier, AreMovable}
-use Rattle.rep_plain.proofs.Maps.{insert_is_put, lookup_is_find}
-use Rattle.rep_plain.proofs.Single.{view_own}
-use Rattle.rep_plain.proofs.Flat.{all_put, of_flat, named_flat, count_put, moved_last, one_if}
-use Rattle.rep_plain.proofs.Found.{find_rows, map_put, table_rows, own_found}
+use Rattle.rep_shared.proofs.Maps.{insert_is_put, lookup_is_find}
+use Rattle.rep_shared.proofs.Single.{view_own}
+use Rattle.rep_shared.proofs.Flat.{all_put, of_flat, named_flat, count_put, moved_last, one_if}
+use Rattle.rep_plain.proofs.Found.{find_rows, table_rows, own_found}
+use Rattle.rep_shared.proofs.Found.{map_put}
 
 pub roomier_itself : (es : List (List ℕ × Entry)) → IsRoomier es es
 roomier_itself es = record { same = refl; table = λ count h. h; found = λ c h. h }
@@ -100,10 +100,6 @@ some_there c es h = subst (λ o. IsSome o) (sym (find_rows c es ∙ ap (option_m
     mapped None h = h
     mapped (Some e) h = refl
 
-pub none_there : {X : Type 0} (o : Option X) → is_some o ≡ false → o ≡ None
-none_there None h = refl
-none_there (Some x) h = absurd (true≢false h)
-
 -- room for one more
 pub room_more : (old new : List (List ℕ × Entry)) (done : List (List ℕ × List Op)) (row : List ℕ × List Op) → IsRoomier old new → HaveRoom (rows_of old) done → IsSome (find client_cmp row.0 (rows_of new)) → HaveRoom (rows_of new) (done ++ row ∷ [])
 room_more old new done row h room here = all-both (λ (row : List ℕ × List Op). IsSome (find client_cmp row.0 (rows_of new))) done (row ∷ []) (all-weaker (λ (row : List ℕ × List Op). IsSome (find client_cmp row.0 (rows_of old))) (λ (row : List ℕ × List Op). IsSome (find client_cmp row.0 (rows_of new))) (λ row s. h.found row.0 s) done room) (here, tt)
@@ -177,7 +173,3 @@ named_found c es n o t is = named_flat c (rows_of es) (table_rows es n t) ∙ ap
 pub any_length : (ops : List Op) → has_any ops ≡ not (length ops == 0)
 any_length [] = refl
 any_length (op ∷ ops) = let e : (length (op ∷ ops) == 0) ≡ false = grind (arith, nat_tests) in sym (ap not e)
-
-pub next_one : (n : ℕ) (r : Option ℕ) → SomeIff r (n + 1 < 2 ^ 64) (n + 1) → r ≡ one_more n
-next_one n None h = ap (λ b. if b then Some (n + 1) else None) (sym (let e : nat_lt (n + 1) (2 ^ 64) ≡ false = grind (arith, nat_tests, h) in e))
-next_one n (Some x) h = ap Some h.1 ∙ ap (λ b. if b then Some (n + 1) else None) (sym (let e : nat_lt (n + 1) (2 ^ 64) ≡ true = grind (arith, nat_tests, h.0) in e))

@@ -6,8 +6,9 @@ use Rattle.std.specs.List.{filter_map}
 use Rattle.rep_model.specs.Views.{gapless, then_more, after_change, session_of}
 use Rattle.rep_model.specs.Limits.{joined, above_a_gap}
 use Rattle.rep_plain.specs.declared.ranges.Range.{Range}
-use Rattle.rep_plain.specs.Steps.{capped}
+use Rattle.rep_shared.specs.Steps.{capped}
 use Rattle.rep_plain.specs.inner.Steps.{numbers, above_gaps}
+use Rattle.rep_shared.proofs.Numbers.{capped_sum}
 
 -- n operations of `at` are there without a gap, and make the session
 pub record IsReplayed (at : ℕ → Option SessionOp) (session : Option Session) (n : ℕ) : Type 0 where
@@ -43,10 +44,6 @@ replayed_all at session n is r =
     let none : gapless at (256 - n) n ≡ [] = ap (λ room. gapless at room n) (let z : 256 - n ≡ 0 = omega arith in z) in
     let l : length (gapless at (256 - n) n) ≡ 0 = ap length none in
     (omega (arith, r.prefix, l), sym (r.made ∙ ap (fold after_change session) none))
-
--- counts that are cut off at the end of their type add up
-pub capped_sum : (a b : ℕ) → min (min a (2 ^ 64 - 1) + min b (2 ^ 64 - 1)) (2 ^ 64 - 1) ≡ min (a + b) (2 ^ 64 - 1)
-capped_sum a b = omega arith
 
 -- one origin more
 pub capped_more : (ranges : List Range) (n a b r : ℕ) → a ≡ capped (above_a_gap (joined (filter_map (numbers (n + 1)) ranges))) → b ≡ capped (above_gaps ranges n) → r ≡ min (a + b) (2 ^ 64 - 1) → r ≡ capped (above_gaps ranges (n + 1))

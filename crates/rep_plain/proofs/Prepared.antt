@@ -4,11 +4,11 @@ use Rattle.std.specs.List.{AllByRecursion, list_any}
 use Rattle.std.specs.FinMap.{find, is_sorted}
 use Rattle.std.proofs.lemmas.Option.{same_Some}
 use Rattle.std.proofs.lemmas.Bool.Decides.{nat_tests}
-use Rattle.rep_ops.specs.declared.op.Op.{Op}
-use Rattle.rep_ops.specs.declared.op.Op.TheVariants.{Session as OfSession, Put as OfPut, Ack}
-use Rattle.rep_ops.specs.Orders.{client_cmp, client_of}
-use Rattle.rep_ops.specs.Sets.{same_client, Same}
-use Rattle.rep_ops.specs.WellMade.{is_well_made}
+use Rattle.rep_op.specs.declared.op.Op.{Op}
+use Rattle.rep_op.specs.declared.op.Op.TheVariants.{Session as OfSession, Put as OfPut, Ack}
+use Rattle.rep_op.specs.Orders.{client_cmp, client_of}
+use Rattle.rep_op.specs.Sets.{same_client, Same}
+use Rattle.rep_op.specs.WellMade.{is_well_made}
 use Rattle.rep_ops.specs.Deltas.{IsDelta}
 use Rattle.rep_model.specs.declared.fault.Limit.TheVariants.{Clients, Pending, Parked, Exceptions}
 use Rattle.rep_model.specs.Views.{named}
@@ -19,14 +19,16 @@ use Rattle.rep_model.proofs.Thin.{thin-same}
 use Rattle.rep_model.proofs.Limits.{first_passed-thin}
 use Rattle.rep_plain.specs.declared.entry.Entry.{Entry}
 use Rattle.rep_plain.specs.Entries.{IsWorkedOut}
-use Rattle.rep_plain.specs.Rows.{flat, own, moved, has_any, count_named, IsOwn, IsOwnOp}
-use Rattle.rep_plain.specs.inner.Rows.{count_new, AreRows, of_client, grown, IsGrown}
+use Rattle.rep_shared.specs.Rows.{flat, own, moved, has_any, count_named, IsOwn, IsOwnOp}
+use Rattle.rep_shared.specs.inner.Rows.{count_new, AreRows, of_client}
+use Rattle.rep_plain.specs.inner.Rows.{grown, IsGrown}
 use Rattle.rep_plain.specs.Tables.{rows_of, AreEntries, IsTable}
 use Rattle.rep_plain.specs.inner.Tables.{IsRoomier, is_known, passed_by, too_many_pending, too_many_parked, too_many_exceptions}
-use Rattle.rep_plain.proofs.Flat.{of_flat, found_own}
+use Rattle.rep_shared.proofs.Flat.{of_flat, found_own, all_filter}
 use Rattle.rep_plain.proofs.Found.{table_rows}
 use Rattle.rep_plain.proofs.Taking.{same_news, same_grown}
-use Rattle.rep_plain.proofs.Counting.{AreFresh, all_found, count_moved, first_passed_after, entries_from_rows}
+use Rattle.rep_plain.proofs.Counting.{AreFresh, first_passed_after, entries_from_rows}
+use Rattle.rep_shared.proofs.Counting.{all_found, count_moved}
 
 -- ---- each operation of a delta names its client
 
@@ -45,12 +47,6 @@ unfolding IsNamed
 well_named (OfSession c stamp counter change) h = (refl, h)
 well_named (OfPut c p) h = (refl, h)
 well_named (Ack c origin low high) h = (named_forward c origin low high h, h)
-
-pub all_filter : {A : Type 0} (P : A → Type 0) (p : A → Bool) (xs : List A) → AllByRecursion P xs → AllByRecursion P (filter p xs)
-all_filter P p [] h = tt
-all_filter P p (x ∷ xs) h =
-    let rest = all_filter P p xs h.1 in
-    elim (p x) as (λ b. AllByRecursion P (cond b (x ∷ filter p xs) (filter p xs))) [ true ↦ (h.0, rest) | false ↦ rest ]
 
 own_of : (c : List ℕ) (N : List Op) → AllByRecursion IsNamed N → IsOwn c (of_client c N)
 unfolding IsNamed

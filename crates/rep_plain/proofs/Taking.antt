@@ -6,21 +6,22 @@ use Rattle.std.specs.FinMap.{find}
 use Rattle.std.specs.FinMap.Entries.{find-where_key}
 use Rattle.std.proofs.lemmas.List.Elements.{filter-append}
 use Rattle.sn_session.specs.declared.change.SessionOp.{SessionOp}
-use Rattle.rep_ops.specs.declared.op.Stamp.{Stamp}
-use Rattle.rep_ops.specs.declared.op.Put.{Put}
-use Rattle.rep_ops.specs.declared.op.Op.{Op}
-use Rattle.rep_ops.specs.declared.op.Op.TheVariants.{Session as OfSession, Put as OfPut, Ack}
-use Rattle.rep_ops.specs.Orders.{client_cmp, client_of, operation_cmp, put_cmp}
-use Rattle.rep_ops.specs.Sets.{same_client, operation_of, operation_at, put_of, put_at, acknowledges, is_acknowledged, Same}
+use Rattle.rep_op.specs.declared.op.Stamp.{Stamp}
+use Rattle.rep_op.specs.declared.op.Put.{Put}
+use Rattle.rep_op.specs.declared.op.Op.{Op}
+use Rattle.rep_op.specs.declared.op.Op.TheVariants.{Session as OfSession, Put as OfPut, Ack}
+use Rattle.rep_op.specs.Orders.{client_cmp, client_of, operation_cmp, put_cmp}
+use Rattle.rep_op.specs.Sets.{same_client, operation_of, operation_at, put_of, put_at, acknowledges, is_acknowledged, Same}
 use Rattle.rep_model.specs.Views.{visible}
 use Rattle.rep_model.specs.Keep.{is_below, IsKeptOf}
 use Rattle.rep_model.proofs.Lookup.{or_else, filter_map-filter, list_any-filter, list_any-weaker}
 use Rattle.rep_model.proofs.Readers.{operation_exact, put_exact, same_client-true, operation_at_both, put_at_both, is_acknowledged_both, operation_at_keep, put_at_keep, is_acknowledged_keep}
-use Rattle.rep_plain.specs.Rows.{flat, own, or_nothing, moved, has_any, IsOwn}
-use Rattle.rep_plain.specs.inner.Rows.{AreRows, of_client, IsGrown}
+use Rattle.rep_shared.specs.Rows.{flat, own, or_nothing, moved, has_any, IsOwn}
+use Rattle.rep_shared.specs.inner.Rows.{AreRows, of_client}
+use Rattle.rep_plain.specs.inner.Rows.{IsGrown}
 use Rattle.rep_plain.specs.inner.Tables.{has_range, is_known}
-use Rattle.rep_plain.proofs.Single.{operation_at_own, put_at_own, is_acknowledged_own}
-use Rattle.rep_plain.proofs.Flat.{of_flat, find_in_moved, rows_moved}
+use Rattle.rep_shared.proofs.Single.{operation_at_own, put_at_own, is_acknowledged_own}
+use Rattle.rep_shared.proofs.Flat.{of_flat, find_in_moved, rows_moved}
 
 -- ---- what is kept of a set
 

@@ -1,24 +1,21 @@
 -- What the operations of a client come to, found by way of their order and of ranges.
-use Rattle.std.proofs.Common.{◌≡◌, ℕ, suc, true, false, cond, List, [], ◌∷◌, length, filter, count_by, Option, refl, sym, ap, ◌∙◌}
+use Rattle.std.proofs.Common.{◌≡◌, ℕ, List, [], length, Option, sym, ap, ◌∙◌}
 use Rattle.std.specs.List.{filter_map}
 use Rattle.std.specs.FinMap.{find}
-use Rattle.std.specs.Map.{keys_of}
-use Rattle.std.proofs.lemmas.List.Sums.{length-filter}
 use Rattle.sn_session.specs.declared.change.SessionOp.{SessionOp}
-use Rattle.rep_ops.specs.declared.op.Stamp.{Stamp}
-use Rattle.rep_ops.specs.declared.op.Op.{Op}
-use Rattle.rep_ops.specs.Orders.{operation_cmp}
-use Rattle.rep_ops.specs.Sets.{operations}
+use Rattle.rep_op.specs.declared.op.Stamp.{Stamp}
+use Rattle.rep_op.specs.declared.op.Op.{Op}
+use Rattle.rep_op.specs.Orders.{operation_cmp}
+use Rattle.rep_op.specs.Sets.{operations}
 use Rattle.rep_model.specs.Views.{view, unseen, visible, in_order, history, history_at}
-use Rattle.rep_model.specs.Limits.{is_parked, parked, joined, above_a_gap, sum_to, exceptions}
+use Rattle.rep_model.specs.Limits.{parked, joined, above_a_gap, sum_to, exceptions}
 use Rattle.rep_model.proofs.Lookup.{find-in_order}
 use Rattle.rep_model.proofs.Readers.{operation_total}
 use Rattle.rep_plain.specs.declared.ranges.Range.{Range}
 use Rattle.rep_plain.specs.declared.entry.Entry.{Entry}
 use Rattle.rep_plain.specs.Entries.{IsWorkedOut}
-use Rattle.rep_plain.specs.Steps.{capped}
+use Rattle.rep_shared.specs.Steps.{capped}
 use Rattle.rep_plain.specs.inner.Steps.{range_in, numbers, above_gaps}
-use Rattle.rep_plain.specs.Steps.{waits}
 use Rattle.rep_plain.proofs.Entering.{numbers_acknowledged}
 
 -- the history that is read in the order of names is that of the list
@@ -26,20 +23,6 @@ pub history_in_order : (c : List ℕ) (S : List Op) (known : List ((Stamp × ℕ
 history_in_order c S known seen k v =
     (λ i. history_at (λ name. find operation_cmp name (k i)) (v i))
     ∙ (λ i. history_at (λ name. find-in_order operation_cmp operation_total name (operations c S) i) (visible c S))
-
-filter_names : (seen : Option Stamp) (prefix : ℕ) (known : List ((Stamp × ℕ) × SessionOp)) → length (filter (waits seen prefix) (keys_of known)) ≡ length (filter (is_parked seen prefix) known)
-filter_names seen prefix [] = refl
-filter_names seen prefix (e ∷ known) =
-    let rest = filter_names seen prefix known in
-    elim (waits seen prefix e.0) as (λ b. length (cond b (e.0 ∷ filter (waits seen prefix) (keys_of known)) (filter (waits seen prefix) (keys_of known))) ≡ length (cond b (e ∷ filter (is_parked seen prefix) known) (filter (is_parked seen prefix) known))) [
-      | true ↦ ap suc rest
-      | false ↦ rest
-    ]
-
--- the names that wait are those of the parked operations
-pub parked_names : (c : List ℕ) (S : List Op) (known : List ((Stamp × ℕ) × SessionOp)) (seen : Option Stamp) (prefix : ℕ) → known ≡ in_order operation_cmp (operations c S) → seen ≡ visible c S → prefix ≡ length (history c S) → count_by (waits seen prefix) (keys_of known) ≡ length (parked c S)
-parked_names c S known seen prefix k v p =
-    sym (length-filter (waits seen prefix) (keys_of known)) ∙ filter_names seen prefix known ∙ (λ i. length (filter (is_parked (v i) (p i)) (k i)))
 
 -- the ranges of the client have its exceptions
 pub exceptions_of_ranges : (c : List ℕ) (S : List Op) (ranges : List Range) → ranges ≡ filter_map (range_in c) S → above_gaps ranges 255 ≡ exceptions c S

@@ -4,11 +4,12 @@ ghost use Rattle.std.specs.Prelude.{◌≡◌, IfOk, [], length, List, ℕ};
 
 use super::ranges::{exceptions, ranges_of};
 use super::reading::visible_stamp;
-use super::replay::{count_parked, operations_in_order, replay};
+use super::replay::replay;
 use super::waiting::waiting;
 use octets::NoMemory;
 use rep_model::{ClientView, Puts};
 use rep_ops::{ClientId, Op};
+use rep_shared::{count_parked, operations_in_order};
 use std::alloc::Global;
 
 /// The operations of one client, and what they come to.

@@ -5,10 +5,10 @@ ghost use Rattle.std.specs.Option.{unwrap_or};
 ghost use Rattle.std.specs.Ordering.{is_eq};
 ghost use Rattle.std.specs.List.{AllByRecursion};
 ghost use Rattle.std.specs.FinMap.{find, is_sorted};
-ghost use Rattle.rep_ops.specs.declared.op.Op.{Op};
-ghost use Rattle.rep_ops.specs.Orders.{client_cmp};
+ghost use Rattle.rep_op.specs.declared.op.Op.{Op};
+ghost use Rattle.rep_op.specs.Orders.{client_cmp};
 ghost use Rattle.rep_plain.specs.Entries.{IsWorkedOut};
-ghost use Rattle.rep_plain.specs.Rows.{own};
+ghost use Rattle.rep_shared.specs.Rows.{own};
 ghost use Rattle.rep_plain.specs.inner.Rows.{IsGrown};
 ghost use Rattle.rep_plain.specs.Tables.{rows_of};
 ghost use Rattle.rep_plain.specs.inner.Tables.{groups_of};
@@ -46,7 +46,8 @@ fn add_to_group(
 ) -> Result<(), NoMemory>
     ensures { (D : List Op)
         → IsGrown (rows_of table.now.entries) D (groups_of groups.old.entries)
-        → OnOk result (IsGrown (rows_of table.now.entries) (D ++ op ∷ []) (groups_of groups.new.entries)) }
+        → OnOk result (IsGrown (rows_of table.now.entries) (D ++ op ∷ [])
+        (groups_of groups.new.entries)) }
 {
     let client = op.client().copied(alloc)?;
     let mut ops = take_group(alloc, table, groups, &client)?;
@@ -55,7 +56,8 @@ fn add_to_group(
     Ok(())
 }
 
-/// Takes the operations of a client out of the groups, or else copies those that the table has of it.
+/// Takes the operations of a client out of the groups, or else copies those that the table has of
+/// it.
 fn take_group(
     alloc: Global,
     table: &Table,
@@ -67,7 +69,8 @@ fn take_group(
         (own client.now (rows_of table.now.entries))) }
     ensures others { (c : List ℕ)
         → is_eq (client_cmp client.now c) ≡ false
-        → find client_cmp c (groups_of groups.new.entries) ≡ find client_cmp c (groups_of groups.old.entries) }
+        → find client_cmp c (groups_of groups.new.entries)
+        ≡ find client_cmp c (groups_of groups.old.entries) }
 {
     match groups.remove(client) {
         Some(ops) => Ok(ops),

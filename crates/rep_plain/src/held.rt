@@ -3,8 +3,9 @@
 ghost use Rattle.std.specs.Prelude.{◌≡◌, ◌++◌, filter, IfOk, OnOk};
 ghost use Rattle.rep_model.specs.Held.{IsHeld};
 ghost use Rattle.rep_model.specs.Keep.{keep, is_below};
-ghost use Rattle.rep_plain.specs.Rows.{flat};
-ghost use Rattle.rep_plain.specs.inner.Rows.{kept_rows, AreRows};
+ghost use Rattle.rep_shared.specs.Rows.{flat};
+ghost use Rattle.rep_plain.specs.inner.Rows.{kept_rows};
+ghost use Rattle.rep_shared.specs.inner.Rows.{AreRows};
 ghost use Rattle.rep_plain.specs.inner.Steps.{must_stay};
 ghost use Rattle.rep_plain.specs.Tables.{rows_of, IsEntry, AreEntries};
 

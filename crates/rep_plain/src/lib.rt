@@ -1,22 +1,22 @@
 //! The plain replica of a set of operations (`Plain`).
 //!
 //! It keeps every operation that it has taken, client by client, and beside them the view that they
-//! give. A delta is taken in two steps: `prepare` finds out what of it is new, works out fresh entries
-//! for the clients of the new operations, and makes places for clients that had none; `commit` moves the
-//! entries into their places, for which no memory is needed. A delta that brings nothing new costs
-//! nothing but the look-ups.
+//! give. A delta is taken in two steps: `prepare` finds out what of it is new, works out fresh
+//! entries for the clients of the new operations, and makes places for clients that had none;
+//! `commit` moves the entries into their places, for which no memory is needed. A delta that brings
+//! nothing new costs nothing but the look-ups.
 //!
 //! - `plain`: the replica and what it promises (`Plain`, `Staged`).
 //! - `table`, `room`: the table of clients, the limits, and the move of fresh entries.
 //! - `news`, `fresh`: what of a delta is new, and the entries that it makes.
 //! - `held`: what must be kept, as deltas.
 //! - `entry`: a client's operations and what they come to.
-//! - `reading`, `replay`, `waiting`, `ranges`: visible stamp, prefix and session, messages that wait,
-//!   acknowledgements. Three small functions of theirs serve the folded replica too: what one operation makes of a
-//!   session (`changed`), a range among others (`with_range`), and how many numbers stand above a gap (`above_gap`).
+//! - `reading`, `replay`, `waiting`, `ranges`: visible stamp, prefix and session, messages that
+//!   wait, acknowledgements.
 //!
-//! The definitions are in `specs/`: `Rows` (clients with their operations, and what a move makes of
-//! them), `Entries` and `Tables` (what the replica's table keeps), `Steps` (small steps of the loops).
+//! What clients with their operations are, and what the folded replica needs as well, is in
+//! `rep_shared`. The definitions here are in `specs/`: `Entries` and `Tables` (what the replica's
+//! table keeps).
 #![tactic(auto)]
 
 mod entry;
@@ -32,6 +32,4 @@ mod table;
 mod waiting;
 
 pub use plain::{Plain, Staged};
-pub use ranges::{above_gap, with_range};
 pub use rep_model::{ClientView, Limit, Puts, Replica, TakeFault};
-pub use replay::changed;

@@ -2,12 +2,13 @@
 
 ghost use Rattle.std.specs.Prelude.{◌≡◌, ◌⊎◌, ◌++◌, ◌∷◌, [], not, filter, List, IfOk, OnOk, IfErr};
 ghost use Rattle.std.specs.List.{list_any};
-ghost use Rattle.rep_ops.specs.Sets.{Agrees};
+ghost use Rattle.rep_op.specs.Sets.{Agrees};
 ghost use Rattle.rep_model.specs.Taking.{AllAgree, IsFaultOf};
-ghost use Rattle.rep_plain.specs.Rows.{flat};
-ghost use Rattle.rep_plain.specs.inner.Rows.{AreRows};
+ghost use Rattle.rep_shared.specs.Rows.{flat};
+ghost use Rattle.rep_shared.specs.inner.Rows.{AreRows};
 ghost use Rattle.rep_plain.specs.Tables.{rows_of};
-ghost use Rattle.rep_plain.specs.inner.Tables.{is_known, has_range, one_new, IsRefusalOf};
+ghost use Rattle.rep_plain.specs.inner.Tables.{is_known, has_range, one_new};
+ghost use Rattle.rep_shared.specs.inner.Tables.{IsRefusalOf};
 
 use super::reading::{agrees, operation_at, put_at};
 use super::table::{Table, own_ops};

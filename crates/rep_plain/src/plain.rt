@@ -27,7 +27,7 @@ pub struct Plain {
 
 impl Model for Plain {
     ghost use Rattle.std.specs.Prelude.{List, ℕ};
-    ghost use Rattle.rep_ops.specs.declared.op.Op.{Op};
+    ghost use Rattle.rep_op.specs.declared.op.Op.{Op};
 
     ghost Value = { List (List ℕ × List Op) };
 
@@ -49,7 +49,7 @@ pub struct Staged {
 
 impl Model for Staged {
     ghost use Rattle.std.specs.Prelude.{List, ℕ, ◌≤◌};
-    ghost use Rattle.rep_ops.specs.declared.op.Op.{Op};
+    ghost use Rattle.rep_op.specs.declared.op.Op.{Op};
     ghost use Rattle.rep_model.specs.declared.fault.TheConstants.{MOST_CLIENTS};
 
     ghost Value = { List (List ℕ × List Op) × ℕ };
@@ -63,7 +63,7 @@ impl Model for Staged {
 
 impl Replica for Plain {
     ghost use Rattle.std.specs.Prelude.{◌≡◌};
-    ghost use Rattle.rep_plain.specs.Rows.{flat, moved, count_named};
+    ghost use Rattle.rep_shared.specs.Rows.{flat, moved, count_named};
     ghost use Rattle.rep_plain.specs.Tables.{HaveRoom};
 
     type Staged = Staged;
@@ -72,7 +72,8 @@ impl Replica for Plain {
 
     ghost after = { λ rows staged. flat (moved rows staged.0) };
 
-    ghost ready = { λ rows staged. HaveRoom rows staged.0 × (staged.1 ≡ count_named (moved rows staged.0)) };
+    ghost ready = { λ rows staged. HaveRoom rows staged.0
+        × (staged.1 ≡ count_named (moved rows staged.0)) };
 
     fn empty(alloc: Global) -> Result<Plain, TakeFault> {
         Ok(Plain {

@@ -3,9 +3,9 @@
 ghost use Rattle.std.specs.Prelude.{◌≡◌, ◌+◌, ◌↔◌, IsTrue, List, ◌∷◌, map, max};
 ghost use Rattle.std.specs.Option.{option_copied};
 ghost use Rattle.std.specs.Ordering.{is_eq};
-ghost use Rattle.rep_ops.specs.declared.op.Op.{Op};
-ghost use Rattle.rep_ops.specs.Orders.{operation_cmp, put_cmp};
-ghost use Rattle.rep_ops.specs.Sets.{operation_at, put_at, is_acknowledged, acknowledges, Agrees};
+ghost use Rattle.rep_op.specs.declared.op.Op.{Op};
+ghost use Rattle.rep_op.specs.Orders.{operation_cmp, put_cmp};
+ghost use Rattle.rep_op.specs.Sets.{operation_at, put_at, is_acknowledged, acknowledges, Agrees};
 ghost use Rattle.rep_model.specs.Views.{visible};
 ghost use Rattle.rep_plain.specs.inner.Steps.{first_of_two};
 ghost use Rattle.rep_model.specs.Fresh.{greatest_epoch, seq_of, largest};

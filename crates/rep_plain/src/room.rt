@@ -4,8 +4,8 @@ ghost use Rattle.std.specs.Prelude.{◌≡◌, IsSome, OnOk, []};
 ghost use Rattle.std.specs.FinMap.{find};
 ghost use Rattle.std.specs.Map.{lookup};
 ghost use Rattle.std.specs.BTreeMap.{is_at, insert_entry};
-ghost use Rattle.rep_ops.specs.Orders.{client_cmp};
-ghost use Rattle.rep_plain.specs.Rows.{moved};
+ghost use Rattle.rep_op.specs.Orders.{client_cmp};
+ghost use Rattle.rep_shared.specs.Rows.{moved};
 ghost use Rattle.rep_plain.specs.Tables.{rows_of, HaveRoom};
 ghost use Rattle.rep_plain.specs.inner.Tables.{IsRoomier, AreMovable};
 

@@ -3,9 +3,9 @@
 ghost use Rattle.std.specs.Prelude.{◌≡◌, ◌+◌, ◌∷◌, [], List, ℕ, ◌≤◌, not, count_by, drop, T, IfOk, IfSome, MatchOption, Some};
 ghost use Rattle.std.specs.List.{list_any, AllByRecursion};
 ghost use Rattle.std.specs.FinMap.{find, is_sorted};
-ghost use Rattle.rep_ops.specs.Orders.{client_cmp};
-ghost use Rattle.rep_plain.specs.Rows.{own, flat, has_any};
-ghost use Rattle.rep_plain.specs.inner.Rows.{count_new, named_rows};
+ghost use Rattle.rep_op.specs.Orders.{client_cmp};
+ghost use Rattle.rep_shared.specs.Rows.{own, flat, has_any};
+ghost use Rattle.rep_shared.specs.inner.Rows.{count_new, named_rows};
 ghost use Rattle.rep_plain.specs.Tables.{rows_of};
 ghost use Rattle.rep_plain.specs.inner.Tables.{passed_by, too_many_pending, too_many_parked, too_many_exceptions};
 
@@ -29,7 +29,8 @@ pub(crate) fn own_ops<'a>(table: &'a Table, client: &ClientId) -> &'a [Op]
     }
 }
 
-/// The first limit that is passed once the fresh entries are in their places, where `count` clients are named then.
+/// The first limit that is passed once the fresh entries are in their places, where `count` clients
+/// are named then.
 pub(crate) fn passed(count: usize, fresh: &[(ClientId, Entry)]) -> Option<Limit>
     ensures { result ≡ passed_by count fresh.now }
 {
@@ -92,8 +93,8 @@ pub(crate) fn named_clients(alloc: Global, table: &Table) -> Result<Vec<ClientId
     Ok(clients)
 }
 
-/// The client at a place among those that have operations, which are in ascending order, with what is held of it. Each
-/// call walks from the first client on.
+/// The client at a place among those that have operations, which are in ascending order, with what
+/// is held of it. Each call walks from the first client on.
 pub(crate) fn named_at(table: &Table, place: usize) -> Option<(&ClientId, &Entry)>
     requires { T (is_sorted client_cmp table.now.entries) }
     ensures at { MatchOption result

@@ -3,8 +3,8 @@
 ghost use Rattle.std.specs.Prelude.{◌≡◌, ℕ, List, ◌∷◌, IfOk, OnOk};
 ghost use Rattle.std.specs.List.{filter_map};
 ghost use Rattle.std.specs.BTreeMap.{values};
-ghost use Rattle.rep_ops.specs.declared.op.Op.{Op};
-ghost use Rattle.rep_ops.specs.Orders.{put_cmp};
+ghost use Rattle.rep_op.specs.declared.op.Op.{Op};
+ghost use Rattle.rep_op.specs.Orders.{put_cmp};
 ghost use Rattle.rep_model.specs.Views.{in_order, pending};
 ghost use Rattle.rep_plain.specs.inner.Steps.{range_in, unacknowledged_by};
 

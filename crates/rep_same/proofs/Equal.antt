@@ -6,10 +6,10 @@ use Rattle.std.specs.Cmp.Lexicographic.{pointwise, pointwise_decides}
 use Rattle.std.proofs.lemmas.Bool.Decides.{Decides-and, Decides-like, Decides-eqb}
 use Rattle.std.proofs.lemmas.Slice.Eq.{bytes_eq-Decides}
 use Rattle.std.specs.Prelude.{bytes_eq, nat_eq, ◌&&◌}
-use Rattle.sn_session.specs.declared.topics.TopicEntry.{TopicEntry}
-use Rattle.sn_session.specs.declared.subscriptions.Subscription.{Subscription}
-use Rattle.sn_session.specs.Topics.{topic_eq}
-use Rattle.sn_session.specs.Subscriptions.{subscription_eq}
+use Rattle.sn_tables.specs.declared.topics.TopicEntry.{TopicEntry}
+use Rattle.sn_tables.specs.declared.subscriptions.Subscription.{Subscription}
+use Rattle.sn_tables.specs.Topics.{topic_eq}
+use Rattle.sn_tables.specs.Subscriptions.{subscription_eq}
 
 topic_is : (a b : TopicEntry) → (a.id ≡ b.id) × ((a.name ≡ b.name) × (a.known ≡ b.known)) → a ≡ b
 topic_is a b (id, (name, known)) = λ i. record { id = id i; name = name i; known = known i }

@@ -1,7 +1,8 @@
 //! Whether two values of the field are equal: operations, deltas and views.
 //!
-//! No memory is taken. Each function answers true exactly where contracts see one value: whoever owns it, and wherever it
-//! lies. Lists are compared by loops, since a delta may have some hundred thousand operations.
+//! No memory is taken. Each function answers true exactly where contracts see one value: whoever
+//! owns it, and wherever it lies. Lists are compared by loops, since a delta may have some hundred
+//! thousand operations.
 //!
 //! - `change`: changes of a session, and sessions.
 //! - `delta`: operations and deltas.

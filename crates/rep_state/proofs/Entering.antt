@@ -1,8 +1,8 @@
 -- What an entry says is what is kept of its client says.
 use Rattle.std.proofs.Common.{◌≡◌, ℕ, List}
 use Rattle.rep_model.specs.Views.{view}
-use Rattle.rep_plain.specs.Rows.{IsOwn}
-use Rattle.rep_ops.specs.Sets.{Same}
+use Rattle.rep_shared.specs.Rows.{IsOwn}
+use Rattle.rep_op.specs.Sets.{Same}
 use Rattle.rep_model.specs.Keep.{keep}
 use Rattle.rep_entry.specs.declared.entry.Entry.{Entry}
 use Rattle.rep_entry.specs.Entries.{row_of, IsEntry}

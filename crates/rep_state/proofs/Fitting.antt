@@ -2,16 +2,16 @@
 use Rattle.std.proofs.Common.{◌≡◌, ℕ, ◌≤◌, ◌+◌, Bool, true, false, not, ◌||◌, if◌then◌else◌, nat_lt, List, [], ◌∷◌, ◌++◌, length, count_by, Some, None, refl, sym, ap, ◌∙◌, arith, true≢false}
 use Rattle.std.specs.List.{AllByRecursion, list_any}
 use Rattle.std.proofs.lemmas.Bool.Decides.{nat_tests}
-use Rattle.rep_ops.specs.declared.op.Op.{Op}
+use Rattle.rep_op.specs.declared.op.Op.{Op}
 use Rattle.rep_model.specs.declared.fault.Limit.TheVariants.{Clients, Pending, Parked, Exceptions}
 use Rattle.rep_model.specs.Keep.{IsKeptOf}
 use Rattle.rep_model.specs.Limits.{first_passed}
 use Rattle.rep_model.proofs.Limits.{first_passed-thin}
 use Rattle.rep_model.proofs.Thin.{thin-between}
-use Rattle.rep_plain.specs.Rows.{flat, own, moved, has_any, count_named}
-use Rattle.rep_plain.specs.inner.Rows.{count_new, of_client}
-use Rattle.rep_plain.proofs.Flat.{of_flat}
-use Rattle.rep_plain.proofs.Counting.{count_moved}
+use Rattle.rep_shared.specs.Rows.{flat, own, moved, has_any, count_named}
+use Rattle.rep_shared.specs.inner.Rows.{count_new, of_client}
+use Rattle.rep_shared.proofs.Flat.{of_flat}
+use Rattle.rep_shared.proofs.Counting.{count_moved}
 use Rattle.rep_entry.specs.declared.entry.Entry.{Entry}
 use Rattle.rep_entry.specs.Entries.{IsEntry}
 use Rattle.rep_state.specs.Tables.{rows_of, AreKept, IsTable}

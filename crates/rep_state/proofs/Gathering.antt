@@ -5,8 +5,8 @@ use Rattle.std.specs.List.{AllByRecursion}
 use Rattle.std.specs.Ordering.{ordering_reverse}
 use Rattle.std.specs.FinMap.{put, is_sorted}
 use Rattle.std.specs.FinMap.Entries.{by_order}
-use Rattle.sn_session.specs.inner.Tables.{IsAt, IsGap}
-use Rattle.sn_session.proofs.Ascending.{Ascends}
+use Rattle.sn_tables.specs.inner.Tables.{IsAt, IsGap}
+use Rattle.sn_tables.proofs.Ascending.{Ascends}
 use Rattle.rep_log.proofs.Sorting.{ascends, behind_last}
 
 reversed : {K : Type 0} (R : K → K → Ordering) → IsTotalOrder R → (q k : K) (r : Ordering) → R k q ≡ r → R q k ≡ ordering_reverse r

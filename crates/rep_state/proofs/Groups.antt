@@ -6,18 +6,18 @@ use Rattle.std.specs.Ordering.{eq_by_cmp}
 use Rattle.std.specs.FinMap.{find}
 use Rattle.std.proofs.lemmas.Map.Views.{tells_apart}
 use Rattle.std.proofs.lemmas.List.Elements.{filter-append}
-use Rattle.rep_ops.specs.declared.op.Op.{Op}
-use Rattle.rep_ops.specs.Orders.{client_cmp, client_of}
-use Rattle.rep_ops.specs.Sets.{same_client, Same}
+use Rattle.rep_op.specs.declared.op.Op.{Op}
+use Rattle.rep_op.specs.Orders.{client_cmp, client_of}
+use Rattle.rep_op.specs.Sets.{same_client, Same}
 use Rattle.rep_model.specs.Keep.{keep, is_below}
 use Rattle.rep_model.proofs.Lookup.{or_else}
 use Rattle.rep_model.proofs.Readers.{client_exact, operation_at_keep, put_at_keep, is_acknowledged_keep}
 use Rattle.rep_model.proofs.Joins.{counts-between}
 use Rattle.rep_model.proofs.Named.{is_named-counts}
-use Rattle.rep_plain.specs.Rows.{flat, own, or_nothing, moved, has_any, IsOwn}
-use Rattle.rep_plain.specs.inner.Rows.{of_client, AreRows}
-use Rattle.rep_plain.proofs.Single.{operation_at_own, put_at_own, is_acknowledged_own, visible_own}
-use Rattle.rep_plain.proofs.Flat.{of_flat, find_in_moved, rows_moved, named_any}
+use Rattle.rep_shared.specs.Rows.{flat, own, or_nothing, moved, has_any, IsOwn}
+use Rattle.rep_shared.specs.inner.Rows.{of_client, AreRows}
+use Rattle.rep_shared.proofs.Single.{operation_at_own, put_at_own, is_acknowledged_own, visible_own}
+use Rattle.rep_shared.proofs.Flat.{of_flat, find_in_moved, rows_moved, named_any}
 use Rattle.rep_entry.specs.declared.entry.Entry.{Entry}
 use Rattle.rep_entry.specs.declared.fresh.Fresh.{Fresh}
 use Rattle.rep_entry.specs.Entries.{row_of, IsFresh, fresh_row}

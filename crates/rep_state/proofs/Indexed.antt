@@ -11,14 +11,14 @@ use Rattle.std.specs.FinMap.{find, put, is_sorted}
 use Rattle.std.specs.FinMap.Entries.{below_all, by_order, length-put}
 use Rattle.std.specs.Prelude.{bytes_eq}
 use Rattle.indexmap.specs.IndexMap.{insert_entry}
-use Rattle.rep_ops.specs.Orders.{client_cmp}
+use Rattle.rep_op.specs.Orders.{client_cmp}
 use Rattle.rep_model.proofs.Lookup.{is_sorted-in_order}
 use Rattle.rep_model.proofs.Readers.{client_total, client_exact}
-use Rattle.rep_plain.proofs.Counting.{all_found}
-use Rattle.sn_session.specs.Tables.{is_ascending, with_entry}
-use Rattle.sn_session.specs.inner.Tables.{IsAt, IsGap}
-use Rattle.sn_session.proofs.Ascending.{Ascends, to_test, all_with, less}
-use Rattle.sn_session.proofs.Places.{with_at, with_gap}
+use Rattle.rep_shared.proofs.Counting.{all_found}
+use Rattle.sn_tables.specs.Tables.{is_ascending, with_entry}
+use Rattle.sn_tables.specs.inner.Tables.{IsAt, IsGap}
+use Rattle.sn_tables.proofs.Ascending.{Ascends, to_test, all_with, less}
+use Rattle.sn_tables.proofs.Places.{with_at, with_gap}
 use Rattle.rep_entry.specs.declared.entry.Entry.{Entry}
 use Rattle.rep_state.specs.declared.places.Place.{Place}
 use Rattle.rep_state.specs.Tables.{plain_of, by_client, arrivals, names_at, ArePlaces}
@@ -75,7 +75,7 @@ led_to es places i p o h is found =
 keys_put : (c : List ℕ) (x : Entry) (es : List (List ℕ × Entry)) → keys_of (put client_cmp c x es) ≡ with_entry client_cmp c (keys_of es)
 keys_put c x [] = refl
 keys_put c x (e ∷ es) =
-    elim (client_cmp c e.0) as (λ r. client_cmp c e.0 ≡ r → keys_of (by_order r ((c, x) ∷ e ∷ es) ((e.0, x) ∷ es) (e ∷ put client_cmp c x es)) ≡ Rattle.sn_session.specs.Tables.by_order r (c ∷ e.0 ∷ keys_of es) (c ∷ keys_of es) (e.0 ∷ with_entry client_cmp c (keys_of es))) [
+    elim (client_cmp c e.0) as (λ r. client_cmp c e.0 ≡ r → keys_of (by_order r ((c, x) ∷ e ∷ es) ((e.0, x) ∷ es) (e ∷ put client_cmp c x es)) ≡ Rattle.sn_tables.specs.Tables.by_order r (c ∷ e.0 ∷ keys_of es) (c ∷ keys_of es) (e.0 ∷ with_entry client_cmp c (keys_of es))) [
       | Less ↦ λ _. refl
       | Equal ↦ λ t. ap (λ d. d ∷ keys_of es) (sym (client_exact c e.0 t))
       | Greater ↦ λ _. ap (λ rest. e.0 ∷ rest) (keys_put c x es)
@@ -84,7 +84,7 @@ keys_put c x (e ∷ es) =
 names_with : (p : Place) (places : List Place) → names_at (with_entry place_cmp p places) ≡ with_entry client_cmp p.name (names_at places)
 names_with p [] = refl
 names_with p (q ∷ places) =
-    elim (client_cmp p.name q.name) as (λ r. names_at (Rattle.sn_session.specs.Tables.by_order r (p ∷ q ∷ places) (p ∷ places) (q ∷ with_entry place_cmp p places)) ≡ Rattle.sn_session.specs.Tables.by_order r (p.name ∷ q.name ∷ names_at places) (p.name ∷ names_at places) (q.name ∷ with_entry client_cmp p.name (names_at places))) [
+    elim (client_cmp p.name q.name) as (λ r. names_at (Rattle.sn_tables.specs.Tables.by_order r (p ∷ q ∷ places) (p ∷ places) (q ∷ with_entry place_cmp p places)) ≡ Rattle.sn_tables.specs.Tables.by_order r (p.name ∷ q.name ∷ names_at places) (p.name ∷ names_at places) (q.name ∷ with_entry client_cmp p.name (names_at places))) [
       | Less ↦ refl
       | Equal ↦ refl
       | Greater ↦ ap (λ rest. q.name ∷ rest) (names_with p places)
@@ -212,7 +212,7 @@ pub places_pass : (es : List (Vec ℕ Global × Entry)) (places : List Place) �
 places_pass es places h = to_test place_cmp places (places_ascend es places h)
 
 pub ascend_tested : (places : List Place) → is_ascending place_cmp places ≡ true → Ascends place_cmp places
-ascend_tested places h = Rattle.sn_session.proofs.Ascending.from_test place_cmp place_total places h
+ascend_tested places h = Rattle.sn_tables.proofs.Ascending.from_test place_cmp place_total places h
 
 -- ---- where a place goes
 

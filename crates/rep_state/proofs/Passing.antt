@@ -7,8 +7,8 @@ use Rattle.std.specs.FinMap.{find, is_sorted}
 use Rattle.std.specs.FinMap.Entries.{is_some-find}
 use Rattle.std.proofs.lemmas.Map.Views.{tells_apart}
 use Rattle.std.proofs.lemmas.Bool.Decides.{nat_tests}
-use Rattle.rep_ops.specs.declared.op.Op.{Op}
-use Rattle.rep_ops.specs.Orders.{client_cmp}
+use Rattle.rep_op.specs.declared.op.Op.{Op}
+use Rattle.rep_op.specs.Orders.{client_cmp}
 use Rattle.rep_model.specs.declared.view.ClientView.{ClientView}
 use Rattle.rep_model.specs.Views.{named, in_order, clients, is_named, pending}
 use Rattle.rep_model.specs.Limits.{parked, exceptions, first_passed}
@@ -16,13 +16,13 @@ use Rattle.rep_model.proofs.Lookup.{or_else, list_any-weaker}
 use Rattle.rep_model.proofs.Readers.{client_total, client_exact}
 use Rattle.rep_model.proofs.Joins.{all-weaker}
 use Rattle.rep_model.proofs.Named.{find_clients}
-use Rattle.rep_plain.specs.Steps.{capped}
-use Rattle.rep_plain.specs.Rows.{flat, own, or_nothing, moved, has_any, count_named, IsOwn}
-use Rattle.rep_plain.specs.inner.Rows.{count_new, AreRows, of_client}
-use Rattle.rep_plain.specs.inner.Tables.{passed_of}
-use Rattle.rep_plain.proofs.Counting.{all_found, count_moved}
-use Rattle.rep_plain.proofs.Single.{pending_own, parked_own, exceptions_own}
-use Rattle.rep_plain.proofs.Flat.{of_flat, find_in_moved, rows_moved, count_clients, named_flat}
+use Rattle.rep_shared.specs.Steps.{capped}
+use Rattle.rep_shared.specs.Rows.{flat, own, or_nothing, moved, has_any, count_named, IsOwn}
+use Rattle.rep_shared.specs.inner.Rows.{count_new, AreRows, of_client}
+use Rattle.rep_shared.specs.inner.Tables.{passed_of}
+use Rattle.rep_shared.proofs.Counting.{all_found, count_moved}
+use Rattle.rep_shared.proofs.Single.{pending_own, parked_own, exceptions_own}
+use Rattle.rep_shared.proofs.Flat.{of_flat, find_in_moved, rows_moved, count_clients, named_flat}
 use Rattle.rep_entry.specs.declared.entry.Entry.{Entry}
 use Rattle.rep_entry.specs.Entries.{row_of, IsEntry}
 use Rattle.rep_state.specs.Tables.{rows_of, IsKept, AreKept}

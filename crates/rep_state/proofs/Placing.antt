@@ -5,13 +5,13 @@ use Rattle.std.specs.Ordering.{eq_by_cmp}
 use Rattle.std.specs.Cmp.{tied_itself}
 use Rattle.std.specs.FinMap.{find, put, is_sorted}
 use Rattle.std.specs.FinMap.Entries.{by_order, is_sorted-put, find-put}
-use Rattle.rep_ops.specs.declared.op.Op.{Op}
-use Rattle.rep_ops.specs.Orders.{client_cmp}
+use Rattle.rep_op.specs.declared.op.Op.{Op}
+use Rattle.rep_op.specs.Orders.{client_cmp}
 use Rattle.rep_model.specs.Limits.{parked, exceptions}
 use Rattle.rep_model.proofs.Readers.{client_total, client_exact}
-use Rattle.rep_plain.specs.Rows.{flat, own, or_nothing, moved, has_any, count_named}
-use Rattle.rep_plain.specs.Steps.{capped}
-use Rattle.rep_plain.proofs.Flat.{all_put, count_put, moved_last, one_if}
+use Rattle.rep_shared.specs.Rows.{flat, own, or_nothing, moved, has_any, count_named}
+use Rattle.rep_shared.specs.Steps.{capped}
+use Rattle.rep_shared.proofs.Flat.{all_put, count_put, moved_last, one_if}
 use Rattle.rep_entry.specs.declared.entry.Entry.{Entry}
 use Rattle.rep_entry.specs.Entries.{row_of, IsEntry}
 use Rattle.rep_state.specs.Tables.{rows_of, IsKept, AreKept}

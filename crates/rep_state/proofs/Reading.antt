@@ -7,17 +7,17 @@ use Rattle.std.specs.Map.{keys_of}
 use Rattle.std.specs.FinMap.{find, is_sorted}
 use Rattle.std.specs.FinMap.Entries.{below_all}
 use Rattle.sn_session.specs.declared.change.SessionOp.{SessionOp}
-use Rattle.rep_ops.specs.declared.op.Stamp.{Stamp}
-use Rattle.rep_ops.specs.declared.op.Put.{Put}
-use Rattle.rep_ops.specs.Orders.{client_cmp, put_cmp}
+use Rattle.rep_op.specs.declared.op.Stamp.{Stamp}
+use Rattle.rep_op.specs.declared.op.Put.{Put}
+use Rattle.rep_op.specs.Orders.{client_cmp, put_cmp}
 use Rattle.rep_model.specs.Fresh.{largest, seq_of, greatest_epoch}
 use Rattle.rep_model.specs.Ranges.{AreApartFrom}
 use Rattle.rep_model.specs.Views.{names}
 use Rattle.std.specs.Ordering.{is_eq}
-use Rattle.rep_plain.specs.Rows.{own, or_nothing}
+use Rattle.rep_shared.specs.Rows.{own, or_nothing}
 use Rattle.rep_state.proofs.Rows.{find_rows}
 use Rattle.rep_state.specs.Tables.{rows_of}
-use Rattle.rep_plain.proofs.Flat.{find_below}
+use Rattle.rep_shared.proofs.Flat.{find_below}
 use Rattle.rep_entry.specs.declared.entry.Entry.{Entry}
 use Rattle.rep_log.specs.Mail.{name_of, put_named}
 use Rattle.rep_log.specs.Origins.{or_no_range, ranges_at, ranges_in, IsOrigin, AreOrigins}

@@ -10,12 +10,12 @@ use Rattle.std.specs.Prelude.{bytes_eq}
 use Rattle.std.specs.Cmp.Lexicographic.{nat_list_eq_equiv}
 use Rattle.std.proofs.lemmas.Map.Text.{is_eq-slice_cmp}
 use Rattle.std.proofs.lemmas.Map.Views.{tells_apart}
-use Rattle.rep_ops.specs.Orders.{client_cmp}
+use Rattle.rep_op.specs.Orders.{client_cmp}
 use Rattle.rep_model.specs.Views.{in_order}
 use Rattle.rep_model.proofs.Lookup.{find-in_order, is_sorted-in_order}
 use Rattle.rep_model.proofs.Readers.{client_total, client_exact, same_client-true}
-use Rattle.rep_plain.specs.Rows.{IsOwn}
-use Rattle.rep_plain.specs.inner.Rows.{AreRows}
+use Rattle.rep_shared.specs.Rows.{IsOwn}
+use Rattle.rep_shared.specs.inner.Rows.{AreRows}
 use Rattle.rep_entry.specs.declared.entry.Entry.{Entry}
 use Rattle.rep_entry.specs.Entries.{row_of}
 use Rattle.rep_state.specs.Tables.{plain_of, by_client, rows_of, AreKept, IsTable}

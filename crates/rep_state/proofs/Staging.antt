@@ -7,15 +7,15 @@ use Rattle.std.specs.FinMap.{find, put, is_sorted}
 use Rattle.std.specs.FinMap.Entries.{below_all, find-put}
 use Rattle.std.proofs.lemmas.List.Elements.{filter_map-append}
 use Rattle.std.proofs.lemmas.List.Sums.{length-filter}
-use Rattle.rep_ops.specs.declared.op.Put.{Put}
-use Rattle.rep_ops.specs.declared.op.Op.{Op}
-use Rattle.rep_ops.specs.Orders.{client_cmp}
+use Rattle.rep_op.specs.declared.op.Put.{Put}
+use Rattle.rep_op.specs.declared.op.Op.{Op}
+use Rattle.rep_op.specs.Orders.{client_cmp}
 use Rattle.rep_model.proofs.Readers.{client_total, client_exact}
-use Rattle.rep_plain.specs.Rows.{own, moved}
-use Rattle.rep_plain.specs.inner.Tables.{passed_of}
-use Rattle.rep_plain.proofs.Flat.{all_put}
+use Rattle.rep_shared.specs.Rows.{own, moved}
+use Rattle.rep_shared.specs.inner.Tables.{passed_of}
+use Rattle.rep_shared.proofs.Flat.{all_put}
 use Rattle.sn_session.specs.declared.change.SessionOp.{SessionOp}
-use Rattle.rep_ops.specs.declared.op.Stamp.{Stamp}
+use Rattle.rep_op.specs.declared.op.Stamp.{Stamp}
 use Rattle.rep_model.specs.Limits.{parked, exceptions}
 use Rattle.rep_entry.specs.declared.entry.Entry.{Entry}
 use Rattle.rep_entry.specs.declared.change.Change.{Change}

@@ -4,12 +4,12 @@ use Rattle.std.proofs.lemmas.List.{drop-map}
 use Rattle.std.specs.List.{AllByRecursion}
 use Rattle.std.specs.Map.{keys_of}
 use Rattle.std.specs.FinMap.{find, is_sorted}
-use Rattle.rep_ops.specs.declared.op.Op.{Op}
-use Rattle.rep_ops.specs.Orders.{client_cmp}
+use Rattle.rep_op.specs.declared.op.Op.{Op}
+use Rattle.rep_op.specs.Orders.{client_cmp}
 use Rattle.rep_model.proofs.Readers.{client_total}
-use Rattle.rep_plain.specs.Rows.{flat, own, or_nothing, has_any, count_named}
-use Rattle.rep_plain.specs.inner.Rows.{named_rows}
-use Rattle.rep_plain.proofs.Counting.{all_found}
+use Rattle.rep_shared.specs.Rows.{flat, own, or_nothing, has_any, count_named}
+use Rattle.rep_shared.specs.inner.Rows.{named_rows}
+use Rattle.rep_shared.proofs.Counting.{all_found}
 use Rattle.rep_entry.specs.declared.entry.Entry.{Entry}
 use Rattle.rep_state.specs.Tables.{rows_of}
 use Rattle.rep_state.specs.inner.Tables.{own_of_all}

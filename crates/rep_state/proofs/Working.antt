@@ -7,21 +7,21 @@ use Rattle.std.specs.FinMap.{find, put, is_sorted}
 use Rattle.std.specs.FinMap.Entries.{below_all, find-put}
 use Rattle.std.proofs.lemmas.Map.Text.{is_eq-slice_cmp}
 use Rattle.std.proofs.lemmas.Map.Views.{tells_apart}
-use Rattle.rep_ops.specs.declared.op.Op.{Op}
-use Rattle.rep_ops.specs.declared.op.Op.TheVariants.{Session as OfSession, Put as OfPut, Ack}
+use Rattle.rep_op.specs.declared.op.Op.{Op}
+use Rattle.rep_op.specs.declared.op.Op.TheVariants.{Session as OfSession, Put as OfPut, Ack}
 use Rattle.rep_ops.specs.Making.{AreWellMade}
-use Rattle.rep_ops.specs.Orders.{client_cmp, client_of}
-use Rattle.rep_ops.specs.Sets.{same_client, Same}
+use Rattle.rep_op.specs.Orders.{client_cmp, client_of}
+use Rattle.rep_op.specs.Sets.{same_client, Same}
 use Rattle.rep_ops.specs.Splitting.{AreDeltasOf}
-use Rattle.rep_ops.specs.WellMade.{is_well_made}
+use Rattle.rep_op.specs.WellMade.{is_well_made}
 use Rattle.rep_model.specs.Keep.{keep}
 use Rattle.rep_model.proofs.Joins.{same_trans, all-both, all-weaker}
 use Rattle.rep_model.proofs.Readers.{client_total, client_exact, same_client-true}
-use Rattle.rep_plain.specs.Rows.{flat, own, or_nothing, has_any, IsOwn, IsOwnOp}
-use Rattle.rep_plain.specs.inner.Rows.{of_client}
-use Rattle.rep_plain.proofs.Kept.{made_rows}
-use Rattle.rep_plain.proofs.Counting.{all_found}
-use Rattle.rep_plain.proofs.Flat.{of_flat, found_own}
+use Rattle.rep_shared.specs.Rows.{flat, own, or_nothing, has_any, IsOwn, IsOwnOp}
+use Rattle.rep_shared.specs.inner.Rows.{of_client}
+use Rattle.rep_shared.proofs.Kept.{made_rows}
+use Rattle.rep_shared.proofs.Counting.{all_found}
+use Rattle.rep_shared.proofs.Flat.{of_flat, found_own}
 use Rattle.rep_entry.specs.declared.entry.Entry.{Entry}
 use Rattle.rep_entry.specs.declared.fresh.Fresh.{Fresh}
 use Rattle.rep_entry.specs.Entries.{row_of, IsEntry, IsFresh, fresh_row}

@@ -4,11 +4,11 @@ use Rattle.std.specs.Global.{Global}
 use Rattle.std.specs.List.{AllByRecursion}
 use Rattle.std.specs.Map.{keys_of}
 use Rattle.std.specs.FinMap.{is_sorted}
-use Rattle.rep_ops.specs.declared.op.Op.{Op}
-use Rattle.rep_ops.specs.Orders.{client_cmp}
+use Rattle.rep_op.specs.declared.op.Op.{Op}
+use Rattle.rep_op.specs.Orders.{client_cmp}
 use Rattle.rep_model.specs.declared.fault.TheConstants.{MOST_CLIENTS, MOST_PENDING, MOST_PARKED, MOST_EXCEPTIONS}
 use Rattle.rep_model.specs.Views.{in_order}
-use Rattle.rep_plain.specs.Rows.{count_named}
+use Rattle.rep_shared.specs.Rows.{count_named}
 use Rattle.rep_entry.specs.declared.entry.Entry.{Entry}
 use Rattle.rep_state.specs.declared.places.Place.{Place}
 use Rattle.rep_entry.specs.Entries.{row_of, IsEntry}

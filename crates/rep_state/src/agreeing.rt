@@ -1,12 +1,12 @@
 //! Whether a delta contradicts what is kept.
 
 ghost use Rattle.std.specs.Prelude.{◌≡◌, ◌⊎◌, ◌↔◌, IsTrue, OnOk, IfErr, ℕ, List};
-ghost use Rattle.rep_ops.specs.Orders.{client_of};
-ghost use Rattle.rep_ops.specs.Sets.{Agrees};
+ghost use Rattle.rep_op.specs.Orders.{client_of};
+ghost use Rattle.rep_op.specs.Sets.{Agrees};
 ghost use Rattle.rep_model.specs.Taking.{AllAgree, IsFaultOf};
-ghost use Rattle.rep_plain.specs.Rows.{flat, own};
-ghost use Rattle.rep_plain.specs.inner.Rows.{AreRows};
-ghost use Rattle.rep_plain.specs.inner.Tables.{IsRefusalOf};
+ghost use Rattle.rep_shared.specs.Rows.{flat, own};
+ghost use Rattle.rep_shared.specs.inner.Rows.{AreRows};
+ghost use Rattle.rep_shared.specs.inner.Tables.{IsRefusalOf};
 ghost use Rattle.rep_entry.specs.Entries.{row_of};
 ghost use Rattle.rep_log.specs.Mail.{Rising};
 ghost use Rattle.rep_state.specs.Tables.{by_client, rows_of, AreKept};

@@ -3,10 +3,10 @@
 ghost use Rattle.std.specs.Prelude.{◌≡◌, ◌++◌, ◌∷◌, [], IsTrue, IfOk, OnOk, List, T};
 ghost use Rattle.std.specs.List.{AllByRecursion};
 ghost use Rattle.std.specs.FinMap.{is_sorted};
-ghost use Rattle.sn_session.specs.inner.Tables.{IsPlace};
-ghost use Rattle.rep_ops.specs.declared.op.Op.{Op};
-ghost use Rattle.rep_ops.specs.Orders.{client_cmp, client_of};
-ghost use Rattle.rep_ops.specs.WellMade.{is_well_made};
+ghost use Rattle.sn_tables.specs.inner.Tables.{IsPlace};
+ghost use Rattle.rep_op.specs.declared.op.Op.{Op};
+ghost use Rattle.rep_op.specs.Orders.{client_cmp, client_of};
+ghost use Rattle.rep_op.specs.WellMade.{is_well_made};
 ghost use Rattle.rep_entry.specs.Entries.{IsEntry, IsFresh, fresh_row};
 ghost use Rattle.rep_state.specs.Tables.{by_client, rows_of, AreKept};
 ghost use Rattle.rep_entry.specs.Staging.{staged_of};
@@ -88,8 +88,8 @@ fn begun(alloc: Global, entry: &Entry, op: &Op) -> Result<Group, NoMemory>
     Ok((op.client().copied(alloc)?, fresh))
 }
 
-/// Where the group of a client stands among groups in order, or where it would go. A delta's operations are in the order of their
-/// clients, so the last group is looked at first.
+/// Where the group of a client stands among groups in order, or where it would go. A delta's
+/// operations are in the order of their clients, so the last group is looked at first.
 fn place_of(groups: &[Group], client: &ClientId) -> Result<usize, usize>
     requires { T (is_sorted client_cmp groups.now) }
     ensures { IsPlace (λ group. client_cmp group.0 client.now) groups.now result }

@@ -2,12 +2,12 @@
 
 ghost use Rattle.std.specs.Prelude.{◌≡◌, ◌+◌, ◌++◌, ◌∷◌, ◌≤◌, [], IfOk, OnOk, IfSome, MatchOption, Some, ℕ, drop, filter};
 ghost use Rattle.std.specs.FinMap.{find};
-ghost use Rattle.rep_ops.specs.Orders.{client_cmp};
-ghost use Rattle.rep_ops.specs.declared.op.Op.TheVariants.{Session as OfSession, Put as OfPut};
+ghost use Rattle.rep_op.specs.Orders.{client_cmp};
+ghost use Rattle.rep_op.specs.declared.op.Op.TheVariants.{Session as OfSession, Put as OfPut};
 ghost use Rattle.rep_model.specs.Held.{IsHeld};
 ghost use Rattle.rep_model.specs.declared.fault.TheConstants.{MOST_CLIENTS};
-ghost use Rattle.rep_plain.specs.Rows.{flat, own, has_any, count_named};
-ghost use Rattle.rep_plain.specs.inner.Rows.{named_rows};
+ghost use Rattle.rep_shared.specs.Rows.{flat, own, has_any, count_named};
+ghost use Rattle.rep_shared.specs.inner.Rows.{named_rows};
 ghost use Rattle.rep_entry.specs.Entries.{row_of};
 ghost use Rattle.rep_log.specs.Kept.{of_log, of_mail};
 ghost use Rattle.rep_state.specs.Tables.{by_client, rows_of, IsTable, ArePlaces};
@@ -15,11 +15,10 @@ ghost use Rattle.rep_state.specs.inner.Tables.{own_of_all};
 ghost use Rattle.rep_state.specs.Interests.{AreMarked};
 ghost use Rattle.rep_state.specs.inner.Interests.{AreSilent, IsNext};
 
-use super::interest::mark_of;
 use super::places::{Place, client_at, names, next_marked};
 use super::table::{Table, entry_of, has_operations};
 use octets::NoMemory;
-use rep_entry::Entry;
+use rep_entry::{Entry, mark_of};
 use rep_log::NamedOp;
 use rep_ops::{ClientId, Delta, Op, Put, Stamp, deltas_of};
 use sn_session::SessionOp;
@@ -53,8 +52,8 @@ fn keep_named(clients: &mut Vec<ClientId>, table: &Table)
     clients.retain(|client| has_operations(table, client.bytes()));
 }
 
-/// The client at a place among those that have operations, in ascending order, with its entry, where so many have some. Where
-/// all of them have, nothing is looked for.
+/// The client at a place among those that have operations, in ascending order, with its entry,
+/// where so many have some. Where all of them have, nothing is looked for.
 pub(crate) fn named_at<'a>(
     table: &'a Table,
     places: &'a [Place],
@@ -76,8 +75,8 @@ pub(crate) fn named_at<'a>(
     client_at(table, places, at)
 }
 
-/// The client at a place among those that have operations, in ascending order, with its entry. Each call walks from the first
-/// client on.
+/// The client at a place among those that have operations, in ascending order, with its entry. Each
+/// call walks from the first client on.
 fn walk_to<'a>(
     table: &'a Table,
     places: &'a [Place],
@@ -105,8 +104,9 @@ fn walk_to<'a>(
     None
 }
 
-/// The next client from a place on, among those that have operations, where so many have some, that may ask for the topic, with its
-/// entry and the place behind it. Where all of them have operations, those that are passed over are told by their marks alone.
+/// The next client from a place on, among those that have operations, where so many have some, that
+/// may ask for the topic, with its entry and the place behind it. Where all of them have
+/// operations, those that are passed over are told by their marks alone.
 pub(crate) fn next_asking<'a>(
     table: &'a Table,
     places: &'a [Place],

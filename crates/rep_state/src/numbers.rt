@@ -2,7 +2,7 @@
 
 ghost use Rattle.std.specs.Prelude.{◌≡◌, ℕ, List, max};
 ghost use Rattle.rep_model.specs.Fresh.{greatest_epoch, seq_of, largest};
-ghost use Rattle.rep_plain.specs.Rows.{own};
+ghost use Rattle.rep_shared.specs.Rows.{own};
 ghost use Rattle.rep_entry.specs.Entries.{row_of};
 ghost use Rattle.rep_log.specs.Mail.{Rising};
 ghost use Rattle.rep_entry.specs.inner.Numbers.{epoch_of, seq_from};
@@ -29,7 +29,8 @@ pub(crate) fn last_epoch(table: &Table, client: &ClientId) -> u64
 pub(crate) fn last_seq(table: &Table, client: &ClientId, gateway: u8) -> u64
     requires { AreKept (by_client table.now.entries) }
     ensures { result
-        ≡ largest (seq_of client.now gateway) (own client.now (rows_of (by_client table.now.entries))) }
+        ≡ largest (seq_of client.now gateway)
+        (own client.now (rows_of (by_client table.now.entries))) }
 {
     match entry_of(table, client.bytes()) {
         Some(entry) => greatest_seq(entry, gateway),
@@ -67,7 +68,8 @@ fn larger(a: u64, b: u64) -> u64
     a.max(b)
 }
 
-/// The greatest sequence number of the gateway's messages, which stand in order: that of its last one; or 0.
+/// The greatest sequence number of the gateway's messages, which stand in order: that of its last
+/// one; or 0.
 fn greatest_put(puts: &[Put], gateway: u8) -> u64
     requires { Rising puts.now }
     ensures { result ≡ largest (seq_from gateway) puts.now }

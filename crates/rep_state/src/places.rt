@@ -1,21 +1,21 @@
-//! The names of the clients in order, each with the index of its entry in the table, and with the marks of the topics that it may
-//! ask for.
+//! The names of the clients in order, each with the index of its entry in the table, and with the
+//! marks of the topics that it may ask for.
 //!
-//! A walk over all clients in order sorts nothing and looks for nothing, and one for a publication looks at marks alone.
+//! A walk over all clients in order sorts nothing and looks for nothing, and one for a publication
+//! looks at marks alone.
 
 ghost use Rattle.std.specs.Prelude.{◌≡◌, ◌+◌, ◌<◌, ◌≤◌, ◌∷◌, [], IfOk, IsTrue, MatchOption, length, map, drop, vec_len, vec_capacity};
 ghost use Rattle.std.specs.Map.{keys_of};
-ghost use Rattle.sn_session.specs.Tables.{is_ascending, with_entry};
-ghost use Rattle.sn_session.specs.inner.Tables.{IsPlace};
-ghost use Rattle.rep_ops.specs.Orders.{client_cmp};
+ghost use Rattle.sn_tables.specs.Tables.{is_ascending, with_entry};
+ghost use Rattle.sn_tables.specs.inner.Tables.{IsPlace};
+ghost use Rattle.rep_op.specs.Orders.{client_cmp};
 ghost use Rattle.rep_state.specs.Tables.{by_client, names_at, ArePlaces};
 ghost use Rattle.rep_state.specs.inner.Tables.{place_cmp};
 ghost use Rattle.rep_state.specs.inner.Interests.{marked, NoneMarked, IsPassed};
 
-use super::interest::has_mark;
 use super::table::Table;
 use octets::NoMemory;
-use rep_entry::Entry;
+use rep_entry::{Entry, has_mark};
 use rep_ops::ClientId;
 use std::alloc::Global;
 

@@ -22,7 +22,8 @@ use std::marker::Model;
 pub struct Folded {
     /// The clients. An empty place is seen by no query.
     table: Table,
-    /// Their names in ascending order, each with the index of its entry and the marks of what it may ask for.
+    /// Their names in ascending order, each with the index of its entry and the marks of what it
+    /// may ask for.
     places: Vec<Place>,
     /// How many clients have operations.
     named: usize,
@@ -30,7 +31,7 @@ pub struct Folded {
 
 impl Model for Folded {
     ghost use Rattle.std.specs.Prelude.{List, ℕ};
-    ghost use Rattle.rep_ops.specs.declared.op.Op.{Op};
+    ghost use Rattle.rep_op.specs.declared.op.Op.{Op};
 
     ghost Value = { List (List ℕ × List Op) };
 
@@ -68,7 +69,7 @@ impl Model for Staged {
 
 impl Replica for Folded {
     ghost use Rattle.std.specs.Prelude.{◌≡◌};
-    ghost use Rattle.rep_plain.specs.Rows.{flat, moved, count_named};
+    ghost use Rattle.rep_shared.specs.Rows.{flat, moved, count_named};
     ghost use Rattle.rep_entry.specs.Staging.{planned, AreReady};
 
     type Staged = Staged;

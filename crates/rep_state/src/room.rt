@@ -2,9 +2,9 @@
 
 ghost use Rattle.std.specs.Prelude.{◌≡◌, IsSome, IsTrue, is_some, IfOk, OnOk, List};
 ghost use Rattle.std.specs.FinMap.{find, put};
-ghost use Rattle.sn_session.specs.Tables.{is_ascending};
-ghost use Rattle.rep_ops.specs.Orders.{client_cmp};
-ghost use Rattle.rep_plain.specs.Rows.{moved};
+ghost use Rattle.sn_tables.specs.Tables.{is_ascending};
+ghost use Rattle.rep_op.specs.Orders.{client_cmp};
+ghost use Rattle.rep_shared.specs.Rows.{moved};
 ghost use Rattle.rep_state.specs.Tables.{by_client, rows_of, AreKept, ArePlaces};
 ghost use Rattle.rep_state.specs.inner.Tables.{IsRoomier, place_cmp};
 ghost use Rattle.rep_state.specs.Interests.{AreMarked};
@@ -15,11 +15,10 @@ ghost use Rattle.rep_state.specs.inner.Staging.{future, HaveRoom, AreMovable};
 ghost use Rattle.rep_entry.specs.Applied.{applied};
 ghost use Rattle.rep_state.specs.declared.places.Place.{Place as AtPlace};
 
-use super::interest::marks_of;
 use super::places::{Place, enter, mark_place};
 use super::table::{Table, copy_octets};
 use octets::NoMemory;
-use rep_entry::{Change, Entry, put_into};
+use rep_entry::{Change, Entry, marks_of, put_into};
 use rep_log::Log;
 use rep_ops::ClientId;
 use std::alloc::Global;

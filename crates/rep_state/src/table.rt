@@ -4,9 +4,9 @@ ghost use Rattle.std.specs.Prelude.{◌≡◌, ◌+◌, IfOk, nat_lt, not, count
 ghost use Rattle.std.specs.Option.{option_copied};
 ghost use Rattle.std.specs.List.{list_any};
 ghost use Rattle.std.specs.FinMap.{find};
-ghost use Rattle.rep_ops.specs.Orders.{client_cmp};
-ghost use Rattle.rep_plain.specs.Rows.{own, has_any};
-ghost use Rattle.rep_plain.specs.inner.Tables.{passed_of};
+ghost use Rattle.rep_op.specs.Orders.{client_cmp};
+ghost use Rattle.rep_shared.specs.Rows.{own, has_any};
+ghost use Rattle.rep_shared.specs.inner.Tables.{passed_of};
 ghost use Rattle.rep_state.specs.Tables.{by_client, rows_of};
 
 use indexmap::IndexMap;
@@ -15,7 +15,8 @@ use rep_entry::{Change, Entry};
 use rep_model::{Limit, MOST_CLIENTS, MOST_EXCEPTIONS, MOST_PARKED, MOST_PENDING};
 use std::alloc::Global;
 
-/// The clients with what the replica keeps of them, under the octets of their names, in the order in which they came.
+/// The clients with what the replica keeps of them, under the octets of their names, in the order
+/// in which they came.
 pub(crate) type Table = IndexMap<Vec<u8>, Entry>;
 
 /// The client's entry.
@@ -44,7 +45,8 @@ pub(crate) fn copy_octets(alloc: Global, octets: &[u8]) -> Result<Vec<u8>, NoMem
     Ok(made)
 }
 
-/// The first limit that is passed once the changes are in their places, where `count` clients are named then.
+/// The first limit that is passed once the changes are in their places, where `count` clients are
+/// named then.
 pub(crate) fn passed(count: usize, changes: &[(Vec<u8>, Change)]) -> Option<Limit>
     ensures { result ≡ passed_of count
         (list_any (λ g. nat_lt MOST_PENDING g.1.pending) changes.now)

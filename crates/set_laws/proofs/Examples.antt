@@ -1,7 +1,7 @@
 -- Worked rows: three acknowledgements, of which two stand above a gap; a part of a set is below it.
 use Rattle.std.proofs.Common.{◌≡◌, ℕ, List, [], ◌∷◌, ◌++◌, refl, true, false}
-use Rattle.rep_ops.specs.declared.op.Op.{Op}
-use Rattle.rep_ops.specs.declared.op.Op.TheVariants.{Ack}
+use Rattle.rep_op.specs.declared.op.Op.{Op}
+use Rattle.rep_op.specs.declared.op.Op.TheVariants.{Ack}
 use Rattle.rep_model.specs.Keep.{keep}
 use Rattle.rep_model.specs.Limits.{acknowledged, above_a_gap}
 use Rattle.set_laws.specs.Exceptions.{count_to, is_above_gap, is_told}

@@ -4,8 +4,8 @@ use Rattle.std.specs.Prelude.{sum_by}
 use Rattle.std.specs.List.{AllByRecursion}
 use Rattle.std.proofs.lemmas.Bool.{and_parts, and_from, or_left, or_right}
 use Rattle.std.proofs.lemmas.List.Sums.{sum_by-cons}
-use Rattle.rep_ops.specs.declared.op.Op.{Op}
-use Rattle.rep_ops.specs.Sets.{is_acknowledged}
+use Rattle.rep_op.specs.declared.op.Op.{Op}
+use Rattle.rep_op.specs.Sets.{is_acknowledged}
 use Rattle.rep_model.specs.Ranges.{is_within, in_ranges, AreApartFrom, AreApart}
 use Rattle.rep_model.specs.Limits.{size_of, acknowledged, above_a_gap, sum_to, exceptions}
 use Rattle.rep_model.proofs.Ranges.{within-parts, in-apart}

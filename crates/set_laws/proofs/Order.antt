@@ -1,7 +1,7 @@
 -- The order of sets, up to what must be kept.
 use Rattle.std.proofs.Common.{List, ◌++◌, sym, subst, append_assoc}
-use Rattle.rep_ops.specs.declared.op.Op.{Op}
-use Rattle.rep_ops.specs.Sets.{IsConsistent, Same}
+use Rattle.rep_op.specs.declared.op.Op.{Op}
+use Rattle.rep_op.specs.Sets.{IsConsistent, Same}
 use Rattle.rep_model.specs.Keep.{keep, CountsAs, Below}
 use Rattle.rep_model.proofs.Thin.{same_kept, thin-keep, thin-same, thin-left}
 use Rattle.rep_model.proofs.Joins.{same_sym, same_trans, counts-refl, counts-same, counts-more, same-twice, same-turned, below-left, below-right, below-least}

@@ -1,6 +1,6 @@
 -- What it is to be the join of two sets.
 use Rattle.std.specs.Prelude.{List}
-use Rattle.rep_ops.specs.declared.op.Op.{Op}
+use Rattle.rep_op.specs.declared.op.Op.{Op}
 use Rattle.rep_model.specs.Keep.{Below}
 
 -- J is above A and B, and below whatever is above both

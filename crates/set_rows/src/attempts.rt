@@ -56,7 +56,8 @@ fn read_text(alloc: Global, count: usize, slot: Slot, octets: &[u8]) -> Result<S
     Ok(format!(in alloc; "records {count} in {slot}, {octets}")?)
 }
 
-/// `openings GATEWAY SLOT`: an opening where each beginning of the octets stands behind what the slot has.
+/// `openings GATEWAY SLOT`: an opening where each beginning of the octets stands behind what the
+/// slot has.
 pub(crate) fn openings(
     alloc: Global,
     text: &mut String,
@@ -79,8 +80,8 @@ pub(crate) fn openings(
     Ok(finish(text, run)?)
 }
 
-/// `appends GATEWAY COUNT`: a record of the operations whose append stops after each number of octets up to this one; then
-/// a crash that leaves all that went out, and an opening.
+/// `appends GATEWAY COUNT`: a record of the operations whose append stops after each number of
+/// octets up to this one; then a crash that leaves all that went out, and an opening.
 pub(crate) fn appends(
     alloc: Global,
     text: &mut String,

@@ -65,7 +65,8 @@ pub(crate) fn spelled(
     Ok(())
 }
 
-/// `written`: the delta of the operations, and its octets, which stand in place of those that were there.
+/// `written`: the delta of the operations, and its octets, which stand in place of those that were
+/// there.
 pub(crate) fn written(
     alloc: Global,
     text: &mut String,

@@ -3,7 +3,8 @@
 use crate::stop::Stop;
 use octets::Octets;
 use rep_ops::{ClientId, OpsFault, Stamp};
-use sn_session::{Message, QosLevel};
+use sn_session::Message;
+use sn_tables::QosLevel;
 use sn_topic::{Filter, TopicFault, TopicName};
 use std::alloc::Global;
 

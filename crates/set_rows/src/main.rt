@@ -1,16 +1,18 @@
-//! Worked rows of operations, deltas, sessions, replicas and journals: what no clause says, as that calls succeed, and octets written
-//! out by hand.
+//! Worked rows of operations, deltas, sessions, replicas and journals: what no clause says, as that
+//! calls succeed, and octets written out by hand.
 //!
 //! The rows are played on both replicas, and a last line says that these print the same.
 //!
-//! A contract lets a call answer want of memory in place of almost anything; a row does not. Standard input holds rows, each
-//! behind a line `== NAME`; empty lines and those that begin with `#` are skipped. Each row begins with nothing: no operation, no
-//! octets, the empty session, an empty replica, an empty disk. The program prints each name, and below it what the lines of the row
-//! give; of a line that is none of these, `no such line` and the line.
+//! A contract lets a call answer want of memory in place of almost anything; a row does not.
+//! Standard input holds rows, each behind a line `== NAME`; empty lines and those that begin with
+//! `#` are skipped. Each row begins with nothing: no operation, no octets, the empty session, an
+//! empty replica, an empty disk. The program prints each name, and below it what the lines of the
+//! row give; of a line that is none of these, `no such line` and the line.
 //!
-//! A line is words with one space between them. Numbers are decimal. Octets are words of hexadecimal digits, in as many as is
-//! pleasant; after a line `name NAME OCTETS ..`, which may stand anywhere, also the name of some. The name of a client or a topic, a
-//! filter and a message are a word each, and stand for the octets of the word; `-` is no octet.
+//! A line is words with one space between them. Numbers are decimal. Octets are words of
+//! hexadecimal digits, in as many as is pleasant; after a line `name NAME OCTETS ..`, which may
+//! stand anywhere, also the name of some. The name of a client or a topic, a filter and a message
+//! are a word each, and stand for the octets of the word; `-` is no octet.
 //!
 //! | The session, and operations, which wait to be used | |
 //! |---|---|
@@ -29,9 +31,11 @@
 //! | `ack CLIENT ORIGIN FIRST LAST` | a client has these messages |
 //! | `acks COUNT` | message 1 of gateway 1 for so many clients, whose names are 0, 1 and so on in two octets |
 //!
-//! A CHANGE is `take` (the row's session), `presence WHERE SECONDS`, `register ID NAME known` or `new`, `subscribe FILTER QOS`,
-//! `unsubscribe FILTER`, `will none`, `will TOPIC QOS retained` or `fleeting`, `message BODY` (the will's), `received ID`, `released ID`,
-//! `exchange none NEXT` or `exchange ORIGIN.NUMBER ID PHASE NEXT` with `registering`, `published` or `released`; NEXT is the next message id.
+//! A CHANGE is `take` (the row's session), `presence WHERE SECONDS`, `register ID NAME known` or
+//! `new`, `subscribe FILTER QOS`, `unsubscribe FILTER`, `will none`, `will TOPIC QOS retained` or
+//! `fleeting`, `message BODY` (the will's), `received ID`, `released ID`, `exchange none NEXT` or
+//! `exchange ORIGIN.NUMBER ID PHASE NEXT` with `registering`, `published` or `released`; NEXT is
+//! the next message id.
 //!
 //! | Deltas; a delta is printed as a line with the number of its operations, and their lines | |
 //! |---|---|
@@ -74,9 +78,11 @@
 //! | `compactions GATEWAY COUNT` | the same of a `compact` |
 //! | `retries GATEWAY CALL COUNT` | what an `open`, a `reopen` and a `compact` answer where one CALL (`sync`, `cut` or `read`) fails behind each number of them up to this one |
 //!
-//! From `append` to `close` these want the journal open, all others closed. The last four try each place on a disk of its own, with what
-//! the row's disk has; neighbours that give the same share a line. With `retries` what is refused is tried once again, a compaction behind
-//! one more `reopen`; the line has the number of records that each opening reads, and those of an opening of what is left.
+//! From `append` to `close` these want the journal open, all others closed. The last four try each
+//! place on a disk of its own, with what the row's disk has; neighbours that give the same share a
+//! line. With `retries` what is refused is tried once again, a compaction behind one more `reopen`;
+//! the line has the number of records that each opening reads, and those of an opening of what is
+//! left.
 //!
 //! - `row`: what the lines of a row have brought about (`Row`), and the play of one more.
 //! - `fields`, `names`, `operations`, `changes`: lines that are read.
@@ -126,7 +132,8 @@ fn main(rt: HostRuntime) -> Result<()> {
     Ok(())
 }
 
-/// What both replicas print, which is the same, and a line that says so; where it is not, what each prints.
+/// What both replicas print, which is the same, and a line that says so; where it is not, what each
+/// prints.
 fn print_both(alloc: Global, lines: &[String]) -> Result<String, Stop> {
     let mut folded = played::<Folded>(alloc, lines)?;
     let plain = played::<Plain>(alloc, lines)?;

@@ -7,7 +7,8 @@ use crate::fields::{
 use crate::stop::Stop;
 use octets::Octets;
 use rep_ops::{ClientId, Op, OpsFault, Put, Stamp};
-use sn_session::{QosLevel, Session};
+use sn_session::Session;
+use sn_tables::QosLevel;
 use std::alloc::Global;
 
 /// `op CLIENT EPOCH.GATEWAY COUNTER CHANGE`: a change of a session.
@@ -37,7 +38,8 @@ fn changed(
     })
 }
 
-/// `ops CLIENT EPOCH.GATEWAY FIRST LAST CHANGE`: the same change under each counter from the first to the last.
+/// `ops CLIENT EPOCH.GATEWAY FIRST LAST CHANGE`: the same change under each counter from the first
+/// to the last.
 pub(crate) fn session_ops(
     alloc: Global,
     session: &Session,
@@ -125,7 +127,8 @@ pub(crate) fn ack_op(alloc: Global, fields: &[&str]) -> Result<Op, Stop> {
     })
 }
 
-/// `acks COUNT`: so many clients have message 1 of gateway 1. A client's name is its number from 0 on in two octets.
+/// `acks COUNT`: so many clients have message 1 of gateway 1. A client's name is its number from 0
+/// on in two octets.
 pub(crate) fn ack_ops(alloc: Global, ops: &mut Vec<Op>, fields: &[&str]) -> Result<(), Stop> {
     let [clients] = fields else {
         return Err(Stop::Line);

@@ -3,9 +3,8 @@
 use crate::words::{kind_word, known_word, phase_word, presence_word, retain_word, word};
 use rep_model::ClientView;
 use rep_ops::{Delta, Op, Put};
-use sn_session::{
-    Outbound, QosLevel, Session, SessionOp, Subscription, TopicEntry, Will, WillTopic,
-};
+use sn_session::{Outbound, Session, SessionOp, Will, WillTopic};
+use sn_tables::{QosLevel, Subscription, TopicEntry};
 use std::alloc::{AllocError, Global};
 
 /// The operations of a delta, behind a line with their number.

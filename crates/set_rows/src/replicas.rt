@@ -119,7 +119,8 @@ pub(crate) fn waiting<R: Replica>(
     }
 }
 
-/// `next CLIENT GATEWAY`: the epoch of the client's next Take, and the number of the gateway's next message for it.
+/// `next CLIENT GATEWAY`: the epoch of the client's next Take, and the number of the gateway's next
+/// message for it.
 pub(crate) fn next<R: Replica>(
     alloc: Global,
     text: &mut String,

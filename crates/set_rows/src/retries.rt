@@ -20,8 +20,9 @@ fn call(text: &str) -> Result<OnceCall, Stop> {
     }
 }
 
-/// `retries GATEWAY CALL COUNT`: the journal is opened, opened once more and compacted to the operations, where one call fails behind each
-/// number of calls of its kind up to this one; what is refused is tried once again.
+/// `retries GATEWAY CALL COUNT`: the journal is opened, opened once more and compacted to the
+/// operations, where one call fails behind each number of calls of its kind up to this one; what is
+/// refused is tried once again.
 pub(crate) fn retries(
     alloc: Global,
     text: &mut String,

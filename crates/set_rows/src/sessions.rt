@@ -5,7 +5,8 @@ use crate::fields::{fields as words_of, filter, is_first, small_number, topic};
 use crate::printing::print_session;
 use crate::stop::Stop;
 use crate::words::{known_word, word};
-use sn_session::{Session, SessionFault};
+use sn_session::Session;
+use sn_tables::SessionFault;
 use std::alloc::Global;
 
 /// Where the number of a change stands that is made under each of several.

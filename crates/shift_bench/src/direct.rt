@@ -6,8 +6,9 @@ use gw_node::Step;
 use std::alloc::Global;
 use std::time::{Clock, Instant};
 
-/// Makes so many rounds of calls, each round of a gateway of its own, and says how many microseconds they took.
-pub fn run(clock: &impl Clock, alloc: Global, step: &Step, rounds: u16) -> Result<u64> {
+/// Makes so many rounds of calls, each round of a gateway of its own, and says how many
+/// microseconds they took.
+pub(crate) fn run(clock: &impl Clock, alloc: Global, step: &Step, rounds: u16) -> Result<u64> {
     let mut micros = 0_u64;
     for _ in 0..rounds {
         let mut node = gateway(alloc)?;

@@ -5,7 +5,7 @@ use gw_node::{Node, Step};
 use jr_journal::MemoryDisk;
 use octets::{Octets, Sequence};
 use rep_plain::Plain;
-use sn_flow::{Addr, Config};
+use sn_local::{Addr, Config};
 use sn_topic::Predefined;
 use std::alloc::Global;
 use std::sync::Arc;
@@ -20,7 +20,7 @@ const SEARCHGW: [u8; 3] = [3, 1, 0];
 const SLEEP: [u8; 4] = [4, 0x18, 1, 0x2c];
 
 /// Gateway 1, with a client that has connected.
-pub fn gateway(alloc: Global) -> Result<Gateway> {
+pub(crate) fn gateway(alloc: Global) -> Result<Gateway> {
     let config = Config {
         gateway: 1,
         advertise: 0,
@@ -37,7 +37,7 @@ pub fn gateway(alloc: Global) -> Result<Gateway> {
 }
 
 /// The call of a work.
-pub fn step_of(alloc: Global, name: &str) -> Result<Arc<Step>> {
+pub(crate) fn step_of(alloc: Global, name: &str) -> Result<Arc<Step>> {
     let bytes = match name {
         "search" => Octets::from_slice(alloc, &SEARCHGW)?,
         "sleep" => Octets::from_slice(alloc, &SLEEP)?,

@@ -1,9 +1,12 @@
-//! Calls of one gateway on a disk in memory, made directly and through a shift, so that the two can be compared in one run.
+//! Calls of one gateway on a disk in memory, made directly and through a shift, so that the two can
+//! be compared in one run.
 //!
-//! Each line of standard input is a work, a number of threads and a number of rounds of 4,096 calls, as `search 2 10`. The works:
-//! `search`, a SEARCHGW, which writes nothing; `sleep`, a DISCONNECT with a duration, which is a record of the journal each
-//! time. With 0 threads the calls are made directly. The calls are told on standard output, and on standard error the microseconds that
-//! they took, without opening and closing; a shift is closed and compared with its passes, as always.
+//! Each line of standard input is a work, a number of threads and a number of rounds of 4,096
+//! calls, as `search 2 10`. The works: `search`, a SEARCHGW, which writes nothing; `sleep`, a
+//! DISCONNECT with a duration, which is a record of the journal each time. With 0 threads the calls
+//! are made directly. The calls are told on standard output, and on standard error the microseconds
+//! that they took, without opening and closing; a shift is closed and compared with its passes, as
+//! always.
 //!
 //! - `gateways`: a gateway with a client, and the calls.
 //! - `direct`, `shared`: the two ways to call.

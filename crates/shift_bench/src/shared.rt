@@ -13,9 +13,9 @@ use std::thread;
 use std::thread::Threads;
 use std::time::{Clock, Instant};
 
-/// Makes so many rounds of calls by so many threads, each round a shift of a gateway of its own, and says how many microseconds
-/// they took. Each shift is closed.
-pub fn run<T: Threads + Wait + Clock + Sync>(
+/// Makes so many rounds of calls by so many threads, each round a shift of a gateway of its own,
+/// and says how many microseconds they took. Each shift is closed.
+pub(crate) fn run<T: Threads + Wait + Clock + Sync>(
     rt: &T,
     alloc: Global,
     step: &Arc<Step>,

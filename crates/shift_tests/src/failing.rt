@@ -1,4 +1,5 @@
-//! A disk that fails once: what the calls of a shift are answered until the gateway is opened again, and that the shift is closed.
+//! A disk that fails once: what the calls of a shift are answered until the gateway is opened
+//! again, and that the shift is closed.
 
 use super::closings::closed;
 use super::gateways::{CONNECT, Gateway, Shared, alone, answered, frame, gateway, shift_of_one};

@@ -7,7 +7,7 @@ use gw_shift::{Pass, Shift};
 use jr_journal::MemoryDisk;
 use octets::{Octets, Sequence};
 use rep_plain::Plain;
-use sn_flow::{Addr, Config};
+use sn_local::{Addr, Config};
 use sn_topic::Predefined;
 use std::alloc::Global;
 use std::process::Abort;

@@ -1,4 +1,5 @@
-//! Worked examples of one gateway that threads share: what no clause says, as that calls succeed, and that threads really run.
+//! Worked examples of one gateway that threads share: what no clause says, as that calls succeed,
+//! and that threads really run.
 //!
 //! They stand apart, since a crate with tests is proved twice.
 //!

@@ -54,7 +54,8 @@ fn refused<W: Wait>(
     }
 }
 
-/// The number of a fault, with what it tells: how many calls the history has, or the number of the call.
+/// The number of a fault, with what it tells: how many calls the history has, or the number of the
+/// call.
 fn told(fault: &CallFault) -> (u8, u64) {
     match fault {
         CallFault::ShiftFull => (1, 0),

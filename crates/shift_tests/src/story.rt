@@ -1,4 +1,5 @@
-//! Two threads share a gateway: a client connects, subscribes and is looked at, while somebody searches a gateway.
+//! Two threads share a gateway: a client connects, subscribes and is looked at, while somebody
+//! searches a gateway.
 
 use super::closings::{Over, closed, missing, strange};
 use super::gateways::{
@@ -87,7 +88,8 @@ fn check_view(rt: &impl Abort, out: &Out) {
     assert_eq!(rt; session.map(|session| session.subscriptions.len()), Some(1));
 }
 
-/// Looks at what the two threads were answered: the numbers of the first ascend, and are others than that of the second.
+/// Looks at what the two threads were answered: the numbers of the first ascend, and are others
+/// than that of the second.
 fn check_answers(rt: &impl Abort, first: &Made, second: &Made) {
     assert!(rt; 1 < first.3 && first.3 < first.2);
     assert!(rt; 1 < second.2 && second.2 != first.2 && second.2 != first.3);
@@ -153,7 +155,8 @@ fn not_by_another(rt: &(impl Wait + Abort), alloc: Global, ended: Over) -> Resul
     Ok(ended)
 }
 
-/// The shift is not closed with its first pass and one of another shift, which made the same first call.
+/// The shift is not closed with its first pass and one of another shift, which made the same first
+/// call.
 fn not_by_a_twin(
     rt: &(impl Wait + Abort),
     alloc: Global,
@@ -167,7 +170,8 @@ fn not_by_a_twin(
     Ok((ended, given))
 }
 
-/// The shift is not closed with its passes and one that made no call, of a shift that began with something else.
+/// The shift is not closed with its passes and one that made no call, of a shift that began with
+/// something else.
 fn not_by_an_idler(
     rt: &impl Abort,
     alloc: Global,

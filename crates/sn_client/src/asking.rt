@@ -76,7 +76,8 @@ fn connect_flags(clean: bool, will: bool) -> Flags
     Flags { bits }
 }
 
-/// The message id of a publication: 0 where none is wanted, and else another than that of a registration before it.
+/// The message id of a publication: 0 where none is wanted, and else another than that of a
+/// registration before it.
 fn publish_id(qos: Qos, msg_id: u16) -> u16
     ensures value { result ≡ publish_id qos msg_id }
     ensures other { 1 ≤ msg_id → result ≢ msg_id }
@@ -88,7 +89,8 @@ fn publish_id(qos: Qos, msg_id: u16) -> u16
     }
 }
 
-/// The exchange of a command, with a message id that is not 0: what is awaited has the message id of what is sent.
+/// The exchange of a command, with a message id that is not 0: what is awaited has the message id
+/// of what is sent.
 pub(crate) fn begin(
     alloc: Global,
     client: &str,
@@ -172,7 +174,8 @@ fn unsubscribe(alloc: Global, topic: Topic<'_>, msg_id: u16) -> Result<Talk, NoM
     Ok(Talk::of(Some(frame), Awaited::Withdrawal { msg_id }))
 }
 
-/// A publication (sections 6.6 and 6.8), behind a registration where the topic's name stands in full (section 6.5).
+/// A publication (sections 6.6 and 6.8), behind a registration where the topic's name stands in
+/// full (section 6.5).
 fn publish(
     alloc: Global,
     topic: Topic<'_>,

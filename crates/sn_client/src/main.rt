@@ -1,17 +1,19 @@
-//! A client of MQTT-SN 1.2 for a person at a terminal: each run sends one thing to a gateway, waits for what answers it, and prints
-//! in words what goes and what comes.
+//! A client of MQTT-SN 1.2 for a person at a terminal: each run sends one thing to a gateway, waits
+//! for what answers it, and prints in words what goes and what comes.
 //!
 //!     sn_client --gateway 127.0.0.1:18841 --id s1 connect --clean
 //!     sn_client --gateway 127.0.0.1:18841 --id s1 subscribe tele/+ --qos 1
 //!     sn_client --gateway 127.0.0.1:18841 --id s1 listen 60
 //!
-//! The session is at the gateway and belongs to the client's address, so the runs of one client have one port. The status is 0 where
-//! what was asked for was accepted, 1 where it was refused, 2 where no answer came, 3 where the socket, the clock, the output or
-//! memory failed, and 4 where the arguments are no command.
+//! The session is at the gateway and belongs to the client's address, so the runs of one client
+//! have one port. The status is 0 where what was asked for was accepted, 1 where it was refused, 2
+//! where no answer came, 3 where the socket, the clock, the output or memory failed, and 4 where
+//! the arguments are no command.
 //!
 //! - `words`: from the command line to a `Command`.
 //! - `asking`: the frames that a command asks by.
-//! - `talk`: one exchange, without a socket: what a frame means for what is awaited, and what answers it.
+//! - `talk`: one exchange, without a socket: what a frame means for what is awaited, and what
+//!   answers it.
 //! - `telling`: frames in words.
 //! - `pace`: when a frame is sent again, and when a run is over.
 //! - `wire`: the socket.

@@ -1,13 +1,16 @@
-//! When a frame is sent again, and when a run is over. A moment is a number of milliseconds since the run began.
+//! When a frame is sent again, and when a run is over. A moment is a number of milliseconds since
+//! the run began.
 
 ghost use Rattle.std.specs.Prelude.{◌≡◌, ◌≤◌, ◌<◌, ◌*◌, IsTrue, IsFalse, IsSome, if◌then◌else◌, false, true};
 
 use crate::talk::Talk;
 
-/// After how many milliseconds a frame that is not answered is sent again (T_retry of MQTT-SN 1.2 section 6.13, shortened for a person).
+/// After how many milliseconds a frame that is not answered is sent again (T_retry of MQTT-SN 1.2
+/// section 6.13, shortened for a person).
 const RETRY: u64 = 1000;
 
-/// How many milliseconds of silence end a run that has its answer: what the gateway sends behind it still comes.
+/// How many milliseconds of silence end a run that has its answer: what the gateway sends behind it
+/// still comes.
 const SILENCE: u64 = 300;
 
 /// The moments of a run.
@@ -42,7 +45,8 @@ impl Pace {
         }
     }
 
-    /// Whether the run is over: its time is up, or it has its answer and nothing followed for a while.
+    /// Whether the run is over: its time is up, or it has its answer and nothing followed for a
+    /// while.
     pub(crate) fn is_over(&self, talk: &Talk, moment: u64) -> bool
         ensures late { self.now.limit ≤ moment → IsTrue result }
         ensures waiting { moment < self.now.limit → talk.now.outcome ≡ None → IsFalse result }
@@ -53,7 +57,8 @@ impl Pace {
         talk.outcome.is_some() && self.sent.is_some() && moment.saturating_sub(self.last) >= SILENCE
     }
 
-    /// Whether the pending frame is to be sent now: for the first time, or again where nothing has answered it.
+    /// Whether the pending frame is to be sent now: for the first time, or again where nothing has
+    /// answered it.
     pub(crate) fn is_due(&self, talk: &Talk, moment: u64) -> bool
         ensures first { self.now.sent ≡ None → IsTrue result }
         ensures ended { IsSome talk.now.outcome → IsSome self.now.sent → IsFalse result }

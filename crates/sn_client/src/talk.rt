@@ -1,4 +1,5 @@
-//! One exchange, without a socket: what a frame means for what is awaited, and what is sent for it (MQTT-SN 1.2 sections 6.2 to 6.14).
+//! One exchange, without a socket: what a frame means for what is awaited, and what is sent for it
+//! (MQTT-SN 1.2 sections 6.2 to 6.14).
 
 ghost use Rattle.std.specs.Prelude.{◌≡◌, option_map};
 ghost use Rattle.sn_client.specs.inner.Talking.{status_of, awaited_at, outcome_at, repeated, turn_of};

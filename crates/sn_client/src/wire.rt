@@ -41,8 +41,8 @@ impl Wire {
         Ok(())
     }
 
-    /// The size of a datagram that came from the gateway, which is in the front of the buffer; nothing where none came for a while.
-    /// What another sent is nothing.
+    /// The size of a datagram that came from the gateway, which is in the front of the buffer;
+    /// nothing where none came for a while. What another sent is nothing.
     pub(crate) fn receive(&self, buffer: &mut [u8]) -> io::Result<Option<usize>>
         ensures { IfOk result (λ came. IfSome came (λ size. size ≤ length buffer.new)) }
     {

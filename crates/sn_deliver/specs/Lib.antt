@@ -1,9 +1,4 @@
-pub mod Due
-pub mod Following
-pub mod Laws
-pub mod Rest
+pub mod Acknowledging
 pub mod Serving
 pub mod Steps
-pub mod Ticking
-pub mod Ticks
 pub mod Waking

@@ -15,9 +15,9 @@ use Rattle.sn_local.specs.Locals.{Local}
 use Rattle.sn_plan.specs.Bound.{session_of}
 use Rattle.sn_plan.specs.Rows.{row_of, row_of_none, heard_row, turned_away}
 use Rattle.sn_exchange.specs.declared.peer.Peer.{Peer}
-use Rattle.sn_deliver.specs.Following.{peer_at}
+use Rattle.sn_exchange.specs.Following.{peer_at}
 use Rattle.sn_publish.specs.Publishing.{publish, publish_unconnected, pubrel}
-use Rattle.sn_exchange.specs.Acknowledging.{acknowledge}
+use Rattle.sn_deliver.specs.Acknowledging.{acknowledge}
 
 -- a row of the bound client c, which was heard of; Delivery follows
 abbrev pub served : List ℕ → ℕ → Drafted → Row
@@ -58,8 +58,10 @@ acknowledged predefined seen peer frame =
 
 abbrev pub ack_of : Entries → Seen → Addr → Option (List ℕ) → Frame → ℕ → Row
 ack_of predefined seen a None frame now = turned_away a
-ack_of predefined seen a (Some c) frame now = served c now (acknowledged predefined seen (peer_at a c now) frame)
+ack_of predefined seen a (Some c) frame now =
+    served c now (acknowledged predefined seen (peer_at a c now) frame)
 
 -- PUBACK, PUBREC, PUBCOMP and REGACK
 abbrev pub ack_in : Entries → Seen → Local → Addr → Frame → ℕ → Row
-ack_in predefined seen local a frame now = ack_of predefined seen a (client_at a local.bindings) frame now
+ack_in predefined seen local a frame now =
+    ack_of predefined seen a (client_at a local.bindings) frame now

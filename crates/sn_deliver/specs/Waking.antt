@@ -1,11 +1,12 @@
--- Waking: a client comes back from sleep, here or at another gateway (MQTT-SN 1.2 sections 6.11 and 6.14).
+-- Waking: a client comes back from sleep, here or at another gateway (MQTT-SN 1.2 sections 6.11 and
+-- 6.14).
 use Rattle.std.specs.Prelude.{ℕ, ◌==◌, Bool, ◌&&◌, if◌then◌else◌, is_none, List, length, Option, Some, None, []}
 use Rattle.sn_session.specs.declared.presence.Presence.{Presence as State}
 use Rattle.sn_session.specs.declared.presence.Presence.TheVariants.{Active, Asleep, Awake, Disconnected, Lost}
 use Rattle.sn_session.specs.declared.session.Session.{Session}
 use Rattle.sn_session.specs.declared.change.SessionOp.TheVariants.{Take, Presence}
 use Rattle.sn_frame.specs.declared.frame.Frame.TheVariants as frames
-use Rattle.rep_ops.specs.declared.op.Put.{Put}
+use Rattle.rep_op.specs.declared.op.Put.{Put}
 use Rattle.rep_model.specs.declared.view.ClientView.{ClientView}
 use Rattle.sn_local.specs.declared.config.Addr.{Addr}
 use Rattle.sn_plan.specs.declared.row.Row.{Row}
@@ -33,15 +34,17 @@ answered a d = sent a frames.PingResp d
 -- a client that is Asleep wakes, where there is something for it
 abbrev pub from_sleep : Addr → List ℕ → Session → Bool → Drafted → Row
 from_sleep a c s idle d =
-    if idle then row_of follows.Nothing c (answered a d) else row_of follows.Resend c (changed (Presence Awake s.duration) d)
+    if idle then row_of follows.Nothing c (answered a d)
+    else row_of follows.Resend c (changed (Presence Awake s.duration) d)
 
 -- a client that is Awake goes back to sleep, where there is nothing for it
 abbrev pub from_wake : Addr → List ℕ → Session → Bool → Drafted → Row
 from_wake a c s idle d =
-    if idle then row_of follows.Nothing c (answered a (changed (Presence Asleep s.duration) d)) else row_of follows.Resend c d
+    if idle then row_of follows.Nothing c (answered a (changed (Presence Asleep s.duration) d))
+    else row_of follows.Resend c d
 
--- by what the client is: one that is Active gets PINGRESP, and then what waits for it; one that is Disconnected or Lost cannot
--- wake, and is turned away
+-- by what the client is: one that is Active gets PINGRESP, and then what waits for it; one that is
+-- Disconnected or Lost cannot wake, and is turned away
 abbrev pub woken_by : Addr → List ℕ → Session → Bool → Drafted → State → Row
 woken_by a c s idle d Active = row_of follows.Delivery c (answered a d)
 woken_by a c s idle d Asleep = from_sleep a c s idle d
@@ -51,7 +54,8 @@ woken_by a c s idle d Lost = turned_away a
 
 abbrev pub woken_if : ℕ → Addr → List ℕ → ClientView → ℕ → Option Session → Row
 woken_if g a c v now None = turned_away a
-woken_if g a c v now (Some s) = woken_by a c s (has_nothing s v.pending) (bound_to a c now (claimed g v s)) s.presence
+woken_if g a c v now (Some s) =
+    woken_by a c s (has_nothing s v.pending) (bound_to a c now (claimed g v s)) s.presence
 
 -- the client wakes at this address and gateway: it is claimed and bound
 abbrev pub woken : ℕ → Seen → Addr → List ℕ → ℕ → Row
@@ -61,7 +65,8 @@ abbrev pub wake_of : ℕ → Seen → Addr → Option (List ℕ) → ℕ → Row
 wake_of g seen a None now = turned_away a
 wake_of g seen a (Some c) now = heard_row (Some c) now (woken g seen a c now)
 
--- PINGREQ: with the id of a client it wakes that client; without, the one that is bound to the address
+-- PINGREQ: with the id of a client it wakes that client; without, the one that is bound to the
+-- address
 abbrev pub wake : ℕ → Seen → Local → Addr → List ℕ → ℕ → Row
 wake g seen local a c now =
     if length c == 0 then wake_of g seen a (client_at a local.bindings) now

@@ -2,14 +2,15 @@
 
 ghost use Rattle.std.specs.Prelude.{◌≡◌, Some, IfOk};
 ghost use Rattle.sn_local.specs.Seen.{seen_of};
-ghost use Rattle.sn_local.specs.Bindings.{client_at as client_of};
-ghost use Rattle.sn_deliver.specs.Serving.{served as served_row, publish_of, publish_in as published_row, pubrel_of, pubrel_in as pubrel_row, acknowledged as acknowledged_draft, ack_of, ack_in as ack_row};
+ghost use Rattle.sn_local.specs.Bindings as bindings;
+ghost use Rattle.sn_deliver.specs.Serving.{publish_of, pubrel_of, ack_of};
+ghost use Rattle.sn_deliver.specs.Serving as spec;
 
-use super::follow::peer_at;
+use super::acknowledging::acknowledge;
 use octets::{NoMemory, Octets};
 use rep_model::Replica;
 use rep_ops::ClientId;
-use sn_exchange::{Peer, acknowledge};
+use sn_exchange::{Peer, peer_at};
 use sn_frame::{Flags, Frame, Qos};
 use sn_local::{Addr, Config, Dialogs};
 use sn_plan::{Draft, Follow, Row, heard_row, session_or, turn_away, unseen, view_or};
@@ -19,7 +20,7 @@ use std::alloc::Global;
 
 /// A row of a bound client: it was heard of, and Delivery follows.
 fn served(alloc: Global, client: &ClientId, now: u64, draft: Draft) -> Result<Row, NoMemory>
-    ensures { IfOk result (λ row. row ≡ served_row client.now now draft) }
+    ensures { IfOk result (λ row. row ≡ spec.served client.now now draft) }
 {
     let row = Row::new(alloc, Follow::Delivery, client, draft)?;
     heard_row(alloc, Some(client), now, row)
@@ -72,7 +73,8 @@ fn publish_connected<R: Replica>(
     now: u64,
 ) -> Result<Row, NoMemory>
     ensures { IfOk result (λ row. row ≡ publish_of config.now.predefined
-        (seen_of (R.kept replica.now)) from (client_of from dialogs.now.local.bindings) flags.bits
+        (seen_of (R.kept replica.now)) from
+        (bindings.client_at from dialogs.now.local.bindings) flags.bits
         topic msg_id body.now now) }
 {
     match dialogs.client_at(from) {
@@ -83,8 +85,8 @@ fn publish_connected<R: Replica>(
     }
 }
 
-/// PUBLISH: a client publishes a message. Who subscribed to the topic gets it. At quality of service -1 the client needs no
-/// connection, and nothing follows.
+/// PUBLISH: a client publishes a message. Who subscribed to the topic gets it. At quality of
+/// service -1 the client needs no connection, and nothing follows.
 pub fn publish_in<R: Replica>(
     alloc: Global,
     config: &Config,
@@ -97,7 +99,7 @@ pub fn publish_in<R: Replica>(
     body: &Octets,
     now: u64,
 ) -> Result<Row, NoMemory>
-    ensures { IfOk result (λ row. row ≡ published_row config.now.predefined
+    ensures { IfOk result (λ row. row ≡ spec.publish_in config.now.predefined
         (seen_of (R.kept replica.now)) dialogs.now.local from flags.bits topic msg_id
         body.now now) }
 {
@@ -143,7 +145,7 @@ pub fn pubrel_in<R: Replica>(
     msg_id: u16,
     now: u64,
 ) -> Result<Row, NoMemory>
-    ensures { IfOk result (λ row. row ≡ pubrel_row (seen_of (R.kept replica.now))
+    ensures { IfOk result (λ row. row ≡ spec.pubrel_in (seen_of (R.kept replica.now))
         dialogs.now.local from msg_id now) }
 {
     match dialogs.client_at(from) {
@@ -160,7 +162,7 @@ fn acknowledged<R: Replica>(
     peer: &Peer,
     frame: &Frame,
 ) -> Result<Draft, NoMemory>
-    ensures { IfOk result (λ draft. draft ≡ acknowledged_draft config.now.predefined
+    ensures { IfOk result (λ draft. draft ≡ spec.acknowledged config.now.predefined
         (seen_of (R.kept replica.now)) peer.now frame.now) }
 {
     let empty = Session::empty(alloc);
@@ -205,7 +207,7 @@ pub fn ack_in<R: Replica>(
     frame: &Frame,
     now: u64,
 ) -> Result<Row, NoMemory>
-    ensures { IfOk result (λ row. row ≡ ack_row config.now.predefined
+    ensures { IfOk result (λ row. row ≡ spec.ack_in config.now.predefined
         (seen_of (R.kept replica.now)) dialogs.now.local from frame.now now) }
 {
     match dialogs.client_at(from) {

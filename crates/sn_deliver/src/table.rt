@@ -2,24 +2,22 @@
 
 ghost use Rattle.std.specs.Prelude.{◌≡◌, IfOk};
 ghost use Rattle.sn_frame.specs.Bodies.{IsMessage};
-ghost use Rattle.rep_ops.specs.ClientIds.{IsClientId};
+ghost use Rattle.rep_op.specs.ClientIds.{IsClientId};
 ghost use Rattle.sn_local.specs.Seen.{seen_of};
 ghost use Rattle.sn_plan.specs.Plans.{Gives};
-ghost use Rattle.sn_flow.specs.Connection.{connect as connect_row};
-ghost use Rattle.sn_deliver.specs.Steps.{row_for as defined_row, step as defined_step};
+ghost use Rattle.sn_flow.specs.Connection as connection;
+ghost use Rattle.sn_deliver.specs.Steps as spec;
 
-use super::follow::deliver_next;
 use super::serve::{ack_in, publish_in, pubrel_in};
 use super::waking::{client_id, wake};
 use octets::NoMemory;
 use rep_model::Replica;
-use sn_flow::{
-    connect, disconnect, register, subscribe, unsubscribe, will_msg, will_msg_update, will_topic,
-    will_topic_update,
-};
+use sn_exchange::deliver_next;
+use sn_flow::{connect, disconnect, will_msg, will_msg_update, will_topic, will_topic_update};
 use sn_frame::{Flags, Frame};
 use sn_local::{Addr, Config, Dialogs, StepFault};
 use sn_plan::{Plan, Row, other};
+use sn_subscribe::{register, subscribe, unsubscribe};
 use std::alloc::Global;
 
 /// A CONNECT.
@@ -35,7 +33,7 @@ fn connected<R: Replica>(
     now: u64,
 ) -> Result<Row, NoMemory>
     requires { IsClientId client.now }
-    ensures { IfOk result (λ row. row ≡ connect_row (seen_of (R.kept replica.now))
+    ensures { IfOk result (λ row. row ≡ connection.connect (seen_of (R.kept replica.now))
         dialogs.now.local from flags.bits protocol duration client.now now) }
 {
     let client = client_id(alloc, client)?;
@@ -55,7 +53,7 @@ fn row_for<R: Replica>(
     now: u64,
 ) -> Result<Row, NoMemory>
     requires { IsMessage frame.now }
-    ensures { IfOk result (λ row. row ≡ defined_row config.now.gateway config.now.predefined
+    ensures { IfOk result (λ row. row ≡ spec.row_for config.now.gateway config.now.predefined
         (seen_of (R.kept replica.now)) dialogs.now.local from frame.now now) }
 {
     match frame {
@@ -162,7 +160,7 @@ pub fn step<R: Replica>(
     now: u64,
 ) -> Result<Plan, StepFault>
     requires { IsMessage frame.now }
-    ensures { Gives result (defined_step config.now.gateway config.now.predefined
+    ensures { Gives result (spec.step config.now.gateway config.now.predefined
         (seen_of (R.kept replica.now)) dialogs.now.local from frame.now now) }
 {
     let row = row_for(alloc, config, replica, dialogs, from, frame, now)?;

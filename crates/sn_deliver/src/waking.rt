@@ -1,4 +1,5 @@
-//! Waking: a client comes back from sleep, here or at another gateway (MQTT-SN 1.2 sections 6.11 and 6.14).
+//! Waking: a client comes back from sleep, here or at another gateway (MQTT-SN 1.2 sections 6.11
+//! and 6.14).
 
 ghost use Rattle.std.specs.Prelude.{◌≡◌, ◌≤◌, length, IfOk, OnOk};
 ghost use Rattle.std.specs.Option.{option_copied};
@@ -6,29 +7,30 @@ ghost use Rattle.rep_model.specs.Views.{view};
 ghost use Rattle.sn_frame.specs.declared.frame.TheConstants.{MAX_CLIENT_ID};
 ghost use Rattle.sn_local.specs.Seen.{seen_of};
 ghost use Rattle.sn_plan.specs.declared.row.Follow.TheVariants.{Delivery};
-ghost use Rattle.sn_plan.specs.Rows.{row_of, heard_row as heard_row_of};
-ghost use Rattle.rep_ops.specs.ClientIds.{IsClientId};
-ghost use Rattle.sn_deliver.specs.Waking.{claimed as claimed_draft, has_nothing as there_is_nothing, answered as answered_draft, from_sleep as row_from_sleep, from_wake as row_from_wake, woken_by as row_by_state, woken_if as row_of_session, woken as woken_row, wake_of as wake_row_of, wake as wake_row};
+ghost use Rattle.sn_plan.specs.Rows.{row_of};
+ghost use Rattle.sn_plan.specs.Rows as rows;
+ghost use Rattle.rep_op.specs.ClientIds.{IsClientId};
+ghost use Rattle.sn_deliver.specs.Waking as spec;
 
-use super::due::is_stamp_of;
 use octets::NoMemory;
 use rep_model::{ClientView, Replica};
 use rep_ops::{ClientId, Put};
 use sn_exchange::open_exchange;
 use sn_frame::Frame;
-use sn_local::{Addr, Config, Dialogs};
+use sn_local::{Addr, Config, Dialogs, is_stamp_of};
 use sn_plan::{Draft, Follow, Row, bind_to, heard_row, turn_away, unseen, view_or};
 use sn_session::{Presence, Session, SessionOp};
 use std::alloc::Global;
 
-/// The client is claimed: where another gateway owns it, it is taken over with the session as it is.
+/// The client is claimed: where another gateway owns it, it is taken over with the session as it
+/// is.
 fn claimed(
     alloc: Global,
     gateway: u8,
     view: &ClientView,
     session: &Session,
 ) -> Result<Draft, NoMemory>
-    ensures { IfOk result (λ draft. draft ≡ claimed_draft gateway view.now session.now) }
+    ensures { IfOk result (λ draft. draft ≡ spec.claimed gateway view.now session.now) }
 {
     let mut draft = Draft::new(alloc);
     if !is_stamp_of(gateway, view.stamp) {
@@ -39,14 +41,14 @@ fn claimed(
 
 /// Whether there is nothing for the client: no message waits, and no exchange is open.
 fn has_nothing(session: &Session, pending: &[Put]) -> bool
-    ensures { result ≡ there_is_nothing session.now pending.now }
+    ensures { result ≡ spec.has_nothing session.now pending.now }
 {
     pending.len() == 0 && open_exchange(session, &[], pending).is_none()
 }
 
 /// And then PINGRESP.
 fn answer(alloc: Global, to: Addr, draft: &mut Draft) -> Result<(), NoMemory>
-    ensures { OnOk result (draft.new ≡ answered_draft to draft.old) }
+    ensures { OnOk result (draft.new ≡ spec.answered to draft.old) }
 {
     match draft.send(alloc, to, &Frame::PingResp) {
         Ok(()) => Ok(()),
@@ -63,7 +65,7 @@ fn from_sleep(
     idle: bool,
     mut draft: Draft,
 ) -> Result<Row, NoMemory>
-    ensures { IfOk result (λ row. row ≡ row_from_sleep to client.now session.now idle draft) }
+    ensures { IfOk result (λ row. row ≡ spec.from_sleep to client.now session.now idle draft) }
 {
     if idle {
         answer(alloc, to, &mut draft)?;
@@ -85,7 +87,7 @@ fn from_wake(
     idle: bool,
     mut draft: Draft,
 ) -> Result<Row, NoMemory>
-    ensures { IfOk result (λ row. row ≡ row_from_wake to client.now session.now idle draft) }
+    ensures { IfOk result (λ row. row ≡ spec.from_wake to client.now session.now idle draft) }
 {
     if !idle {
         return Row::new(alloc, Follow::Resend, client, draft);
@@ -105,7 +107,7 @@ fn from_activity(
     client: &ClientId,
     mut draft: Draft,
 ) -> Result<Row, NoMemory>
-    ensures { IfOk result (λ row. row ≡ row_of Delivery client.now (answered_draft to draft)) }
+    ensures { IfOk result (λ row. row ≡ row_of Delivery client.now (spec.answered to draft)) }
 {
     answer(alloc, to, &mut draft)?;
     Row::new(alloc, Follow::Delivery, client, draft)
@@ -120,7 +122,7 @@ fn woken_by(
     idle: bool,
     draft: Draft,
 ) -> Result<Row, NoMemory>
-    ensures { IfOk result (λ row. row ≡ row_by_state to client.now session.now idle draft
+    ensures { IfOk result (λ row. row ≡ spec.woken_by to client.now session.now idle draft
         session.now.presence) }
 {
     match session.presence {
@@ -141,7 +143,7 @@ fn woken_view(
     view: &ClientView,
     now: u64,
 ) -> Result<Row, NoMemory>
-    ensures { IfOk result (λ row. row ≡ row_of_session gateway to client.now view.now now
+    ensures { IfOk result (λ row. row ≡ spec.woken_if gateway to client.now view.now now
         view.now.session) }
 {
     match &view.session {
@@ -164,7 +166,7 @@ fn woken<R: Replica>(
     client: &ClientId,
     now: u64,
 ) -> Result<Row, NoMemory>
-    ensures { IfOk result (λ row. row ≡ woken_row gateway (seen_of (R.kept replica.now)) to
+    ensures { IfOk result (λ row. row ≡ spec.woken gateway (seen_of (R.kept replica.now)) to
         client.now now) }
 {
     let nobody = unseen(alloc);
@@ -181,7 +183,7 @@ fn wake_bound<R: Replica>(
     bound: Option<&ClientId>,
     now: u64,
 ) -> Result<Row, NoMemory>
-    ensures { IfOk result (λ row. row ≡ wake_row_of gateway (seen_of (R.kept replica.now)) from
+    ensures { IfOk result (λ row. row ≡ spec.wake_of gateway (seen_of (R.kept replica.now)) from
         (option_copied bound.entry) now) }
 {
     match bound {
@@ -204,8 +206,8 @@ fn wake_client<R: Replica>(
     now: u64,
 ) -> Result<Row, NoMemory>
     requires { IsClientId client.now }
-    ensures { IfOk result (λ row. row ≡ heard_row_of (option_copied bound.entry) now
-        (woken_row gateway (seen_of (R.kept replica.now)) from client.now now)) }
+    ensures { IfOk result (λ row. row ≡ rows.heard_row (option_copied bound.entry) now
+        (spec.woken gateway (seen_of (R.kept replica.now)) from client.now now)) }
 {
     let client = client_id(alloc, client)?;
     let row = woken(alloc, gateway, replica, from, &client, now)?;
@@ -223,8 +225,8 @@ pub fn client_id(alloc: Global, octets: &[u8]) -> Result<ClientId, NoMemory>
     }
 }
 
-/// PINGREQ: with the id of a client it wakes that client, which is claimed from the gateway that has it; without, the one that is
-/// bound to the address.
+/// PINGREQ: with the id of a client it wakes that client, which is claimed from the gateway that
+/// has it; without, the one that is bound to the address.
 pub fn wake<R: Replica>(
     alloc: Global,
     config: &Config,
@@ -235,7 +237,7 @@ pub fn wake<R: Replica>(
     now: u64,
 ) -> Result<Row, NoMemory>
     requires { length client.now ≤ MAX_CLIENT_ID }
-    ensures { IfOk result (λ row. row ≡ wake_row config.now.gateway
+    ensures { IfOk result (λ row. row ≡ spec.wake config.now.gateway
         (seen_of (R.kept replica.now)) dialogs.now.local from client.now now) }
 {
     let bound = dialogs.client_at(from);

@@ -1,4 +1,5 @@
--- The open exchange of a client: the message that it is being handed (MQTT-SN 1.2 sections 6.6 and 6.10).
+-- The open exchange of a client: the message that it is being handed (MQTT-SN 1.2 sections 6.6 and
+-- 6.10).
 use Rattle.std.specs.Prelude.{ℕ, ◌==◌, Bool, true, false, ◌&&◌, not, if◌then◌else◌, nat_lt, is_some, List, find, filter, fold, Option, Some, None}
 use Rattle.std.specs.List.{list_any}
 use Rattle.sn_session.specs.declared.presence.Presence.{Presence}
@@ -8,8 +9,8 @@ use Rattle.sn_session.specs.declared.outbound.Phase.{Phase}
 use Rattle.sn_session.specs.declared.outbound.Phase.TheVariants.{Registering, Published, Released}
 use Rattle.sn_session.specs.declared.session.Session.{Session}
 use Rattle.sn_session.specs.Session.{applied}
-use Rattle.sn_session.specs.Topics.{topic_named}
-use Rattle.rep_ops.specs.declared.op.Put.{Put}
+use Rattle.sn_tables.specs.Topics.{topic_named}
+use Rattle.rep_op.specs.declared.op.Put.{Put}
 use Rattle.sn_plan.specs.Names.{name_of}
 use Rattle.sn_plan.specs.Drafts.{Drafted}
 
@@ -42,8 +43,9 @@ put_left acks pending name = if is_done acks name then None else put_named name 
 abbrev pub message_of : Outbound → ℕ × ℕ
 message_of x = (x.seq, x.origin)
 
--- An exchange that waits for PUBCOMP is open. One that waits for REGACK is open while its message is left and its topic has an
--- entry, one that waits for PUBACK or PUBREC while its message is left and asks for an answer.
+-- An exchange that waits for PUBCOMP is open. One that waits for REGACK is open while its message
+-- is left and its topic has an entry, one that waits for PUBACK or PUBREC while its message is left
+-- and asks for an answer.
 abbrev pub is_open_in : Session → Phase → Option Put → Bool
 is_open_in s Registering None = false
 is_open_in s Registering (Some put) = is_some (topic_named put.topic s.topics)
@@ -53,7 +55,8 @@ is_open_in s Released put = true
 
 abbrev pub if_open : Session → List (ℕ × ℕ) → List Put → Option Outbound → Option Outbound
 if_open s acks pending None = None
-if_open s acks pending (Some x) = if is_open_in s x.phase (put_left acks pending (message_of x)) then Some x else None
+if_open s acks pending (Some x) =
+    if is_open_in s x.phase (put_left acks pending (message_of x)) then Some x else None
 
 -- the open exchange; one that is not open counts as none
 abbrev pub open_exchange : Session → List (ℕ × ℕ) → List Put → Option Outbound

@@ -1,15 +1,16 @@
--- How a topic is named in a PUBLISH (MQTT-SN 1.2 sections 5.3.11 and 5.3.12), and that PUBLISH (5.4.12).
+-- How a topic is named in a PUBLISH (MQTT-SN 1.2 sections 5.3.11 and 5.3.12), and that PUBLISH
+-- (5.4.12).
 use Rattle.std.specs.Prelude.{ℕ, ◌+◌, ◌*◌, ◌==◌, Bool, if◌then◌else◌, List, [], ◌∷◌, Option, Some, None}
 use Rattle.std.specs.Option.{option_map, option_or}
 use Rattle.sn_topic.specs.Table.{Entries, ids_of, least}
 use Rattle.sn_session.specs.declared.session.Session.{Session}
-use Rattle.sn_session.specs.declared.topics.TopicEntry.{TopicEntry}
-use Rattle.sn_session.specs.Topics.{topic_named}
+use Rattle.sn_tables.specs.declared.topics.TopicEntry.{TopicEntry}
+use Rattle.sn_tables.specs.Topics.{topic_named}
 use Rattle.sn_frame.specs.declared.flags.TopicIdType.{TopicIdType}
 use Rattle.sn_frame.specs.declared.flags.TopicIdType.TheVariants as kinds
 use Rattle.sn_frame.specs.declared.frame.Frame.{Frame}
 use Rattle.sn_frame.specs.declared.frame.Frame.TheVariants as frames
-use Rattle.rep_ops.specs.declared.op.Put.{Put}
+use Rattle.rep_op.specs.declared.op.Put.{Put}
 use Rattle.sn_exchange.specs.declared.form.Form.{Form}
 
 -- by the id of this entry
@@ -37,11 +38,14 @@ predefined_form predefined name = option_map by_predefined (least (ids_of name p
 -- how the client knows the topic; where it does not, the topic needs registering
 abbrev pub form_of : Entries → Session → List ℕ → Option Form
 form_of predefined s name =
-    option_or (known_form (topic_named name s.topics)) (option_or (short_form name) (predefined_form predefined name))
+    option_or (known_form (topic_named name s.topics))
+    (option_or (short_form name) (predefined_form predefined name))
 
--- the same once the PUBLISH was sent: also by the id of an entry that the client may have forgotten since
+-- the same once the PUBLISH was sent: also by the id of an entry that the client may have forgotten
+-- since
 abbrev pub form_again : Entries → Session → List ℕ → Option Form
-form_again predefined s name = option_or (form_of predefined s name) (option_map by_entry (topic_named name s.topics))
+form_again predefined s name =
+    option_or (form_of predefined s name) (option_map by_entry (topic_named name s.topics))
 
 -- the bits of a quality of service of 0, 1 or 2
 abbrev pub qos_bits : ℕ → ℕ
@@ -61,4 +65,5 @@ dup_bit again = if again then 128 else 0
 -- the PUBLISH of a message; Retain is clear
 abbrev pub publication : Bool → Put → ℕ → Form → Frame
 publication again put msg_id form =
-    frames.Publish (record { bits = dup_bit again + qos_bits put.qos + kind_bits form.kind }) form.topic msg_id put.body
+    frames.Publish (record { bits = dup_bit again + qos_bits put.qos + kind_bits form.kind })
+    form.topic msg_id put.body

@@ -1,5 +1,5 @@
-pub mod Acknowledging
 pub mod Delivery
 pub mod Exchanges
+pub mod Following
 pub mod Forms
 pub mod Resending

@@ -1,16 +1,17 @@
--- Resend: the frame of the open exchange is sent again, under the same message id (MQTT-SN 1.2 section 6.13).
+-- Resend: the frame of the open exchange is sent again, under the same message id (MQTT-SN 1.2
+-- section 6.13).
 use Rattle.std.specs.Prelude.{ℕ, true, false, List, Option, Some, None}
 use Rattle.sn_topic.specs.Table.{Entries}
 use Rattle.sn_session.specs.declared.outbound.Outbound.{Outbound as Exchange}
 use Rattle.sn_session.specs.declared.outbound.Phase.{Phase}
 use Rattle.sn_session.specs.declared.outbound.Phase.TheVariants.{Registering, Published, Released}
 use Rattle.sn_session.specs.declared.session.Session.{Session}
-use Rattle.sn_session.specs.declared.topics.TopicEntry.{TopicEntry}
+use Rattle.sn_tables.specs.declared.topics.TopicEntry.{TopicEntry}
 use Rattle.sn_session.specs.declared.change.SessionOp.TheVariants.{Outbound}
-use Rattle.sn_session.specs.Topics.{topic_named}
+use Rattle.sn_tables.specs.Topics.{topic_named}
 use Rattle.sn_frame.specs.declared.frame.Frame.{Frame}
 use Rattle.sn_frame.specs.declared.frame.Frame.TheVariants as frames
-use Rattle.rep_ops.specs.declared.op.Put.{Put}
+use Rattle.rep_op.specs.declared.op.Put.{Put}
 use Rattle.sn_local.specs.declared.local.LocalChange.TheVariants.{Resent}
 use Rattle.sn_plan.specs.Drafts.{Drafted, changed, sent, moved}
 use Rattle.sn_exchange.specs.declared.form.Form.{Form}
@@ -29,12 +30,14 @@ given_up s d = (false, changed (Outbound None s.next_id) d)
 
 abbrev pub register_by : Peer → Session → Put → ℕ → Option TopicEntry → Drafted → Stop
 register_by peer s put msg_id None d = given_up s d
-register_by peer s put msg_id (Some entry) d = again peer (frames.Register entry.id msg_id put.topic) d
+register_by peer s put msg_id (Some entry) d =
+    again peer (frames.Register entry.id msg_id put.topic) d
 
 -- REGISTER, with the id of the entry
 abbrev pub register_again : Peer → Session → ℕ → Option Put → Drafted → Stop
 register_again peer s msg_id None d = given_up s d
-register_again peer s msg_id (Some put) d = register_by peer s put msg_id (topic_named put.topic s.topics) d
+register_again peer s msg_id (Some put) d =
+    register_by peer s put msg_id (topic_named put.topic s.topics) d
 
 abbrev pub publish_by : Peer → Session → Put → ℕ → Option Form → Drafted → Stop
 publish_by peer s put msg_id None d = given_up s d
@@ -43,14 +46,16 @@ publish_by peer s put msg_id (Some form) d = again peer (publication true put ms
 -- PUBLISH, with DUP
 abbrev pub publish_again : Entries → Peer → Session → ℕ → Option Put → Drafted → Stop
 publish_again predefined peer s msg_id None d = given_up s d
-publish_again predefined peer s msg_id (Some put) d = publish_by peer s put msg_id (form_again predefined s put.topic) d
+publish_again predefined peer s msg_id (Some put) d =
+    publish_by peer s put msg_id (form_again predefined s put.topic) d
 
 abbrev pub resend_in : Entries → Peer → Session → ℕ → Phase → Option Put → Drafted → Stop
 resend_in predefined peer s msg_id Registering put d = register_again peer s msg_id put d
 resend_in predefined peer s msg_id Published put d = publish_again predefined peer s msg_id put d
 resend_in predefined peer s msg_id Released put d = again peer (frames.PubRel msg_id) d
 
--- Resend of an exchange; where its topic has neither form nor entry, the exchange ends and Delivery follows
+-- Resend of an exchange; where its topic has neither form nor entry, the exchange ends and Delivery
+-- follows
 abbrev pub resend : Entries → Peer → Session → List Put → Exchange → Drafted → Drafted
 resend predefined peer s pending x d =
     and_then (deliver_left predefined peer s pending)
@@ -61,8 +66,10 @@ resend_if predefined peer s pending None d = deliver_if predefined peer s pendin
 resend_if predefined peer s pending (Some x) d = resend predefined peer s pending x d
 
 abbrev pub resend_or_deliver : Entries → Peer → Session → List Put → Drafted → Drafted
-resend_or_deliver predefined peer s pending d = resend_if predefined peer s pending (open_exchange s d.acks pending) d
+resend_or_deliver predefined peer s pending d =
+    resend_if predefined peer s pending (open_exchange s d.acks pending) d
 
--- and then Resend, where an exchange is open, else Delivery: by the session as the step so far has changed it
+-- and then Resend, where an exchange is open, else Delivery: by the session as the step so far has
+-- changed it
 abbrev pub then_resend : Entries → Peer → Session → List Put → Drafted → Drafted
 then_resend predefined peer s pending d = resend_or_deliver predefined peer (so_far s d) pending d

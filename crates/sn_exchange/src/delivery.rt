@@ -1,13 +1,15 @@
-//! Delivery: a client is sent the messages that wait for it (MQTT-SN 1.2 sections 6.6, 6.10 and 6.14).
+//! Delivery: a client is sent the messages that wait for it (MQTT-SN 1.2 sections 6.6, 6.10 and
+//! 6.14).
 
 ghost use Rattle.std.specs.Prelude.{◌≡◌, ◌≤◌, IfOk, OnOk};
 ghost use Rattle.sn_frame.specs.declared.frame.TheConstants.{MAX_FRAME};
 ghost use Rattle.sn_frame.specs.Bodies.{IsMessage};
 ghost use Rattle.sn_frame.specs.Grammar.{total_of};
 ghost use Rattle.sn_plan.specs.Drafts.{sent};
-ghost use Rattle.sn_exchange.specs.Forms.{publication as publication_of};
+ghost use Rattle.sn_exchange.specs.Forms as forms;
 ghost use Rattle.sn_exchange.specs.Exchanges.{left};
-ghost use Rattle.sn_exchange.specs.Delivery.{next_after as id_after, begun, fresh_id as fresh_told, id_to_tell as told_for, register_first as registered_first, publish_now as published_now, deliver_by as delivered_by, deliver_one as delivered_one, none_left as with_none_left, deliver as delivered, deliver_left as delivered_left, deliver_if as delivered_if, then_deliver as then_delivered};
+ghost use Rattle.sn_exchange.specs.Delivery.{begun};
+ghost use Rattle.sn_exchange.specs.Delivery as spec;
 
 use super::exchange::{
     is_awake, is_done, is_left_in_turn, is_served, name_of, open_exchange, so_far,
@@ -23,7 +25,8 @@ use sn_session::{Outbound, Phase, Presence, Session, SessionOp};
 use sn_topic::{Predefined, TopicName};
 use std::alloc::Global;
 
-/// The id that a client is told for a topic, and the change that the session needs for it, if it needs one.
+/// The id that a client is told for a topic, and the change that the session needs for it, if it
+/// needs one.
 #[derive(Debug, Drop)]
 pub struct ToldId {
     /// The topic id.
@@ -34,7 +37,7 @@ pub struct ToldId {
 
 /// The message id after one: after 65,535 comes 1.
 fn next_after(id: u16) -> u16
-    ensures { result ≡ id_after id }
+    ensures { result ≡ spec.next_after id }
 {
     if id == u16::MAX { 1 } else { id + 1 }
 }
@@ -86,7 +89,7 @@ pub fn send(alloc: Global, peer: &Peer, frame: &Frame, draft: &mut Draft) -> Res
 
 /// A new id of the name, which the client does not know yet.
 fn fresh_id(alloc: Global, name: &TopicName, id: u16) -> Result<ToldId, NoMemory>
-    ensures { IfOk result (λ told. told ≡ fresh_told name.now id) }
+    ensures { IfOk result (λ told. told ≡ spec.fresh_id name.now id) }
 {
     let name = name.copied(alloc)?;
     Ok(ToldId {
@@ -99,13 +102,14 @@ fn fresh_id(alloc: Global, name: &TopicName, id: u16) -> Result<ToldId, NoMemory
     })
 }
 
-/// The id that the client is told for a name: that of its entry, or else the least free one; nothing where no id is free.
+/// The id that the client is told for a name: that of its entry, or else the least free one;
+/// nothing where no id is free.
 fn id_to_tell(
     alloc: Global,
     session: &Session,
     name: &TopicName,
 ) -> Result<Option<ToldId>, NoMemory>
-    ensures { IfOk result (λ told. told ≡ told_for session.now name.now) }
+    ensures { IfOk result (λ told. told ≡ spec.id_to_tell session.now name.now) }
 {
     if let Some(entry) = session.topic_named(name) {
         return Ok(Some(ToldId {
@@ -119,8 +123,8 @@ fn id_to_tell(
     }
 }
 
-/// And then the REGISTER for a message whose topic needs registering. Where no id is free the message is acknowledged
-/// unsent. Answers whether Delivery stops.
+/// And then the REGISTER for a message whose topic needs registering. Where no id is free the
+/// message is acknowledged unsent. Answers whether Delivery stops.
 fn register_first(
     alloc: Global,
     peer: &Peer,
@@ -129,7 +133,7 @@ fn register_first(
     told: Option<ToldId>,
     draft: &mut Draft,
 ) -> Result<bool, NoMemory>
-    ensures { IfOk result (λ stops. (stops, draft.new) ≡ registered_first peer.now session.now
+    ensures { IfOk result (λ stops. (stops, draft.new) ≡ spec.register_first peer.now session.now
         put.now told draft.old) }
 {
     let Some(told) = told else {
@@ -146,8 +150,8 @@ fn register_first(
     Ok(true)
 }
 
-/// And then the PUBLISH of a message whose topic has a form. At quality of service 0 it is done with, else an exchange
-/// begins. Answers whether Delivery stops.
+/// And then the PUBLISH of a message whose topic has a form. At quality of service 0 it is done
+/// with, else an exchange begins. Answers whether Delivery stops.
 fn publish_now(
     alloc: Global,
     peer: &Peer,
@@ -156,7 +160,7 @@ fn publish_now(
     form: Form,
     draft: &mut Draft,
 ) -> Result<bool, NoMemory>
-    ensures { IfOk result (λ stops. (stops, draft.new) ≡ published_now peer.now session.now
+    ensures { IfOk result (λ stops. (stops, draft.new) ≡ spec.publish_now peer.now session.now
         put.now form draft.old) }
 {
     if put.qos.number() == 0 {
@@ -179,7 +183,7 @@ fn deliver_by(
     form: Option<Form>,
     draft: &mut Draft,
 ) -> Result<bool, NoMemory>
-    ensures { IfOk result (λ stops. (stops, draft.new) ≡ delivered_by peer.now session.now
+    ensures { IfOk result (λ stops. (stops, draft.new) ≡ spec.deliver_by peer.now session.now
         put.now form draft.old) }
 {
     match form {
@@ -200,7 +204,7 @@ fn deliver_one(
     put: &Put,
     draft: &mut Draft,
 ) -> Result<bool, NoMemory>
-    ensures { IfOk result (λ stops. (stops, draft.new) ≡ delivered_one predefined.now peer.now
+    ensures { IfOk result (λ stops. (stops, draft.new) ≡ spec.deliver_one predefined.now peer.now
         session.now put.now draft.old) }
 {
     let form = form_of(predefined, session, &put.topic);
@@ -214,7 +218,7 @@ fn none_left(
     session: &Session,
     draft: &mut Draft,
 ) -> Result<(), NoMemory>
-    ensures { OnOk result (draft.new ≡ with_none_left peer.now session.now draft.old) }
+    ensures { OnOk result (draft.new ≡ spec.none_left peer.now session.now draft.old) }
 {
     if !is_awake(session.presence) {
         return Ok(());
@@ -236,7 +240,7 @@ fn deliver(
     pending: &[Put],
     draft: &mut Draft,
 ) -> Result<(), NoMemory>
-    ensures { OnOk result (draft.new ≡ delivered predefined.now peer.now session.now
+    ensures { OnOk result (draft.new ≡ spec.deliver predefined.now peer.now session.now
         (left acks.now pending.now) draft.old) }
 {
     let mut turn = 0;
@@ -260,7 +264,7 @@ pub fn deliver_left(
     pending: &[Put],
     draft: &mut Draft,
 ) -> Result<(), NoMemory>
-    ensures { OnOk result (draft.new ≡ delivered_left predefined.now peer.now session.now
+    ensures { OnOk result (draft.new ≡ spec.deliver_left predefined.now peer.now session.now
         pending.now draft.old) }
 {
     let acks = Vec::from_slice(alloc, draft.acks())?;
@@ -284,7 +288,7 @@ pub fn deliver_if(
     pending: &[Put],
     draft: &mut Draft,
 ) -> Result<(), NoMemory>
-    ensures { OnOk result (draft.new ≡ delivered_if predefined.now peer.now session.now
+    ensures { OnOk result (draft.new ≡ spec.deliver_if predefined.now peer.now session.now
         pending.now draft.old) }
 {
     if !is_served(session.presence) {
@@ -296,7 +300,8 @@ pub fn deliver_if(
     deliver_left(alloc, predefined, peer, session, pending, draft)
 }
 
-/// And then Delivery, by the session as the step so far has changed it. A session that did not change is not copied.
+/// And then Delivery, by the session as the step so far has changed it. A session that did not
+/// change is not copied.
 pub fn then_deliver(
     alloc: Global,
     predefined: &Predefined,
@@ -305,7 +310,7 @@ pub fn then_deliver(
     pending: &[Put],
     draft: &mut Draft,
 ) -> Result<(), NoMemory>
-    ensures { OnOk result (draft.new ≡ then_delivered predefined.now peer.now session.now
+    ensures { OnOk result (draft.new ≡ spec.then_deliver predefined.now peer.now session.now
         pending.now draft.old) }
 {
     if draft.changes().is_empty() {

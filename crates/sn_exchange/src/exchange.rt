@@ -3,8 +3,8 @@
 ghost use Rattle.std.specs.Prelude.{◌≡◌, fold, OnOk, IfOk};
 ghost use Rattle.std.specs.Option.{option_copied};
 ghost use Rattle.sn_session.specs.Session.{applied};
-ghost use Rattle.sn_plan.specs.Names.{name_of as name_of_put};
-ghost use Rattle.sn_exchange.specs.Exchanges.{so_far as session_so_far, same_name as is_same_name, is_done as is_done_name, is_left as is_left_put, put_named as named_put, put_left as left_put, message_of as message_of_exchange, is_open_in as is_open_in_phase, if_open as exchange_if_open, open_exchange as exchange_that_is_open, is_served as is_served_at, is_awake as is_awake_at};
+ghost use Rattle.sn_plan.specs.Names as names;
+ghost use Rattle.sn_exchange.specs.Exchanges as spec;
 
 use octets::NoMemory;
 use rep_ops::Put;
@@ -24,7 +24,7 @@ fn apply_all(alloc: Global, session: &mut Session, changes: &[SessionOp]) -> Res
 
 /// The session as the step so far has changed it.
 pub fn so_far(alloc: Global, session: &Session, draft: &Draft) -> Result<Session, NoMemory>
-    ensures { IfOk result (λ made. made ≡ session_so_far session.now draft.now) }
+    ensures { IfOk result (λ made. made ≡ spec.so_far session.now draft.now) }
 {
     let mut made = session.copied(alloc)?;
     apply_all(alloc, &mut made, draft.changes())?;
@@ -33,36 +33,37 @@ pub fn so_far(alloc: Global, session: &Session, draft: &Draft) -> Result<Session
 
 /// Whether two names of messages are one.
 fn same_name(a: (u64, u8), b: (u64, u8)) -> bool
-    ensures { result ≡ is_same_name a b }
+    ensures { result ≡ spec.same_name a b }
 {
     a.0 == b.0 && a.1 == b.1
 }
 
 /// Whether a message is acknowledged in this step.
 pub fn is_done(acks: &[(u64, u8)], name: (u64, u8)) -> bool
-    ensures { result ≡ is_done_name acks.now name }
+    ensures { result ≡ spec.is_done acks.now name }
 {
     acks.iter().any(|ack| same_name(*ack, name))
 }
 
 /// The name of a message: sequence number and origin.
 pub fn name_of(put: &Put) -> (u64, u8)
-    ensures { result ≡ name_of_put put.now }
+    ensures { result ≡ names.name_of put.now }
 {
     (put.seq, put.origin)
 }
 
 /// Whether a message that waits is left.
 pub fn is_left(acks: &[(u64, u8)], put: &Put) -> bool
-    ensures { result ≡ is_left_put acks.now put.now }
+    ensures { result ≡ spec.is_left acks.now put.now }
 {
     !is_done(acks, name_of(put))
 }
 
-/// Whether a message that waits is left, where the messages are asked for in their order. `turn` is the place of the acknowledgement
-/// that comes next, if they come in that order too, as those of a CONNECT with CleanSession do: then none is looked for.
+/// Whether a message that waits is left, where the messages are asked for in their order. `turn` is
+/// the place of the acknowledgement that comes next, if they come in that order too, as those of a
+/// CONNECT with CleanSession do: then none is looked for.
 pub fn is_left_in_turn(acks: &[(u64, u8)], turn: &mut usize, put: &Put) -> bool
-    ensures { result ≡ is_left_put acks.now put.now }
+    ensures { result ≡ spec.is_left acks.now put.now }
 {
     if *turn < acks.len() && same_name(acks[*turn], name_of(put)) {
         *turn += 1;
@@ -73,7 +74,7 @@ pub fn is_left_in_turn(acks: &[(u64, u8)], turn: &mut usize, put: &Put) -> bool
 
 /// The message of a name.
 pub fn put_named(name: (u64, u8), pending: &[Put]) -> Option<&Put>
-    ensures { option_copied result ≡ named_put name pending.now }
+    ensures { option_copied result ≡ spec.put_named name pending.now }
 {
     for put in pending {
         if same_name(name_of(put), name) {
@@ -85,7 +86,7 @@ pub fn put_named(name: (u64, u8), pending: &[Put]) -> Option<&Put>
 
 /// The message of a name, where it is left.
 pub fn put_left<'a>(acks: &[(u64, u8)], pending: &'a [Put], name: (u64, u8)) -> Option<&'a Put>
-    ensures { option_copied result ≡ left_put acks.now pending.now name }
+    ensures { option_copied result ≡ spec.put_left acks.now pending.now name }
 {
     if is_done(acks, name) {
         return None;
@@ -95,14 +96,14 @@ pub fn put_left<'a>(acks: &[(u64, u8)], pending: &'a [Put], name: (u64, u8)) -> 
 
 /// The name of the message of an exchange.
 pub fn message_of(exchange: Outbound) -> (u64, u8)
-    ensures { result ≡ message_of_exchange exchange }
+    ensures { result ≡ spec.message_of exchange }
 {
     (exchange.seq, exchange.origin)
 }
 
 /// Whether an exchange of this phase is open, with its message where that is left.
 fn is_open_in(session: &Session, phase: Phase, put: Option<&Put>) -> bool
-    ensures { result ≡ is_open_in_phase session.now phase (option_copied put.entry) }
+    ensures { result ≡ spec.is_open_in session.now phase (option_copied put.entry) }
 {
     match phase {
         Phase::Registering => match put {
@@ -117,10 +118,11 @@ fn is_open_in(session: &Session, phase: Phase, put: Option<&Put>) -> bool
     }
 }
 
-/// Whether an exchange is open. One that waits for PUBCOMP is, whatever waits: its message is not looked for.
+/// Whether an exchange is open. One that waits for PUBCOMP is, whatever waits: its message is not
+/// looked for.
 fn is_open_among(session: &Session, acks: &[(u64, u8)], pending: &[Put], exchange: Outbound) -> bool
-    ensures { result ≡ is_open_in_phase session.now exchange.phase
-        (left_put acks.now pending.now (message_of_exchange exchange)) }
+    ensures { result ≡ spec.is_open_in session.now exchange.phase
+        (spec.put_left acks.now pending.now (spec.message_of exchange)) }
 {
     match exchange.phase {
         Phase::Released => is_open_in(session, Phase::Released, None),
@@ -138,7 +140,7 @@ fn if_open(
     pending: &[Put],
     exchange: Option<Outbound>,
 ) -> Option<Outbound>
-    ensures { result ≡ exchange_if_open session.now acks.now pending.now exchange }
+    ensures { result ≡ spec.if_open session.now acks.now pending.now exchange }
 {
     match exchange {
         None => None,
@@ -154,14 +156,14 @@ fn if_open(
 
 /// The open exchange. One that is not open counts as none.
 pub fn open_exchange(session: &Session, acks: &[(u64, u8)], pending: &[Put]) -> Option<Outbound>
-    ensures { result ≡ exchange_that_is_open session.now acks.now pending.now }
+    ensures { result ≡ spec.open_exchange session.now acks.now pending.now }
 {
     if_open(session, acks, pending, session.outbound)
 }
 
 /// Whether a client is sent its messages: it is Active or Awake.
 pub fn is_served(presence: Presence) -> bool
-    ensures { result ≡ is_served_at presence }
+    ensures { result ≡ spec.is_served presence }
 {
     match presence {
         Presence::Active => true,
@@ -174,7 +176,7 @@ pub fn is_served(presence: Presence) -> bool
 
 /// Whether a client is Awake.
 pub fn is_awake(presence: Presence) -> bool
-    ensures { result ≡ is_awake_at presence }
+    ensures { result ≡ spec.is_awake presence }
 {
     match presence {
         Presence::Active => false,

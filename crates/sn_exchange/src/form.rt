@@ -5,12 +5,13 @@ ghost use Rattle.std.specs.Option.{option_copied};
 ghost use Rattle.sn_frame.specs.declared.frame.TheConstants.{MAX_FRAME};
 ghost use Rattle.sn_frame.specs.Bodies.{IsMessage};
 ghost use Rattle.sn_frame.specs.Grammar.{total_of};
-ghost use Rattle.sn_exchange.specs.Forms.{by_entry as entry_form, known_form as form_if_known, short_form as form_if_short, predefined_form as form_if_predefined, form_of as form_of_topic, form_again as form_of_topic_again, qos_bits as bits_of_qos, kind_bits as bits_of_kind, dup_bit as bit_of_dup, publication as publication_of};
+ghost use Rattle.sn_exchange.specs.Forms as spec;
 
 use octets::NoMemory;
 use rep_ops::Put;
 use sn_frame::{Flags, Frame, TopicIdType};
-use sn_session::{QosLevel, Session, TopicEntry};
+use sn_session::Session;
+use sn_tables::{QosLevel, TopicEntry};
 use sn_topic::{Predefined, TopicName};
 use std::alloc::Global;
 
@@ -25,7 +26,7 @@ pub struct Form {
 
 /// By the id of this entry.
 fn by_entry(entry: &TopicEntry) -> Form
-    ensures { result ≡ entry_form entry.now }
+    ensures { result ≡ spec.by_entry entry.now }
 {
     Form {
         kind: TopicIdType::Normal,
@@ -35,7 +36,7 @@ fn by_entry(entry: &TopicEntry) -> Form
 
 /// By the id of the entry, where the client knows it.
 fn known_form(entry: Option<&TopicEntry>) -> Option<Form>
-    ensures { result ≡ form_if_known (option_copied entry.entry) }
+    ensures { result ≡ spec.known_form (option_copied entry.entry) }
 {
     match entry {
         None => None,
@@ -51,7 +52,7 @@ fn known_form(entry: Option<&TopicEntry>) -> Option<Form>
 
 /// By the name itself, where it has two octets.
 fn short_form(name: &[u8]) -> Option<Form>
-    ensures { result ≡ form_if_short name.now }
+    ensures { result ≡ spec.short_form name.now }
 {
     match name {
         [high, low] => Some(Form {
@@ -64,7 +65,7 @@ fn short_form(name: &[u8]) -> Option<Form>
 
 /// By the least predefined id of the name, where there is one.
 fn predefined_form(predefined: &Predefined, name: &TopicName) -> Option<Form>
-    ensures { result ≡ form_if_predefined predefined.now name.now }
+    ensures { result ≡ spec.predefined_form predefined.now name.now }
 {
     match predefined.id(name) {
         None => None,
@@ -77,7 +78,7 @@ fn predefined_form(predefined: &Predefined, name: &TopicName) -> Option<Form>
 
 /// How the client knows the topic. Where it does not, the topic needs registering.
 pub fn form_of(predefined: &Predefined, session: &Session, name: &TopicName) -> Option<Form>
-    ensures { result ≡ form_of_topic predefined.now session.now name.now }
+    ensures { result ≡ spec.form_of predefined.now session.now name.now }
 {
     if let Some(form) = known_form(session.topic_named(name)) {
         return Some(form);
@@ -88,9 +89,10 @@ pub fn form_of(predefined: &Predefined, session: &Session, name: &TopicName) -> 
     predefined_form(predefined, name)
 }
 
-/// How a topic is named whose PUBLISH was sent: also by the id of an entry that the client may have forgotten since.
+/// How a topic is named whose PUBLISH was sent: also by the id of an entry that the client may have
+/// forgotten since.
 pub fn form_again(predefined: &Predefined, session: &Session, name: &TopicName) -> Option<Form>
-    ensures { result ≡ form_of_topic_again predefined.now session.now name.now }
+    ensures { result ≡ spec.form_again predefined.now session.now name.now }
 {
     if let Some(form) = form_of(predefined, session, name) {
         return Some(form);
@@ -103,7 +105,7 @@ pub fn form_again(predefined: &Predefined, session: &Session, name: &TopicName) 
 
 /// The bits of a quality of service of 0, 1 or 2.
 fn qos_bits(qos: QosLevel) -> u8
-    ensures value { result ≡ bits_of_qos qos }
+    ensures value { result ≡ spec.qos_bits qos }
     ensures limit { result ≤ 64 }
 {
     if qos.number() == 0 {
@@ -117,7 +119,7 @@ fn qos_bits(qos: QosLevel) -> u8
 
 /// The bits of what the topic field holds.
 fn kind_bits(kind: TopicIdType) -> u8
-    ensures value { result ≡ bits_of_kind kind }
+    ensures value { result ≡ spec.kind_bits kind }
     ensures limit { result ≤ 3 }
 {
     match kind {
@@ -130,7 +132,7 @@ fn kind_bits(kind: TopicIdType) -> u8
 
 /// The DUP bit.
 fn dup_bit(again: bool) -> u8
-    ensures value { result ≡ bit_of_dup again }
+    ensures value { result ≡ spec.dup_bit again }
     ensures limit { result ≤ 128 }
 {
     if again { 128 } else { 0 }
@@ -144,7 +146,7 @@ pub fn publication(
     msg_id: u16,
     form: Form,
 ) -> Result<Frame, NoMemory>
-    ensures ok { IfOk result (λ frame. frame ≡ publication_of again put.now msg_id form) }
+    ensures ok { IfOk result (λ frame. frame ≡ spec.publication again put.now msg_id form) }
     ensures message { IfOk result (λ frame. IsMessage frame) }
     ensures size { IfOk result (λ frame. total_of frame ≤ MAX_FRAME) }
 {

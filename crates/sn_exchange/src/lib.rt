@@ -1,21 +1,24 @@
-//! A message goes out to a client, and again where it is not answered (MQTT-SN 1.2 sections 6.6 and 6.13).
+//! A message goes out to a client, and again where it is not answered (MQTT-SN 1.2 sections 6.6 and
+//! 6.13).
 //!
 //! - `form`: how a message's topic is written to a client.
 //! - `exchange`: the exchange by which it is handed over, and what is left to hand over.
 //! - `delivery`, `resend`: what is sent, and sent again; `peer`: to whom.
-//! - `acknowledging`: the client's answers.
+//! - `follow`: which of these follows a row of the step table, and the plan of both.
 #![tactic(auto)]
 
-mod acknowledging;
 mod delivery;
 mod exchange;
+mod follow;
 mod form;
 mod peer;
 mod resend;
 
-pub use acknowledging::acknowledge;
-pub use delivery::{ToldId, deliver_if, deliver_left, then_deliver};
-pub use exchange::{is_awake, is_done, is_left, is_served, open_exchange, put_left, so_far};
+pub use delivery::{ToldId, deliver_if, deliver_left, send, then_deliver};
+pub use exchange::{
+    is_awake, is_done, is_left, is_served, message_of, open_exchange, put_left, put_named, so_far,
+};
+pub use follow::{deliver_next, peer_at};
 pub use form::{Form, form_again, form_of, publication};
 pub use peer::Peer;
 pub use resend::then_resend;

@@ -1,11 +1,12 @@
-//! Resend: the frame of the open exchange is sent again, under the same message id (MQTT-SN 1.2 section 6.13).
+//! Resend: the frame of the open exchange is sent again, under the same message id (MQTT-SN 1.2
+//! section 6.13).
 
 ghost use Rattle.std.specs.Prelude.{◌≡◌, ◌≤◌, IfOk, OnOk};
 ghost use Rattle.std.specs.Option.{option_copied};
 ghost use Rattle.sn_frame.specs.declared.frame.TheConstants.{MAX_FRAME};
 ghost use Rattle.sn_frame.specs.Bodies.{IsMessage};
 ghost use Rattle.sn_frame.specs.Grammar.{total_of};
-ghost use Rattle.sn_exchange.specs.Resending.{again as sent_again, given_up as exchange_given_up, register_by as registered_by, register_again as registered_again, publish_by as published_by, publish_again as published_again, resend_in as resent_in, resend as resent, resend_if as resent_if, resend_or_deliver as resent_or_delivered, then_resend as then_resent};
+ghost use Rattle.sn_exchange.specs.Resending as spec;
 
 use super::delivery::{deliver_if, deliver_left, send};
 use super::exchange::{message_of, open_exchange, put_left, so_far};
@@ -16,7 +17,8 @@ use rep_ops::Put;
 use sn_frame::Frame;
 use sn_local::LocalChange;
 use sn_plan::Draft;
-use sn_session::{Outbound, Phase, Session, SessionOp, TopicEntry};
+use sn_session::{Outbound, Phase, Session, SessionOp};
+use sn_tables::TopicEntry;
 use sn_topic::Predefined;
 use std::alloc::Global;
 
@@ -24,7 +26,7 @@ use std::alloc::Global;
 fn again(alloc: Global, peer: &Peer, frame: &Frame, draft: &mut Draft) -> Result<bool, NoMemory>
     requires message { IsMessage frame.now }
     requires size { total_of frame.now ≤ MAX_FRAME }
-    ensures { IfOk result (λ stops. (stops, draft.new) ≡ sent_again peer.now frame.now
+    ensures { IfOk result (λ stops. (stops, draft.new) ≡ spec.again peer.now frame.now
         draft.old) }
 {
     send(alloc, peer, frame, draft)?;
@@ -37,7 +39,7 @@ fn again(alloc: Global, peer: &Peer, frame: &Frame, draft: &mut Draft) -> Result
 
 /// And then the end of the exchange. Answers that Delivery follows.
 fn give_up(session: &Session, draft: &mut Draft) -> Result<bool, NoMemory>
-    ensures { IfOk result (λ stops. (stops, draft.new) ≡ exchange_given_up session.now
+    ensures { IfOk result (λ stops. (stops, draft.new) ≡ spec.given_up session.now
         draft.old) }
 {
     draft.change(SessionOp::Outbound {
@@ -57,7 +59,7 @@ fn register_by(
     entry: Option<&TopicEntry>,
     draft: &mut Draft,
 ) -> Result<bool, NoMemory>
-    ensures { IfOk result (λ stops. (stops, draft.new) ≡ registered_by peer.now session.now
+    ensures { IfOk result (λ stops. (stops, draft.new) ≡ spec.register_by peer.now session.now
         put.now msg_id (option_copied entry.entry) draft.old) }
 {
     match entry {
@@ -82,7 +84,7 @@ fn register_again(
     put: Option<&Put>,
     draft: &mut Draft,
 ) -> Result<bool, NoMemory>
-    ensures { IfOk result (λ stops. (stops, draft.new) ≡ registered_again peer.now session.now
+    ensures { IfOk result (λ stops. (stops, draft.new) ≡ spec.register_again peer.now session.now
         msg_id (option_copied put.entry) draft.old) }
 {
     match put {
@@ -104,7 +106,7 @@ fn publish_by(
     form: Option<Form>,
     draft: &mut Draft,
 ) -> Result<bool, NoMemory>
-    ensures { IfOk result (λ stops. (stops, draft.new) ≡ published_by peer.now session.now
+    ensures { IfOk result (λ stops. (stops, draft.new) ≡ spec.publish_by peer.now session.now
         put.now msg_id form draft.old) }
 {
     match form {
@@ -126,7 +128,7 @@ fn publish_again(
     put: Option<&Put>,
     draft: &mut Draft,
 ) -> Result<bool, NoMemory>
-    ensures { IfOk result (λ stops. (stops, draft.new) ≡ published_again predefined.now peer.now
+    ensures { IfOk result (λ stops. (stops, draft.new) ≡ spec.publish_again predefined.now peer.now
         session.now msg_id (option_copied put.entry) draft.old) }
 {
     match put {
@@ -149,7 +151,7 @@ fn resend_in(
     put: Option<&Put>,
     draft: &mut Draft,
 ) -> Result<bool, NoMemory>
-    ensures { IfOk result (λ stops. (stops, draft.new) ≡ resent_in predefined.now peer.now
+    ensures { IfOk result (λ stops. (stops, draft.new) ≡ spec.resend_in predefined.now peer.now
         session.now msg_id phase (option_copied put.entry) draft.old) }
 {
     match phase {
@@ -159,7 +161,8 @@ fn resend_in(
     }
 }
 
-/// And then Resend of an exchange. Where its topic has neither form nor entry, the exchange ends and Delivery follows.
+/// And then Resend of an exchange. Where its topic has neither form nor entry, the exchange ends
+/// and Delivery follows.
 fn resend(
     alloc: Global,
     predefined: &Predefined,
@@ -169,7 +172,7 @@ fn resend(
     exchange: Outbound,
     draft: &mut Draft,
 ) -> Result<(), NoMemory>
-    ensures { OnOk result (draft.new ≡ resent predefined.now peer.now session.now pending.now
+    ensures { OnOk result (draft.new ≡ spec.resend predefined.now peer.now session.now pending.now
         exchange draft.old) }
 {
     let put = put_left(draft.acks(), pending, message_of(exchange));
@@ -199,7 +202,8 @@ fn resend_if(
     exchange: Option<Outbound>,
     draft: &mut Draft,
 ) -> Result<(), NoMemory>
-    ensures { OnOk result (draft.new ≡ resent_if predefined.now peer.now session.now pending.now
+    ensures { OnOk result
+        (draft.new ≡ spec.resend_if predefined.now peer.now session.now pending.now
         exchange draft.old) }
 {
     match exchange {
@@ -217,15 +221,15 @@ fn resend_or_deliver(
     pending: &[Put],
     draft: &mut Draft,
 ) -> Result<(), NoMemory>
-    ensures { OnOk result (draft.new ≡ resent_or_delivered predefined.now peer.now session.now
+    ensures { OnOk result (draft.new ≡ spec.resend_or_deliver predefined.now peer.now session.now
         pending.now draft.old) }
 {
     let exchange = open_exchange(session, draft.acks(), pending);
     resend_if(alloc, predefined, peer, session, pending, exchange, draft)
 }
 
-/// And then Resend, where an exchange is open, else Delivery: by the session as the step so far has changed it. A session
-/// that did not change is not copied.
+/// And then Resend, where an exchange is open, else Delivery: by the session as the step so far has
+/// changed it. A session that did not change is not copied.
 pub fn then_resend(
     alloc: Global,
     predefined: &Predefined,
@@ -234,7 +238,7 @@ pub fn then_resend(
     pending: &[Put],
     draft: &mut Draft,
 ) -> Result<(), NoMemory>
-    ensures { OnOk result (draft.new ≡ then_resent predefined.now peer.now session.now
+    ensures { OnOk result (draft.new ≡ spec.then_resend predefined.now peer.now session.now
         pending.now draft.old) }
 {
     if draft.changes().is_empty() {

@@ -4,8 +4,8 @@ use Rattle.sn_session.specs.declared.presence.Presence.TheVariants.{Asleep}
 use Rattle.sn_session.specs.declared.session.Session.{Session}
 use Rattle.sn_session.specs.declared.change.SessionOp.TheVariants.{Take, Presence}
 use Rattle.sn_session.specs.Session.{empty_session}
-use Rattle.rep_ops.specs.declared.op.Op.{Op}
-use Rattle.rep_ops.specs.declared.op.Op.TheVariants.{Session as OfSession}
+use Rattle.rep_op.specs.declared.op.Op.{Op}
+use Rattle.rep_op.specs.declared.op.Op.TheVariants.{Session as OfSession}
 use Rattle.rep_model.specs.Views.{gapless}
 use Rattle.sn_frame.specs.declared.frame.Frame.TheVariants as frames
 use Rattle.sn_local.specs.declared.config.Addr.{Addr}

@@ -5,8 +5,8 @@ use Rattle.sn_session.specs.declared.session.Session.{Session}
 use Rattle.sn_session.specs.declared.will.Will.{Will}
 use Rattle.sn_session.specs.declared.change.SessionOp.TheVariants.{Take}
 use Rattle.sn_session.specs.Session.{empty_session}
-use Rattle.sn_session.specs.Topics.{unknown}
-use Rattle.rep_ops.specs.declared.op.Put.{Put}
+use Rattle.sn_tables.specs.Topics.{unknown}
+use Rattle.rep_op.specs.declared.op.Put.{Put}
 use Rattle.rep_model.specs.declared.view.ClientView.{ClientView}
 use Rattle.sn_frame.specs.declared.frame.Frame.TheVariants as frames
 use Rattle.sn_flow.specs.declared.accept.TheConstants.{MAX_CLIENTS}
@@ -38,7 +38,12 @@ going_on false (Some s) = unknowing s
 -- an accepted client is Active; the rest is as it asked
 abbrev pub as_asked : Request → GivenWill → Session → Session
 as_asked request given s =
-    record s { presence = Active; clean = request.clean; duration = request.duration; will = will_after given s.will }
+    record s {
+      presence = Active;
+      clean = request.clean;
+      duration = request.duration;
+      will = will_after given s.will;
+    }
 
 -- the session that an accepted client has
 abbrev pub accepted : Request → GivenWill → Option Session → Session

@@ -28,9 +28,11 @@ has_bit bits k = not (bit_and bits (2 ^ k) == 0)
 
 -- what a CONNECT asks for
 abbrev pub request_of : Addr → ℕ → ℕ → List ℕ → Request
-request_of a flags duration c = record { address = a; client = c; clean = has_bit flags 2; duration = duration }
+request_of a flags duration c =
+    record { address = a; client = c; clean = has_bit flags 2; duration = duration }
 
--- protocol 1 is the only one; a client beyond the 1,024th has to wait, and so has a will behind those of 1,024 other addresses
+-- protocol 1 is the only one; a client beyond the 1,024th has to wait, and so has a will behind
+-- those of 1,024 other addresses
 abbrev pub refusal_of : Seen → List WillDialog → Addr → List ℕ → ℕ → ℕ → Option ℕ
 refusal_of seen dialogs a c flags protocol =
     if not (protocol == 1) then Some 3
@@ -40,39 +42,50 @@ refusal_of seen dialogs a c flags protocol =
 -- the client is asked for the topic of its will
 abbrev pub ask_topic : Request → ℕ → Drafted
 ask_topic request now =
-    sent request.address frames.WillTopicReq (moved (Ask (record { request = request; begun = now; awaited = Topic })) nothing)
+    sent request.address frames.WillTopicReq
+    (moved (Ask (record { request = request; begun = now; awaited = Topic })) nothing)
 
--- a CONNECT that is not refused: without a will it is accepted, and the session keeps the will that it has
+-- a CONNECT that is not refused: without a will it is accepted, and the session keeps the will that
+-- it has
 abbrev pub welcomed : Request → Bool → ClientView → ℕ → Row
 welcomed request will v now =
-    if will then row_of Nothing request.client (ask_topic request now) else row_of Resend request.client (accept request AsItIs v now)
+    if will then row_of Nothing request.client (ask_topic request now)
+    else row_of Resend request.client (accept request AsItIs v now)
 
 abbrev pub connect_row : Request → Bool → ClientView → ℕ → Option ℕ → Row
-connect_row request will v now (Some code) = row_of Nothing request.client (sent request.address (frames.ConnAck code) nothing)
+connect_row request will v now (Some code) =
+    row_of Nothing request.client (sent request.address (frames.ConnAck code) nothing)
 connect_row request will v now None = welcomed request will v now
 
 -- CONNECT
 abbrev pub connect : Seen → Local → Addr → ℕ → ℕ → ℕ → List ℕ → ℕ → Row
 connect seen local a flags protocol duration c now =
     heard_row (client_at a local.bindings) now
-    (connect_row (request_of a flags duration c) (has_bit flags 3) (seen.of c) now (refusal_of seen local.dialogs a c flags protocol))
+    (connect_row (request_of a flags duration c) (has_bit flags 3) (seen.of c) now
+    (refusal_of seen local.dialogs a c flags protocol))
 
 -- the client says good-bye: its session stays as it is
 abbrev pub leave : Addr → List ℕ → Session → Drafted
-leave a c s = sent a (frames.Disconnect None) (moved (Unbind c) (changed (Presence Disconnected s.duration) nothing))
+leave a c s =
+    sent a (frames.Disconnect None)
+    (moved (Unbind c) (changed (Presence Disconnected s.duration) nothing))
 
 -- the client falls asleep for a duration, and keeps its address
 abbrev pub fall_asleep : Addr → ℕ → Drafted
-fall_asleep a duration = sent a (frames.Disconnect None) (changed (Presence Asleep duration) nothing)
+fall_asleep a duration =
+    sent a (frames.Disconnect None) (changed (Presence Asleep duration) nothing)
 
 abbrev pub disconnect_draft : Addr → List ℕ → Session → Option ℕ → Drafted
 disconnect_draft a c s None = leave a c s
-disconnect_draft a c s (Some duration) = if duration == 0 then leave a c s else fall_asleep a duration
+disconnect_draft a c s (Some duration) =
+    if duration == 0 then leave a c s else fall_asleep a duration
 
 abbrev pub disconnect_of : Seen → Addr → Option (List ℕ) → Option ℕ → ℕ → Row
 disconnect_of seen a None duration now = turned_away a
-disconnect_of seen a (Some c) duration now = heard_row (Some c) now (row_of Nothing c (disconnect_draft a c (session_of seen c) duration))
+disconnect_of seen a (Some c) duration now =
+    heard_row (Some c) now (row_of Nothing c (disconnect_draft a c (session_of seen c) duration))
 
 -- DISCONNECT
 abbrev pub disconnect : Seen → Local → Addr → Option ℕ → ℕ → Row
-disconnect seen local a duration now = disconnect_of seen a (client_at a local.bindings) duration now
+disconnect seen local a duration now =
+    disconnect_of seen a (client_at a local.bindings) duration now

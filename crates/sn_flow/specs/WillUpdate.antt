@@ -12,15 +12,19 @@ use Rattle.sn_plan.specs.Asking.{qos_asked, name_asked}
 use Rattle.sn_flow.specs.Connection.{has_bit}
 use Rattle.sn_plan.specs.Drafts.{Drafted, nothing, changed, sent}
 
--- a name, a quality of service and the Retain bit make the topic of a will; where one of the two is invalid there is none
+-- a name, a quality of service and the Retain bit make the topic of a will; where one of the two is
+-- invalid there is none
 abbrev pub topic_from : Option (List ℕ) → Option ℕ → Bool → Option WillTopic
 topic_from None qos retain = None
 topic_from (Some name) None retain = None
-topic_from (Some name) (Some qos) retain = Some (record { topic = name; qos = qos; retain = retain })
+topic_from (Some name) (Some qos) retain =
+    Some (record { topic = name; qos = qos; retain = retain })
 
 -- the topic that is asked for with these flags and octets
 abbrev pub topic_asked : Will → Option WillTopic
-topic_asked will = topic_from (name_asked will.topic) (qos_asked (qos_of will.flags.bits)) (has_bit will.flags.bits 4)
+topic_asked will =
+    topic_from (name_asked will.topic) (qos_asked (qos_of will.flags.bits))
+    (has_bit will.flags.bits 4)
 
 -- the will has this topic from now on, or is deleted
 abbrev pub topic_accepted : Addr → Option WillTopic → Drafted
@@ -36,7 +40,8 @@ abbrev pub will_topic_update : Addr → Option Will → Drafted
 will_topic_update a None = topic_accepted a None
 will_topic_update a (Some will) = topic_set a (topic_asked will)
 
--- whether the will cannot have this message: there is no will, or the message has more than 4,096 octets
+-- whether the will cannot have this message: there is no will, or the message has more than 4,096
+-- octets
 abbrev pub has_no_place : Session → List ℕ → Bool
 has_no_place s message = is_too_long message || is_none s.will
 

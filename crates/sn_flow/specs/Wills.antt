@@ -1,5 +1,5 @@
--- The rows of WILLTOPIC and WILLMSG (MQTT-SN 1.2 sections 6.2 and 6.3), and those of WILLTOPICUPD and WILLMSGUPD of a bound
--- client (section 6.4).
+-- The rows of WILLTOPIC and WILLMSG (MQTT-SN 1.2 sections 6.2 and 6.3), and those of WILLTOPICUPD
+-- and WILLMSGUPD of a bound client (section 6.4).
 use Rattle.std.specs.Prelude.{ℕ, nat_lt, if◌then◌else◌, List, length, Option, Some, None}
 use Rattle.sn_session.specs.declared.will.Will.{Will as SessionWill}
 use Rattle.sn_session.specs.declared.will.WillTopic.{WillTopic}
@@ -36,7 +36,8 @@ not_supported = 3
 -- a dialog that ends without a connection
 abbrev pub dismissed : Request → ℕ → Row
 dismissed request code =
-    row_of Nothing request.client (sent request.address (frames.ConnAck code) (moved (EndDialog request.address) nothing))
+    row_of Nothing request.client
+    (sent request.address (frames.ConnAck code) (moved (EndDialog request.address) nothing))
 
 -- a dialog that ends with a connection, if there is room for the client still
 abbrev pub concluded : Seen → Request → GivenWill → ℕ → Row
@@ -48,7 +49,8 @@ concluded seen request given now =
 abbrev pub ask_message : WillDialog → WillTopic → Row
 ask_message dialog topic =
     row_of Nothing dialog.request.client
-    (sent dialog.request.address frames.WillMsgReq (moved (Ask (record dialog { awaited = Message topic })) nothing))
+    (sent dialog.request.address frames.WillMsgReq
+    (moved (Ask (record dialog { awaited = Message topic })) nothing))
 
 -- code 3, not supported, where the topic is no topic
 abbrev pub topic_given : WillDialog → Option WillTopic → Row
@@ -71,11 +73,13 @@ topic_at seen a bound (Some dialog) will now = topic_in seen a bound dialog will
 
 -- WILLTOPIC
 abbrev pub will_topic : Seen → Local → Addr → Option Will → ℕ → Row
-will_topic seen local a will now = topic_at seen a (client_at a local.bindings) (dialog_at a local.dialogs) will now
+will_topic seen local a will now =
+    topic_at seen a (client_at a local.bindings) (dialog_at a local.dialogs) will now
 
 -- the will of this topic with this message
 abbrev pub will_of : WillTopic → List ℕ → SessionWill
-will_of topic message = record { topic = topic.topic; qos = topic.qos; retain = topic.retain; message = message }
+will_of topic message =
+    record { topic = topic.topic; qos = topic.qos; retain = topic.retain; message = message }
 
 -- the message that a dialog waits for; code 3, not supported, where it has more than 4,096 octets
 abbrev pub message_row : Seen → Request → WillTopic → List ℕ → ℕ → Row
@@ -86,19 +90,23 @@ message_row seen request topic message now =
 -- WILLMSG at an address with a dialog
 abbrev pub message_in : Seen → Addr → Option (List ℕ) → Request → List ℕ → ℕ → Awaited → Row
 message_in seen a bound request message now Topic = stray a bound now
-message_in seen a bound request message now (Message topic) = heard_row bound now (message_row seen request topic message now)
+message_in seen a bound request message now (Message topic) =
+    heard_row bound now (message_row seen request topic message now)
 
 abbrev pub message_at : Seen → Addr → Option (List ℕ) → Option WillDialog → List ℕ → ℕ → Row
 message_at seen a bound None message now = stray a bound now
-message_at seen a bound (Some dialog) message now = message_in seen a bound dialog.request message now dialog.awaited
+message_at seen a bound (Some dialog) message now =
+    message_in seen a bound dialog.request message now dialog.awaited
 
 -- WILLMSG
 abbrev pub will_msg : Seen → Local → Addr → List ℕ → ℕ → Row
-will_msg seen local a message now = message_at seen a (client_at a local.bindings) (dialog_at a local.dialogs) message now
+will_msg seen local a message now =
+    message_at seen a (client_at a local.bindings) (dialog_at a local.dialogs) message now
 
 abbrev pub topic_update_of : Addr → Option (List ℕ) → Option Will → ℕ → Row
 topic_update_of a None will now = turned_away a
-topic_update_of a (Some c) will now = heard_row (Some c) now (row_of Delivery c (topic_update a will))
+topic_update_of a (Some c) will now =
+    heard_row (Some c) now (row_of Delivery c (topic_update a will))
 
 -- WILLTOPICUPD
 abbrev pub will_topic_update : Local → Addr → Option Will → ℕ → Row
@@ -111,4 +119,5 @@ message_update_of seen a (Some c) message now =
 
 -- WILLMSGUPD
 abbrev pub will_msg_update : Seen → Local → Addr → List ℕ → ℕ → Row
-will_msg_update seen local a message now = message_update_of seen a (client_at a local.bindings) message now
+will_msg_update seen local a message now =
+    message_update_of seen a (client_at a local.bindings) message now

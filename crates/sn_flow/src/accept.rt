@@ -3,7 +3,8 @@
 ghost use Rattle.std.specs.Prelude.{◌≡◌, IfOk, OnOk};
 ghost use Rattle.sn_local.specs.Seen.{seen_of};
 ghost use Rattle.sn_plan.specs.Drafts.{acked_all};
-ghost use Rattle.sn_flow.specs.Accept.{will_after as will_from_then, unknowing as unknowing_session, going_on as session_going_on, accepted as accepted_session, cleared, accept as accept_draft, has_no_room as has_none};
+ghost use Rattle.sn_flow.specs.Accept.{cleared};
+ghost use Rattle.sn_flow.specs.Accept as spec;
 
 use octets::NoMemory;
 use rep_model::{ClientView, Replica};
@@ -30,7 +31,7 @@ pub enum GivenWill {
 
 /// The will of a session, once the client has said what becomes of it.
 fn will_after(given: GivenWill, will: Option<Will>) -> Option<Will>
-    ensures { result ≡ will_from_then given will }
+    ensures { result ≡ spec.will_after given will }
 {
     match given {
         GivenWill::AsItIs => will,
@@ -41,7 +42,7 @@ fn will_after(given: GivenWill, will: Option<Will>) -> Option<Will>
 
 /// The session, in which the client knows none of the topic ids any more.
 fn unknowing(alloc: Global, session: &Session) -> Result<Session, NoMemory>
-    ensures { IfOk result (λ made. made ≡ unknowing_session session.now) }
+    ensures { IfOk result (λ made. made ≡ spec.unknowing session.now) }
 {
     let mut made = session.copied(alloc)?;
     made.topics.forget();
@@ -50,7 +51,7 @@ fn unknowing(alloc: Global, session: &Session) -> Result<Session, NoMemory>
 
 /// The session that goes on; a clean one begins anew.
 fn going_on(alloc: Global, clean: bool, session: &Option<Session>) -> Result<Session, NoMemory>
-    ensures { IfOk result (λ made. made ≡ session_going_on clean session.now) }
+    ensures { IfOk result (λ made. made ≡ spec.going_on clean session.now) }
 {
     match session {
         Some(session) if !clean => unknowing(alloc, session),
@@ -65,7 +66,7 @@ fn accepted(
     given: GivenWill,
     session: &Option<Session>,
 ) -> Result<Session, NoMemory>
-    ensures { IfOk result (λ made. made ≡ accepted_session request.now given session.now) }
+    ensures { IfOk result (λ made. made ≡ spec.accepted request.now given session.now) }
 {
     let Session {
         next_id,
@@ -107,7 +108,7 @@ pub fn accept(
     view: &ClientView,
     now: u64,
 ) -> Result<Draft, NoMemory>
-    ensures { IfOk result (λ draft. draft ≡ accept_draft request.now given view.now now) }
+    ensures { IfOk result (λ draft. draft ≡ spec.accept request.now given view.now now) }
 {
     let session = accepted(alloc, request, given, &view.session)?;
     let mut draft = Draft::new(alloc);
@@ -123,7 +124,7 @@ pub fn accept(
 
 /// Whether there is no room for the client.
 pub fn has_no_room<R: Replica>(replica: &R, client: &ClientId) -> bool
-    ensures { result ≡ has_none (seen_of (R.kept replica.now)) client.now }
+    ensures { result ≡ spec.has_no_room (seen_of (R.kept replica.now)) client.now }
 {
     if replica.view_of(client).is_some() {
         return false;

@@ -5,7 +5,8 @@ ghost use Rattle.std.specs.Option.{option_copied};
 ghost use Rattle.rep_model.specs.Views.{view};
 ghost use Rattle.sn_local.specs.Seen.{seen_of};
 ghost use Rattle.sn_plan.specs.Bound.{session_of};
-ghost use Rattle.sn_flow.specs.Connection.{has_bit, request_of as asked_request, refusal_of as refused_by, ask_topic as asked_topic, welcomed as welcome_row, connect_row as refused_or_welcome, connect as connected_row, leave as leave_draft, fall_asleep as sleep_draft, disconnect_draft as drafted_disconnect, disconnect_of as disconnect_row_of, disconnect as disconnected_row};
+ghost use Rattle.sn_flow.specs.Connection.{has_bit};
+ghost use Rattle.sn_flow.specs.Connection as spec;
 
 use super::accept::{GivenWill, accept, has_no_room};
 use octets::NoMemory;
@@ -43,7 +44,7 @@ fn request_of(
     duration: u16,
     client: &ClientId,
 ) -> Result<Request, NoMemory>
-    ensures { IfOk result (λ request. request ≡ asked_request address flags.bits duration
+    ensures { IfOk result (λ request. request ≡ spec.request_of address flags.bits duration
         client.now) }
 {
     Ok(Request {
@@ -64,7 +65,7 @@ fn refusal_of<R: Replica>(
     flags: Flags,
     protocol: u8,
 ) -> Result<Option<u8>, NoMemory>
-    ensures { IfOk result (λ code. code ≡ refused_by (seen_of (R.kept replica.now))
+    ensures { IfOk result (λ code. code ≡ spec.refusal_of (seen_of (R.kept replica.now))
         dialogs.now.local.dialogs from client.now flags.bits protocol) }
 {
     if protocol != PROTOCOL {
@@ -81,7 +82,7 @@ fn refusal_of<R: Replica>(
 
 /// Asks the client for the topic of its will.
 fn ask_topic(alloc: Global, request: Request, now: u64) -> Result<Draft, NoMemory>
-    ensures { IfOk result (λ draft. draft ≡ asked_topic request now) }
+    ensures { IfOk result (λ draft. draft ≡ spec.ask_topic request now) }
 {
     let to = request.address;
     let dialog = WillDialog {
@@ -103,7 +104,7 @@ fn welcomed(
     view: &ClientView,
     now: u64,
 ) -> Result<Row, NoMemory>
-    ensures { IfOk result (λ row. row ≡ welcome_row request will view.now now) }
+    ensures { IfOk result (λ row. row ≡ spec.welcomed request will view.now now) }
 {
     let client = request.client.copied(alloc)?;
     if will {
@@ -124,7 +125,7 @@ fn connect_row(
     now: u64,
     refusal: Option<u8>,
 ) -> Result<Row, NoMemory>
-    ensures { IfOk result (λ row. row ≡ refused_or_welcome request will view.now now refusal) }
+    ensures { IfOk result (λ row. row ≡ spec.connect_row request will view.now now refusal) }
 {
     match refusal {
         Some(code) => {
@@ -135,7 +136,8 @@ fn connect_row(
     }
 }
 
-/// CONNECT: the client is refused, asked for its will, or taken over and bound to the address it speaks from.
+/// CONNECT: the client is refused, asked for its will, or taken over and bound to the address it
+/// speaks from.
 pub fn connect<R: Replica>(
     alloc: Global,
     replica: &R,
@@ -147,7 +149,7 @@ pub fn connect<R: Replica>(
     client: &ClientId,
     now: u64,
 ) -> Result<Row, NoMemory>
-    ensures { IfOk result (λ row. row ≡ connected_row (seen_of (R.kept replica.now))
+    ensures { IfOk result (λ row. row ≡ spec.connect (seen_of (R.kept replica.now))
         dialogs.now.local from flags.bits protocol duration client.now now) }
 {
     let refusal = refusal_of(alloc, replica, dialogs, from, client, flags, protocol)?;
@@ -160,7 +162,7 @@ pub fn connect<R: Replica>(
 
 /// The client says good-bye: its session stays as it is.
 fn leave(alloc: Global, to: Addr, client: &ClientId, session: &Session) -> Result<Draft, NoMemory>
-    ensures { IfOk result (λ draft. draft ≡ leave_draft to client.now session.now) }
+    ensures { IfOk result (λ draft. draft ≡ spec.leave to client.now session.now) }
 {
     let mut draft = Draft::new(alloc);
     draft.change(SessionOp::Presence {
@@ -176,7 +178,7 @@ fn leave(alloc: Global, to: Addr, client: &ClientId, session: &Session) -> Resul
 
 /// The client falls asleep for a duration, and keeps its address.
 fn fall_asleep(alloc: Global, to: Addr, duration: u16) -> Result<Draft, NoMemory>
-    ensures { IfOk result (λ draft. draft ≡ sleep_draft to duration) }
+    ensures { IfOk result (λ draft. draft ≡ spec.fall_asleep to duration) }
 {
     let mut draft = Draft::new(alloc);
     draft.change(SessionOp::Presence {
@@ -195,7 +197,7 @@ fn disconnect_draft(
     session: &Session,
     duration: Option<u16>,
 ) -> Result<Draft, NoMemory>
-    ensures { IfOk result (λ draft. draft ≡ drafted_disconnect to client.now
+    ensures { IfOk result (λ draft. draft ≡ spec.disconnect_draft to client.now
         session.now duration) }
 {
     match duration {
@@ -213,7 +215,7 @@ fn disconnect_bound<R: Replica>(
     duration: Option<u16>,
     now: u64,
 ) -> Result<Row, NoMemory>
-    ensures { IfOk result (λ row. row ≡ disconnect_row_of (seen_of (R.kept replica.now)) from
+    ensures { IfOk result (λ row. row ≡ spec.disconnect_of (seen_of (R.kept replica.now)) from
         (Some client.now) duration now) }
 {
     let empty = Session::empty(alloc);
@@ -223,8 +225,8 @@ fn disconnect_bound<R: Replica>(
     heard_row(alloc, Some(client), now, row)
 }
 
-/// DISCONNECT: the client falls asleep, or leaves. From an address without binding it is answered and
-/// nothing else.
+/// DISCONNECT: the client falls asleep, or leaves. From an address without binding it is answered
+/// and nothing else.
 pub fn disconnect<R: Replica>(
     alloc: Global,
     replica: &R,
@@ -233,7 +235,7 @@ pub fn disconnect<R: Replica>(
     duration: Option<u16>,
     now: u64,
 ) -> Result<Row, NoMemory>
-    ensures { IfOk result (λ row. row ≡ disconnected_row (seen_of (R.kept replica.now))
+    ensures { IfOk result (λ row. row ≡ spec.disconnect (seen_of (R.kept replica.now))
         dialogs.now.local from duration now) }
 {
     match dialogs.client_at(from) {

@@ -2,13 +2,15 @@
 
 ghost use Rattle.std.specs.Prelude.{◌≡◌, IfOk, if◌then◌else◌, None, Some};
 ghost use Rattle.sn_flow.specs.Connection.{has_bit};
-ghost use Rattle.sn_flow.specs.WillUpdate.{topic_from as topic_of_parts, topic_asked as topic_asked_for, topic_accepted, topic_set, message_accepted, has_no_place as is_without_place, will_topic_update as topic_update, will_msg_update as message_update};
+ghost use Rattle.sn_flow.specs.WillUpdate.{topic_accepted, topic_set, message_accepted};
+ghost use Rattle.sn_flow.specs.WillUpdate as spec;
 
 use octets::{NoMemory, Octets};
 use sn_frame::{Flags, Frame, Will};
 use sn_local::Addr;
 use sn_plan::{ACCEPTED, Draft, NOT_SUPPORTED, name_asked, qos_asked};
-use sn_session::{Message, QosLevel, Session, SessionOp, WillTopic};
+use sn_session::{Message, Session, SessionOp, WillTopic};
+use sn_tables::QosLevel;
 use sn_topic::TopicName;
 use std::alloc::Global;
 
@@ -21,7 +23,7 @@ fn is_retained(flags: Flags) -> bool
 
 /// The topic of a will, where its name and its quality of service are valid.
 fn topic_from(name: Option<TopicName>, qos: Option<QosLevel>, retain: bool) -> Option<WillTopic>
-    ensures { result ≡ topic_of_parts name qos retain }
+    ensures { result ≡ spec.topic_from name qos retain }
 {
     match (name, qos) {
         (Some(topic), Some(qos)) => Some(WillTopic { topic, qos, retain }),
@@ -31,7 +33,7 @@ fn topic_from(name: Option<TopicName>, qos: Option<QosLevel>, retain: bool) -> O
 
 /// The topic that is asked for with these flags and octets.
 pub fn topic_asked(alloc: Global, will: &Will) -> Result<Option<WillTopic>, NoMemory>
-    ensures { IfOk result (λ topic. topic ≡ topic_asked_for will.now) }
+    ensures { IfOk result (λ topic. topic ≡ spec.topic_asked will.now) }
 {
     let name = name_asked(alloc, will.topic.as_slice())?;
     Ok(topic_from(name, qos_asked(will.flags.qos()), is_retained(will.flags)))
@@ -63,10 +65,10 @@ fn set_topic(alloc: Global, to: Addr, topic: Option<WillTopic>) -> Result<Draft,
     }
 }
 
-/// WILLTOPICUPD: the client gives its will another topic, or deletes it. WILLTOPICRESP says whether it is done: a topic
-/// that is no name, or a quality of service of bits 11, is refused.
+/// WILLTOPICUPD: the client gives its will another topic, or deletes it. WILLTOPICRESP says whether
+/// it is done: a topic that is no name, or a quality of service of bits 11, is refused.
 pub fn will_topic_update(alloc: Global, to: Addr, will: &Option<Will>) -> Result<Draft, NoMemory>
-    ensures { IfOk result (λ draft. draft ≡ topic_update to will.now) }
+    ensures { IfOk result (λ draft. draft ≡ spec.will_topic_update to will.now) }
 {
     match will {
         None => accept_topic(alloc, to, None),
@@ -79,7 +81,7 @@ pub fn will_topic_update(alloc: Global, to: Addr, will: &Option<Will>) -> Result
 
 /// The message that the will gets; nothing where there is no will, or the message is too long.
 fn message_for(alloc: Global, session: &Session, octets: &[u8]) -> Result<Option<Message>, NoMemory>
-    ensures { IfOk result (λ message. message ≡ (if is_without_place session.now octets.now
+    ensures { IfOk result (λ message. message ≡ (if spec.has_no_place session.now octets.now
         then None else Some octets.now)) }
 {
     if session.will.is_none() {
@@ -98,15 +100,15 @@ fn accept_message(alloc: Global, to: Addr, message: Message) -> Result<Draft, No
     Ok(draft)
 }
 
-/// WILLMSGUPD: the client gives its will another message. WILLMSGRESP says whether it is done: a message of more than
-/// 4,096 octets is refused, and so is any without a will.
+/// WILLMSGUPD: the client gives its will another message. WILLMSGRESP says whether it is done: a
+/// message of more than 4,096 octets is refused, and so is any without a will.
 pub fn will_msg_update(
     alloc: Global,
     to: Addr,
     session: &Session,
     message: &[u8],
 ) -> Result<Draft, NoMemory>
-    ensures { IfOk result (λ draft. draft ≡ message_update to session.now message.now) }
+    ensures { IfOk result (λ draft. draft ≡ spec.will_msg_update to session.now message.now) }
 {
     match message_for(alloc, session, message)? {
         Some(message) => accept_message(alloc, to, message),

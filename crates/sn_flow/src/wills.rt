@@ -1,9 +1,11 @@
-//! WILLTOPIC and WILLMSG (MQTT-SN 1.2 sections 6.2 and 6.3), and their updates of a bound client (section 6.4).
+//! WILLTOPIC and WILLMSG (MQTT-SN 1.2 sections 6.2 and 6.3), and their updates of a bound client
+//! (section 6.4).
 
 ghost use Rattle.std.specs.Prelude.{◌≡◌, Some, IfOk};
 ghost use Rattle.std.specs.Option.{option_copied};
 ghost use Rattle.sn_local.specs.Seen.{seen_of};
-ghost use Rattle.sn_flow.specs.Wills.{dismissed, concluded as concluded_row, ask_message as asked_message, topic_given as given_topic, topic_row as row_of_topic, topic_in as row_of_topic_in, will_topic as will_topic_row, will_of as will_with, message_row as row_of_message, message_in as row_of_message_in, will_msg as will_msg_row, topic_update_of, will_topic_update as topic_update_row, message_update_of, will_msg_update as message_update_row};
+ghost use Rattle.sn_flow.specs.Wills.{dismissed, topic_update_of, message_update_of};
+ghost use Rattle.sn_flow.specs.Wills as spec;
 
 use super::accept::{GivenWill, accept, has_no_room};
 use super::will_update::{
@@ -40,7 +42,7 @@ fn concluded<R: Replica>(
     given: GivenWill,
     now: u64,
 ) -> Result<Row, NoMemory>
-    ensures { IfOk result (λ row. row ≡ concluded_row (seen_of (R.kept replica.now)) request.now
+    ensures { IfOk result (λ row. row ≡ spec.concluded (seen_of (R.kept replica.now)) request.now
         given now) }
 {
     if has_no_room(replica, &request.client) {
@@ -54,7 +56,7 @@ fn concluded<R: Replica>(
 
 /// Asks the client for the message of its will.
 fn ask_message(alloc: Global, dialog: &WillDialog, topic: WillTopic) -> Result<Row, NoMemory>
-    ensures { IfOk result (λ row. row ≡ asked_message dialog.now topic) }
+    ensures { IfOk result (λ row. row ≡ spec.ask_message dialog.now topic) }
 {
     let to = dialog.request.address;
     let goes_on = WillDialog {
@@ -74,7 +76,7 @@ fn topic_given(
     dialog: &WillDialog,
     topic: Option<WillTopic>,
 ) -> Result<Row, NoMemory>
-    ensures { IfOk result (λ row. row ≡ given_topic dialog.now topic) }
+    ensures { IfOk result (λ row. row ≡ spec.topic_given dialog.now topic) }
 {
     match topic {
         None => dismiss(alloc, &dialog.request, NOT_SUPPORTED),
@@ -90,7 +92,7 @@ fn topic_row<R: Replica>(
     will: &Option<Will>,
     now: u64,
 ) -> Result<Row, NoMemory>
-    ensures { IfOk result (λ row. row ≡ row_of_topic (seen_of (R.kept replica.now)) dialog.now
+    ensures { IfOk result (λ row. row ≡ spec.topic_row (seen_of (R.kept replica.now)) dialog.now
         will.now now) }
 {
     match will {
@@ -112,7 +114,7 @@ fn topic_in<R: Replica>(
     will: &Option<Will>,
     now: u64,
 ) -> Result<Row, NoMemory>
-    ensures { IfOk result (λ row. row ≡ row_of_topic_in (seen_of (R.kept replica.now)) from
+    ensures { IfOk result (λ row. row ≡ spec.topic_in (seen_of (R.kept replica.now)) from
         (option_copied bound.entry) dialog.now will.now now dialog.now.awaited) }
 {
     match &dialog.awaited {
@@ -124,8 +126,8 @@ fn topic_in<R: Replica>(
     }
 }
 
-/// WILLTOPIC: where the address has a dialog that waits for it, the client is asked for the message, or, with
-/// nothing in it, is accepted without a will.
+/// WILLTOPIC: where the address has a dialog that waits for it, the client is asked for the
+/// message, or, with nothing in it, is accepted without a will.
 pub fn will_topic<R: Replica>(
     alloc: Global,
     replica: &R,
@@ -134,7 +136,7 @@ pub fn will_topic<R: Replica>(
     will: &Option<Will>,
     now: u64,
 ) -> Result<Row, NoMemory>
-    ensures { IfOk result (λ row. row ≡ will_topic_row (seen_of (R.kept replica.now))
+    ensures { IfOk result (λ row. row ≡ spec.will_topic (seen_of (R.kept replica.now))
         dialogs.now.local from will.now now) }
 {
     let bound = dialogs.client_at(from);
@@ -146,7 +148,7 @@ pub fn will_topic<R: Replica>(
 
 /// The will of this topic with this message.
 fn will_of(alloc: Global, topic: &WillTopic, message: Message) -> Result<SessionWill, NoMemory>
-    ensures { IfOk result (λ will. will ≡ will_with topic.now message) }
+    ensures { IfOk result (λ will. will ≡ spec.will_of topic.now message) }
 {
     let topic = topic.copied(alloc)?;
     Ok(SessionWill {
@@ -166,7 +168,7 @@ fn message_row<R: Replica>(
     message: &[u8],
     now: u64,
 ) -> Result<Row, NoMemory>
-    ensures { IfOk result (λ row. row ≡ row_of_message (seen_of (R.kept replica.now)) request.now
+    ensures { IfOk result (λ row. row ≡ spec.message_row (seen_of (R.kept replica.now)) request.now
         topic.now message.now now) }
 {
     let Some(message) = Message::new(Octets::from_slice(alloc, message)?) else {
@@ -186,7 +188,7 @@ fn message_in<R: Replica>(
     message: &[u8],
     now: u64,
 ) -> Result<Row, NoMemory>
-    ensures { IfOk result (λ row. row ≡ row_of_message_in (seen_of (R.kept replica.now)) from
+    ensures { IfOk result (λ row. row ≡ spec.message_in (seen_of (R.kept replica.now)) from
         (option_copied bound.entry) dialog.now.request message.now now dialog.now.awaited) }
 {
     match &dialog.awaited {
@@ -199,7 +201,8 @@ fn message_in<R: Replica>(
     }
 }
 
-/// WILLMSG: where the address has a dialog that waits for it, the client is accepted with that will.
+/// WILLMSG: where the address has a dialog that waits for it, the client is accepted with that
+/// will.
 pub fn will_msg<R: Replica>(
     alloc: Global,
     replica: &R,
@@ -208,7 +211,7 @@ pub fn will_msg<R: Replica>(
     message: &[u8],
     now: u64,
 ) -> Result<Row, NoMemory>
-    ensures { IfOk result (λ row. row ≡ will_msg_row (seen_of (R.kept replica.now))
+    ensures { IfOk result (λ row. row ≡ spec.will_msg (seen_of (R.kept replica.now))
         dialogs.now.local from message.now now) }
 {
     let bound = dialogs.client_at(from);
@@ -241,7 +244,8 @@ pub fn will_topic_update(
     will: &Option<Will>,
     now: u64,
 ) -> Result<Row, NoMemory>
-    ensures { IfOk result (λ row. row ≡ topic_update_row dialogs.now.local from will.now now) }
+    ensures { IfOk result
+        (λ row. row ≡ spec.will_topic_update dialogs.now.local from will.now now) }
 {
     match dialogs.client_at(from) {
         None => turn_away(alloc, from),
@@ -277,7 +281,7 @@ pub fn will_msg_update<R: Replica>(
     message: &[u8],
     now: u64,
 ) -> Result<Row, NoMemory>
-    ensures { IfOk result (λ row. row ≡ message_update_row (seen_of (R.kept replica.now))
+    ensures { IfOk result (λ row. row ≡ spec.will_msg_update (seen_of (R.kept replica.now))
         dialogs.now.local from message.now now) }
 {
     match dialogs.client_at(from) {

@@ -1,4 +1,5 @@
--- The body of each message, MQTT-SN 1.2 section 5.4: its octets, and the sizes that its parts may have.
+-- The body of each message, MQTT-SN 1.2 section 5.4: its octets, and the sizes that its parts may
+-- have.
 use Rattle.std.specs.Prelude.{◌≡◌, ℕ, ◌^◌, ◌<◌, ◌≤◌, List, [], ◌∷◌, ◌++◌, length, Option, Some, None, IfSome}
 use Rattle.byteorder.specs.Endian.{big_bytes}
 use Rattle.sn_frame.specs.declared.flags.TopicIdType.{TopicIdType}
@@ -56,21 +57,26 @@ abbrev pub body_of : Frame → List ℕ
 body_of (frames.Advertise gateway duration) = gateway ∷ big_bytes 2 duration
 body_of (frames.SearchGw radius) = radius ∷ []
 body_of (frames.GwInfo gateway address) = gateway ∷ address
-body_of (frames.Connect flags protocol duration client) = (flags.bits ∷ protocol ∷ big_bytes 2 duration) ++ client
+body_of (frames.Connect flags protocol duration client) =
+    (flags.bits ∷ protocol ∷ big_bytes 2 duration) ++ client
 body_of (frames.ConnAck code) = code ∷ []
 body_of frames.WillTopicReq = []
 body_of (frames.WillTopic will) = will_octets will
 body_of frames.WillMsgReq = []
 body_of (frames.WillMsg message) = message
 body_of (frames.Register topic_id msg_id name) = big_bytes 2 topic_id ++ big_bytes 2 msg_id ++ name
-body_of (frames.RegAck topic_id msg_id code) = big_bytes 2 topic_id ++ big_bytes 2 msg_id ++ (code ∷ [])
-body_of (frames.Publish flags topic msg_id body) = (flags.bits ∷ big_bytes 2 topic) ++ big_bytes 2 msg_id ++ body
-body_of (frames.PubAck topic_id msg_id code) = big_bytes 2 topic_id ++ big_bytes 2 msg_id ++ (code ∷ [])
+body_of (frames.RegAck topic_id msg_id code) =
+    big_bytes 2 topic_id ++ big_bytes 2 msg_id ++ (code ∷ [])
+body_of (frames.Publish flags topic msg_id body) =
+    (flags.bits ∷ big_bytes 2 topic) ++ big_bytes 2 msg_id ++ body
+body_of (frames.PubAck topic_id msg_id code) =
+    big_bytes 2 topic_id ++ big_bytes 2 msg_id ++ (code ∷ [])
 body_of (frames.PubComp msg_id) = big_bytes 2 msg_id
 body_of (frames.PubRec msg_id) = big_bytes 2 msg_id
 body_of (frames.PubRel msg_id) = big_bytes 2 msg_id
 body_of (frames.Subscribe flags msg_id topic) = (flags.bits ∷ big_bytes 2 msg_id) ++ topic
-body_of (frames.SubAck flags topic_id msg_id code) = (flags.bits ∷ big_bytes 2 topic_id) ++ big_bytes 2 msg_id ++ (code ∷ [])
+body_of (frames.SubAck flags topic_id msg_id code) =
+    (flags.bits ∷ big_bytes 2 topic_id) ++ big_bytes 2 msg_id ++ (code ∷ [])
 body_of (frames.Unsubscribe flags msg_id topic) = (flags.bits ∷ big_bytes 2 msg_id) ++ topic
 body_of (frames.UnsubAck msg_id) = big_bytes 2 msg_id
 body_of (frames.PingReq client) = client
@@ -90,7 +96,8 @@ IsTopicField kinds.Reserved topic = Unit {0}
 
 -- its parts have sizes that the message allows
 abbrev pub IsMessage : Frame → Type 0
-IsMessage (frames.Connect flags protocol duration client) = (1 ≤ length client) × (length client ≤ MAX_CLIENT_ID)
+IsMessage (frames.Connect flags protocol duration client) =
+    (1 ≤ length client) × (length client ≤ MAX_CLIENT_ID)
 IsMessage (frames.Subscribe flags msg_id topic) = IsTopicField (kind_of flags.bits) topic
 IsMessage (frames.Unsubscribe flags msg_id topic) = IsTopicField (kind_of flags.bits) topic
 IsMessage (frames.PingReq client) = length client ≤ MAX_CLIENT_ID

@@ -1,4 +1,5 @@
--- What each refusal of a datagram means. They are looked for in the order Empty, Encapsulated, Length, UnknownType, Body.
+-- What each refusal of a datagram means. They are looked for in the order Empty, Encapsulated,
+-- Length, UnknownType, Body.
 use Rattle.std.specs.Prelude.{◌≡◌, ◌≢◌, ℕ, zero, suc, ◌+◌, ◌*◌, ◌==◌, if◌then◌else◌, List, [], ◌∷◌, length, slice_get, slice_index, Option, Some}
 use Rattle.sn_frame.specs.declared.fault.FrameFault.{FrameFault}
 use Rattle.sn_frame.specs.declared.fault.FrameFault.TheVariants as faults
@@ -30,15 +31,19 @@ IsType kind = (t : MsgType) × (octet_of t ≡ kind)
 abbrev pub IsSpelling : List ℕ → Type 0
 IsSpelling bytes = (f : Frame) × (IsValue f × Spells bytes f)
 
--- The datagram is to be refused so, and for no reason that is looked for earlier. Memory is wanted for a good frame alone.
+-- The datagram is to be refused so, and for no reason that is looked for earlier. Memory is wanted
+-- for a good frame alone.
 abbrev pub IsFirstFault : List ℕ → FrameFault → Type 0
 IsFirstFault bytes faults.Empty = bytes ≡ []
 IsFirstFault bytes faults.Encapsulated = type_place bytes ≡ Some 0xFE
 IsFirstFault bytes (faults.Length said held) =
-    IsPlain bytes × ((kind : ℕ) (body : List ℕ) → IsFramed bytes kind body → ⊥) × (said ≡ said_total bytes) × (held ≡ length bytes)
-IsFirstFault bytes (faults.UnknownType kind) = IsPlain bytes × ((body : List ℕ) × IsFramed bytes kind body) × ¬ (IsType kind)
+    IsPlain bytes × ((kind : ℕ) (body : List ℕ) → IsFramed bytes kind body → ⊥)
+    × (said ≡ said_total bytes) × (held ≡ length bytes)
+IsFirstFault bytes (faults.UnknownType kind) =
+    IsPlain bytes × ((body : List ℕ) × IsFramed bytes kind body) × ¬ (IsType kind)
 IsFirstFault bytes faults.Body =
-    IsPlain bytes × ((t : MsgType) × (body : List ℕ) × IsFramed bytes (octet_of t) body) × ((f : Frame) → IsValue f → Spells bytes f → ⊥)
+    IsPlain bytes × ((t : MsgType) × (body : List ℕ) × IsFramed bytes (octet_of t) body)
+    × ((f : Frame) → IsValue f → Spells bytes f → ⊥)
 IsFirstFault bytes faults.Memory = IsSpelling bytes
 
 -- the number that a refusal is printed by

@@ -9,10 +9,12 @@ use Rattle.sn_frame.specs.declared.flags.TopicIdType.TheVariants as kinds
 abbrev pub qos_of : ℕ → Qos
 qos_of bits =
     if bits / 32 % 4 == 0 then levels.Zero
-    else (if bits / 32 % 4 == 1 then levels.One else (if bits / 32 % 4 == 2 then levels.Two else levels.MinusOne))
+    else (if bits / 32 % 4 == 1 then levels.One
+    else (if bits / 32 % 4 == 2 then levels.Two else levels.MinusOne))
 
 -- bits 1 and 0
 abbrev pub kind_of : ℕ → TopicIdType
 kind_of bits =
     if bits % 4 == 0 then kinds.Normal
-    else (if bits % 4 == 1 then kinds.Predefined else (if bits % 4 == 2 then kinds.Short else kinds.Reserved))
+    else (if bits % 4 == 1 then kinds.Predefined
+    else (if bits % 4 == 2 then kinds.Short else kinds.Reserved))

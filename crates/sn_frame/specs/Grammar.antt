@@ -1,4 +1,5 @@
--- The two forms of a frame, MQTT-SN 1.2 section 5.2.1. Length counts all octets of the frame, itself included.
+-- The two forms of a frame, MQTT-SN 1.2 section 5.2.1. Length counts all octets of the frame,
+-- itself included.
 use Rattle.std.specs.Prelude.{◌≡◌, ℕ, ◌+◌, ◌≤◌, nat_le, if◌then◌else◌, ◌⊎◌, List, ◌∷◌, ◌++◌, length}
 use Rattle.byteorder.specs.Endian.{big_bytes}
 use Rattle.sn_frame.specs.declared.frame.Frame.{Frame}
@@ -17,7 +18,8 @@ long_form kind body = (1 ∷ big_bytes 2 (length body + 4)) ++ kind ∷ body
 -- The octets are a type's octet and a body, in one of the forms, and the total fits its place.
 abbrev pub IsFramed : List ℕ → ℕ → List ℕ → Type 0
 IsFramed bytes kind body =
-    ((length body + 2 ≤ 255) × (bytes ≡ short_form kind body)) ⊎ ((length body + 4 ≤ MAX_FRAME) × (bytes ≡ long_form kind body))
+    ((length body + 2 ≤ 255) × (bytes ≡ short_form kind body))
+    ⊎ ((length body + 4 ≤ MAX_FRAME) × (bytes ≡ long_form kind body))
 
 -- The octets spell the frame.
 pub record Spells (bytes : List ℕ) (f : Frame) : Type 0 where
@@ -26,7 +28,8 @@ pub record Spells (bytes : List ℕ) (f : Frame) : Type 0 where
 
 -- the form that is written: the short one wherever the total fits one octet
 abbrev pub framed_of : ℕ → List ℕ → List ℕ
-framed_of kind body = if nat_le (length body + 2) 255 then short_form kind body else long_form kind body
+framed_of kind body =
+    if nat_le (length body + 2) 255 then short_form kind body else long_form kind body
 
 -- the canonical spelling
 abbrev pub spelling : Frame → List ℕ

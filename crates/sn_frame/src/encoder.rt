@@ -30,7 +30,8 @@ pub fn encode(alloc: Global, frame: &Frame, out: &mut Vec<u8>) -> Result<(), Enc
     // A size that the message does not allow is found first, and needs no memory.
     ensures body { (result ≡ Err EncodeFault.Body) ↔ ¬ (IsMessage frame.now) }
 
-    // TooLong is said of frames that are too long and of no other, and of all of them unless memory runs out.
+    // TooLong is said of frames that are too long and of no other, and of all of them unless memory
+    // runs out.
     ensures too_long { result ≡ Err EncodeFault.TooLong → IsMessage frame.now
         × (MAX_FRAME < total_of frame.now) }
     ensures refused { IsMessage frame.now → MAX_FRAME < total_of frame.now

@@ -8,15 +8,15 @@ use octets::NoMemory;
 use std::alloc::AllocError;
 use thiserror::Error;
 
-/// Why a datagram was refused: the first cause in the order Empty, Encapsulated, Length, UnknownType,
-/// Body. Memory is wanted only for a datagram that has none of them.
+/// Why a datagram was refused: the first cause in the order Empty, Encapsulated, Length,
+/// UnknownType, Body. Memory is wanted only for a datagram that has none of them.
 #[derive(Debug, Drop, PartialEq, Eq, Error)]
 pub enum FrameFault {
     /// No octet is there.
     #[error("the datagram is empty")]
     Empty,
-    /// The total that Length says is not the datagram's size, or has no room for a MsgType. `said` is 1
-    /// where the first octet is 01 and fewer than three octets are there.
+    /// The total that Length says is not the datagram's size, or has no room for a MsgType. `said`
+    /// is 1 where the first octet is 01 and fewer than three octets are there.
     #[error("Length says {said} octets in all and the datagram has {held}: both must be equal, with room for MsgType")]
     Length { said: u16, held: usize },
     /// MsgType is FE.
@@ -39,8 +39,8 @@ pub enum EncodeFault {
     /// The frame has more octets than its Length can say.
     #[error("the frame has more than 65535 octets, the most that Length can say")]
     TooLong,
-    /// A field has a size that the message does not allow: the id of CONNECT or PINGREQ, or the topic of
-    /// SUBSCRIBE or UNSUBSCRIBE.
+    /// A field has a size that the message does not allow: the id of CONNECT or PINGREQ, or the
+    /// topic of SUBSCRIBE or UNSUBSCRIBE.
     #[error("a field of the frame has a size that its message does not allow")]
     Body,
     /// There was no room to write in.

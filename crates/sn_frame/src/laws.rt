@@ -9,8 +9,8 @@ ghost use Rattle.sn_frame.specs.Bodies.{IsMessage, IsValue};
 ghost use Rattle.sn_frame.specs.Faults.{IsFirstFault};
 ghost use Rattle.sn_frame.specs.Grammar.{Spells, spelling, total_of};
 
-/// No octets spell two frames. A frame that has a spelling has its canonical one, and each has one whose
-/// parts have sizes that its message allows and whose total fits.
+/// No octets spell two frames. A frame that has a spelling has its canonical one, and each has one
+/// whose parts have sizes that its message allows and whose total fits.
 pub fn one_meaning()
     ensures one { (bytes : List ℕ) (f g : Frame) → IsValue f → IsValue g → Spells bytes f
         → Spells bytes g → f ≡ g }

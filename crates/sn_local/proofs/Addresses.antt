@@ -9,12 +9,12 @@ use Rattle.std.specs.List.{AllByRecursion, IsDistinct, insert}
 use Rattle.std.proofs.lemmas.Bool.{and_parts}
 use Rattle.std.proofs.lemmas.Cmp.{then_total, on_total, nat_cmp_total}
 use Rattle.std.proofs.lemmas.Map.Lookups.{CmpEqualImpliesEq, exact_unsigned, exact_pairs}
-use Rattle.sn_session.specs.Tables.{with_entry, by_order}
-use Rattle.sn_session.specs.inner.Tables.{AllAbove, IsAt, IsGap}
-use Rattle.sn_session.proofs.Ascending.{all_filter, all_with, from_test, to_test, ascends_filter, ascends_with}
-use Rattle.sn_session.proofs.Numbers.{tied, lower, higher}
-use Rattle.sn_session.proofs.Places.{with_at, with_gap}
-use Rattle.rep_ops.specs.Sets.{same_client}
+use Rattle.sn_tables.specs.Tables.{with_entry, by_order}
+use Rattle.sn_tables.specs.inner.Tables.{AllAbove, IsAt, IsGap}
+use Rattle.sn_tables.proofs.Ascending.{all_filter, all_with, from_test, to_test, ascends_filter, ascends_with}
+use Rattle.sn_tables.proofs.Numbers.{tied, lower, higher}
+use Rattle.sn_tables.proofs.Places.{with_at, with_gap}
+use Rattle.rep_op.specs.Sets.{same_client}
 use Rattle.sn_local.specs.declared.config.Addr.{Addr}
 use Rattle.sn_local.specs.declared.local.Binding.{Binding}
 use Rattle.sn_local.specs.Bindings.{address_cmp, binding_cmp, same_address, of_one_client, is_apart, bound, client_at, AreBindings}

@@ -9,11 +9,11 @@ use Rattle.std.proofs.lemmas.Slice.Eq.{bytes_eq-Decides}
 use Rattle.std.proofs.lemmas.Cmp.{tied_itself}
 use Rattle.std.specs.Ordering.{is_eq}
 use Rattle.sn_session.specs.declared.change.SessionOp.{SessionOp}
-use Rattle.rep_ops.specs.declared.op.Stamp.{Stamp}
-use Rattle.rep_ops.specs.declared.op.Op.{Op}
-use Rattle.rep_ops.specs.declared.op.Op.TheVariants.{Session as OfSession}
-use Rattle.rep_ops.specs.Orders.{stamp_cmp, operation_cmp, put_cmp}
-use Rattle.rep_ops.specs.Sets.{same_client, operation_of, operations, operation_at, puts, put_at}
+use Rattle.rep_op.specs.declared.op.Stamp.{Stamp}
+use Rattle.rep_op.specs.declared.op.Op.{Op}
+use Rattle.rep_op.specs.declared.op.Op.TheVariants.{Session as OfSession}
+use Rattle.rep_op.specs.Orders.{stamp_cmp, operation_cmp, put_cmp}
+use Rattle.rep_op.specs.Sets.{same_client, operation_of, operations, operation_at, puts, put_at}
 use Rattle.rep_model.specs.Views.{greatest, take_stamp, names, visible, history_at, history}
 use Rattle.rep_model.specs.Fresh.{largest, one_more, greatest_epoch, next_epoch}
 use Rattle.rep_model.proofs.Lookup.{or_else}

@@ -6,12 +6,12 @@ use Rattle.std.specs.Ordering.{is_eq, ordering_reverse}
 use Rattle.std.specs.Cmp.{IsTotalOrder, on_total}
 use Rattle.std.specs.Cmp.Lexicographic.{texts_ties}
 use Rattle.std.specs.List.{insert, filter, find}
-use Rattle.rep_ops.specs.Orders.{client_cmp}
-use Rattle.rep_ops.specs.Sets.{same_client}
+use Rattle.rep_op.specs.Orders.{client_cmp}
+use Rattle.rep_op.specs.Sets.{same_client}
 use Rattle.rep_model.proofs.Readers.{client_total}
-use Rattle.sn_session.specs.inner.Tables.{IsAt, IsGap}
-use Rattle.sn_session.proofs.Ascending.{Ascends, from_test, to_test, ascends_with, ascends_filter}
-use Rattle.sn_session.proofs.Places.{find_at, find_gap, with_at, with_gap}
+use Rattle.sn_tables.specs.inner.Tables.{IsAt, IsGap}
+use Rattle.sn_tables.proofs.Ascending.{Ascends, from_test, to_test, ascends_with, ascends_filter}
+use Rattle.sn_tables.proofs.Places.{find_at, find_gap, with_at, with_gap}
 use Rattle.sn_local.specs.declared.local.Timer.{Timer}
 use Rattle.sn_local.specs.Timers.{AreTimers, timer_cmp, timed, timer_of}
 

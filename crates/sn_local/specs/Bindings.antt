@@ -3,9 +3,9 @@ use Rattle.std.specs.Prelude.{ℕ, ◌==◌, Bool, false, ◌&&◌, not, if◌th
 use Rattle.std.specs.declared.cmp.Ordering.{Ordering}
 use Rattle.std.specs.List.{IsDistinct}
 use Rattle.std.specs.Ordering.{nat_cmp, ordering_then}
-use Rattle.sn_session.specs.Tables.{is_ascending, with_entry}
-use Rattle.rep_ops.specs.declared.op.Stamp.{Stamp}
-use Rattle.rep_ops.specs.Sets.{same_client}
+use Rattle.sn_tables.specs.Tables.{is_ascending, with_entry}
+use Rattle.rep_op.specs.declared.op.Stamp.{Stamp}
+use Rattle.rep_op.specs.Sets.{same_client}
 use Rattle.sn_local.specs.declared.config.Addr.{Addr}
 use Rattle.sn_local.specs.declared.local.Binding.{Binding}
 use Rattle.sn_local.specs.declared.local.LocalChange.{LocalChange}
@@ -29,7 +29,8 @@ of_one_client b d = same_client b.client d.client
 
 -- the bindings of a gateway: they ascend by address, so no address has two, and no client has two
 abbrev pub AreBindings : List Binding → Type 0
-AreBindings bindings = IsTrue (is_ascending binding_cmp bindings) × IsDistinct of_one_client bindings
+AreBindings bindings =
+    IsTrue (is_ascending binding_cmp bindings) × IsDistinct of_one_client bindings
 
 -- whether a binding has neither the address nor the client
 abbrev pub is_apart : Addr → List ℕ → Binding → Bool
@@ -66,12 +67,14 @@ bindings_after bindings changes = fold binding_change bindings changes
 -- the client of an address
 abbrev pub client_at : Addr → List Binding → Option (List ℕ)
 client_at a [] = None
-client_at a (binding ∷ rest) = if same_address binding.address a then Some binding.client else client_at a rest
+client_at a (binding ∷ rest) =
+    if same_address binding.address a then Some binding.client else client_at a rest
 
 -- the address of a client
 abbrev pub address_of : List ℕ → List Binding → Option Addr
 address_of c [] = None
-address_of c (binding ∷ rest) = if same_client binding.client c then Some binding.address else address_of c rest
+address_of c (binding ∷ rest) =
+    if same_client binding.client c then Some binding.address else address_of c rest
 
 abbrev pub is_stamp_of : ℕ → Option Stamp → Bool
 is_stamp_of g None = false

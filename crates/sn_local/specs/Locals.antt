@@ -10,8 +10,8 @@ use Rattle.sn_local.specs.WillDialogs.{dialogs_after}
 use Rattle.sn_local.specs.Timers.{timers_after, owned_timers}
 use Rattle.sn_local.specs.Advertising.{advertised_after}
 
--- which address is which client, from which addresses a will is awaited, when which client was last heard of, and when the gateway
--- advertised itself last, if it did
+-- which address is which client, from which addresses a will is awaited, when which client was last
+-- heard of, and when the gateway advertised itself last, if it did
 pub record Local : Type 0 where
   pub bindings : List Binding
   pub dialogs : List WillDialog

@@ -1,11 +1,12 @@
 -- What a step reads of a set of operations.
 use Rattle.std.specs.Prelude.{ℕ, Bool, List, Option}
-use Rattle.rep_ops.specs.declared.op.Op.{Op}
+use Rattle.rep_op.specs.declared.op.Op.{Op}
 use Rattle.rep_model.specs.declared.view.ClientView.{ClientView}
 use Rattle.rep_model.specs.Views.{view, is_named, clients}
 use Rattle.rep_model.specs.Fresh.{next_epoch, next_seq}
 
--- all that a step reads of a set of operations: the clients that it names, their views, and the numbers that are next
+-- all that a step reads of a set of operations: the clients that it names, their views, and the
+-- numbers that are next
 pub record Seen : Type 0 where
   pub all : List (List ℕ)
   pub is_there : List ℕ → Bool
@@ -14,4 +15,11 @@ pub record Seen : Type 0 where
   pub seq : List ℕ → ℕ → Option ℕ
 
 abbrev pub seen_of : List Op → Seen
-seen_of S = record { all = clients S; is_there = λ c. is_named c S; of = λ c. view c S; epoch = λ c. next_epoch c S; seq = λ c g. next_seq c g S }
+seen_of S =
+    record {
+      all = clients S;
+      is_there = λ c. is_named c S;
+      of = λ c. view c S;
+      epoch = λ c. next_epoch c S;
+      seq = λ c g. next_seq c g S;
+    }

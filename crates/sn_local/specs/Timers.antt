@@ -1,9 +1,10 @@
--- When a client was last heard of, and when a frame of its open exchange was last sent, how often again.
+-- When a client was last heard of, and when a frame of its open exchange was last sent, how often
+-- again.
 use Rattle.std.specs.Prelude.{ℕ, ◌+◌, ◌==◌, Bool, IsTrue, if◌then◌else◌, List, [], ◌∷◌, filter, fold, Option, Some, None}
 use Rattle.std.specs.declared.cmp.Ordering.{Ordering}
-use Rattle.sn_session.specs.Tables.{is_ascending, with_entry}
-use Rattle.rep_ops.specs.Orders.{client_cmp}
-use Rattle.rep_ops.specs.Sets.{same_client}
+use Rattle.sn_tables.specs.Tables.{is_ascending, with_entry}
+use Rattle.rep_op.specs.Orders.{client_cmp}
+use Rattle.rep_op.specs.Sets.{same_client}
 use Rattle.sn_local.specs.declared.local.Timer.{Timer}
 use Rattle.sn_local.specs.declared.local.LocalChange.{LocalChange}
 use Rattle.sn_local.specs.declared.local.LocalChange.TheVariants.{Bind, Unbind, Time, Heard, Sent, Resent, Retried, Ask, EndDialog, Advertised}
@@ -38,7 +39,8 @@ started c now = record { client = c; heard = now; sent = now; tries = 0 }
 -- the timer of a client that is heard of at this moment
 abbrev pub heard_at : List ℕ → ℕ → Option Timer → Timer
 heard_at c now None = started c now
-heard_at c now (Some timer) = record { client = c; heard = now; sent = timer.sent; tries = timer.tries }
+heard_at c now (Some timer) =
+    record { client = c; heard = now; sent = timer.sent; tries = timer.tries }
 
 -- the timer of a client whose frame is sent anew at this moment
 abbrev pub sent_at : List ℕ → ℕ → Option Timer → Timer
@@ -48,12 +50,14 @@ sent_at c now (Some timer) = record { client = c; heard = timer.heard; sent = no
 -- the timer of a client whose frame is sent again at this moment
 abbrev pub resent_at : List ℕ → ℕ → Option Timer → Timer
 resent_at c now None = started c now
-resent_at c now (Some timer) = record { client = c; heard = timer.heard; sent = now; tries = timer.tries }
+resent_at c now (Some timer) =
+    record { client = c; heard = timer.heard; sent = now; tries = timer.tries }
 
 -- the timer of a client with which there was one more try
 abbrev pub retried_at : List ℕ → ℕ → Option Timer → Timer
 retried_at c now None = started c now
-retried_at c now (Some timer) = record { client = c; heard = timer.heard; sent = timer.sent; tries = one_try_more timer.tries }
+retried_at c now (Some timer) =
+    record { client = c; heard = timer.heard; sent = timer.sent; tries = one_try_more timer.tries }
 
 -- the client was heard of at this moment
 abbrev pub heard : List ℕ → ℕ → List Timer → List Timer

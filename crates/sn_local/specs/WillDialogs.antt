@@ -1,4 +1,5 @@
--- From which addresses a will is awaited: a CONNECT with a will is a dialog of several frames (MQTT-SN 1.2 section 6.2).
+-- From which addresses a will is awaited: a CONNECT with a will is a dialog of several frames
+-- (MQTT-SN 1.2 section 6.2).
 use Rattle.std.specs.Prelude.{Bool, not, if◌then◌else◌, nat_le, List, [], ◌∷◌, ◌++◌, filter, fold, length, Option, Some, None}
 use Rattle.sn_local.specs.declared.config.Addr.{Addr}
 use Rattle.sn_local.specs.declared.local.WillDialog.{WillDialog}
@@ -37,7 +38,8 @@ dialogs_after dialogs changes = fold dialog_change dialogs changes
 -- the dialog of an address
 abbrev pub dialog_at : Addr → List WillDialog → Option WillDialog
 dialog_at a [] = None
-dialog_at a (dialog ∷ rest) = if same_address dialog.request.address a then Some dialog else dialog_at a rest
+dialog_at a (dialog ∷ rest) =
+    if same_address dialog.request.address a then Some dialog else dialog_at a rest
 
 -- whether 1,024 other addresses have a dialog, so that there is no room for one more
 abbrev pub is_crowded : Addr → List WillDialog → Bool

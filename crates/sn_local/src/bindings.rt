@@ -4,27 +4,28 @@
 ghost use Rattle.std.specs.Prelude.{◌≡◌, ◌+◌, ◌≤◌, true, filter, vec_len};
 ghost use Rattle.std.specs.Option.{option_copied};
 ghost use Rattle.std.specs.Vec.{vec_capacity};
-ghost use Rattle.sn_session.specs.Tables.{with_entry};
-ghost use Rattle.sn_session.specs.inner.Tables.{IsPlace};
+ghost use Rattle.sn_tables.specs.Tables.{with_entry};
+ghost use Rattle.sn_tables.specs.inner.Tables.{IsPlace};
 ghost use Rattle.sn_local.specs.Bindings.{AreBindings, address_cmp, binding_cmp};
-ghost use Rattle.sn_local.specs.Bindings.{client_at as client_of_address, address_of as address_of_client, bound, unbound, is_apart as is_apart_from, is_of_other as is_of_another, is_owned as is_owned_at, has_owned as has_owned_client, owned_bindings};
+ghost use Rattle.sn_local.specs.Bindings.{bound, unbound, owned_bindings};
+ghost use Rattle.sn_local.specs.Bindings as spec;
 ghost use Rattle.sn_local.specs.Seen.{seen_of};
 
 use super::config::Addr;
 use super::local::Binding;
 use rep_model::Replica;
-use rep_ops::ClientId;
+use rep_ops::{ClientId, Stamp};
 
 /// Whether a binding has neither the address nor the client.
 fn is_apart(address: Addr, client: &ClientId, binding: &Binding) -> bool
-    ensures { result ≡ is_apart_from address client.now binding.now }
+    ensures { result ≡ spec.is_apart address client.now binding.now }
 {
     binding.address != address && binding.client != *client
 }
 
 /// Whether a binding is of another client.
 fn is_of_other(client: &ClientId, binding: &Binding) -> bool
-    ensures { result ≡ is_of_another client.now binding.now }
+    ensures { result ≡ spec.is_of_other client.now binding.now }
 {
     binding.client != *client
 }
@@ -32,7 +33,7 @@ fn is_of_other(client: &ClientId, binding: &Binding) -> bool
 /// Drops the bindings of the address and of the client.
 fn release(bindings: &mut Vec<Binding>, address: Addr, client: &ClientId)
     requires { AreBindings bindings.old.items }
-    ensures items { bindings.new.items ≡ filter (is_apart_from address client.now)
+    ensures items { bindings.new.items ≡ filter (spec.is_apart address client.now)
         bindings.old.items }
     ensures ascend { AreBindings bindings.new.items }
     ensures capacity { vec_capacity bindings.new ≡ vec_capacity bindings.old }
@@ -85,8 +86,8 @@ fn is_bound(bindings: &[Binding], address: Addr, client: &ClientId) -> bool
     }
 }
 
-/// The address and the client belong together now, and neither to another. There is room for one more.
-/// Where they belong together already, the time is logarithmic.
+/// The address and the client belong together now, and neither to another. There is room for one
+/// more. Where they belong together already, the time is logarithmic.
 pub fn bind(bindings: &mut Vec<Binding>, address: Addr, client: ClientId)
     requires ascend { AreBindings bindings.old.items }
     requires room { vec_len bindings.old + 1 ≤ vec_capacity bindings.old }
@@ -105,7 +106,7 @@ pub fn bind(bindings: &mut Vec<Binding>, address: Addr, client: ClientId)
 /// The client of an address. The time is logarithmic.
 pub fn client_at(bindings: &[Binding], address: Addr) -> Option<&ClientId>
     requires { AreBindings bindings.now }
-    ensures { option_copied result ≡ client_of_address address bindings.now }
+    ensures { option_copied result ≡ spec.client_at address bindings.now }
 {
     match place(bindings, address) {
         Ok(at) => Some(&bindings[at].client),
@@ -115,7 +116,7 @@ pub fn client_at(bindings: &[Binding], address: Addr) -> Option<&ClientId>
 
 /// The address of a client. The bindings are in no order of clients, so this walks them.
 pub fn address_of(bindings: &[Binding], client: &ClientId) -> Option<Addr>
-    ensures { result ≡ address_of_client client.now bindings.now }
+    ensures { result ≡ spec.address_of client.now bindings.now }
 {
     for binding in bindings {
         if binding.client == *client {
@@ -125,22 +126,29 @@ pub fn address_of(bindings: &[Binding], client: &ClientId) -> Option<Addr>
     None
 }
 
+/// Whether a stamp is the gateway's.
+pub fn is_stamp_of(gateway: u8, stamp: Option<Stamp>) -> bool
+    ensures { result ≡ spec.is_stamp_of gateway stamp }
+{
+    match stamp {
+        None => false,
+        Some(stamp) => stamp.gateway == gateway,
+    }
+}
+
 /// Whether the gateway owns the client.
 pub fn is_owned<R: Replica>(gateway: u8, replica: &R, client: &ClientId) -> bool
-    ensures { result ≡ is_owned_at gateway (seen_of (R.kept replica.now)) client.now }
+    ensures { result ≡ spec.is_owned gateway (seen_of (R.kept replica.now)) client.now }
 {
     match replica.view_of(client) {
-        Some(view) => match view.stamp {
-            Some(stamp) => stamp.gateway == gateway,
-            None => false,
-        },
+        Some(view) => is_stamp_of(gateway, view.stamp),
         None => false,
     }
 }
 
 /// Whether the gateway owns the client of a binding.
 fn has_owned<R: Replica>(gateway: u8, replica: &R, binding: &Binding) -> bool
-    ensures { result ≡ has_owned_client gateway (seen_of (R.kept replica.now)) binding.now }
+    ensures { result ≡ spec.has_owned gateway (seen_of (R.kept replica.now)) binding.now }
 {
     is_owned(gateway, replica, &binding.client)
 }

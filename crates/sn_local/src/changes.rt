@@ -52,7 +52,8 @@ fn commit_one(
     }
 }
 
-/// Carries out the changes, one after the other. There is room for as many more entries in each list.
+/// Carries out the changes, one after the other. There is room for as many more entries in each
+/// list.
 pub fn commit_all(
     bindings: &mut Vec<Binding>,
     dialogs: &mut Vec<WillDialog>,

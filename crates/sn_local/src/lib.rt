@@ -1,13 +1,14 @@
-//! What a gateway knows beside the set: which address is which client, from which addresses a will is awaited, and when which
-//! client was heard of (MQTT-SN 1.2 section 6).
+//! What a gateway knows beside the set: which address is which client, from which addresses a will
+//! is awaited, and when which client was heard of (MQTT-SN 1.2 section 6).
 //!
 //! - `config`: what a gateway is told (`Config`), addresses (`Addr`), what is sent (`Send`).
-//! - `local`: the gateway's local state (`Dialogs`), and how it may change (`LocalChange`). `bindings`, `will_dialogs`, `timers` are
-//!   its three lists, and `changes` carries changes out.
+//! - `local`: the gateway's local state (`Dialogs`), and how it may change (`LocalChange`).
+//!   `bindings`, `will_dialogs`, `timers` are its three lists, and `changes` carries changes out.
 //! - `fault`: why a step has no plan.
 //!
-//! The definitions are in `specs/`: `Bindings`, `WillDialogs`, `Timers` (the lists), `Locals` (all of it), `Advertising` (when
-//! a gateway advertised itself last), `Seen` (what a step reads of a set of operations), `Faults`.
+//! The definitions are in `specs/`: `Bindings`, `WillDialogs`, `Timers` (the lists), `Locals` (all
+//! of it), `Advertising` (when a gateway advertised itself last), `Seen` (what a step reads of a
+//! set of operations), `Faults`.
 #![tactic(auto)]
 
 mod bindings;
@@ -18,7 +19,7 @@ mod local;
 mod timers;
 mod will_dialogs;
 
-pub use bindings::is_owned;
+pub use bindings::{is_owned, is_stamp_of};
 pub use config::{Addr, Config, Send};
 pub use fault::StepFault;
 pub use local::{Awaited, Binding, Dialogs, LocalChange, Request, Timer, WillDialog};

@@ -60,8 +60,8 @@ impl Request {
     }
 }
 
-/// A CONNECT with a will that is not accepted yet: the client is asked for its will first (MQTT-SN 1.2
-/// section 6.2).
+/// A CONNECT with a will that is not accepted yet: the client is asked for its will first (MQTT-SN
+/// 1.2 section 6.2).
 #[derive(Debug, Drop)]
 pub struct WillDialog {
     /// What the CONNECT asks for.
@@ -98,7 +98,8 @@ pub enum LocalChange {
     Heard { client: ClientId, moment: u64 },
     /// The first frame of a new exchange was sent to the client at a moment.
     Sent { client: ClientId, moment: u64 },
-    /// A frame of the open exchange was sent to the client again at a moment. The number of tries stays.
+    /// A frame of the open exchange was sent to the client again at a moment. The number of tries
+    /// stays.
     Resent { client: ClientId, moment: u64 },
     /// At a moment the frame of the open exchange was due to be sent again: there is one try more.
     Retried { client: ClientId, moment: u64 },
@@ -110,9 +111,10 @@ pub enum LocalChange {
     Advertised { moment: u64 },
 }
 
-/// The local state of a gateway: which address is which client, from which addresses a will is awaited,
-/// when which client was heard of, and when the gateway advertised itself. It begins empty, and is gone when
-/// the gateway stops. The bindings ascend by address, and no client has two; the timers ascend by client.
+/// The local state of a gateway: which address is which client, from which addresses a will is
+/// awaited, when which client was heard of, and when the gateway advertised itself. It begins
+/// empty, and is gone when the gateway stops. The bindings ascend by address, and no client has
+/// two; the timers ascend by client.
 #[derive(Debug, Drop)]
 pub struct Dialogs {
     bindings: Vec<Binding>,
@@ -131,7 +133,12 @@ impl Model for Dialogs {
     ghost Value = { Roomy };
 
     ghost view = { λ d. record {
-      local = record { bindings = d.bindings.items; dialogs = d.dialogs.items; timers = d.timers.items; advertised = d.advertised };
+      local = record {
+        bindings = d.bindings.items;
+        dialogs = d.dialogs.items;
+        timers = d.timers.items;
+        advertised = d.advertised;
+      };
       room = record {
         bindings = vec_capacity d.bindings - vec_len d.bindings;
         dialogs = vec_capacity d.dialogs - vec_len d.dialogs;
@@ -143,9 +150,9 @@ impl Model for Dialogs {
 }
 
 impl Dialogs {
-    ghost use Rattle.sn_local.specs.Bindings.{client_at as client_of, address_of as address_of_client};
-    ghost use Rattle.sn_local.specs.Timers.{timer_of as timer_of_client};
-    ghost use Rattle.sn_local.specs.WillDialogs.{dialog_at as dialog_of, is_crowded as has_no_room};
+    ghost use Rattle.sn_local.specs.Bindings as spec;
+    ghost use Rattle.sn_local.specs.Timers as timer_list;
+    ghost use Rattle.sn_local.specs.WillDialogs as dialog_list;
     ghost use Rattle.sn_local.specs.Locals.{after_all, no_local, owned, IsRoomFor};
     ghost use Rattle.sn_local.specs.Seen.{seen_of};
 
@@ -185,7 +192,8 @@ impl Dialogs {
         )
     }
 
-    /// Drops the bindings and the timers of clients that the gateway does not own. Will dialogs stay.
+    /// Drops the bindings and the timers of clients that the gateway does not own. Will dialogs
+    /// stay.
     pub fn keep_owned<R: Replica>(&mut self, gateway: u8, replica: &R)
         ensures { self.new.local ≡ owned gateway (seen_of (R.kept replica.now)) self.old.local }
     {
@@ -195,21 +203,21 @@ impl Dialogs {
 
     /// The client of an address. The time is logarithmic.
     pub fn client_at(&self, address: Addr) -> Option<&ClientId>
-        ensures { option_copied result ≡ client_of address self.now.local.bindings }
+        ensures { option_copied result ≡ spec.client_at address self.now.local.bindings }
     {
         client_at(self.bindings.as_slice(), address)
     }
 
     /// The address of a client. This walks the bindings: they are in no order of clients.
     pub fn address_of(&self, client: &ClientId) -> Option<Addr>
-        ensures { result ≡ address_of_client client.now self.now.local.bindings }
+        ensures { result ≡ spec.address_of client.now self.now.local.bindings }
     {
         address_of(self.bindings.as_slice(), client)
     }
 
     /// The timer of a client. The time is logarithmic.
     pub fn timer_of(&self, client: &ClientId) -> Option<&Timer>
-        ensures { option_copied result ≡ timer_of_client client.now self.now.local.timers }
+        ensures { option_copied result ≡ timer_list.timer_of client.now self.now.local.timers }
     {
         timer_of(self.timers.as_slice(), client)
     }
@@ -230,14 +238,14 @@ impl Dialogs {
 
     /// The will dialog of an address.
     pub fn dialog_at(&self, address: Addr) -> Option<&WillDialog>
-        ensures { option_copied result ≡ dialog_of address self.now.local.dialogs }
+        ensures { option_copied result ≡ dialog_list.dialog_at address self.now.local.dialogs }
     {
         dialog_at(self.dialogs.as_slice(), address)
     }
 
     /// Whether 1,024 other addresses have a will dialog, so that there is no room for one more.
     pub fn is_crowded(&self, address: Addr) -> bool
-        ensures { result ≡ has_no_room address self.now.local.dialogs }
+        ensures { result ≡ dialog_list.is_crowded address self.now.local.dialogs }
     {
         is_crowded(self.dialogs.as_slice(), address)
     }

@@ -3,9 +3,10 @@
 ghost use Rattle.std.specs.Prelude.{◌≡◌, ◌+◌, ◌≤◌, vec_len};
 ghost use Rattle.std.specs.Option.{option_copied};
 ghost use Rattle.std.specs.Vec.{vec_capacity};
-ghost use Rattle.sn_session.specs.inner.Tables.{IsPlace};
-ghost use Rattle.rep_ops.specs.Orders.{client_cmp};
-ghost use Rattle.sn_local.specs.Timers.{AreTimers, timed, timer_of as timer_of_client, heard_at as heard_timer, heard, one_try_more as try_more, sent_at as sent_timer, resent_at as resent_timer, retried_at as retried_timer, sent_anew, sent_again, tried_again, times_owned as times_owned_client, owned_timers};
+ghost use Rattle.sn_tables.specs.inner.Tables.{IsPlace};
+ghost use Rattle.rep_op.specs.Orders.{client_cmp};
+ghost use Rattle.sn_local.specs.Timers.{AreTimers, timed, heard, sent_anew, sent_again, tried_again, owned_timers};
+ghost use Rattle.sn_local.specs.Timers as spec;
 ghost use Rattle.sn_local.specs.Seen.{seen_of};
 
 use super::bindings::is_owned;
@@ -39,7 +40,7 @@ pub fn set_timer(timers: &mut Vec<Timer>, timer: Timer)
 /// The timer of a client. The time is logarithmic.
 pub fn timer_of<'a>(timers: &'a [Timer], client: &ClientId) -> Option<&'a Timer>
     requires { AreTimers timers.now }
-    ensures { option_copied result ≡ timer_of_client client.now timers.now }
+    ensures { option_copied result ≡ spec.timer_of client.now timers.now }
 {
     match place(timers, client) {
         Ok(at) => Some(&timers[at]),
@@ -49,7 +50,7 @@ pub fn timer_of<'a>(timers: &'a [Timer], client: &ClientId) -> Option<&'a Timer>
 
 /// The timer of a client that is heard of at this moment.
 fn heard_at(client: ClientId, moment: u64, before: Option<&Timer>) -> Timer
-    ensures { result ≡ heard_timer client moment (option_copied before.entry) }
+    ensures { result ≡ spec.heard_at client moment (option_copied before.entry) }
 {
     match before {
         None => Timer {
@@ -83,7 +84,7 @@ pub fn hear(timers: &mut Vec<Timer>, client: ClientId, moment: u64)
 
 /// The timer of a client whose frame is sent anew at this moment.
 fn sent_at(client: ClientId, moment: u64, before: Option<&Timer>) -> Timer
-    ensures { result ≡ sent_timer client moment (option_copied before.entry) }
+    ensures { result ≡ spec.sent_at client moment (option_copied before.entry) }
 {
     match before {
         None => Timer {
@@ -101,7 +102,8 @@ fn sent_at(client: ClientId, moment: u64, before: Option<&Timer>) -> Timer
     }
 }
 
-/// The first frame of a new exchange was sent to the client at this moment. There is room for one more timer.
+/// The first frame of a new exchange was sent to the client at this moment. There is room for one
+/// more timer.
 pub fn send_anew(timers: &mut Vec<Timer>, client: ClientId, moment: u64)
     requires room { vec_len timers.old + 1 ≤ vec_capacity timers.old }
     requires order { AreTimers timers.old.items }
@@ -117,7 +119,7 @@ pub fn send_anew(timers: &mut Vec<Timer>, client: ClientId, moment: u64)
 
 /// The timer of a client whose frame is sent again at this moment.
 fn resent_at(client: ClientId, moment: u64, before: Option<&Timer>) -> Timer
-    ensures { result ≡ resent_timer client moment (option_copied before.entry) }
+    ensures { result ≡ spec.resent_at client moment (option_copied before.entry) }
 {
     match before {
         None => Timer {
@@ -135,7 +137,8 @@ fn resent_at(client: ClientId, moment: u64, before: Option<&Timer>) -> Timer
     }
 }
 
-/// A frame of the open exchange was sent to the client again at this moment. There is room for one more timer.
+/// A frame of the open exchange was sent to the client again at this moment. There is room for one
+/// more timer.
 pub fn send_again(timers: &mut Vec<Timer>, client: ClientId, moment: u64)
     requires room { vec_len timers.old + 1 ≤ vec_capacity timers.old }
     requires order { AreTimers timers.old.items }
@@ -151,14 +154,14 @@ pub fn send_again(timers: &mut Vec<Timer>, client: ClientId, moment: u64)
 
 /// One try more; a timer counts to 255.
 fn one_try_more(tries: u8) -> u8
-    ensures { result ≡ try_more tries }
+    ensures { result ≡ spec.one_try_more tries }
 {
     if tries == 255 { 255 } else { tries + 1 }
 }
 
 /// The timer of a client with which there was one more try.
 fn retried_at(client: ClientId, moment: u64, before: Option<&Timer>) -> Timer
-    ensures { result ≡ retried_timer client moment (option_copied before.entry) }
+    ensures { result ≡ spec.retried_at client moment (option_copied before.entry) }
 {
     match before {
         None => Timer {
@@ -192,7 +195,7 @@ pub fn try_again(timers: &mut Vec<Timer>, client: ClientId, moment: u64)
 
 /// Whether the gateway owns the client of a timer.
 fn times_owned<R: Replica>(gateway: u8, replica: &R, timer: &Timer) -> bool
-    ensures { result ≡ times_owned_client gateway (seen_of (R.kept replica.now)) timer.now }
+    ensures { result ≡ spec.times_owned gateway (seen_of (R.kept replica.now)) timer.now }
 {
     is_owned(gateway, replica, &timer.client)
 }

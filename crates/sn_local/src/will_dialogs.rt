@@ -3,7 +3,8 @@
 ghost use Rattle.std.specs.Prelude.{◌≡◌, ◌+◌, ◌≤◌, length, vec_len};
 ghost use Rattle.std.specs.Option.{option_copied};
 ghost use Rattle.std.specs.Vec.{vec_capacity};
-ghost use Rattle.sn_local.specs.WillDialogs.{is_elsewhere as is_from_elsewhere, dialogs_elsewhere, asked, dialog_at as dialog_of_address, is_crowded as is_crowded_at};
+ghost use Rattle.sn_local.specs.WillDialogs.{dialogs_elsewhere, asked};
+ghost use Rattle.sn_local.specs.WillDialogs as spec;
 
 use super::config::Addr;
 use super::local::WillDialog;
@@ -13,7 +14,7 @@ pub const MAX_DIALOGS: usize = 1024;
 
 /// Whether a dialog is of another address.
 fn is_elsewhere(address: Addr, dialog: &WillDialog) -> bool
-    ensures { result ≡ is_from_elsewhere address dialog.now }
+    ensures { result ≡ spec.is_elsewhere address dialog.now }
 {
     dialog.request.address != address
 }
@@ -40,7 +41,7 @@ pub fn ask(dialogs: &mut Vec<WillDialog>, dialog: WillDialog)
 
 /// The dialog of an address.
 pub fn dialog_at(dialogs: &[WillDialog], address: Addr) -> Option<&WillDialog>
-    ensures { option_copied result ≡ dialog_of_address address dialogs.now }
+    ensures { option_copied result ≡ spec.dialog_at address dialogs.now }
 {
     for dialog in dialogs {
         if dialog.request.address == address {
@@ -65,7 +66,7 @@ fn count_elsewhere(dialogs: &[WillDialog], address: Addr) -> usize
 
 /// Whether 1,024 other addresses have a dialog, so that there is no room for one more.
 pub fn is_crowded(dialogs: &[WillDialog], address: Addr) -> bool
-    ensures { result ≡ is_crowded_at address dialogs.now }
+    ensures { result ≡ spec.is_crowded address dialogs.now }
 {
     count_elsewhere(dialogs, address) >= MAX_DIALOGS
 }

@@ -1,4 +1,5 @@
--- What a frame asks for by its flags and its topic field (MQTT-SN 1.2 sections 5.3.4, 5.3.11 and 5.3.12).
+-- What a frame asks for by its flags and its topic field (MQTT-SN 1.2 sections 5.3.4, 5.3.11 and
+-- 5.3.12).
 use Rattle.std.specs.Prelude.{ℕ, ◌+◌, ◌*◌, if◌then◌else◌, List, ◌∷◌, Option, Some, None}
 use Rattle.sn_topic.specs.Table.{Entries, name_of}
 use Rattle.sn_topic.specs.Topics.{is_name, is_filter}
@@ -38,7 +39,8 @@ abbrev pub id_in : List ℕ → ℕ
 id_in (high ∷ low ∷ rest) = high * 256 + low
 id_in octets = 0
 
--- the topics that a SUBSCRIBE or UNSUBSCRIBE asks for by a topic field of this type, or the code by which it is refused
+-- the topics that a SUBSCRIBE or UNSUBSCRIBE asks for by a topic field of this type, or the code by
+-- which it is refused
 abbrev pub topics_asked : Entries → TopicIdType → List ℕ → Asked
 topics_asked predefined kinds.Normal field = in_full field
 topics_asked predefined kinds.Predefined field = by_id (name_of (id_in field) predefined)

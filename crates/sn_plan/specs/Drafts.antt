@@ -8,8 +8,8 @@ use Rattle.sn_local.specs.declared.config.Send.{Send}
 use Rattle.sn_plan.specs.declared.draft.NewPut.{NewPut}
 use Rattle.sn_local.specs.declared.local.LocalChange.{LocalChange}
 
--- changes of one client's session, acknowledgements of its puts (sequence number and origin), messages for any client, frames,
--- changes of the local state
+-- changes of one client's session, acknowledgements of its puts (sequence number and origin),
+-- messages for any client, frames, changes of the local state
 pub record Drafted : Type 0 where
   pub changes : List SessionOp
   pub acks : List (ℕ × ℕ)

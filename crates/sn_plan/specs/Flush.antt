@@ -3,9 +3,9 @@ use Rattle.std.specs.Prelude.{◌≡◌, ℕ, ◌≤◌, true, List, ◌∷◌, 
 use Rattle.sn_session.specs.declared.session.Session.{Session}
 use Rattle.sn_session.specs.declared.change.SessionOp.{SessionOp}
 use Rattle.sn_session.specs.Session.{applied, empty_session}
-use Rattle.rep_ops.specs.declared.op.Stamp.{Stamp}
-use Rattle.rep_ops.specs.declared.op.Op.{Op}
-use Rattle.rep_ops.specs.Sets.{operation_at}
+use Rattle.rep_op.specs.declared.op.Stamp.{Stamp}
+use Rattle.rep_op.specs.declared.op.Op.{Op}
+use Rattle.rep_op.specs.Sets.{operation_at}
 use Rattle.rep_model.specs.declared.view.ClientView.{ClientView}
 use Rattle.rep_model.specs.Views.{visible, history, session_of}
 use Rattle.sn_plan.specs.Numbering.{Written}
@@ -13,21 +13,27 @@ use Rattle.sn_plan.specs.Numbering.{Written}
 abbrev pub stamp_of : ℕ → ℕ → Stamp
 stamp_of epoch g = record { epoch = epoch; gateway = g }
 
--- where the gateway owns the client, there is a session, and nothing stands at the visible stamp behind the prefix
+-- where the gateway owns the client, there is a session, and nothing stands at the visible stamp
+-- behind the prefix
 pub record IsFlush (g : ℕ) (c : List ℕ) (S : List Op) : Type 0 where
-  pub begun : (epoch : ℕ) → visible c S ≡ Some (stamp_of epoch g) → is_some (session_of (history c S)) ≡ true
-  pub nothing_behind : (epoch k : ℕ) → visible c S ≡ Some (stamp_of epoch g) → length (history c S) ≤ k → operation_at c S (stamp_of epoch g, k) ≡ None
+  pub begun : (epoch : ℕ) → visible c S ≡ Some (stamp_of epoch g)
+      → is_some (session_of (history c S)) ≡ true
+  pub nothing_behind : (epoch k : ℕ) → visible c S ≡ Some (stamp_of epoch g)
+      → length (history c S) ≤ k → operation_at c S (stamp_of epoch g, k) ≡ None
 
 -- and so for every client
 abbrev pub AreFlush : ℕ → List Op → Type 0
 AreFlush g S = (c : List ℕ) → IsFlush g c S
 
--- the session as seen, or the empty one, with these changes applied one after the other; without changes it is as it was
+-- the session as seen, or the empty one, with these changes applied one after the other; without
+-- changes it is as it was
 abbrev pub session_with : Option Session → List SessionOp → Option Session
 session_with seen [] = seen
-session_with seen (change ∷ rest) = Some (fold applied (unwrap_or seen empty_session) (change ∷ rest))
+session_with seen (change ∷ rest) =
+    Some (fold applied (unwrap_or seen empty_session) (change ∷ rest))
 
--- the view has what was written: the stamp under which the last change went, as many operations as its counter says, the session
+-- the view has what was written: the stamp under which the last change went, as many operations as
+-- its counter says, the session
 pub record Shows (g : ℕ) (w : Written) (v : ClientView) : Type 0 where
   pub stamp : v.stamp ≡ Some (stamp_of w.epoch g)
   pub prefix : v.prefix ≡ w.counter

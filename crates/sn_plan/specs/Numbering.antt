@@ -5,9 +5,9 @@ use Rattle.sn_session.specs.declared.session.Session.{Session}
 use Rattle.sn_session.specs.declared.change.SessionOp.{SessionOp}
 use Rattle.sn_session.specs.declared.change.SessionOp.TheVariants.{Take}
 use Rattle.sn_session.specs.Session.{applied, empty_session}
-use Rattle.rep_ops.specs.declared.op.Stamp.{Stamp}
-use Rattle.rep_ops.specs.declared.op.Op.{Op}
-use Rattle.rep_ops.specs.declared.op.Op.TheVariants.{Session as OfSession, Put as OfPut, Ack}
+use Rattle.rep_op.specs.declared.op.Stamp.{Stamp}
+use Rattle.rep_op.specs.declared.op.Op.{Op}
+use Rattle.rep_op.specs.declared.op.Op.TheVariants.{Session as OfSession, Put as OfPut, Ack}
 use Rattle.rep_model.specs.declared.view.ClientView.{ClientView}
 use Rattle.rep_model.specs.Fresh.{one_more}
 use Rattle.sn_plan.specs.declared.draft.NewPut.{NewPut}
@@ -15,8 +15,8 @@ use Rattle.sn_plan.specs.declared.plan.Plan.{Plan}
 use Rattle.sn_plan.specs.declared.numbering.TheConstants.{MAX_COUNTER}
 use Rattle.sn_plan.specs.Drafts.{Drafted}
 
--- where the client's next session operation is written (epoch and counter), the epoch of its next Take, the session so far, and
--- what is written
+-- where the client's next session operation is written (epoch and counter), the epoch of its next
+-- Take, the session so far, and what is written
 pub record Written : Type 0 where
   pub epoch : ℕ
   pub counter : ℕ
@@ -50,10 +50,12 @@ taken_at c g session w e =
 abbrev pub taken : List ℕ → ℕ → Session → Written → Option Written
 taken c g session w = option_map (taken_at c g session w) w.next
 
--- a change that is no Take; where 256 operations stand under the stamp, a Take of the session so far goes first
+-- a change that is no Take; where 256 operations stand under the stamp, a Take of the session so
+-- far goes first
 abbrev pub counted : List ℕ → ℕ → SessionOp → Written → Option Written
 counted c g change w =
-    if nat_lt w.counter MAX_COUNTER then Some (another c g change w) else option_map (another c g change) (taken c g w.session w)
+    if nat_lt w.counter MAX_COUNTER then Some (another c g change w)
+    else option_map (another c g change) (taken c g w.session w)
 
 -- one session operation more
 unfoldable pub write : List ℕ → ℕ → SessionOp → Written → Option Written
@@ -65,7 +67,8 @@ abbrev pub written : List ℕ → ℕ → List SessionOp → Written → Option 
 written c g [] w = Some w
 written c g (change ∷ rest) w = option_and_then (written c g rest) (write c g change w)
 
--- the next counter of the visible stamp where that is the gateway's own; else none, so that a Take has to go first
+-- the next counter of the visible stamp where that is the gateway's own; else none, so that a Take
+-- has to go first
 abbrev pub own_counter : ℕ → ℕ → Option Stamp → ℕ
 own_counter g prefix None = MAX_COUNTER
 own_counter g prefix (Some stamp) = if stamp.gateway == g then prefix else MAX_COUNTER
@@ -77,16 +80,24 @@ epoch_of (Some stamp) = stamp.epoch
 -- at the start of a step
 abbrev pub start_of : ℕ → ClientView → Option ℕ → Written
 start_of g v next =
-    record { epoch = epoch_of v.stamp; counter = own_counter g v.prefix v.stamp; next = next; session = unwrap_or v.session empty_session; ops = [] }
+    record {
+      epoch = epoch_of v.stamp;
+      counter = own_counter g v.prefix v.stamp;
+      next = next;
+      session = unwrap_or v.session empty_session;
+      ops = [];
+    }
 
 -- a message under a sequence number of the gateway's
 abbrev pub put_at_seq : ℕ → NewPut → ℕ → Op
-put_at_seq g p n = OfPut p.client (record { origin = g; seq = n; topic = p.topic; qos = p.qos; body = p.body })
+put_at_seq g p n =
+    OfPut p.client (record { origin = g; seq = n; topic = p.topic; qos = p.qos; body = p.body })
 
 -- the messages, each under the next sequence number of its client; one message a client
 abbrev pub with_puts : ℕ → (List ℕ → Option ℕ) → List NewPut → List Op → Option (List Op)
 with_puts g seq [] ops = Some ops
-with_puts g seq (p ∷ rest) ops = option_and_then (λ n. with_puts g seq rest (ops ++ put_at_seq g p n ∷ [])) (seq p.client)
+with_puts g seq (p ∷ rest) ops =
+    option_and_then (λ n. with_puts g seq rest (ops ++ put_at_seq g p n ∷ [])) (seq p.client)
 
 -- the acknowledgement of one put: of sequence number and origin
 abbrev pub ack_of : List ℕ → ℕ × ℕ → Op
@@ -96,9 +107,12 @@ abbrev pub plan_with : Drafted → List Op → Plan
 plan_with d ops = record { ops = ops; sends = d.sends; local = d.local }
 
 abbrev pub rest_of : ℕ → List ℕ → (List ℕ → Option ℕ) → Drafted → Written → Option Plan
-rest_of g c seq d w = option_map (plan_with d) (with_puts g seq d.puts (w.ops ++ map (ack_of c) d.acks))
+rest_of g c seq d w =
+    option_map (plan_with d) (with_puts g seq d.puts (w.ops ++ map (ack_of c) d.acks))
 
--- the plan of a draft for a client, by its view, its next epoch and the next sequence numbers; none where one of them is needed
--- and was the last
-unfoldable pub planned : ℕ → List ℕ → ClientView → Option ℕ → (List ℕ → Option ℕ) → Drafted → Option Plan
-planned g c v epoch seq d = option_and_then (rest_of g c seq d) (written c g d.changes (start_of g v epoch))
+-- the plan of a draft for a client, by its view, its next epoch and the next sequence numbers; none
+-- where one of them is needed and was the last
+unfoldable pub planned : ℕ → List ℕ → ClientView → Option ℕ → (List ℕ → Option ℕ) → Drafted
+    → Option Plan
+planned g c v epoch seq d =
+    option_and_then (rest_of g c seq d) (written c g d.changes (start_of g v epoch))

@@ -16,7 +16,8 @@ use Rattle.sn_plan.specs.Rows.{row_of_none, quiet, stray}
 abbrev pub searched : ℕ → Addr → Row
 searched g a = row_of_none (sent a (frames.GwInfo g []) nothing)
 
--- SEARCHGW, the frames that only go from a gateway to a client or between others, and every frame without a row of its own
+-- SEARCHGW, the frames that only go from a gateway to a client or between others, and every frame
+-- without a row of its own
 abbrev pub other : ℕ → Local → Addr → Frame → ℕ → Row
 other g local a (frames.SearchGw radius) now = searched g a
 other g local a (frames.Advertise gateway duration) now = quiet

@@ -2,9 +2,9 @@
 use Rattle.std.specs.Prelude.{◌≡◌, ℕ, ◌⊎◌, List, [], ◌∷◌, ◌++◌, Option, Some, None, Contains}
 use Rattle.std.specs.List.{AllByRecursion, filter_map}
 use Rattle.sn_session.specs.declared.change.SessionOp.{SessionOp}
-use Rattle.rep_ops.specs.declared.op.Op.{Op}
-use Rattle.rep_ops.specs.declared.op.Op.TheVariants.{Session as OfSession, Put as OfPut, Ack}
-use Rattle.rep_ops.specs.Sets.{operation_at, put_at}
+use Rattle.rep_op.specs.declared.op.Op.{Op}
+use Rattle.rep_op.specs.declared.op.Op.TheVariants.{Session as OfSession, Put as OfPut, Ack}
+use Rattle.rep_op.specs.Sets.{operation_at, put_at}
 use Rattle.rep_model.specs.Views.{pending_at}
 use Rattle.sn_plan.specs.declared.draft.NewPut.{NewPut}
 use Rattle.sn_plan.specs.declared.plan.Plan.{Plan}
@@ -14,7 +14,8 @@ use Rattle.sn_local.specs.Seen.{Seen}
 use Rattle.sn_plan.specs.Plans.{plan_of}
 use Rattle.sn_plan.specs.Flush.{stamp_of}
 
--- a session operation of the client under a stamp of the gateway; a message that the gateway made; an acknowledgement by the client
+-- a session operation of the client under a stamp of the gateway; a message that the gateway made;
+-- an acknowledgement by the client
 abbrev pub IsOwn : ℕ → List ℕ → Op → Type 0
 IsOwn g c (OfSession d stamp counter change) = (d ≡ c) × (stamp.gateway ≡ g)
 IsOwn g c (OfPut d put) = put.origin ≡ g
@@ -26,7 +27,10 @@ HasNoneOf g c D = (epoch counter : ℕ) → operation_at c D (stamp_of epoch g, 
 
 -- of the client's session operations under stamps of the gateway, D has none that S has not
 abbrev pub AddsNone : ℕ → List ℕ → List Op → List Op → Type 0
-AddsNone g c S D = (epoch counter : ℕ) (change : SessionOp) → operation_at c D (stamp_of epoch g, counter) ≡ Some change → operation_at c S (stamp_of epoch g, counter) ≡ Some change
+AddsNone g c S D =
+    (epoch counter : ℕ) (change : SessionOp)
+    → operation_at c D (stamp_of epoch g, counter) ≡ Some change
+    → operation_at c S (stamp_of epoch g, counter) ≡ Some change
 
 -- the set has nothing under the name of the session operation or message
 abbrev pub IsFresh : List Op → Op → Type 0
@@ -42,12 +46,14 @@ AreFresh S (op ∷ rest) = IsFresh S op × AreFresh (S ++ op ∷ []) rest
 -- messages for clients that are all different
 abbrev pub IsOneEach : List NewPut → Type 0
 IsOneEach [] = Unit {0}
-IsOneEach (p ∷ rest) = AllByRecursion (λ (q : NewPut). ¬ (q.client ≡ p.client)) rest × IsOneEach rest
+IsOneEach (p ∷ rest) =
+    AllByRecursion (λ (q : NewPut). ¬ (q.client ≡ p.client)) rest × IsOneEach rest
 
 -- the message of an operation, as the draft has it: without name
 abbrev pub message_of : Op → Option NewPut
 message_of (OfSession c stamp counter change) = None
-message_of (OfPut c put) = Some (record { client = c; topic = put.topic; qos = put.qos; body = put.body })
+message_of (OfPut c put) =
+    Some (record { client = c; topic = put.topic; qos = put.qos; body = put.body })
 message_of (Ack c origin first last) = None
 
 -- the messages of the operations, in their order
@@ -57,7 +63,9 @@ messages ops = filter_map message_of ops
 -- the message waits for its client; or the client acknowledges it by one of these names
 abbrev pub Waits : List Op → List ℕ → List (ℕ × ℕ) → Op → Type 0
 Waits S c acks (OfSession d stamp counter change) = Unit {0}
-Waits S c acks (OfPut d put) = (pending_at d S (put.seq, put.origin) ≡ Some put) ⊎ ((d ≡ c) × Contains acks (put.seq, put.origin))
+Waits S c acks (OfPut d put) =
+    (pending_at d S (put.seq, put.origin) ≡ Some put)
+    ⊎ ((d ≡ c) × Contains acks (put.seq, put.origin))
 Waits S c acks (Ack d origin first last) = Unit {0}
 
 -- the plan is that of a draft for a client, with at most one message for each client

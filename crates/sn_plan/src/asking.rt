@@ -1,13 +1,14 @@
-//! What a frame asks for by its flags and its topic field (MQTT-SN 1.2 sections 5.3.4, 5.3.11 and 5.3.12).
+//! What a frame asks for by its flags and its topic field (MQTT-SN 1.2 sections 5.3.4, 5.3.11 and
+//! 5.3.12).
 
 ghost use Rattle.std.specs.Prelude.{◌≡◌, IfOk};
 ghost use Rattle.std.specs.Option.{option_copied};
-ghost use Rattle.sn_plan.specs.Asking.{qos_asked as qos_level, name_asked as name_in, in_full as filter_in_full, in_short as filter_in_short, by_id as filter_by_id, id_in as id_in_field, topics_asked as asked_topics};
+ghost use Rattle.sn_plan.specs.Asking as spec;
 
 use super::codes::{INVALID_ID, NOT_SUPPORTED};
 use octets::NoMemory;
 use sn_frame::{Qos, TopicIdType};
-use sn_session::QosLevel;
+use sn_tables::QosLevel;
 use sn_topic::{Filter, Predefined, TopicFault, TopicName};
 use std::alloc::Global;
 
@@ -22,7 +23,7 @@ pub enum Asked {
 
 /// The quality of service that is asked for, if it is 0, 1 or 2.
 pub fn qos_asked(qos: Qos) -> Option<QosLevel>
-    ensures { result ≡ qos_level qos }
+    ensures { result ≡ spec.qos_asked qos }
 {
     match qos {
         Qos::Zero => Some(QosLevel::zero()),
@@ -34,7 +35,7 @@ pub fn qos_asked(qos: Qos) -> Option<QosLevel>
 
 /// The topic name of these octets, if they are one.
 pub fn name_asked(alloc: Global, octets: &[u8]) -> Result<Option<TopicName>, NoMemory>
-    ensures { IfOk result (λ name. name ≡ name_in octets.now) }
+    ensures { IfOk result (λ name. name ≡ spec.name_asked octets.now) }
 {
     match TopicName::new(alloc, octets) {
         Ok(name) => Ok(Some(name)),
@@ -45,7 +46,7 @@ pub fn name_asked(alloc: Global, octets: &[u8]) -> Result<Option<TopicName>, NoM
 
 /// The filter of these octets, if they are one.
 fn in_full(alloc: Global, octets: &[u8]) -> Result<Asked, NoMemory>
-    ensures { IfOk result (λ asked. asked ≡ filter_in_full octets.now) }
+    ensures { IfOk result (λ asked. asked ≡ spec.in_full octets.now) }
 {
     match Filter::new(alloc, octets) {
         Ok(filter) => Ok(Asked::Topics(filter)),
@@ -56,7 +57,7 @@ fn in_full(alloc: Global, octets: &[u8]) -> Result<Asked, NoMemory>
 
 /// The name of two octets, which has no wildcard.
 fn in_short(alloc: Global, octets: &[u8]) -> Result<Asked, NoMemory>
-    ensures { IfOk result (λ asked. asked ≡ filter_in_short octets.now) }
+    ensures { IfOk result (λ asked. asked ≡ spec.in_short octets.now) }
 {
     match name_asked(alloc, octets)? {
         None => Ok(Asked::Refused(NOT_SUPPORTED)),
@@ -66,7 +67,7 @@ fn in_short(alloc: Global, octets: &[u8]) -> Result<Asked, NoMemory>
 
 /// The name that a predefined id stands for.
 fn by_id(alloc: Global, name: Option<&TopicName>) -> Result<Asked, NoMemory>
-    ensures { IfOk result (λ asked. asked ≡ filter_by_id (option_copied name.entry)) }
+    ensures { IfOk result (λ asked. asked ≡ spec.by_id (option_copied name.entry)) }
 {
     match name {
         None => Ok(Asked::Refused(INVALID_ID)),
@@ -76,7 +77,7 @@ fn by_id(alloc: Global, name: Option<&TopicName>) -> Result<Asked, NoMemory>
 
 /// The topic id in a field of two octets.
 pub fn id_in(field: &[u8]) -> u16
-    ensures { result ≡ id_in_field field.now }
+    ensures { result ≡ spec.id_in field.now }
 {
     match field {
         [high, low, ..] => u16::from(*high) * 256 + u16::from(*low),
@@ -91,7 +92,7 @@ pub fn topics_asked(
     kind: TopicIdType,
     field: &[u8],
 ) -> Result<Asked, NoMemory>
-    ensures { IfOk result (λ asked. asked ≡ asked_topics predefined.now kind field.now) }
+    ensures { IfOk result (λ asked. asked ≡ spec.topics_asked predefined.now kind field.now) }
 {
     match kind {
         TopicIdType::Normal => in_full(alloc, field),

@@ -3,9 +3,11 @@
 ghost use Rattle.std.specs.Prelude.{◌≡◌, IfOk, OnOk};
 ghost use Rattle.std.specs.Option.{option_copied};
 ghost use Rattle.sn_session.specs.Session.{empty_session};
-ghost use Rattle.rep_model.specs.Views.{view, unseen as unseen_view};
+ghost use Rattle.rep_model.specs.Views.{view};
+ghost use Rattle.rep_model.specs.Views as views;
 ghost use Rattle.sn_local.specs.Seen.{seen_of};
-ghost use Rattle.sn_plan.specs.Bound.{bound_to, heard_of, session_of as session_seen};
+ghost use Rattle.sn_plan.specs.Bound.{bound_to, heard_of};
+ghost use Rattle.sn_plan.specs.Bound as spec;
 
 use super::draft::Draft;
 use octets::NoMemory;
@@ -15,7 +17,8 @@ use sn_local::{Addr, LocalChange, Timer};
 use sn_session::Session;
 use std::alloc::Global;
 
-/// And then the address and the client belong together, and the client's timer begins at this moment.
+/// And then the address and the client belong together, and the client's timer begins at this
+/// moment.
 pub fn bind_to(
     alloc: Global,
     draft: &mut Draft,
@@ -59,7 +62,7 @@ pub fn hear_of(
 
 /// The view of a client that no operation names.
 pub fn unseen(alloc: Global) -> ClientView
-    ensures { result ≡ unseen_view }
+    ensures { result ≡ views.unseen }
 {
     ClientView {
         stamp: None,
@@ -75,7 +78,7 @@ pub fn view_or<'a, R: Replica>(
     client: &ClientId,
     otherwise: &'a ClientView,
 ) -> &'a ClientView
-    requires { otherwise.now ≡ unseen_view }
+    requires { otherwise.now ≡ views.unseen }
     ensures { result.now ≡ view client.now (R.kept replica.now) }
 {
     match replica.view_of(client) {
@@ -91,7 +94,7 @@ pub fn session_or<'a, R: Replica>(
     otherwise: &'a Session,
 ) -> &'a Session
     requires { otherwise.now ≡ empty_session }
-    ensures { result.now ≡ session_seen (seen_of (R.kept replica.now)) client.now }
+    ensures { result.now ≡ spec.session_of (seen_of (R.kept replica.now)) client.now }
 {
     match replica.view_of(client) {
         Some(view) => match &view.session {

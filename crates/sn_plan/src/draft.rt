@@ -10,7 +10,8 @@ use octets::{NoMemory, Octets};
 use rep_ops::{ClientId, Put};
 use sn_frame::{Frame, encode};
 use sn_local::{Addr, LocalChange, Send};
-use sn_session::{Message, QosLevel, SessionOp};
+use sn_session::{Message, SessionOp};
+use sn_tables::QosLevel;
 use sn_topic::TopicName;
 use std::alloc::{AllocError, Global};
 use std::marker::Model;
@@ -44,7 +45,13 @@ impl Model for Draft {
 
     ghost Value = { Drafted };
 
-    ghost view = { λ d. record { changes = d.changes.items; acks = d.acks.items; puts = d.puts.items; sends = d.sends.items; local = d.local.items } };
+    ghost view = { λ d. record {
+      changes = d.changes.items;
+      acks = d.acks.items;
+      puts = d.puts.items;
+      sends = d.sends.items;
+      local = d.local.items;
+    } };
 }
 
 impl Draft {

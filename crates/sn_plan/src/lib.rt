@@ -1,9 +1,9 @@
 //! What a row of the step table may say, and the plan that it becomes.
 //!
-//! A *row* says what changes, as a draft: session changes of one client, acknowledgements, puts, frames, local changes; and what
-//! follows it. *Numbering* turns the draft into operations under names of the gateway's own. The *plan* is the result:
-//! operations, frames to send, local changes. Nothing of it is done here: who carries it out keeps the operations before a
-//! frame is sent.
+//! A *row* says what changes, as a draft: session changes of one client, acknowledgements, puts,
+//! frames, local changes; and what follows it. *Numbering* turns the draft into operations under
+//! names of the gateway's own. The *plan* is the result: operations, frames to send, local changes.
+//! Nothing of it is done here: who carries it out keeps the operations before a frame is sent.
 //!
 //! - `draft`, `row`: what a row says (`Draft`, `Row`); `bound`: of a client that is bound.
 //! - `numbering`, `plan`: from a draft to a plan (`Plan`).

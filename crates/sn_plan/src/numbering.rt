@@ -1,7 +1,8 @@
 //! From a draft to operations under names of the gateway's own.
 
 ghost use Rattle.std.specs.Prelude.{◌≡◌, ℕ, ◌<◌, ◌∷◌, ◌++◌, [], Some, OnOk, IfOk, map};
-ghost use Rattle.rep_model.specs.Fresh.{one_more as next_number, next_seq};
+ghost use Rattle.rep_model.specs.Fresh.{next_seq};
+ghost use Rattle.rep_model.specs.Fresh as spec;
 ghost use Rattle.sn_session.specs.Session.{applied};
 ghost use Rattle.sn_plan.specs.declared.numbering.TheConstants.{MAX_COUNTER};
 ghost use Rattle.sn_plan.specs.Numbering.{with_puts, ack_of};
@@ -12,7 +13,8 @@ use octets::NoMemory;
 use rep_model::{ClientView, Replica};
 use rep_ops::{ClientId, Op, Put, Stamp};
 use sn_local::StepFault;
-use sn_session::{Session, SessionFault, SessionOp};
+use sn_session::{Session, SessionOp};
+use sn_tables::SessionFault;
 use std::alloc::{AllocError, Global};
 use std::marker::Model;
 
@@ -34,7 +36,13 @@ impl Model for Writer {
 
     ghost Value = { Written };
 
-    ghost view = { λ w. record { epoch = w.epoch; counter = w.counter; next = w.next; session = w.session; ops = w.ops.items } };
+    ghost view = { λ w. record {
+      epoch = w.epoch;
+      counter = w.counter;
+      next = w.next;
+      session = w.session;
+      ops = w.ops.items;
+    } };
 }
 
 /// Changes the session. An operation that finds its table full leaves it as it was.
@@ -56,7 +64,7 @@ fn push(ops: &mut Vec<Op>, op: Op) -> Result<(), AllocError>
 
 /// One more, where it fits eight octets.
 fn one_more(n: u64) -> Option<u64>
-    ensures { result ≡ next_number n }
+    ensures { result ≡ spec.one_more n }
 {
     n.checked_add(1)
 }
@@ -171,8 +179,8 @@ impl Writer {
         Ok(())
     }
 
-    /// A change that is no Take; where 256 operations stand under the stamp, a Take of the session so
-    /// far goes first.
+    /// A change that is no Take; where 256 operations stand under the stamp, a Take of the session
+    /// so far goes first.
     fn counted(
         &mut self,
         alloc: Global,

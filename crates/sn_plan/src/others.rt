@@ -1,7 +1,7 @@
 //! Frames that no other row is for, and which clients are there.
 
 ghost use Rattle.std.specs.Prelude.{◌≡◌, IfOk};
-ghost use Rattle.sn_plan.specs.Others.{searched as searched_row, other as other_row, is_up as is_up_at, can_wake as can_wake_at};
+ghost use Rattle.sn_plan.specs.Others as spec;
 ghost use Rattle.rep_model.specs.Views.{view};
 
 use super::draft::Draft;
@@ -16,7 +16,7 @@ use std::alloc::Global;
 
 /// A SEARCHGW.
 fn searched(alloc: Global, config: &Config, to: Addr) -> Result<Row, NoMemory>
-    ensures { IfOk result (λ row. row ≡ searched_row config.now.gateway to) }
+    ensures { IfOk result (λ row. row ≡ spec.searched config.now.gateway to) }
 {
     let address = Octets::new(Vec::new(alloc))?;
     let answer = Frame::GwInfo {
@@ -27,8 +27,8 @@ fn searched(alloc: Global, config: &Config, to: Addr) -> Result<Row, NoMemory>
     Ok(Row::of_none(draft))
 }
 
-/// SEARCHGW, the frames that only go from a gateway to a client or between others, and every frame that no
-/// other call is for.
+/// SEARCHGW, the frames that only go from a gateway to a client or between others, and every frame
+/// that no other call is for.
 pub fn other(
     alloc: Global,
     config: &Config,
@@ -37,7 +37,7 @@ pub fn other(
     frame: &Frame,
     now: u64,
 ) -> Result<Row, NoMemory>
-    ensures { IfOk result (λ row. row ≡ other_row config.now.gateway dialogs.now.local from
+    ensures { IfOk result (λ row. row ≡ spec.other config.now.gateway dialogs.now.local from
         frame.now now) }
 {
     match frame {
@@ -57,7 +57,7 @@ pub fn other(
 
 /// Whether a client is there: Active, Asleep or Awake.
 pub fn is_up(presence: Presence) -> bool
-    ensures { result ≡ is_up_at presence }
+    ensures { result ≡ spec.is_up presence }
 {
     match presence {
         Presence::Active => true,
@@ -70,7 +70,7 @@ pub fn is_up(presence: Presence) -> bool
 
 /// Whether the client is there, so that a PINGREQ wakes it.
 pub fn can_wake<R: Replica>(replica: &R, client: &ClientId) -> bool
-    ensures { result ≡ can_wake_at (view client.now (R.kept replica.now)).session }
+    ensures { result ≡ spec.can_wake (view client.now (R.kept replica.now)).session }
 {
     match replica.view_of(client) {
         Some(view) => match &view.session {

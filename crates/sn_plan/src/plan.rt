@@ -6,7 +6,8 @@ ghost use Rattle.rep_model.specs.Views.{view};
 ghost use Rattle.rep_model.specs.Fresh.{next_epoch, next_seq};
 ghost use Rattle.sn_plan.specs.Numbering.{start_of, with_puts, ack_of, plan_with};
 ghost use Rattle.sn_local.specs.Seen.{seen_of};
-ghost use Rattle.sn_plan.specs.Plans.{Gives, plan_of as defined_plan, plan_without as defined_without, plan_of_puts as plan_of_messages};
+ghost use Rattle.sn_plan.specs.Plans.{Gives};
+ghost use Rattle.sn_plan.specs.Plans as spec;
 
 use super::draft::Draft;
 use super::numbering::{Writer, append_acks, number_puts};
@@ -82,7 +83,7 @@ pub fn plan_of<R: Replica>(
     client: &ClientId,
     mut draft: Draft,
 ) -> Result<Plan, StepFault>
-    ensures { Gives result (defined_plan gateway client.now (seen_of (R.kept replica.now)) draft) }
+    ensures { Gives result (spec.plan_of gateway client.now (seen_of (R.kept replica.now)) draft) }
 {
     if draft.changes_nothing() {
         return rest_of(alloc, gateway, replica, client, Vec::new(alloc), draft);
@@ -100,7 +101,7 @@ pub fn plan_of_puts<R: Replica>(
     replica: &R,
     draft: Draft,
 ) -> Result<Plan, StepFault>
-    ensures { Gives result (plan_of_messages gateway (seen_of (R.kept replica.now)) draft) }
+    ensures { Gives result (spec.plan_of_puts gateway (seen_of (R.kept replica.now)) draft) }
 {
     let Draft {
         changes: _,
@@ -120,7 +121,7 @@ pub fn plan_of_puts<R: Replica>(
 
 /// The plan of a draft without changes, acknowledgements and puts.
 pub fn plan_without(alloc: Global, draft: Draft) -> Plan
-    ensures { result ≡ defined_without draft }
+    ensures { result ≡ spec.plan_without draft }
 {
     let Draft {
         changes: _,

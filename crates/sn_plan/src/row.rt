@@ -4,7 +4,8 @@ ghost use Rattle.std.specs.Prelude.{◌≡◌, IfOk};
 ghost use Rattle.std.specs.Option.{option_copied};
 ghost use Rattle.sn_local.specs.Seen.{seen_of};
 ghost use Rattle.sn_plan.specs.Plans.{Gives};
-ghost use Rattle.sn_plan.specs.Rows.{heard_row as row_heard, plan_of_row as plan_with_row, quiet as nothing_done, turned_away, stray as stray_row};
+ghost use Rattle.sn_plan.specs.Rows.{turned_away};
+ghost use Rattle.sn_plan.specs.Rows as spec;
 
 use super::bound::hear_of;
 use super::draft::Draft;
@@ -23,15 +24,16 @@ pub enum Follow {
     Nothing,
     /// The client is sent the messages that wait for it (MQTT-SN 1.2 sections 6.6, 6.10 and 6.14).
     Delivery,
-    /// The frame of the client's open exchange is sent again (section 6.13); without one, as `Delivery`.
+    /// The frame of the client's open exchange is sent again (section 6.13); without one, as
+    /// `Delivery`.
     Resend,
 }
 
 /// What a frame does, before its operations have names.
 #[derive(Debug, Drop)]
 pub struct Row {
-    /// Whose session changes, and who is served by what follows. Where it is nobody the draft has messages, frames and local
-    /// changes alone.
+    /// Whose session changes, and who is served by what follows. Where it is nobody the draft has
+    /// messages, frames and local changes alone.
     pub client: Option<ClientId>,
     /// What is done.
     pub draft: Draft,
@@ -77,7 +79,7 @@ pub fn heard_row(
     now: u64,
     mut row: Row,
 ) -> Result<Row, NoMemory>
-    ensures { IfOk result (λ heard. heard ≡ row_heard (option_copied bound.entry) now row) }
+    ensures { IfOk result (λ heard. heard ≡ spec.heard_row (option_copied bound.entry) now row) }
 {
     hear_of(alloc, &mut row.draft, bound, now)?;
     Ok(row)
@@ -90,7 +92,7 @@ pub fn plan_of_row<R: Replica>(
     replica: &R,
     row: Row,
 ) -> Result<Plan, StepFault>
-    ensures { Gives result (plan_with_row gateway (seen_of (R.kept replica.now)) row) }
+    ensures { Gives result (spec.plan_of_row gateway (seen_of (R.kept replica.now)) row) }
 {
     let Row {
         client,
@@ -105,7 +107,7 @@ pub fn plan_of_row<R: Replica>(
 
 /// Nothing is done.
 pub fn quiet(alloc: Global) -> Row
-    ensures { result ≡ nothing_done }
+    ensures { result ≡ spec.quiet }
 {
     Row::of_none(Draft::new(alloc))
 }
@@ -120,7 +122,7 @@ pub fn turn_away(alloc: Global, to: Addr) -> Result<Row, NoMemory>
 
 /// A frame that nothing waits for: a bound client was heard of, another address is turned away.
 pub fn stray(alloc: Global, from: Addr, bound: Option<&ClientId>, now: u64) -> Result<Row, NoMemory>
-    ensures { IfOk result (λ row. row ≡ stray_row from (option_copied bound.entry) now) }
+    ensures { IfOk result (λ row. row ≡ spec.stray from (option_copied bound.entry) now) }
 {
     match bound {
         None => turn_away(alloc, from),

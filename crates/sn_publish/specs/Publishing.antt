@@ -3,12 +3,12 @@ use Rattle.std.specs.Prelude.{ℕ, ◌/◌, ◌%◌, if◌then◌else◌, List, 
 use Rattle.std.specs.Option.{option_map}
 use Rattle.sn_topic.specs.Table.{Entries, name_of}
 use Rattle.sn_session.specs.declared.session.Session.{Session}
-use Rattle.sn_session.specs.declared.topics.TopicEntry.{TopicEntry}
+use Rattle.sn_tables.specs.declared.topics.TopicEntry.{TopicEntry}
 use Rattle.sn_session.specs.declared.change.SessionOp.{SessionOp}
 use Rattle.sn_session.specs.declared.change.SessionOp.TheVariants.{Received, Released}
 use Rattle.sn_session.specs.Session.{empty_session}
-use Rattle.sn_session.specs.Topics.{topic_of}
-use Rattle.sn_session.specs.Received.{is_received, id_has_no_room}
+use Rattle.sn_tables.specs.Topics.{topic_of}
+use Rattle.sn_tables.specs.Received.{is_received, id_has_no_room}
 use Rattle.sn_frame.specs.declared.flags.Qos.{Qos}
 use Rattle.sn_frame.specs.declared.flags.Qos.TheVariants as levels
 use Rattle.sn_frame.specs.declared.flags.TopicIdType.{TopicIdType}
@@ -36,10 +36,12 @@ short_name topic = topic / 256 ∷ topic % 256 ∷ []
 abbrev pub entry_name : TopicEntry → List ℕ
 entry_name entry = entry.name
 
--- the topic that a topic field of this type stands for: by an id of the session, whether the client was told it or not, by a
--- predefined id, or by a short name; code 3, not supported, where the type has no meaning
+-- the topic that a topic field of this type stands for: by an id of the session, whether the client
+-- was told it or not, by a predefined id, or by a short name; code 3, not supported, where the type
+-- has no meaning
 abbrev pub topic_meant : Entries → Session → TopicIdType → ℕ → Meant
-topic_meant predefined s kinds.Normal topic = named (option_map entry_name (topic_of topic s.topics))
+topic_meant predefined s kinds.Normal topic =
+    named (option_map entry_name (topic_of topic s.topics))
 topic_meant predefined s kinds.Predefined topic = named (name_of topic predefined)
 topic_meant predefined s kinds.Short topic = named (name_asked (short_name topic))
 topic_meant predefined s kinds.Reserved topic = Refused 3
@@ -51,7 +53,8 @@ within_limit body (Topic name) = if is_too_long body then Refused 3 else Topic n
 
 -- what a PUBLISH is about
 abbrev pub publication_meant : Entries → Session → ℕ → ℕ → List ℕ → Meant
-publication_meant predefined s bits topic body = within_limit body (topic_meant predefined s (kind_of bits) topic)
+publication_meant predefined s bits topic body =
+    within_limit body (topic_meant predefined s (kind_of bits) topic)
 
 -- at most once: the recipients get it
 abbrev pub spread : Seen → List ℕ → List ℕ → Drafted
@@ -59,15 +62,17 @@ spread seen name body = put_all (puts_for seen name 0 body) nothing
 
 -- at least once: the recipients get it, and PUBACK says so
 abbrev pub spread_once : Seen → Addr → ℕ → ℕ → List ℕ → List ℕ → Drafted
-spread_once seen a topic msg_id body name = sent a (frames.PubAck topic msg_id 0) (put_all (puts_for seen name 1 body) nothing)
+spread_once seen a topic msg_id body name =
+    sent a (frames.PubAck topic msg_id 0) (put_all (puts_for seen name 1 body) nothing)
 
--- exactly once: where the message id was received and not released yet, the recipients have got it; PUBREC says so. Code 1,
--- congestion, where 256 message ids are
+-- exactly once: where the message id was received and not released yet, the recipients have got it;
+-- PUBREC says so. Code 1, congestion, where 256 message ids are
 abbrev pub spread_twice : Seen → Addr → Session → ℕ → ℕ → List ℕ → List ℕ → Drafted
 spread_twice seen a s topic msg_id body name =
     if is_received msg_id s.received then sent a (frames.PubRec msg_id) nothing
     else (if id_has_no_room msg_id s.received then sent a (frames.PubAck topic msg_id 1) nothing
-    else sent a (frames.PubRec msg_id) (changed (Received msg_id) (put_all (puts_for seen name 2 body) nothing)))
+    else sent a (frames.PubRec msg_id)
+    (changed (Received msg_id) (put_all (puts_for seen name 2 body) nothing)))
 
 abbrev pub publish_at : Seen → Addr → Session → ℕ → ℕ → List ℕ → List ℕ → Qos → Drafted
 publish_at seen a s topic msg_id body name levels.Zero = spread seen name body
@@ -77,21 +82,26 @@ publish_at seen a s topic msg_id body name levels.MinusOne = spread seen name bo
 
 -- a refusal is a PUBACK with the code, at every quality of service
 abbrev pub publish_meant : Seen → Addr → Session → ℕ → ℕ → List ℕ → Qos → Meant → Drafted
-publish_meant seen a s topic msg_id body qos (Refused code) = sent a (frames.PubAck topic msg_id code) nothing
-publish_meant seen a s topic msg_id body qos (Topic name) = publish_at seen a s topic msg_id body name qos
+publish_meant seen a s topic msg_id body qos (Refused code) =
+    sent a (frames.PubAck topic msg_id code) nothing
+publish_meant seen a s topic msg_id body qos (Topic name) =
+    publish_at seen a s topic msg_id body name qos
 
 -- PUBLISH of a connected client
 abbrev pub publish : Entries → Seen → Addr → Session → ℕ → ℕ → ℕ → List ℕ → Drafted
 publish predefined seen a s bits topic msg_id body =
-    publish_meant seen a s topic msg_id body (qos_of bits) (publication_meant predefined s bits topic body)
+    publish_meant seen a s topic msg_id body (qos_of bits)
+    (publication_meant predefined s bits topic body)
 
 abbrev pub spread_meant : Seen → List ℕ → Meant → Drafted
 spread_meant seen body (Refused code) = nothing
 spread_meant seen body (Topic name) = spread seen name body
 
--- PUBLISH without a connection, by a predefined id or a short name: the recipients get it, at most once, and nothing is answered
+-- PUBLISH without a connection, by a predefined id or a short name: the recipients get it, at most
+-- once, and nothing is answered
 abbrev pub publish_unconnected : Entries → Seen → ℕ → ℕ → List ℕ → Drafted
-publish_unconnected predefined seen bits topic body = spread_meant seen body (publication_meant predefined empty_session bits topic body)
+publish_unconnected predefined seen bits topic body =
+    spread_meant seen body (publication_meant predefined empty_session bits topic body)
 
 -- the change of the session, where the message id was received
 abbrev pub release : Session → ℕ → Option SessionOp

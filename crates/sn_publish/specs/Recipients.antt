@@ -5,26 +5,30 @@ use Rattle.std.specs.List.{filter_map}
 use Rattle.sn_session.specs.declared.presence.Presence.{Presence}
 use Rattle.sn_session.specs.declared.session.Session.{Session}
 use Rattle.sn_session.specs.declared.will.Will.{Will}
-use Rattle.sn_session.specs.Subscriptions.{subscribed_qos}
-use Rattle.rep_ops.specs.declared.op.Put.{Put}
-use Rattle.rep_ops.specs.Sets.{same_client}
+use Rattle.sn_tables.specs.Subscriptions.{subscribed_qos}
+use Rattle.rep_op.specs.declared.op.Put.{Put}
+use Rattle.rep_op.specs.Sets.{same_client}
 use Rattle.rep_model.specs.declared.view.ClientView.{ClientView}
 use Rattle.sn_plan.specs.declared.draft.NewPut.{NewPut}
 use Rattle.sn_local.specs.Seen.{Seen}
 use Rattle.sn_plan.specs.Others.{is_up}
 use Rattle.sn_publish.specs.declared.recipients.TheConstants.{MAX_PENDING}
 
--- at this quality of service, where fewer than 1,024 messages wait for the client, and where it is Active, Asleep or Awake or gets
--- the message at least once
+-- at this quality of service, where fewer than 1,024 messages wait for the client, and where it is
+-- Active, Asleep or Awake or gets the message at least once
 abbrev pub admitted : List Put → Presence → ℕ → Option ℕ
-admitted pending presence qos = if nat_lt (length pending) MAX_PENDING && (is_up presence || nat_lt 0 qos) then Some qos else None
+admitted pending presence qos =
+    if nat_lt (length pending) MAX_PENDING && (is_up presence || nat_lt 0 qos) then Some qos
+    else None
 
--- the effective quality of service is the smaller of that of the publication and the one subscribed to
+-- the effective quality of service is the smaller of that of the publication and the one subscribed
+-- to
 abbrev pub qos_at : List Put → ℕ → Session → ℕ → Option ℕ
 qos_at pending qos s asked = admitted pending s.presence (min qos asked)
 
 abbrev pub qos_in : List Put → List ℕ → ℕ → Session → Option ℕ
-qos_in pending topic qos s = option_and_then (qos_at pending qos s) (subscribed_qos topic s.subscriptions)
+qos_in pending topic qos s =
+    option_and_then (qos_at pending qos s) (subscribed_qos topic s.subscriptions)
 
 -- the quality of service at which a client gets the publication; none where it is no recipient
 abbrev pub qos_for : List ℕ → ℕ → ClientView → Option ℕ
@@ -34,7 +38,8 @@ abbrev pub message_for : List ℕ → List ℕ → List ℕ → ℕ → NewPut
 message_for topic body c qos = record { client = c; topic = topic; qos = qos; body = body }
 
 abbrev pub put_for : Seen → List ℕ → ℕ → List ℕ → List ℕ → Option NewPut
-put_for seen topic qos body c = option_map (message_for topic body c) (qos_for topic qos (seen.of c))
+put_for seen topic qos body c =
+    option_map (message_for topic body c) (qos_for topic qos (seen.of c))
 
 -- a message for each recipient among these clients, in their order
 abbrev pub puts_among : Seen → List (List ℕ) → List ℕ → ℕ → List ℕ → List NewPut
@@ -49,4 +54,5 @@ is_another c d = not (same_client d c)
 
 -- a message for each recipient of a will, but not for the client whose will it is
 abbrev pub puts_of_will : Seen → List ℕ → Will → List NewPut
-puts_of_will seen c will = puts_among seen (filter (is_another c) seen.all) will.topic will.qos will.message
+puts_of_will seen c will =
+    puts_among seen (filter (is_another c) seen.all) will.topic will.qos will.message

@@ -2,9 +2,10 @@
 
 ghost use Rattle.std.specs.Prelude.{◌≡◌, IfOk};
 ghost use Rattle.std.specs.Option.{option_copied, option_map};
-ghost use Rattle.sn_publish.specs.Publishing.{named as named_topic, entry_name, short_name as name_in_field, topic_meant as meant_topic};
-ghost use Rattle.sn_plan.specs.Asking.{name_asked as name_in};
-ghost use Rattle.sn_session.specs.Topics.{topic_of};
+ghost use Rattle.sn_publish.specs.Publishing.{entry_name};
+ghost use Rattle.sn_publish.specs.Publishing as spec;
+ghost use Rattle.sn_plan.specs.Asking as asking;
+ghost use Rattle.sn_tables.specs.Topics.{topic_of};
 
 use octets::NoMemory;
 use sn_frame::TopicIdType;
@@ -24,7 +25,7 @@ pub enum Meant {
 
 /// The topic of this name.
 fn named(alloc: Global, name: Option<&TopicName>) -> Result<Meant, NoMemory>
-    ensures { IfOk result (λ meant. meant ≡ named_topic (option_copied name.entry)) }
+    ensures { IfOk result (λ meant. meant ≡ spec.named (option_copied name.entry)) }
 {
     match name {
         None => Ok(Meant::Refused(2)),
@@ -34,7 +35,7 @@ fn named(alloc: Global, name: Option<&TopicName>) -> Result<Meant, NoMemory>
 
 /// The topic of an id of the session.
 fn by_entry(alloc: Global, session: &Session, id: u16) -> Result<Meant, NoMemory>
-    ensures { IfOk result (λ meant. meant ≡ named_topic
+    ensures { IfOk result (λ meant. meant ≡ spec.named
         (option_map entry_name (topic_of id session.now.topics))) }
 {
     match session.topic_of(id) {
@@ -45,7 +46,8 @@ fn by_entry(alloc: Global, session: &Session, id: u16) -> Result<Meant, NoMemory
 
 /// The topic of a short name.
 fn by_short(alloc: Global, topic: u16) -> Result<Meant, NoMemory>
-    ensures { IfOk result (λ meant. meant ≡ named_topic (name_in (name_in_field topic))) }
+    ensures { IfOk result
+        (λ meant. meant ≡ spec.named (asking.name_asked (spec.short_name topic))) }
 {
     let octets = [(topic / 256) as u8, (topic % 256) as u8];
     match name_asked(alloc, &octets)? {
@@ -54,8 +56,8 @@ fn by_short(alloc: Global, topic: u16) -> Result<Meant, NoMemory>
     }
 }
 
-/// The topic that a topic field of this type stands for (MQTT-SN 1.2 section 5.3.11): `Refused` with code 2 where it stands for
-/// none, and with code 3 where the type has no meaning.
+/// The topic that a topic field of this type stands for (MQTT-SN 1.2 section 5.3.11): `Refused`
+/// with code 2 where it stands for none, and with code 3 where the type has no meaning.
 pub fn topic_meant(
     alloc: Global,
     predefined: &Predefined,
@@ -63,7 +65,8 @@ pub fn topic_meant(
     kind: TopicIdType,
     topic: u16,
 ) -> Result<Meant, NoMemory>
-    ensures { IfOk result (λ meant. meant ≡ meant_topic predefined.now session.now kind topic) }
+    ensures { IfOk result
+        (λ meant. meant ≡ spec.topic_meant predefined.now session.now kind topic) }
 {
     match kind {
         TopicIdType::Normal => by_entry(alloc, session, topic),

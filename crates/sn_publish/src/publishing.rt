@@ -4,8 +4,8 @@ ghost use Rattle.std.specs.Prelude.{◌≡◌, IfOk, OnOk};
 ghost use Rattle.sn_local.specs.Seen.{seen_of};
 ghost use Rattle.sn_plan.specs.Drafts.{nothing, put_all, sent};
 ghost use Rattle.sn_frame.specs.declared.frame.Frame.TheVariants.{PubAck, PubRec};
-ghost use Rattle.sn_publish.specs.Recipients.{puts_for as puts_for_all};
-ghost use Rattle.sn_publish.specs.Publishing.{spread as spread_draft, spread_once as spread_once_draft, spread_twice as spread_twice_draft, publish_at as publish_draft_at, publish_meant as publish_draft_meant, within_limit as meant_within, publish as publish_draft, spread_meant as spread_draft_meant, publish_unconnected as unconnected_draft, release as release_change, pubrel as pubrel_draft};
+ghost use Rattle.sn_publish.specs.Recipients as recipients;
+ghost use Rattle.sn_publish.specs.Publishing as spec;
 
 use super::meaning::{Meant, topic_meant};
 use super::recipients::puts_for;
@@ -14,7 +14,8 @@ use rep_model::Replica;
 use sn_frame::{Flags, Frame, Qos};
 use sn_local::Addr;
 use sn_plan::Draft;
-use sn_session::{Message, QosLevel, Session, SessionOp};
+use sn_session::{Message, Session, SessionOp};
+use sn_tables::QosLevel;
 use sn_topic::{Predefined, TopicName};
 use std::alloc::Global;
 
@@ -26,7 +27,8 @@ fn puts_draft<R: Replica>(
     qos: QosLevel,
     body: &Message,
 ) -> Result<Draft, NoMemory>
-    ensures { IfOk result (λ draft. draft ≡ put_all (puts_for_all (seen_of (R.kept replica.now))
+    ensures { IfOk result
+        (λ draft. draft ≡ put_all (recipients.puts_for (seen_of (R.kept replica.now))
         name.now qos body.now) nothing) }
 {
     let puts = puts_for(alloc, replica, name, qos, body)?;
@@ -42,7 +44,7 @@ fn spread<R: Replica>(
     name: &TopicName,
     body: &Message,
 ) -> Result<Draft, NoMemory>
-    ensures { IfOk result (λ draft. draft ≡ spread_draft (seen_of (R.kept replica.now))
+    ensures { IfOk result (λ draft. draft ≡ spec.spread (seen_of (R.kept replica.now))
         name.now body.now) }
 {
     puts_draft(alloc, replica, name, QosLevel::zero(), body)
@@ -80,7 +82,7 @@ fn spread_once<R: Replica>(
     body: &Message,
     name: &TopicName,
 ) -> Result<Draft, NoMemory>
-    ensures { IfOk result (λ draft. draft ≡ spread_once_draft (seen_of (R.kept replica.now)) to
+    ensures { IfOk result (λ draft. draft ≡ spec.spread_once (seen_of (R.kept replica.now)) to
         topic_id msg_id body.now name.now) }
 {
     let mut draft = puts_draft(alloc, replica, name, QosLevel::one(), body)?;
@@ -95,7 +97,8 @@ fn spread_once<R: Replica>(
     }
 }
 
-/// Exactly once: the recipients get it, where they have not got it under this message id, and PUBREC says so.
+/// Exactly once: the recipients get it, where they have not got it under this message id, and
+/// PUBREC says so.
 fn spread_twice<R: Replica>(
     alloc: Global,
     replica: &R,
@@ -106,7 +109,7 @@ fn spread_twice<R: Replica>(
     body: &Message,
     name: &TopicName,
 ) -> Result<Draft, NoMemory>
-    ensures { IfOk result (λ draft. draft ≡ spread_twice_draft (seen_of (R.kept replica.now)) to
+    ensures { IfOk result (λ draft. draft ≡ spec.spread_twice (seen_of (R.kept replica.now)) to
         session.now topic_id msg_id body.now name.now) }
 {
     if session.is_received(msg_id) {
@@ -133,7 +136,7 @@ fn publish_at<R: Replica>(
     name: &TopicName,
     qos: Qos,
 ) -> Result<Draft, NoMemory>
-    ensures { IfOk result (λ draft. draft ≡ publish_draft_at (seen_of (R.kept replica.now)) to
+    ensures { IfOk result (λ draft. draft ≡ spec.publish_at (seen_of (R.kept replica.now)) to
         session.now topic_id msg_id body.now name.now qos) }
 {
     match qos {
@@ -156,8 +159,8 @@ fn publish_meant<R: Replica>(
     qos: Qos,
     meant: Meant,
 ) -> Result<Draft, NoMemory>
-    ensures { IfOk result (λ draft. draft ≡ publish_draft_meant (seen_of (R.kept replica.now)) to
-        session.now topic_id msg_id body.now qos (meant_within body.now meant)) }
+    ensures { IfOk result (λ draft. draft ≡ spec.publish_meant (seen_of (R.kept replica.now)) to
+        session.now topic_id msg_id body.now qos (spec.within_limit body.now meant)) }
 {
     match meant {
         Meant::Refused(code) => puback(alloc, to, topic_id, msg_id, code),
@@ -170,8 +173,8 @@ fn publish_meant<R: Replica>(
     }
 }
 
-/// PUBLISH of a connected client: the recipients get a message, and the client an answer at the quality of service that it
-/// asks for, or a refusal by PUBACK.
+/// PUBLISH of a connected client: the recipients get a message, and the client an answer at the
+/// quality of service that it asks for, or a refusal by PUBACK.
 pub fn publish<R: Replica>(
     alloc: Global,
     predefined: &Predefined,
@@ -183,7 +186,7 @@ pub fn publish<R: Replica>(
     msg_id: u16,
     body: &Octets,
 ) -> Result<Draft, NoMemory>
-    ensures { IfOk result (λ draft. draft ≡ publish_draft predefined.now
+    ensures { IfOk result (λ draft. draft ≡ spec.publish predefined.now
         (seen_of (R.kept replica.now)) to session.now flags.bits topic msg_id body.now) }
 {
     let meant = topic_meant(alloc, predefined, session, flags.kind(), topic)?;
@@ -200,15 +203,16 @@ pub fn publish<R: Replica>(
     )
 }
 
-/// A publication without a connection, on what its topic field is about. A message of more than 4,096 octets is for nobody.
+/// A publication without a connection, on what its topic field is about. A message of more than
+/// 4,096 octets is for nobody.
 fn spread_meant<R: Replica>(
     alloc: Global,
     replica: &R,
     body: &Octets,
     meant: Meant,
 ) -> Result<Draft, NoMemory>
-    ensures { IfOk result (λ draft. draft ≡ spread_draft_meant (seen_of (R.kept replica.now))
-        body.now (meant_within body.now meant)) }
+    ensures { IfOk result (λ draft. draft ≡ spec.spread_meant (seen_of (R.kept replica.now))
+        body.now (spec.within_limit body.now meant)) }
 {
     match meant {
         Meant::Refused(_) => Ok(Draft::new(alloc)),
@@ -219,8 +223,8 @@ fn spread_meant<R: Replica>(
     }
 }
 
-/// PUBLISH without a connection, by a predefined id or a short name. The recipients get it at most once, and nothing is
-/// answered.
+/// PUBLISH without a connection, by a predefined id or a short name. The recipients get it at most
+/// once, and nothing is answered.
 pub fn publish_unconnected<R: Replica>(
     alloc: Global,
     predefined: &Predefined,
@@ -229,7 +233,7 @@ pub fn publish_unconnected<R: Replica>(
     topic: u16,
     body: &Octets,
 ) -> Result<Draft, NoMemory>
-    ensures { IfOk result (λ draft. draft ≡ unconnected_draft predefined.now
+    ensures { IfOk result (λ draft. draft ≡ spec.publish_unconnected predefined.now
         (seen_of (R.kept replica.now)) flags.bits topic body.now) }
 {
     let session = Session::empty(alloc);
@@ -239,7 +243,7 @@ pub fn publish_unconnected<R: Replica>(
 
 /// The change of the session, where the message id was received.
 fn release(session: &Session, msg_id: u16) -> Option<SessionOp>
-    ensures { result ≡ release_change session.now msg_id }
+    ensures { result ≡ spec.release session.now msg_id }
 {
     if session.is_received(msg_id) {
         Some(SessionOp::Released { id: msg_id })
@@ -250,7 +254,7 @@ fn release(session: &Session, msg_id: u16) -> Option<SessionOp>
 
 /// PUBREL: the client will not send the message of this id again. PUBCOMP is always the answer.
 pub fn pubrel(alloc: Global, to: Addr, session: &Session, msg_id: u16) -> Result<Draft, NoMemory>
-    ensures { IfOk result (λ draft. draft ≡ pubrel_draft to session.now msg_id) }
+    ensures { IfOk result (λ draft. draft ≡ spec.pubrel to session.now msg_id) }
 {
     let mut draft = Draft::new(alloc);
     draft.change_if(release(session, msg_id))?;

@@ -1,26 +1,30 @@
-//! Who gets a publication, and at which quality of service (MQTT-SN 1.2 section 6.10). A publication goes from candidate to
-//! candidate, and passes over clients that are not subscribed to its topic.
+//! Who gets a publication, and at which quality of service (MQTT-SN 1.2 section 6.10). A
+//! publication goes from candidate to candidate, and passes over clients that are not subscribed to
+//! its topic.
 
 ghost use Rattle.std.specs.Prelude.{◌≡◌, filter, IfOk};
 ghost use Rattle.std.specs.Option.{option_map};
 ghost use Rattle.sn_local.specs.Seen.{seen_of};
 ghost use Rattle.rep_model.specs.Views.{view};
-ghost use Rattle.sn_publish.specs.Recipients.{admitted as qos_admitted, qos_at as qos_at_asked, qos_in as qos_in_session, qos_for as qos_for_view, message_for, put_for as put_for_client, puts_among as puts_among_clients, puts_for as puts_for_all, is_another as is_another_client, puts_of_will as puts_of_this_will};
+ghost use Rattle.sn_publish.specs.Recipients.{message_for};
+ghost use Rattle.sn_publish.specs.Recipients as spec;
 
 use octets::NoMemory;
 use rep_model::{ClientView, Replica};
 use rep_ops::{ClientId, Put};
 use sn_plan::{NewPut, is_up};
-use sn_session::{Message, Presence, QosLevel, Session, Will};
+use sn_session::{Message, Presence, Session, Will};
+use sn_tables::QosLevel;
 use sn_topic::TopicName;
 use std::alloc::Global;
 
 /// How many messages may wait for a client before it is no recipient any more.
 pub const MAX_PENDING: usize = 1024;
 
-/// At this quality of service, where there is room and the client is there or gets the message at least once.
+/// At this quality of service, where there is room and the client is there or gets the message at
+/// least once.
 fn admitted(pending: &[Put], presence: Presence, qos: QosLevel) -> Option<QosLevel>
-    ensures { result ≡ qos_admitted pending.now presence qos }
+    ensures { result ≡ spec.admitted pending.now presence qos }
 {
     if pending.len() < MAX_PENDING && (is_up(presence) || 0 < qos.number()) {
         Some(qos)
@@ -31,14 +35,14 @@ fn admitted(pending: &[Put], presence: Presence, qos: QosLevel) -> Option<QosLev
 
 /// At the smaller of the two qualities of service.
 fn qos_at(pending: &[Put], qos: QosLevel, session: &Session, asked: QosLevel) -> Option<QosLevel>
-    ensures { result ≡ qos_at_asked pending.now qos session.now asked }
+    ensures { result ≡ spec.qos_at pending.now qos session.now asked }
 {
     admitted(pending, session.presence, qos.min(asked))
 }
 
 /// At the quality of service that the client subscribed to, at most.
 fn qos_in(pending: &[Put], topic: &TopicName, qos: QosLevel, session: &Session) -> Option<QosLevel>
-    ensures { result ≡ qos_in_session pending.now topic.now qos session.now }
+    ensures { result ≡ spec.qos_in pending.now topic.now qos session.now }
 {
     match session.subscribed_qos(topic) {
         None => None,
@@ -48,7 +52,7 @@ fn qos_in(pending: &[Put], topic: &TopicName, qos: QosLevel, session: &Session) 
 
 /// The quality of service at which a client gets the publication; nothing where it is no recipient.
 fn qos_for(topic: &TopicName, qos: QosLevel, view: &ClientView) -> Option<QosLevel>
-    ensures { result ≡ qos_for_view topic.now qos view.now }
+    ensures { result ≡ spec.qos_for topic.now qos view.now }
 {
     match &view.session {
         None => None,
@@ -67,7 +71,7 @@ fn put_at(
 ) -> Result<Option<NewPut>, NoMemory>
     ensures { IfOk result (λ put.
         put ≡ option_map (message_for topic.now body.now client.now)
-        (qos_for_view topic.now qos view.now)) }
+        (spec.qos_for topic.now qos view.now)) }
 {
     match qos_for(topic, qos, view) {
         None => Ok(None),
@@ -80,8 +84,8 @@ fn put_at(
     }
 }
 
-/// A message for each recipient of the publication, in the order of the clients. Only candidates are asked: whoever the
-/// replica passes over is not subscribed, and is no recipient.
+/// A message for each recipient of the publication, in the order of the clients. Only candidates
+/// are asked: whoever the replica passes over is not subscribed, and is no recipient.
 pub fn puts_for<R: Replica>(
     alloc: Global,
     replica: &R,
@@ -89,7 +93,7 @@ pub fn puts_for<R: Replica>(
     qos: QosLevel,
     body: &Message,
 ) -> Result<Vec<NewPut>, NoMemory>
-    ensures { IfOk result (λ puts. puts.items ≡ puts_for_all (seen_of (R.kept replica.now))
+    ensures { IfOk result (λ puts. puts.items ≡ spec.puts_for (seen_of (R.kept replica.now))
         topic.now qos body.now) }
 {
     let mut puts = Vec::new(alloc);
@@ -112,7 +116,7 @@ fn put_for<R: Replica>(
     body: &Message,
     client: &ClientId,
 ) -> Result<Option<NewPut>, NoMemory>
-    ensures { IfOk result (λ put. put ≡ put_for_client (seen_of (R.kept replica.now)) topic.now
+    ensures { IfOk result (λ put. put ≡ spec.put_for (seen_of (R.kept replica.now)) topic.now
         qos body.now client.now) }
 {
     match replica.view_of(client) {
@@ -130,7 +134,7 @@ fn puts_among<R: Replica>(
     qos: QosLevel,
     body: &Message,
 ) -> Result<Vec<NewPut>, NoMemory>
-    ensures { IfOk result (λ puts. puts.items ≡ puts_among_clients (seen_of (R.kept replica.now))
+    ensures { IfOk result (λ puts. puts.items ≡ spec.puts_among (seen_of (R.kept replica.now))
         clients.items topic.now qos body.now) }
 {
     let mut puts = Vec::new(alloc);
@@ -144,14 +148,14 @@ fn puts_among<R: Replica>(
 
 /// Whether it is another client.
 fn is_another(client: &ClientId, other: &ClientId) -> bool
-    ensures { result ≡ is_another_client client.now other.now }
+    ensures { result ≡ spec.is_another client.now other.now }
 {
     *other != *client
 }
 
 /// Leaves a client out.
 fn leave_out(clients: &mut Vec<ClientId>, client: &ClientId)
-    ensures { clients.new.items ≡ filter (is_another_client client.now) clients.old.items }
+    ensures { clients.new.items ≡ filter (spec.is_another client.now) clients.old.items }
 {
     clients.retain(|other| is_another(client, other));
 }
@@ -163,7 +167,7 @@ pub fn puts_of_will<R: Replica>(
     client: &ClientId,
     will: &Will,
 ) -> Result<Vec<NewPut>, NoMemory>
-    ensures { IfOk result (λ puts. puts.items ≡ puts_of_this_will (seen_of (R.kept replica.now))
+    ensures { IfOk result (λ puts. puts.items ≡ spec.puts_of_will (seen_of (R.kept replica.now))
         client.now will.now) }
 {
     let Ok(mut clients) = replica.clients(alloc) else {

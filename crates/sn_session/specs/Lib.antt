@@ -1,10 +1,3 @@
-pub mod Fault
-pub mod Tables
-pub mod Topics
-pub mod Subscriptions
-pub mod Received
 pub mod Messages
-pub mod Levels
 pub mod Wills
 pub mod Session
-pub mod inner

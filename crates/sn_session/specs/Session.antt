@@ -4,15 +4,25 @@ use Rattle.sn_session.specs.declared.presence.Presence.TheVariants.{Active}
 use Rattle.sn_session.specs.declared.session.Session.{Session}
 use Rattle.sn_session.specs.declared.change.SessionOp.{SessionOp}
 use Rattle.sn_session.specs.declared.change.SessionOp.TheVariants.{Take, Presence as SetPresence, Register, Subscribe, Unsubscribe, WillTopic, WillMsg, Received, Released, Outbound}
-use Rattle.sn_session.specs.Topics.{with_topic, topic_has_no_room}
-use Rattle.sn_session.specs.Subscriptions.{with_subscription, without_filter, filter_has_no_room}
-use Rattle.sn_session.specs.Received.{with_received, without_received, id_has_no_room}
+use Rattle.sn_tables.specs.Topics.{with_topic, topic_has_no_room}
+use Rattle.sn_tables.specs.Subscriptions.{with_subscription, without_filter, filter_has_no_room}
+use Rattle.sn_tables.specs.Received.{with_received, without_received, id_has_no_room}
 use Rattle.sn_session.specs.Wills.{with_will_topic, with_will_message}
 
 -- the session of a client of which nothing is known
 abbrev pub empty_session : Session
 empty_session =
-    record { presence = Active; clean = false; duration = 0; next_id = 1; topics = []; subscriptions = []; will = None; received = []; outbound = None }
+    record {
+      presence = Active;
+      clean = false;
+      duration = 0;
+      next_id = 1;
+      topics = [];
+      subscriptions = [];
+      will = None;
+      received = [];
+      outbound = None;
+    }
 
 -- whether the operation finds the table full that it would make grow
 abbrev pub is_full : Session → SessionOp → Bool
@@ -30,17 +40,26 @@ is_full session (Outbound exchange next_id) = false
 -- the session after one more operation that finds room
 abbrev pub changed : Session → SessionOp → Session
 changed session (Take taken) = taken
-changed session (SetPresence presence duration) = record session { presence = presence; duration = duration }
+changed session (SetPresence presence duration) =
+    record session { presence = presence; duration = duration }
 changed session (Register id name known) =
-    record session { topics = with_topic (record { id = id; name = name; known = known }) session.topics }
+    record session {
+      topics = with_topic
+          (record { id = id; name = name; known = known }) session.topics;
+    }
 changed session (Subscribe filter qos) =
-    record session { subscriptions = with_subscription (record { filter = filter; qos = qos }) session.subscriptions }
-changed session (Unsubscribe filter) = record session { subscriptions = without_filter filter session.subscriptions }
+    record session {
+      subscriptions = with_subscription
+          (record { filter = filter; qos = qos }) session.subscriptions;
+    }
+changed session (Unsubscribe filter) =
+    record session { subscriptions = without_filter filter session.subscriptions }
 changed session (WillTopic asked) = record session { will = with_will_topic asked session.will }
 changed session (WillMsg message) = record session { will = with_will_message message session.will }
 changed session (Received id) = record session { received = with_received id session.received }
 changed session (Released id) = record session { received = without_received id session.received }
-changed session (Outbound exchange next_id) = record session { outbound = exchange; next_id = next_id }
+changed session (Outbound exchange next_id) =
+    record session { outbound = exchange; next_id = next_id }
 
 -- the session after one more operation: one that finds its table full leaves the session as it was
 abbrev pub applied : Session → SessionOp → Session

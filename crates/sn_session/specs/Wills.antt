@@ -3,11 +3,14 @@ use Rattle.std.specs.Prelude.{ℕ, List, [], Option, Some, None}
 use Rattle.sn_session.specs.declared.will.Will.{Will}
 use Rattle.sn_session.specs.declared.will.WillTopic.{WillTopic}
 
--- the will for this topic: a new one has an empty message, one that is there keeps its message; no topic deletes it
+-- the will for this topic: a new one has an empty message, one that is there keeps its message; no
+-- topic deletes it
 abbrev pub with_will_topic : Option WillTopic → Option Will → Option Will
 with_will_topic None will = None
-with_will_topic (Some asked) None = Some (record { topic = asked.topic; qos = asked.qos; retain = asked.retain; message = [] })
-with_will_topic (Some asked) (Some will) = Some (record will { topic = asked.topic; qos = asked.qos; retain = asked.retain })
+with_will_topic (Some asked) None =
+    Some (record { topic = asked.topic; qos = asked.qos; retain = asked.retain; message = [] })
+with_will_topic (Some asked) (Some will) =
+    Some (record will { topic = asked.topic; qos = asked.qos; retain = asked.retain })
 
 -- the will with this message, if there is a will
 abbrev pub with_will_message : List ℕ → Option Will → Option Will

@@ -4,13 +4,12 @@ ghost use Rattle.std.specs.Prelude.{◌≡◌, ◌↔◌, IfOk, OnOk, OnErr, IsE
 ghost use Rattle.sn_session.specs.Session.{applied, is_full, is_take};
 
 use super::message::Message;
-use crate::fault::SessionFault;
 use crate::outbound::Outbound;
 use crate::presence::Presence;
-use crate::qos_level::QosLevel;
 use crate::session::Session;
 use crate::will::{WillTopic, set_message, set_topic};
 use octets::NoMemory;
+use sn_tables::{QosLevel, SessionFault};
 use sn_topic::{Filter, TopicName};
 use std::alloc::Global;
 
@@ -51,7 +50,8 @@ pub enum SessionOp {
     Released {
         id: u16,
     },
-    /// The gateway began an exchange, took it further or ended it; the next one has this message id.
+    /// The gateway began an exchange, took it further or ended it; the next one has this message
+    /// id.
     Outbound {
         exchange: Option<Outbound>,
         next_id: u16,
@@ -122,8 +122,8 @@ impl Session {
         }
     }
 
-    /// Changes the session by one operation. `Full` exactly where a table of 256 entries would grow. On an error the
-    /// session is as it was.
+    /// Changes the session by one operation. `Full` exactly where a table of 256 entries would
+    /// grow. On an error the session is as it was.
     pub fn apply(&mut self, alloc: Global, change: &SessionOp) -> Result<(), SessionFault>
         ensures ok { OnOk result (self.new ≡ applied self.old change.now) }
         ensures err { OnErr result (self.new ≡ self.old) }

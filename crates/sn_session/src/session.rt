@@ -2,19 +2,15 @@
 
 ghost use Rattle.std.specs.Prelude.{◌≡◌, ◌≤◌, IfOk, IfErr, IfSome, option_copied};
 ghost use Rattle.sn_session.specs.Session.{empty_session};
-ghost use Rattle.sn_session.specs.Topics.{topic_of, topic_named, topic_id, free_id, IsLeastUnused, IsLeastIdOf};
-ghost use Rattle.sn_session.specs.Subscriptions.{qos_of, asked_qos, subscribed_qos, IsGreatest};
-ghost use Rattle.sn_session.specs.Received.{is_received};
+ghost use Rattle.sn_tables.specs.Topics.{topic_of, topic_named, topic_id, free_id, IsLeastUnused, IsLeastIdOf};
+ghost use Rattle.sn_tables.specs.Subscriptions.{qos_of, asked_qos, subscribed_qos, IsGreatest};
+ghost use Rattle.sn_tables.specs.Received.{is_received};
 
-use crate::fault::SessionFault;
 use crate::outbound::Outbound;
 use crate::presence::Presence;
-use crate::qos_level::QosLevel;
-use crate::received::Received;
-use crate::subscriptions::Subscriptions;
-use crate::topics::{TopicEntry, Topics};
 use crate::will::Will;
 use octets::NoMemory;
+use sn_tables::{QosLevel, Received, SessionFault, Subscriptions, TopicEntry, Topics};
 use sn_topic::{Filter, TopicName};
 use std::alloc::Global;
 
@@ -81,7 +77,8 @@ impl Session {
         self.topics.topic_id(name)
     }
 
-    /// The least topic id from 1 on that is not in use; nothing where 256 are. So it is at most 257.
+    /// The least topic id from 1 on that is not in use; nothing where 256 are. So it is at most
+    /// 257.
     pub fn free_id(&self) -> Option<u16>
         ensures value { result ≡ free_id self.now.topics }
         ensures least { IfSome result (IsLeastUnused self.now.topics) }
@@ -97,7 +94,8 @@ impl Session {
         self.subscriptions.qos_of(filter)
     }
 
-    /// The greatest quality of service of the filters that ask for a topic; nothing where none does.
+    /// The greatest quality of service of the filters that ask for a topic; nothing where none
+    /// does.
     pub fn subscribed_qos(&self, name: &TopicName) -> Option<QosLevel>
         ensures value { result ≡ subscribed_qos name.now self.now.subscriptions }
         ensures greatest { IfSome result (IsGreatest (asked_qos name.now self.now.subscriptions)) }
@@ -133,7 +131,7 @@ impl Session {
         })
     }
 
-    /// The same, where want of memory is a fault of this crate.
+    /// The same, where want of memory is a `SessionFault`.
     pub fn copy(&self, alloc: Global) -> Result<Session, SessionFault>
         ensures ok { IfOk result (λ made. made ≡ self.now) }
         ensures err { IfErr result (λ fault. fault ≡ SessionFault.Memory) }

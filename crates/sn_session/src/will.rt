@@ -4,8 +4,8 @@ ghost use Rattle.std.specs.Prelude.{◌≡◌, IfOk, OnOk, OnErr};
 ghost use Rattle.sn_session.specs.Wills.{with_will_topic, with_will_message};
 
 use super::message::Message;
-use super::qos_level::QosLevel;
 use octets::NoMemory;
+use sn_tables::QosLevel;
 use sn_topic::TopicName;
 use std::alloc::Global;
 
@@ -60,8 +60,8 @@ impl Will {
     }
 }
 
-/// Sets the topic of a will: a new will has an empty message, one that is there keeps its message. No topic deletes
-/// the will. On an error it is as it was.
+/// Sets the topic of a will: a new will has an empty message, one that is there keeps its message.
+/// No topic deletes the will. On an error it is as it was.
 pub fn set_topic(
     will: &mut Option<Will>,
     alloc: Global,

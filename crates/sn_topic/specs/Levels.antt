@@ -41,4 +41,5 @@ asks_for_one level = not (has_wildcard level) || is_plus level
 abbrev pub wildcards_stand_alone : List (List ℕ) → Bool
 wildcards_stand_alone [] = true
 wildcards_stand_alone (level ∷ []) = asks_for_one level || is_hash level
-wildcards_stand_alone (level ∷ next ∷ more) = asks_for_one level && wildcards_stand_alone (next ∷ more)
+wildcards_stand_alone (level ∷ next ∷ more) =
+    asks_for_one level && wildcards_stand_alone (next ∷ more)

@@ -1,7 +1,8 @@
 //! Topic filters.
 
 ghost use Rattle.std.specs.Prelude.{◌≡◌, ◌≢◌, ◌<◌, ◌↔◌, [], length, Err, IfOk, IfErr, IsErrOf, IsFalse};
-ghost use Rattle.sn_topic.specs.Levels.{levels, has_wildcard as any_wildcard, begins_with_wildcard as wildcard_first, wildcards_stand_alone as stand_test};
+ghost use Rattle.sn_topic.specs.Levels.{levels};
+ghost use Rattle.sn_topic.specs.Levels as spec;
 ghost use Rattle.sn_topic.specs.declared.level.TheConstants.{MAX_TOPIC};
 ghost use Rattle.sn_topic.specs.Topics.{IsTopicSize, IsFilter};
 
@@ -11,8 +12,8 @@ use octets::{NoMemory, Octets};
 use std::alloc::Global;
 use std::marker::Model;
 
-/// Which topics a client asks for: 1 to 256 octets, in which a wildcard stands alone in its level and
-/// `#` in the last level only. Contracts see it as the list of its octets.
+/// Which topics a client asks for: 1 to 256 octets, in which a wildcard stands alone in its level
+/// and `#` in the last level only. Contracts see it as the list of its octets.
 #[derive(Debug, Drop)]
 pub struct Filter {
     octets: Octets,
@@ -36,7 +37,7 @@ impl Filter {
         ensures empty { IsErrOf result TopicFault.Empty ↔ (octets.now ≡ []) }
         ensures too_long { IsErrOf result TopicFault.TooLong ↔ (MAX_TOPIC < length octets.now) }
         ensures wildcard { IsErrOf result TopicFault.Wildcard
-            ↔ (IsTopicSize octets.now × IsFalse (stand_test (levels octets.now))) }
+            ↔ (IsTopicSize octets.now × IsFalse (spec.wildcards_stand_alone (levels octets.now))) }
         ensures memory { IsErrOf result TopicFault.Memory → IsFilter octets.now }
         ensures no_id { result ≢ Err TopicFault.Id }
     {
@@ -63,14 +64,14 @@ impl Filter {
 
     /// Whether a wildcard stands in it.
     pub fn has_wildcard(&self) -> bool
-        ensures { result ≡ any_wildcard self.now }
+        ensures { result ≡ spec.has_wildcard self.now }
     {
         has_wildcard(self.octets.as_slice())
     }
 
     /// Whether its first octet is a wildcard.
     pub fn begins_with_wildcard(&self) -> bool
-        ensures { result ≡ wildcard_first self.now }
+        ensures { result ≡ spec.begins_with_wildcard self.now }
     {
         begins_with_wildcard(self.octets.as_slice())
     }

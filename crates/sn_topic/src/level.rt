@@ -1,28 +1,29 @@
 //! The levels of a topic, read from its octets.
 
 ghost use Rattle.std.specs.Prelude.{◌≡◌, ◌<◌, ◌∷◌, [], ◌==◌, length, position, MatchOption};
-ghost use Rattle.sn_topic.specs.Levels.{levels, is_wildcard as wildcard_test, has_wildcard as any_wildcard, begins_with_wildcard as wildcard_first, is_plus as plus_test, is_hash as hash_test, asks_for_one as one_test, wildcards_stand_alone as stand_test};
+ghost use Rattle.sn_topic.specs.Levels.{levels};
+ghost use Rattle.sn_topic.specs.Levels as spec;
 
 /// The most octets that a topic may have.
 pub const MAX_TOPIC: usize = 256;
 
 /// Whether an octet is `+` or `#`.
 fn is_wildcard(octet: u8) -> bool
-    ensures { result ≡ wildcard_test octet }
+    ensures { result ≡ spec.is_wildcard octet }
 {
     octet == b'+' || octet == b'#'
 }
 
 /// Whether `+` or `#` stands among the octets.
 pub fn has_wildcard(octets: &[u8]) -> bool
-    ensures { result ≡ any_wildcard octets.now }
+    ensures { result ≡ spec.has_wildcard octets.now }
 {
     octets.iter().any(|octet| is_wildcard(*octet))
 }
 
 /// Whether the first octet is `+` or `#`.
 pub fn begins_with_wildcard(octets: &[u8]) -> bool
-    ensures { result ≡ wildcard_first octets.now }
+    ensures { result ≡ spec.begins_with_wildcard octets.now }
 {
     match octets {
         [] => false,
@@ -32,14 +33,14 @@ pub fn begins_with_wildcard(octets: &[u8]) -> bool
 
 /// Whether a level is `+` alone.
 pub fn is_plus(level: &[u8]) -> bool
-    ensures { result ≡ plus_test level.now }
+    ensures { result ≡ spec.is_plus level.now }
 {
     level == b"+".as_slice()
 }
 
 /// Whether a level is `#` alone.
 pub fn is_hash(level: &[u8]) -> bool
-    ensures { result ≡ hash_test level.now }
+    ensures { result ≡ spec.is_hash level.now }
 {
     level == b"#".as_slice()
 }
@@ -54,7 +55,8 @@ fn slash_at(octets: &[u8]) -> Option<usize>
 /// The first level of a topic, and what stands behind the slash that ends it.
 pub fn first_level(octets: &[u8]) -> (&[u8], Option<&[u8]>)
     ensures { MatchOption result.1 (levels octets.now ≡ result.0.now ∷ [])
-        (λ rest. (length rest.now < length octets.now) × (levels octets.now ≡ result.0.now ∷ levels rest.now)) }
+        (λ rest. (length rest.now < length octets.now)
+        × (levels octets.now ≡ result.0.now ∷ levels rest.now)) }
 {
     match slash_at(octets) {
         None => (octets, None),
@@ -64,14 +66,14 @@ pub fn first_level(octets: &[u8]) -> (&[u8], Option<&[u8]>)
 
 /// Whether a level without `#` stands there: no wildcard, or `+` alone.
 fn asks_for_one(level: &[u8]) -> bool
-    ensures { result ≡ one_test level.now }
+    ensures { result ≡ spec.asks_for_one level.now }
 {
     !has_wildcard(level) || is_plus(level)
 }
 
 /// Whether each wildcard stands alone in its level, and `#` in the last level only.
 pub fn wildcards_stand_alone(octets: &[u8]) -> bool
-    ensures { result ≡ stand_test (levels octets.now) }
+    ensures { result ≡ spec.wildcards_stand_alone (levels octets.now) }
 {
     let mut left = octets;
     loop {

@@ -2,8 +2,8 @@
 //! 5.3.11, 5.3.12 and 6.7).
 //!
 //! A topic is a row of levels with `/` between them. `TopicName` is the name of one topic, `Filter`
-//! may have the wildcards `+` (any one level) and `#` (all levels that are left), and `matches` says
-//! whether a filter asks for a name. `Predefined` is the table of names whose ids every client
+//! may have the wildcards `+` (any one level) and `#` (all levels that are left), and `matches`
+//! says whether a filter asks for a name. `Predefined` is the table of names whose ids every client
 //! knows from the start. `TopicFault` says why octets were refused.
 #![tactic(auto)]
 

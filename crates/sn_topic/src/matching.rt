@@ -2,15 +2,16 @@
 
 ghost use Rattle.std.specs.Prelude.{◌≡◌, ◌↔◌, IsTrue};
 ghost use Rattle.sn_topic.specs.Levels.{levels};
-ghost use Rattle.sn_topic.specs.Matching.{Matches, is_match, level_agrees as agrees_test, levels_match as match_test, begins_with_dollar as dollar_test};
+ghost use Rattle.sn_topic.specs.Matching.{Matches, is_match};
+ghost use Rattle.sn_topic.specs.Matching as spec;
 
 use crate::filter::Filter;
 use crate::level::{first_level, is_hash, is_plus};
 use crate::name::TopicName;
 
-/// Whether a filter asks for a topic. `+` stands for any one level and a `#` at the end for all levels
-/// that are left, also for none, so `t/#` asks for `t`. A filter that begins with a wildcard asks for no
-/// name that begins with `$`. The time is linear in both.
+/// Whether a filter asks for a topic. `+` stands for any one level and a `#` at the end for all
+/// levels that are left, also for none, so `t/#` asks for `t`. A filter that begins with a wildcard
+/// asks for no name that begins with `$`. The time is linear in both.
 pub fn matches(filter: &Filter, name: &TopicName) -> bool
     ensures rule { IsTrue result ↔ Matches filter.now name.now }
     ensures value { result ≡ is_match filter.now name.now }
@@ -23,7 +24,7 @@ pub fn matches(filter: &Filter, name: &TopicName) -> bool
 
 /// Whether a topic begins with `$`.
 fn begins_with_dollar(octets: &[u8]) -> bool
-    ensures { result ≡ dollar_test octets.now }
+    ensures { result ≡ spec.begins_with_dollar octets.now }
 {
     match octets {
         [] => false,
@@ -33,14 +34,14 @@ fn begins_with_dollar(octets: &[u8]) -> bool
 
 /// Whether a level of a filter agrees with a level of a name.
 fn level_agrees(asked: &[u8], given: &[u8]) -> bool
-    ensures { result ≡ agrees_test asked.now given.now }
+    ensures { result ≡ spec.level_agrees asked.now given.now }
 {
     is_plus(asked) || asked == given
 }
 
 /// Whether the levels of a filter ask for those of a name.
 fn levels_match(filter: &[u8], name: &[u8]) -> bool
-    ensures { result ≡ match_test (levels filter.now) (levels name.now) }
+    ensures { result ≡ spec.levels_match (levels filter.now) (levels name.now) }
 {
     let mut filter_left = filter;
     let mut name_left = name;

@@ -1,7 +1,7 @@
 //! Topic names.
 
 ghost use Rattle.std.specs.Prelude.{◌≡◌, ◌≢◌, ◌<◌, ◌↔◌, [], length, Err, IfOk, IfErr, IsErrOf, IsTrue};
-ghost use Rattle.sn_topic.specs.Levels.{has_wildcard as any_wildcard};
+ghost use Rattle.sn_topic.specs.Levels as spec;
 ghost use Rattle.sn_topic.specs.declared.level.TheConstants.{MAX_TOPIC};
 ghost use Rattle.sn_topic.specs.Topics.{IsTopicSize, IsName};
 
@@ -11,7 +11,8 @@ use octets::{NoMemory, Octets};
 use std::alloc::Global;
 use std::marker::Model;
 
-/// The name of a topic: 1 to 256 octets without a wildcard. Contracts see it as the list of its octets.
+/// The name of a topic: 1 to 256 octets without a wildcard. Contracts see it as the list of its
+/// octets.
 #[derive(Debug, Drop)]
 pub struct TopicName {
     octets: Octets,
@@ -35,7 +36,7 @@ impl TopicName {
         ensures empty { IsErrOf result TopicFault.Empty ↔ (octets.now ≡ []) }
         ensures too_long { IsErrOf result TopicFault.TooLong ↔ (MAX_TOPIC < length octets.now) }
         ensures wildcard { IsErrOf result TopicFault.Wildcard
-            ↔ (IsTopicSize octets.now × IsTrue (any_wildcard octets.now)) }
+            ↔ (IsTopicSize octets.now × IsTrue (spec.has_wildcard octets.now)) }
         ensures memory { IsErrOf result TopicFault.Memory → IsName octets.now }
         ensures no_id { result ≢ Err TopicFault.Id }
     {

@@ -2,7 +2,8 @@
 
 ghost use Rattle.std.specs.Prelude.{◌≡◌, IfOk, IfErr, IsErrOf, IsTrue, IsFalse, ◌↔◌, ◌≢◌, Err, [], ◌≤◌, MatchOption, Contains, All};
 ghost use Rattle.std.specs.Option.{option_copied};
-ghost use Rattle.sn_topic.specs.Table.{has_id as id_test, is_table as table_test, may_name as name_test, name_of, ids_of, least, lesser as lesser_of};
+ghost use Rattle.sn_topic.specs.Table.{name_of, ids_of, least};
+ghost use Rattle.sn_topic.specs.Table as spec;
 
 use crate::fault::TopicFault;
 use crate::name::TopicName;
@@ -10,8 +11,9 @@ use octets::NoMemory;
 use std::alloc::Global;
 use std::marker::Model;
 
-/// Predefined topic ids with their names (MQTT-SN 1.2 section 6.7). Contracts see the list of the entries in
-/// the order in which they were given. Each look-up reads the entries from the front, since tables are small.
+/// Predefined topic ids with their names (MQTT-SN 1.2 section 6.7). Contracts see the list of the
+/// entries in the order in which they were given. Each look-up reads the entries from the front,
+/// since tables are small.
 #[derive(Debug, Drop)]
 pub struct Predefined {
     entries: Vec<(u16, TopicName)>,
@@ -29,12 +31,12 @@ impl Model for Predefined {
 }
 
 impl Predefined {
-    /// The table of these entries. `Id` is answered where an id is 0 or 65535, or stands twice. The entries
-    /// are kept as they are, so no memory is taken. The time is quadratic in their number.
+    /// The table of these entries. `Id` is answered where an id is 0 or 65535, or stands twice. The
+    /// entries are kept as they are, so no memory is taken. The time is quadratic in their number.
     pub fn new(_alloc: Global, entries: Vec<(u16, TopicName)>) -> Result<Predefined, TopicFault>
         ensures ok { IfOk result (λ table. (table ≡ entries.items)
-            × IsTrue (table_test entries.items)) }
-        ensures refused { IsErrOf result TopicFault.Id ↔ IsFalse (table_test entries.items) }
+            × IsTrue (spec.is_table entries.items)) }
+        ensures refused { IsErrOf result TopicFault.Id ↔ IsFalse (spec.is_table entries.items) }
         ensures no_other { IfErr result (λ fault. fault ≡ TopicFault.Id) }
     {
         if is_table(&entries) {
@@ -57,7 +59,8 @@ impl Predefined {
     /// The least id that stands for a name.
     pub fn id(&self, name: &TopicName) -> Option<u16>
         ensures rule { MatchOption result (ids_of name.now self.now ≡ [])
-            (λ id. Contains (ids_of name.now self.now) id × All (λ other. id ≤ other) (ids_of name.now self.now)) }
+            (λ id. Contains (ids_of name.now self.now) id
+            × All (λ other. id ≤ other) (ids_of name.now self.now)) }
         ensures value { result ≡ least (ids_of name.now self.now) }
     {
         let mut least = None;
@@ -72,7 +75,7 @@ impl Predefined {
     /// The entries in the order in which they were given.
     pub fn entries(&self) -> &[(u16, TopicName)]
         ensures entries { result.now ≡ self.now }
-        ensures valid { IsTrue (table_test self.now) }
+        ensures valid { IsTrue (spec.is_table self.now) }
     {
         self.entries.as_slice()
     }
@@ -99,7 +102,7 @@ impl Predefined {
 
 /// The lesser of the id that is known so far and another.
 fn lesser(known: Option<u16>, id: u16) -> u16
-    ensures { Some result ≡ lesser_of known id }
+    ensures { Some result ≡ spec.lesser known id }
 {
     match known {
         None => id,
@@ -109,21 +112,21 @@ fn lesser(known: Option<u16>, id: u16) -> u16
 
 /// Whether an id may stand for a topic: 0 and 65535 are reserved (MQTT-SN 1.2 section 5.3.11).
 fn may_name(id: u16) -> bool
-    ensures { result ≡ name_test id }
+    ensures { result ≡ spec.may_name id }
 {
     0 < id && id < u16::MAX
 }
 
 /// Whether an id stands among the entries.
 fn has_id(id: u16, entries: &[(u16, TopicName)]) -> bool
-    ensures { result ≡ id_test id entries.now }
+    ensures { result ≡ spec.has_id id entries.now }
 {
     entries.iter().any(|entry| entry.0 == id)
 }
 
 /// Whether no id is reserved and none stands twice.
 fn is_table(entries: &[(u16, TopicName)]) -> bool
-    ensures { result ≡ table_test entries.now }
+    ensures { result ≡ spec.is_table entries.now }
 {
     let mut left = entries;
     while let [entry, later @ ..] = left {

@@ -1,9 +1,10 @@
 //! How links are made: peers are dialled, others are accepted.
 
+use gw_link::{Link, Origin, Phase, Stage};
 use gw_main::options::Settings;
-use gw_run::{Link, Origin, Phase, Pool, Stage};
+use gw_run::Pool;
 use gw_wire::address;
-use sn_flow::Addr;
+use sn_local::Addr;
 use std::alloc::Global;
 use std::net::{Net, TcpListener, TcpStream};
 use std::sync::Wait;
@@ -11,10 +12,12 @@ use std::thread;
 use std::thread::Threads;
 use std::time::{Clock, Duration};
 
-/// How many milliseconds a read of a link waits. So often a link looks for deltas to tell, and whether its shift is over.
+/// How many milliseconds a read of a link waits. So often a link looks for deltas to tell, and
+/// whether its shift is over.
 const A_READ: u64 = 10;
 
-/// How many milliseconds a write of a link waits. What the other end has not taken by then waits, and what it says is read.
+/// How many milliseconds a write of a link waits. What the other end has not taken by then waits,
+/// and what it says is read.
 const A_WRITE: u64 = 10;
 
 /// How many milliseconds a peer has to take a call.

@@ -18,7 +18,8 @@ pub struct Inlet {
     pub late: Late,
 }
 
-/// A datagram that came when its shift had no call left for it: it is the first one of the next shift.
+/// A datagram that came when its shift had no call left for it: it is the first one of the next
+/// shift.
 #[derive(Drop)]
 pub struct Late {
     arrival: Option<Arrival>,

@@ -1,10 +1,11 @@
 //! The gateway's program: a gateway on a wire, with its journal in two files.
 //!
-//! It reads its settings, opens the gateway on its journal, and then works shift by shift: in each, threads serve datagrams, the
-//! clock ticks, and the links to other gateways talk. When a shift is over the history of its calls and what its threads hold of it
-//! are compared, the gateway is tended, and the next one begins. A gateway whose disk has failed is opened anew in place, by the clock in the
-//! shift or by tending behind it, which also writes its journal anew without what no longer counts. The program may be stopped at any
-//! moment: what it answered for is on its disk.
+//! It reads its settings, opens the gateway on its journal, and then works shift by shift: in each,
+//! threads serve datagrams, the clock ticks, and the links to other gateways talk. When a shift is
+//! over the history of its calls and what its threads hold of it are compared, the gateway is
+//! tended, and the next one begins. A gateway whose disk has failed is opened anew in place, by the
+//! clock in the shift or by tending behind it, which also writes its journal anew without what no
+//! longer counts. The program may be stopped at any moment: what it answered for is on its disk.
 //!
 //! - `words`: the words of the command line.
 //! - `reading`: the settings file.

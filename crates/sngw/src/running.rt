@@ -4,10 +4,11 @@ use crate::doors::{Door, doors_of, keep_all};
 use crate::late::{Inlet, Late};
 use crate::stop::Stop;
 use crate::working::{Worked, work};
+use gw_link::{Phase, Stage};
 use gw_main::options::Settings;
 use gw_main::{Tended, number_of, tend};
 use gw_node::Node;
-use gw_run::{Phase, Pool, Stage};
+use gw_run::Pool;
 use gw_wire::{Socket, address};
 use jr_disk::Disk;
 use rep_model::Replica;
@@ -119,8 +120,8 @@ where
     worked
 }
 
-/// The shifts, each with a line when it is over. Where the gateway was opened anew in a shift, that is told before its line; behind it the
-/// gateway is tended.
+/// The shifts, each with a line when it is over. Where the gateway was opened anew in a shift, that
+/// is told before its line; behind it the gateway is tended.
 fn work_all<T, R, D>(
     rt: &T,
     alloc: Global,
@@ -175,8 +176,8 @@ where
     }
 }
 
-/// Where a gateway was opened anew, how it stands is printed as at the start, and the links are closed: it may have read what it never
-/// told, and over a new link the other end asks for that.
+/// Where a gateway was opened anew, how it stands is printed as at the start, and the links are
+/// closed: it may have read what it never told, and over a new link the other end asks for that.
 fn begin_anew<T, R, D, S>(rt: &T, alloc: Global, node: &Node<R, D>, pool: &Pool<S>, tended: Tended)
 where
     T: Wait + Print,

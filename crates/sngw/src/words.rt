@@ -12,7 +12,8 @@ pub struct Asked {
     pub shifts: u64,
 }
 
-/// Reads the words, the program's name first. Nothing where they do not parse, `--help` among them, or where memory ran out.
+/// Reads the words, the program's name first. Nothing where they do not parse, `--help` among them,
+/// or where memory ran out.
 pub(crate) fn asked_by(alloc: Global, words: &[String]) -> Option<Asked> {
     let config = Arg::new(alloc, "config")
         .long("config")

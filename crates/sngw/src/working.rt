@@ -6,10 +6,11 @@ ghost use Rattle.gw_shift.specs.declared.shift.TheConstants.{MAX_STEPS};
 use crate::late::Inlet;
 use crate::stop::Stop;
 use crate::watched::Watched;
+use gw_link::{End, Phase, Stage};
 use gw_main::Tended;
 use gw_main::options::Settings;
 use gw_node::Node;
-use gw_run::{End, MOST_ACCEPTED, Phase, Pool, Seat, Stage, sit, tick_all};
+use gw_run::{MOST_ACCEPTED, Pool, Seat, sit, tick_all};
 use gw_serve::{Cause, serve};
 use gw_shift::{Closed, MAX_STEPS, Pass, Shift};
 use gw_wire::{Mouth, OpenGate, Wire};
@@ -44,8 +45,9 @@ pub struct Worked<R: Replica, D: Disk> {
     pub tended: Tended,
 }
 
-/// Works the shift of this number, and the gateway comes back. A datagram that came late, or is there already, has a call before clock and
-/// links ask for any; where a shift has one call alone, in every other shift, so that nobody is kept from it.
+/// Works the shift of this number, and the gateway comes back. A datagram that came late, or is
+/// there already, has a call before clock and links ask for any; where a shift has one call alone,
+/// in every other shift, so that nobody is kept from it.
 pub(crate) fn work<T, R, D>(
     rt: &T,
     alloc: Global,
@@ -113,8 +115,8 @@ fn crew_of(alloc: Global, passes: Vec<Pass>, workers: usize) -> Option<Crew> {
     Some(crew)
 }
 
-/// Links beside ticks beside datagrams, until the shift is over. Once the last two are, the gateway makes no more deltas, and the
-/// links tell what is left.
+/// Links beside ticks beside datagrams, until the shift is over. Once the last two are, the gateway
+/// makes no more deltas, and the links tell what is left.
 fn work_all<T, R, D>(
     rt: &T,
     alloc: Global,
@@ -312,8 +314,9 @@ where
     }
 }
 
-/// Ends the shift, and compares its history with what its threads hold. Passes that made no call are left out: nothing of the history is theirs, and
-/// to compare what each of them holds of the opening would take as long as for the others.
+/// Ends the shift, and compares its history with what its threads hold. Passes that made no call
+/// are left out: nothing of the history is theirs, and to compare what each of them holds of the
+/// opening would take as long as for the others.
 fn close<R, D>(alloc: Global, shift: Shift<R, D>, crew: Crew) -> Result<Worked<R, D>, Stop>
 where
     R: Replica,
@@ -351,8 +354,9 @@ fn tended_in(ticking: &[Option<Seat>]) -> Tended {
     Tended::Kept
 }
 
-/// Takes the passes from their seats, unless one was left for a cause that ends the program. That the gateway is halted, and refused to be
-/// opened anew, is none: that is tried once more behind the shift.
+/// Takes the passes from their seats, unless one was left for a cause that ends the program. That
+/// the gateway is halted, and refused to be opened anew, is none: that is tried once more behind
+/// the shift.
 fn gather(passes: &mut Vec<Pass>, seats: Vec<Option<Seat>>) -> Result<(), Stop> {
     for slot in seats {
         if let Some(seat) = slot {

@@ -1,4 +1,5 @@
-//! Worked examples: what the folded replica refuses, and what it takes though it contradicts what is forgotten.
+//! Worked examples: what the folded replica refuses, and what it takes though it contradicts what
+//! is forgotten.
 
 use rep_ops::{ClientId, Delta, Op, Stamp};
 use rep_plain::{Replica, TakeFault};

@@ -1,4 +1,5 @@
-//! The folded replica beside the plain one: made-up deltas in any order, of which both must say the same.
+//! The folded replica beside the plain one: made-up deltas in any order, of which both must say the
+//! same.
 //!
 //! They stand apart, since a crate with tests is proved twice.
 #![tactic(auto)]

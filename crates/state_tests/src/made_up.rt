@@ -1,8 +1,10 @@
-//! Made-up operations: what stands under a name follows from the name, so that no two contradict each other.
+//! Made-up operations: what stands under a name follows from the name, so that no two contradict
+//! each other.
 
 use octets::Octets;
 use rep_ops::{ClientId, Delta, Op, Put, Stamp};
-use sn_session::{Message, Presence, QosLevel, Session, SessionOp};
+use sn_session::{Message, Presence, Session, SessionOp};
+use sn_tables::QosLevel;
 use sn_topic::TopicName;
 use std::alloc::Global;
 use std::test::Fail;

@@ -93,7 +93,8 @@ fn are_same(alloc: Global, pair: &Pair) -> Result<bool, Fail> {
     Ok(plain.as_slice() == folded.as_slice())
 }
 
-/// Takes deltas that are made up; after how many the two replicas were of one mind, and of how many.
+/// Takes deltas that are made up; after how many the two replicas were of one mind, and of how
+/// many.
 fn run(alloc: Global, seed: u64, steps: u64, size: u64) -> Result<(u64, u64), Fail> {
     let mut pair = empty_pair(alloc)?;
     let mut number = seed;

@@ -8,7 +8,7 @@ use gw_wire::{OpenGate, Post, Socket, Wire, address};
 use jr_disk::Disk;
 use mio::net::UdpSocket;
 use rep_model::Replica;
-use sn_flow::Addr;
+use sn_local::Addr;
 use std::alloc::Global;
 use std::net::{Net, SocketAddr};
 use std::sync::Wait;

@@ -1,8 +1,9 @@
 //! Worked rows of serving, of a socket, of settings and of files: what no clause says.
 //!
-//! Standard input holds rows, each behind a line `== NAME`; empty lines and those that begin with `#` are skipped. The program
-//! prints each name, and below it what the lines of the row give; of a line that is none of these, `no such line` and the line.
-//! Numbers are decimal, octets are hexadecimal digits in one word.
+//! Standard input holds rows, each behind a line `== NAME`; empty lines and those that begin with
+//! `#` are skipped. The program prints each name, and below it what the lines of the row give; of a
+//! line that is none of these, `no such line` and the line. Numbers are decimal, octets are
+//! hexadecimal digits in one word.
 //!
 //! | Settings, and a gateway that is opened as they say | |
 //! |---|---|
@@ -27,14 +28,16 @@
 //! | `serve` | serves what comes |
 //! | `loopback FIRST SECOND` | serves a socket of this machine, to which somebody sends the first datagram and, behind its answer, the second |
 //!
-//! Of serving is printed how it ended, with how many passes; for each datagram what was asked of the outside, in its order, and how many
-//! things in all; what became of it, as its call stands in the history (where serving ended early, the history); how many calls the
-//! closed shift has; and the clients that the gateway knows. None of that depends on which thread was first.
+//! Of serving is printed how it ended, with how many passes; for each datagram what was asked of
+//! the outside, in its order, and how many things in all; what became of it, as its call stands in
+//! the history (where serving ended early, the history); how many calls the closed shift has; and
+//! the clients that the gateway knows. None of that depends on which thread was first.
 //!
 //! - `row`: what the lines of a row have brought about (`Row`), and the play of one more.
 //! - `fields`: numbers and octets of a line.
 //! - `options`: settings, and gateways that are opened.
-//! - `wire`, `outside`: a wire that brings what the row says; a post and a gate that note what they are asked.
+//! - `wire`, `outside`: a wire that brings what the row says; a post and a gate that note what they
+//!   are asked.
 //! - `serving`: a shift is opened, served and closed.
 //! - `loopback`: the same over sockets.
 //! - `printing`: what is printed of that.

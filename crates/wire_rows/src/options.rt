@@ -10,7 +10,7 @@ use gw_node::Node;
 use gw_wire::address;
 use jr_journal::{Disk, MemoryDisk};
 use rep_plain::Plain;
-use sn_flow::Addr;
+use sn_local::Addr;
 use std::alloc::{AllocError, Global};
 use std::fs::{File, Files};
 
@@ -110,7 +110,8 @@ fn print_octets(text: &mut String, octets: Vec<u8>) -> Result<(), Stop> {
     }
 }
 
-/// `files OCTETS`: opens a gateway on the two files that the settings name, gives it a datagram from port 1 of host 7, and closes it.
+/// `files OCTETS`: opens a gateway on the two files that the settings name, gives it a datagram
+/// from port 1 of host 7, and closes it.
 pub(crate) fn files<T: Files<File = File>>(
     rt: &T,
     alloc: Global,

@@ -2,7 +2,7 @@
 
 use gw_wire::{Gate, Post, Unsent};
 use octets::Octets;
-use sn_flow::Addr;
+use sn_local::Addr;
 use std::alloc::Global;
 use std::sync::atomic::{AtomicBool, Ordering};
 use std::sync::{Mutex, Wait};

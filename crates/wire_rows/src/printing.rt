@@ -7,7 +7,7 @@ use crate::wire::Coming;
 use gw_node::{Answer, NodeFault, Step};
 use gw_serve::Taken;
 use gw_shift::Entry;
-use sn_flow::{Addr, Send as Sending};
+use sn_local::{Addr, Send as Sending};
 use std::alloc::{AllocError, Global};
 
 /// Octets in hexadecimal digits, `-` for none.
@@ -27,7 +27,8 @@ pub(crate) fn print_outcome(text: &mut String, outcome: &Outcome) -> Result<(), 
     }
 }
 
-/// What became of the datagrams: by their numbers, or, where serving ended early, the calls of the history.
+/// What became of the datagrams: by their numbers, or, where serving ended early, the calls of the
+/// history.
 pub(crate) fn print_calls(
     alloc: Global,
     text: &mut String,

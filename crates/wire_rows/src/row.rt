@@ -224,7 +224,8 @@ fn finish(
     Ok(())
 }
 
-/// `loopback FIRST SECOND`: serves what comes over a socket: a datagram, and behind its answer another one.
+/// `loopback FIRST SECOND`: serves what comes over a socket: a datagram, and behind its answer
+/// another one.
 fn play_loopback<T: Threads + Wait + Sync + Clock + Net>(
     rt: &T,
     alloc: Global,

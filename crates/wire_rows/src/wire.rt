@@ -4,7 +4,7 @@ ghost use Rattle.std.specs.Prelude.{◌≤◌, length, IfSome};
 
 use gw_wire::{Arrival, Wire, WireFault};
 use jr_disk::Failures;
-use sn_flow::Addr;
+use sn_local::Addr;
 use std::thread;
 
 /// What a receive brings.

@@ -16,7 +16,8 @@ pub(crate) struct Code(pub u8);
 #[derive(Clone, Copy)]
 pub(crate) struct TopicField(pub TopicIdType, pub u16);
 
-/// What the topic field of SUBSCRIBE or UNSUBSCRIBE has (section 5.4.15): a name, or an id of two octets.
+/// What the topic field of SUBSCRIBE or UNSUBSCRIBE has (section 5.4.15): a name, or an id of two
+/// octets.
 #[derive(Clone, Copy)]
 pub(crate) struct TopicOctets<'a>(pub TopicIdType, pub &'a [u8]);
 

@@ -5,7 +5,8 @@ use Rattle.gw_net.specs.declared.fault.LinkFault.TheVariants as faults
 use Rattle.gw_net.specs.declared.message.LinkMessage.{LinkMessage}
 use Rattle.gw_net.specs.Streams.{Front}
 
-abbrev pub IsFront : {X : Type 0} → (X → LinkMessage × List ℕ) → Result (Option X) LinkFault → Front → Type 0
+abbrev pub IsFront : {X : Type 0} → (X → LinkMessage × List ℕ) → Result (Option X) LinkFault → Front
+    → Type 0
 IsFront view (Ok None) f = f ≡ Ok None
 IsFront view (Ok (Some x)) f = f ≡ Ok (Some (view x))
 IsFront view (Err faults.Memory) f = Unit {0}

@@ -1,6 +1,6 @@
 -- What the parts of a call come to. Only private functions cite these.
 use Rattle.std.specs.Prelude.{◌≡◌, ◌≢◌, ℕ, Bool, true, if◌then◌else◌, List, [], length, Option, Some, None, Result, Ok, Err}
-use Rattle.rep_ops.specs.declared.op.Op.{Op}
+use Rattle.rep_op.specs.declared.op.Op.{Op}
 use Rattle.sn_frame.specs.declared.frame.Frame.{Frame}
 use Rattle.sn_frame.specs.declared.fault.FrameFault.TheVariants as frame_faults
 use Rattle.sn_frame.specs.Faults.{IsFirstFault}
@@ -10,8 +10,8 @@ use Rattle.sn_plan.specs.declared.plan.Plan.{Plan}
 use Rattle.sn_local.specs.Seen.{seen_of}
 use Rattle.sn_local.specs.Locals.{no_local}
 use Rattle.sn_deliver.specs.Steps.{step}
-use Rattle.sn_deliver.specs.Rest.{is_idle}
-use Rattle.sn_deliver.specs.Ticking.{tick}
+use Rattle.sn_tick.specs.Rest.{is_idle}
+use Rattle.sn_tick.specs.Ticking.{tick}
 use Rattle.jr_disk.specs.declared.disk.Disk.{Ghosts}
 use Rattle.jr_journal.specs.Parts.{disk_of, gateway_of}
 use Rattle.gw_answer.specs.declared.out.Out.{Out}

@@ -1,6 +1,6 @@
 -- Opening a node: it takes what its journal holds.
 use Rattle.std.specs.Prelude.{List}
-use Rattle.rep_ops.specs.declared.op.Op.{Op}
+use Rattle.rep_op.specs.declared.op.Op.{Op}
 use Rattle.gw_answer.specs.declared.refusal.Refusal.{Refusal}
 use Rattle.gw_answer.specs.declared.refusal.Refusal.TheVariants as refusals
 use Rattle.gw_node.specs.Opening.{HasMisfit}

@@ -1,10 +1,10 @@
 -- What a node remembers of ticks.
 use Rattle.std.specs.Prelude.{ℕ, Bool, true, List, Option, Some, None}
-use Rattle.rep_ops.specs.declared.op.Op.{Op}
+use Rattle.rep_op.specs.declared.op.Op.{Op}
 use Rattle.sn_local.specs.declared.config.Config.{Config}
 use Rattle.sn_local.specs.Seen.{seen_of}
 use Rattle.sn_local.specs.Locals.{Local}
-use Rattle.sn_deliver.specs.Rest.{is_idle}
+use Rattle.sn_tick.specs.Rest.{is_idle}
 
 -- where a moment is remembered, a tick of that moment has nothing to do
 abbrev pub rests : Option ℕ → Config → List Op → Local → Bool

@@ -3,10 +3,9 @@ use Rattle.std.specs.Prelude.{◌≡◌, ◌⊎◌, ℕ, List}
 use Rattle.gw_world.specs.declared.event.Answer.{Answer}
 use Rattle.gw_world.specs.declared.world.WorldFault.{WorldFault}
 use Rattle.gw_world.specs.Worlds.{IsStop}
-use Rattle.gw_play.specs.declared.script.Script.{Script}
-use Rattle.gw_play.specs.Commands.{lines_of}
-use Rattle.gw_play.specs.Scripts.{IsScriptOf}
-use Rattle.gw_play.specs.inner.Scripts.{IsBadLine}
+use Rattle.gw_script.specs.declared.script.Script.{Script}
+use Rattle.gw_script.specs.Commands.{lines_of}
+use Rattle.gw_script.specs.Scripts.{IsScriptOf, IsBadLine}
 use Rattle.gw_play.specs.Printing.{answers_text}
 use Rattle.gw_play.specs.inner.Printing.{bad_line_text, world_fault_line}
 use Rattle.gw_play.specs.Playing.{IsAnswered}

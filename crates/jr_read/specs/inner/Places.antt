@@ -1,6 +1,6 @@
 -- Where records stand in their slot, and what is told of two slots.
 use Rattle.std.specs.Prelude.{◌≡◌, ℕ, ◌==◌, Bool, if◌then◌else◌, List, [], ◌∷◌}
-use Rattle.rep_ops.specs.declared.op.Op.{Op}
+use Rattle.rep_op.specs.declared.op.Op.{Op}
 use Rattle.jr_journal.specs.Records.{found}
 
 -- these are the records from here on, a seal being still to come or not

@@ -1,8 +1,9 @@
 //! An entry.
 
 ghost use Rattle.std.specs.Prelude.{◌≡◌, []};
-ghost use Rattle.rep_ops.specs.Reading.{Gives, many_at};
-ghost use Rattle.rep_digest.specs.Reading.{origin_at, origins_at, stamp_of as stamp_read, entry_at};
+ghost use Rattle.rep_octets.specs.Reading.{Gives, many_at};
+ghost use Rattle.rep_digest.specs.Reading.{origin_at, origins_at, entry_at};
+ghost use Rattle.rep_digest.specs.Reading as spec;
 
 use super::part::{read_origin, read_seen};
 use crate::entry::{ClientEntry, OriginEntry};
@@ -40,7 +41,7 @@ fn read_origins(alloc: Global, bytes: &[u8]) -> Result<(Sequence<OriginEntry>, &
 
 /// The stamp of an epoch and a gateway: none where the epoch is 0.
 fn stamp_of(epoch: u64, gateway: u8, prefix: u16) -> Option<Stamp>
-    ensures { result ≡ stamp_read (epoch, (gateway, prefix)) }
+    ensures { result ≡ spec.stamp_of (epoch, (gateway, prefix)) }
 {
     if epoch == 0 {
         None

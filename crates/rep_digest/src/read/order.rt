@@ -2,7 +2,8 @@
 
 ghost use Rattle.std.specs.Prelude.{◌≡◌};
 ghost use Rattle.std.specs.List.{list_all};
-ghost use Rattle.rep_digest.specs.Reading.{ranges_apart, are_apart as apart_test, origins_ascend as ascend_test, is_ordered as order_test, may_follow as follow_test};
+ghost use Rattle.rep_digest.specs.Reading.{ranges_apart};
+ghost use Rattle.rep_digest.specs.Reading as spec;
 
 use crate::entry::{ClientEntry, OriginEntry};
 use std::cmp::Ordering;
@@ -23,14 +24,14 @@ fn are_apart(ranges: &[(u64, u64)]) -> bool
 
 /// Whether both lists of ranges are in order.
 fn is_apart(origin: &OriginEntry) -> bool
-    ensures { result ≡ apart_test origin.now }
+    ensures { result ≡ spec.are_apart origin.now }
 {
     are_apart(origin.acknowledged.as_slice()) && are_apart(origin.waiting.as_slice())
 }
 
 /// Whether the origins strictly ascend.
 fn origins_ascend(origins: &[OriginEntry]) -> bool
-    ensures { result ≡ ascend_test origins.now }
+    ensures { result ≡ spec.origins_ascend origins.now }
 {
     let mut left = origins;
     while let [origin, next, ..] = left {
@@ -44,31 +45,30 @@ fn origins_ascend(origins: &[OriginEntry]) -> bool
 
 /// Whether the ranges of all origins are in order.
 fn are_all_apart(origins: &[OriginEntry]) -> bool
-    ensures { result ≡ list_all apart_test origins.now }
+    ensures { result ≡ list_all spec.are_apart origins.now }
 {
     origins.iter().all(|origin| is_apart(origin))
 }
 
 /// Whether an entry may stand behind these.
 pub fn may_follow(entries: &[ClientEntry], entry: &ClientEntry) -> bool
-    ensures { result ≡ follow_test entries.now entry.now }
+    ensures { result ≡ spec.may_follow entries.now entry.now }
 {
     is_ordered(entry) && is_behind(entries, entry)
 }
 
 /// Whether origins and ranges of an entry are in order.
 fn is_ordered(entry: &ClientEntry) -> bool
-    ensures { result ≡ order_test entry.now }
+    ensures { result ≡ spec.is_ordered entry.now }
 {
     are_all_apart(entry.origins.as_slice()) && origins_ascend(entry.origins.as_slice())
 }
 
 ghost use Rattle.rep_ops.specs.Reading.{follows_last};
-ghost use Rattle.rep_digest.specs.Reading.{is_next as next_test};
 
 /// Whether the client comes after those of the entries.
 fn is_behind(entries: &[ClientEntry], entry: &ClientEntry) -> bool
-    ensures { result ≡ follows_last next_test entries.now entry.now }
+    ensures { result ≡ follows_last spec.is_next entries.now entry.now }
 {
     match entries.last() {
         None => true,
@@ -78,7 +78,7 @@ fn is_behind(entries: &[ClientEntry], entry: &ClientEntry) -> bool
 
 /// Whether the client of the second comes after that of the first.
 fn is_next(entry: &ClientEntry, next: &ClientEntry) -> bool
-    ensures { result ≡ next_test entry.now next.now }
+    ensures { result ≡ spec.is_next entry.now next.now }
 {
     entry.client < next.client
 }

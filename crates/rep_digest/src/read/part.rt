@@ -1,7 +1,7 @@
 //! The parts of an entry.
 
 ghost use Rattle.std.specs.Prelude.{◌≡◌, []};
-ghost use Rattle.rep_ops.specs.Reading.{Gives, range_at, many_at};
+ghost use Rattle.rep_octets.specs.Reading.{Gives, range_at, many_at};
 ghost use Rattle.rep_digest.specs.Reading.{ranges_at, origin_at, seen_at};
 
 use crate::entry::OriginEntry;
@@ -15,7 +15,7 @@ use std::alloc::Global;
 const MAX_PREFIX: u16 = 256;
 
 /// A range.
-#[tactic(auto, unfolding(rep_ops::specs::Reading::range_at))]
+#[tactic(auto, unfolding(rep_octets::specs::Reading::range_at))]
 fn read_range(bytes: &[u8]) -> Result<((u64, u64), &[u8]), OpsFault>
     ensures { Gives (λ x. (x.0, x.1.now)) result (range_at bytes.now) }
 {
@@ -88,11 +88,11 @@ pub fn read_seen(bytes: &[u8]) -> Result<((u64, u8, u16), &[u8]), OpsFault>
     Ok(((epoch, gateway, prefix), rest))
 }
 
-ghost use Rattle.rep_digest.specs.Reading.{is_seen as seen_test};
+ghost use Rattle.rep_digest.specs.Reading as spec;
 
 /// Whether all are 0, or none of them, and the prefix not over its limit.
 fn is_seen(epoch: u64, gateway: u8, prefix: u16) -> bool
-    ensures { result ≡ seen_test (epoch, (gateway, prefix)) }
+    ensures { result ≡ spec.is_seen (epoch, (gateway, prefix)) }
 {
     if epoch == 0 {
         gateway == 0 && prefix == 0

@@ -2,8 +2,8 @@
 use Rattle.std.specs.Prelude.{◌≡◌, ℕ, ◌+◌, ◌≤◌, false, ⊤, List, length, count_by, Option, None, Some}
 use Rattle.std.specs.Map.{keys_of}
 use Rattle.sn_session.specs.declared.change.SessionOp.{SessionOp}
-use Rattle.rep_ops.specs.declared.op.Stamp.{Stamp}
-use Rattle.rep_plain.specs.Steps.{capped, waits}
+use Rattle.rep_op.specs.declared.op.Stamp.{Stamp}
+use Rattle.rep_shared.specs.Steps.{capped, waits}
 use Rattle.rep_log.specs.declared.log.Log.{Log}
 use Rattle.rep_entry.specs.declared.entry.Entry.{Entry}
 use Rattle.rep_log.specs.Logs.{all_of, stamp_on, prefix_on, session_on, known_on}

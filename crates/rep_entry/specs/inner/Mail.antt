@@ -1,6 +1,6 @@
 -- The messages that wait for a client, in the order of delivery.
 use Rattle.std.specs.Prelude.{ℕ, min, max, Bool, true, false, List, [], ◌∷◌, ◌++◌, take, drop, filter}
-use Rattle.rep_ops.specs.declared.op.Put.{Put}
+use Rattle.rep_op.specs.declared.op.Put.{Put}
 use Rattle.rep_entry.specs.declared.span.Span.{Span}
 use Rattle.rep_log.specs.Mail.{goes_before, Range, is_left}
 

@@ -1,7 +1,7 @@
 -- The numbers that a gateway took last.
 use Rattle.std.specs.Prelude.{ℕ, ◌==◌, if◌then◌else◌}
-use Rattle.rep_ops.specs.declared.op.Stamp.{Stamp}
-use Rattle.rep_ops.specs.declared.op.Put.{Put}
+use Rattle.rep_op.specs.declared.op.Stamp.{Stamp}
+use Rattle.rep_op.specs.declared.op.Put.{Put}
 
 abbrev pub epoch_of : Stamp × ℕ → ℕ
 epoch_of name = name.0.epoch

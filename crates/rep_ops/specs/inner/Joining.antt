@@ -1,14 +1,16 @@
--- Joining operations that are in the order of their names: of one name the first stays, and ranges of acknowledgements that
--- overlap or touch are one.
+-- Joining operations that are in the order of their names: of one name the first stays, and ranges
+-- of acknowledgements that overlap or touch are one.
 use Rattle.std.specs.Prelude.{◌+◌, ◌==◌, Bool, ◌&&◌, if◌then◌else◌, List, [], ◌∷◌, bytes_eq, nat_le, max}
 use Rattle.std.specs.Ordering.{is_eq}
-use Rattle.rep_ops.specs.declared.op.Op.{Op}
-use Rattle.rep_ops.specs.declared.op.Op.TheVariants.{Ack}
-use Rattle.rep_ops.specs.Orders.{name_cmp}
+use Rattle.rep_op.specs.declared.op.Op.{Op}
+use Rattle.rep_op.specs.declared.op.Op.TheVariants.{Ack}
+use Rattle.rep_op.specs.Orders.{name_cmp}
 
--- the second operation has the name of the first, or is a range of its client and origin that begins within it or right behind
+-- the second operation has the name of the first, or is a range of its client and origin that
+-- begins within it or right behind
 abbrev pub joins : Op → Op → Bool
-joins (Ack c origin first last) (Ack d other start end) = bytes_eq c d && (origin == other) && nat_le start (last + 1)
+joins (Ack c origin first last) (Ack d other start end) =
+    bytes_eq c d && (origin == other) && nat_le start (last + 1)
 joins a b = is_eq (name_cmp a b)
 
 -- the first operation; of ranges, as far as both of them go
@@ -19,7 +21,8 @@ united a b = a
 -- an operation in front of others, joined with each of them that joins it
 abbrev pub united_from : Op → List Op → List Op
 united_from a [] = a ∷ []
-united_from a (b ∷ rest) = if joins a b then united_from (united a b) rest else a ∷ united_from b rest
+united_from a (b ∷ rest) =
+    if joins a b then united_from (united a b) rest else a ∷ united_from b rest
 
 abbrev pub joined : List Op → List Op
 joined [] = []

@@ -1,19 +1,17 @@
 -- The table of the replica.
-use Rattle.std.specs.Prelude.{◌≡◌, ℕ, Bool, false, ◌==◌, ◌&&◌, nat_le, List, map, length, T, IsSome, Option, Some, None, is_some, nat_lt, if◌then◌else◌, not, [], ◌∷◌, Vec}
+use Rattle.std.specs.Prelude.{◌≡◌, ℕ, Bool, false, ◌==◌, ◌&&◌, nat_le, List, map, length, T, IsSome, Option, is_some, nat_lt, if◌then◌else◌, not, [], ◌∷◌, Vec}
 use Rattle.std.specs.Global.{Global}
 use Rattle.std.specs.List.{list_any}
 use Rattle.std.specs.FinMap.{find, is_sorted}
-use Rattle.rep_ops.specs.declared.op.Op.{Op}
-use Rattle.rep_ops.specs.declared.op.Op.TheVariants.{Session as OfSession, Put as OfPut, Ack}
-use Rattle.rep_ops.specs.Orders.{client_cmp, client_of}
-use Rattle.rep_ops.specs.Sets.{same_client, operation_at, put_at, Agrees}
-use Rattle.rep_model.specs.declared.fault.TheConstants.{MOST_CLIENTS, MOST_PENDING, MOST_PARKED, MOST_EXCEPTIONS}
+use Rattle.rep_op.specs.declared.op.Op.{Op}
+use Rattle.rep_op.specs.declared.op.Op.TheVariants.{Session as OfSession, Put as OfPut, Ack}
+use Rattle.rep_op.specs.Orders.{client_cmp}
+use Rattle.rep_op.specs.Sets.{same_client, operation_at, put_at}
+use Rattle.rep_model.specs.declared.fault.TheConstants.{MOST_PENDING, MOST_PARKED, MOST_EXCEPTIONS}
 use Rattle.rep_model.specs.declared.fault.Limit.{Limit}
-use Rattle.rep_model.specs.declared.fault.Limit.TheVariants.{Clients, Pending, Parked, Exceptions}
-use Rattle.rep_model.specs.declared.fault.TakeFault.{TakeFault}
-use Rattle.rep_model.specs.declared.fault.TakeFault.TheVariants.{Conflict, Full, Memory}
+use Rattle.rep_shared.specs.inner.Tables.{passed_of}
 use Rattle.rep_plain.specs.declared.entry.Entry.{Entry}
-use Rattle.rep_plain.specs.Rows.{flat}
+use Rattle.rep_shared.specs.Rows.{flat}
 use Rattle.rep_plain.specs.Tables.{rows_of, AreEntries, IsTable}
 
 -- the operations of each client, where there is nothing else yet
@@ -46,15 +44,6 @@ is_known S (OfSession c stamp counter change) = is_some (operation_at c S (stamp
 is_known S (OfPut c put) = is_some (put_at c S (put.seq, put.origin))
 is_known S (Ack c origin first last) = list_any (has_range c origin first last) S
 
--- the first limit that is passed: of clients, and whether any client passes those of pending,
--- parked and exceptions
-abbrev pub passed_of : ℕ → Bool → Bool → Bool → Option Limit
-passed_of count pending parked exceptions =
-    if nat_lt MOST_CLIENTS count then Some Clients
-    else (if pending then Some Pending
-    else (if parked then Some Parked
-    else (if exceptions then Some Exceptions else None)))
-
 abbrev pub too_many_pending : List ℕ × Entry → Bool
 too_many_pending e = nat_lt MOST_PENDING (length e.1.seen.pending)
 
@@ -73,10 +62,3 @@ passed_by count fresh =
 -- the operation, where its name is new
 abbrev pub one_new : List Op → Op → List Op
 one_new S op = if not (is_known S op) then op ∷ [] else []
-
--- why the operation is refused: it contradicts one that is there, and its client is named; or
--- memory ran out
-abbrev pub IsRefusalOf : List Op → Op → TakeFault → Type 0
-IsRefusalOf S op (Conflict c) = (client_of op ≡ c) × (¬ (Agrees S op))
-IsRefusalOf S op (Full limit) = ⊥
-IsRefusalOf S op Memory = Unit {0}

@@ -1,12 +1,12 @@
 -- What a delta changes of each client that it names.
 use Rattle.std.specs.Prelude.{◌≡◌, ℕ, true, List, [], ◌∷◌, ◌++◌, map, Option, Some, None}
 use Rattle.std.specs.FinMap.{find}
-use Rattle.rep_ops.specs.declared.op.Op.{Op}
-use Rattle.rep_ops.specs.Orders.{client_cmp}
-use Rattle.rep_ops.specs.Sets.{Same}
+use Rattle.rep_op.specs.declared.op.Op.{Op}
+use Rattle.rep_op.specs.Orders.{client_cmp}
+use Rattle.rep_op.specs.Sets.{Same}
 use Rattle.rep_model.specs.Keep.{keep}
-use Rattle.rep_plain.specs.Rows.{own, has_any}
-use Rattle.rep_plain.specs.inner.Rows.{of_client}
+use Rattle.rep_shared.specs.Rows.{own, has_any}
+use Rattle.rep_shared.specs.inner.Rows.{of_client}
 use Rattle.rep_entry.specs.declared.entry.Entry.{Entry}
 use Rattle.rep_entry.specs.declared.fresh.Fresh.{Fresh}
 use Rattle.rep_entry.specs.Entries.{row_of, IsFresh, fresh_row, Base, base_of}

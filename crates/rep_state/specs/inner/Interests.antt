@@ -3,12 +3,12 @@ use Rattle.std.specs.Prelude.{◌≡◌, ℕ, false, cond, ⊤, map, List, ◌�
 use Rattle.std.specs.List.{AllByRecursion}
 use Rattle.std.specs.Ordering.{is_eq}
 use Rattle.std.specs.FinMap.{find}
-use Rattle.rep_ops.specs.Orders.{client_cmp}
+use Rattle.rep_op.specs.Orders.{client_cmp}
 use Rattle.rep_model.specs.Asking.{is_subscribed}
 use Rattle.rep_log.specs.declared.log.Log.{Log}
 use Rattle.rep_entry.specs.declared.entry.Entry.{Entry}
 use Rattle.rep_state.specs.declared.places.Place.{Place}
-use Rattle.rep_state.specs.Interests.{has_mark, SessionWithin}
+use Rattle.rep_entry.specs.Interests.{has_mark, SessionWithin}
 
 -- the place with other marks, where it is that of the client
 abbrev pub marked : List ℕ → ℕ → Place → Place

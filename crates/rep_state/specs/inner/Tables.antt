@@ -3,12 +3,12 @@ use Rattle.std.specs.Prelude.{◌≡◌, ℕ, List, [], ◌∷◌, ◌++◌, len
 use Rattle.std.specs.List.{AllByRecursion, list_any}
 use Rattle.std.specs.declared.cmp.Ordering.{Ordering}
 use Rattle.std.specs.FinMap.{find}
-use Rattle.rep_ops.specs.declared.op.Op.{Op}
-use Rattle.rep_ops.specs.Orders.{client_cmp}
+use Rattle.rep_op.specs.declared.op.Op.{Op}
+use Rattle.rep_op.specs.Orders.{client_cmp}
 use Rattle.rep_model.specs.declared.fault.TheConstants.{MOST_PENDING, MOST_PARKED, MOST_EXCEPTIONS}
 use Rattle.rep_model.specs.declared.fault.Limit.{Limit}
-use Rattle.rep_plain.specs.Rows.{flat, own}
-use Rattle.rep_plain.specs.inner.Tables.{passed_of}
+use Rattle.rep_shared.specs.Rows.{flat, own}
+use Rattle.rep_shared.specs.inner.Tables.{passed_of}
 use Rattle.rep_entry.specs.declared.entry.Entry.{Entry}
 use Rattle.rep_state.specs.declared.places.Place.{Place}
 use Rattle.rep_entry.specs.Entries.{IsEntry}

@@ -14,12 +14,18 @@ use Rattle.sn_client.specs.inner.Talking.{awaited_at, outcome_at, msg_id_of, id_
 
 -- an exchange that begins with a frame
 abbrev pub beginning : Option Frame → Awaited → Talk
-beginning frame awaited = record { awaited = awaited; pending = frame; planned = None; outcome = None }
+beginning frame awaited =
+    record { awaited = awaited; pending = frame; planned = None; outcome = None }
 
 -- a publication behind the registration of its topic's name
 abbrev pub registering : Publication → List ℕ → ℕ → Talk
 registering p name id =
-    record { awaited = waits.Registration id; pending = Some (frames.Register 0 id name); planned = Some p; outcome = None }
+    record {
+      awaited = waits.Registration id;
+      pending = Some (frames.Register 0 id name);
+      planned = Some p;
+      outcome = None;
+    }
 
 -- a publication by the id of its topic
 abbrev pub frame_by_id : Publication → ℕ → Frame
@@ -43,7 +49,8 @@ planned_of (Some p) topic talk = publishing_of p topic
 abbrev pub turned : Turn → Talk → Talk
 turned turns.Stay talk = talk
 turned (turns.Publish topic) talk = planned_of talk.planned topic talk
-turned (turns.Release id) talk = record talk { awaited = waits.Completion id; pending = Some (frames.PubRel id) }
+turned (turns.Release id) talk =
+    record talk { awaited = waits.Completion id; pending = Some (frames.PubRel id) }
 turned (turns.End outcome) talk = record talk { outcome = Some outcome }
 
 -- how a run ends where nothing has ended the exchange

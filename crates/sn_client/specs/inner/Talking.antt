@@ -1,4 +1,5 @@
--- One exchange, MQTT-SN 1.2 sections 6.2 to 6.14: what a frame means for what is awaited, and what answers it.
+-- One exchange, MQTT-SN 1.2 sections 6.2 to 6.14: what a frame means for what is awaited, and what
+-- answers it.
 use Rattle.std.specs.Prelude.{ℕ, ◌+◌, ◌/◌, ◌==◌, if◌then◌else◌, Option, Some, None}
 use Rattle.sn_frame.specs.declared.flags.Qos.{Qos}
 use Rattle.sn_frame.specs.declared.flags.Qos.TheVariants as levels
@@ -22,7 +23,8 @@ acknowledgement_at levels.MinusOne topic id = None
 -- what a frame from the gateway is answered by, sections 6.5, 6.6 and 6.10
 abbrev pub acknowledgement_of : Frame → Option Frame
 acknowledgement_of (frames.Register topic id name) = Some (frames.RegAck topic id 0)
-acknowledgement_of (frames.Publish flags topic id body) = acknowledgement_at (qos_of flags.bits) topic id
+acknowledgement_of (frames.Publish flags topic id body) =
+    acknowledgement_at (qos_of flags.bits) topic id
 acknowledgement_of (frames.PubRel id) = Some (frames.PubComp id)
 acknowledgement_of f = None
 
@@ -42,18 +44,26 @@ turn_by_refusal code = if code == 0 then turns.Stay else turns.End outcomes.Refu
 abbrev pub turn_by_reg_ack : ℕ → ℕ → Turn
 turn_by_reg_ack topic code = if code == 0 then turns.Publish topic else turns.End outcomes.Refused
 
--- what a frame means for what is awaited; a DISCONNECT that answers none says that there is no connection
+-- what a frame means for what is awaited; a DISCONNECT that answers none says that there is no
+-- connection
 abbrev pub turn_of : Awaited → Frame → Turn
 turn_of waits.Gateway (frames.GwInfo gateway address) = turns.End outcomes.Accepted
 turn_of waits.Connection (frames.ConnAck code) = turn_by_code code
-turn_of (waits.Registration id) (frames.RegAck topic came code) = turn_under id came (turn_by_reg_ack topic code)
-turn_of (waits.Subscription id) (frames.SubAck flags topic came code) = turn_under id came (turn_by_code code)
-turn_of (waits.Withdrawal id) (frames.UnsubAck came) = turn_under id came (turns.End outcomes.Accepted)
-turn_of (waits.Publication id) (frames.PubAck topic came code) = turn_under id came (turn_by_code code)
-turn_of (waits.Receipt id) (frames.PubAck topic came code) = turn_under id came (turn_by_refusal code)
-turn_of (waits.Refusal id) (frames.PubAck topic came code) = turn_under id came (turn_by_refusal code)
+turn_of (waits.Registration id) (frames.RegAck topic came code) =
+    turn_under id came (turn_by_reg_ack topic code)
+turn_of (waits.Subscription id) (frames.SubAck flags topic came code) =
+    turn_under id came (turn_by_code code)
+turn_of (waits.Withdrawal id) (frames.UnsubAck came) =
+    turn_under id came (turns.End outcomes.Accepted)
+turn_of (waits.Publication id) (frames.PubAck topic came code) =
+    turn_under id came (turn_by_code code)
+turn_of (waits.Receipt id) (frames.PubAck topic came code) =
+    turn_under id came (turn_by_refusal code)
+turn_of (waits.Refusal id) (frames.PubAck topic came code) =
+    turn_under id came (turn_by_refusal code)
 turn_of (waits.Receipt id) (frames.PubRec came) = turn_under id came (turns.Release id)
-turn_of (waits.Completion id) (frames.PubComp came) = turn_under id came (turns.End outcomes.Accepted)
+turn_of (waits.Completion id) (frames.PubComp came) =
+    turn_under id came (turns.End outcomes.Accepted)
 turn_of waits.Waking frames.PingResp = turns.End outcomes.Accepted
 turn_of waits.Farewell (frames.Disconnect duration) = turns.End outcomes.Accepted
 turn_of awaited (frames.Disconnect duration) = turns.End outcomes.Refused
@@ -99,7 +109,8 @@ abbrev pub repeated_bits : ℕ → ℕ
 repeated_bits bits = if bits / 128 == 0 then bits + 128 else bits
 
 abbrev pub repeated : Frame → Frame
-repeated (frames.Publish flags topic id body) = frames.Publish (record { bits = repeated_bits flags.bits }) topic id body
+repeated (frames.Publish flags topic id body) =
+    frames.Publish (record { bits = repeated_bits flags.bits }) topic id body
 repeated f = f
 
 -- what is awaited behind a publication, sections 6.6 and 6.8

@@ -23,7 +23,8 @@ fn acknowledgement_at(qos: Qos, topic_id: u16, msg_id: u16) -> Option<Frame>
     }
 }
 
-/// What a frame from the gateway is acknowledged by, if by anything: a REGISTER, a PUBLISH at QoS 1 or 2, a PUBREL.
+/// What a frame from the gateway is acknowledged by, if by anything: a REGISTER, a PUBLISH at QoS 1
+/// or 2, a PUBREL.
 pub(crate) fn acknowledgement(frame: &Frame) -> Option<Frame>
     ensures value { result ≡ acknowledgement_of frame.now }
 

@@ -1,4 +1,5 @@
-//! What a frame means for what is awaited. An answer counts under the message id that was sent, and under no other.
+//! What a frame means for what is awaited. An answer counts under the message id that was sent, and
+//! under no other.
 
 ghost use Rattle.std.specs.Prelude.{◌≡◌};
 ghost use Rattle.sn_client.specs.inner.Talking.{turn_of, turn_under, turn_by_code, turn_by_refusal, turn_by_reg_ack, msg_id_of, id_awaited, OnProgress};
@@ -48,7 +49,8 @@ fn turn_by_reg_ack(topic_id: u16, code: u8) -> Turn
     }
 }
 
-/// What a frame leads to. A DISCONNECT that answers none says that the gateway has no connection with the client.
+/// What a frame leads to. A DISCONNECT that answers none says that the gateway has no connection
+/// with the client.
 fn turn_by_type(awaited: Awaited, frame: &Frame) -> Turn
     ensures { result ≡ turn_of awaited frame.now }
 {

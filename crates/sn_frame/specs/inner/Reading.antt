@@ -1,4 +1,5 @@
--- What the readers of `decode` make of a body. They alone cite this file: `decode` is stated by the grammar.
+-- What the readers of `decode` make of a body. They alone cite this file: `decode` is stated by the
+-- grammar.
 use Rattle.std.specs.Prelude.{◌≡◌, ◌≢◌, ℕ, ◌+◌, ◌*◌, ◌==◌, Bool, true, nat_le, ◌&&◌, if◌then◌else◌, List, [], ◌∷◌, length, Option, Some, None, option_map, Result, Ok, Err}
 use Rattle.sn_frame.specs.declared.fault.FrameFault.{FrameFault}
 use Rattle.sn_frame.specs.declared.fault.FrameFault.TheVariants as faults
@@ -13,7 +14,8 @@ use Rattle.sn_frame.specs.declared.msg_type.MsgType.{MsgType}
 use Rattle.sn_frame.specs.declared.msg_type.MsgType.TheVariants as types
 use Rattle.sn_frame.specs.FlagBits.{kind_of}
 
--- what a reader may answer, where this is what there is to read: memory is wanted only where there is something
+-- what a reader may answer, where this is what there is to read: memory is wanted only where there
+-- is something
 abbrev pub Gives : {A : Type 0} → Option A → Result A FrameFault → Type 0
 Gives there (Ok x) = there ≡ Some x
 Gives there (Err faults.Memory) = there ≢ None
@@ -54,7 +56,8 @@ fits_topic kinds.Reserved topic = true
 -- flags, a message id and a topic
 abbrev pub read_filter : List ℕ → Option (Flags × ℕ × List ℕ)
 read_filter (bits ∷ high ∷ low ∷ topic) =
-    if fits_topic (kind_of bits) topic then Some (record { bits = bits }, number high low, topic) else None
+    if fits_topic (kind_of bits) topic then Some (record { bits = bits }, number high low, topic)
+    else None
 read_filter body = None
 
 -- a will's flags and topic, or nothing
@@ -75,7 +78,8 @@ read_gw_info body = None
 -- CONNECT: flags, protocol, duration, client of 1 to 23 octets
 abbrev pub read_connect : List ℕ → Option Frame
 read_connect (bits ∷ protocol ∷ high ∷ low ∷ client) =
-    if nat_le 1 (length client) && nat_le (length client) MAX_CLIENT_ID then Some (frames.Connect (record { bits = bits }) protocol (number high low) client)
+    if nat_le 1 (length client) && nat_le (length client) MAX_CLIENT_ID
+    then Some (frames.Connect (record { bits = bits }) protocol (number high low) client)
     else None
 read_connect body = None
 
@@ -86,12 +90,14 @@ read_register body = None
 
 -- PUBLISH: flags, topic, message id, body
 abbrev pub read_publish : List ℕ → Option Frame
-read_publish (bits ∷ t1 ∷ t0 ∷ m1 ∷ m0 ∷ message) = Some (frames.Publish (record { bits = bits }) (number t1 t0) (number m1 m0) message)
+read_publish (bits ∷ t1 ∷ t0 ∷ m1 ∷ m0 ∷ message) =
+    Some (frames.Publish (record { bits = bits }) (number t1 t0) (number m1 m0) message)
 read_publish body = None
 
 -- SUBACK: flags, topic id, message id, code
 abbrev pub read_sub_ack : List ℕ → Option Frame
-read_sub_ack (bits ∷ t1 ∷ t0 ∷ m1 ∷ m0 ∷ code ∷ []) = Some (frames.SubAck (record { bits = bits }) (number t1 t0) (number m1 m0) code)
+read_sub_ack (bits ∷ t1 ∷ t0 ∷ m1 ∷ m0 ∷ code ∷ []) =
+    Some (frames.SubAck (record { bits = bits }) (number t1 t0) (number m1 m0) code)
 read_sub_ack body = None
 
 -- PINGREQ: client of at most 23 octets
@@ -124,7 +130,8 @@ frame_of types.PubRec body = option_map (λ msg_id. frames.PubRec msg_id) (read_
 frame_of types.PubRel body = option_map (λ msg_id. frames.PubRel msg_id) (read_number body)
 frame_of types.Subscribe body = option_map (λ x. frames.Subscribe x.0 x.1 x.2) (read_filter body)
 frame_of types.SubAck body = read_sub_ack body
-frame_of types.Unsubscribe body = option_map (λ x. frames.Unsubscribe x.0 x.1 x.2) (read_filter body)
+frame_of types.Unsubscribe body =
+    option_map (λ x. frames.Unsubscribe x.0 x.1 x.2) (read_filter body)
 frame_of types.UnsubAck body = option_map (λ msg_id. frames.UnsubAck msg_id) (read_number body)
 frame_of types.PingReq body = read_ping_req body
 frame_of types.PingResp body = read_bare body frames.PingResp

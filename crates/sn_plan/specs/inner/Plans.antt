@@ -5,4 +5,5 @@ use Rattle.sn_plan.specs.Plans.{IsFault}
 
 -- the value after the call is what the definition says
 abbrev pub Becomes : {X Y : Type 0} → Result Y StepFault → X → Option X → Type 0
-Becomes result x defined = MatchResult result (λ _. defined ≡ Some x) (λ fault. IsFault fault defined)
+Becomes result x defined =
+    MatchResult result (λ _. defined ≡ Some x) (λ fault. IsFault fault defined)

@@ -1,6 +1,6 @@
 use Rattle.std.proofs.Common.{refl, arith}
 use Rattle.sn_local.specs.Seen.{seen_of}
-use Rattle.sn_deliver.proofs.Idle.{idle_before}
+use Rattle.sn_tick.proofs.Idle.{idle_before}
 use Rattle.gw_node.proofs.Resting.{remembered}
 use Rattle.gw_node.proofs.handling.is_idle_at.Goals as goal
 

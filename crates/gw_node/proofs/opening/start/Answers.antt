@@ -1,5 +1,5 @@
 use Rattle.std.proofs.Common.{List, [], subst, ◌∙◌}
-use Rattle.rep_ops.specs.declared.op.Op.{Op}
+use Rattle.rep_op.specs.declared.op.Op.{Op}
 use Rattle.gw_node.specs.Keeping.{Keeps}
 use Rattle.gw_node.specs.Taking.{ops_of}
 use Rattle.gw_node.specs.Opening.{FitInTurn}

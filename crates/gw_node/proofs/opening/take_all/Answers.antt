@@ -1,7 +1,7 @@
 -- One more delta, and all of them.
 use Rattle.std.proofs.Common.{◌≡◌, ◌+◌, ◌∷◌, ◌++◌, [], List, sym, ap, ◌∙◌, subst, take, take_all, length, arith}
 use Rattle.std.proofs.lemmas.List.{take_more}
-use Rattle.rep_ops.specs.declared.op.Op.{Op}
+use Rattle.rep_op.specs.declared.op.Op.{Op}
 use Rattle.rep_model.specs.Keep.{IsKeptOf}
 use Rattle.gw_node.specs.Keeping.{Keeps}
 use Rattle.gw_node.specs.Taking.{ops_of}

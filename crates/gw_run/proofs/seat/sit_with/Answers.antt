@@ -1,5 +1,5 @@
-use Rattle.gw_run.specs.Adding.{is_of_link}
-use Rattle.gw_run.proofs.Adding.{adds_more}
+use Rattle.gw_link.specs.Adding.{is_of_link}
+use Rattle.gw_link.proofs.Adding.{adds_more}
 use Rattle.gw_run.proofs.seat.sit_with.Goals as goal
 
 pub loop-preserved-in-Full : goal.loop-preserved-in-Full

@@ -1,5 +1,5 @@
 use Rattle.std.proofs.Common.{◌≡◌, ◌∙◌, Some, None, Ok, Err, refl, sym}
-use Rattle.gw_run.specs.declared.calling.End.TheVariants as ends
+use Rattle.gw_link.specs.declared.calling.End.TheVariants as ends
 use Rattle.gw_run.proofs.Clock.{clock_cannot, clock_uncalled, clock_found, finds_refused, starved_refused}
 use Rattle.gw_run.proofs.ticking.tick_once.Goals as goal
 

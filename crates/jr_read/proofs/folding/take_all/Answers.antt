@@ -1,7 +1,7 @@
 -- One more record, and all of them.
 use Rattle.std.proofs.Common.{List, refl, subst, take_all}
 use Rattle.std.proofs.lemmas.Option.{slice_get_read}
-use Rattle.rep_ops.specs.declared.op.Op.{Op}
+use Rattle.rep_op.specs.declared.op.Op.{Op}
 use Rattle.rep_model.specs.Keep.{CountsAs}
 use Rattle.jr_read.specs.Folding.{ops_of}
 use Rattle.jr_read.proofs.Taken.{counts_none, counts_more}

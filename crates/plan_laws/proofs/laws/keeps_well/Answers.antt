@@ -1,4 +1,4 @@
-use Rattle.sn_deliver.proofs.Drafting.{step-drafted, tick-drafted}
+use Rattle.step_laws.proofs.Drafting.{step-drafted, tick-drafted}
 use Rattle.plan_laws.proofs.Steps.{step-makes, tick-makes, start-keeps, made-keeps, taken-keeps}
 use Rattle.plan_laws.proofs.laws.keeps_well.Goals as goal
 

@@ -1,5 +1,5 @@
 use Rattle.std.proofs.Common.{◌≡◌, List, ◌++◌, take}
-use Rattle.rep_ops.specs.declared.op.Put.{Put}
+use Rattle.rep_op.specs.declared.op.Put.{Put}
 use Rattle.rep_digest.specs.declared.groups.Acknowledged.{Acknowledged}
 use Rattle.rep_digest.specs.inner.Steps.{drafted_origins, AreDrafted}
 use Rattle.rep_digest.proofs.draft.note_acknowledged.Given as goal

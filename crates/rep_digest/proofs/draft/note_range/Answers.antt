@@ -1,7 +1,7 @@
 use Rattle.std.proofs.Common.{ℕ, List, set, sym, subst, ◌∙◌}
 use Rattle.std.specs.List.{insert}
 use Rattle.std.specs.Ordering.{nat_cmp}
-use Rattle.sn_session.specs.inner.Tables.{IsAt, IsGap}
+use Rattle.sn_tables.specs.inner.Tables.{IsAt, IsGap}
 use Rattle.rep_digest.specs.WellMade.{OriginsAscend}
 use Rattle.rep_digest.specs.declared.entry.OriginEntry.{OriginEntry}
 use Rattle.rep_digest.proofs.Drafting.{ascend_from, gateway, ack_nowhere, ack_at, ack_gap}

@@ -1,6 +1,6 @@
-use Rattle.rep_ops.specs.Orders.{client_cmp}
+use Rattle.rep_op.specs.Orders.{client_cmp}
 use Rattle.rep_model.proofs.Readers.{client_total}
-use Rattle.sn_session.proofs.Places.{placed}
+use Rattle.sn_tables.proofs.Places.{placed}
 use Rattle.rep_digest.proofs.Grouping.{ascends_from}
 use Rattle.rep_digest.proofs.groups.place.Goals as goal
 

@@ -1,7 +1,7 @@
 use Rattle.std.proofs.Common.{◌≡◌, nat_cmp, rules}
 use Rattle.std.proofs.lemmas.Cmp.{nat_cmp_total}
 use Rattle.std.proofs.lemmas.Fn.{always_returns_same}
-use Rattle.sn_session.proofs.Places.{placed}
+use Rattle.sn_tables.proofs.Places.{placed}
 use Rattle.rep_digest.proofs.Occurring.{entries_ascend}
 use Rattle.rep_digest.proofs.origins.place.Goals as goal
 

@@ -1,6 +1,6 @@
 use Rattle.std.proofs.Common.{take}
 use Rattle.rep_ops.specs.Splitting.{all_of}
-use Rattle.rep_ops.specs.Values.{AreValues}
+use Rattle.rep_op.specs.Values.{AreValues}
 use Rattle.rep_digest.proofs.working.are_values.Given as goal
 
 abbrev pub invariant-loop-delta : goal.invariant-loop-delta

@@ -1,5 +1,5 @@
 use Rattle.std.proofs.Common.{◌≡◌, List, map, take}
-use Rattle.rep_ops.specs.declared.op.Op.{Op}
+use Rattle.rep_op.specs.declared.op.Op.{Op}
 use Rattle.rep_model.specs.Views.{view}
 use Rattle.rep_digest.specs.inner.Steps.{group, groups, drafted_entry}
 use Rattle.rep_digest.proofs.working.entries_of.Given as goal

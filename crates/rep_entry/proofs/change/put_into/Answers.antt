@@ -1,5 +1,5 @@
 use Rattle.std.proofs.Common.{◌≡◌, List, sym, ap, subst, ◌∙◌}
-use Rattle.rep_ops.specs.declared.op.Put.{Put}
+use Rattle.rep_op.specs.declared.op.Put.{Put}
 use Rattle.rep_entry.specs.declared.entry.Entry.{Entry}
 use Rattle.rep_log.specs.Mail.{Rising, weave}
 use Rattle.rep_entry.proofs.Rising.{rising_weave}

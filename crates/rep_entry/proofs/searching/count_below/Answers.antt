@@ -1,6 +1,6 @@
 use Rattle.std.proofs.Common.{◌≡◌, true, nat_lt, arith, rules}
 use Rattle.std.proofs.lemmas.Fn.{always_returns_same}
-use Rattle.rep_ops.specs.declared.op.Put.{Put}
+use Rattle.rep_op.specs.declared.op.Put.{Put}
 use Rattle.rep_entry.proofs.Spans.{parted_below, all_take}
 use Rattle.rep_entry.proofs.searching.count_below.Goals as goal
 

@@ -1,6 +1,6 @@
 use Rattle.std.proofs.Common.{◌≡◌, false, nat_le, rules}
 use Rattle.std.proofs.lemmas.Fn.{always_returns_same}
-use Rattle.rep_ops.specs.declared.op.Put.{Put}
+use Rattle.rep_op.specs.declared.op.Put.{Put}
 use Rattle.rep_entry.proofs.Spans.{parted_up_to, all_drop}
 use Rattle.rep_entry.proofs.searching.count_up_to.Goals as goal
 

@@ -1,5 +1,5 @@
 use Rattle.std.proofs.Common.{suc, get_or, drop, remove, filter, List, refl, sym, ap, ◌∙◌}
-use Rattle.rep_ops.specs.declared.op.Put.{Put}
+use Rattle.rep_op.specs.declared.op.Put.{Put}
 use Rattle.rep_log.specs.Mail.{is_left}
 use Rattle.rep_log.specs.Origins.{ranges_in}
 use Rattle.rep_entry.proofs.Spans.{stays, goes}

@@ -1,5 +1,5 @@
 use Rattle.std.proofs.Common.{List, take, drop, sym, subst}
-use Rattle.rep_ops.specs.declared.op.Put.{Put}
+use Rattle.rep_op.specs.declared.op.Put.{Put}
 use Rattle.rep_log.specs.Mail.{NoneCovered, Rising}
 use Rattle.rep_entry.specs.Spans.{AreFreeOutside}
 use Rattle.rep_log.specs.Origins.{ranges_in}

@@ -1,5 +1,5 @@
 use Rattle.std.proofs.Common.{◌==◌, length, sym, ap, ◌∙◌, List}
-use Rattle.rep_ops.specs.declared.op.Put.{Put}
+use Rattle.rep_op.specs.declared.op.Put.{Put}
 use Rattle.rep_entry.proofs.Applied.{empty_woven}
 use Rattle.rep_entry.proofs.settling.joined.Goals as goal
 

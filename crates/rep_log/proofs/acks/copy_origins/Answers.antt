@@ -1,7 +1,7 @@
 use Rattle.std.proofs.Common.{◌++◌, ℕ, T, sym, ap, subst, ◌∙◌, nat_cmp, Vec, Global}
 use Rattle.std.specs.FinMap.{put}
 use Rattle.std.proofs.lemmas.Cmp.{nat_cmp_total}
-use Rattle.rep_plain.proofs.Found.{sorted_map, sorted_from_keys}
+use Rattle.rep_shared.proofs.Found.{sorted_map, sorted_from_keys}
 use Rattle.rep_log.specs.Origins.{origins_of}
 use Rattle.rep_log.proofs.Acknowledged.{origins_put}
 use Rattle.rep_log.proofs.Copying.{copied_next}

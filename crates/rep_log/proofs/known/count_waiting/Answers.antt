@@ -1,6 +1,6 @@
 use Rattle.std.proofs.Common.{count_by, sym, ap, ◌∙◌}
 use Rattle.std.specs.Map.{keys_of}
-use Rattle.rep_plain.specs.Steps.{waits}
+use Rattle.rep_shared.specs.Steps.{waits}
 use Rattle.rep_log.proofs.Sorting.{wait_none}
 use Rattle.rep_log.proofs.known.count_waiting.Goals as goal
 

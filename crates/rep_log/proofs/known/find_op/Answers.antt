@@ -1,6 +1,6 @@
 use Rattle.std.proofs.Common.{ℕ, sym}
-use Rattle.rep_ops.specs.declared.op.Stamp.{Stamp}
-use Rattle.rep_ops.specs.Orders.{operation_cmp}
+use Rattle.rep_op.specs.declared.op.Stamp.{Stamp}
+use Rattle.rep_op.specs.Orders.{operation_cmp}
 use Rattle.rep_model.proofs.Readers.{operation_total}
 use Rattle.rep_log.proofs.Sorting.{found_at, found_gap}
 use Rattle.rep_log.proofs.known.find_op.Goals as goal

@@ -1,8 +1,8 @@
 use Rattle.std.proofs.Common.{ℕ, not, List, ◌++◌, filter, Some, T, sym, ap, subst, ◌∙◌}
 use Rattle.std.specs.FinMap.{is_sorted}
 use Rattle.sn_session.specs.declared.change.SessionOp.{SessionOp}
-use Rattle.rep_ops.specs.declared.op.Stamp.{Stamp}
-use Rattle.rep_ops.specs.Orders.{operation_cmp}
+use Rattle.rep_op.specs.declared.op.Stamp.{Stamp}
+use Rattle.rep_op.specs.Orders.{operation_cmp}
 use Rattle.rep_model.specs.Keep.{is_below}
 use Rattle.rep_log.proofs.Sorting.{rest_is, stay_at, stay_gap, sorted_from}
 use Rattle.rep_log.proofs.known.from_stamp.Goals as goal

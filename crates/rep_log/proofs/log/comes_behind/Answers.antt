@@ -1,7 +1,7 @@
 use Rattle.std.proofs.Common.{◌≡◌, Less, sym, ◌∙◌, ℕ}
 use Rattle.sn_session.specs.declared.change.SessionOp.{SessionOp}
-use Rattle.rep_ops.specs.declared.op.Stamp.{Stamp}
-use Rattle.rep_ops.specs.Orders.{operation_cmp}
+use Rattle.rep_op.specs.declared.op.Stamp.{Stamp}
+use Rattle.rep_op.specs.Orders.{operation_cmp}
 use Rattle.rep_model.proofs.Readers.{operation_total}
 use Rattle.rep_log.proofs.Sorting.{none_last, behind_all}
 use Rattle.rep_log.proofs.log.comes_behind.Goals as goal

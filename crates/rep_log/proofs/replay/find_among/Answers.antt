@@ -1,7 +1,7 @@
 use Rattle.std.proofs.Common.{ℕ, sym, ap, ◌∙◌}
 use Rattle.std.specs.FinMap.{find}
-use Rattle.rep_ops.specs.declared.op.Stamp.{Stamp}
-use Rattle.rep_ops.specs.Orders.{operation_cmp}
+use Rattle.rep_op.specs.declared.op.Stamp.{Stamp}
+use Rattle.rep_op.specs.Orders.{operation_cmp}
 use Rattle.rep_model.proofs.Lookup.{or_else, find_both}
 use Rattle.rep_log.proofs.replay.find_among.Goals as goal
 

@@ -1,8 +1,8 @@
 use Rattle.std.proofs.Common.{subst, refl}
-use Rattle.rep_ops.specs.Deltas.{HasTwice}
+use Rattle.rep_op.specs.Orders.{HasTwice}
 use Rattle.rep_ops.specs.Making.{AreWellMade}
 use Rattle.rep_ops.proofs.Making.{sorted_from, sorted_apart, joined_made, memory_alone}
-use Rattle.rep_ops.proofs.Sets.{twice_permutation}
+use Rattle.rep_op.proofs.Sets.{twice_permutation}
 use Rattle.rep_ops.proofs.delta.canonical.Goals as goal
 
 pub returns-then-has_twice-clause-twice : goal.returns-then-has_twice-clause-twice

@@ -1,8 +1,8 @@
 use Rattle.std.specs.Ordering.{is_lt}
 use Rattle.std.proofs.Common.{rules}
 use Rattle.std.proofs.lemmas.List.Sorted.{ranks_by, answers_always}
-use Rattle.rep_ops.specs.Orders.{name_cmp}
-use Rattle.rep_ops.proofs.Names.{name_total}
+use Rattle.rep_op.specs.Orders.{name_cmp}
+use Rattle.rep_op.proofs.Names.{name_total}
 use Rattle.rep_ops.proofs.join.sort_by_name.Goals as goal
 
 pub returns-clause-sorted : goal.returns-clause-sorted

@@ -2,8 +2,8 @@ use Rattle.std.proofs.Common.{All, refl, subst, sym, ◌∙◌}
 use Rattle.std.specs.Prelude.{IsTrue}
 use Rattle.std.proofs.lemmas.List.Elements.{recursion_from_All, All-more}
 use Rattle.std.proofs.lemmas.List.{take_all}
-use Rattle.rep_ops.specs.Values.{IsValue}
-use Rattle.rep_ops.specs.WellMade.{is_well_made}
+use Rattle.rep_op.specs.Values.{IsValue}
+use Rattle.rep_op.specs.WellMade.{is_well_made}
 use Rattle.rep_ops.proofs.size.are_well_made.Goals as goal
 
 pub returns-clause-made : goal.returns-clause-made

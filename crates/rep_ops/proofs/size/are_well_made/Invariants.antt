@@ -1,7 +1,7 @@
 use Rattle.std.proofs.Common.{take, All}
 use Rattle.std.specs.Prelude.{IsTrue}
-use Rattle.rep_ops.specs.Values.{IsValue}
-use Rattle.rep_ops.specs.WellMade.{is_well_made}
+use Rattle.rep_op.specs.Values.{IsValue}
+use Rattle.rep_op.specs.WellMade.{is_well_made}
 use Rattle.rep_ops.proofs.size.are_well_made.Given as goal
 
 abbrev pub invariant-loop-op : goal.invariant-loop-op

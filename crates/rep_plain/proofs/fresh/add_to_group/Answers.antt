@@ -4,10 +4,10 @@ use Rattle.std.specs.BTreeMap.{is_at}
 use Rattle.std.specs.Map.{lookup}
 use Rattle.std.specs.FinMap.{find}
 use Rattle.std.proofs.lemmas.Map.Views.{tells_apart}
-use Rattle.rep_ops.specs.declared.op.Op.{Op}
-use Rattle.rep_ops.specs.Orders.{client_cmp, client_of}
+use Rattle.rep_op.specs.declared.op.Op.{Op}
+use Rattle.rep_op.specs.Orders.{client_cmp, client_of}
 use Rattle.rep_model.proofs.Readers.{client_exact}
-use Rattle.rep_plain.specs.Rows.{own}
+use Rattle.rep_shared.specs.Rows.{own}
 use Rattle.rep_plain.specs.inner.Rows.{grown}
 use Rattle.rep_plain.specs.Tables.{rows_of}
 use Rattle.rep_plain.specs.inner.Tables.{groups_of}

@@ -3,9 +3,9 @@ use Rattle.std.specs.Option.{unwrap_or}
 use Rattle.std.specs.BTreeMap.{is_at}
 use Rattle.std.specs.Map.{lookup}
 use Rattle.std.proofs.lemmas.Result.{IfOk-weaker}
-use Rattle.rep_ops.specs.declared.op.Op.{Op}
-use Rattle.rep_ops.specs.Orders.{client_cmp}
-use Rattle.rep_plain.specs.Rows.{own}
+use Rattle.rep_op.specs.declared.op.Op.{Op}
+use Rattle.rep_op.specs.Orders.{client_cmp}
+use Rattle.rep_shared.specs.Rows.{own}
 use Rattle.rep_plain.specs.Tables.{rows_of}
 use Rattle.rep_plain.proofs.Growing.{look_up}
 use Rattle.rep_plain.proofs.fresh.take_group.Goals as goal

@@ -1,10 +1,10 @@
 use Rattle.std.proofs.Common.{T, sym, ap, subst, ◌++◌, ◌∙◌, append-nil, Vec, Global}
 use Rattle.std.specs.FinMap.{is_sorted}
-use Rattle.rep_ops.specs.declared.op.Op.{Op}
-use Rattle.rep_ops.specs.Orders.{client_cmp}
+use Rattle.rep_op.specs.declared.op.Op.{Op}
+use Rattle.rep_op.specs.Orders.{client_cmp}
 use Rattle.rep_plain.specs.Tables.{rows_of}
 use Rattle.rep_plain.specs.inner.Tables.{groups_of}
-use Rattle.rep_plain.proofs.Found.{sorted_map, sorted_from_keys}
+use Rattle.rep_shared.proofs.Found.{sorted_map, sorted_from_keys}
 use Rattle.rep_plain.proofs.fresh.worked_out.Goals as goal
 
 pub returns-clause-sorted : goal.returns-clause-sorted

@@ -1,9 +1,11 @@
 use Rattle.std.proofs.Common.{◌++◌, ◌∷◌, [], not, if◌then◌else◌, sym, ap, subst, ◌∙◌, append-nil, true≢false, ⊎_elim}
-use Rattle.rep_ops.specs.Sets.{Agrees}
-use Rattle.rep_plain.specs.Rows.{flat, own}
+use Rattle.rep_op.specs.Sets.{Agrees}
+use Rattle.rep_shared.specs.Rows.{flat, own}
 use Rattle.rep_plain.specs.Tables.{rows_of}
-use Rattle.rep_plain.specs.inner.Tables.{is_known, IsRefusalOf}
-use Rattle.rep_plain.proofs.Found.{agrees_flat, agrees_own, known_row}
+use Rattle.rep_plain.specs.inner.Tables.{is_known}
+use Rattle.rep_shared.specs.inner.Tables.{IsRefusalOf}
+use Rattle.rep_shared.proofs.Found.{agrees_flat, agrees_own}
+use Rattle.rep_plain.proofs.Found.{known_row}
 use Rattle.rep_plain.proofs.news.add_new.Goals as goal
 use Rattle.rep_plain.proofs.news.add_new.Goals.{then-not-is_known+in_ok-push_copy, else-not-is_known}
 

@@ -1,9 +1,9 @@
 use Rattle.std.proofs.Common.{Contains, sym, subst}
 use Rattle.std.proofs.lemmas.List.Elements.{Contains-get_or}
 use Rattle.std.proofs.lemmas.Result.{err_from_is_err_and}
-use Rattle.rep_plain.specs.Rows.{flat}
+use Rattle.rep_shared.specs.Rows.{flat}
 use Rattle.rep_plain.specs.Tables.{rows_of}
-use Rattle.rep_plain.proofs.Found.{refused}
+use Rattle.rep_shared.proofs.Found.{refused}
 use Rattle.rep_plain.proofs.news.news.Goals as goal
 
 pub returns-in_err-add_new-clause-fault : goal.returns-in_err-add_new-clause-fault

@@ -1,6 +1,6 @@
 use Rattle.std.proofs.Common.{◌≡◌, ◌++◌, drop, filter, not}
 use Rattle.rep_model.specs.Taking.{AllAgree}
-use Rattle.rep_plain.specs.Rows.{flat}
+use Rattle.rep_shared.specs.Rows.{flat}
 use Rattle.rep_plain.specs.Tables.{rows_of}
 use Rattle.rep_plain.specs.inner.Tables.{is_known}
 use Rattle.rep_plain.proofs.news.news.Given as goal

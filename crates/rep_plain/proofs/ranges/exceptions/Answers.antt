@@ -1,6 +1,6 @@
 use Rattle.std.proofs.Common.{refl, ap, ◌∙◌}
 use Rattle.rep_model.specs.Limits.{above_a_gap}
-use Rattle.rep_plain.specs.Steps.{capped}
+use Rattle.rep_shared.specs.Steps.{capped}
 use Rattle.rep_plain.specs.inner.Steps.{above_gaps}
 use Rattle.rep_plain.proofs.Prefixes.{capped_more}
 use Rattle.rep_plain.proofs.ranges.exceptions.Goals as goal

@@ -1,5 +1,5 @@
 use Rattle.std.proofs.Common.{◌≡◌}
-use Rattle.rep_plain.specs.Steps.{capped}
+use Rattle.rep_shared.specs.Steps.{capped}
 use Rattle.rep_plain.specs.inner.Steps.{above_gaps}
 use Rattle.rep_plain.proofs.ranges.exceptions.Given as goal
 

@@ -1,5 +1,5 @@
 use Rattle.std.proofs.Common.{sym, ap, ◌∙◌, arith, drop}
-use Rattle.rep_plain.proofs.Places.{drop_back}
+use Rattle.rep_shared.proofs.Places.{drop_back}
 use Rattle.rep_model.specs.Fresh.{greatest_epoch}
 use Rattle.rep_plain.proofs.reading.greatest_epoch.Goals as goal
 

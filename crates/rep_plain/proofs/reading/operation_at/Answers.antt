@@ -1,8 +1,8 @@
 use Rattle.std.proofs.Common.{◌+◌, sym, ap, ◌∙◌, drop}
-use Rattle.rep_plain.proofs.Places.{drop_here}
+use Rattle.rep_shared.proofs.Places.{drop_here}
 use Rattle.std.specs.Option.{option_copied}
 use Rattle.rep_plain.specs.inner.Steps.{first_of_two}
-use Rattle.rep_ops.specs.Sets.{operation_at}
+use Rattle.rep_op.specs.Sets.{operation_at}
 use Rattle.rep_plain.proofs.reading.operation_at.Goals as goal
 
 pub returns-in-Some : goal.returns-in-Some

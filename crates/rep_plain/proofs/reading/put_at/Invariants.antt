@@ -1,5 +1,5 @@
 use Rattle.std.proofs.Common.{◌≡◌, drop}
-use Rattle.rep_ops.specs.Sets.{put_at}
+use Rattle.rep_op.specs.Sets.{put_at}
 use Rattle.rep_plain.proofs.reading.put_at.Given as goal
 
 abbrev pub invariant-loop-op : goal.invariant-loop-op

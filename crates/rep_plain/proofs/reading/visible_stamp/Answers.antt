@@ -1,5 +1,5 @@
 use Rattle.std.proofs.Common.{sym, ap, ◌∙◌, arith, drop}
-use Rattle.rep_plain.proofs.Places.{drop_back}
+use Rattle.rep_shared.proofs.Places.{drop_back}
 use Rattle.rep_model.specs.Views.{visible}
 use Rattle.rep_plain.proofs.reading.visible_stamp.Goals as goal
 

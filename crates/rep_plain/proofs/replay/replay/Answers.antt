@@ -1,8 +1,8 @@
 use Rattle.std.proofs.Common.{◌≡◌, ℕ, ◌+◌, length, Some, None, sym, ap, subst, ◌∙◌, arith}
 use Rattle.std.specs.FinMap.{find}
-use Rattle.rep_ops.specs.Orders.{operation_cmp}
+use Rattle.rep_op.specs.Orders.{operation_cmp}
 use Rattle.rep_model.specs.Views.{history_at, session_of}
-use Rattle.rep_plain.proofs.Maps.{lookup_is_find}
+use Rattle.rep_shared.proofs.Maps.{lookup_is_find}
 use Rattle.rep_plain.proofs.Prefixes.{IsReplayed, replayed_more, replayed_gap, replayed_all}
 use Rattle.rep_plain.proofs.replay.replay.Goals as goal
 

@@ -1,5 +1,5 @@
 use Rattle.std.specs.FinMap.{find}
-use Rattle.rep_ops.specs.Orders.{operation_cmp}
+use Rattle.rep_op.specs.Orders.{operation_cmp}
 use Rattle.rep_plain.proofs.Prefixes.{IsReplayed}
 use Rattle.rep_plain.proofs.replay.replay.Given as goal
 

@@ -1,8 +1,9 @@
 use Rattle.std.proofs.Common.{sym, ap, ◌∙◌}
 use Rattle.std.specs.BTreeMap.{is_at, insert_entry}
 use Rattle.std.specs.Map.{lookup}
-use Rattle.rep_ops.specs.Orders.{client_cmp}
-use Rattle.rep_plain.proofs.Moves.{roomier_place, place_there, entry_empty, some_there, none_there}
+use Rattle.rep_op.specs.Orders.{client_cmp}
+use Rattle.rep_plain.proofs.Moves.{roomier_place, place_there, entry_empty, some_there}
+use Rattle.rep_shared.proofs.Found.{none_there}
 use Rattle.rep_plain.proofs.room.add_place.Goals as goal
 
 pub returns-in_ok-insert-clause-roomier : goal.returns-in_ok-insert-clause-roomier

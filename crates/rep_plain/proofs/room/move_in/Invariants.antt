@@ -1,5 +1,5 @@
 use Rattle.std.proofs.Common.{◌≡◌, vec_len}
-use Rattle.rep_plain.specs.Rows.{moved}
+use Rattle.rep_shared.specs.Rows.{moved}
 use Rattle.rep_plain.specs.Tables.{rows_of, HaveRoom}
 use Rattle.rep_plain.specs.inner.Tables.{AreMovable}
 use Rattle.rep_plain.proofs.room.move_in.Given as goal

@@ -1,15 +1,15 @@
 use Rattle.std.proofs.Common.{◌≡◌, ◌∷◌, not, length, ◌==◌, List, ℕ, Some, drop, true, sym, ap, subst, ◌∙◌, arith}
 use Rattle.std.specs.List.{AllByRecursion}
 use Rattle.std.specs.FinMap.{find}
-use Rattle.rep_ops.specs.Orders.{client_cmp}
+use Rattle.rep_op.specs.Orders.{client_cmp}
 use Rattle.rep_model.proofs.Readers.{client_total}
 use Rattle.rep_plain.specs.declared.entry.Entry.{Entry}
-use Rattle.rep_plain.specs.Rows.{has_any}
-use Rattle.rep_plain.specs.inner.Rows.{named_rows}
+use Rattle.rep_shared.specs.Rows.{has_any}
+use Rattle.rep_shared.specs.inner.Rows.{named_rows}
 use Rattle.rep_plain.specs.Tables.{rows_of}
-use Rattle.rep_plain.proofs.Counting.{all_found}
+use Rattle.rep_shared.proofs.Counting.{all_found}
 use Rattle.rep_plain.proofs.Moves.{any_length}
-use Rattle.rep_plain.proofs.Walks.{drop_next, named_front, drop_less}
+use Rattle.rep_shared.proofs.Walks.{drop_next, named_front, drop_less}
 use Rattle.rep_plain.proofs.table.named_at.Goals as goal
 
 pub loop-client-init : goal.loop-client-init

@@ -1,8 +1,8 @@
 use Rattle.std.proofs.Common.{◌≡◌, Some, drop}
 use Rattle.std.specs.List.{AllByRecursion}
 use Rattle.std.specs.FinMap.{find}
-use Rattle.rep_ops.specs.Orders.{client_cmp}
-use Rattle.rep_plain.specs.inner.Rows.{named_rows}
+use Rattle.rep_op.specs.Orders.{client_cmp}
+use Rattle.rep_shared.specs.inner.Rows.{named_rows}
 use Rattle.rep_plain.specs.Tables.{rows_of}
 use Rattle.rep_plain.proofs.table.named_at.Given as goal
 

@@ -1,5 +1,5 @@
 use Rattle.std.proofs.Common.{◌≡◌, ◌++◌}
-use Rattle.rep_plain.specs.inner.Rows.{named_rows}
+use Rattle.rep_shared.specs.inner.Rows.{named_rows}
 use Rattle.rep_plain.specs.Tables.{rows_of}
 use Rattle.rep_plain.proofs.table.named_clients.Given as goal
 

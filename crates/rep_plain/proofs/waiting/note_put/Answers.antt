@@ -1,7 +1,7 @@
 use Rattle.std.proofs.Common.{◌≡◌, false, sym, ap, ◌∙◌, rules}
 use Rattle.std.specs.List.{list_any}
 use Rattle.std.specs.BTreeMap.{insert_entry}
-use Rattle.rep_ops.specs.Orders.{put_cmp}
+use Rattle.rep_op.specs.Orders.{put_cmp}
 use Rattle.rep_plain.specs.inner.Steps.{covers}
 use Rattle.rep_plain.proofs.Entering.{entered_put}
 use Rattle.rep_plain.proofs.waiting.note_put.Goals as goal

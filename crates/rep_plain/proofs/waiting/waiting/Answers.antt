@@ -1,9 +1,9 @@
 use Rattle.std.proofs.Common.{◌≡◌, sym, ap, ◌∙◌, arith, drop, map}
 use Rattle.std.proofs.lemmas.Result.{IfOk-weaker}
-use Rattle.rep_ops.specs.Orders.{put_cmp}
+use Rattle.rep_op.specs.Orders.{put_cmp}
 use Rattle.rep_model.specs.Views.{in_order, pending}
 use Rattle.rep_plain.specs.inner.Steps.{unacknowledged_by}
-use Rattle.rep_plain.proofs.Places.{drop_back}
+use Rattle.rep_shared.proofs.Places.{drop_back}
 use Rattle.rep_plain.proofs.Entering.{waiting_is_pending}
 use Rattle.rep_plain.proofs.waiting.waiting.Goals as goal
 

@@ -1,5 +1,5 @@
 use Rattle.std.proofs.Common.{◌≡◌, ◌≤◌, length, drop}
-use Rattle.rep_ops.specs.Orders.{put_cmp}
+use Rattle.rep_op.specs.Orders.{put_cmp}
 use Rattle.rep_model.specs.Views.{in_order}
 use Rattle.rep_plain.specs.inner.Steps.{unacknowledged_by}
 use Rattle.rep_plain.proofs.waiting.waiting.Given as goal

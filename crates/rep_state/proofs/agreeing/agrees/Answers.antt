@@ -1,7 +1,7 @@
 use Rattle.std.proofs.Common.{Some, None, IsTrue, refl, sym, ap, subst, ◌∙◌}
 use Rattle.std.specs.FinMap.{find}
-use Rattle.rep_ops.specs.Orders.{client_cmp, client_of}
-use Rattle.rep_ops.specs.Sets.{Agrees}
+use Rattle.rep_op.specs.Orders.{client_cmp, client_of}
+use Rattle.rep_op.specs.Sets.{Agrees}
 use Rattle.rep_model.proofs.Readers.{client_exact}
 use Rattle.rep_state.specs.Tables.{by_client, IsKept}
 use Rattle.rep_entry.proofs.Owning.{found_holds}

@@ -1,8 +1,8 @@
 use Rattle.std.proofs.Common.{Contains, sym, subst}
 use Rattle.std.proofs.lemmas.List.Elements.{Contains-get_or}
 use Rattle.std.proofs.lemmas.Result.{err_from_is_err_and}
-use Rattle.rep_plain.specs.Rows.{flat}
-use Rattle.rep_plain.proofs.Found.{refused}
+use Rattle.rep_shared.specs.Rows.{flat}
+use Rattle.rep_shared.proofs.Found.{refused}
 use Rattle.rep_state.specs.Tables.{by_client, rows_of}
 use Rattle.rep_state.proofs.agreeing.check.Goals as goal
 

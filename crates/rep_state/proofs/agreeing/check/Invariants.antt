@@ -1,6 +1,6 @@
 use Rattle.std.proofs.Common.{drop}
 use Rattle.rep_model.specs.Taking.{AllAgree}
-use Rattle.rep_plain.specs.Rows.{flat}
+use Rattle.rep_shared.specs.Rows.{flat}
 use Rattle.rep_state.specs.Tables.{by_client, rows_of}
 use Rattle.rep_state.proofs.agreeing.check.Given as goal
 

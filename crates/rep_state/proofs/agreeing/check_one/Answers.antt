@@ -1,7 +1,7 @@
 use Rattle.std.proofs.Common.{sym, subst, ◌∙◌, true≢false, ⊎_elim}
-use Rattle.rep_plain.specs.Rows.{flat}
-use Rattle.rep_plain.specs.inner.Tables.{IsRefusalOf}
-use Rattle.rep_plain.proofs.Found.{agrees_flat, agrees_own}
+use Rattle.rep_shared.specs.Rows.{flat}
+use Rattle.rep_shared.specs.inner.Tables.{IsRefusalOf}
+use Rattle.rep_shared.proofs.Found.{agrees_flat, agrees_own}
 use Rattle.rep_state.specs.Tables.{by_client, rows_of}
 use Rattle.rep_state.proofs.agreeing.check_one.Goals as goal
 

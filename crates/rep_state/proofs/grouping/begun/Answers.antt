@@ -1,7 +1,7 @@
 use Rattle.std.proofs.Common.{◌++◌, ◌∷◌, [], List, subst}
-use Rattle.rep_ops.specs.declared.op.Op.{Op}
-use Rattle.rep_ops.specs.Orders.{client_of}
-use Rattle.rep_ops.specs.Sets.{Same}
+use Rattle.rep_op.specs.declared.op.Op.{Op}
+use Rattle.rep_op.specs.Orders.{client_of}
+use Rattle.rep_op.specs.Sets.{Same}
 use Rattle.rep_model.specs.Keep.{keep}
 use Rattle.rep_entry.specs.Entries.{fresh_row}
 use Rattle.rep_state.proofs.Working.{names_client}

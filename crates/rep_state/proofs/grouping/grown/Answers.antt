@@ -1,7 +1,7 @@
 use Rattle.std.proofs.Common.{◌≡◌, ◌++◌, ◌∷◌, [], ℕ, List, T, take, refl, sym, ap, subst, ◌∙◌, arith}
 use Rattle.std.specs.FinMap.{find, is_sorted}
 use Rattle.std.proofs.lemmas.List.{take_more, take_all}
-use Rattle.rep_ops.specs.Orders.{client_cmp}
+use Rattle.rep_op.specs.Orders.{client_cmp}
 use Rattle.rep_entry.specs.declared.fresh.Fresh.{Fresh}
 use Rattle.rep_state.specs.Tables.{by_client}
 use Rattle.rep_state.specs.inner.Groups.{AreGroups, IsGroupOf}

@@ -1,6 +1,6 @@
 use Rattle.std.proofs.Common.{T, take}
 use Rattle.std.specs.FinMap.{is_sorted}
-use Rattle.rep_ops.specs.Orders.{client_cmp}
+use Rattle.rep_op.specs.Orders.{client_cmp}
 use Rattle.rep_state.specs.Tables.{by_client}
 use Rattle.rep_state.specs.inner.Groups.{AreGroups}
 use Rattle.rep_state.proofs.grouping.grown.Given as goal

@@ -1,6 +1,6 @@
 use Rattle.std.proofs.Common.{ap, ◌∙◌}
 use Rattle.std.specs.FinMap.{find}
-use Rattle.rep_ops.specs.Orders.{client_cmp}
+use Rattle.rep_op.specs.Orders.{client_cmp}
 use Rattle.rep_state.specs.Tables.{by_client}
 use Rattle.rep_state.specs.inner.Groups.{or_nothing_held}
 use Rattle.rep_state.proofs.grouping.held.Goals as goal

@@ -1,5 +1,5 @@
 use Rattle.std.proofs.Common.{◌≡◌, ◌++◌, ◌∷◌, [], sym, ap, subst, ◌∙◌, ℕ, List}
-use Rattle.rep_ops.specs.declared.op.Op.{Op}
+use Rattle.rep_op.specs.declared.op.Op.{Op}
 use Rattle.rep_model.proofs.Joins.{all-both}
 use Rattle.rep_entry.specs.declared.entry.Entry.{Entry}
 use Rattle.rep_entry.specs.declared.change.Change.{Change}

@@ -1,7 +1,7 @@
 use Rattle.std.proofs.Common.{◌≡◌, ℕ, List, rules}
 use Rattle.std.proofs.lemmas.Fn.{always_returns_same}
-use Rattle.sn_session.proofs.Places.{placed}
-use Rattle.rep_ops.specs.Orders.{client_cmp}
+use Rattle.sn_tables.proofs.Places.{placed}
+use Rattle.rep_op.specs.Orders.{client_cmp}
 use Rattle.rep_model.proofs.Readers.{client_total}
 use Rattle.rep_entry.specs.declared.fresh.Fresh.{Fresh}
 use Rattle.rep_log.proofs.Sorting.{ascends}

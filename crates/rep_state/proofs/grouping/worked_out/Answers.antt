@@ -1,6 +1,6 @@
 use Rattle.std.proofs.Common.{◌++◌, ◌∷◌, [], sym, ap, subst, ◌∙◌, append_assoc, ℕ, List}
 use Rattle.std.specs.List.{AllByRecursion}
-use Rattle.rep_ops.specs.declared.op.Op.{Op}
+use Rattle.rep_op.specs.declared.op.Op.{Op}
 use Rattle.rep_entry.specs.declared.fresh.Fresh.{Fresh}
 use Rattle.rep_entry.specs.Entries.{IsFresh, fresh_row}
 use Rattle.rep_state.specs.Tables.{by_client, rows_of}

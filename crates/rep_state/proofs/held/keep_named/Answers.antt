@@ -1,6 +1,6 @@
 use Rattle.std.proofs.Common.{List, ℕ, rules}
 use Rattle.std.proofs.lemmas.Fn.{filter_same}
-use Rattle.rep_plain.specs.Rows.{own, has_any}
+use Rattle.rep_shared.specs.Rows.{own, has_any}
 use Rattle.rep_state.specs.Tables.{by_client, rows_of}
 use Rattle.rep_state.proofs.held.keep_named.Goals as goal
 

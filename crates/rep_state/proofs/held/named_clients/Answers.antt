@@ -1,5 +1,5 @@
 use Rattle.std.proofs.Common.{List, ℕ, filter, ap, sym, ◌∙◌, arith, Vec, Global}
-use Rattle.rep_plain.specs.Rows.{own, has_any}
+use Rattle.rep_shared.specs.Rows.{own, has_any}
 use Rattle.rep_state.specs.Tables.{by_client, rows_of}
 use Rattle.rep_state.proofs.Indexed.{in_order, as_many}
 use Rattle.rep_state.proofs.Walking.{named_all, all_named}

@@ -1,7 +1,7 @@
 use Rattle.std.proofs.Common.{◌+◌, drop, ap, subst, ◌∙◌, arith}
-use Rattle.rep_plain.specs.inner.Rows.{named_rows}
+use Rattle.rep_shared.specs.inner.Rows.{named_rows}
 use Rattle.rep_state.specs.Tables.{by_client, rows_of}
-use Rattle.rep_state.specs.Interests.{mark_of}
+use Rattle.rep_entry.specs.Interests.{mark_of}
 use Rattle.rep_state.specs.inner.Interests.{NoneMarked, IsPassed}
 use Rattle.rep_state.proofs.Asking.{none_asks, next_asks, not_past}
 use Rattle.rep_state.proofs.Indexed.{in_order, as_many}

@@ -1,6 +1,6 @@
 use Rattle.std.proofs.Common.{◌≡◌, ◌++◌, Some, None, OnOk, sym, ap, subst, ◌∙◌, append-nil}
 use Rattle.std.specs.FinMap.{find}
-use Rattle.rep_ops.specs.Orders.{client_cmp}
+use Rattle.rep_op.specs.Orders.{client_cmp}
 use Rattle.rep_state.specs.Tables.{by_client}
 use Rattle.rep_state.proofs.Reading.{own_found}
 use Rattle.rep_state.proofs.held.push_own.Goals as goal

@@ -1,7 +1,7 @@
 use Rattle.std.proofs.Common.{◌≡◌, ◌+◌, ◌∷◌, List, ℕ, drop, sym, ap, ◌∙◌, arith}
 use Rattle.std.proofs.lemmas.List.{drop-drop}
-use Rattle.rep_plain.specs.inner.Rows.{named_rows}
-use Rattle.rep_plain.proofs.Walks.{drop_next, named_front, named_behind, drop_less}
+use Rattle.rep_shared.specs.inner.Rows.{named_rows}
+use Rattle.rep_shared.proofs.Walks.{drop_next, named_front, named_behind, drop_less}
 use Rattle.rep_entry.specs.declared.entry.Entry.{Entry}
 use Rattle.rep_entry.specs.Entries.{row_of}
 use Rattle.rep_state.specs.Tables.{by_client, rows_of}

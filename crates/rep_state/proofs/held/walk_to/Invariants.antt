@@ -1,5 +1,5 @@
 use Rattle.std.proofs.Common.{◌≡◌, drop}
-use Rattle.rep_plain.specs.inner.Rows.{named_rows}
+use Rattle.rep_shared.specs.inner.Rows.{named_rows}
 use Rattle.rep_state.specs.Tables.{by_client, rows_of}
 use Rattle.rep_state.proofs.held.walk_to.Given as goal
 

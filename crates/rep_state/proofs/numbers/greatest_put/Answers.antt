@@ -1,7 +1,7 @@
 use Rattle.std.proofs.Common.{◌≡◌, ◌-◌, List, ◌∷◌, drop, sym, ap, ◌∙◌, arith}
-use Rattle.rep_ops.specs.declared.op.Put.{Put}
+use Rattle.rep_op.specs.declared.op.Put.{Put}
 use Rattle.rep_model.specs.Fresh.{largest}
-use Rattle.rep_plain.proofs.Places.{drop_back}
+use Rattle.rep_shared.proofs.Places.{drop_back}
 use Rattle.rep_entry.specs.inner.Numbers.{seq_from}
 use Rattle.rep_entry.proofs.Names.{last_is_greatest, none_of_it}
 use Rattle.rep_state.proofs.numbers.greatest_put.Goals as goal

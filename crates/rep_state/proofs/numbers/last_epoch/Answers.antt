@@ -1,6 +1,6 @@
 use Rattle.std.proofs.Common.{Some, None, sym, ap, ◌∙◌}
 use Rattle.std.specs.FinMap.{find}
-use Rattle.rep_ops.specs.Orders.{client_cmp}
+use Rattle.rep_op.specs.Orders.{client_cmp}
 use Rattle.std.specs.Map.{keys_of}
 use Rattle.rep_model.specs.Fresh.{greatest_epoch, largest}
 use Rattle.rep_entry.specs.inner.Numbers.{epoch_of}

@@ -1,6 +1,6 @@
 use Rattle.std.proofs.Common.{Some, None, sym, ap, ◌∙◌}
 use Rattle.std.specs.FinMap.{find}
-use Rattle.rep_ops.specs.Orders.{client_cmp}
+use Rattle.rep_op.specs.Orders.{client_cmp}
 use Rattle.rep_model.specs.Fresh.{largest, seq_of}
 use Rattle.rep_model.proofs.Readers.{client_exact}
 use Rattle.rep_state.specs.Tables.{by_client, IsKept}

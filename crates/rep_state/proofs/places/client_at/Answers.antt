@@ -1,7 +1,7 @@
 use Rattle.std.proofs.Common.{◌≡◌, Some, length, refl, sym, ap, ◌∙◌}
 use Rattle.std.proofs.lemmas.Option.{slice_get_read}
 use Rattle.std.specs.FinMap.{find}
-use Rattle.rep_ops.specs.Orders.{client_cmp}
+use Rattle.rep_op.specs.Orders.{client_cmp}
 use Rattle.rep_state.specs.Tables.{by_client}
 use Rattle.rep_state.proofs.Rows.{found_by_client}
 use Rattle.rep_state.proofs.Indexed.{in_order, same_some, led_to, name_at, entry_at}

@@ -1,6 +1,6 @@
 use Rattle.std.proofs.Common.{ℕ, List, ◌∙◌, subst, arith}
-use Rattle.rep_ops.specs.Orders.{client_cmp}
-use Rattle.sn_session.specs.inner.Tables.{IsAt, IsGap}
+use Rattle.rep_op.specs.Orders.{client_cmp}
+use Rattle.sn_tables.specs.inner.Tables.{IsAt, IsGap}
 use Rattle.rep_state.specs.declared.places.Place.{Place}
 use Rattle.rep_state.proofs.Indexed.{set_is, insert_is, chosen}
 use Rattle.rep_state.proofs.places.enter.Goals as goal

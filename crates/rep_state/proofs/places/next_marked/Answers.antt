@@ -1,7 +1,7 @@
 use Rattle.std.proofs.Common.{◌∷◌, suc, drop, sym, ap, ◌∙◌, add-one}
 use Rattle.std.proofs.Math.Seq.{drop-cons}
 use Rattle.rep_state.specs.declared.places.Place.{Place}
-use Rattle.rep_state.specs.Interests.{has_mark}
+use Rattle.rep_entry.specs.Interests.{has_mark}
 use Rattle.rep_state.proofs.Asking.{passed_one}
 use Rattle.rep_state.proofs.places.next_marked.Goals as goal
 

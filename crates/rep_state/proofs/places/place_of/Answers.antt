@@ -1,8 +1,8 @@
 use Rattle.std.proofs.Common.{◌≡◌, rules}
 use Rattle.std.proofs.lemmas.Fn.{always_returns_same}
-use Rattle.rep_ops.specs.Orders.{client_cmp}
+use Rattle.rep_op.specs.Orders.{client_cmp}
 use Rattle.rep_model.proofs.Readers.{client_total}
-use Rattle.sn_session.proofs.Places.{placed}
+use Rattle.sn_tables.proofs.Places.{placed}
 use Rattle.rep_state.specs.declared.places.Place.{Place}
 use Rattle.rep_state.proofs.Indexed.{ascend_tested}
 use Rattle.rep_state.proofs.places.place_of.Goals as goal

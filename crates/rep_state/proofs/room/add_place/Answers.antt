@@ -1,9 +1,9 @@
 use Rattle.std.proofs.Common.{◌≡◌, ℕ, true, is_some, sym, ap, subst, ◌∙◌, Vec, Global}
-use Rattle.sn_session.specs.Tables.{is_ascending, with_entry}
+use Rattle.sn_tables.specs.Tables.{is_ascending, with_entry}
 use Rattle.std.specs.Map.{lookup}
 use Rattle.std.specs.FinMap.{find, put}
 use Rattle.std.specs.Prelude.{bytes_eq}
-use Rattle.rep_ops.specs.Orders.{client_cmp}
+use Rattle.rep_op.specs.Orders.{client_cmp}
 use Rattle.rep_state.specs.Tables.{by_client}
 use Rattle.rep_state.specs.inner.Tables.{place_cmp}
 use Rattle.rep_state.specs.declared.places.Place.{Place}

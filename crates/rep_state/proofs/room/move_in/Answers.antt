@@ -1,6 +1,6 @@
 use Rattle.std.proofs.Common.{◌≡◌, refl, sym, ap, subst, ◌∙◌, List, ℕ, is_some}
 use Rattle.std.specs.FinMap.{find, put}
-use Rattle.rep_ops.specs.Orders.{client_cmp}
+use Rattle.rep_op.specs.Orders.{client_cmp}
 use Rattle.rep_state.specs.Tables.{by_client, ArePlaces}
 use Rattle.rep_state.specs.Interests.{AreMarked}
 use Rattle.rep_state.specs.inner.Interests.{noted}

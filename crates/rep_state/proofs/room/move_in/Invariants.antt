@@ -1,5 +1,5 @@
 use Rattle.std.proofs.Common.{◌≡◌, vec_len}
-use Rattle.rep_plain.specs.Rows.{moved}
+use Rattle.rep_shared.specs.Rows.{moved}
 use Rattle.rep_state.specs.Tables.{by_client, rows_of, AreKept, ArePlaces}
 use Rattle.rep_entry.specs.Staging.{staged_of, AreStaged}
 use Rattle.rep_state.specs.inner.Staging.{future, AreMovable}

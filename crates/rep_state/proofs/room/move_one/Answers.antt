@@ -1,6 +1,6 @@
 use Rattle.std.proofs.Common.{◌≡◌, is_some, None, true≢false, sym, ap, subst, ◌∙◌}
 use Rattle.std.specs.FinMap.{find, put}
-use Rattle.rep_ops.specs.Orders.{client_cmp}
+use Rattle.rep_op.specs.Orders.{client_cmp}
 use Rattle.rep_entry.specs.declared.entry.Entry.{Entry}
 use Rattle.rep_entry.specs.Entries.{base_of}
 use Rattle.rep_model.proofs.Readers.{client_exact}

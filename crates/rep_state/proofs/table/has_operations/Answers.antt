@@ -1,5 +1,5 @@
 use Rattle.std.proofs.Common.{Some, None, ap, ◌∙◌}
-use Rattle.rep_plain.specs.Rows.{has_any}
+use Rattle.rep_shared.specs.Rows.{has_any}
 use Rattle.rep_state.specs.Tables.{by_client}
 use Rattle.rep_state.proofs.Reading.{own_found}
 use Rattle.rep_state.proofs.table.has_operations.Goals as goal

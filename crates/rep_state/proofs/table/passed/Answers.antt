@@ -1,5 +1,5 @@
 use Rattle.std.proofs.Common.{◌∙◌}
-use Rattle.rep_plain.specs.inner.Tables.{passed_of}
+use Rattle.rep_shared.specs.inner.Tables.{passed_of}
 use Rattle.rep_state.proofs.table.passed.Goals as goal
 
 pub returns : goal.returns

@@ -1,6 +1,6 @@
 use Rattle.std.proofs.Common.{sym, subst, ap, ◌∙◌}
 use Rattle.sn_local.specs.declared.local.Binding.{Binding}
-use Rattle.sn_session.specs.Tables.{with_entry}
+use Rattle.sn_tables.specs.Tables.{with_entry}
 use Rattle.sn_local.specs.Bindings.{AreBindings, binding_cmp}
 use Rattle.sn_local.proofs.Addresses.{are_bound}
 use Rattle.sn_local.proofs.bindings.bind.Goals as goal

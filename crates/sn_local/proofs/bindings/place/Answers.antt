@@ -1,7 +1,7 @@
 use Rattle.std.proofs.Common.{◌≡◌, rules}
 use Rattle.std.proofs.lemmas.Fn.{always_returns_same}
-use Rattle.sn_session.proofs.Ascending.{from_test}
-use Rattle.sn_session.proofs.Places.{placed}
+use Rattle.sn_tables.proofs.Ascending.{from_test}
+use Rattle.sn_tables.proofs.Places.{placed}
 use Rattle.sn_local.specs.Bindings.{address_cmp, binding_cmp}
 use Rattle.sn_local.proofs.Addresses.{address_total, binding_total}
 use Rattle.sn_local.proofs.bindings.place.Goals as goal

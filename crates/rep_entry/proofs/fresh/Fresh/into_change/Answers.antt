@@ -1,5 +1,5 @@
 use Rattle.std.proofs.Common.{◌≡◌, ℕ, ◌+◌, ◌==◌, ◌≤◌, false, length, vec_capacity, List, filter, sym, ap, subst, ◌∙◌}
-use Rattle.rep_ops.specs.declared.op.Put.{Put}
+use Rattle.rep_op.specs.declared.op.Put.{Put}
 use Rattle.rep_log.specs.Mail.{Rising, NoneCovered, InOne, is_left, weave}
 use Rattle.rep_entry.specs.Spans.{IsFreeOutside, AreFreeOutside}
 use Rattle.rep_log.specs.Origins.{ranges_in, ranges_on}

@@ -1,9 +1,9 @@
 use Rattle.std.proofs.Common.{ℕ, List, IsTrue, T, filter, refl, sym, ap, subst, ◌∙◌}
 use Rattle.std.specs.List.{AllByRecursion}
 use Rattle.std.specs.FinMap.{is_sorted}
-use Rattle.rep_ops.specs.declared.op.Put.{Put}
-use Rattle.rep_ops.specs.Orders.{put_cmp}
-use Rattle.rep_ops.specs.WellMade.{is_put}
+use Rattle.rep_op.specs.declared.op.Put.{Put}
+use Rattle.rep_op.specs.Orders.{put_cmp}
+use Rattle.rep_op.specs.WellMade.{is_put}
 use Rattle.rep_log.specs.Mail.{InOne, is_left, weave}
 use Rattle.rep_entry.specs.Spans.{IsFreeOutside}
 use Rattle.rep_log.specs.Origins.{ranges_in}

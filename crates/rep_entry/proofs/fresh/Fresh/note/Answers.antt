@@ -1,6 +1,6 @@
 use Rattle.std.proofs.Common.{IsTrue, OnOk, sym, subst}
-use Rattle.rep_ops.specs.declared.op.Op.{Op}
-use Rattle.rep_ops.specs.WellMade.{is_well_made}
+use Rattle.rep_op.specs.declared.op.Op.{Op}
+use Rattle.rep_op.specs.WellMade.{is_well_made}
 use Rattle.rep_entry.specs.Entries.{IsStep}
 use Rattle.rep_entry.proofs.Owning.{session_op, put_op, ack_op, ack_made}
 use Rattle.rep_entry.proofs.fresh.Fresh.note.Goals as goal

@@ -1,6 +1,6 @@
 use Rattle.std.proofs.Common.{◌≡◌, ◌||◌, ℕ, None, Some, sym, ap, subst, ◌∙◌}
 use Rattle.std.specs.List.{list_any, AllByRecursion}
-use Rattle.rep_ops.specs.declared.op.Put.{Put}
+use Rattle.rep_op.specs.declared.op.Put.{Put}
 use Rattle.rep_model.proofs.Joins.{all-weaker}
 use Rattle.rep_entry.specs.declared.span.Span.{Span}
 use Rattle.rep_log.specs.Logs.{stamp_on, known_on}

@@ -1,8 +1,8 @@
 use Rattle.std.proofs.Common.{◌≡◌, true, false, ◌||◌, is_some, sym, ap, ◌∙◌}
 use Rattle.std.specs.List.{list_any}
 use Rattle.std.specs.FinMap.{find, put as place}
-use Rattle.rep_ops.specs.Orders.{put_cmp}
-use Rattle.rep_ops.specs.declared.op.Put.{Put}
+use Rattle.rep_op.specs.Orders.{put_cmp}
+use Rattle.rep_op.specs.declared.op.Put.{Put}
 use Rattle.rep_model.proofs.Lookup.{or_else}
 use Rattle.rep_log.specs.Logs.{stamp_on, known_on}
 use Rattle.rep_log.specs.Mail.{name_of, covers, put_named, weave}

@@ -1,7 +1,7 @@
 use Rattle.std.proofs.Common.{◌≡◌, ◌∷◌, T, true, None, is_some, sym, ap, subst, ◌∙◌}
 use Rattle.std.specs.FinMap.{find, is_sorted}
-use Rattle.rep_ops.specs.Orders.{operation_cmp}
-use Rattle.rep_plain.proofs.Moves.{none_there}
+use Rattle.rep_op.specs.Orders.{operation_cmp}
+use Rattle.rep_shared.proofs.Found.{none_there}
 use Rattle.rep_log.specs.Logs.{Whole, IsFolded, all_of, known_on, stamp_on, whole_of, IsKeptIn}
 use Rattle.rep_log.specs.Mail.{weave}
 use Rattle.rep_log.specs.Origins.{ranges_in, ranges_on}

@@ -1,9 +1,9 @@
 use Rattle.std.proofs.Common.{◌≡◌, ℕ, List, T, None, Some, sym, ap, subst, ◌∙◌}
 use Rattle.std.specs.FinMap.{find, put as with, is_sorted}
 use Rattle.std.specs.FinMap.Entries.{is_sorted-put}
-use Rattle.sn_session.specs.inner.Tables.{IsGap}
-use Rattle.rep_ops.specs.declared.op.Put.{Put}
-use Rattle.rep_ops.specs.Orders.{put_cmp}
+use Rattle.sn_tables.specs.inner.Tables.{IsGap}
+use Rattle.rep_op.specs.declared.op.Put.{Put}
+use Rattle.rep_op.specs.Orders.{put_cmp}
 use Rattle.rep_model.proofs.Readers.{put_total}
 use Rattle.rep_log.specs.Mail.{name_of, named_puts, put_named, Rising}
 use Rattle.rep_entry.proofs.Names.{named_at}

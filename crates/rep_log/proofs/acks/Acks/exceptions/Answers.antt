@@ -1,6 +1,6 @@
 use Rattle.std.proofs.Common.{◌≡◌, ◌-◌, refl, sym, arith, ap, ◌∙◌}
 use Rattle.rep_model.specs.Limits.{above_a_gap}
-use Rattle.rep_plain.specs.Steps.{capped}
+use Rattle.rep_shared.specs.Steps.{capped}
 use Rattle.rep_log.specs.Origins.{above_gaps}
 use Rattle.rep_log.proofs.Acknowledged.{above_more}
 use Rattle.rep_log.proofs.Greatest.{above_last}

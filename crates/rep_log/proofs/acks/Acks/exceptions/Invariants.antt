@@ -1,5 +1,5 @@
 use Rattle.std.proofs.Common.{◌≡◌}
-use Rattle.rep_plain.specs.Steps.{capped}
+use Rattle.rep_shared.specs.Steps.{capped}
 use Rattle.rep_log.specs.Origins.{above_gaps}
 use Rattle.rep_log.proofs.acks.Acks.exceptions.Given as goal
 

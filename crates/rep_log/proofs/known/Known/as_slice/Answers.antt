@@ -1,6 +1,6 @@
 use Rattle.std.proofs.Common.{T, subst}
 use Rattle.std.specs.FinMap.{is_sorted}
-use Rattle.rep_ops.specs.Orders.{operation_cmp}
+use Rattle.rep_op.specs.Orders.{operation_cmp}
 use Rattle.rep_log.proofs.known.Known.as_slice.Goals as goal
 
 pub returns-clause-ordered : goal.returns-clause-ordered

@@ -2,9 +2,9 @@ use Rattle.std.proofs.Common.{◌≡◌, ℕ, List, T, None, Some, sym, ap, subs
 use Rattle.std.specs.FinMap.{find, put, is_sorted}
 use Rattle.std.specs.FinMap.Entries.{is_sorted-put}
 use Rattle.sn_session.specs.declared.change.SessionOp.{SessionOp}
-use Rattle.sn_session.specs.inner.Tables.{IsGap}
-use Rattle.rep_ops.specs.declared.op.Stamp.{Stamp}
-use Rattle.rep_ops.specs.Orders.{operation_cmp}
+use Rattle.sn_tables.specs.inner.Tables.{IsGap}
+use Rattle.rep_op.specs.declared.op.Stamp.{Stamp}
+use Rattle.rep_op.specs.Orders.{operation_cmp}
 use Rattle.rep_model.proofs.Readers.{operation_total}
 use Rattle.rep_log.proofs.Sorting.{found_at, put_gap}
 use Rattle.rep_log.proofs.known.Known.insert.Goals as goal

@@ -1,6 +1,6 @@
 use Rattle.std.proofs.Common.{◌++◌, sym, ap, ◌∙◌}
 use Rattle.std.specs.FinMap.{find, put}
-use Rattle.rep_ops.specs.Orders.{operation_cmp}
+use Rattle.rep_op.specs.Orders.{operation_cmp}
 use Rattle.rep_model.proofs.Readers.{operation_total}
 use Rattle.rep_log.specs.Logs.{left_of}
 use Rattle.rep_log.proofs.Sorting.{none_behind, put_behind}

@@ -2,8 +2,8 @@ use Rattle.std.proofs.Common.{◌++◌, ℕ, Bool, List, T, Some, not, filter, c
 use Rattle.std.specs.FinMap.{is_sorted}
 use Rattle.std.proofs.lemmas.List.Elements.{filter-append}
 use Rattle.sn_session.specs.declared.change.SessionOp.{SessionOp}
-use Rattle.rep_ops.specs.declared.op.Stamp.{Stamp}
-use Rattle.rep_ops.specs.Orders.{operation_cmp}
+use Rattle.rep_op.specs.declared.op.Stamp.{Stamp}
+use Rattle.rep_op.specs.Orders.{operation_cmp}
 use Rattle.rep_model.specs.Keep.{is_below}
 use Rattle.rep_log.specs.Logs.{left_of}
 use Rattle.rep_log.proofs.log.Log.forget_below.Goals as goal

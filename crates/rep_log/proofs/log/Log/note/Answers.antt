@@ -3,8 +3,8 @@ use Rattle.std.specs.FinMap.{find, is_sorted}
 use Rattle.std.specs.FinMap.Entries.{is_sorted-put, is_sorted-where_key}
 use Rattle.std.proofs.lemmas.Bool.Decides.{nat_tests}
 use Rattle.sn_session.specs.declared.change.SessionOp.{SessionOp}
-use Rattle.rep_ops.specs.declared.op.Stamp.{Stamp}
-use Rattle.rep_ops.specs.Orders.{operation_cmp}
+use Rattle.rep_op.specs.declared.op.Stamp.{Stamp}
+use Rattle.rep_op.specs.Orders.{operation_cmp}
 use Rattle.rep_model.specs.Keep.{is_below}
 use Rattle.rep_model.specs.Views.{session_of}
 use Rattle.rep_model.proofs.Readers.{operation_total}

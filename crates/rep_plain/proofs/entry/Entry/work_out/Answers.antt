@@ -1,11 +1,12 @@
 use Rattle.std.proofs.Common.{length, ap, ◌∙◌}
 use Rattle.std.specs.List.{filter_map}
-use Rattle.rep_ops.specs.Orders.{operation_cmp}
-use Rattle.rep_ops.specs.Sets.{operations}
+use Rattle.rep_op.specs.Orders.{operation_cmp}
+use Rattle.rep_op.specs.Sets.{operations}
 use Rattle.rep_model.specs.Views.{visible, session_of, in_order, pending}
-use Rattle.rep_plain.specs.Steps.{capped}
+use Rattle.rep_shared.specs.Steps.{capped}
 use Rattle.rep_plain.specs.inner.Steps.{range_in, above_gaps}
-use Rattle.rep_plain.proofs.Workings.{history_in_order, parked_names, exceptions_of_ranges}
+use Rattle.rep_plain.proofs.Workings.{history_in_order, exceptions_of_ranges}
+use Rattle.rep_shared.proofs.Workings.{parked_names}
 use Rattle.rep_plain.proofs.entry.Entry.work_out.Goals as goal
 
 pub returns-clause-worked_out : goal.returns-clause-worked_out

@@ -1,16 +1,16 @@
 use Rattle.std.proofs.Common.{ℕ, ◌+◌, ◌∷◌, List, filter, drop, refl, sym, ap, ◌∙◌, arith}
 use Rattle.std.proofs.lemmas.List.{length-map}
-use Rattle.rep_ops.specs.declared.op.Op.{Op}
-use Rattle.rep_ops.specs.Orders.{client_cmp}
+use Rattle.rep_op.specs.declared.op.Op.{Op}
+use Rattle.rep_op.specs.Orders.{client_cmp}
 use Rattle.rep_model.specs.Views.{clients, view}
-use Rattle.rep_plain.specs.Rows.{flat, has_any}
-use Rattle.rep_plain.specs.inner.Rows.{named_rows}
+use Rattle.rep_shared.specs.Rows.{flat, has_any}
+use Rattle.rep_shared.specs.inner.Rows.{named_rows}
 use Rattle.rep_plain.specs.Tables.{rows_of}
-use Rattle.rep_plain.proofs.Flat.{clients_flat}
+use Rattle.rep_shared.proofs.Flat.{clients_flat}
 use Rattle.rep_plain.proofs.Found.{table_rows}
-use Rattle.rep_plain.proofs.Maps.{lookup_is_find}
+use Rattle.rep_shared.proofs.Maps.{lookup_is_find}
 use Rattle.rep_plain.proofs.Moves.{seen_found}
-use Rattle.rep_plain.proofs.Places.{place_within}
+use Rattle.rep_shared.proofs.Places.{place_within}
 use Rattle.rep_plain.proofs.plain.PlainReplica.client_at.Goals as goal
 
 pub named_at-requires : goal.named_at-requires

@@ -1,8 +1,8 @@
 use Rattle.std.proofs.Common.{sym, ap, ◌∙◌}
 use Rattle.rep_model.specs.Views.{clients}
-use Rattle.rep_plain.specs.Rows.{flat}
+use Rattle.rep_shared.specs.Rows.{flat}
 use Rattle.rep_plain.specs.Tables.{rows_of}
-use Rattle.rep_plain.proofs.Flat.{clients_flat}
+use Rattle.rep_shared.proofs.Flat.{clients_flat}
 use Rattle.rep_plain.proofs.Found.{table_rows}
 use Rattle.rep_plain.proofs.plain.PlainReplica.clients.Goals as goal
 

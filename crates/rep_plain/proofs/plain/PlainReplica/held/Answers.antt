@@ -1,10 +1,10 @@
 use Rattle.std.proofs.Common.{subst}
 use Rattle.rep_ops.specs.Making.{AreWellMade}
 use Rattle.rep_model.specs.Held.{IsHeld}
-use Rattle.rep_plain.specs.Rows.{flat}
+use Rattle.rep_shared.specs.Rows.{flat}
 use Rattle.rep_plain.specs.Tables.{rows_of}
 use Rattle.rep_plain.proofs.Found.{table_rows}
-use Rattle.rep_plain.proofs.Kept.{made_rows}
+use Rattle.rep_shared.proofs.Kept.{made_rows}
 use Rattle.rep_plain.proofs.plain.PlainReplica.held.Goals as goal
 
 pub held-requires-clause-rows : goal.held-requires-clause-rows

@@ -1,11 +1,11 @@
 use Rattle.std.proofs.Common.{sym, ap, ◌∙◌}
 use Rattle.rep_model.specs.Fresh.{one_more, largest, seq_of}
-use Rattle.rep_plain.specs.Rows.{flat}
+use Rattle.rep_shared.specs.Rows.{flat}
 use Rattle.rep_plain.specs.Tables.{rows_of}
-use Rattle.rep_plain.proofs.Single.{greatest_seq_own}
-use Rattle.rep_plain.proofs.Flat.{of_flat}
+use Rattle.rep_shared.proofs.Single.{greatest_seq_own}
+use Rattle.rep_shared.proofs.Flat.{of_flat}
 use Rattle.rep_plain.proofs.Found.{table_rows}
-use Rattle.rep_plain.proofs.Moves.{next_one}
+use Rattle.rep_shared.proofs.Numbers.{next_one}
 use Rattle.rep_plain.proofs.plain.PlainReplica.next_seq.Goals as goal
 
 pub returns : goal.returns

@@ -2,8 +2,9 @@ use Rattle.std.proofs.Common.{◌≡◌, ◌+◌, ◌++◌, not, filter, Some, s
 use Rattle.rep_model.specs.Taking.{AllAgree, Fits}
 use Rattle.rep_model.specs.Limits.{first_passed}
 use Rattle.rep_model.specs.Keep.{IsKeptOf}
-use Rattle.rep_plain.specs.Rows.{flat, moved}
-use Rattle.rep_plain.specs.inner.Rows.{count_new, IsGrown}
+use Rattle.rep_shared.specs.Rows.{flat, moved}
+use Rattle.rep_shared.specs.inner.Rows.{count_new}
+use Rattle.rep_plain.specs.inner.Rows.{IsGrown}
 use Rattle.rep_plain.specs.Tables.{rows_of, HaveRoom}
 use Rattle.rep_plain.specs.inner.Tables.{is_known, passed_by}
 use Rattle.rep_plain.proofs.Found.{table_rows}

@@ -1,6 +1,6 @@
 use Rattle.std.proofs.Common.{not, Some, None, sym, ap, ◌∙◌, ◌==◌, length}
 use Rattle.rep_model.specs.Views.{is_named, view}
-use Rattle.rep_plain.specs.Rows.{flat}
+use Rattle.rep_shared.specs.Rows.{flat}
 use Rattle.rep_plain.proofs.Moves.{seen_found, named_found, any_length}
 use Rattle.rep_plain.proofs.plain.PlainReplica.view_of.Goals as goal
 

@@ -1,14 +1,14 @@
 use Rattle.std.proofs.Common.{ℕ, ◌+◌, ◌∷◌, List, filter, drop, Some, refl, sym, ap, ◌∙◌, arith}
 use Rattle.std.proofs.lemmas.List.{length-map}
-use Rattle.rep_ops.specs.declared.op.Op.{Op}
+use Rattle.rep_op.specs.declared.op.Op.{Op}
 use Rattle.rep_model.specs.Views.{clients, view}
 use Rattle.rep_model.proofs.Readers.{client_exact}
-use Rattle.rep_ops.specs.Orders.{client_cmp}
-use Rattle.rep_plain.specs.Rows.{flat, has_any}
-use Rattle.rep_plain.specs.inner.Rows.{named_rows}
-use Rattle.rep_plain.proofs.Places.{place_within}
-use Rattle.rep_plain.proofs.Flat.{clients_flat, of_flat}
-use Rattle.rep_plain.proofs.Single.{view_own}
+use Rattle.rep_op.specs.Orders.{client_cmp}
+use Rattle.rep_shared.specs.Rows.{flat, has_any}
+use Rattle.rep_shared.specs.inner.Rows.{named_rows}
+use Rattle.rep_shared.proofs.Places.{place_within}
+use Rattle.rep_shared.proofs.Flat.{clients_flat, of_flat}
+use Rattle.rep_shared.proofs.Single.{view_own}
 use Rattle.rep_state.specs.Tables.{by_client, rows_of, IsKept}
 use Rattle.rep_state.proofs.Entering.{seen_row}
 use Rattle.rep_entry.proofs.Owning.{found_holds}

@@ -1,7 +1,7 @@
 use Rattle.std.proofs.Common.{sym, ap, ◌∙◌}
 use Rattle.rep_model.specs.Views.{clients}
-use Rattle.rep_plain.specs.Rows.{flat}
-use Rattle.rep_plain.proofs.Flat.{clients_flat}
+use Rattle.rep_shared.specs.Rows.{flat}
+use Rattle.rep_shared.proofs.Flat.{clients_flat}
 use Rattle.rep_state.specs.Tables.{by_client, rows_of}
 use Rattle.rep_state.proofs.Rows.{table_rows}
 use Rattle.rep_state.proofs.replica.FoldedReplica.clients.Goals as goal

@@ -1,6 +1,6 @@
 use Rattle.std.proofs.Common.{◌≡◌, refl, sym, ap, subst, ◌∙◌, List, ℕ}
-use Rattle.rep_ops.specs.declared.op.Op.{Op}
-use Rattle.rep_plain.specs.Rows.{flat, moved, count_named}
+use Rattle.rep_op.specs.declared.op.Op.{Op}
+use Rattle.rep_shared.specs.Rows.{flat, moved, count_named}
 use Rattle.rep_entry.specs.declared.change.Change.{Change}
 use Rattle.rep_state.specs.Tables.{by_client, rows_of}
 use Rattle.rep_entry.specs.Staging.{staged_of, planned, AreReady}

@@ -1,7 +1,7 @@
 use Rattle.std.proofs.Common.{subst}
 use Rattle.rep_ops.specs.Making.{AreWellMade}
 use Rattle.rep_model.specs.Held.{IsHeld}
-use Rattle.rep_plain.specs.Rows.{flat}
+use Rattle.rep_shared.specs.Rows.{flat}
 use Rattle.rep_state.specs.Tables.{by_client}
 use Rattle.rep_state.proofs.Working.{made_flat}
 use Rattle.rep_state.proofs.replica.FoldedReplica.held.Goals as goal

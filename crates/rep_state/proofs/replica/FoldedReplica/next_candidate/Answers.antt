@@ -2,11 +2,11 @@ use Rattle.std.proofs.Common.{◌∷◌, ◌++◌, Some, List, ℕ, drop, sym, a
 use Rattle.rep_model.specs.Views.{clients, view}
 use Rattle.rep_model.specs.Asking.{NoneAsks}
 use Rattle.rep_model.proofs.Readers.{client_exact}
-use Rattle.rep_ops.specs.Orders.{client_cmp}
-use Rattle.rep_plain.specs.Rows.{flat}
-use Rattle.rep_plain.specs.inner.Rows.{named_rows}
-use Rattle.rep_plain.proofs.Flat.{clients_flat, of_flat}
-use Rattle.rep_plain.proofs.Single.{view_own}
+use Rattle.rep_op.specs.Orders.{client_cmp}
+use Rattle.rep_shared.specs.Rows.{flat}
+use Rattle.rep_shared.specs.inner.Rows.{named_rows}
+use Rattle.rep_shared.proofs.Flat.{clients_flat, of_flat}
+use Rattle.rep_shared.proofs.Single.{view_own}
 use Rattle.rep_state.specs.Tables.{by_client, rows_of, IsKept}
 use Rattle.rep_state.proofs.Asking.{silent_views}
 use Rattle.rep_state.proofs.Entering.{seen_row}

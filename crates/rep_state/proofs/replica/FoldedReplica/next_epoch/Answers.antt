@@ -1,9 +1,9 @@
 use Rattle.std.proofs.Common.{sym, ap, ◌∙◌}
 use Rattle.rep_model.specs.Fresh.{one_more, greatest_epoch}
-use Rattle.rep_plain.specs.Rows.{flat}
-use Rattle.rep_plain.proofs.Single.{greatest_epoch_own}
-use Rattle.rep_plain.proofs.Flat.{of_flat}
-use Rattle.rep_plain.proofs.Moves.{next_one}
+use Rattle.rep_shared.specs.Rows.{flat}
+use Rattle.rep_shared.proofs.Single.{greatest_epoch_own}
+use Rattle.rep_shared.proofs.Flat.{of_flat}
+use Rattle.rep_shared.proofs.Numbers.{next_one}
 use Rattle.rep_state.specs.Tables.{by_client, rows_of}
 use Rattle.rep_state.proofs.Rows.{table_rows}
 use Rattle.rep_state.proofs.replica.FoldedReplica.next_epoch.Goals as goal

@@ -2,8 +2,8 @@ use Rattle.std.proofs.Common.{◌≡◌, ◌+◌, ◌++◌, not, Some, sym, ap, 
 use Rattle.rep_model.specs.Taking.{AllAgree, Fits}
 use Rattle.rep_model.specs.Limits.{first_passed}
 use Rattle.rep_model.specs.Keep.{IsKeptOf}
-use Rattle.rep_plain.specs.Rows.{flat, own, has_any, moved, count_named}
-use Rattle.rep_plain.specs.inner.Rows.{count_new}
+use Rattle.rep_shared.specs.Rows.{flat, own, has_any, moved, count_named}
+use Rattle.rep_shared.specs.inner.Rows.{count_new}
 use Rattle.rep_state.specs.Tables.{by_client, rows_of}
 use Rattle.rep_state.specs.inner.Tables.{passed_by}
 use Rattle.rep_state.specs.inner.Groups.{AreGroups}

@@ -1,11 +1,11 @@
 use Rattle.std.proofs.Common.{Some, None, sym, ap, ◌∙◌}
 use Rattle.std.specs.FinMap.{find}
-use Rattle.rep_ops.specs.Orders.{client_cmp}
+use Rattle.rep_op.specs.Orders.{client_cmp}
 use Rattle.rep_model.specs.Views.{is_named, view}
 use Rattle.rep_model.proofs.Readers.{client_exact}
-use Rattle.rep_plain.specs.Rows.{flat, has_any}
-use Rattle.rep_plain.proofs.Single.{view_own}
-use Rattle.rep_plain.proofs.Flat.{of_flat, named_flat}
+use Rattle.rep_shared.specs.Rows.{flat, has_any}
+use Rattle.rep_shared.proofs.Single.{view_own}
+use Rattle.rep_shared.proofs.Flat.{of_flat, named_flat}
 use Rattle.rep_state.specs.Tables.{by_client, rows_of, IsKept}
 use Rattle.rep_state.proofs.Entering.{seen_row}
 use Rattle.rep_entry.proofs.Owning.{found_holds}

@@ -1,0 +1,103 @@
+//! Calls of a shift, with a pass that comes back.
+
+ghost use Rattle.std.specs.Prelude.{◌≡◌, ℕ, Bool, true, IfOk, IfErr, Err};
+ghost use Rattle.std.specs.Arc.{arc_value};
+ghost use Rattle.gw_answer.specs.Answers.{said, told};
+ghost use Rattle.gw_answer.specs.declared.step.Step.{Step as AnyStep};
+ghost use Rattle.gw_shift.specs.Calling.{Made};
+ghost use Rattle.gw_link.specs.Adding.{Adds};
+ghost use Rattle.gw_link.specs.Calling.{says_halted, CannotCall};
+ghost use Rattle.gw_link.specs.inner.Calling.{reached_by};
+ghost use Rattle.gw_link.specs.declared.calling.End.TheVariants as ends;
+
+use crate::stage::Stage;
+use gw_node::{Answer, NodeFault, Step};
+use gw_shift::{CallFault, Pass, Shift};
+use jr_disk::Disk;
+use rep_model::Replica;
+use std::alloc::Global;
+use std::sync::{Arc, Wait};
+use thiserror::Error;
+
+/// Why a thread of a shift stops what it does.
+#[derive(Clone, Copy, Debug, PartialEq, Eq, Error)]
+pub enum End {
+    /// The link is lost: its other end closed it, a read or a write failed, or what came is no
+    /// message.
+    #[error("the link is lost")]
+    Lost,
+    /// The shift has had all its calls.
+    #[error("the shift has had all its calls")]
+    Full,
+    /// Memory ran out, also where the gateway said so.
+    #[error("out of memory")]
+    Memory,
+    /// The pass has seen more calls than the shift has.
+    #[error("a pass has seen more calls than the shift has")]
+    Behind,
+    /// The gateway is halted, since a write of its journal has failed, and refused to be opened
+    /// anew.
+    #[error("the gateway is halted, and refused to be opened anew")]
+    Halted,
+    /// The gateway was halted, and was opened anew.
+    #[error("the gateway was halted, and was opened anew")]
+    Reopened,
+}
+
+/// Makes a call, once it is claimed. Says what the gateway answered, or why the call did not reach
+/// it.
+#[tactic(auto, using(crate::proofs::Adding::adds_none))]
+pub fn call<T: Wait, R: Replica, D: Disk + Drop>(
+    rt: &T,
+    alloc: Global,
+    shift: &Shift<R, D>,
+    pass: Pass,
+    step: Arc<Step>,
+    stage: &Stage,
+) -> (Pass, Result<Answer, End>)
+    ensures made { IfOk result.1 (λ answer. (number : ℕ) × Made pass (arc_value step) (said answer)
+        number result.0) }
+    ensures none { IfErr result.1 (λ end. CannotCall end × (result.0 ≡ pass)) }
+    ensures adds { (is : AnyStep → Bool) → is (arc_value step) ≡ true → Adds is pass result.0 }
+{
+    if !stage.claim() {
+        return (pass, Err(End::Full));
+    }
+    match shift.call(rt, alloc, pass, step) {
+        Ok((pass, out, _)) => (pass, Ok(Ok(out))),
+        Err((pass, fault)) => match reached(fault) {
+            Ok(refusal) => (pass, Ok(Err(refusal))),
+            Err(end) => (pass, Err(end)),
+        },
+    }
+}
+
+/// What a refused call means: the gateway's refusal, or why the call did not reach it.
+fn reached(fault: CallFault) -> Result<NodeFault, End>
+    ensures { result ≡ reached_by fault }
+{
+    match fault {
+        CallFault::ShiftFull => Err(End::Full),
+        CallFault::Behind { .. } => Err(End::Behind),
+        CallFault::Memory => Err(End::Memory),
+        CallFault::Node { number: _, fault } => Ok(fault),
+    }
+}
+
+/// What a refusal of the gateway means for what it was asked: that is dropped. Only want of memory
+/// ends anything.
+pub fn dropped(fault: &NodeFault) -> Result<(), End>
+    ensures { IfErr result (λ end. end ≡ ends.Memory) }
+{
+    match fault {
+        NodeFault::Memory => Err(End::Memory),
+        _ => Ok(()),
+    }
+}
+
+/// Whether the gateway refused since it is halted.
+pub fn is_halted(fault: &NodeFault) -> bool
+    ensures { result ≡ says_halted (Err (told fault.now)) }
+{
+    matches!(fault, NodeFault::Halted)
+}

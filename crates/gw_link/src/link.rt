@@ -1,0 +1,97 @@
+//! A link that is open.
+
+ghost use Rattle.std.specs.Prelude.{◌≡◌, true};
+ghost use Rattle.std.specs.Arc.{arc_value};
+ghost use Rattle.gw_link.specs.Adding.{is_of_link};
+
+use gw_net::LinkIn;
+use gw_node::Step;
+use std::alloc::Global;
+use std::collections::VecDeque;
+use std::sync::Arc;
+
+/// Which end made the connection.
+#[derive(Clone, Copy, Debug, PartialEq, Eq)]
+pub enum Origin {
+    /// This one dialled the peer of this place in the settings.
+    Dialled(usize),
+    /// The other one.
+    Accepted,
+}
+
+/// What came over a link, as the call that it asks for.
+#[derive(Drop)]
+pub(crate) struct Heard {
+    pub(crate) step: Arc<Step>,
+    pub ghost of_link: { is_of_link (arc_value step) ≡ true },
+}
+
+/// A link that is open.
+#[derive(Drop)]
+pub struct Link<S: Drop> {
+    pub(crate) stream: S,
+    /// Which end made the connection.
+    pub origin: Origin,
+    /// The octets of a message that is not whole.
+    pub(crate) incoming: LinkIn,
+    /// The deltas that came and were not heard yet, in their order.
+    pub(crate) waiting: VecDeque<Heard>,
+    /// The last digest that came and was not answered yet.
+    pub(crate) asked: Option<Heard>,
+    /// A digest was answered in this shift.
+    pub(crate) answered: bool,
+    /// The number of the other end, where it has said it.
+    pub(crate) other: Option<u8>,
+    /// How often a read found nothing: before that, and since this end has last said its number.
+    pub(crate) silence: u32,
+    /// What came behind it is no message.
+    pub(crate) failed: bool,
+    /// What is to go out, a message each.
+    pub(crate) outgoing: VecDeque<Vec<u8>>,
+    /// How many octets they have.
+    pub(crate) behind: usize,
+    /// How many octets of the first of them went out.
+    pub(crate) written: usize,
+    /// How often in turn the stream took none.
+    pub(crate) stalls: u32,
+    /// This end has said its number and its digest.
+    pub(crate) greeted: bool,
+    /// The number of the last call of the shift whose delta was told.
+    pub(crate) told: u64,
+}
+
+impl<S: Drop> Link<S> {
+    /// A link over which nothing was said.
+    pub fn new(alloc: Global, stream: S, origin: Origin) -> Link<S> {
+        Link {
+            stream,
+            origin,
+            incoming: LinkIn::new(),
+            waiting: VecDeque::new(alloc),
+            asked: None,
+            answered: false,
+            other: None,
+            silence: 0,
+            failed: false,
+            outgoing: VecDeque::new(alloc),
+            behind: 0,
+            written: 0,
+            stalls: 0,
+            greeted: false,
+            told: 0,
+        }
+    }
+
+    /// Whether all that was said went out.
+    pub(crate) fn is_told(&self) -> bool {
+        self.outgoing.is_empty()
+    }
+
+    /// A new shift numbers its calls from 1; what the last one made was told.
+    pub fn begin_shift(&mut self)
+        ensures { self.new.origin ≡ self.old.origin }
+    {
+        self.told = 0;
+        self.answered = false;
+    }
+}

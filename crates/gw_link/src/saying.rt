@@ -1,0 +1,166 @@
+//! What goes out over a link.
+
+ghost use Rattle.std.specs.Prelude.{◌≡◌};
+ghost use Rattle.gw_link.specs.Adding.{Adds, is_of_link};
+
+use crate::calling::{End, call, dropped};
+use crate::link::Link;
+use crate::outgoing::{is_behind, say};
+use crate::stage::Stage;
+use gw_net::LinkMessage;
+use gw_node::{Out, Step};
+use gw_shift::{CallFault, Pass, Shift};
+use jr_disk::Disk;
+use rep_digest::Digest;
+use rep_model::Replica;
+use rep_ops::Delta;
+use std::alloc::Global;
+use std::sync::{Arc, Wait};
+
+/// How many deltas are asked of the shift at once.
+const AT_ONCE: usize = 64;
+
+/// How often a read finds nothing, ten milliseconds each, before this end says its number again:
+/// some thirty seconds. Where the other end is gone, and nobody was told so, the system tells it
+/// behind such a message, and the link is made anew.
+const MOST_QUIET: u32 = 3_000;
+
+/// Says the number of this gateway.
+fn say_hello<S: Drop>(alloc: Global, link: &mut Link<S>, gateway: u8) -> Result<(), End> {
+    if gateway == 0 {
+        return Err(End::Lost);
+    }
+    say(alloc, link, &LinkMessage::Hello(gateway))
+}
+
+/// An equal digest, by its octets.
+fn equal(alloc: Global, digest: &Digest) -> Result<Digest, End> {
+    let mut octets = Vec::new(alloc);
+    if digest.encode(alloc, &mut octets).is_err() {
+        return Err(End::Memory);
+    }
+    match Digest::decode(alloc, octets.as_slice()) {
+        Ok(digest) => Ok(digest),
+        Err(_) => Err(End::Memory),
+    }
+}
+
+/// Says a digest.
+fn say_digest<S: Drop>(alloc: Global, link: &mut Link<S>, digest: &Digest) -> Result<(), End> {
+    let digest = equal(alloc, digest)?;
+    say(alloc, link, &LinkMessage::Digest(digest))
+}
+
+/// Says what the other end lacks.
+pub(crate) fn say_answer<S: Drop>(
+    alloc: Global,
+    link: &mut Link<S>,
+    deltas: &[Delta],
+) -> Result<(), End> {
+    for delta in deltas {
+        let Ok(delta) = delta.copied(alloc) else {
+            return Err(End::Memory);
+        };
+        say(alloc, link, &LinkMessage::Delta(delta))?;
+    }
+    Ok(())
+}
+
+/// Says the number of this gateway once more, where nothing came for long.
+fn say_again<S: Drop>(alloc: Global, link: &mut Link<S>, gateway: u8) -> Result<(), End> {
+    if link.silence < MOST_QUIET || !link.is_told() {
+        return Ok(());
+    }
+    link.silence = 0;
+    say_hello(alloc, link, gateway)
+}
+
+/// Says the number of this gateway and what it has, once; and its number again where nothing came
+/// for long. A link whose other end has the number of this gateway is at an end: it is this gateway
+/// itself, or one that may not be there.
+pub(crate) fn greet<T: Wait, R: Replica, D: Disk + Drop, S: Drop>(
+    rt: &T,
+    alloc: Global,
+    shift: &Shift<R, D>,
+    pass: Pass,
+    link: &mut Link<S>,
+    gateway: u8,
+    stage: &Stage,
+) -> (Pass, Result<(), End>)
+    ensures { Adds is_of_link pass result.0 }
+{
+    if link.other == Some(gateway) {
+        return (pass, Err(End::Lost));
+    }
+    if link.greeted {
+        return (pass, say_again(alloc, link, gateway));
+    }
+    let Ok(step) = Arc::new(alloc, Step::Digest) else {
+        return (pass, Err(End::Memory));
+    };
+    let (pass, answered) = call(rt, alloc, shift, pass, step, stage);
+    match answered {
+        Err(end) => (pass, Err(end)),
+        Ok(Ok(out)) => (pass, say_greeting(alloc, link, gateway, Some(out))),
+        Ok(Err(fault)) => match dropped(&fault) {
+            Ok(()) => (pass, say_greeting(alloc, link, gateway, None)),
+            Err(end) => (pass, Err(end)),
+        },
+    }
+}
+
+/// The same once the digest is known; a gateway whose digest would be too large says its number
+/// alone.
+fn say_greeting<S: Drop>(
+    alloc: Global,
+    link: &mut Link<S>,
+    gateway: u8,
+    out: Option<Arc<Out>>,
+) -> Result<(), End> {
+    link.greeted = true;
+    say_hello(alloc, link, gateway)?;
+    if let Some(out) = out {
+        if let Some(digest) = out.digest.as_ref() {
+            say_digest(alloc, link, digest)?;
+        }
+    }
+    Ok(())
+}
+
+/// Tells of each delta that the gateway made in this shift and that was not told of.
+pub(crate) fn tell_all<T: Wait, R: Replica, D: Disk + Drop, S: Drop>(
+    rt: &T,
+    alloc: Global,
+    shift: &Shift<R, D>,
+    pass: &Pass,
+    link: &mut Link<S>,
+) -> Result<(), End> {
+    for _ in rt.forever() {
+        let made = match shift.after(rt, alloc, pass, link.told, AT_ONCE) {
+            Ok(made) => made,
+            Err(CallFault::Behind { .. }) => return Err(End::Behind),
+            Err(_) => return Err(End::Memory),
+        };
+        if made.is_empty() {
+            return Ok(());
+        }
+        tell_some(alloc, link, made)?;
+    }
+    unreachable!()
+}
+
+/// Tells of these deltas, which calls of these numbers made.
+fn tell_some<S: Drop>(
+    alloc: Global,
+    link: &mut Link<S>,
+    made: Vec<(u64, Delta)>,
+) -> Result<(), End> {
+    for (number, delta) in made {
+        if is_behind(link) {
+            return Err(End::Lost);
+        }
+        say(alloc, link, &LinkMessage::Delta(delta))?;
+        link.told = number;
+    }
+    Ok(())
+}

@@ -1,5 +1,0 @@
-use Rattle.gw_play.proofs.Lines.{no_octets}
-use Rattle.gw_play.proofs.command.frame.Goals as goal
-
-pub returns-in-None : goal.returns-in-None
-returns-in-None c = no_octets c.args.fields.now _ (rw c.in-None.is at c.in_ok-bytes.ensures)

@@ -1,5 +1,0 @@
-use Rattle.gw_play.proofs.Lines.{no_spared}
-use Rattle.gw_play.proofs.command.restart.Goals as goal
-
-pub returns-in-None : goal.returns-in-None
-returns-in-None c = no_spared c.args.fields.now _ (rw c.in-None.is at c.spared.ensures)

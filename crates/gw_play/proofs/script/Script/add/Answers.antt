@@ -1,4 +1,0 @@
-use Rattle.gw_play.proofs.script.Script.add.Goals as goal
-
-pub returns-in-Predefine-clause-refused : goal.returns-in-Predefine-clause-refused
-returns-in-Predefine-clause-refused c = rw c.in-Predefine.is c.add_predefined.ensures.refused

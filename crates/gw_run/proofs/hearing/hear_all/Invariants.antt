@@ -1,5 +1,0 @@
-use Rattle.gw_run.specs.Adding.{Adds, is_of_link}
-use Rattle.gw_run.proofs.hearing.hear_all.Given as goal
-
-abbrev pub invariant-loop : goal.invariant-loop
-invariant-loop g l = Adds is_of_link l.fn.pass l.pass

@@ -1,0 +1,126 @@
+-- A script grows line by line.
+use Rattle.std.proofs.Common.{◌≡◌, ◌≢◌, ℕ, ◌+◌, ◌-◌, ◌<◌, inl, inr, List, [], ◌∷◌, ◌++◌, zero, suc, length, set, get_or, refl, map, take, Bor, Some, ap, sym, subst, ◌∙◌, arith, Bool, true, false, ◌==◌}
+use Rattle.std.specs.Prelude.{Result, Err, slice_get, position, IsTrue}
+use Rattle.sn_topic.specs.Table.{is_table}
+use Rattle.std.proofs.lemmas.List.{take_more, get_or-map, length-map, length-set}
+use Rattle.std.proofs.lemmas.Option.{slice_get-get_or}
+use Rattle.gw_script.specs.declared.command.Command.{Command}
+use Rattle.gw_script.specs.declared.fault.LineFault.{LineFault}
+use Rattle.gw_script.specs.declared.fault.LineFault.TheVariants as faults
+use Rattle.gw_script.specs.declared.script.Script.{Script}
+use Rattle.gw_script.specs.Commands.{Spells}
+use Rattle.gw_script.specs.inner.Commands.{Reads}
+use Rattle.std.proofs.Common.{rules}
+use Rattle.std.proofs.lemmas.Bool.{eq-eqb, eqb-true}
+use Rattle.std.proofs.lemmas.List.Elements.{All-nil, All-push}
+use Rattle.std.proofs.lemmas.List.Folds.{list_any_at}
+use Rattle.std.proofs.lemmas.List.Quantifiers.{all_pairs_push}
+use Rattle.sn_local.specs.declared.config.Config.{Config}
+use Rattle.gw_script.specs.declared.command.Command.TheVariants as commands
+use Rattle.gw_script.specs.Scripts.{Adds, config_of, has_gateway, Extends, IsScriptOf, AreGateways, IsBadLine}
+use Rattle.gw_script.specs.Scripts.IsScriptOf.{none, more}
+
+-- the octets of lines
+abbrev pub octets_of : List (Bor (List ℕ)) → List (List ℕ)
+octets_of lines = map (λ (line : Bor (List ℕ)). line.now) lines
+
+-- a line that spells nothing, and is not empty, extends no script
+pub unreadable : (before : Script) (line : List ℕ) (r : Result Command LineFault) → Reads (Spells line) r → r ≡ Err faults.NotACommand
+    → line ≢ [] → (after : Script) → Extends before line after → ⊥
+unreadable before line r reads refused some after (inl p) = some p.0
+unreadable before line r reads refused some after (inr (command, spells, adds)) = (rw refused at reads) command spells
+
+-- a line is not empty where a test says so
+pub not_empty : (line : List ℕ) (test : Bool) → test ≡ (length line == 0) → test ≡ false → line ≢ []
+not_empty line test is fails empty = let e : (length line == 0) ≡ true = ap (λ (x : List ℕ). length x == 0) empty in cc
+
+-- the lines read so far and one more
+pub one_more : (lines : List (Bor (List ℕ))) (i : ℕ) (d : Bor (List ℕ)) (before after : Script) → i < length lines
+    → IsScriptOf (take i (octets_of lines)) before → Extends before (get_or lines i d).now after
+    → IsScriptOf (take (i + 1) (octets_of lines)) after
+one_more lines i d before after within read extends =
+    let now : Bor (List ℕ) → List ℕ = λ b. b.now in
+    let size : i < length (octets_of lines) = omega (arith, length-map lines now) in
+    let P : List (List ℕ) → Type 0 = λ xs. IsScriptOf xs after in
+    let e : take (i + 1) (octets_of lines) ≡ take i (octets_of lines) ++ (get_or lines i d).now ∷ [] =
+    take_more (octets_of lines) i d.now size ∙ ap (λ (x : List ℕ). take i (octets_of lines) ++ x ∷ []) (get_or-map now lines i d d.now within) in
+    subst P (sym e) (more (take i (octets_of lines)) (get_or lines i d).now before after read extends)
+
+-- the first line that cannot stand where it stands
+pub bad_line : (lines : List (Bor (List ℕ))) (all : List (List ℕ)) (i k : ℕ) (d : Bor (List ℕ)) (before : Script) → i < length lines
+    → octets_of lines ≡ all → i + 1 ≡ k → IsScriptOf (take i (octets_of lines)) before
+    → ((after : Script) → Extends before (get_or lines i d).now after → ⊥) → IsBadLine all k
+bad_line lines all i k d before within same next read refused =
+    let now : Bor (List ℕ) → List ℕ = λ b. b.now in
+    let size : i < length (octets_of lines) = omega (arith, length-map lines now) in
+    let there : slice_get (octets_of lines) i ≡ Some (get_or lines i d).now =
+    slice_get-get_or (octets_of lines) i d.now size ∙ ap (λ (x : List ℕ). Some x) (get_or-map now lines i d d.now within) in
+    let back : k - 1 ≡ i = omega arith in
+    let P : ℕ → Type 0 = λ n. slice_get all n ≡ Some (get_or lines i d).now in
+    let Q : ℕ → Type 0 = λ n. IsScriptOf (take n all) before in
+    let R : List (List ℕ) → Type 0 = λ xs. IsScriptOf (take i xs) before in
+    let S : List (List ℕ) → Type 0 = λ xs. slice_get xs i ≡ Some (get_or lines i d).now in
+    record {
+      before = before;
+      line = (get_or lines i d).now;
+      counted = omega arith;
+      there = subst P (sym back) (subst S same there);
+      read = subst Q (sym back) (subst R same read);
+      refused = refused;
+    }
+
+-- where no gateway has the number, the gateway at each place has another
+others : (configs : List Config) (number k : ℕ) (d : Config) → has_gateway configs number ≡ false → k < length configs
+    → (get_or configs k d).gateway ≢ number
+others configs number k d absent within same =
+    let test : Config → Bool = λ config. config.gateway == number in
+    let found : has_gateway configs number ≡ true = list_any_at test configs k d within (eq-eqb _ _ same) in
+    cc
+
+-- the script says one predefined id more
+pub tells : (before : Script) (number id : ℕ) (name : List ℕ) (place : ℕ) (config made : Config) (configs : List Config) → before.events ≡ []
+    → position (λ (c : Config). c.gateway == number) before.configs ≡ Some place → slice_get before.configs place ≡ Some config
+    → IsTrue (is_table (config.predefined ++ (id, name) ∷ [])) → made ≡ record config { predefined = config.predefined ++ (id, name) ∷ [] }
+    → configs ≡ set before.configs place made → Adds before (commands.Predefine number id name) (record { configs = configs; events = before.events })
+tells before number id name place config made configs quiet at there table is changed =
+    (quiet, place, config, at, there, table, λ i. record { configs = (changed ∙ ap (λ (m : Config). set before.configs place m) is) i; events = quiet i })
+
+-- where a list is not said to have an item, it has none
+pub has_none : {X : Type 0} (xs : List X) (r : Bool) → r ≡ (length xs == 0) → r ≡ true → xs ≡ []
+has_none [] r e f = refl
+has_none (x ∷ xs) r e f = absurd (omega (arith, eqb-true (length (x ∷ xs)) 0 (sym e ∙ f)))
+
+-- a gateway that is told more keeps its number, and so do the others
+numbers_stay : (configs : List Config) (place : ℕ) (old new : Config) → slice_get configs place ≡ Some old → new.gateway ≡ old.gateway
+    → (k : ℕ) (d : Config) → (get_or (set configs place new) k d).gateway ≡ (get_or configs k d).gateway
+numbers_stay [] place old new there same k d = refl
+numbers_stay (config ∷ configs) zero old new there same zero d = let is : config ≡ old = cc in same ∙ ap (λ (c : Config). c.gateway) (sym is)
+numbers_stay (config ∷ configs) zero old new there same (suc k) d = refl
+numbers_stay (config ∷ configs) (suc place) old new there same zero d = refl
+numbers_stay (config ∷ configs) (suc place) old new there same (suc k) d = numbers_stay configs place old new there same k d
+
+told_more : (configs : List Config) (place : ℕ) (old new : Config) → slice_get configs place ≡ Some old → new.gateway ≡ old.gateway
+    → AreGateways configs → AreGateways (set configs place new)
+told_more configs place old new there same are = record {
+  some = λ k d within zero_. are.some k d (rw length-set at within) (sym (numbers_stay configs place old new there same k d) ∙ zero_);
+  different = λ i j d below within equal. are.different i j d below (rw length-set at within)
+      (sym (numbers_stay configs place old new there same i d) ∙ (equal ∙ numbers_stay configs place old new there same j d));
+}
+
+-- the gateways of a script are such as a field may have
+pub gateways : (lines : List (List ℕ)) (script : Script) → IsScriptOf lines script → AreGateways script.configs
+gateways lines script none = record { some = All-nil _; different = search rules }
+gateways lines script (more earlier line before after read (inl same)) =
+    let P : Script → Type 0 = λ s. AreGateways s.configs in subst P (sym same.1) (gateways earlier before read)
+gateways lines script (more earlier line before after read (inr (commands.Gateway number, spells, adds))) =
+    let P : Script → Type 0 = λ s. AreGateways s.configs in
+    let old : AreGateways before.configs = gateways earlier before read in
+    subst P (sym adds.3) (record {
+      some = All-push (λ (config : Config). config.gateway ≢ 0) before.configs (config_of number) old.some adds.1;
+      different = all_pairs_push (λ (a b : Config). a.gateway ≢ b.gateway) before.configs (config_of number) old.different (λ k d within. others before.configs number k d adds.2 within);
+    })
+gateways lines script (more earlier line before after read (inr (commands.Predefine number id name, spells, adds))) =
+    let P : Script → Type 0 = λ s. AreGateways s.configs in
+    subst P (sym adds.6) (told_more before.configs adds.1 adds.2 (record adds.2 { predefined = adds.2.predefined ++ (id, name) ∷ [] }) adds.4 refl (gateways earlier before read))
+gateways lines script (more earlier line before after read (inr (commands.Happens event, spells, adds))) =
+    let P : Script → Type 0 = λ s. AreGateways s.configs in subst P (sym adds) (gateways earlier before read)

@@ -1,0 +1,4 @@
+pub mod Digits
+mod Examples
+pub mod Growth
+pub mod Lines

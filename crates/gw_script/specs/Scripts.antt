@@ -1,0 +1,69 @@
+-- A script: gateways, and then events.
+use Rattle.std.specs.Prelude.{◌≡◌, ◌≢◌, ◌==◌, ℕ, ◌-◌, ◌<◌, ◌⊎◌, Bool, false, List, [], ◌∷◌, ◌++◌, take, position, slice_get, slice_set, Some, IsTrue, All, AllPairs}
+use Rattle.std.specs.List.{list_any}
+use Rattle.sn_topic.specs.Table.{is_table}
+use Rattle.sn_local.specs.declared.config.Config.{Config}
+use Rattle.gw_script.specs.declared.command.Command.{Command}
+use Rattle.gw_script.specs.declared.command.Command.TheVariants as commands
+use Rattle.gw_script.specs.declared.script.Script.{Script}
+use Rattle.gw_script.specs.Commands.{Spells}
+
+-- a gateway that is told nothing but its number
+abbrev pub config_of : ℕ → Config
+config_of number = record { gateway = number; advertise = 0; field = []; predefined = [] }
+
+-- whether a gateway has the number
+abbrev pub has_gateway : List Config → ℕ → Bool
+has_gateway configs number = list_any (λ config. config.gateway == number) configs
+
+-- the script that says nothing
+abbrev pub empty_script : Script
+empty_script = record { configs = []; events = [] }
+
+-- The second script says what the first says, and then the command. A gateway comes before all
+-- events, its number is not 0, and no other has it. A predefined topic id comes before all events
+-- too, for a gateway that is there, and is not 0000, FFFF or an id that the gateway has already.
+abbrev pub Adds : Script → Command → Script → Type 0
+Adds before (commands.Gateway number) after =
+    (before.events ≡ []) × (number ≢ 0) × (has_gateway before.configs number ≡ false)
+    × (after ≡ record { configs = before.configs ++ config_of number ∷ []; events = [] })
+Adds before (commands.Predefine number id name) after =
+    (before.events ≡ []) × (place : ℕ) × (config : Config)
+    × (position (λ (c : Config). c.gateway == number) before.configs ≡ Some place)
+    × (slice_get before.configs place ≡ Some config)
+    × IsTrue (is_table (config.predefined ++ (id, name) ∷ []))
+    × (after ≡ record {
+      configs = slice_set before.configs place
+          (record config { predefined = config.predefined ++ (id, name) ∷ [] });
+      events = [];
+    })
+Adds before (commands.Happens event) after =
+    after ≡ record { configs = before.configs; events = before.events ++ event ∷ [] }
+
+-- the second script says what the first says, and then the line; an empty line says nothing
+abbrev pub Extends : Script → List ℕ → Script → Type 0
+Extends before line after =
+    ((line ≡ []) × (after ≡ before))
+    ⊎ ((command : Command) × Spells line command × Adds before command after)
+
+-- the lines make up the script
+pub data IsScriptOf : List (List ℕ) → Script → Type 0 where
+  none : IsScriptOf [] empty_script
+  more : (lines : List (List ℕ)) (line : List ℕ) (before after : Script) → IsScriptOf lines before
+      → Extends before line after
+      → IsScriptOf (lines ++ line ∷ []) after
+
+-- gateways as a field may have them: each has a number that is not 0, and no two have the same
+pub record AreGateways (configs : List Config) : Type 0 where
+  pub some : All (λ config. config.gateway ≢ 0) configs
+  pub different : AllPairs (λ a b. a.gateway ≢ b.gateway) configs
+
+-- The line of this number, from 1, is the first that cannot stand where it stands: the lines before
+-- it make up a script, and no script has it next.
+pub record IsBadLine (lines : List (List ℕ)) (number : ℕ) : Type 0 where
+  pub before : Script
+  pub line : List ℕ
+  pub counted : 0 < number
+  pub there : slice_get lines (number - 1) ≡ Some line
+  pub read : IsScriptOf (take (number - 1) lines) before
+  pub refused : (after : Script) → Extends before line after → ⊥

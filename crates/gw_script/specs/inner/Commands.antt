@@ -1,0 +1,11 @@
+-- The lines of a script.
+use Rattle.std.specs.Prelude.{◌-◌, Result, Ok, Err}
+use Rattle.gw_script.specs.declared.command.Command.{Command}
+use Rattle.gw_script.specs.declared.fault.LineFault.{LineFault}
+use Rattle.gw_script.specs.declared.fault.LineFault.TheVariants as faults
+
+-- The answer of a reader: a command for which the fact holds. Where it is refused there is none.
+abbrev pub Reads : (Command → Type 0) → Result Command LineFault → Type 0
+Reads IsSaid (Ok command) = IsSaid command
+Reads IsSaid (Err faults.NotACommand) = (command : Command) → IsSaid command → ⊥
+Reads IsSaid (Err faults.Memory) = Unit {0}

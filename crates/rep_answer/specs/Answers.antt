@@ -1,0 +1,67 @@
+-- The answer to a digest: what must be kept and what the digest does not cover.
+use Rattle.std.specs.Prelude.{◌≡◌, ℕ, ◌==◌, Bool, false, not, ◌&&◌, ◌||◌, if◌then◌else◌, List, [], Option, Some, None}
+use Rattle.std.specs.List.{find}
+use Rattle.rep_op.specs.declared.op.Stamp.{Stamp}
+use Rattle.rep_op.specs.declared.op.Op.{Op}
+use Rattle.rep_op.specs.Sets.{same_client, operation_at, put_at, is_acknowledged}
+use Rattle.rep_ops.specs.Splitting.{AreDeltasOf}
+use Rattle.rep_model.specs.Keep.{is_below, keep}
+use Rattle.rep_model.specs.Limits.{is_in_prefix}
+use Rattle.rep_model.specs.Ranges.{in_ranges}
+use Rattle.rep_digest.specs.declared.entry.OriginEntry.{OriginEntry}
+use Rattle.rep_digest.specs.declared.entry.ClientEntry.{ClientEntry}
+
+-- the entry of a client, if there is one
+abbrev pub entry_of : List ℕ → List ClientEntry → Option ClientEntry
+entry_of c digest = find (λ entry. same_client c entry.client) digest
+
+-- the ranges of an origin's entry, or none
+abbrev pub ranges_of : (OriginEntry → List (ℕ × ℕ)) → Option OriginEntry → List (ℕ × ℕ)
+ranges_of ranges None = []
+ranges_of ranges (Some o) = ranges o
+
+-- the ranges that an entry of a client has of an origin, or none
+abbrev pub ranges_in : (OriginEntry → List (ℕ × ℕ)) → ℕ → Option ClientEntry → List (ℕ × ℕ)
+ranges_in ranges origin None = []
+ranges_in ranges origin (Some entry) =
+    ranges_of ranges (find (λ o. origin == o.origin) entry.origins)
+
+abbrev pub acknowledged_in : ℕ → Option ClientEntry → List (ℕ × ℕ)
+acknowledged_in origin entry = ranges_in (λ o. o.acknowledged) origin entry
+
+abbrev pub waiting_in : ℕ → Option ClientEntry → List (ℕ × ℕ)
+waiting_in origin entry = ranges_in (λ o. o.waiting) origin entry
+
+-- a session operation is seen below the stamp, and at it without a gap from 0 on
+abbrev pub sees : Option ClientEntry → Stamp × ℕ → Bool
+sees None name = false
+sees (Some entry) name = is_below name.0 entry.stamp || is_in_prefix entry.stamp entry.prefix name
+
+-- what a digest covers: session operations that it sees
+abbrev pub covers_operation : List ClientEntry → List ℕ → Stamp × ℕ → Bool
+covers_operation digest c name = sees (entry_of c digest) name
+
+-- messages that wait or are acknowledged
+abbrev pub covers_put : List ClientEntry → List ℕ → ℕ × ℕ → Bool
+covers_put digest c name =
+    in_ranges name.0 (waiting_in name.1 (entry_of c digest))
+    || in_ranges name.0 (acknowledged_in name.1 (entry_of c digest))
+
+-- acknowledgements that it has
+abbrev pub covers_acknowledgement : List ClientEntry → List ℕ → ℕ × ℕ → Bool
+covers_acknowledgement digest c name = in_ranges name.0 (acknowledged_in name.1 (entry_of c digest))
+
+-- X is the set S without what the digest covers
+pub record IsRest (digest : List ClientEntry) (S X : List Op) : Type 0 where
+  pub operations_left : (c : List ℕ) (name : Stamp × ℕ)
+      → operation_at c X name
+      ≡ (if covers_operation digest c name then None else operation_at c S name)
+  pub puts_left : (c : List ℕ) (name : ℕ × ℕ)
+      → put_at c X name ≡ (if covers_put digest c name then None else put_at c S name)
+  pub acknowledgements_left : (c : List ℕ) (name : ℕ × ℕ)
+      → is_acknowledged c X name
+      ≡ (not (covers_acknowledgement digest c name) && is_acknowledged c S name)
+
+-- the deltas, one after the other, are what must be kept of S and what the digest does not cover
+abbrev pub IsAnswer : List ClientEntry → List Op → List (List Op) → Type 0
+IsAnswer digest S deltas = (X : List Op) × IsRest digest (keep S) X × AreDeltasOf X deltas

@@ -1,0 +1,229 @@
+//! The answer to a digest.
+
+ghost use Rattle.std.specs.Prelude.{◌≡◌, ◌≤◌, ◌||◌, ◌++◌, ◌∷◌, [], Some, map, IsTrue, IfOk, IfErr, OnOk};
+ghost use Rattle.std.specs.List.{flat_map};
+ghost use Rattle.rep_ops.specs.Making.{AreWellMade};
+ghost use Rattle.rep_ops.specs.Splitting.{all_of};
+ghost use Rattle.rep_op.specs.WellMade as made;
+ghost use Rattle.rep_model.specs.Ranges as range_list;
+ghost use Rattle.rep_answer.specs.Answers.{IsAnswer};
+ghost use Rattle.rep_answer.specs.Answers as spec;
+ghost use Rattle.rep_digest.specs.WellMade.{IsEntry, IsDigest};
+ghost use Rattle.rep_answer.specs.inner.Steps.{before, outside, ack_of, left_of, left_by, IsLeft};
+ghost use Rattle.rep_answer.specs.inner.Steps as steps;
+
+use super::cover::{
+    acknowledged_in, beginning_by, ending_from, find_entry, in_ranges, sees, waiting_in,
+};
+use octets::NoMemory;
+use rep_digest::{ClientEntry, Digest};
+use rep_model::Replica;
+use rep_ops::{ClientId, Delta, Op, OpsFault, deltas_of};
+use std::alloc::Global;
+
+/// The operations that a replica must keep and that a digest does not cover, as deltas in the order
+/// of their names, each but the last as full as 8,388,608 octets allow. `Memory` is the only fault.
+pub fn answer<R: Replica>(
+    alloc: Global,
+    replica: &R,
+    digest: &Digest,
+) -> Result<Vec<Delta>, OpsFault>
+    ensures ok { IfOk result (λ deltas. IsAnswer digest.now (R.kept replica.now) deltas.items) }
+    ensures err { IfErr result (λ fault. fault ≡ OpsFault.Memory) }
+{
+    let ops = left_of_replica(alloc, replica, digest.entries())?;
+    Ok(deltas_of(alloc, ops)?)
+}
+
+/// What a digest leaves of the operations that a replica must keep.
+fn left_of_replica<R: Replica>(
+    alloc: Global,
+    replica: &R,
+    entries: &[ClientEntry],
+) -> Result<Vec<Op>, NoMemory>
+    requires { IsDigest entries.now }
+    ensures { IfOk result (λ ops. AreWellMade ops.items
+        × IsLeft entries.now (R.kept replica.now) ops.items) }
+{
+    let Ok(held) = replica.held(alloc) else {
+        return Err(NoMemory);
+    };
+    left_of_deltas(alloc, entries, held.as_slice())
+}
+
+/// What a digest leaves of the operations of deltas.
+fn left_of_deltas(
+    alloc: Global,
+    entries: &[ClientEntry],
+    deltas: &[Delta],
+) -> Result<Vec<Op>, NoMemory>
+    requires { IsDigest entries.now }
+    ensures { IfOk result (λ ops. ops.items ≡ flat_map (left_by entries.now) (all_of deltas.now)) }
+{
+    let mut left = Vec::new(alloc);
+    for delta in deltas {
+        add_left(alloc, &mut left, entries, delta.ops())?;
+    }
+    Ok(left)
+}
+
+/// Copies what a digest leaves of operations behind the others.
+fn add_left(
+    alloc: Global,
+    left: &mut Vec<Op>,
+    entries: &[ClientEntry],
+    ops: &[Op],
+) -> Result<(), NoMemory>
+    requires digest { IsDigest entries.now }
+    requires made { AreWellMade ops.now }
+    ensures { OnOk result (left.new.items ≡ left.old.items ++ flat_map
+        (left_by entries.now) ops.now) }
+{
+    for op in ops {
+        add_left_of(alloc, left, entries, op)?;
+    }
+    Ok(())
+}
+
+/// Copies what a digest leaves of an operation behind the others.
+fn add_left_of(
+    alloc: Global,
+    left: &mut Vec<Op>,
+    entries: &[ClientEntry],
+    op: &Op,
+) -> Result<(), NoMemory>
+    requires digest { IsDigest entries.now }
+    requires made { IsTrue (made.is_well_made op.now) }
+    ensures { OnOk result (left.new.items ≡ left.old.items ++ left_by entries.now op.now) }
+{
+    match find_entry(entries, op.client()) {
+        None => Ok(left.push(op.copied(alloc)?)?),
+        Some(entry) => add_left_by(alloc, left, entry, op),
+    }
+}
+
+/// Copies what an entry leaves of an operation behind the others.
+fn add_left_by(
+    alloc: Global,
+    left: &mut Vec<Op>,
+    entry: &ClientEntry,
+    op: &Op,
+) -> Result<(), NoMemory>
+    requires entry { IsEntry entry.now }
+    requires made { IsTrue (made.is_well_made op.now) }
+    ensures { OnOk result (left.new.items ≡ left.old.items ++ left_of (Some entry.now) op.now) }
+{
+    match op {
+        Op::Session { stamp, counter, .. } => {
+            if !sees(entry, *stamp, *counter) {
+                left.push(op.copied(alloc)?)?;
+            }
+        }
+        Op::Put { put, .. } => {
+            if !covers(entry, put.origin, put.seq) {
+                left.push(op.copied(alloc)?)?;
+            }
+        }
+        Op::Ack {
+            client,
+            origin,
+            first,
+            last,
+        } => {
+            let ranges = beginning_by(*last, acknowledged_in(entry, *origin));
+            let ranges = ending_from(*first, ranges);
+            add_outside(alloc, left, client, *origin, (*first, *last), ranges)?;
+        }
+    }
+    Ok(())
+}
+
+/// Whether a message waits or is acknowledged.
+fn covers(entry: &ClientEntry, origin: u8, seq: u64) -> bool
+    requires { IsEntry entry.now }
+    ensures { result
+        ≡ (range_list.in_ranges seq (spec.waiting_in origin (Some entry.now))
+        || range_list.in_ranges seq
+        (spec.acknowledged_in origin (Some entry.now))) }
+{
+    in_ranges(seq, waiting_in(entry, origin)) || in_ranges(seq, acknowledged_in(entry, origin))
+}
+
+/// Puts what of a range of acknowledgements is in none of the ranges behind the others.
+fn add_outside(
+    alloc: Global,
+    left: &mut Vec<Op>,
+    client: &ClientId,
+    origin: u8,
+    range: (u64, u64),
+    ranges: &[(u64, u64)],
+) -> Result<(), NoMemory>
+    requires { range.0 ≤ range.1 }
+    ensures { OnOk result (left.new.items ≡ left.old.items ++ map (ack_of client.now origin)
+        (outside range ranges.now)) }
+{
+    let mut rest = Some(range);
+    for covered in ranges {
+        rest = match rest {
+            None => None,
+            Some(range) => {
+                add_before(alloc, left, client, origin, range, *covered)?;
+                behind(range, *covered)
+            }
+        };
+    }
+    match rest {
+        None => Ok(()),
+        Some(range) => add_range(alloc, left, client, origin, range),
+    }
+}
+
+/// Puts what of a range is before another behind the others, if that other reaches into the range.
+fn add_before(
+    alloc: Global,
+    left: &mut Vec<Op>,
+    client: &ClientId,
+    origin: u8,
+    range: (u64, u64),
+    covered: (u64, u64),
+) -> Result<(), NoMemory>
+    ensures { OnOk result (left.new.items ≡ left.old.items ++ map (ack_of client.now origin)
+        (before range covered)) }
+{
+    if range.0 < covered.0 && covered.0 <= range.1 && range.0 <= covered.1 {
+        add_range(alloc, left, client, origin, (range.0, covered.0 - 1))?;
+    }
+    Ok(())
+}
+
+/// What of a range is behind another.
+fn behind(range: (u64, u64), covered: (u64, u64)) -> Option<(u64, u64)>
+    ensures { result ≡ steps.behind range covered }
+{
+    if range.1 < covered.0 || covered.1 < range.0 {
+        Some(range)
+    } else if covered.1 < range.1 {
+        Some((covered.1 + 1, range.1))
+    } else {
+        None
+    }
+}
+
+/// Puts the acknowledgements of a range behind the others.
+fn add_range(
+    alloc: Global,
+    left: &mut Vec<Op>,
+    client: &ClientId,
+    origin: u8,
+    range: (u64, u64),
+) -> Result<(), NoMemory>
+    ensures { OnOk result (left.new.items ≡ left.old.items ++ ack_of client.now origin range ∷ []) }
+{
+    left.push(Op::Ack {
+        client: client.copied(alloc)?,
+        origin,
+        first: range.0,
+        last: range.1,
+    })?;
+    Ok(())
+}

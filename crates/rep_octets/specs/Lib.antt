@@ -1,0 +1,4 @@
+pub mod Sessions
+pub mod Spelling
+pub mod Writing
+pub mod Reading

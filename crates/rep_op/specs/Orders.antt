@@ -1,0 +1,61 @@
+-- The names of operations, their orders, and names in common.
+use Rattle.std.specs.Prelude.{◌≡◌, ℕ, ◌<◌, ◌≤◌, List, slice_get, Some}
+use Rattle.std.specs.declared.cmp.Ordering.{Ordering}
+use Rattle.std.specs.declared.cmp.Ordering.TheVariants.{Less, Greater}
+use Rattle.std.specs.Ordering.{nat_cmp, ordering_then}
+use Rattle.std.specs.Cmp.Lexicographic.{slice_cmp}
+use Rattle.rep_op.specs.declared.op.Stamp.{Stamp}
+use Rattle.rep_op.specs.declared.op.Op.{Op}
+use Rattle.rep_op.specs.declared.op.Op.TheVariants.{Session as OfSession, Put as OfPut, Ack}
+
+-- clients are ordered by their octets, as words in a dictionary
+abbrev pub client_cmp : List ℕ → List ℕ → Ordering
+client_cmp c d = slice_cmp nat_cmp c d
+
+-- stamps are ordered by epoch, then gateway
+abbrev pub stamp_cmp : Stamp → Stamp → Ordering
+stamp_cmp a b = ordering_then (nat_cmp a.epoch b.epoch) (nat_cmp a.gateway b.gateway)
+
+-- a session operation of a client is named by its stamp and its counter
+abbrev pub operation_cmp : Stamp × ℕ → Stamp × ℕ → Ordering
+operation_cmp a b = ordering_then (stamp_cmp a.0 b.0) (nat_cmp a.1 b.1)
+
+-- a put of a client is named by its sequence number and its origin; this is the order of delivery
+abbrev pub put_cmp : ℕ × ℕ → ℕ × ℕ → Ordering
+put_cmp a b = ordering_then (nat_cmp a.0 b.0) (nat_cmp a.1 b.1)
+
+-- whose state an operation changes
+abbrev pub client_of : Op → List ℕ
+client_of (OfSession client stamp counter change) = client
+client_of (OfPut client put) = client
+client_of (Ack client origin first last) = client
+
+-- the order in which operations stand in a delta: session operations, puts, acknowledgements; then
+-- by client; then by epoch, gateway and counter, or by origin and sequence number
+abbrev pub name_cmp : Op → Op → Ordering
+name_cmp (OfSession c s i o) (OfSession d t j p) =
+    ordering_then (client_cmp c d) (operation_cmp (s, i) (t, j))
+name_cmp (OfSession c s i o) (OfPut d q) = Less
+name_cmp (OfSession c s i o) (Ack d r first last) = Less
+name_cmp (OfPut c p) (OfSession d t j o) = Greater
+name_cmp (OfPut c p) (OfPut d q) =
+    ordering_then (client_cmp c d) (ordering_then (nat_cmp p.origin q.origin) (nat_cmp p.seq q.seq))
+name_cmp (OfPut c p) (Ack d r first last) = Less
+name_cmp (Ack c r first last) (OfSession d t j o) = Greater
+name_cmp (Ack c r first last) (OfPut d q) = Greater
+name_cmp (Ack c r first last) (Ack d s start end) =
+    ordering_then (client_cmp c d) (ordering_then (nat_cmp r s) (nat_cmp first start))
+
+-- two operations have a name in common
+abbrev pub ShareName : Op → Op → Type 0
+ShareName (OfSession c s i o) (OfSession d t j p) = (c ≡ d) × (s ≡ t) × (i ≡ j)
+ShareName (OfPut c p) (OfPut d q) = (c ≡ d) × (p.origin ≡ q.origin) × (p.seq ≡ q.seq)
+ShareName (Ack c origin first last) (Ack d other start end) =
+    (c ≡ d) × (origin ≡ other) × (first ≤ end) × (start ≤ last)
+ShareName a b = ⊥
+
+-- two of the operations have a name in common
+abbrev pub HasTwice : List Op → Type 0
+HasTwice ops =
+    (i : ℕ) × (j : ℕ) × (a : Op) × (b : Op) × (i < j) × (slice_get ops i ≡ Some a)
+    × (slice_get ops j ≡ Some b) × ShareName a b

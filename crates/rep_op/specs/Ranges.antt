@@ -1,0 +1,60 @@
+-- Which values of a session and of a change are in range. The order and the size of a session's
+-- tables are their types' own.
+use Rattle.std.specs.Prelude.{ℕ, Bool, true, ◌&&◌, nat_le, List, length, Option, Some, None}
+use Rattle.std.specs.List.{list_all}
+use Rattle.sn_tables.specs.Levels.{is_qos}
+use Rattle.sn_session.specs.declared.message.TheConstants.{MAX_MESSAGE}
+use Rattle.sn_session.specs.declared.session.Session.{Session}
+use Rattle.sn_tables.specs.declared.topics.TopicEntry.{TopicEntry}
+use Rattle.sn_tables.specs.declared.subscriptions.Subscription.{Subscription}
+use Rattle.sn_session.specs.declared.will.Will.{Will}
+use Rattle.sn_session.specs.declared.will.WillTopic.{WillTopic}
+use Rattle.sn_session.specs.declared.outbound.Outbound.{Outbound}
+use Rattle.sn_session.specs.declared.change.SessionOp.{SessionOp}
+use Rattle.sn_session.specs.declared.change.SessionOp.TheVariants.{Take, Presence as SetPresence, Register, Subscribe, Unsubscribe, WillTopic as SetWillTopic, WillMsg, Received, Released, Outbound as SetOutbound}
+
+-- topic ids 0 and 65,535 are reserved
+abbrev pub is_topic_id : ℕ → Bool
+is_topic_id id = nat_le 1 id && nat_le id 65534
+
+-- a message has at most 4,096 octets
+abbrev pub is_message : List ℕ → Bool
+is_message message = nat_le (length message) MAX_MESSAGE
+
+abbrev pub is_topic : TopicEntry → Bool
+is_topic entry = is_topic_id entry.id
+
+abbrev pub is_subscription : Subscription → Bool
+is_subscription subscription = is_qos subscription.qos
+
+abbrev pub is_will : Option Will → Bool
+is_will None = true
+is_will (Some will) = is_qos will.qos && is_message will.message
+
+abbrev pub is_will_topic : Option WillTopic → Bool
+is_will_topic None = true
+is_will_topic (Some asked) = is_qos asked.qos
+
+-- origins and sequence numbers begin at 1
+abbrev pub is_exchange : Option Outbound → Bool
+is_exchange None = true
+is_exchange (Some exchange) = nat_le 1 exchange.origin && nat_le 1 exchange.seq
+
+-- the next message id is not 0
+abbrev pub is_session : Session → Bool
+is_session session =
+    nat_le 1 session.next_id && list_all is_topic session.topics
+    && list_all is_subscription session.subscriptions
+    && is_will session.will && is_exchange session.outbound
+
+abbrev pub is_change : SessionOp → Bool
+is_change (Take session) = is_session session
+is_change (SetPresence presence duration) = true
+is_change (Register id name known) = is_topic_id id
+is_change (Subscribe filter qos) = is_qos qos
+is_change (Unsubscribe filter) = true
+is_change (SetWillTopic asked) = is_will_topic asked
+is_change (WillMsg message) = is_message message
+is_change (Received id) = true
+is_change (Released id) = true
+is_change (SetOutbound exchange next_id) = nat_le 1 next_id && is_exchange exchange

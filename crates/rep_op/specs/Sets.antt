@@ -1,0 +1,92 @@
+-- Sets of operations. A set is a list of operations, read by three readers: what it has under the
+-- name of a session operation, what it has under the name of a put, and whether it acknowledges a
+-- put. Where a name stands twice the first operation counts, so a list always gives a name one
+-- content; on consistent sets, where no name has two contents, the order and the number of times do
+-- not matter.
+use Rattle.std.specs.Prelude.{◌≡◌, ℕ, ◌≤◌, ◌==◌, Bool, true, false, ◌&&◌, if◌then◌else◌, nat_le, List, Option, Some, None, IsTrue, IfSome, bytes_eq}
+use Rattle.std.specs.List.{filter_map, list_any, AllByRecursion}
+use Rattle.std.specs.FinMap.{find}
+use Rattle.sn_session.specs.declared.change.SessionOp.{SessionOp}
+use Rattle.rep_op.specs.declared.op.Stamp.{Stamp}
+use Rattle.rep_op.specs.declared.op.Put.{Put}
+use Rattle.rep_op.specs.declared.op.Op.{Op}
+use Rattle.rep_op.specs.declared.op.Op.TheVariants.{Session as OfSession, Put as OfPut, Ack}
+use Rattle.rep_op.specs.Orders.{operation_cmp, put_cmp}
+
+abbrev pub same_client : List ℕ → List ℕ → Bool
+same_client c d = bytes_eq c d
+
+-- a session operation of the client, under its name
+abbrev pub operation_of : List ℕ → Op → Option ((Stamp × ℕ) × SessionOp)
+operation_of c (OfSession d stamp counter change) =
+    if same_client c d then Some ((stamp, counter), change) else None
+operation_of c (OfPut d put) = None
+operation_of c (Ack d origin first last) = None
+
+-- the session operations of the client, under their names
+abbrev pub operations : List ℕ → List Op → List ((Stamp × ℕ) × SessionOp)
+operations c S = filter_map (operation_of c) S
+
+-- the session operation that the set has under a name
+abbrev pub operation_at : List ℕ → List Op → Stamp × ℕ → Option SessionOp
+operation_at c S name = find operation_cmp name (operations c S)
+
+-- a put for the client, under its name
+abbrev pub put_of : List ℕ → Op → Option ((ℕ × ℕ) × Put)
+put_of c (OfSession d stamp counter change) = None
+put_of c (OfPut d put) = if same_client c d then Some ((put.seq, put.origin), put) else None
+put_of c (Ack d origin first last) = None
+
+-- the puts for the client, under their names
+abbrev pub puts : List ℕ → List Op → List ((ℕ × ℕ) × Put)
+puts c S = filter_map (put_of c) S
+
+-- the put that the set has under a name
+abbrev pub put_at : List ℕ → List Op → ℕ × ℕ → Option Put
+put_at c S name = find put_cmp name (puts c S)
+
+-- whether the operation acknowledges the client's put of that name
+abbrev pub acknowledges : List ℕ → ℕ × ℕ → Op → Bool
+acknowledges c name (OfSession d stamp counter change) = false
+acknowledges c name (OfPut d put) = false
+acknowledges c name (Ack d origin first last) =
+    same_client c d && (name.1 == origin) && nat_le first name.0 && nat_le name.0 last
+
+-- whether the set has the acknowledgement of the client's put of that name
+abbrev pub is_acknowledged : List ℕ → List Op → ℕ × ℕ → Bool
+is_acknowledged c S name = list_any (acknowledges c name) S
+
+-- the operation stands in the set: what the set has at its name is it
+abbrev pub Stands : List Op → Op → Type 0
+Stands S (OfSession c stamp counter change) = operation_at c S (stamp, counter) ≡ Some change
+Stands S (OfPut c put) = put_at c S (put.seq, put.origin) ≡ Some put
+Stands S (Ack c origin first last) =
+    (seq : ℕ) → first ≤ seq → seq ≤ last → IsTrue (is_acknowledged c S (seq, origin))
+
+-- no name has two contents: each operation on the list is what the list has at its name
+abbrev pub IsConsistent : List Op → Type 0
+IsConsistent S = AllByRecursion (Stands S) S
+
+-- what the set has under the operation's name, if anything, is the operation
+abbrev pub Agrees : List Op → Op → Type 0
+Agrees S (OfSession c stamp counter change) =
+    IfSome (operation_at c S (stamp, counter)) (λ kept. kept ≡ change)
+Agrees S (OfPut c put) = IfSome (put_at c S (put.seq, put.origin)) (λ kept. kept ≡ put)
+Agrees S (Ack c origin first last) = Unit {0}
+
+-- what stands in A stands in B
+pub record Within (A B : List Op) : Type 0 where
+  pub operations_in : (c : List ℕ) (name : Stamp × ℕ) (change : SessionOp)
+      → operation_at c A name ≡ Some change → operation_at c B name ≡ Some change
+  pub puts_in : (c : List ℕ) (name : ℕ × ℕ) (put : Put) → put_at c A name ≡ Some put
+      → put_at c B name ≡ Some put
+  pub acknowledgements_in : (c : List ℕ) (name : ℕ × ℕ) → is_acknowledged c A name ≡ true
+      → is_acknowledged c B name ≡ true
+
+-- equal sets: each reader gives the same of both
+pub record Same (A B : List Op) : Type 0 where
+  pub operations_same : (c : List ℕ) (name : Stamp × ℕ)
+      → operation_at c A name ≡ operation_at c B name
+  pub puts_same : (c : List ℕ) (name : ℕ × ℕ) → put_at c A name ≡ put_at c B name
+  pub acknowledgements_same : (c : List ℕ) (name : ℕ × ℕ)
+      → is_acknowledged c A name ≡ is_acknowledged c B name

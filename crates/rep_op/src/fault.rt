@@ -1,0 +1,93 @@
+//! Why operations, or the bytes of a delta, are refused.
+
+ghost use Rattle.std.specs.Prelude.{◌≡◌};
+ghost use Rattle.rep_op.specs.declared.fault.OpsFault.TheVariants.{Memory};
+ghost use Rattle.rep_op.specs.Faults.{fault_of_topic, number_of};
+
+use octets::NoMemory;
+use sn_topic::TopicFault;
+use std::alloc::{AllocError, AllocFailed};
+use thiserror::Error;
+
+/// Why operations, or the bytes of a delta, are refused.
+#[derive(Clone, Copy, Debug, PartialEq, Eq, Error)]
+pub enum OpsFault {
+    /// Fault 1: two operations have one name.
+    #[error("two operations have the same name")]
+    Twice,
+    /// Fault 2: the bytes of the delta would pass 8,388,608.
+    #[error("the delta is longer than 8388608 bytes")]
+    Limit,
+    /// Fault 3: memory ran out.
+    #[error("out of memory")]
+    Memory,
+    /// Fault 4: the bytes end before the delta does.
+    #[error("the bytes end before the delta does")]
+    Truncated,
+    /// Fault 5: the version is not known.
+    #[error("the version of the delta is not known")]
+    Version,
+    /// Fault 6: a value is out of range or over its limit.
+    #[error("a value is out of range or over its limit")]
+    Kind,
+    /// Fault 7: the operations are not in the order of their names.
+    #[error("the operations are not in the order of their names")]
+    Order,
+    /// Fault 8: bytes stand behind the delta.
+    #[error("bytes stand behind the delta")]
+    Trailing,
+}
+
+impl OpsFault {
+    /// The number by which reports name the fault, 1 to 8.
+    pub fn number(&self) -> u8
+        ensures { result ≡ number_of self.now }
+    {
+        match self {
+            OpsFault::Twice => 1,
+            OpsFault::Limit => 2,
+            OpsFault::Memory => 3,
+            OpsFault::Truncated => 4,
+            OpsFault::Version => 5,
+            OpsFault::Kind => 6,
+            OpsFault::Order => 7,
+            OpsFault::Trailing => 8,
+        }
+    }
+}
+
+impl From<AllocError> for OpsFault {
+    ghost from_gives = { λ _ e. e ≡ Memory };
+
+    fn from(_error: AllocError) -> OpsFault {
+        OpsFault::Memory
+    }
+}
+
+impl From<NoMemory> for OpsFault {
+    ghost from_gives = { λ _ e. e ≡ Memory };
+
+    fn from(_error: NoMemory) -> OpsFault {
+        OpsFault::Memory
+    }
+}
+
+impl<T: Drop> From<AllocFailed<T>> for OpsFault {
+    ghost from_gives = { λ _ e. e ≡ Memory };
+
+    fn from(_error: AllocFailed<T>) -> OpsFault {
+        OpsFault::Memory
+    }
+}
+
+impl From<TopicFault> for OpsFault {
+    ghost from_gives = { λ t e. e ≡ fault_of_topic t };
+
+    fn from(error: TopicFault) -> OpsFault {
+        match error {
+            TopicFault::Memory => OpsFault::Memory,
+            TopicFault::Empty | TopicFault::TooLong | TopicFault::Wildcard | TopicFault::Id =>
+                OpsFault::Kind,
+        }
+    }
+}

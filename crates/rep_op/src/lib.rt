@@ -1,0 +1,35 @@
+//! What operations are, one at a time: who they are of, how they are named, and which values they
+//! may have.
+//!
+//! A gateway's state is a *set of operations*. There are three kinds (`Op`): a change of a client's
+//! session, a message put for a client, and the acknowledgement of messages. Each has a name, and a
+//! name has one content for ever, so two sets join by union, in any order and any number of times.
+//!
+//! - `client_id`: who a session is of.
+//! - `op`: stamps, puts and operations.
+//! - `order`: the order of their names, and names in common.
+//! - `range`, `well_made`: which values of a session, of a change and of an operation are in range.
+//! - `value`: what the types promise of an operation's parts.
+//! - `fault`: why operations, or octets, are refused.
+//!
+//! The definitions are in `specs/`: `Orders` (names, their order, names in common), `Sets` (what a
+//! set has under a name, equal sets, consistent sets), `Ranges` and `WellMade` (values in range),
+//! `Values` (what the types promise), `ClientIds` and `Faults`. Lemmas on names and on sets are in
+//! `proofs/`: `Names`, `Sets`.
+#![tactic(auto)]
+
+mod client_id;
+mod fault;
+mod op;
+mod order;
+mod range;
+mod value;
+mod well_made;
+
+pub use client_id::{ClientId, MAX_CLIENT_ID};
+pub use fault::OpsFault;
+pub use op::{Op, Put, Stamp};
+pub use order::{name_order, share_name};
+pub use range::is_topic_id;
+pub use value::is_value;
+pub use well_made::is_well_made;

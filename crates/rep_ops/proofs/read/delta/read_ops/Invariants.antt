@@ -1,6 +1,0 @@
-use Rattle.std.proofs.Common.{◌≡◌, ◌-◌, []}
-use Rattle.rep_ops.specs.Reading.{op_at, listed_at, may_follow}
-use Rattle.rep_ops.proofs.read.delta.read_ops.Given as goal
-
-abbrev pub invariant-loop : goal.invariant-loop
-invariant-loop l = listed_at op_at may_follow (l.count - l.counter) l.ops.items l.rest ≡ listed_at op_at may_follow l.count [] l.bytes

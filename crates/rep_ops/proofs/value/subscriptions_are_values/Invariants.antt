@@ -1,6 +1,0 @@
-use Rattle.std.proofs.Common.{take, All}
-use Rattle.rep_ops.specs.Values.{IsSubscriptionValue}
-use Rattle.rep_ops.proofs.value.subscriptions_are_values.Given as goal
-
-abbrev pub invariant-loop-entry : goal.invariant-loop-entry
-invariant-loop-entry l = All IsSubscriptionValue (take l.entry-index l.entries)

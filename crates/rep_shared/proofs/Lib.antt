@@ -1,0 +1,11 @@
+pub mod Places
+pub mod Maps
+pub mod Walks
+pub mod Numbers
+pub mod Entering
+pub mod Workings
+pub mod Single
+pub mod Flat
+pub mod Found
+pub mod Counting
+pub mod Kept

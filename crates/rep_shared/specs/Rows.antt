@@ -1,0 +1,41 @@
+-- Clients with their operations, in the order of the clients.
+use Rattle.std.specs.Prelude.{◌≡◌, ℕ, Bool, true, false, List, [], ◌∷◌, ◌++◌, Option, Some, None, length, filter, IsTrue}
+use Rattle.std.specs.List.{AllByRecursion}
+use Rattle.std.specs.FinMap.{find, put}
+use Rattle.rep_op.specs.declared.op.Op.{Op}
+use Rattle.rep_op.specs.Orders.{client_cmp}
+use Rattle.rep_op.specs.WellMade.{is_well_made}
+use Rattle.rep_model.specs.Views.{named}
+
+-- all operations, client by client
+abbrev pub flat : List (List ℕ × List Op) → List Op
+flat [] = []
+flat (row ∷ rows) = row.1 ++ flat rows
+
+abbrev pub or_nothing : Option (List Op) → List Op
+or_nothing None = []
+or_nothing (Some ops) = ops
+
+-- the client's own operations
+abbrev pub own : List ℕ → List (List ℕ × List Op) → List Op
+own c rows = or_nothing (find client_cmp c rows)
+
+-- the rows, with the fresh ones in place of those of the same clients
+abbrev pub moved : List (List ℕ × List Op) → List (List ℕ × List Op) → List (List ℕ × List Op)
+moved rows [] = rows
+moved rows (row ∷ fresh) = put client_cmp row.0 row.1 (moved rows fresh)
+
+abbrev pub has_any : List Op → Bool
+has_any [] = false
+has_any (op ∷ ops) = true
+
+-- how many of the clients have operations
+abbrev pub count_named : List (List ℕ × List Op) → ℕ
+count_named rows = length (filter (λ row. has_any row.1) rows)
+
+-- a well made operation that names the client
+abbrev pub IsOwnOp : List ℕ → Op → Type 0
+IsOwnOp c op = (named op ≡ Some (c, c)) × IsTrue (is_well_made op)
+
+abbrev pub IsOwn : List ℕ → List Op → Type 0
+IsOwn c ops = AllByRecursion (IsOwnOp c) ops

@@ -1,0 +1,33 @@
+-- What the rows of REGISTER, SUBSCRIBE, UNSUBSCRIBE and the updates of wills promise, and what they
+-- leave alone.
+use Rattle.std.specs.Prelude.{◌≡◌, ℕ, true, List, [], fold, Some, None}
+use Rattle.sn_session.specs.declared.session.Session.{Session}
+use Rattle.sn_session.specs.Session.{applied}
+use Rattle.sn_tables.specs.Topics.{topic_of}
+use Rattle.sn_tables.specs.Subscriptions.{qos_of}
+use Rattle.sn_subscribe.specs.declared.registration.NamedId.{NamedId}
+use Rattle.sn_plan.specs.Drafts.{Drafted, nothing, changed_if}
+
+-- no acknowledgement, no message and no change of the local state
+pub record ChangesSessionOnly (d : Drafted) : Type 0 where
+  pub acks : d.acks ≡ []
+  pub puts : d.puts ≡ []
+  pub local : d.local ≡ []
+
+-- the session after the changes of a draft
+abbrev pub session_after : Session → Drafted → Session
+session_after s d = fold applied s d.changes
+
+-- the id stands for the name from then on, and the client knows it
+abbrev pub StandsFor : List ℕ → Session → NamedId → Type 0
+StandsFor name s named =
+    topic_of named.id (session_after s (changed_if named.change nothing)).topics
+    ≡ Some (record { id = named.id; name = name; known = true })
+
+-- the session has the filter at that quality of service
+abbrev pub IsSubscribed : List ℕ → ℕ → Session → Type 0
+IsSubscribed filter qos s = qos_of filter s.subscriptions ≡ Some qos
+
+-- the session does not have the filter
+abbrev pub IsUnsubscribed : List ℕ → Session → Type 0
+IsUnsubscribed filter s = qos_of filter s.subscriptions ≡ None

@@ -1,8 +1,0 @@
-use Rattle.sn_deliver.proofs.laws.every_step.Goals as goal
-use Rattle.sn_deliver.proofs.Drafting.{step-drafted, tick-drafted}
-
-pub returns : goal.returns
-returns c = record {
-  steps = step-drafted;
-  ticks = tick-drafted;
-}

@@ -1,5 +1,0 @@
-use Rattle.sn_deliver.proofs.Keeping.{puts-once}
-use Rattle.sn_deliver.proofs.laws.puts_once.Goals as goal
-
-pub returns : goal.returns
-returns c = puts-once

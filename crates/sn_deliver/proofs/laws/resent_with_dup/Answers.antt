@@ -1,5 +1,0 @@
-use Rattle.sn_deliver.proofs.Keeping.{resent-with-dup}
-use Rattle.sn_deliver.proofs.laws.resent_with_dup.Goals as goal
-
-pub returns : goal.returns
-returns c = resent-with-dup

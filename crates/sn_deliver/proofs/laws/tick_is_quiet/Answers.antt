@@ -1,5 +1,0 @@
-use Rattle.sn_deliver.proofs.Keeping.{tick-quiet}
-use Rattle.sn_deliver.proofs.laws.tick_is_quiet.Goals as goal
-
-pub returns : goal.returns
-returns c = tick-quiet

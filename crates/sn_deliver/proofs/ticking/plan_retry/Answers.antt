@@ -1,4 +1,0 @@
-use Rattle.sn_deliver.proofs.ticking.plan_retry.Goals as goal
-
-pub returns : goal.returns
-returns g c = rw c.in_ok-row.ensures at c.deliver_next.ensures

@@ -1,4 +1,0 @@
-use Rattle.sn_deliver.proofs.ticking.tick.Goals as goal
-
-pub returns : goal.returns
-returns g c = rw c.in_ok-draft.ensures at c.one_thing.ensures

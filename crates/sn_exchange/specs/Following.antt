@@ -1,0 +1,42 @@
+-- What follows a row: Resend or Delivery, by the session as the row has changed it, and the
+-- messages that waited before the step and that the row does not acknowledge (MQTT-SN 1.2 sections
+-- 6.6, 6.10, 6.13 and 6.14).
+use Rattle.std.specs.Prelude.{ℕ, List, Option, Some, None}
+use Rattle.sn_topic.specs.Table.{Entries}
+use Rattle.sn_session.specs.declared.session.Session.{Session}
+use Rattle.rep_op.specs.declared.op.Put.{Put}
+use Rattle.sn_local.specs.declared.config.Addr.{Addr}
+use Rattle.sn_plan.specs.declared.plan.Plan.{Plan}
+use Rattle.sn_plan.specs.declared.row.Row.{Row}
+use Rattle.sn_plan.specs.declared.row.Follow.{Follow}
+use Rattle.sn_plan.specs.declared.row.Follow.TheVariants as follows
+use Rattle.sn_plan.specs.Drafts.{Drafted}
+use Rattle.sn_local.specs.Seen.{Seen}
+use Rattle.sn_plan.specs.Bound.{session_of}
+use Rattle.sn_plan.specs.Rows.{plan_of_row}
+use Rattle.sn_exchange.specs.declared.peer.Peer.{Peer}
+use Rattle.sn_exchange.specs.Delivery.{then_deliver}
+use Rattle.sn_exchange.specs.Resending.{then_resend}
+
+abbrev pub peer_at : Addr → List ℕ → ℕ → Peer
+peer_at a c now = record { address = a; client = c; moment = now }
+
+-- a draft with what follows it
+abbrev pub followed_by : Entries → Peer → Session → List Put → Drafted → Follow → Drafted
+followed_by predefined peer s pending d follows.Nothing = d
+followed_by predefined peer s pending d follows.Delivery = then_deliver predefined peer s pending d
+followed_by predefined peer s pending d follows.Resend = then_resend predefined peer s pending d
+
+abbrev pub followed_for : Entries → Seen → Addr → ℕ → Drafted → Follow → Option (List ℕ) → Drafted
+followed_for predefined seen a now d follow None = d
+followed_for predefined seen a now d follow (Some c) =
+    followed_by predefined (peer_at a c now) (session_of seen c) (seen.of c).pending d follow
+
+-- a row with what follows it, for its client at that address
+abbrev pub followed : Entries → Seen → Addr → ℕ → Row → Row
+followed predefined seen a now row =
+    record row { draft = followed_for predefined seen a now row.draft row.follow row.client }
+
+-- the plan of a row with what follows it
+abbrev pub deliver_next : ℕ → Entries → Seen → Addr → ℕ → Row → Option Plan
+deliver_next g predefined seen a now row = plan_of_row g seen (followed predefined seen a now row)

@@ -1,7 +1,0 @@
--- what was gone over is unknown, what is left stays
-use Rattle.std.proofs.Common.{◌≡◌, ◌++◌, map, take, drop}
-use Rattle.sn_session.specs.Topics.{unknown}
-use Rattle.sn_session.proofs.topics.forget_all.Given as goal
-
-abbrev pub invariant-loop-entry : goal.invariant-loop-entry
-invariant-loop-entry l = l.entry-items ≡ map unknown (take l.entry-index l.fn.entries.items) ++ drop l.entry-index l.fn.entries.items

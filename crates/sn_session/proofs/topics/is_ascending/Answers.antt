@@ -1,8 +1,0 @@
-use Rattle.std.proofs.Common.{sym, ◌∙◌}
-use Rattle.sn_session.specs.Topics.{topic_cmp}
-use Rattle.sn_session.proofs.Ascending.{short}
-use Rattle.sn_session.proofs.topics.is_ascending.Goals as goal
-
--- fewer than two are left
-pub returns : goal.returns
-returns c = sym (c.loop-left.invariant ∙ short topic_cmp c.loop-left.left.now c.in_default.len_below)

@@ -1,0 +1,3 @@
+pub mod Registration
+pub mod Subscription
+pub mod TopicRows

@@ -1,0 +1,15 @@
+//! A client is told the id of a topic, subscribes, and ends a subscription (MQTT-SN 1.2 sections
+//! 6.5, 6.9 and 6.10).
+//!
+//! Rows of the step table, as those of `sn_flow` are.
+//!
+//! - `topic_rows`: REGISTER, SUBSCRIBE and UNSUBSCRIBE, of whoever sends them.
+//! - `registration`, `subscription`: the same of a bound client, as drafts.
+#![tactic(auto)]
+
+mod registration;
+mod subscription;
+mod topic_rows;
+
+pub use registration::NamedId;
+pub use topic_rows::{register, subscribe, unsubscribe};

@@ -1,0 +1,228 @@
+//! SUBSCRIBE and UNSUBSCRIBE (MQTT-SN 1.2 section 6.9).
+
+ghost use Rattle.std.specs.Prelude.{◌≡◌, IfOk};
+ghost use Rattle.sn_frame.specs.FlagBits.{kind_of};
+ghost use Rattle.sn_plan.specs.Drafts.{nothing, sent};
+ghost use Rattle.sn_subscribe.specs.Subscription.{refused};
+ghost use Rattle.sn_subscribe.specs.Subscription as spec;
+
+use super::registration::{NamedId, id_for};
+use octets::NoMemory;
+use sn_frame::{Flags, Frame, TopicIdType};
+use sn_local::Addr;
+use sn_plan::{
+    ACCEPTED, Asked, CONGESTION, Draft, NOT_SUPPORTED, id_in, name_asked, qos_asked, topics_asked,
+};
+use sn_session::{Session, SessionOp};
+use sn_tables::QosLevel;
+use sn_topic::{Filter, Predefined, TopicName};
+use std::alloc::Global;
+
+/// The two bits of the quality of service.
+const QOS_BITS: u8 = 0x60;
+
+/// SUBACK with the quality of service that was asked for.
+fn suback(flags: Flags, topic_id: u16, msg_id: u16, code: u8) -> Frame
+    ensures { result ≡ spec.suback flags.bits topic_id msg_id code }
+{
+    Frame::SubAck {
+        flags: Flags {
+            bits: flags.bits & QOS_BITS,
+        },
+        topic_id,
+        msg_id,
+        code,
+    }
+}
+
+/// Refuses a SUBSCRIBE by this code.
+fn refuse(alloc: Global, to: Addr, flags: Flags, msg_id: u16, code: u8) -> Result<Draft, NoMemory>
+    ensures { IfOk result (λ draft. draft ≡ refused to flags.bits msg_id code) }
+{
+    Draft::reply(alloc, to, &suback(flags, 0, msg_id, code))
+}
+
+/// An id for which the session needs no change.
+fn fixed_id(id: u16) -> NamedId
+    ensures { result ≡ spec.fixed_id id }
+{
+    NamedId { id, change: None }
+}
+
+/// The id of a name as by REGISTER; a filter that is no name has id 0.
+fn id_in_full(
+    alloc: Global,
+    session: &Session,
+    name: &Option<TopicName>,
+) -> Result<Option<NamedId>, NoMemory>
+    ensures { IfOk result (λ named. named ≡ spec.id_in_full session.now name.now) }
+{
+    match name {
+        None => Ok(Some(fixed_id(0))),
+        Some(name) => id_for(alloc, session, name),
+    }
+}
+
+/// The topic id that answers for a filter; nothing where no id is free.
+fn id_asked(
+    alloc: Global,
+    session: &Session,
+    kind: TopicIdType,
+    field: &[u8],
+    filter: &Filter,
+) -> Result<Option<NamedId>, NoMemory>
+    ensures { IfOk result (λ named. named ≡ spec.id_asked session.now kind field.now filter.now) }
+{
+    match kind {
+        TopicIdType::Normal => {
+            let name = name_asked(alloc, filter.bytes())?;
+            id_in_full(alloc, session, &name)
+        }
+        TopicIdType::Predefined => Ok(Some(fixed_id(id_in(field)))),
+        TopicIdType::Short | TopicIdType::Reserved => Ok(Some(fixed_id(0))),
+    }
+}
+
+/// The change of the session, where the filter is new or had another quality of service.
+fn subscribe_change(filter: Filter, qos: QosLevel, before: Option<QosLevel>) -> Option<SessionOp>
+    ensures { result ≡ spec.subscribe_change filter qos before }
+{
+    match before {
+        Some(before) if before == qos => None,
+        _ => Some(SessionOp::Subscribe { filter, qos }),
+    }
+}
+
+/// Answers with that id, and changes the session where it needs a change.
+fn subscribed(
+    alloc: Global,
+    to: Addr,
+    session: &Session,
+    flags: Flags,
+    msg_id: u16,
+    filter: Filter,
+    qos: QosLevel,
+    named: Option<NamedId>,
+) -> Result<Draft, NoMemory>
+    ensures { IfOk result (λ draft. draft ≡ spec.subscribed to session.now flags.bits msg_id
+        filter qos named) }
+{
+    match named {
+        None => refuse(alloc, to, flags, msg_id, CONGESTION),
+        Some(named) => {
+            let before = session.subscription(&filter);
+            let mut draft = Draft::new(alloc);
+            draft.change_if(named.change)?;
+            draft.change_if(subscribe_change(filter, qos, before))?;
+            draft.send(alloc, to, &suback(flags, named.id, msg_id, ACCEPTED))?;
+            Ok(draft)
+        }
+    }
+}
+
+/// Subscribes to a filter, where it would not be the 257th.
+fn subscribe_to(
+    alloc: Global,
+    to: Addr,
+    session: &Session,
+    flags: Flags,
+    msg_id: u16,
+    field: &[u8],
+    filter: Filter,
+    qos: QosLevel,
+) -> Result<Draft, NoMemory>
+    ensures { IfOk result
+        (λ draft. draft ≡ spec.subscribe_to to session.now flags.bits msg_id field.now
+        filter qos) }
+{
+    if session.subscriptions.has_no_room(&filter) {
+        return refuse(alloc, to, flags, msg_id, CONGESTION);
+    }
+    let named = id_asked(alloc, session, flags.kind(), field, &filter)?;
+    subscribed(alloc, to, session, flags, msg_id, filter, qos, named)
+}
+
+/// Subscribes to what is asked for, at this quality of service.
+fn subscribe_asked(
+    alloc: Global,
+    to: Addr,
+    session: &Session,
+    flags: Flags,
+    msg_id: u16,
+    field: &[u8],
+    asked: Asked,
+    qos: QosLevel,
+) -> Result<Draft, NoMemory>
+    ensures { IfOk result (λ draft. draft ≡ spec.subscribe_asked to session.now flags.bits msg_id
+        field.now asked qos) }
+{
+    match asked {
+        Asked::Refused(code) => refuse(alloc, to, flags, msg_id, code),
+        Asked::Topics(filter) => subscribe_to(
+            alloc, to, session, flags, msg_id, field, filter, qos,
+        ),
+    }
+}
+
+/// SUBSCRIBE: the client asks for topics, by a filter, a predefined id or a short name. SUBACK has
+/// the quality of service that was asked for and the topic id, if there is one, or says why it is
+/// refused; then nothing changes.
+pub fn subscribe(
+    alloc: Global,
+    predefined: &Predefined,
+    to: Addr,
+    session: &Session,
+    flags: Flags,
+    msg_id: u16,
+    field: &[u8],
+) -> Result<Draft, NoMemory>
+    ensures { IfOk result (λ draft. draft ≡ spec.subscribe predefined.now to session.now
+        flags.bits msg_id field.now) }
+{
+    let Some(qos) = qos_asked(flags.qos()) else {
+        return refuse(alloc, to, flags, msg_id, NOT_SUPPORTED);
+    };
+    let asked = topics_asked(alloc, predefined, flags.kind(), field)?;
+    subscribe_asked(alloc, to, session, flags, msg_id, field, asked, qos)
+}
+
+/// The change of the session, where it has the filter.
+fn unsubscribe_change(session: &Session, filter: Filter) -> Option<SessionOp>
+    ensures { result ≡ spec.unsubscribe_change session.now filter }
+{
+    if session.subscription(&filter).is_none() {
+        return None;
+    }
+    Some(SessionOp::Unsubscribe { filter })
+}
+
+/// The change of the session, where it has what is asked for.
+fn unsubscribe_asked(session: &Session, asked: Asked) -> Option<SessionOp>
+    ensures { result ≡ spec.unsubscribe_asked session.now asked }
+{
+    match asked {
+        Asked::Refused(_) => None,
+        Asked::Topics(filter) => unsubscribe_change(session, filter),
+    }
+}
+
+/// UNSUBSCRIBE: the client no longer asks for topics, which it names as in SUBSCRIBE. UNSUBACK is
+/// the answer whatever it asks for. Messages that wait for the client go on waiting.
+pub fn unsubscribe(
+    alloc: Global,
+    predefined: &Predefined,
+    to: Addr,
+    session: &Session,
+    flags: Flags,
+    msg_id: u16,
+    field: &[u8],
+) -> Result<Draft, NoMemory>
+    ensures { IfOk result (λ draft. draft ≡ spec.unsubscribe predefined.now to session.now
+        flags.bits msg_id field.now) }
+{
+    let asked = topics_asked(alloc, predefined, flags.kind(), field)?;
+    let mut draft = Draft::new(alloc);
+    draft.change_if(unsubscribe_asked(session, asked))?;
+    draft.send(alloc, to, &Frame::UnsubAck { msg_id })?;
+    Ok(draft)
+}

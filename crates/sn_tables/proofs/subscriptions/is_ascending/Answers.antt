@@ -1,0 +1,8 @@
+use Rattle.std.proofs.Common.{sym, ◌∙◌}
+use Rattle.sn_tables.specs.Subscriptions.{subscription_cmp}
+use Rattle.sn_tables.proofs.Ascending.{short}
+use Rattle.sn_tables.proofs.subscriptions.is_ascending.Goals as goal
+
+-- fewer than two are left
+pub returns : goal.returns
+returns c = sym (c.loop-left.invariant ∙ short subscription_cmp c.loop-left.left.now c.in_default.len_below)

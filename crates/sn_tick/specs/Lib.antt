@@ -1,0 +1,3 @@
+pub mod Due
+pub mod Rest
+pub mod Ticking

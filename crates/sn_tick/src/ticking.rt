@@ -1,0 +1,369 @@
+//! Tick: what a gateway does as time goes by (MQTT-SN 1.2 sections 6.1, 6.3, 6.11 and 6.13).
+
+ghost use Rattle.std.specs.Prelude.{◌≡◌, if◌then◌else◌, Some, fold, IfOk, OnOk};
+ghost use Rattle.rep_model.specs.Views as views;
+ghost use Rattle.sn_local.specs.declared.local.LocalChange.TheVariants.{Heard};
+ghost use Rattle.sn_plan.specs.Drafts.{moved};
+ghost use Rattle.sn_plan.specs.Others.{can_wake};
+ghost use Rattle.sn_local.specs.Seen.{seen_of};
+ghost use Rattle.sn_plan.specs.Plans.{Gives};
+ghost use Rattle.sn_tick.specs.Ticking.{dialog_ended, dialogs_ended, timers_begun, advertised_to};
+ghost use Rattle.sn_tick.specs.Ticking as spec;
+
+use super::due::{Due, elapsed, first_due};
+use octets::NoMemory;
+use rep_model::{ClientView, Replica};
+use rep_ops::ClientId;
+use sn_exchange::deliver_next;
+use sn_frame::Frame;
+use sn_local::{Addr, Config, Dialogs, LocalChange, StepFault, WillDialog, is_stamp_of};
+use sn_plan::{Draft, Follow, NewPut, Plan, Row, is_up, plan_of, plan_without, session_or};
+use sn_publish::puts_of_will;
+use sn_session::{Presence, Session, SessionOp, Will};
+use std::alloc::Global;
+
+/// How many seconds a will dialog lasts.
+pub(crate) const DIALOG_SECONDS: u64 = 60;
+
+/// And then no dialog at this address, where its CONNECT is a minute ago.
+fn end_dialog(draft: &mut Draft, now: u64, dialog: &WillDialog) -> Result<(), NoMemory>
+    ensures { OnOk result (draft.new ≡ dialog_ended now draft.old dialog.now) }
+{
+    if elapsed(now, dialog.begun) >= DIALOG_SECONDS {
+        draft.note(LocalChange::EndDialog {
+            address: dialog.request.address,
+        })?;
+    }
+    Ok(())
+}
+
+/// And then none of these dialogs that is a minute old.
+fn end_dialogs(draft: &mut Draft, now: u64, dialogs: &[WillDialog]) -> Result<(), NoMemory>
+    ensures { OnOk result (draft.new ≡ dialogs_ended now dialogs.now draft.old) }
+{
+    for dialog in dialogs {
+        end_dialog(draft, now, dialog)?;
+    }
+    Ok(())
+}
+
+/// Whether there is a session of a client that is Active, Asleep or Awake.
+fn is_there(session: &Option<Session>) -> bool
+    ensures { result ≡ can_wake session.now }
+{
+    match session {
+        None => false,
+        Some(session) => is_up(session.presence),
+    }
+}
+
+/// Whether a client of this view needs a timer.
+pub(crate) fn needs_timer(
+    gateway: u8,
+    dialogs: &Dialogs,
+    client: &ClientId,
+    view: &ClientView,
+) -> bool
+    ensures { result ≡ spec.needs_timer gateway dialogs.now.local.timers client.now view.now }
+{
+    is_stamp_of(gateway, view.stamp)
+        && is_there(&view.session)
+        && dialogs.timer_of(client).is_none()
+}
+
+/// And then a timer for a client of this view, where it needs one.
+fn begin_timer(
+    alloc: Global,
+    draft: &mut Draft,
+    gateway: u8,
+    dialogs: &Dialogs,
+    now: u64,
+    client: &ClientId,
+    view: &ClientView,
+) -> Result<(), NoMemory>
+    ensures { OnOk result (draft.new
+        ≡ (if spec.needs_timer gateway dialogs.now.local.timers client.now view.now
+        then moved (Heard client.now now) draft.old else draft.old)) }
+{
+    if needs_timer(gateway, dialogs, client, view) {
+        draft.note(LocalChange::Heard {
+            client: client.copied(alloc)?,
+            moment: now,
+        })?;
+    }
+    Ok(())
+}
+
+/// And then a timer for each client that needs one.
+fn begin_timers<R: Replica>(
+    alloc: Global,
+    draft: &mut Draft,
+    gateway: u8,
+    replica: &R,
+    dialogs: &Dialogs,
+    now: u64,
+) -> Result<(), NoMemory>
+    ensures { OnOk result (draft.new
+        ≡ timers_begun gateway (seen_of (R.kept replica.now)) dialogs.now.local.timers now
+        (views.clients (R.kept replica.now)) draft.old) }
+{
+    let mut place = 0;
+    while let Some((behind, client, view)) = replica.client_at(place) {
+        begin_timer(alloc, draft, gateway, dialogs, now, client, view)?;
+        place = behind;
+    }
+    Ok(())
+}
+
+/// What every tick does first.
+fn cleaned<R: Replica>(
+    alloc: Global,
+    gateway: u8,
+    replica: &R,
+    dialogs: &Dialogs,
+    now: u64,
+) -> Result<Draft, NoMemory>
+    ensures { IfOk result (λ draft. draft ≡ spec.cleaned gateway (seen_of (R.kept replica.now))
+        dialogs.now.local now) }
+{
+    let mut draft = Draft::new(alloc);
+    end_dialogs(&mut draft, now, dialogs.dialogs())?;
+    begin_timers(alloc, &mut draft, gateway, replica, dialogs, now)?;
+    Ok(draft)
+}
+
+/// Whether the last ADVERTISE is so long ago, if there was one.
+fn is_long_ago(advertise: u16, now: u64, last: Option<u64>) -> bool
+    ensures { result ≡ spec.is_long_ago advertise now last }
+{
+    match last {
+        None => true,
+        Some(last) => elapsed(now, last) >= u64::from(advertise),
+    }
+}
+
+/// Whether the gateway is to advertise itself.
+pub(crate) fn may_advertise(advertise: u16, field: &[Addr], now: u64, last: Option<u64>) -> bool
+    ensures { result ≡ spec.may_advertise advertise field.now now last }
+{
+    0 < advertise && 0 < field.len() && is_long_ago(advertise, now, last)
+}
+
+/// And then ADVERTISE to an address.
+fn advertise_to(
+    alloc: Global,
+    draft: &mut Draft,
+    gateway: u8,
+    advertise: u16,
+    to: Addr,
+) -> Result<(), NoMemory>
+    ensures { OnOk result (draft.new ≡ advertised_to gateway advertise draft.old to) }
+{
+    let frame = Frame::Advertise {
+        gateway,
+        duration: advertise,
+    };
+    match draft.send(alloc, to, &frame) {
+        Ok(()) => Ok(()),
+        Err(_) => Err(NoMemory),
+    }
+}
+
+/// And then ADVERTISE to each of these addresses.
+fn advertise_all(
+    alloc: Global,
+    draft: &mut Draft,
+    gateway: u8,
+    advertise: u16,
+    field: &[Addr],
+) -> Result<(), NoMemory>
+    ensures { OnOk result (draft.new ≡ fold (advertised_to gateway advertise) draft.old
+        field.now) }
+{
+    for address in field {
+        advertise_to(alloc, draft, gateway, advertise, *address)?;
+    }
+    Ok(())
+}
+
+/// And then ADVERTISE to each address of the field.
+fn advertised(
+    alloc: Global,
+    gateway: u8,
+    advertise: u16,
+    field: &[Addr],
+    now: u64,
+    mut draft: Draft,
+) -> Result<Draft, NoMemory>
+    ensures { IfOk result (λ made. made ≡ spec.advertised gateway advertise field.now
+        now draft) }
+{
+    advertise_all(alloc, &mut draft, gateway, advertise, field)?;
+    draft.note(LocalChange::Advertised { moment: now })?;
+    Ok(draft)
+}
+
+/// The messages of the will of a client, if it has one.
+fn will_puts<R: Replica>(
+    alloc: Global,
+    replica: &R,
+    client: &ClientId,
+    will: &Option<Will>,
+) -> Result<Vec<NewPut>, NoMemory>
+    ensures { IfOk result (λ puts. puts.items ≡ spec.will_puts (seen_of (R.kept replica.now))
+        client.now will.now) }
+{
+    match will {
+        None => Ok(Vec::new(alloc)),
+        Some(will) => puts_of_will(alloc, replica, client, will),
+    }
+}
+
+/// And then the client is lost: its will is published, and it has no address any more.
+fn lose<R: Replica>(
+    alloc: Global,
+    replica: &R,
+    client: &ClientId,
+    session: &Session,
+    draft: &mut Draft,
+) -> Result<(), NoMemory>
+    ensures { OnOk result (draft.new ≡ spec.lost (seen_of (R.kept replica.now)) client.now
+        session.now draft.old) }
+{
+    let puts = will_puts(alloc, replica, client, &session.will)?;
+    draft.put_all(puts)?;
+    draft.change(SessionOp::Presence {
+        presence: Presence::Lost,
+        duration: session.duration,
+    })?;
+    draft.note(LocalChange::Unbind {
+        client: client.copied(alloc)?,
+    })?;
+    Ok(())
+}
+
+/// The plan of a loss.
+fn plan_loss<R: Replica>(
+    alloc: Global,
+    config: &Config,
+    replica: &R,
+    now: u64,
+    mut draft: Draft,
+    client: &ClientId,
+) -> Result<Plan, StepFault>
+    ensures { Gives result (spec.plan_due config.now.gateway config.now.predefined
+        (seen_of (R.kept replica.now)) now draft client.now Due.Loss) }
+{
+    let empty = Session::empty(alloc);
+    let session = session_or(replica, client, &empty);
+    lose(alloc, replica, client, session, &mut draft)?;
+    plan_of(alloc, config.gateway, replica, client, draft)
+}
+
+/// One try more: Resend follows.
+fn retried(alloc: Global, now: u64, mut draft: Draft, client: &ClientId) -> Result<Row, NoMemory>
+    ensures { IfOk result (λ row. row ≡ spec.retried now draft client.now) }
+{
+    draft.note(LocalChange::Retried {
+        client: client.copied(alloc)?,
+        moment: now,
+    })?;
+    Row::new(alloc, Follow::Resend, client, draft)
+}
+
+/// The plan of a retry.
+fn plan_retry<R: Replica>(
+    alloc: Global,
+    config: &Config,
+    replica: &R,
+    now: u64,
+    draft: Draft,
+    client: &ClientId,
+    address: Addr,
+) -> Result<Plan, StepFault>
+    ensures { Gives result (spec.plan_due config.now.gateway config.now.predefined
+        (seen_of (R.kept replica.now)) now draft client.now (Due.Retry address)) }
+{
+    let row = retried(alloc, now, draft, client)?;
+    deliver_next(alloc, config, replica, address, now, row)
+}
+
+/// The plan of what is due with a client.
+fn plan_due<R: Replica>(
+    alloc: Global,
+    config: &Config,
+    replica: &R,
+    now: u64,
+    draft: Draft,
+    client: &ClientId,
+    due: Due,
+) -> Result<Plan, StepFault>
+    ensures { Gives result (spec.plan_due config.now.gateway config.now.predefined
+        (seen_of (R.kept replica.now)) now draft client.now due) }
+{
+    match due {
+        Due::Loss => plan_loss(alloc, config, replica, now, draft, client),
+        Due::Retry(address) => plan_retry(alloc, config, replica, now, draft, client, address),
+        Due::Delivery(address) => {
+            let row = Row::new(alloc, Follow::Delivery, client, draft)?;
+            deliver_next(alloc, config, replica, address, now, row)
+        }
+    }
+}
+
+/// The plan of what is due, if something is.
+fn plan_if_due<R: Replica>(
+    alloc: Global,
+    config: &Config,
+    replica: &R,
+    now: u64,
+    draft: Draft,
+    found: Option<(ClientId, Due)>,
+) -> Result<Plan, StepFault>
+    ensures { Gives result (spec.plan_if_due config.now.gateway config.now.predefined
+        (seen_of (R.kept replica.now)) now draft found) }
+{
+    match found {
+        None => Ok(plan_without(alloc, draft)),
+        Some((client, due)) => plan_due(alloc, config, replica, now, draft, &client, due),
+    }
+}
+
+/// The plan of one thing.
+fn one_thing<R: Replica>(
+    alloc: Global,
+    config: &Config,
+    replica: &R,
+    dialogs: &Dialogs,
+    now: u64,
+    draft: Draft,
+) -> Result<Plan, StepFault>
+    ensures { Gives result (spec.one_thing config.now.gateway config.now.advertise config.now.field
+        config.now.predefined (seen_of (R.kept replica.now)) dialogs.now.local now draft) }
+{
+    let field = config.field.as_slice();
+    if may_advertise(config.advertise, field, now, dialogs.advertised()) {
+        let draft = advertised(alloc, config.gateway, config.advertise, field, now, draft)?;
+        return Ok(plan_without(alloc, draft));
+    }
+    let found = first_due(alloc, config.gateway, replica, dialogs, now)?;
+    plan_if_due(alloc, config, replica, now, draft, found)
+}
+
+/// A tick: will dialogs of a minute end, clients without a timer get one, and then one thing is
+/// done. The gateway advertises itself where that is due; else it does what is due with the least
+/// client with which something is due: it is lost, or the frame of its open exchange is sent again,
+/// or messages are.
+pub fn tick<R: Replica>(
+    alloc: Global,
+    config: &Config,
+    replica: &R,
+    dialogs: &Dialogs,
+    now: u64,
+) -> Result<Plan, StepFault>
+    ensures { Gives result (spec.tick config.now.gateway config.now.advertise config.now.field
+        config.now.predefined (seen_of (R.kept replica.now)) dialogs.now.local now) }
+{
+    let draft = cleaned(alloc, config.gateway, replica, dialogs, now)?;
+    one_thing(alloc, config, replica, dialogs, now, draft)
+}

@@ -1,0 +1,224 @@
+-- A client is lost, or there is one more try or Delivery: what is left to do is less.
+use Rattle.std.proofs.Common.{◌≡◌, ℕ, ◌<◌, true, false, if◌then◌else◌, is_some, List, [], ◌∷◌, ◌++◌, filter, map, fold, Option, Some, None, unwrap_or, refl, sym, ap, ◌∙◌, subst, true≢false}
+use Rattle.std.specs.Option.{option_map}
+use Rattle.std.specs.List.{AllByRecursion, cons_option}
+use Rattle.sn_topic.specs.Table.{Entries}
+use Rattle.sn_session.specs.declared.presence.Presence.TheVariants.{Lost}
+use Rattle.sn_session.specs.declared.session.Session.{Session}
+use Rattle.sn_session.specs.declared.will.Will.{Will}
+use Rattle.sn_session.specs.declared.change.SessionOp.{SessionOp}
+use Rattle.sn_session.specs.declared.change.SessionOp.TheVariants.{Presence}
+use Rattle.sn_session.specs.Session.{applied, empty_session}
+use Rattle.rep_op.specs.declared.op.Op.{Op}
+use Rattle.rep_op.specs.declared.op.Put.{Put}
+use Rattle.rep_op.specs.Sets.{same_client, Same}
+use Rattle.rep_model.specs.declared.view.ClientView.{ClientView}
+use Rattle.rep_model.specs.Views.{view, clients, is_named}
+use Rattle.rep_model.proofs.Readers.{same_client-true}
+use Rattle.rep_model.proofs.Joins.{all-moved}
+use Rattle.rep_model.proofs.Named.{clients-named}
+use Rattle.sn_local.specs.declared.config.Addr.{Addr}
+use Rattle.sn_plan.specs.declared.draft.NewPut.{NewPut}
+use Rattle.sn_local.specs.declared.local.Timer.{Timer}
+use Rattle.sn_local.specs.declared.local.LocalChange.{LocalChange}
+use Rattle.sn_local.specs.declared.local.LocalChange.TheVariants.{Unbind, Retried}
+use Rattle.sn_plan.specs.declared.plan.Plan.{Plan}
+use Rattle.sn_plan.specs.declared.row.Follow.TheVariants as follows
+use Rattle.sn_local.specs.Bindings.{is_stamp_of, address_of}
+use Rattle.sn_local.specs.Timers.{timer_of, timers_after}
+use Rattle.sn_plan.specs.Bound.{session_of}
+use Rattle.sn_plan.specs.Drafts.{Drafted, moved}
+use Rattle.sn_plan.specs.Flush.{IsFlush, session_with}
+use Rattle.sn_local.specs.Locals.{Local, after_all}
+use Rattle.sn_plan.specs.Numbering.{planned, plan_with, rest_of, with_puts, written, start_of, ack_of}
+use Rattle.sn_plan.specs.Others.{is_up, can_wake}
+use Rattle.sn_local.specs.Seen.{Seen, seen_of}
+use Rattle.sn_plan.specs.Plans.{plan_of}
+use Rattle.sn_local.proofs.Entries.{same_client-itself}
+use Rattle.sn_plan.proofs.Lists.{and_then-some, map-some}
+use Rattle.row_laws.proofs.Outcomes.{session-shown, others-shown}
+use Rattle.sn_tick.specs.declared.due.Due.{Due}
+use Rattle.sn_tick.specs.declared.due.Due.TheVariants.{Loss, Retry, Delivery}
+use Rattle.sn_exchange.specs.Exchanges.{left}
+use Rattle.sn_publish.specs.Recipients.{qos_for, message_for, puts_among, is_another}
+use Rattle.sn_tick.specs.Due.{due_session, due_with}
+use Rattle.sn_tick.specs.Ticking.{will_puts, lost}
+use Rattle.sn_exchange.specs.Following.{peer_at}
+use Rattle.step_laws.specs.Laws.{due_after, due_draft}
+use Rattle.step_laws.proofs.Behind.{plan-left, plan-others}
+use Rattle.sn_tick.proofs.Calm.{either_none}
+use Rattle.step_laws.proofs.Clients.{IsForNamed, plan-clients}
+use Rattle.step_laws.proofs.Counting.{IsAmong, among-contains}
+use Rattle.step_laws.proofs.Drafting.{filter_all, followed_by_puts}
+use Rattle.step_laws.proofs.Locally.{IsClean, IsAnother, delivery-kept, retry-kept}
+use Rattle.step_laws.proofs.Lowering.{IsDue, is-due, due-same, is_up_in, is_due_in, work, lost-lowers, done-lowers, view-behind, clients-behind}
+use Rattle.step_laws.proofs.Pending.{pending-apart}
+use Rattle.step_laws.proofs.Remaining.{left-none}
+use Rattle.step_laws.proofs.Settling.{tick-settles}
+use Rattle.step_laws.proofs.Timing.{AreKept, due-alike, still_told}
+
+-- the local changes of a plan are those of its draft
+plan-local : (g : ℕ) (c : List ℕ) (seen : Seen) (d : Drafted) (plan : Plan) → plan_of g c seen d ≡ Some plan → plan.local ≡ d.local
+unfolding planned
+plan-local g c seen d plan e =
+    let m = and_then-some (rest_of g c (λ e. seen.seq e g) d) (written c g d.changes (start_of g (seen.of c) (seen.epoch c))) plan e in
+    let n = map-some (plan_with d) (with_puts g (λ e. seen.seq e g) d.puts (m.0.ops ++ map (ack_of c) d.acks)) plan m.2 in
+    ap (λ (p : Plan). p.local) (sym n.2)
+
+-- ---- the messages of a will are for clients that the set names
+
+module _ (S : List Op) (topic : List ℕ) (qos : ℕ) (body : List ℕ) where
+  for_named : (c : List ℕ) (rest : List NewPut) (q : Option ℕ) → is_named c S ≡ true → AllByRecursion (IsForNamed S) rest
+      → AllByRecursion (IsForNamed S) (cons_option (option_map (message_for topic body c) q) rest)
+  for_named c rest None there all = all
+  for_named c rest (Some q) there all = (there, all)
+
+  among_named : (cs : List (List ℕ)) → AllByRecursion (λ c. is_named c S ≡ true) cs → AllByRecursion (IsForNamed S) (puts_among (seen_of S) cs topic qos body)
+  among_named [] all = tt
+  among_named (c ∷ rest) all = for_named c (puts_among (seen_of S) rest topic qos body) (qos_for topic qos (view c S)) all.0 (among_named rest all.1)
+
+all_named : (S : List Op) → AllByRecursion (λ c. is_named c S ≡ true) (clients S)
+all_named S = all-moved (λ c. is_named c S ≡ true) (clients S) (λ c h. (clients-named c S).1 h)
+
+will_named : (S : List Op) (c : List ℕ) (will : Option Will) → AllByRecursion (IsForNamed S) (will_puts (seen_of S) c will)
+will_named S c None = tt
+will_named S c (Some will) =
+    among_named S will.topic will.qos will.message (filter (is_another c) (clients S)) (filter_all (λ c. is_named c S ≡ true) (is_another c) (clients S) (all_named S))
+
+-- ---- sessions behind a plan
+
+changed_session : (s : Session) (changes : List SessionOp) → session_with (Some s) changes ≡ Some (fold applied s changes)
+changed_session s [] = refl
+changed_session s (change ∷ rest) = refl
+
+by_client : (P : List ℕ → Type 0) (x c : List ℕ) → (x ≡ c → P x) → (¬ (x ≡ c) → P x) → P x
+by_client P x c h k =
+    elim (same_client x c) as (λ b. same_client x c ≡ b → P x) [
+      | true ↦ λ e. h (same_client-true x c e)
+      | false ↦ λ e. k (λ is. true≢false (sym (same_client-itself c) ∙ ap (λ y. same_client y c) (sym is) ∙ e))
+    ] refl
+
+module _ (g advertise : ℕ) (field : List Addr) (now : ℕ) (c : List ℕ) (S : List Op) (local : Local) (e : Drafted) (plan : Plan) (delta : List Op)
+    (is_planned : plan_of g c (seen_of S) e ≡ Some plan) (same : Same delta plan.ops) where
+  abbrev behind : List Op
+  behind = S ++ delta
+
+  stamp_stays : (x : List ℕ) → ¬ (x ≡ c) → (view x behind).stamp ≡ (view x S).stamp
+  stamp_stays x h = ap (λ (v : ClientView). v.stamp) (view-behind S plan.ops delta same x) ∙ (others-shown g c S e plan is_planned x h).0
+
+  session_stays : (x : List ℕ) → ¬ (x ≡ c) → (view x behind).session ≡ (view x S).session
+  session_stays x h = ap (λ (v : ClientView). v.session) (view-behind S plan.ops delta same x) ∙ (others-shown g c S e plan is_planned x h).2
+
+  session_made : IsFlush g c S → (s : Session) → (view c S).session ≡ Some s → (view c behind).session ≡ Some (fold applied s e.changes)
+  session_made flush s is =
+      ap (λ (v : ClientView). v.session) (view-behind S plan.ops delta same c)
+      ∙ session-shown g c S e plan is_planned flush
+      ∙ ap (λ o. session_with o e.changes) is
+      ∙ changed_session s e.changes
+
+  -- no client comes up
+  none_up : is_up_in g advertise field now S c ≡ true → (x : List ℕ) → is_up_in g advertise field now behind x ≡ true → is_up_in g advertise field now S x ≡ true
+  none_up was x h =
+      by_client (λ x. is_up_in g advertise field now behind x ≡ true → is_up_in g advertise field now S x ≡ true) x c
+      (λ is _. ap (is_up_in g advertise field now S) is ∙ was)
+      (λ other up. sym (ap can_wake (session_stays x other)) ∙ up) h
+
+  clients_same : IsAmong c (clients S) → AllByRecursion (IsForNamed S) e.puts → clients behind ≡ clients S
+  clients_same among all =
+      clients-behind S plan.ops delta same
+      ∙ plan-clients g c S (seen_of S) e plan is_planned ((clients-named c S).1 (among-contains c (clients S) among)) all
+
+  was_up : (s : Session) → (view c S).session ≡ Some s → is_up s.presence ≡ true → is_up_in g advertise field now S c ≡ true
+  was_up s is up = ap can_wake is ∙ up
+
+  -- without messages: what waits for others
+  pending_stays : e.puts ≡ [] → (x : List ℕ) → ¬ (x ≡ c) → (view x behind).pending ≡ (view x S).pending
+  pending_stays none x h = ap (λ (v : ClientView). v.pending) (view-behind S plan.ops delta same x) ∙ plan-others g c S e plan is_planned none x h
+
+  pending_made : e.puts ≡ [] → (view c behind).pending ≡ left e.acks (view c S).pending
+  pending_made none = ap (λ (v : ClientView). v.pending) (view-behind S plan.ops delta same c) ∙ plan-left g c S e plan is_planned none
+
+  -- something is done with the client, and with no other
+  done_with : IsFlush g c S → IsAmong c (clients S) → (reason : Due) → IsDue g now local c (view c S) reason → e.puts ≡ [] → AreKept now local (IsAnother c) e.local
+      → ((b : Option Addr) → due_after now c (session_of (seen_of S) c) (view c S).pending local.timers b e ≡ None)
+      → work g advertise field now behind (after_all local e.local) < work g advertise field now S local
+  done_with flush among reason due none kept settled =
+      let M : Local = after_all local e.local in
+      let x : Session = due.session in
+      let rest : due_session now (view c behind).pending (timer_of c M.timers) (address_of c M.bindings) (view c behind).session ≡ None =
+      (λ i. due_session now (pending_made none i) (timer_of c M.timers) (address_of c M.bindings) (session_made flush x due.is i))
+      ∙ ap (λ (o : Option Session). due_session now (left e.acks (view c S).pending) (timer_of c M.timers) (address_of c M.bindings) (Some (fold applied (unwrap_or o empty_session) e.changes))) (sym due.is)
+      ∙ settled (address_of c M.bindings) in
+      let was : due_with g (seen_of S) local now c ≡ Some reason =
+      ap (λ b. if b then due_session now (view c S).pending (timer_of c local.timers) (address_of c local.bindings) (view c S).session else None) due.owned
+      ∙ ap (due_session now (view c S).pending (timer_of c local.timers) (address_of c local.bindings)) due.is ∙ due.due in
+      done-lowers g advertise field now S behind local M (clients_same among (subst (AllByRecursion (IsForNamed S)) (sym none) tt)) (none_up (was_up x due.is due.up))
+      c among
+      (λ y. by_client (λ y. is_due_in g advertise field now behind M y ≡ true → is_due_in g advertise field now S local y ≡ true) y c
+      (λ is _. ap (is_due_in g advertise field now S local) is ∙ ap is_some was)
+      (λ other is. sym (ap is_some (due-same g now y (view y S) (view y behind) local M (stamp_stays y other) (pending_stays none y other) (session_stays y other) kept.bindings (kept.timers y other))) ∙ is))
+      (ap is_some was)
+      (ap is_some (either_none (is_stamp_of g (view c behind).stamp) (due_session now (view c behind).pending (timer_of c M.timers) (address_of c M.bindings) (view c behind).session) rest))
+      kept.advertised
+
+  -- the client is lost
+  lost_with : IsFlush g c S → IsAmong c (clients S) → (s : Session) (duration : ℕ) → (view c S).session ≡ Some s → is_up s.presence ≡ true
+      → e.changes ≡ Presence Lost duration ∷ [] → AllByRecursion (IsForNamed S) e.puts → (after_all local e.local).advertised ≡ local.advertised
+      → work g advertise field now behind (after_all local e.local) < work g advertise field now S local
+  lost_with flush among s duration is up changes all told =
+      lost-lowers g advertise field now S behind local (after_all local e.local) (clients_same among all) (none_up (was_up s is up)) c among (was_up s is up)
+      (ap can_wake (session_made flush s is) ∙ ap (λ (xs : List SessionOp). can_wake (Some (fold applied s xs))) changes)
+      told
+
+-- ---- what a tick does with a client
+
+module _ (g advertise : ℕ) (field : List Addr) (predefined : Entries) (now : ℕ) (S : List Op) (local : Local) (d : Drafted) (clean : IsClean now local d)
+    (c : List ℕ) (among : IsAmong c (clients S)) (flush : IsFlush g c S) where
+  -- what was due is due behind what a tick does first
+  due_yet : (reason : Due) → (due : IsDue g now local c (view c S) reason)
+      → due_after now c (session_of (seen_of S) c) (view c S).pending local.timers (address_of c local.bindings) d ≡ Some reason
+  due_yet reason due =
+      let waiting = (view c S).pending in
+      let a : Option Addr = address_of c local.bindings in
+      let timer : Option Timer = timer_of c (timers_after local.timers d.local) in
+      (λ i. due_session now (left (clean.acks i) waiting) timer a (Some (fold applied (unwrap_or (due.is i) empty_session) (clean.changes i))))
+      ∙ ap (λ (xs : List Put). due_session now xs timer a (Some due.session)) (left-none waiting)
+      ∙ due-alike now waiting (timer_of c local.timers) timer a (Some due.session) (clean.kept.timers c tt)
+      ∙ due.due
+
+  settled : (reason : Due) → IsDue g now local c (view c S) reason → (b : Option Addr)
+      → due_after now c (session_of (seen_of S) c) (view c S).pending local.timers b (due_draft predefined (seen_of S) now c d reason) ≡ None
+  settled reason due b =
+      tick-settles predefined (seen_of S) now c local.timers (address_of c local.bindings) b d reason (pending-apart c S) clean.changes clean.acks (due_yet reason due)
+
+  retry_puts : (a : Addr) → (due_draft predefined (seen_of S) now c d (Retry a)).puts ≡ []
+  retry_puts a =
+      followed_by_puts predefined (peer_at a c now) (session_of (seen_of S) c) (view c S).pending (moved (Retried c now) d) follows.Resend ∙ clean.puts
+
+  delivery_puts : (a : Addr) → (due_draft predefined (seen_of S) now c d (Delivery a)).puts ≡ []
+  delivery_puts a = followed_by_puts predefined (peer_at a c now) (session_of (seen_of S) c) (view c S).pending d follows.Delivery ∙ clean.puts
+
+  lowered : (plan : Plan) (delta : List Op) → Same delta plan.ops → (reason : Due) → IsDue g now local c (view c S) reason
+      → plan_of g c (seen_of S) (due_draft predefined (seen_of S) now c d reason) ≡ Some plan
+      → work g advertise field now (S ++ delta) (after_all local (due_draft predefined (seen_of S) now c d reason).local) < work g advertise field now S local
+  lowered plan delta same Loss due e =
+      let s : Session = session_of (seen_of S) c in
+      lost_with g advertise field now c S local (lost (seen_of S) c s d) plan delta e same flush among due.session s.duration due.is due.up
+      (ap (λ (xs : List SessionOp). xs ++ Presence Lost s.duration ∷ []) clean.changes)
+      (subst (λ (puts : List NewPut). AllByRecursion (IsForNamed S) (puts ++ will_puts (seen_of S) c s.will)) (sym clean.puts) (will_named S c s.will))
+      (still_told local.advertised d.local (Unbind c) (λ o. refl) clean.kept.advertised)
+  lowered plan delta same (Retry a) due e =
+      done_with g advertise field now c S local (due_draft predefined (seen_of S) now c d (Retry a)) plan delta e same flush among (Retry a) due (retry_puts a)
+      (retry-kept predefined (seen_of S) a now c local d clean.kept) (settled (Retry a) due)
+  lowered plan delta same (Delivery a) due e =
+      done_with g advertise field now c S local (due_draft predefined (seen_of S) now c d (Delivery a)) plan delta e same flush among (Delivery a) due (delivery_puts a)
+      (delivery-kept predefined (seen_of S) a now c local d clean.kept) (settled (Delivery a) due)
+
+  -- so a tick that does what is due with the client leaves less to do
+  pub due-lowers : (plan : Plan) (delta : List Op) → Same delta plan.ops → (reason : Due) → due_with g (seen_of S) local now c ≡ Some reason
+      → plan_of g c (seen_of S) (due_draft predefined (seen_of S) now c d reason) ≡ Some plan
+      → work g advertise field now (S ++ delta) (after_all local plan.local) < work g advertise field now S local
+  due-lowers plan delta same reason due e =
+      subst (λ (changes : List LocalChange). work g advertise field now (S ++ delta) (after_all local changes) < work g advertise field now S local)
+      (sym (plan-local g c (seen_of S) (due_draft predefined (seen_of S) now c d reason) plan e))
+      (lowered plan delta same reason (is-due g now local c (view c S) reason due) e)

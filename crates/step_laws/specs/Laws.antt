@@ -1,0 +1,166 @@
+-- What holds of publications and of time, whatever the sessions and the messages.
+use Rattle.std.specs.Prelude.{◌≡◌, ℕ, ◌+◌, ◌==◌, Bool, true, false, ◌⊎◌, List, [], ◌∷◌, ◌++◌, Option, Some, None, Contains}
+use Rattle.std.specs.List.{AllByRecursion}
+use Rattle.sn_topic.specs.Table.{Entries}
+use Rattle.sn_session.specs.declared.outbound.Phase.TheVariants.{Published}
+use Rattle.sn_session.specs.declared.session.Session.{Session}
+use Rattle.sn_session.specs.declared.change.SessionOp.{SessionOp}
+use Rattle.sn_session.specs.declared.change.SessionOp.TheVariants.{Take, Released, Outbound as OutboundSet}
+use Rattle.sn_session.specs.Session.{applied}
+use Rattle.sn_tables.specs.Received.{is_received, id_has_no_room}
+use Rattle.sn_frame.specs.declared.frame.Frame.TheVariants as frames
+use Rattle.sn_frame.specs.Grammar.{spelling}
+use Rattle.rep_op.specs.declared.op.Put.{Put}
+use Rattle.sn_local.specs.declared.config.Addr.{Addr}
+use Rattle.sn_local.specs.declared.config.Send.{Send}
+use Rattle.sn_local.specs.declared.local.Timer.{Timer}
+use Rattle.sn_plan.specs.declared.plan.Plan.{Plan}
+use Rattle.sn_plan.specs.declared.row.Follow.{Follow}
+use Rattle.sn_plan.specs.declared.row.Follow.TheVariants as follows
+use Rattle.sn_plan.specs.Names.{name_of}
+use Rattle.sn_plan.specs.Drafts.{Drafted, sent}
+use Rattle.sn_plan.specs.Bound.{session_of}
+use Rattle.sn_local.specs.Seen.{Seen}
+use Rattle.sn_plan.specs.Rows.{row_of}
+use Rattle.sn_local.specs.Timers.{timer_of, timers_after}
+use Rattle.sn_local.specs.Locals.{Local}
+use Rattle.sn_exchange.specs.declared.form.Form.{Form}
+use Rattle.sn_exchange.specs.declared.peer.Peer.{Peer}
+use Rattle.sn_exchange.specs.Forms.{form_of, form_again, publication, qos_bits, kind_bits}
+use Rattle.sn_session.specs.declared.outbound.Outbound.{Outbound as Exchange}
+use Rattle.sn_tick.specs.declared.due.Due.{Due}
+use Rattle.sn_tick.specs.declared.due.Due.TheVariants.{Loss, Retry, Delivery}
+use Rattle.sn_exchange.specs.Exchanges.{so_far, same_name, left, put_left, message_of, open_exchange}
+use Rattle.sn_exchange.specs.Delivery.{id_to_tell, deliver, then_deliver}
+use Rattle.sn_exchange.specs.Resending.{resend}
+use Rattle.sn_publish.specs.Publishing.{spread_twice}
+use Rattle.sn_tick.specs.Due.{due_session, first_due}
+use Rattle.sn_exchange.specs.Following.{followed_by, followed}
+use Rattle.sn_tick.specs.Ticking.{may_advertise, lost, retried, tick}
+
+-- the PUBLISH of a message at quality of service 0 is among these frames
+abbrev pub IsSentAtZero : Entries → Peer → Session → Put → List Send → Type 0
+IsSentAtZero predefined peer s put sends =
+    (form : Form) × (form_of predefined s put.topic ≡ Some form)
+    × Contains sends (record { to = peer.address; bytes = spelling (publication false put 0 form) })
+
+-- a message that Delivery is done with: it is of quality of service 0 and was sent, or no id is
+-- left for its topic
+abbrev pub IsDoneWith : Entries → Peer → Session → Put → List Send → Type 0
+IsDoneWith predefined peer s put sends =
+    ((put.qos ≡ 0) × IsSentAtZero predefined peer s put sends)
+    ⊎ ((form_of predefined s put.topic ≡ None) × (id_to_tell s put.topic ≡ None))
+
+-- the name of such a message among these
+abbrev pub IsOfOneDone : Entries → Peer → Session → List Put → List Send → ℕ × ℕ → Type 0
+IsOfOneDone predefined peer s pending sends name =
+    (put : Put) × Contains pending put × (name ≡ name_of put)
+    × IsDoneWith predefined peer s put sends
+
+-- Delivery acknowledges no other message
+abbrev pub DeliveryKeeps : Type 0
+DeliveryKeeps =
+    (predefined : Entries) (peer : Peer) (s : Session) (pending : List Put) (d : Drafted)
+    (name : ℕ × ℕ)
+    → Contains (deliver predefined peer s pending d).acks name
+    → Contains d.acks name
+    ⊎ IsOfOneDone predefined peer s pending (deliver predefined peer s pending d).sends name
+
+-- a change that ends that a message id is received: a session that is taken over as a whole, or its
+-- release
+abbrev pub ends_received : ℕ → SessionOp → Bool
+ends_received id (Take taken) = true
+ends_received id (Released other) = other == id
+ends_received id change = false
+
+-- Exactly once: the first publication at quality of service 2 records its message id; no change but
+-- a Take and the release of the id ends that; and while it lasts a publication of the id makes no
+-- message
+pub record PutsOnce : Type 0 where
+  pub recorded : (seen : Seen) (a : Addr) (s : Session) (topic msg_id : ℕ) (body name : List ℕ)
+      → is_received msg_id s.received ≡ false → id_has_no_room msg_id s.received ≡ false
+      → is_received msg_id (so_far s (spread_twice seen a s topic msg_id body name)).received ≡ true
+  pub stays : (s : Session) (change : SessionOp) (msg_id : ℕ) → ends_received msg_id change ≡ false
+      → is_received msg_id s.received ≡ true → is_received msg_id (applied s change).received ≡ true
+  pub repeated : (seen : Seen) (a : Addr) (s : Session) (topic msg_id : ℕ) (body name : List ℕ)
+      → is_received msg_id s.received ≡ true
+      → (spread_twice seen a s topic msg_id body name).puts ≡ []
+
+-- these changes are those before, or they first end the exchange that was open before
+abbrev pub EndsFirst : List SessionOp → ℕ → List SessionOp → Type 0
+EndsFirst before next_id after =
+    (after ≡ before)
+    ⊎ ((more : List SessionOp) × (after ≡ before ++ OutboundSet None next_id ∷ more))
+
+-- One exchange at a time: while one is open, Delivery makes nothing and sends nothing; and whatever
+-- follows a row changes nothing of the session, or first ends that exchange: no other is begun
+-- beside it.
+pub record OneExchange : Type 0 where
+  pub delivered : (predefined : Entries) (peer : Peer) (s : Session) (pending : List Put)
+      (d : Drafted) (x : Exchange)
+      → open_exchange (so_far s d) d.acks pending ≡ Some x
+      → then_deliver predefined peer s pending d ≡ d
+  pub followed : (predefined : Entries) (peer : Peer) (s : Session) (pending : List Put)
+      (d : Drafted) (follow : Follow) (x : Exchange)
+      → open_exchange (so_far s d) d.acks pending ≡ Some x
+      → EndsFirst d.changes (so_far s d).next_id
+      (followed_by predefined peer s pending d follow).changes
+
+-- a PUBLISH that is sent again has DUP, and the message id of its exchange
+abbrev pub ResentWithDup : Type 0
+ResentWithDup =
+    (predefined : Entries) (peer : Peer) (s : Session) (pending : List Put) (x : Exchange)
+    (put : Put) (form : Form) (d : Drafted)
+    → x.phase ≡ Published → put_left d.acks pending (message_of x) ≡ Some put
+    → form_again predefined s put.topic ≡ Some form
+    → (resend predefined peer s pending x d).sends
+    ≡ (sent peer.address
+    (frames.Publish (record { bits = 128 + qos_bits put.qos + kind_bits form.kind }) form.topic
+    x.msg_id put.body) d).sends
+
+-- a plan that makes no operation and sends no frame
+abbrev pub IsQuiet : Plan → Type 0
+IsQuiet plan = (plan.ops ≡ []) × (plan.sends ≡ [])
+
+-- a tick that finds nothing due makes nothing and sends nothing
+abbrev pub TickIsQuiet : Type 0
+TickIsQuiet =
+    (g advertise : ℕ) (field : List Addr) (predefined : Entries) (seen : Seen) (local : Local)
+    (now : ℕ)
+    → may_advertise advertise field now local.advertised ≡ false
+    → first_due g seen local now seen.all ≡ None
+    → (plan : Plan) × (tick g advertise field predefined seen local now ≡ Some plan) × IsQuiet plan
+
+-- messages of names that are all different, as those that wait for a client
+abbrev pub AreApart : List Put → Type 0
+AreApart [] = Unit {0}
+AreApart (put ∷ rest) =
+    AllByRecursion (λ (other : Put). same_name (name_of put) (name_of other) ≡ false) rest
+    × AreApart rest
+
+-- what is due with a client once a draft is carried out, where its address is then a: by the
+-- session and the timer that the draft leaves it, and the messages that it leaves waiting
+abbrev pub due_after : ℕ → List ℕ → Session → List Put → List Timer → Option Addr → Drafted
+    → Option Due
+due_after now c s pending timers a d =
+    due_session now (left d.acks pending) (timer_of c (timers_after timers d.local)) a
+    (Some (so_far s d))
+
+-- what a tick does with a client behind what it did first
+abbrev pub due_draft : Entries → Seen → ℕ → List ℕ → Drafted → Due → Drafted
+due_draft predefined seen now c d Loss = lost seen c (session_of seen c) d
+due_draft predefined seen now c d (Retry a) =
+    (followed predefined seen a now (retried now d c)).draft
+due_draft predefined seen now c d (Delivery a) =
+    (followed predefined seen a now (row_of follows.Delivery c d)).draft
+
+-- What is due with a client is settled when a tick has done it: nothing is due with the client any
+-- more at this moment, whatever its address is then.
+abbrev pub TickSettles : Type 0
+TickSettles =
+    (predefined : Entries) (seen : Seen) (now : ℕ) (c : List ℕ) (timers : List Timer)
+    (a b : Option Addr) (d : Drafted) (reason : Due)
+    → AreApart (seen.of c).pending → d.changes ≡ [] → d.acks ≡ []
+    → due_after now c (session_of seen c) (seen.of c).pending timers a d ≡ Some reason
+    → due_after now c (session_of seen c) (seen.of c).pending timers b
+    (due_draft predefined seen now c d reason) ≡ None
