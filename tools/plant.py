@@ -1,8 +1,12 @@
 """Plants wrong bodies in one crate over libraries that are built already, where `rt plant` would prove all below it first.
 
-Usage: plant.py ROOT CRATE [FLAG ..]      with the flags of `rt plant` (--only WORD, --max N, --minutes N, --all)
+Usage: plant.py ROOT CRATE [FLAG ..]      with the flags of `rt plant` (--only WORD, --max N, --minutes N, --all), and
+                                         --cured for those bodies alone that the kit's own script cannot write
+       plant.py count ROOT [CRATE ..]     how many bodies --cured has that give up, before anything is checked
 
 Libraries are looked for as by over.py, whose kept checks it uses. It drives the kit's own script, and so may want a change with a new kit.
+One fault of that script is cured here: it takes the doc comment of a field or of a variant for its name, so that a body that answers
+such a variant does not compile, and a documented field is never set.
 """
 import importlib.machinery
 import os
@@ -24,6 +28,51 @@ def planter():
     return script
 
 
+class Docs:
+    """Whether doc comments before a field or a variant are read over, as they should be, or taken for its name, as the kit does."""
+
+    def __init__(self, bodies):
+        self.bodies, self.kit = bodies, bodies.without_attributes
+        bodies.without_attributes, self.are_read_over = self.without_attributes, True
+
+    def without_attributes(self, words):
+        if self.are_read_over:
+            words = [it for it in words if not it.startswith("///")]
+        return self.kit(words)
+
+    def only_cured(self):
+        """Leaves the bodies out that the kit writes too."""
+        as_written = {name: getattr(self.bodies.Bodies, name) for name in ("giving_up", "over_the_real_one")}
+
+        def cured(name):
+            def written(of, *given):
+                self.are_read_over = False
+                by_kit = {it.text for it in as_written[name](self.bodies.Bodies(of.source, of.f), *given)}
+                self.are_read_over = True
+                return [it for it in as_written[name](of, *given) if it.text not in by_kit]
+
+            return written
+
+        for name in as_written:
+            setattr(self.bodies.Bodies, name, cured(name))
+
+
+def count(root, *names):
+    """Prints how many bodies of each crate give up and are not the kit's."""
+    crates, script = over.read_crates(root), planter()
+    Docs(script.bodies).only_cured()
+    for name in names or crates:
+        source = script.bodies.Source(f"{root}/crates/{name}")
+        source.read("src/main.rt" if over.file_of(root, name) == "src/main.rt" else "src/lib.rt")
+        for it, path in libraries_of(script, root, crates, name).items():
+            if path and it not in (*script.rt.SEALED, "libc", "os"):
+                source.add_library(it, f"{path}/lang")
+        functions = [it for it in source.functions if it.has_body and it.has_ensures]
+        found = {it.shown: [body.text for body in script.bodies.Bodies(source, it).giving_up()] for it in functions}
+        print(name, sum(map(len, found.values())), {it: texts for it, texts in found.items() if texts})
+    return 0
+
+
 def libraries_of(script, root, crates, name):
     """The library of each crate below, and of each library of the kit that they use."""
     found = {it: over.library(root, it) for it in over.below(crates, name)}
@@ -38,11 +87,18 @@ def libraries_of(script, root, crates, name):
 def main(given):
     if len(given) < 2:
         return __doc__
+    if given[0] == "count":
+        return count(os.path.abspath(given[1]), *given[2:])
+    is_cured = "--cured" in given
+    given = [it for it in given if it != "--cured"]
     root, name, *flags = given
     root = os.path.abspath(root)
     folder, crates = f"{root}/crates/{name}", over.read_crates(root)
     words = over.words(root, crates, "check", name, "2")[2:]
     script = planter()
+    docs = Docs(script.bodies)
+    if is_cured:
+        docs.only_cured()
 
     class Crate:
         """What the script asks of a crate."""
