@@ -28,7 +28,7 @@ run:
 
 prove:
 	@echo "Proving gw_sim and all that it stands on: some twenty minutes on four processors, the first time."
-	@cd crates/gw_sim && rt run <stdin >/dev/null
+	@cd crates/gw_sim && rt run <../../examples/takeover.script >/dev/null
 
 test:
 	python3 tools/trust.py --check

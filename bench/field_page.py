@@ -3,9 +3,9 @@
 
 Usage: bench/field_page.py [--shots FOLDER]
 
-The stories in the page must be those of examples/, word for word, with the output that the rows of crates/gw_rows have for these scripts.
+The stories in the page must be those of examples/, word for word, with the output that the rows of crates/gw_sim have for these scripts.
 Then a copy of the page plays both stories to their end by its own buttons, steps back and on by keys, opens a transcript of a reader's,
-refuses one that does not fit, one that is too long and one that fits in too many ways, and reads every row of gw_rows: where it says
+refuses one that does not fit, one that is too long and one that fits in too many ways, and reads every one of these rows: where it says
 that two gateways have equal sets, what they show must be the same. Status 0 only where all of that holds and no error is seen. With --shots pictures are taken too.
 """
 import argparse
@@ -137,8 +137,8 @@ function readRows() {
 
 
 def rows_of(name: str) -> dict[str, str]:
-    """The rows of gw_rows by their names."""
-    with open(os.path.join(TOP, "crates", "gw_rows", name), encoding="utf-8") as file:
+    """The rows of gw_sim by their names."""
+    with open(os.path.join(TOP, "crates", "gw_sim", name), encoding="utf-8") as file:
         parts = re.split(r"^== ", file.read(), flags=re.M)[1:]
     return {part.split("\n", 1)[0]: part.split("\n", 1)[1] for part in parts}
 

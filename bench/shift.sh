@@ -12,7 +12,7 @@ rounds=${1:-20}
 work=$(mktemp -d)
 trap 'rm -rf "$work"' EXIT
 . "$top/bench/built.sh"
-program=$(built shift_bench "$top/crates/shift_bench/stdin")
+program=$(built codec_bench "$top/crates/codec_bench/stdin")
 echo "load $(cut -d ' ' -f 1-3 /proc/loadavg 2>/dev/null || echo unknown), $(nproc) processors"
 for name in "search $rounds" "sleep 1"; do
     for threads in 0 1 2 4 8; do

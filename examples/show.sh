@@ -19,10 +19,10 @@ for script in "$top"/examples/*.script; do
     done
 done
 
-# The program is the proved one of these sources: it is younger than each of them, and prints its stored run.
+# The program is the proved one of these sources: it is younger than each of them, and prints what the row of a story says.
 is_proved() {
     [ -x "$program" ] && [ -z "$(find "$top"/crates/*/src "$top"/crates/*/specs -newer "$program" -print 2>/dev/null | head -n 1)" ] &&
-        "$program" <"$top/crates/gw_sim/stdin" | cmp -s - "$top/crates/gw_sim/stdout"
+        "$program" <"$top/examples/takeover.script" | cmp -s - "$top/rows/takeover.stdout"
 }
 
 program=$top/crates/gw_sim/out/gw_sim

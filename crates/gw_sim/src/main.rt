@@ -6,13 +6,19 @@
 //!
 //! With `--random SEED` it makes scripts from the seed, plays them, and compares what gateways show
 //! with what the definitions say. With `--plain` gateways keep their operations in the plain
-//! replica, which forgets nothing.
+//! replica, which forgets nothing. With `--rows` it reads many scripts, each behind a line with its
+//! name, and plays each by itself on both replicas.
 //!
 //! - `words`: the words of the command line.
+//! - `rows`: many scripts in one text.
+//! - `stop`: why these are not played.
 #![tactic(auto)]
 
+mod rows;
+mod stop;
 mod words;
 
+use crate::rows::play_rows;
 use crate::words::{Asked, Options, read_words};
 use gw_play::{Counted, Held, play, play_with};
 use gw_random::{Report, random_run};
@@ -43,6 +49,9 @@ fn main(rt: HostRuntime) -> ExitCode {
         }
         Some(Asked::Script { plain: true }) => {
             play_with::<Plain, _, _>(alloc, &mut Counted::new(rt.reader()), &mut out)
+        }
+        Some(Asked::Rows) => {
+            play_rows(alloc, &mut Counted::new(rt.reader()), &mut out, &mut err)
         }
         Some(Asked::Random { plain, options }) => {
             invent(alloc, plain, options, &mut out, &mut err)

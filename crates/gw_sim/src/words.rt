@@ -1,13 +1,15 @@
 //! The words of the command line.
 
 use clap::{Arg, ArgAction, ArgMatches, Command};
-use std::alloc::Global;
+use std::alloc::{AllocError, Global};
 
 /// What was asked for.
 #[derive(Clone, Copy)]
 pub enum Asked {
     /// A script from standard input is to be played.
     Script { plain: bool },
+    /// Many scripts from standard input are to be played, each by itself.
+    Rows,
     /// Scripts are to be made from a seed, and played.
     Random { plain: bool, options: Options },
 }
@@ -26,9 +28,6 @@ pub struct Options {
 /// Reads the words, the program's name first. Nothing where they do not parse, `--help` among them,
 /// or where memory ran out.
 pub(crate) fn read_words(alloc: Global, words: &[String]) -> Option<Asked> {
-    let plain = Arg::new(alloc, "plain")
-        .long("plain")
-        .action(ArgAction::SetTrue);
     let seed = Arg::new(alloc, "random")
         .long("random")
         .action(ArgAction::Set)
@@ -45,7 +44,7 @@ pub(crate) fn read_words(alloc: Global, words: &[String]) -> Option<Asked> {
         .value_parser(clap::value_parser!(u8).range(1..=8))
         .requires_arg("random")
         .ok()?;
-    let command = Command::new(alloc, "gw_sim").arg(plain).ok()?;
+    let command = command_line(alloc).ok()?;
     let command = command
         .arg(seed)
         .ok()?
@@ -57,8 +56,23 @@ pub(crate) fn read_words(alloc: Global, words: &[String]) -> Option<Asked> {
     Some(ask_for(&matches))
 }
 
+/// The command line without what belongs to scripts from a seed.
+fn command_line<'a>(alloc: Global) -> Result<Command<'a>, AllocError> {
+    let plain = Arg::new(alloc, "plain")
+        .long("plain")
+        .action(ArgAction::SetTrue);
+    let rows = Arg::new(alloc, "rows")
+        .long("rows")
+        .action(ArgAction::SetTrue)
+        .exclusive(true);
+    Command::new(alloc, "gw_sim").arg(plain)?.arg(rows)
+}
+
 /// What the words ask for.
 fn ask_for(matches: &ArgMatches) -> Asked {
+    if matches.get_flag("rows") {
+        return Asked::Rows;
+    }
     let plain = matches.get_flag("plain");
     let Some(seed) = matches.get_one::<u64>("random") else {
         return Asked::Script { plain };

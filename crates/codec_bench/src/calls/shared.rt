@@ -1,6 +1,6 @@
 //! Calls of a gateway by threads that share it.
 
-use crate::gateways::gateway;
+use crate::calls::connected::gateway;
 use anyhow::{Result, bail};
 use gw_node::Step;
 use gw_shift::{Pass, Shift};

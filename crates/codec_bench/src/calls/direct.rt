@@ -1,6 +1,6 @@
 //! Calls of a gateway by the one that owns it.
 
-use crate::gateways::gateway;
+use crate::calls::connected::gateway;
 use anyhow::Result;
 use gw_node::Step;
 use std::alloc::Global;
