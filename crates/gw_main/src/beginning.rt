@@ -1,13 +1,13 @@
 //! Opening a gateway as its settings say.
 
 ghost use Rattle.std.specs.Prelude.{◌≡◌, IfOk, IfErr, length};
+ghost use Rattle.rep_ops.specs.Splitting.{all_of};
 ghost use Rattle.rep_model.specs.Views as spec;
 ghost use Rattle.jr_disk.specs.Disk.{image};
 ghost use Rattle.jr_journal.specs.Records.{records};
 ghost use Rattle.gw_node.specs.Parts.{state_of, records_of};
 ghost use Rattle.gw_answer.specs.Answers.{told};
 ghost use Rattle.gw_node.specs.Keeping.{Keeps};
-ghost use Rattle.gw_node.specs.Taking.{ops_of};
 ghost use Rattle.gw_node.specs.Opening.{IsStarted, MayRefuse};
 ghost use Rattle.gw_main.specs.Beginning.{config_of, number_of, journal_number};
 ghost use Rattle.gw_answer.specs.declared.fault.NodeFault.TheVariants as faults;
@@ -43,7 +43,7 @@ pub fn begin<R: Replica, D: Disk + Drop, O: Write, E: Write>(
     ensures records { D.honest → IfOk result (λ node. records_of node
         ≡ length (records settings.now.gateway (image (D.slots disk)))) }
     ensures keeps { D.honest → IfOk result (λ node.
-        Keeps (ops_of (records settings.now.gateway (image (D.slots disk))))
+        Keeps (all_of (records settings.now.gateway (image (D.slots disk))))
         (state_of R.kept node).kept) }
     ensures status { IfErr result (λ status. status ≡ 2) }
 {
@@ -76,7 +76,7 @@ fn open<R: Replica, D: Disk + Drop>(
     ensures records { D.honest → IfOk result (λ opened. records_of opened.0
         ≡ length (records settings.now.gateway (image (D.slots disk)))) }
     ensures keeps { D.honest → IfOk result (λ opened.
-        Keeps (ops_of (records settings.now.gateway (image (D.slots disk))))
+        Keeps (all_of (records settings.now.gateway (image (D.slots disk))))
         (state_of R.kept opened.0).kept) }
     ensures clients { IfOk result (λ opened. opened.1
         ≡ length (spec.clients (state_of R.kept opened.0).kept)) }
