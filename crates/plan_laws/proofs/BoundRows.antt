@@ -24,6 +24,7 @@ use Rattle.sn_frame.specs.declared.frame.Will.{Will}
 use Rattle.sn_frame.specs.FlagBits.{qos_of, kind_of}
 use Rattle.rep_op.specs.declared.op.Put.{Put}
 use Rattle.rep_op.specs.declared.op.Op.{Op}
+use Rattle.rep_op.specs.Orders.{name_of}
 use Rattle.rep_model.specs.declared.view.ClientView.{ClientView}
 use Rattle.rep_model.specs.Views.{view}
 use Rattle.sn_local.specs.declared.config.Addr.{Addr}
@@ -46,7 +47,6 @@ use Rattle.sn_plan.specs.Bound.{bound_to, session_of}
 use Rattle.sn_flow.specs.Connection.{has_bit, request_of, refusal_of, ask_topic, connect_row, connect, leave, disconnect_draft, disconnect_of}
 use Rattle.sn_plan.specs.Drafts.{Drafted, nothing, changed, moved}
 use Rattle.sn_local.specs.Locals.{Local}
-use Rattle.sn_plan.specs.Names.{name_of}
 use Rattle.sn_plan.specs.Others.{is_up, can_wake, other}
 use Rattle.sn_local.specs.Seen.{Seen, seen_of}
 use Rattle.sn_subscribe.specs.Registration.{entry_or_free, id_for, registered, register_name}

@@ -13,8 +13,8 @@ use Rattle.sn_tables.specs.Topics.{topic_named, free_id}
 use Rattle.sn_frame.specs.declared.frame.Frame.{Frame}
 use Rattle.sn_frame.specs.declared.frame.Frame.TheVariants as frames
 use Rattle.rep_op.specs.declared.op.Put.{Put}
+use Rattle.rep_op.specs.Orders.{name_of}
 use Rattle.sn_local.specs.declared.local.LocalChange.TheVariants.{Sent}
-use Rattle.sn_plan.specs.Names.{name_of}
 use Rattle.sn_plan.specs.Drafts.{Drafted, changed, changed_if, acked, sent, moved}
 use Rattle.sn_exchange.specs.declared.form.Form.{Form}
 use Rattle.sn_exchange.specs.declared.peer.Peer.{Peer}

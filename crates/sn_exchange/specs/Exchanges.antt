@@ -11,7 +11,7 @@ use Rattle.sn_session.specs.declared.session.Session.{Session}
 use Rattle.sn_session.specs.Session.{applied}
 use Rattle.sn_tables.specs.Topics.{topic_named}
 use Rattle.rep_op.specs.declared.op.Put.{Put}
-use Rattle.sn_plan.specs.Names.{name_of}
+use Rattle.rep_op.specs.Orders.{name_of}
 use Rattle.sn_plan.specs.Drafts.{Drafted}
 
 -- the session as the step so far has changed it

@@ -3,7 +3,7 @@
 ghost use Rattle.std.specs.Prelude.{◌≡◌, fold, OnOk, IfOk};
 ghost use Rattle.std.specs.Option.{option_copied};
 ghost use Rattle.sn_session.specs.Session.{applied};
-ghost use Rattle.sn_plan.specs.Names as names;
+ghost use Rattle.rep_op.specs.Orders as orders;
 ghost use Rattle.sn_exchange.specs.Exchanges as spec;
 
 use octets::NoMemory;
@@ -47,7 +47,7 @@ pub fn is_done(acks: &[(u64, u8)], name: (u64, u8)) -> bool
 
 /// The name of a message: sequence number and origin.
 pub fn name_of(put: &Put) -> (u64, u8)
-    ensures { result ≡ names.name_of put.now }
+    ensures { result ≡ orders.name_of put.now }
 {
     (put.seq, put.origin)
 }

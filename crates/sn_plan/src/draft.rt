@@ -1,10 +1,10 @@
 //! What a row of the step table says.
 
 ghost use Rattle.std.specs.Prelude.{◌≡◌, ◌≤◌, ◌++◌, [], map, OnOk, IfOk, IsTrue, ◌↔◌, Err};
-ghost use Rattle.sn_plan.specs.Names.{name_of};
 ghost use Rattle.sn_frame.specs.declared.frame.TheConstants.{MAX_FRAME};
 ghost use Rattle.sn_frame.specs.Bodies.{IsMessage};
 ghost use Rattle.sn_frame.specs.Grammar.{total_of};
+ghost use Rattle.rep_op.specs.Orders.{name_of};
 
 use octets::{NoMemory, Octets};
 use rep_ops::{ClientId, Put};
