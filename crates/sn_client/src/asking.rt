@@ -2,7 +2,8 @@
 
 ghost use Rattle.std.specs.Prelude.{◌≡◌, ◌≤◌, ◌≢◌, ◌↔◌, IfOk, IsTrue, IsBitSet};
 ghost use Rattle.sn_frame.specs.FlagBits.{qos_of, kind_of};
-ghost use Rattle.sn_client.specs.inner.Asking.{qos_bits, kind_bits, retain_bit, flags_of, connect_flags, publish_id};
+ghost use Rattle.sn_frame.specs.FlagBits as flag_bits;
+ghost use Rattle.sn_client.specs.inner.Asking.{qos_bits, retain_bit, flags_of, connect_flags, publish_id};
 ghost use Rattle.sn_client.specs.inner.Exchanges.{IsAsked};
 
 use crate::talk::{Awaited, Publication, Talk};
@@ -29,7 +30,7 @@ fn qos_bits(qos: Qos) -> u8
 
 /// The bits of a topic's type.
 fn kind_bits(kind: TopicIdType) -> u8
-    ensures value { result ≡ kind_bits kind }
+    ensures value { result ≡ flag_bits.kind_bits kind }
     ensures most { result ≤ 3 }
 {
     match kind {

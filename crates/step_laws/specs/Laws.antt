@@ -2,6 +2,7 @@
 use Rattle.std.specs.Prelude.{◌≡◌, ℕ, ◌+◌, ◌==◌, Bool, true, false, ◌⊎◌, List, [], ◌∷◌, ◌++◌, Option, Some, None, Contains}
 use Rattle.std.specs.List.{AllByRecursion}
 use Rattle.sn_topic.specs.Table.{Entries}
+use Rattle.sn_frame.specs.FlagBits.{kind_bits}
 use Rattle.sn_session.specs.declared.outbound.Phase.TheVariants.{Published}
 use Rattle.sn_session.specs.declared.session.Session.{Session}
 use Rattle.sn_session.specs.declared.change.SessionOp.{SessionOp}
@@ -26,7 +27,7 @@ use Rattle.sn_local.specs.Timers.{timer_of, timers_after}
 use Rattle.sn_local.specs.Locals.{Local}
 use Rattle.sn_exchange.specs.declared.form.Form.{Form}
 use Rattle.sn_exchange.specs.declared.peer.Peer.{Peer}
-use Rattle.sn_exchange.specs.Forms.{form_of, form_again, publication, qos_bits, kind_bits}
+use Rattle.sn_exchange.specs.Forms.{form_of, form_again, publication, qos_bits}
 use Rattle.sn_session.specs.declared.outbound.Outbound.{Outbound as Exchange}
 use Rattle.sn_tick.specs.declared.due.Due.{Due}
 use Rattle.sn_tick.specs.declared.due.Due.TheVariants.{Loss, Retry, Delivery}
