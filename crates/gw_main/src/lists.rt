@@ -2,7 +2,8 @@
 
 ghost use Rattle.std.specs.Prelude.{◌≡◌, ◌<◌, ◌^◌, ◌++◌, ℕ, IfOk, IfErr, IfSome, Ok, Some, None, option_map};
 ghost use Rattle.toml.specs.View.{view, items_view, table_view};
-ghost use Rattle.gw_main.specs.Reading.{each, list_in, address_item, entry_item, entry_from, name_of_text, name_in, at, predefined_in};
+ghost use Rattle.sn_topic.specs.Topics.{name_asked};
+ghost use Rattle.gw_main.specs.Reading.{each, list_in, address_item, entry_item, entry_from, name_in, at, predefined_in};
 ghost use Rattle.gw_main.specs.inner.Reading.{IsBadAt};
 ghost use Rattle.gw_main.specs.declared.fault.Key.TheVariants as keys;
 
@@ -58,7 +59,7 @@ pub(crate) fn addresses_at(
 /// A text as the name of a topic, where it is one.
 #[tactic(auto, using(crate::proofs::Naming::named, crate::proofs::Naming::empty, crate::proofs::Naming::too_long, crate::proofs::Naming::wild))]
 fn named(alloc: Global, text: &[u8]) -> Result<Option<TopicName>, NoMemory>
-    ensures { IfOk result (λ name. name ≡ name_of_text text.now) }
+    ensures { IfOk result (λ name. name ≡ name_asked text.now) }
 {
     match TopicName::new(alloc, text) {
         Ok(name) => Ok(Some(name)),

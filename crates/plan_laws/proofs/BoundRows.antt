@@ -2,6 +2,7 @@
 use Rattle.std.proofs.Common.{inl, inr, ◌≡◌, ℕ, ◌==◌, Bool, true, false, nat_lt, is_some, if◌then◌else◌, List, [], ◌∷◌, filter, length, Option, Some, None, IfSome, refl, ap, ◌∙◌}
 use Rattle.std.specs.List.{AllByRecursion}
 use Rattle.sn_topic.specs.Table.{Entries}
+use Rattle.sn_topic.specs.Topics.{name_asked}
 use Rattle.sn_session.specs.declared.presence.Presence.{Presence as State}
 use Rattle.sn_session.specs.declared.presence.Presence.TheVariants.{Active, Asleep, Awake, Disconnected, Lost}
 use Rattle.sn_session.specs.declared.outbound.Outbound.{Outbound as Exchange}
@@ -41,7 +42,7 @@ use Rattle.sn_local.specs.declared.local.WillDialog.{WillDialog}
 use Rattle.sn_subscribe.specs.declared.registration.NamedId.{NamedId}
 use Rattle.sn_plan.specs.declared.row.Row.{Row}
 use Rattle.sn_flow.specs.Accept.{accept, has_no_room}
-use Rattle.sn_plan.specs.Asking.{qos_asked, name_asked, topics_asked}
+use Rattle.sn_plan.specs.Asking.{qos_asked, topics_asked}
 use Rattle.sn_local.specs.Bindings.{client_at, is_stamp_of}
 use Rattle.sn_plan.specs.Bound.{bound_to, session_of}
 use Rattle.sn_flow.specs.Connection.{has_bit, request_of, refusal_of, ask_topic, connect_row, connect, leave, disconnect_draft, disconnect_of}

@@ -49,7 +49,7 @@ use Rattle.sn_local.specs.declared.local.WillDialog.{WillDialog}
 use Rattle.sn_subscribe.specs.declared.registration.NamedId.{NamedId}
 use Rattle.sn_plan.specs.declared.row.Row.{Row}
 use Rattle.sn_flow.specs.Accept.{will_after, unknowing, going_on, as_asked, accepted, cleared, accept, has_no_room}
-use Rattle.sn_plan.specs.Asking.{qos_asked, name_asked, topics_asked, id_in}
+use Rattle.sn_plan.specs.Asking.{qos_asked, topics_asked, id_in}
 use Rattle.sn_local.specs.Bindings.{client_at, same_address, is_stamp_of}
 use Rattle.sn_plan.specs.Bound.{bound_to, heard_of, session_of}
 use Rattle.sn_flow.specs.Connection.{has_bit, request_of, refusal_of, ask_topic, connect_row, connect, leave, fall_asleep, disconnect_draft, disconnect_of, disconnect}
