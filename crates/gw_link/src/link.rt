@@ -1,6 +1,6 @@
 //! A link that is open.
 
-ghost use Rattle.std.specs.Prelude.{◌≡◌, true};
+ghost use Rattle.std.specs.Prelude.{◌≡◌, false, true};
 ghost use Rattle.std.specs.Arc.{arc_value};
 ghost use Rattle.gw_link.specs.Adding.{is_of_link};
 
@@ -39,7 +39,7 @@ pub struct Link<S: Drop> {
     /// The last digest that came and was not answered yet.
     pub(crate) asked: Option<Heard>,
     /// A digest was answered in this shift.
-    pub(crate) answered: bool,
+    pub answered: bool,
     /// The number of the other end, where it has said it.
     pub(crate) other: Option<u8>,
     /// How often a read found nothing: before that, and since this end has last said its number.
@@ -57,7 +57,7 @@ pub struct Link<S: Drop> {
     /// This end has said its number and its digest.
     pub(crate) greeted: bool,
     /// The number of the last call of the shift whose delta was told.
-    pub(crate) told: u64,
+    pub told: u64,
 }
 
 impl<S: Drop> Link<S> {
@@ -89,7 +89,9 @@ impl<S: Drop> Link<S> {
 
     /// A new shift numbers its calls from 1; what the last one made was told.
     pub fn begin_shift(&mut self)
-        ensures { self.new.origin ≡ self.old.origin }
+        ensures origin { self.new.origin ≡ self.old.origin }
+        ensures told { self.new.told ≡ 0 }
+        ensures answered { self.new.answered ≡ false }
     {
         self.told = 0;
         self.answered = false;
