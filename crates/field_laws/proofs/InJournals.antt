@@ -1,6 +1,7 @@
 -- What a gateway made is in its own journal.
 use Rattle.std.specs.List.{AllByRecursion}
 use Rattle.std.proofs.Common.{◌≡◌, ◌⊎◌, ℕ, Bool, true, false, ◌||◌, List, [], ◌∷◌, ◌++◌, slice_get, set, append-nil, Option, Some, None, Contains, Result, Ok, Err, refl, sym, ap, ◌∙◌, subst, inl, inr}
+use Rattle.rep_ops.specs.Splitting.{all_of}
 use Rattle.rep_model.proofs.Lookup.{or_else}
 use Rattle.std.proofs.lemmas.List.Elements.{All-from_recursion, All-contains, Contains-append_left, Contains-append_right}
 use Rattle.std.proofs.lemmas.Option.{none-some, same_Some, slice_get_within, get_or_from_slice_get}
@@ -17,7 +18,7 @@ use Rattle.gw_answer.specs.declared.out.Out.{Out}
 use Rattle.gw_answer.specs.declared.refusal.Refusal.{Refusal}
 use Rattle.gw_node.specs.Occasions.{Occasion, Datagram, Clock}
 use Rattle.gw_answer.specs.Answers.{said}
-use Rattle.gw_node.specs.Taking.{ops_of, IsWhole, StandsFor}
+use Rattle.gw_node.specs.Taking.{IsWhole, StandsFor}
 use Rattle.gw_node.proofs.Between.{within-trans}
 use Rattle.gw_node.proofs.Taken.{as_taken}
 use Rattle.gw_world.specs.declared.event.Event.{Event}
@@ -122,7 +123,7 @@ contains-place gs i gateway e = (i, slice_get_within gs i gateway e, get_or_from
 pub field-stored : (configs : List Config) (events more : List Event) (answers replies : List Answer) (old mid new : Field) (event : Event) (answer : Answer) (delta : List Op) (i : ℕ) (maker later : Gateway) (b : Bool) (image : Image)
     → Run (new_field configs) events answers old → After old event answer mid → Contains (made_by answer) delta → IsAt old (gateway_of event) i maker
     → Run mid more replies new → slice_get new.gateways i ≡ Some later → StandsFor later.config.gateway (with_refused b later.taken later.refused) [] image
-    → Same (keep (ops_of (records later.config.gateway image) ++ delta)) (keep (ops_of (records later.config.gateway image)))
+    → Same (keep (all_of (records later.config.gateway image) ++ delta)) (keep (all_of (records later.config.gateway image)))
 field-stored configs events more answers replies old mid new event answer delta i maker later b image run after there at goes_on place stands =
     let first = field-sound configs events answers old run in
     let one = after-sound old event answer mid after first.flush first.whole first.due in
@@ -135,5 +136,5 @@ field-stored configs events more answers replies old mid new event answer delta 
     let in_field : Contains new.gateways later = contains-place new.gateways i later place in
     let within : Within delta later.taken = parts-within new last.whole later.taken delta (set-there new later in_field) inside in
     let S = with_refused b later.taken later.refused in
-    let J = ops_of (records later.config.gateway image) in
+    let J = all_of (records later.config.gateway image) in
     adds-nothing S J delta (within-back b delta later.taken later.refused within) (as_taken S J stands.whole)

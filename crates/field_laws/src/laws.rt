@@ -9,6 +9,7 @@ ghost use Rattle.rep_op.specs.declared.op.Op.{Op};
 ghost use Rattle.rep_op.specs.declared.op.Op.TheVariants.{Session as OfSession};
 ghost use Rattle.rep_ops.specs.Making.{AreApart};
 ghost use Rattle.rep_op.specs.Sets.{operation_at, Same};
+ghost use Rattle.rep_ops.specs.Splitting.{all_of};
 ghost use Rattle.sn_local.specs.declared.config.Addr.{Addr};
 ghost use Rattle.sn_local.specs.declared.config.Config.{Config};
 ghost use Rattle.sn_plan.specs.declared.plan.Plan.{Plan};
@@ -23,7 +24,7 @@ ghost use Rattle.gw_world.specs.declared.event.Answer.{Answer};
 ghost use Rattle.gw_node.specs.Gateways.{Gateway, with_refused};
 ghost use Rattle.gw_world.specs.Field.{Field, new_field, IsAt, After, Run, gateway_of};
 ghost use Rattle.gw_node.specs.Keeping.{Keeps};
-ghost use Rattle.gw_node.specs.Taking.{ops_of, StandsFor};
+ghost use Rattle.gw_node.specs.Taking.{StandsFor};
 ghost use Rattle.jr_disk.specs.Disk.{Image};
 ghost use Rattle.jr_journal.specs.Records.{records};
 ghost use Rattle.rep_model.specs.Keep.{keep};
@@ -105,6 +106,6 @@ pub fn stored()
         → Contains (made_by answer) delta → IsAt old (gateway_of event) i maker
         → Run mid more replies new → slice_get new.gateways i ≡ Some later
         → StandsFor later.config.gateway (with_refused b later.taken later.refused) [] image
-        → Same (keep (ops_of (records later.config.gateway image) ++ delta))
-        (keep (ops_of (records later.config.gateway image))) }
+        → Same (keep (all_of (records later.config.gateway image) ++ delta))
+        (keep (all_of (records later.config.gateway image))) }
 {}

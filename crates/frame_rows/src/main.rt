@@ -12,26 +12,31 @@
 //! often; a word behind an apostrophe, as `'t/a`, is the octets of its text, and `-` is no octet. A
 //! KIND, a FILTER and a NAME are one such word.
 //!
-//! | Datagrams | |
-//! |---|---|
-//! | `frame OCTETS ..` | the frame in the words of section 5, and below it the octets that it is written as; or the number and the words of the fault |
-//! | `with OCTETS ..` | the same of the frame that was read, with these octets in place of its ClientId, GwAdd, WillTopic, WillMsg, TopicName or Data |
-//! | `types OCTETS ..` | what this body is behind each octet from 00 to ff in the place of MsgType |
-//! | `bodies KIND OCTETS ..` | what each beginning of this body is behind one octet in the place of MsgType |
-//! | `beginnings OCTETS ..` | what each beginning of a datagram is |
+//! Datagrams:
+//!
+//! - `frame OCTETS ..`: the frame in the words of section 5, and below it the octets that it is
+//!   written as; or the number and the words of the fault.
+//! - `with OCTETS ..`: the same of the frame that was read, with these octets in place of its
+//!   ClientId, GwAdd, WillTopic, WillMsg, TopicName or Data.
+//! - `types OCTETS ..`: what this body is behind each octet from 00 to ff in the place of MsgType.
+//! - `bodies KIND OCTETS ..`: what each beginning of this body is behind one octet in the place of
+//!   MsgType.
+//! - `beginnings OCTETS ..`: what each beginning of a datagram is.
 //!
 //! The last three tell only the name of the message or the number of the fault, from which octet or
 //! number of octets on. `types` and `bodies` try each body with either form of Length (section
 //! 5.2.1), and say so if the two give different answers.
 //!
-//! | Topics (sections 5.3.11, 5.3.12 and 6.7) | |
-//! |---|---|
-//! | `name OCTETS ..` | a topic name, or the number and the words of the fault |
-//! | `filter OCTETS ..` | the same of a filter, and which wildcards it has |
-//! | `match FILTER NAME` | whether the filter asks for the name |
-//! | `table ID NAME ..` | a table of predefined ids, or the fault |
-//! | `id OCTETS ..` | the least predefined id of a name |
-//! | `of ID` | the name of a predefined id |
+//! Topics (sections 5.3.11, 5.3.12 and 6.7):
+//!
+//! - `name OCTETS ..`: a topic name, or the number and the words of the fault.
+//! - `filter OCTETS ..`: the same of a filter, and which wildcards it has.
+//! - `match FILTER NAME`: whether the filter asks for the name.
+//! - `table ID NAME ..`: a table of predefined ids, or the fault.
+//! - `id OCTETS ..`: the least predefined id of a name.
+//! - `of ID`: the name of a predefined id.
+//!
+//! The files:
 //!
 //! - `row`: what the lines of a row have brought about (`Row`), and the play of one more.
 //! - `fields`: lines that are read.

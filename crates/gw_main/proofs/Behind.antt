@@ -1,10 +1,11 @@
 -- What a gateway has taken, from one call of its tending to the next.
 use Rattle.std.proofs.Common.{◌≡◌, false, List, [], ◌++◌, sym, subst, inl, inr}
 use Rattle.rep_op.specs.declared.op.Op.{Op}
+use Rattle.rep_ops.specs.Splitting.{all_of}
 use Rattle.jr_disk.specs.declared.disk.Disk.{Ghosts}
 use Rattle.gw_node.specs.Parts.{State, is_halted}
 use Rattle.gw_node.specs.Carrying.{TakesNothing, TakesAgain}
-use Rattle.gw_node.specs.Taking.{ops_of, on_disk, HasTaken}
+use Rattle.gw_node.specs.Taking.{on_disk, HasTaken}
 use Rattle.gw_main.specs.Tending.{TakesOn}
 
 module _ {D : Type 0} {G : Ghosts D} (old mid new : State G) where
@@ -26,5 +27,5 @@ module _ {D : Type 0} {G : Ghosts D} (old mid new : State G) where
   pub opened_then : G.honest → TakesAgain old mid → TakesOn mid new → TakesOn old new
   opened_then honest again on = record {
     itself = λ S h. on.itself S (again.itself honest S h);
-    with_read = λ S refused h. inr (on.itself (S ++ ops_of (on_disk old)) (again.with_read honest S refused h));
+    with_read = λ S refused h. inr (on.itself (S ++ all_of (on_disk old)) (again.with_read honest S refused h));
   }

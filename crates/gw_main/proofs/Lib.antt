@@ -1,4 +1,3 @@
-mod Digits
 mod Testing
 mod Items
 mod Firsts

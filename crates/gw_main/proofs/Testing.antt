@@ -3,8 +3,8 @@ use Rattle.std.proofs.Common.{◌≡◌, ◌<◌, ◌^◌, ℕ, List, Bool, true
 use Rattle.std.specs.Option.{MatchOption}
 use Rattle.std.specs.Str.{all_ascii_digits}
 use Rattle.std.proofs.lemmas.Bool.Decides.{nat_tests}
-use Rattle.gw_main.specs.Numbers.{value_of, is_number, number_of}
-use Rattle.gw_main.specs.inner.Numbers.{IsNumber}
+use Rattle.octets.specs.Decimal.{value_of, IsNumber}
+use Rattle.gw_main.specs.Numbers.{is_number, number_of}
 
 chosen : (b : Bool) (n : ℕ) (r : Option ℕ) → MatchOption r (b ≡ false) (λ m. (b ≡ true) × (n ≡ m)) → r ≡ (if b then Some n else None)
 chosen true n None h = absurd (true≢false h)

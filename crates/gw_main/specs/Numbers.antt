@@ -1,13 +1,9 @@
--- Numbers in decimal digits.
-use Rattle.std.specs.Prelude.{ℕ, ◌+◌, ◌-◌, ◌*◌, ◌^◌, ◌&&◌, nat_lt, Bool, List, [], ◌∷◌, length, Option, Some, None, if◌then◌else◌}
+-- Numbers in decimal digits, as a test.
+use Rattle.std.specs.Prelude.{ℕ, ◌^◌, ◌&&◌, nat_lt, Bool, List, length, Option, Some, None, if◌then◌else◌}
 use Rattle.std.specs.Str.{all_ascii_digits}
+use Rattle.octets.specs.Decimal.{value_of}
 
--- what the digits write: each counts by its place
-abbrev pub value_of : List ℕ → ℕ
-value_of [] = 0
-value_of (digit ∷ rest) = (digit - 48) * 10 ^ length rest + value_of rest
-
--- the same as a test
+-- the text writes a number, and so many bits hold it
 abbrev pub is_number : ℕ → List ℕ → Bool
 is_number bits text =
     nat_lt 0 (length text) && all_ascii_digits text && nat_lt (value_of text) (2 ^ bits)

@@ -1,7 +1,7 @@
 -- What a document says of each key, and which key is the first that it says nothing good of.
 use Rattle.std.specs.Prelude.{◌≡◌, ℕ, ℤ, pos, negsuc, ◌&&◌, nat_le, List, [], ◌∷◌, Option, Some, None, option_and_then, option_map, if◌then◌else◌, codes, string_bytes}
 use Rattle.sn_local.specs.declared.config.Addr.{Addr}
-use Rattle.sn_topic.specs.Topics.{is_name}
+use Rattle.sn_topic.specs.Topics.{name_asked}
 use Rattle.sn_topic.specs.Table.{Entries, is_table}
 use Rattle.toml.specs.Data.{Data, Items, no_items, item, Members, get_member, as_str, as_integer, as_array, as_table}
 use Rattle.toml.specs.Parse.{parse_document}
@@ -47,11 +47,8 @@ abbrev pub address_item : Data → Option Addr
 address_item found = option_and_then address_of (as_str found)
 
 -- a topic's name: 1 to 256 octets without a wildcard
-abbrev pub name_of_text : List ℕ → Option (List ℕ)
-name_of_text text = if is_name text then Some text else None
-
 abbrev pub name_in : Option Data → Option (List ℕ)
-name_in found = option_and_then name_of_text (option_and_then as_str found)
+name_in found = option_and_then name_asked (option_and_then as_str found)
 
 -- an id and the name that it stands for
 abbrev pub entry_from : Members → Option (ℕ × List ℕ)

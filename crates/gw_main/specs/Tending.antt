@@ -1,6 +1,7 @@
 -- What becomes of a gateway that is tended between two shifts.
 use Rattle.std.specs.Prelude.{◌≡◌, ◌⊎◌, true, false, List, [], ◌++◌, Ok, Err}
 use Rattle.rep_op.specs.declared.op.Op.{Op}
+use Rattle.rep_ops.specs.Splitting.{all_of}
 use Rattle.jr_disk.specs.declared.disk.Disk.{Ghosts}
 use Rattle.jr_journal.specs.declared.fault.JournalFault.TheVariants as journal
 use Rattle.gw_answer.specs.declared.out.Out.{Out}
@@ -9,7 +10,7 @@ use Rattle.gw_answer.specs.declared.refusal.Refusal.TheVariants as refusals
 use Rattle.gw_node.specs.Parts.{State, is_halted}
 use Rattle.gw_node.specs.Calls.{CompactCall}
 use Rattle.gw_node.specs.Opening.{ReopenCall}
-use Rattle.gw_node.specs.Taking.{ops_of, on_disk, HasTaken}
+use Rattle.gw_node.specs.Taking.{on_disk, HasTaken}
 use Rattle.gw_main.specs.declared.tending.Tended.{Tended}
 use Rattle.gw_main.specs.declared.tending.Tended.TheVariants.{Kept, Reopened}
 
@@ -60,4 +61,4 @@ IsGivenUp {G = G} old refusal new =
 pub record TakesOn {D : Type 0} {G : Ghosts D} (old new : State G) : Type 0 where
   pub itself : (S : List Op) → HasTaken S [] old → HasTaken S [] new
   pub with_read : (S refused : List Op) → HasTaken S refused old → HasTaken S refused new
-      ⊎ HasTaken (S ++ ops_of (on_disk old)) [] new
+      ⊎ HasTaken (S ++ all_of (on_disk old)) [] new

@@ -1,3 +1,2 @@
 -- What proofs stand on and no public clause cites.
-pub mod Numbers
 pub mod Reading

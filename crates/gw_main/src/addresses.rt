@@ -1,7 +1,8 @@
 //! Addresses as `a.b.c.d:port`.
 
 ghost use Rattle.std.specs.Prelude.{◌≡◌, ◌==◌, ◌<◌, length, position, IfSome, option_map};
-ghost use Rattle.gw_main.specs.Addresses.{cut, host_from, host_of, address_of};
+ghost use Rattle.gw_main.specs.Addresses.{host_of, address_of};
+ghost use Rattle.gw_main.specs.Addresses as spec;
 
 use super::number::{number_u8, number_u16};
 use sn_local::Addr;
@@ -16,7 +17,7 @@ fn place_of(text: &[u8], mark: u8) -> Option<usize>
 
 /// What stands before the first place of an octet, and what stands behind it.
 fn cut(text: &[u8], mark: u8) -> Option<(&[u8], &[u8])>
-    ensures { option_map (λ parts. (parts.0.now, parts.1.now)) result ≡ cut mark text.now }
+    ensures { option_map (λ parts. (parts.0.now, parts.1.now)) result ≡ spec.cut mark text.now }
 {
     match place_of(text, mark) {
         None => None,
@@ -30,7 +31,7 @@ fn cut(text: &[u8], mark: u8) -> Option<(&[u8], &[u8])>
 
 /// Four numbers below 256 as a host, the first of them the highest.
 fn host_from(a: &[u8], b: &[u8], c: &[u8], d: &[u8]) -> Option<u32>
-    ensures { result ≡ host_from a.now b.now c.now d.now }
+    ensures { result ≡ spec.host_from a.now b.now c.now d.now }
 {
     let w = number_u8(a)?;
     let x = number_u8(b)?;

@@ -1,15 +1,16 @@
 //! Opening a gateway as its settings say.
 
 ghost use Rattle.std.specs.Prelude.{◌≡◌, IfOk, IfErr, length};
-ghost use Rattle.rep_model.specs.Views as spec;
+ghost use Rattle.rep_ops.specs.Splitting.{all_of};
+ghost use Rattle.rep_model.specs.Views as views;
 ghost use Rattle.jr_disk.specs.Disk.{image};
 ghost use Rattle.jr_journal.specs.Records.{records};
 ghost use Rattle.gw_node.specs.Parts.{state_of, records_of};
 ghost use Rattle.gw_answer.specs.Answers.{told};
 ghost use Rattle.gw_node.specs.Keeping.{Keeps};
-ghost use Rattle.gw_node.specs.Taking.{ops_of};
 ghost use Rattle.gw_node.specs.Opening.{IsStarted, MayRefuse};
-ghost use Rattle.gw_main.specs.Beginning.{config_of, number_of, journal_number};
+ghost use Rattle.gw_main.specs.Beginning.{journal_number};
+ghost use Rattle.gw_main.specs.Beginning as spec;
 ghost use Rattle.gw_answer.specs.declared.fault.NodeFault.TheVariants as faults;
 
 use super::options::Settings;
@@ -38,12 +39,12 @@ pub fn begin<R: Replica, D: Disk + Drop, O: Write, E: Write>(
     out: &mut O,
     err: &mut E,
 ) -> Result<Node<R, D>, u8>
-    ensures starts { IfOk result (λ node. IsStarted (config_of settings.now)
+    ensures starts { IfOk result (λ node. IsStarted (spec.config_of settings.now)
         (state_of R.kept node)) }
     ensures records { D.honest → IfOk result (λ node. records_of node
         ≡ length (records settings.now.gateway (image (D.slots disk)))) }
     ensures keeps { D.honest → IfOk result (λ node.
-        Keeps (ops_of (records settings.now.gateway (image (D.slots disk))))
+        Keeps (all_of (records settings.now.gateway (image (D.slots disk))))
         (state_of R.kept node).kept) }
     ensures status { IfErr result (λ status. status ≡ 2) }
 {
@@ -71,15 +72,15 @@ fn open<R: Replica, D: Disk + Drop>(
     settings: &Settings,
     disk: D,
 ) -> Result<(Node<R, D>, usize), NodeFault>
-    ensures starts { IfOk result (λ opened. IsStarted (config_of settings.now)
+    ensures starts { IfOk result (λ opened. IsStarted (spec.config_of settings.now)
         (state_of R.kept opened.0)) }
     ensures records { D.honest → IfOk result (λ opened. records_of opened.0
         ≡ length (records settings.now.gateway (image (D.slots disk)))) }
     ensures keeps { D.honest → IfOk result (λ opened.
-        Keeps (ops_of (records settings.now.gateway (image (D.slots disk))))
+        Keeps (all_of (records settings.now.gateway (image (D.slots disk))))
         (state_of R.kept opened.0).kept) }
     ensures clients { IfOk result (λ opened. opened.1
-        ≡ length (spec.clients (state_of R.kept opened.0).kept)) }
+        ≡ length (views.clients (state_of R.kept opened.0).kept)) }
     ensures may { IfErr result (λ fault. MayRefuse (told fault)) }
 {
     let Ok(config) = config_of(alloc, settings) else {
@@ -96,7 +97,7 @@ fn open<R: Replica, D: Disk + Drop>(
 
 /// What the gateway is told.
 fn config_of(alloc: Global, settings: &Settings) -> Result<Config, NoMemory>
-    ensures { IfOk result (λ config. config ≡ config_of settings.now) }
+    ensures { IfOk result (λ config. config ≡ spec.config_of settings.now) }
 {
     let Ok(field) = Vec::from_slice(alloc, settings.field.as_slice()) else {
         return Err(NoMemory);
@@ -116,7 +117,7 @@ fn config_of(alloc: Global, settings: &Settings) -> Result<Config, NoMemory>
 /// slots are no journal of this gateway; 3 a record is damaged, or does not fit to those before it;
 /// 4 memory ran out.
 pub fn number_of(fault: &NodeFault) -> u8
-    ensures { result ≡ number_of (told fault.now) }
+    ensures { result ≡ spec.number_of (told fault.now) }
 {
     match fault {
         NodeFault::Journal { fault } => number_of_journal(*fault),

@@ -4,7 +4,8 @@ ghost use Rattle.std.specs.Prelude.{◌≡◌, ◌≤◌, IfOk, IfErr, IfSome, S
 ghost use Rattle.toml.specs.Data.{get_member};
 ghost use Rattle.toml.specs.View.{view, table_view};
 ghost use Rattle.gw_main.specs.Addresses.{address_of};
-ghost use Rattle.gw_main.specs.Reading.{within, number_in, address_in, address_item, text_in, at};
+ghost use Rattle.gw_main.specs.Reading.{address_in, text_in, at};
+ghost use Rattle.gw_main.specs.Reading as spec;
 ghost use Rattle.gw_main.specs.inner.Reading.{IsBadAt};
 
 use super::addresses::address;
@@ -23,7 +24,7 @@ pub(crate) fn found<'a>(table: &'a Table, name: &str) -> Option<&'a Value>
 
 /// A whole number, where it is from one to another.
 fn within(number: i64, low: u64, high: u64) -> Option<u64>
-    ensures value { result ≡ within low high number }
+    ensures value { result ≡ spec.within low high number }
     ensures most { IfSome result (λ whole. whole ≤ high) }
 {
     match u64::try_from(number) {
@@ -40,7 +41,7 @@ pub(crate) fn number_in(
     missing: Option<u64>,
 ) -> Option<u64>
     requires { IfSome missing (λ number. number ≤ high) }
-    ensures value { result ≡ number_in low high missing (option_map (λ value. view value.now)
+    ensures value { result ≡ spec.number_in low high missing (option_map (λ value. view value.now)
         found.entry) }
     ensures most { IfSome result (λ number. number ≤ high) }
 {
@@ -62,10 +63,11 @@ pub(crate) fn number_at(
     missing: Option<u64>,
 ) -> Result<u64, SettingsFault>
     requires { IfSome missing (λ number. number ≤ high) }
-    ensures ok { IfOk result (λ number. number_in low high missing (at key (table_view table.now))
+    ensures ok { IfOk result
+        (λ number. spec.number_in low high missing (at key (table_view table.now))
         ≡ Some number) }
     ensures most { IfOk result (λ number. number ≤ high) }
-    ensures err { IfErr result (IsBadAt (number_in low high missing
+    ensures err { IfErr result (IsBadAt (spec.number_in low high missing
         (at key (table_view table.now))) key) }
 {
     match number_in(found(table, key.name()), low, high, missing) {
@@ -76,7 +78,7 @@ pub(crate) fn number_at(
 
 /// The address that a value writes.
 pub(crate) fn address_item(value: &Value) -> Option<Addr>
-    ensures { result ≡ address_item (view value.now) }
+    ensures { result ≡ spec.address_item (view value.now) }
 {
     match value.as_str() {
         None => None,

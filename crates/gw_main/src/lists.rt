@@ -2,7 +2,9 @@
 
 ghost use Rattle.std.specs.Prelude.{◌≡◌, ◌<◌, ◌^◌, ◌++◌, ℕ, IfOk, IfErr, IfSome, Ok, Some, None, option_map};
 ghost use Rattle.toml.specs.View.{view, items_view, table_view};
-ghost use Rattle.gw_main.specs.Reading.{each, list_in, address_item, entry_item, entry_from, name_of_text, name_in, at, predefined_in};
+ghost use Rattle.sn_topic.specs.Topics.{name_asked};
+ghost use Rattle.gw_main.specs.Reading.{each, list_in, entry_item, at, predefined_in};
+ghost use Rattle.gw_main.specs.Reading as spec;
 ghost use Rattle.gw_main.specs.inner.Reading.{IsBadAt};
 ghost use Rattle.gw_main.specs.declared.fault.Key.TheVariants as keys;
 
@@ -17,8 +19,9 @@ use toml::{Table, Value};
 /// The addresses of a list.
 #[tactic(auto, using(crate::proofs::Items::goes_on, crate::proofs::Items::stops, crate::proofs::Items::begins, crate::proofs::Items::ends))]
 fn addresses(alloc: Global, items: &[Value], key: Key) -> Result<Vec<Addr>, SettingsFault>
-    ensures ok { IfOk result (λ all. each address_item (items_view items.now) ≡ Some all.items) }
-    ensures err { IfErr result (IsBadAt (each address_item (items_view items.now)) key) }
+    ensures ok { IfOk result
+        (λ all. each spec.address_item (items_view items.now) ≡ Some all.items) }
+    ensures err { IfErr result (IsBadAt (each spec.address_item (items_view items.now)) key) }
 {
     let mut all = Vec::new(alloc);
     let mut left = items;
@@ -41,9 +44,9 @@ pub(crate) fn addresses_at(
     table: &Table,
     key: Key,
 ) -> Result<Vec<Addr>, SettingsFault>
-    ensures ok { IfOk result (λ all. list_in address_item (at key (table_view table.now))
+    ensures ok { IfOk result (λ all. list_in spec.address_item (at key (table_view table.now))
         ≡ Some all.items) }
-    ensures err { IfErr result (IsBadAt (list_in address_item
+    ensures err { IfErr result (IsBadAt (list_in spec.address_item
         (at key (table_view table.now))) key) }
 {
     match found(table, key.name()) {
@@ -58,7 +61,7 @@ pub(crate) fn addresses_at(
 /// A text as the name of a topic, where it is one.
 #[tactic(auto, using(crate::proofs::Naming::named, crate::proofs::Naming::empty, crate::proofs::Naming::too_long, crate::proofs::Naming::wild))]
 fn named(alloc: Global, text: &[u8]) -> Result<Option<TopicName>, NoMemory>
-    ensures { IfOk result (λ name. name ≡ name_of_text text.now) }
+    ensures { IfOk result (λ name. name ≡ name_asked text.now) }
 {
     match TopicName::new(alloc, text) {
         Ok(name) => Ok(Some(name)),
@@ -72,7 +75,7 @@ fn named(alloc: Global, text: &[u8]) -> Result<Option<TopicName>, NoMemory>
 
 /// The name of a topic.
 fn name_in(alloc: Global, found: Option<&Value>) -> Result<Option<TopicName>, NoMemory>
-    ensures { IfOk result (λ name. name ≡ name_in (option_map (λ value. view value.now)
+    ensures { IfOk result (λ name. name ≡ spec.name_in (option_map (λ value. view value.now)
         found.entry)) }
 {
     match found {
@@ -86,7 +89,7 @@ fn name_in(alloc: Global, found: Option<&Value>) -> Result<Option<TopicName>, No
 
 /// An id and the name that it stands for, in a table.
 fn entry_from(alloc: Global, table: &Table) -> Result<Option<(u16, TopicName)>, NoMemory>
-    ensures { IfOk result (λ entry. entry ≡ entry_from (table_view table.now)) }
+    ensures { IfOk result (λ entry. entry ≡ spec.entry_from (table_view table.now)) }
 {
     match number_in(found(table, "id"), 0, 65_535, None) {
         None => Ok(None),

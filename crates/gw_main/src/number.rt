@@ -1,8 +1,8 @@
 //! Numbers in decimal digits.
 
 ghost use Rattle.std.specs.Prelude.{◌≡◌, ◌==◌, ℕ, MatchOption, slice_index};
+ghost use Rattle.octets.specs.Decimal.{IsNumber};
 ghost use Rattle.gw_main.specs.Numbers.{number_of};
-ghost use Rattle.gw_main.specs.inner.Numbers.{IsNumber};
 
 /// The number that decimal digits write. Nothing where another octet stands among them, a sign too,
 /// where there is none, and where a `u64` cannot hold the number.

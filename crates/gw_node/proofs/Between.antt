@@ -1,7 +1,6 @@
 -- Sets between what must be kept and what was taken, with more behind them.
 use Rattle.std.proofs.Common.{◌≡◌, ℕ, Bool, true, false, cond, not, if◌then◌else◌, ◌||◌, List, [], ◌∷◌, ◌++◌, Option, Some, None, is_some, IfSome, refl, sym, ap, ◌∙◌, subst, true≢false}
 use Rattle.std.proofs.lemmas.List.{append-nil}
-use Rattle.std.proofs.lemmas.List.Concat.{flat_map-append}
 use Rattle.sn_session.specs.declared.change.SessionOp.{SessionOp}
 use Rattle.rep_op.specs.declared.op.Stamp.{Stamp}
 use Rattle.rep_op.specs.declared.op.Put.{Put}
@@ -9,6 +8,8 @@ use Rattle.rep_op.specs.declared.op.Op.{Op}
 use Rattle.rep_op.specs.declared.op.Op.TheVariants.{Session as OfSession, Put as OfPut, Ack}
 use Rattle.rep_op.specs.Orders.{operation_cmp, put_cmp}
 use Rattle.rep_op.specs.Sets.{same_client, operation_of, operation_at, put_of, put_at, is_acknowledged, Agrees, Within, Same}
+use Rattle.rep_ops.specs.Splitting.{all_of}
+use Rattle.rep_ops.proofs.Splitting.{all_of_more}
 use Rattle.rep_model.specs.Views.{visible}
 use Rattle.rep_model.specs.Keep.{is_below, keep, CountsAs}
 use Rattle.rep_model.specs.Taking.{AllAgree}
@@ -16,7 +17,7 @@ use Rattle.rep_model.proofs.Lookup.{or_else, find-all}
 use Rattle.rep_model.proofs.Readers.{operation_exact, put_exact, same_client-true, operation_at_both, put_at_both, is_acknowledged_both, operation_at_keep, put_at_keep, is_acknowledged_keep}
 use Rattle.rep_model.proofs.Thin.{thin-keep, thin-right}
 use Rattle.rep_model.proofs.Joins.{all-weaker, counts-between, same_trans, within-left}
-use Rattle.gw_node.specs.Taking.{ops_of, IsBetween}
+use Rattle.gw_node.specs.Taking.{IsBetween}
 
 -- ---- options
 
@@ -188,27 +189,24 @@ within-nothing A S h = subst (λ (U : List Op). Within A U) (append-nil S) h
 pub within-nothing_more : (A S : List Op) → Within A S → Within A (S ++ [])
 within-nothing_more A S h = subst (λ (U : List Op). Within A U) (sym (append-nil S)) h
 
-pub ops_of_more : (deltas : List (List Op)) (delta : List Op) → ops_of (deltas ++ delta ∷ []) ≡ ops_of deltas ++ delta
-ops_of_more deltas delta = flat_map-append (λ d. d) deltas (delta ∷ []) ∙ ap (λ ops. ops_of deltas ++ ops) (append-nil delta)
-
 -- with one more record, which is taken
-pub between_more : (S D : List Op) (deltas : List (List Op)) → AllAgree S D → IsBetween S [] (ops_of deltas) → IsBetween (S ++ D) [] (ops_of (deltas ++ D ∷ []))
+pub between_more : (S D : List Op) (deltas : List (List Op)) → AllAgree S D → IsBetween S [] (all_of deltas) → IsBetween (S ++ D) [] (all_of (deltas ++ D ∷ []))
 between_more S D deltas all h =
-    let J = ops_of deltas in
+    let J = all_of deltas in
     let upper = within-nothing J S h.upper in
-    subst (λ (ops : List Op). IsBetween (S ++ D) [] ops) (sym (ops_of_more deltas D))
+    subst (λ (ops : List Op). IsBetween (S ++ D) [] ops) (sym (all_of_more deltas D))
     (record { lower = lower-join S J D h.lower upper; upper = within-nothing_more (J ++ D) (S ++ D) (upper-join S J D upper all) })
 
 -- without it, or with it, where it is refused
-pub between_refused : (S D : List Op) (deltas : List (List Op)) → IsBetween S [] (ops_of deltas) → IsBetween S D (ops_of deltas)
+pub between_refused : (S D : List Op) (deltas : List (List Op)) → IsBetween S [] (all_of deltas) → IsBetween S D (all_of deltas)
 between_refused S D deltas h =
-    record { lower = h.lower; upper = within-trans (ops_of deltas) S (S ++ D) (within-nothing (ops_of deltas) S h.upper) (within-left S D) }
+    record { lower = h.lower; upper = within-trans (all_of deltas) S (S ++ D) (within-nothing (all_of deltas) S h.upper) (within-left S D) }
 
-pub between_left_over : (S D : List Op) (deltas : List (List Op)) → AllAgree S D → IsBetween S [] (ops_of deltas) → IsBetween S D (ops_of (deltas ++ D ∷ []))
+pub between_left_over : (S D : List Op) (deltas : List (List Op)) → AllAgree S D → IsBetween S [] (all_of deltas) → IsBetween S D (all_of (deltas ++ D ∷ []))
 between_left_over S D deltas all h =
-    let J = ops_of deltas in
+    let J = all_of deltas in
     let upper = within-nothing J S h.upper in
-    subst (λ (ops : List Op). IsBetween S D ops) (sym (ops_of_more deltas D))
+    subst (λ (ops : List Op). IsBetween S D ops) (sym (all_of_more deltas D))
     (record { lower = within-trans (keep S) J (J ++ D) h.lower (within-left J D); upper = upper-join S J D upper all })
 
 -- what was read back, with what was taken before

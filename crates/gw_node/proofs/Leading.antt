@@ -4,6 +4,7 @@ use Rattle.std.specs.Prelude.{IsTrue, IfOk, IfErr}
 use Rattle.rep_op.specs.declared.op.Op.{Op}
 use Rattle.rep_ops.specs.Making.{IsDeltaOf}
 use Rattle.rep_ops.specs.Spelling.{max_octets}
+use Rattle.rep_ops.specs.Splitting.{all_of}
 use Rattle.rep_digest.specs.declared.entry.ClientEntry.{ClientEntry}
 use Rattle.rep_digest.specs.Digests.{digest}
 use Rattle.rep_digest.specs.Spelling.{spelling, IsWithinLimit as IsDigestWithinLimit}
@@ -40,7 +41,7 @@ use Rattle.gw_node.specs.Opening.{ReopenCall}
 use Rattle.gw_node.specs.Parts.{State, is_halted, IsUnchanged}
 use Rattle.gw_node.specs.Plans.{IsPlanFor, Makes}
 use Rattle.gw_node.specs.Standing.{Lasts, Stands, fated, LeadsTo, OwnAgrees, Agrees, IsClear, CanBeSaid, EventOn}
-use Rattle.gw_node.specs.Taking.{ops_of, on_disk, StandsFor}
+use Rattle.gw_node.specs.Taking.{on_disk, StandsFor}
 use Rattle.gw_node.specs.Writing.{IsRewritten, IsNotRewritten, IsNumbered}
 use Rattle.gw_node.proofs.Keeping.{keeps_more}
 use Rattle.gw_node.proofs.Held.{seen_same, takable, conflict_with_taken, full_for_taken}
@@ -381,13 +382,13 @@ module _ {D : Type 0} {G : Ghosts D} (g : Gateway) (old : State G) (s : Stands g
       let next = reopened i g in
       let there = read_now l in
       let same : on_disk old ≡ records g.config.gateway i = λ j. records (s.numbered j) (image (s.slots honest j)) in
-      let keeps : Keeps (ops_of (records g.config.gateway i)) new.kept = subst (λ (ds : List (List Op)). Keeps (ops_of ds) new.kept) same (w.keeps honest) in
-      let counts = same_trans keeps.counts (as_taken next.taken (ops_of (records g.config.gateway i)) there.whole) in
+      let keeps : Keeps (all_of (records g.config.gateway i)) new.kept = subst (λ (ds : List (List Op)). Keeps (all_of ds) new.kept) same (w.keeps honest) in
+      let counts = same_trans keeps.counts (as_taken next.taken (all_of (records g.config.gateway i)) there.whole) in
       let stands : Stands next new = record {
         configured = w.config ∙ s.configured;
         numbered = w.gateway ∙ s.numbered;
         bound = w.local;
-        keeps = keeps-read next.taken (ops_of (records g.config.gateway i)) new.kept there.between there.proper keeps counts;
+        keeps = keeps-read next.taken (all_of (records g.config.gateway i)) new.kept there.between there.proper keeps counts;
         slot = (w.place honest).slot ∙ (λ j. slot_read (s.numbered j) (image (s.slots honest j)));
         halted = w.runs;
         slots = λ h. w.known h ∙ (λ j. recovered (s.numbered j) (image (s.slots h j)));

@@ -7,15 +7,15 @@ use Rattle.rep_op.specs.declared.op.Op.TheVariants.{Session as OfSession, Put as
 use Rattle.rep_ops.specs.Deltas.{IsDelta}
 use Rattle.rep_op.specs.Orders.{HasTwice, operation_cmp, put_cmp}
 use Rattle.rep_op.specs.Sets.{operation_of, operation_at, put_of, put_at, acknowledges, Stands, IsConsistent, Agrees, Within}
+use Rattle.rep_ops.specs.Splitting.{all_of}
 use Rattle.rep_ops.proofs.Joined.{rising_ascending}
 use Rattle.rep_ops.proofs.Rising.{rising_apart}
 use Rattle.rep_op.proofs.Sets.{IsIn, find_of, operation_exact, put_exact, operations_single, puts_single, any_in}
+use Rattle.rep_ops.proofs.Splitting.{all_of_more}
 use Rattle.sn_local.proofs.Entries.{same_client-itself}
 use Rattle.rep_model.specs.Taking.{AllAgree}
 use Rattle.rep_model.proofs.Joins.{all-weaker}
 use Rattle.rep_model.proofs.Agreeing.{consistent-together}
-use Rattle.gw_node.specs.Taking.{ops_of}
-use Rattle.gw_node.proofs.Between.{ops_of_more}
 
 -- ---- a delta
 
@@ -52,7 +52,7 @@ agrees_part J S w (Ack c origin first last) h = tt
 
 -- ---- one more record
 
-pub proper_more : (S delta : List Op) (deltas : List (List Op)) → AllAgree S delta → IsConsistent delta → Within (ops_of deltas) S → IsConsistent (ops_of deltas) → IsConsistent (ops_of (deltas ++ delta ∷ []))
+pub proper_more : (S delta : List Op) (deltas : List (List Op)) → AllAgree S delta → IsConsistent delta → Within (all_of deltas) S → IsConsistent (all_of deltas) → IsConsistent (all_of (deltas ++ delta ∷ []))
 proper_more S delta deltas all proper within h =
-    subst IsConsistent (sym (ops_of_more deltas delta))
-    (consistent-together (ops_of deltas) delta h proper (all-weaker (Agrees S) (Agrees (ops_of deltas)) (agrees_part (ops_of deltas) S within) delta all))
+    subst IsConsistent (sym (all_of_more deltas delta))
+    (consistent-together (all_of deltas) delta h proper (all-weaker (Agrees S) (Agrees (all_of deltas)) (agrees_part (all_of deltas) S within) delta all))

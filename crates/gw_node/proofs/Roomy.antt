@@ -8,31 +8,31 @@ use Rattle.std.proofs.lemmas.List.Elements.{All-from_recursion, All-contains, Co
 use Rattle.rep_op.specs.declared.op.Op.{Op}
 use Rattle.rep_op.specs.declared.op.Op.TheVariants.{Session as OfSession, Put as OfPut, Ack}
 use Rattle.rep_op.specs.Sets.{operation_at, put_at, Stands, Agrees, IsConsistent}
+use Rattle.rep_ops.specs.Splitting.{all_of}
+use Rattle.rep_ops.proofs.Splitting.{all_of_more}
 use Rattle.rep_model.specs.Keep.{CountsAs}
 use Rattle.rep_model.specs.Limits.{first_passed}
 use Rattle.rep_model.specs.Roomy.{IsRoomy}
 use Rattle.rep_model.proofs.Limits.{first_passed-counts, first_passed-more}
 use Rattle.gw_answer.specs.declared.refusal.Refusal.TheVariants as refusals
-use Rattle.gw_node.specs.Taking.{ops_of}
 use Rattle.gw_node.specs.Keeping.{Keeps}
 use Rattle.gw_node.specs.Opening.{HasMisfit}
-use Rattle.gw_node.proofs.Between.{ops_of_more}
 
 -- ---- all records, and one more
 
-pub all_room : (deltas : List (List Op)) → IsRoomy deltas → first_passed (ops_of deltas) ≡ None
-all_room deltas roomy = sym (ap (λ ds. first_passed (ops_of ds)) (take_all (length deltas) deltas (omega arith))) ∙ roomy (length deltas)
+pub all_room : (deltas : List (List Op)) → IsRoomy deltas → first_passed (all_of deltas) ≡ None
+all_room deltas roomy = sym (ap (λ ds. first_passed (all_of ds)) (take_all (length deltas) deltas (omega arith))) ∙ roomy (length deltas)
 
 -- what is kept of the records passes no limit
-pub kept_room : (S K : List Op) (deltas : List (List Op)) → CountsAs S K → CountsAs S (ops_of deltas) → IsRoomy deltas → first_passed K ≡ None
-kept_room S K deltas kept counts roomy = first_passed-counts S K kept ∙ (sym (first_passed-counts S (ops_of deltas) counts) ∙ all_room deltas roomy)
+pub kept_room : (S K : List Op) (deltas : List (List Op)) → CountsAs S K → CountsAs S (all_of deltas) → IsRoomy deltas → first_passed K ≡ None
+kept_room S K deltas kept counts roomy = first_passed-counts S K kept ∙ (sym (first_passed-counts S (all_of deltas) counts) ∙ all_room deltas roomy)
 
-pub roomy_more : (S K delta : List Op) (deltas : List (List Op)) → CountsAs S K → CountsAs S (ops_of deltas) → first_passed (K ++ delta) ≡ None → IsRoomy deltas → IsRoomy (deltas ++ delta ∷ [])
+pub roomy_more : (S K delta : List Op) (deltas : List (List Op)) → CountsAs S K → CountsAs S (all_of deltas) → first_passed (K ++ delta) ≡ None → IsRoomy deltas → IsRoomy (deltas ++ delta ∷ [])
 roomy_more S K delta deltas kept counts room roomy k = elim (cases_lt (length deltas) k) [
   | inl lt ↦
-      ap (λ ds. first_passed (ops_of ds)) (take_all k (deltas ++ delta ∷ []) (omega (arith, length-append deltas (delta ∷ []))))
-      ∙ (ap first_passed (ops_of_more deltas delta) ∙ (first_passed-more S (ops_of deltas) delta counts ∙ (sym (first_passed-more S K delta kept) ∙ room)))
-  | inr le ↦ ap (λ ds. first_passed (ops_of ds)) (take-append-le k deltas (delta ∷ []) le) ∙ roomy k
+      ap (λ ds. first_passed (all_of ds)) (take_all k (deltas ++ delta ∷ []) (omega (arith, length-append deltas (delta ∷ []))))
+      ∙ (ap first_passed (all_of_more deltas delta) ∙ (first_passed-more S (all_of deltas) delta counts ∙ (sym (first_passed-more S K delta kept) ∙ room)))
+  | inr le ↦ ap (λ ds. first_passed (all_of ds)) (take-append-le k deltas (delta ∷ []) le) ∙ roomy k
 ]
 
 -- ---- each record fits to those before it
@@ -47,15 +47,15 @@ parted [] k d e = absurd (none-some d e)
 parted (x ∷ ds) zero d e = ap (λ y. y ∷ ds) (same_Some x d e)
 parted (x ∷ ds) (suc k) d e = ap (λ ys. x ∷ ys) (parted ds k d e)
 
-all_parted : (ds : List (List Op)) (k : ℕ) (d : List Op) → slice_get ds k ≡ Some d → ops_of ds ≡ ops_of (take k ds) ++ (d ++ ops_of (drop (suc k) ds))
-all_parted ds k d e = ap ops_of (parted ds k d e) ∙ flat_map-append (λ (x : List Op). x) (take k ds) (d ∷ drop (suc k) ds)
+all_parted : (ds : List (List Op)) (k : ℕ) (d : List Op) → slice_get ds k ≡ Some d → all_of ds ≡ all_of (take k ds) ++ (d ++ all_of (drop (suc k) ds))
+all_parted ds k d e = ap all_of (parted ds k d e) ∙ flat_map-append (λ (x : List Op). x) (take k ds) (d ∷ drop (suc k) ds)
 
 pub no_full : (ds : List (List Op)) → IsRoomy ds → HasMisfit ds refusals.Full → ⊥
 no_full ds roomy h =
-    let before = ops_of (take h.before ds) in
+    let before = all_of (take h.before ds) in
     let limit = h.misfit.0 in
     let room : first_passed (before ++ h.delta) ≡ None =
-    sym (ap first_passed (ap ops_of (one_more ds h.before h.delta h.delta_is) ∙ ops_of_more (take h.before ds) h.delta)) ∙ roomy (suc h.before) in
+    sym (ap first_passed (ap all_of (one_more ds h.before h.delta h.delta_is) ∙ all_of_more (take h.before ds) h.delta)) ∙ roomy (suc h.before) in
     none-some limit (sym room ∙ (sym (first_passed-more before h.kept h.delta h.keeps.counts) ∙ h.misfit.1.1))
 
 -- ---- and contradicts nothing
@@ -79,10 +79,10 @@ module _ (W J K : List Op) (proper : IsConsistent W) (inside : (op : Op) → Con
       ] refl
   agrees_kept (Ack c origin first last) place = tt
 
-pub no_conflict : (ds : List (List Op)) → IsConsistent (ops_of ds) → (client : List ℕ) → HasMisfit ds (refusals.Conflict client) → ⊥
+pub no_conflict : (ds : List (List Op)) → IsConsistent (all_of ds) → (client : List ℕ) → HasMisfit ds (refusals.Conflict client) → ⊥
 no_conflict ds proper client h =
-    let before = ops_of (take h.before ds) in
-    let rest = ops_of (drop (suc h.before) ds) in
+    let before = all_of (take h.before ds) in
+    let rest = all_of (drop (suc h.before) ds) in
     let op = h.misfit.0 in
     h.misfit.3
     (agrees_kept (before ++ (h.delta ++ rest)) before h.kept (subst IsConsistent (all_parted ds h.before h.delta h.delta_is) proper)

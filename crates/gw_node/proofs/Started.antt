@@ -3,6 +3,8 @@ use Rattle.std.proofs.Common.{◌≡◌, ℕ, ◌+◌, false, slice_get, List, [
 use Rattle.std.proofs.lemmas.List.{drop_all, drop_more, take_more}
 use Rattle.std.proofs.lemmas.Option.{none-some}
 use Rattle.rep_op.specs.declared.op.Op.{Op}
+use Rattle.rep_ops.specs.Splitting.{all_of}
+use Rattle.rep_ops.proofs.Splitting.{all_of_more}
 use Rattle.rep_model.specs.Keep.{CountsAs, IsKeptOf}
 use Rattle.rep_model.specs.Taking.{Fits}
 use Rattle.rep_model.proofs.Joins.{counts-join}
@@ -27,26 +29,25 @@ use Rattle.gw_node.specs.Parts.{State, state_of}
 use Rattle.gw_answer.specs.Answers.{only_sends}
 use Rattle.gw_node.specs.inner.Writing.{refusal_of}
 use Rattle.gw_node.specs.Plans.{IsMisfit}
-use Rattle.gw_node.specs.Taking.{ops_of, StandsFor, HasTaken}
+use Rattle.gw_node.specs.Taking.{StandsFor, HasTaken}
 use Rattle.gw_node.specs.Opening.{IsStarted, GoesOnIn, FitInTurn, HasMisfit, IsOpenFault, IsDiskFault, MayRefuse, LeavesSlots}
 use Rattle.gw_node.specs.inner.Opening.{DoNotFit}
 use Rattle.gw_node.specs.Keeping.{Keeps}
 use Rattle.gw_node.proofs.Keeping.{keeps_more}
-use Rattle.gw_node.proofs.Between.{ops_of_more}
 use Rattle.gw_node.proofs.Roomy.{no_full, no_conflict}
 use Rattle.gw_node.proofs.Taken.{StandFor, records_stand, read_again, read_back, all_left}
 
 -- ---- deltas, one after the other
 
-pub counts_one_more : (deltas : List (List Op)) (delta kept next : List Op) → CountsAs (ops_of deltas) kept → IsKeptOf (kept ++ delta) next → CountsAs (ops_of (deltas ++ delta ∷ [])) next
+pub counts_one_more : (deltas : List (List Op)) (delta kept next : List Op) → CountsAs (all_of deltas) kept → IsKeptOf (kept ++ delta) next → CountsAs (all_of (deltas ++ delta ∷ [])) next
 counts_one_more deltas delta kept next counts h =
-    subst (λ (ops : List Op). CountsAs ops next) (sym (ops_of_more deltas delta)) (counts-join (ops_of deltas) kept delta next counts h)
+    subst (λ (ops : List Op). CountsAs ops next) (sym (all_of_more deltas delta)) (counts-join (all_of deltas) kept delta next counts h)
 
-pub keeps_one_more : (deltas : List (List Op)) (delta kept next : List Op) → Keeps (ops_of deltas) kept → IsKeptOf (kept ++ delta) next → Keeps (ops_of (deltas ++ delta ∷ [])) next
+pub keeps_one_more : (deltas : List (List Op)) (delta kept next : List Op) → Keeps (all_of deltas) kept → IsKeptOf (kept ++ delta) next → Keeps (all_of (deltas ++ delta ∷ [])) next
 keeps_one_more deltas delta kept next keeps h =
-    subst (λ (ops : List Op). Keeps ops next) (sym (ops_of_more deltas delta)) (keeps_more (ops_of deltas) kept delta next keeps h)
+    subst (λ (ops : List Op). Keeps ops next) (sym (all_of_more deltas delta)) (keeps_more (all_of deltas) kept delta next keeps h)
 
-pub do_not_fit : (deltas : List (List Op)) (before : ℕ) (delta kept : List Op) (refusal : Refusal) → slice_get deltas before ≡ Some delta → Keeps (ops_of (take before deltas)) kept → IsMisfit kept delta refusal → DoNotFit deltas refusal
+pub do_not_fit : (deltas : List (List Op)) (before : ℕ) (delta kept : List Op) (refusal : Refusal) → slice_get deltas before ≡ Some delta → Keeps (all_of (take before deltas)) kept → IsMisfit kept delta refusal → DoNotFit deltas refusal
 do_not_fit deltas before delta kept (refusals.Conflict client) is keeps h = record { before = before; delta = delta; delta_is = is; kept = kept; keeps = keeps; misfit = h }
 do_not_fit deltas before delta kept refusals.Full is keeps h = record { before = before; delta = delta; delta_is = is; kept = kept; keeps = keeps; misfit = h }
 do_not_fit deltas before delta kept refusals.Memory is keeps h = tt
@@ -57,17 +58,17 @@ do_not_fit deltas before delta kept refusals.Exhausted is keeps h = absurd h
 do_not_fit deltas before delta kept (refusals.Journal fault) is keeps h = absurd h
 
 -- the deltas from a place on fit where this one fits and those behind it
-pub fit_one_more : (deltas : List (List Op)) (i : ℕ) (delta kept : List Op) → i < length deltas → delta ≡ get_or deltas i delta → Keeps (ops_of (take i deltas)) kept → Fits kept delta
-    → FitInTurn (ops_of (take (i + 1) deltas)) (drop (i + 1) deltas) → FitInTurn (ops_of (take i deltas)) (drop i deltas)
+pub fit_one_more : (deltas : List (List Op)) (i : ℕ) (delta kept : List Op) → i < length deltas → delta ≡ get_or deltas i delta → Keeps (all_of (take i deltas)) kept → Fits kept delta
+    → FitInTurn (all_of (take (i + 1) deltas)) (drop (i + 1) deltas) → FitInTurn (all_of (take i deltas)) (drop i deltas)
 fit_one_more deltas i delta kept within is keeps fits rest =
-    let more : ops_of (take (i + 1) deltas) ≡ ops_of (take i deltas) ++ delta =
-    ap ops_of (take_more deltas i delta within ∙ ap (λ x. take i deltas ++ x ∷ []) (sym is)) ∙ ops_of_more (take i deltas) delta in
+    let more : all_of (take (i + 1) deltas) ≡ all_of (take i deltas) ++ delta =
+    ap all_of (take_more deltas i delta within ∙ ap (λ x. take i deltas ++ x ∷ []) (sym is)) ∙ all_of_more (take i deltas) delta in
     let from : drop i deltas ≡ delta ∷ drop (i + 1) deltas = drop_more deltas i delta within ∙ ap (λ x. x ∷ drop (i + 1) deltas) (sym is) in
-    subst (λ (ds : List (List Op)). FitInTurn (ops_of (take i deltas)) ds) (sym from)
+    subst (λ (ds : List (List Op)). FitInTurn (all_of (take i deltas)) ds) (sym from)
     ((kept, keeps, fits), subst (λ (S : List Op). FitInTurn S (drop (i + 1) deltas)) more rest)
 
-pub fit_at_the_end : (deltas : List (List Op)) (i : ℕ) → length deltas ≤ i → FitInTurn (ops_of (take i deltas)) (drop i deltas)
-fit_at_the_end deltas i past = subst (λ (ds : List (List Op)). FitInTurn (ops_of (take i deltas)) ds) (sym (drop_all i deltas past)) tt
+pub fit_at_the_end : (deltas : List (List Op)) (i : ℕ) → length deltas ≤ i → FitInTurn (all_of (take i deltas)) (drop i deltas)
+fit_at_the_end deltas i past = subst (λ (ds : List (List Op)). FitInTurn (all_of (take i deltas)) ds) (sym (drop_all i deltas past)) tt
 
 -- ---- refusals
 
@@ -149,18 +150,18 @@ module _ {D : Type 0} {G : Ghosts D} where
   -- ---- the answer of an opening
 
   pub takes_kept : {R Z E : Type 0} {P : Promises R Z} (kept : R → List Op) (r : Result (Node R D Z P G) E) (deltas : List (List Op))
-      → IfOk r (λ node. Keeps (ops_of deltas) (state_of kept node).kept) → IfOk r (λ node. CountsAs (ops_of deltas) (state_of kept node).kept)
+      → IfOk r (λ node. Keeps (all_of deltas) (state_of kept node).kept) → IfOk r (λ node. CountsAs (all_of deltas) (state_of kept node).kept)
   takes_kept kept (Ok node) deltas h = h.counts
   takes_kept kept (Err e) deltas h = tt
 
   pub opened_takes : {R Z E : Type 0} {P : Promises R Z} (kept : R → List Op) (r : Result (Node R D Z P G) E) (gateway : ℕ) (old : Slots) (deltas : List (List Op)) → deltas ≡ records gateway (image old)
-      → IfOk r (λ node. CountsAs (ops_of deltas) (state_of kept node).kept) → IfOk r (λ node. CountsAs (ops_of (records gateway (image old))) (state_of kept node).kept)
-  opened_takes kept (Ok node) gateway old deltas is h = subst (λ (ds : List (List Op)). CountsAs (ops_of ds) (state_of kept node).kept) is h
+      → IfOk r (λ node. CountsAs (all_of deltas) (state_of kept node).kept) → IfOk r (λ node. CountsAs (all_of (records gateway (image old))) (state_of kept node).kept)
+  opened_takes kept (Ok node) gateway old deltas is h = subst (λ (ds : List (List Op)). CountsAs (all_of ds) (state_of kept node).kept) is h
   opened_takes kept (Err e) gateway old deltas is h = tt
 
   pub opened_keeps : {R Z E : Type 0} {P : Promises R Z} (kept : R → List Op) (r : Result (Node R D Z P G) E) (gateway : ℕ) (old : Slots) (deltas : List (List Op)) → deltas ≡ records gateway (image old)
-      → IfOk r (λ node. Keeps (ops_of deltas) (state_of kept node).kept) → IfOk r (λ node. Keeps (ops_of (records gateway (image old))) (state_of kept node).kept)
-  opened_keeps kept (Ok node) gateway old deltas is h = subst (λ (ds : List (List Op)). Keeps (ops_of ds) (state_of kept node).kept) is h
+      → IfOk r (λ node. Keeps (all_of deltas) (state_of kept node).kept) → IfOk r (λ node. Keeps (all_of (records gateway (image old))) (state_of kept node).kept)
+  opened_keeps kept (Ok node) gateway old deltas is h = subst (λ (ds : List (List Op)). Keeps (all_of ds) (state_of kept node).kept) is h
   opened_keeps kept (Err e) gateway old deltas is h = tt
 
   pub opened_none : {R Z E : Type 0} {P : Promises R Z} (kept : R → List Op) (r : Result (Node R D Z P G) E) (gateway : ℕ) (old : Slots) (deltas : List (List Op)) → deltas ≡ records gateway (image old)
@@ -170,10 +171,10 @@ module _ {D : Type 0} {G : Ghosts D} where
 
   pub opened_again : {R Z E : Type 0} {P : Promises R Z} (kept : R → List Op) (r : Result (Node R D Z P G) E) (journal : Journal D G) (gateway : ℕ) (old : Slots) (deltas : List (List Op))
       → gateway_of journal ≡ gateway → deltas ≡ records gateway (image old) → Leaves gateway (G.slots (disk_of journal)) deltas
-      → IfOk r (λ node. (state_of kept node).journal ≡ journal) → IfOk r (λ node. Keeps (ops_of deltas) (state_of kept node).kept)
-      → IfOk r (λ node. (S refused : List Op) → StandsFor gateway S refused (image old) → HasTaken (S ++ ops_of (records gateway (image old))) [] (state_of kept node))
+      → IfOk r (λ node. (state_of kept node).journal ≡ journal) → IfOk r (λ node. Keeps (all_of deltas) (state_of kept node).kept)
+      → IfOk r (λ node. (S refused : List Op) → StandsFor gateway S refused (image old) → HasTaken (S ++ all_of (records gateway (image old))) [] (state_of kept node))
   opened_again kept (Ok node) journal gateway old deltas same is leaves journal_is keeps = λ S refused h.
-      subst (λ (ds : List (List Op)). HasTaken (S ++ ops_of ds) [] (state_of kept node)) is
+      subst (λ (ds : List (List Op)). HasTaken (S ++ all_of ds) [] (state_of kept node)) is
       (read_again (state_of kept node) gateway deltas S refused (ap gateway_of journal_is ∙ same) keeps.counts
       (λ honest. subst (λ (j : Journal D G). Leaves gateway (G.slots (disk_of j)) deltas) (sym journal_is) leaves)
       (subst (λ (ds : List (List Op)). StandFor S refused ds) (sym is) (records_stand gateway S refused (image old) h)))
@@ -181,7 +182,7 @@ module _ {D : Type 0} {G : Ghosts D} where
 
   pub opened_back : {R Z E : Type 0} {P : Promises R Z} (kept : R → List Op) (r : Result (Node R D Z P G) E) (journal : Journal D G) (gateway : ℕ) (old : Slots) (deltas : List (List Op))
       → gateway_of journal ≡ gateway → deltas ≡ records gateway (image old) → Leaves gateway (G.slots (disk_of journal)) deltas
-      → IfOk r (λ node. (state_of kept node).journal ≡ journal) → IfOk r (λ node. Keeps (ops_of deltas) (state_of kept node).kept)
+      → IfOk r (λ node. (state_of kept node).journal ≡ journal) → IfOk r (λ node. Keeps (all_of deltas) (state_of kept node).kept)
       → IfOk r (λ node. (S : List Op) → StandsFor gateway S [] (image old) → HasTaken S [] (state_of kept node))
   opened_back kept (Ok node) journal gateway old deltas same is leaves journal_is keeps = λ S h.
       read_back (state_of kept node) gateway deltas S (ap gateway_of journal_is ∙ same) keeps.counts

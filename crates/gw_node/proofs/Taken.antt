@@ -4,6 +4,8 @@ use Rattle.std.proofs.lemmas.List.{append-nil, take_all}
 use Rattle.rep_op.specs.declared.op.Op.{Op}
 use Rattle.rep_ops.specs.Deltas.{IsDelta}
 use Rattle.rep_op.specs.Sets.{IsConsistent, Same}
+use Rattle.rep_ops.specs.Splitting.{all_of}
+use Rattle.rep_ops.proofs.Splitting.{all_of_more}
 use Rattle.rep_model.specs.Held.{IsHeld}
 use Rattle.rep_model.specs.Keep.{keep, CountsAs, IsKeptOf}
 use Rattle.rep_model.specs.Roomy.{IsRoomy}
@@ -29,11 +31,11 @@ use Rattle.gw_node.specs.Occasions.{Occasion, Datagram, Clock}
 use Rattle.gw_node.specs.Parts.{State, is_halted, IsUnchanged, IsUntouched}
 use Rattle.gw_node.specs.Writing.{IsWritten, IsFailed, IsRewritten, IsNotRewritten}
 use Rattle.gw_node.specs.Plans.{Makes}
-use Rattle.gw_node.specs.Taking.{ops_of, on_disk, IsBetween, IsWhole, StandsFor, HasTaken}
+use Rattle.gw_node.specs.Taking.{on_disk, IsBetween, IsWhole, StandsFor, HasTaken}
 use Rattle.gw_node.specs.Opening.{IsReopened, IsNotReopened, ReopenCall}
 use Rattle.gw_node.specs.Carrying.{TakesMore, TakesNoMore, TakesNothing, TakesAgain, made_by, CarriesOn, OwnCarriesOn, ReopenCarriesOn, StepCarriesOn}
 use Rattle.gw_node.specs.Calls.{OwnCall, TakeCall, ViewCall, DigestCall, AnswerCall, CompactCall, StepCall, IsNoted}
-use Rattle.gw_node.proofs.Between.{ops_of_more, between_more, between_refused, between_left_over, between_again, counts_back, counts_again, within-trans, within-nothing, within-nothing_more, within-same, within-keep}
+use Rattle.gw_node.proofs.Between.{between_more, between_refused, between_left_over, between_again, counts_back, counts_again, within-trans, within-nothing, within-nothing_more, within-same, within-keep}
 use Rattle.gw_node.proofs.Proper.{delta_consistent, proper_more}
 use Rattle.gw_node.proofs.Roomy.{kept_room, roomy_more}
 
@@ -56,10 +58,10 @@ stands_at gateway S refused d h =
 
 -- what the records of a journal stand for
 pub record StandFor (S refused : List Op) (deltas : List (List Op)) : Type 0 where
-  pub between : IsBetween S refused (ops_of deltas)
-  pub whole : IsWhole S refused (ops_of deltas)
+  pub between : IsBetween S refused (all_of deltas)
+  pub whole : IsWhole S refused (all_of deltas)
   pub roomy : IsRoomy deltas
-  pub proper : IsConsistent (ops_of deltas)
+  pub proper : IsConsistent (all_of deltas)
 
 pub records_stand : (gateway : ℕ) (S refused : List Op) (i : Image) → StandsFor gateway S refused i → StandFor S refused (records gateway i)
 records_stand gateway S refused i h = record { between = h.between; whole = h.whole; roomy = h.roomy; proper = h.proper }
@@ -96,10 +98,10 @@ begun_still : (gateway : ℕ) (old new : Slots) → LeavesNoMore gateway old new
 begun_still gateway old new leaves h = λ k l. let a = leaves k l in a.1.1.2 (h a.0 a.1.0)
 
 -- with one record more
-one_more : (S D : List Op) (deltas : List (List Op)) → CountsAs S (ops_of deltas) → CountsAs (S ++ D) (ops_of (deltas ++ D ∷ []))
+one_more : (S D : List Op) (deltas : List (List Op)) → CountsAs S (all_of deltas) → CountsAs (S ++ D) (all_of (deltas ++ D ∷ []))
 one_more S D deltas h =
-    subst (λ (ops : List Op). CountsAs (S ++ D) ops) (sym (ops_of_more deltas D))
-    (counts-more S (ops_of deltas) D h)
+    subst (λ (ops : List Op). CountsAs (S ++ D) ops) (sym (all_of_more deltas D))
+    (counts-more S (all_of deltas) D h)
 
 -- ---- a delta that may be written behind records
 
@@ -111,14 +113,14 @@ pub record MayFollow (S kept D : List Op) (deltas : List (List Op)) : Type 0 whe
   pub now : StandFor S [] deltas
 
 module _ (S kept D : List Op) (deltas : List (List Op)) (h : MayFollow S kept D deltas) where
-  counted : CountsAs S (ops_of deltas)
-  counted = as_taken S (ops_of deltas) h.now.whole
+  counted : CountsAs S (all_of deltas)
+  counted = as_taken S (all_of deltas) h.now.whole
 
   room_then : IsRoomy (deltas ++ D ∷ [])
   room_then = roomy_more S kept D deltas h.counts counted h.fits.within h.now.roomy
 
-  proper_then : IsConsistent (ops_of (deltas ++ D ∷ []))
-  proper_then = proper_more S D deltas h.agrees (delta_consistent D h.delta) (within-nothing (ops_of deltas) S h.now.between.upper) h.now.proper
+  proper_then : IsConsistent (all_of (deltas ++ D ∷ []))
+  proper_then = proper_more S D deltas h.agrees (delta_consistent D h.delta) (within-nothing (all_of deltas) S h.now.between.upper) h.now.proper
 
   pub taken_then : StandFor (S ++ D) [] (deltas ++ D ∷ [])
   taken_then = record { between = between_more S D deltas h.agrees h.now.between; whole = inl (one_more S D deltas counted); roomy = room_then; proper = proper_then }
@@ -140,14 +142,14 @@ at_gateway a b S refused d same h = subst (λ (g : ℕ). EachCrash (λ i. Stands
 
 pub base_now : (S kept : List Op) (base deltas : List (List Op)) → IsHeld kept base → CountsAs S kept → StandFor S [] deltas → StandFor S [] base
 base_now S kept base deltas (W, is, split) counts h =
-    let same : Same (ops_of base) (keep S) = same_trans (subst (λ (ops : List Op). Same ops (keep kept)) (sym split.whole) is.same) counts in
+    let same : Same (all_of base) (keep S) = same_trans (subst (λ (ops : List Op). Same ops (keep kept)) (sym split.whole) is.same) counts in
     record {
       between = record {
-        lower = within-same (keep S) (ops_of base) (same_sym same);
-        upper = within-nothing_more (ops_of base) S (within-trans (ops_of base) (keep S) S (within-same (ops_of base) (keep S) same) (within-keep S));
+        lower = within-same (keep S) (all_of base) (same_sym same);
+        upper = within-nothing_more (all_of base) S (within-trans (all_of base) (keep S) S (within-same (all_of base) (keep S) same) (within-keep S));
       };
       whole = inl (same_trans (base_counts kept base (W, is, split)) counts);
-      roomy = base_is_roomy kept base (W, is, split) (kept_room S kept deltas counts (as_taken S (ops_of deltas) h.whole) h.roomy);
+      roomy = base_is_roomy kept base (W, is, split) (kept_room S kept deltas counts (as_taken S (all_of deltas) h.whole) h.roomy);
       proper = subst IsConsistent (sym split.whole) (delta_consistent W is.delta);
     }
 
@@ -161,10 +163,10 @@ either_stands gateway S refused deltas base i h b (inr opens) = opened gateway S
 
 -- ---- records that are read once more
 
-stand_again : (S refused : List Op) (deltas : List (List Op)) → StandFor S refused deltas → StandFor (S ++ ops_of deltas) [] deltas
+stand_again : (S refused : List Op) (deltas : List (List Op)) → StandFor S refused deltas → StandFor (S ++ all_of deltas) [] deltas
 stand_again S refused deltas h = record {
-  between = between_again S refused (ops_of deltas) h.between;
-  whole = inl (counts_back S refused (ops_of deltas) h.between);
+  between = between_again S refused (all_of deltas) h.between;
+  whole = inl (counts_back S refused (all_of deltas) h.between);
   roomy = h.roomy;
   proper = h.proper;
 }
@@ -193,22 +195,22 @@ module _ {D : Type 0} {G : Ghosts D} where
   -- ---- what was read
 
   -- beside what had been taken before
-  pub read_again : (state : State G) (gateway : ℕ) (deltas : List (List Op)) (S refused : List Op) → gateway_of state.journal ≡ gateway → CountsAs (ops_of deltas) state.kept
-      → (G.honest → Leaves gateway (G.slots (disk_of state.journal)) deltas) → StandFor S refused deltas → HasTaken (S ++ ops_of deltas) [] state
+  pub read_again : (state : State G) (gateway : ℕ) (deltas : List (List Op)) (S refused : List Op) → gateway_of state.journal ≡ gateway → CountsAs (all_of deltas) state.kept
+      → (G.honest → Leaves gateway (G.slots (disk_of state.journal)) deltas) → StandFor S refused deltas → HasTaken (S ++ all_of deltas) [] state
   read_again state gateway deltas S refused same counts leaves h = record {
-    counts = counts_again S refused (ops_of deltas) state.kept h.between counts;
+    counts = counts_again S refused (all_of deltas) state.kept h.between counts;
     quiet = λ _. refl;
     images = λ honest.
-        at_gateway gateway (gateway_of state.journal) (S ++ ops_of deltas) [] (G.slots (disk_of state.journal)) same
-        (λ k l. opened gateway (S ++ ops_of deltas) [] deltas (after_crash k l (G.slots (disk_of state.journal))) (leaves honest k l) (stand_again S refused deltas h));
+        at_gateway gateway (gateway_of state.journal) (S ++ all_of deltas) [] (G.slots (disk_of state.journal)) same
+        (λ k l. opened gateway (S ++ all_of deltas) [] deltas (after_crash k l (G.slots (disk_of state.journal))) (leaves honest k l) (stand_again S refused deltas h));
     begun = λ honest. begun_all gateway (G.slots (disk_of state.journal)) deltas (leaves honest);
   }
 
   -- where nothing was refused it is what had been taken
-  pub read_back : (state : State G) (gateway : ℕ) (deltas : List (List Op)) (S : List Op) → gateway_of state.journal ≡ gateway → CountsAs (ops_of deltas) state.kept
+  pub read_back : (state : State G) (gateway : ℕ) (deltas : List (List Op)) (S : List Op) → gateway_of state.journal ≡ gateway → CountsAs (all_of deltas) state.kept
       → (G.honest → Leaves gateway (G.slots (disk_of state.journal)) deltas) → StandFor S [] deltas → HasTaken S [] state
   read_back state gateway deltas S same counts leaves h = record {
-    counts = same_trans counts (as_taken S (ops_of deltas) h.whole);
+    counts = same_trans counts (as_taken S (all_of deltas) h.whole);
     quiet = λ _. refl;
     images = λ honest.
         at_gateway gateway (gateway_of state.journal) S [] (G.slots (disk_of state.journal)) same

@@ -2,6 +2,7 @@
 use Rattle.std.specs.Prelude.{ℕ, List, [], ◌++◌, Option, Some, None, Result, Ok, Err}
 use Rattle.rep_op.specs.declared.op.Op.{Op}
 use Rattle.rep_ops.specs.Making.{IsDeltaOf}
+use Rattle.rep_ops.specs.Splitting.{all_of}
 use Rattle.rep_model.specs.Taking.{AllAgree}
 use Rattle.sn_plan.specs.declared.plan.Plan.{Plan}
 use Rattle.jr_disk.specs.declared.disk.Disk.{Ghosts}
@@ -13,7 +14,7 @@ use Rattle.gw_answer.specs.declared.step.Step.TheVariants as steps
 use Rattle.gw_node.specs.Occasions.{Occasion, Datagram, Clock}
 use Rattle.gw_node.specs.Parts.{State}
 use Rattle.gw_node.specs.Plans.{IsPlanFor}
-use Rattle.gw_node.specs.Taking.{ops_of, on_disk, HasTaken}
+use Rattle.gw_node.specs.Taking.{on_disk, HasTaken}
 
 -- the set that was taken before, with the delta, where the delta contradicts nothing of it
 abbrev pub TakesMore : {D : Type 0} {G : Ghosts D} → State G → List Op → State G → Type 0
@@ -33,7 +34,7 @@ TakesNothing old new = (S refused : List Op) → HasTaken S refused old → HasT
 -- itself
 pub record TakesAgain {D : Type 0} {G : Ghosts D} (old new : State G) : Type 0 where
   pub with_read : G.honest → (S refused : List Op) → HasTaken S refused old
-      → HasTaken (S ++ ops_of (on_disk old)) [] new
+      → HasTaken (S ++ all_of (on_disk old)) [] new
   pub itself : G.honest → (S : List Op) → HasTaken S [] old → HasTaken S [] new
 
 abbrev pub made_by : Option (List Op) → List Op

@@ -1,6 +1,7 @@
 -- Opening a node: it takes what its journal holds.
 use Rattle.std.specs.Prelude.{◌≡◌, ◌≢◌, ◌⊎◌, ◌≤◌, ◌<◌, ℕ, true, false, IsTrue, List, [], ◌∷◌, ◌++◌, length, Some, None, take, slice_get, Result, Ok, Err}
 use Rattle.rep_op.specs.declared.op.Op.{Op}
+use Rattle.rep_ops.specs.Splitting.{all_of}
 use Rattle.rep_model.specs.Taking.{Fits}
 use Rattle.sn_local.specs.declared.config.Config.{Config}
 use Rattle.sn_local.specs.Locals.{no_local}
@@ -18,7 +19,7 @@ use Rattle.gw_node.specs.Parts.{State, is_halted}
 use Rattle.gw_answer.specs.Answers.{only_sends}
 use Rattle.gw_node.specs.Plans.{IsMisfit}
 use Rattle.gw_node.specs.Keeping.{Keeps}
-use Rattle.gw_node.specs.Taking.{ops_of, on_disk}
+use Rattle.gw_node.specs.Taking.{on_disk}
 
 -- a node that was just opened: it is not halted, and knows nothing but what its replica keeps
 pub record IsStarted {D : Type 0} {G : Ghosts D} (config : Config) (state : State G) : Type 0 where
@@ -39,7 +40,7 @@ pub record HasMisfit (deltas : List (List Op)) (refusal : Refusal) : Type 0 wher
   pub delta : List Op
   pub delta_is : slice_get deltas before ≡ Some delta
   pub kept : List Op
-  pub keeps : Keeps (ops_of (take before deltas)) kept
+  pub keeps : Keeps (all_of (take before deltas)) kept
   pub misfit : IsMisfit kept delta refusal
 
 -- Why an image is not opened: the journal's fault; or a record that does not fit to those before
@@ -114,7 +115,7 @@ pub record IsReopened {D : Type 0} {G : Ghosts D} (old new : State G) : Type 0 w
   pub failures : G.failures (disk_of old.journal) ≤ G.failures (disk_of new.journal)
   pub starved : G.starved (disk_of old.journal) ≡ true → G.starved (disk_of new.journal) ≡ true
   pub records : G.honest → new.records ≡ length (on_disk old)
-  pub keeps : G.honest → Keeps (ops_of (on_disk old)) new.kept
+  pub keeps : G.honest → Keeps (all_of (on_disk old)) new.kept
   pub none : G.honest → on_disk old ≡ [] → new.kept ≡ []
   pub fits : G.honest → FitInTurn [] (on_disk old)
   pub found : G.honest → fault_of (gateway_of old.journal) (image_of old) ≡ None

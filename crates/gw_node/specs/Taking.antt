@@ -1,8 +1,8 @@
 -- What a node has taken, and what a crash would leave of it.
 use Rattle.std.specs.Prelude.{◌≡◌, ◌⊎◌, ℕ, false, List, [], ◌++◌, None}
-use Rattle.std.specs.List.{flat_map}
 use Rattle.rep_op.specs.declared.op.Op.{Op}
 use Rattle.rep_op.specs.Sets.{Within, IsConsistent}
+use Rattle.rep_ops.specs.Splitting.{all_of}
 use Rattle.rep_model.specs.Keep.{keep, CountsAs}
 use Rattle.rep_model.specs.Roomy.{IsRoomy}
 use Rattle.jr_disk.specs.declared.disk.Disk.{Ghosts}
@@ -11,10 +11,6 @@ use Rattle.jr_journal.specs.Records.{records}
 use Rattle.jr_journal.specs.Faults.{is_fresh, fault_of}
 use Rattle.jr_journal.specs.Parts.{disk_of, gateway_of}
 use Rattle.gw_node.specs.Parts.{State, is_halted}
-
--- the operations of a list of deltas
-abbrev pub ops_of : List (List Op) → List Op
-ops_of deltas = flat_map (λ delta. delta) deltas
 
 -- the records that an opening of the node's disk would read
 abbrev pub on_disk : {D : Type 0} {G : Ghosts D} → State G → List (List Op)
@@ -34,10 +30,10 @@ IsWhole S refused J = CountsAs S J ⊎ CountsAs (S ++ refused) J
 -- limit: they can be taken again, one after the other.
 pub record StandsFor (gateway : ℕ) (S refused : List Op) (i : Image) : Type 0 where
   pub sound : fault_of gateway i ≡ None
-  pub between : IsBetween S refused (ops_of (records gateway i))
-  pub whole : IsWhole S refused (ops_of (records gateway i))
+  pub between : IsBetween S refused (all_of (records gateway i))
+  pub whole : IsWhole S refused (all_of (records gateway i))
   pub roomy : IsRoomy (records gateway i)
-  pub proper : IsConsistent (ops_of (records gateway i))
+  pub proper : IsConsistent (all_of (records gateway i))
 
 -- The node has taken the set S: its replica counts as S; and whatever a crash leaves of an honest
 -- disk stands for S, but for one refused delta, of which there is none as long as the node goes on;

@@ -38,6 +38,7 @@ pub struct Node<R: Replica, D: Disk> {
 impl<R: Replica, D: Disk + Drop> Node<R, D> {
     ghost use Rattle.std.specs.Prelude.{◌≡◌, ◌≤◌, ◌<◌, ◌++◌, List, [], None, true, false, length, IfOk, IfErr, OnOk, IsTrue, MatchResult};
     ghost use Rattle.rep_op.specs.declared.op.Op.{Op};
+    ghost use Rattle.rep_ops.specs.Splitting.{all_of};
     ghost use Rattle.rep_model.specs.Keep.{CountsAs};
     ghost use Rattle.rep_model.specs.Held.{IsHeld};
     ghost use Rattle.rep_model.specs.Views as views;
@@ -53,7 +54,7 @@ impl<R: Replica, D: Disk + Drop> Node<R, D> {
     ghost use Rattle.gw_answer.specs.Answers.{told, said};
     ghost use Rattle.gw_node.specs.Calls.{OwnCall, TakeCall, ViewCall, DigestCall, AnswerCall, CompactCall, StepCall};
     ghost use Rattle.gw_node.specs.Keeping.{Keeps};
-    ghost use Rattle.gw_node.specs.Taking.{ops_of, StandsFor, HasTaken};
+    ghost use Rattle.gw_node.specs.Taking.{StandsFor, HasTaken};
     ghost use Rattle.gw_node.specs.Opening.{IsStarted, FitInTurn, MayRefuse, IsDiskFault, IsOpenFault, LeavesSlots, GoesOnIn, ReopenCall};
     ghost use Rattle.gw_node.specs.Carrying.{CarriesOn, OwnCarriesOn, TakesNothing, ReopenCarriesOn, StepCarriesOn};
     ghost use Rattle.gw_node.specs.Standing.{EventOn};
@@ -81,11 +82,11 @@ impl<R: Replica, D: Disk + Drop> Node<R, D> {
         ensures records { D.honest → IfOk result (λ node. records_of node
             ≡ length (records config.gateway (image (D.slots disk)))) }
         ensures takes { D.honest → IfOk result
-            (λ node. CountsAs (ops_of (records config.gateway (image (D.slots disk))))
+            (λ node. CountsAs (all_of (records config.gateway (image (D.slots disk))))
             (state_of R.kept node).kept) }
         // and keeps nothing that is not in them,
         ensures keeps { D.honest → IfOk result
-            (λ node. Keeps (ops_of (records config.gateway (image (D.slots disk))))
+            (λ node. Keeps (all_of (records config.gateway (image (D.slots disk))))
             (state_of R.kept node).kept) }
         ensures none { D.honest → IfOk result (λ node. records config.gateway (image (D.slots disk))
             ≡ [] → (state_of R.kept node).kept ≡ []) }
@@ -95,7 +96,7 @@ impl<R: Replica, D: Disk + Drop> Node<R, D> {
         // beside whatever set it had taken before it stopped.
         ensures restarts { D.honest → IfOk result (λ node. (S refused : List Op)
             → StandsFor config.gateway S refused (image (D.slots disk)) →
-            HasTaken (S ++ ops_of (records config.gateway (image (D.slots disk)))) []
+            HasTaken (S ++ all_of (records config.gateway (image (D.slots disk)))) []
             (state_of R.kept node)) }
         // Where nothing was refused, that is the set itself.
         ensures durable { D.honest → IfOk result (λ node. (S : List Op)

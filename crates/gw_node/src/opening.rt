@@ -2,13 +2,13 @@
 
 ghost use Rattle.std.specs.Prelude.{◌≡◌, [], length, IfOk, IfErr, IfSome, OnOk};
 ghost use Rattle.std.specs.Arc.{arc_value};
+ghost use Rattle.rep_ops.specs.Splitting.{all_of};
 ghost use Rattle.jr_journal.specs.Parts as spec;
 ghost use Rattle.sn_local.specs.Locals.{no_local};
 ghost use Rattle.gw_node.specs.Parts.{state_of, records_of};
 ghost use Rattle.gw_answer.specs.Answers.{told, only_sends};
 ghost use Rattle.gw_node.specs.inner.Writing.{refusal_of};
 ghost use Rattle.gw_node.specs.Keeping.{Keeps};
-ghost use Rattle.gw_node.specs.Taking.{ops_of};
 ghost use Rattle.gw_node.specs.Opening.{FitInTurn};
 ghost use Rattle.gw_node.specs.inner.Opening.{DoNotFit};
 
@@ -30,7 +30,7 @@ pub(crate) fn take_all<R: Replica>(
     deltas: &[Delta],
 ) -> Result<(), Refusal>
     requires { R.kept replica.old ≡ [] }
-    ensures ok { OnOk result (Keeps (ops_of deltas.now) (R.kept replica.new)) }
+    ensures ok { OnOk result (Keeps (all_of deltas.now) (R.kept replica.new)) }
     ensures fits { OnOk result (FitInTurn [] deltas.now) }
     ensures none { OnOk result (deltas.now ≡ [] → R.kept replica.new ≡ []) }
     ensures err { IfErr result (DoNotFit deltas.now) }
@@ -57,7 +57,7 @@ pub(crate) fn start<R: Replica, D: Disk + Drop>(
     ensures local { IfOk result (λ node. (state_of R.kept node).local ≡ no_local) }
     ensures journal { IfOk result (λ node. (state_of R.kept node).journal ≡ journal) }
     ensures records { IfOk result (λ node. records_of node ≡ length deltas.items) }
-    ensures keeps { IfOk result (λ node. Keeps (ops_of deltas.items) (state_of R.kept node).kept) }
+    ensures keeps { IfOk result (λ node. Keeps (all_of deltas.items) (state_of R.kept node).kept) }
     ensures fits { OnOk result (FitInTurn [] deltas.items) }
     ensures none { IfOk result (λ node. deltas.items ≡ [] → (state_of R.kept node).kept ≡ []) }
     ensures disk { IfErr result (λ refused. refused.0 ≡ spec.disk_of journal) }

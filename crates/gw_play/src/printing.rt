@@ -4,7 +4,8 @@
 
 ghost use Rattle.std.specs.Prelude.{◌≡◌, ◌+◌, ◌++◌, IfOk, OnOk, flat_map, length, string_bytes};
 ghost use Rattle.std.specs.Option.{option_to_list};
-ghost use Rattle.gw_play.specs.Printing.{answers_text, answer_text, deltas_after, out_text, joined, delta_line, delta_lines, send_line, refusal_text, records_line, views_text, client_text, client_line, kind_word, stamp_text, session_text, session_lines, put_line, presence_word};
+ghost use Rattle.gw_play.specs.Printing.{answers_text, answer_text, deltas_after, out_text, joined, delta_line, delta_lines, send_line, refusal_text, records_line, views_text, client_text, client_line, stamp_text, session_text, session_lines, put_line};
+ghost use Rattle.gw_play.specs.Printing as spec;
 ghost use Rattle.gw_play.specs.inner.Printing.{world_fault_line, bad_line_text};
 ghost use Rattle.gw_answer.specs.Answers.{told};
 
@@ -256,14 +257,14 @@ fn session_of(alloc: Global, session: &Session) -> Result<String, AllocError>
 
 /// How it is written whether a session began clean.
 fn kind_word(clean: bool) -> &'static str
-    ensures { result.now ≡ kind_word clean }
+    ensures { result.now ≡ spec.kind_word clean }
 {
     if clean { "clean" } else { "kept" }
 }
 
 /// How a presence is written.
 fn presence_word(presence: Presence) -> &'static str
-    ensures { result.now ≡ presence_word presence }
+    ensures { result.now ≡ spec.presence_word presence }
 {
     match presence {
         Presence::Active => "active",

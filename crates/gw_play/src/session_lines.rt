@@ -1,7 +1,8 @@
 //! The tables of a session as text, a line for each entry.
 
 ghost use Rattle.std.specs.Prelude.{◌≡◌, ◌++◌, OnOk, flat_map, string_bytes};
-ghost use Rattle.gw_play.specs.Sessions.{tables_text, topic_line, known_word, subscription_line, will_line, will_text, received_line, phase_word, outbound_line, outbound_text};
+ghost use Rattle.gw_play.specs.Sessions.{tables_text, topic_line, subscription_line, will_line, will_text, received_line, outbound_line, outbound_text};
+ghost use Rattle.gw_play.specs.Sessions as spec;
 
 use super::text::hexadecimal;
 use sn_session::{Outbound, Phase, Session, Will};
@@ -43,7 +44,7 @@ fn print_topic(alloc: Global, text: &mut String, entry: &TopicEntry) -> Result<(
 
 /// How it is written whether the client knows a topic id.
 fn known_word(known: bool) -> &'static str
-    ensures { result.now ≡ known_word known }
+    ensures { result.now ≡ spec.known_word known }
 {
     if known { "known" } else { "new" }
 }
@@ -144,7 +145,7 @@ fn print_exchange(text: &mut String, exchange: Outbound) -> Result<(), AllocErro
 
 /// How a phase is written.
 fn phase_word(phase: Phase) -> &'static str
-    ensures { result.now ≡ phase_word phase }
+    ensures { result.now ≡ spec.phase_word phase }
 {
     match phase {
         Phase::Registering => "registering",

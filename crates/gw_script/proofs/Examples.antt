@@ -2,8 +2,8 @@
 use Rattle.std.proofs.Common.{◌≡◌, [], ◌∷◌, refl}
 use Rattle.std.specs.Prelude.{codes, Ok}
 use Rattle.hex.specs.Hex.{decode_of, decode_pairs}
+use Rattle.octets.specs.Decimal.{value_of}
 use Rattle.gw_script.specs.Commands.{fields_of}
-use Rattle.gw_script.specs.Numbers.{value_of}
 
 -- a field of leading zeros
 zeros : value_of (codes "0040") ≡ 40

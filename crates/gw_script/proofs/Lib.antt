@@ -1,4 +1,3 @@
-pub mod Digits
 mod Examples
 pub mod Growth
 pub mod Lines

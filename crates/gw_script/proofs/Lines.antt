@@ -3,6 +3,7 @@ use Rattle.std.proofs.Common.{◌≡◌, Bool, ℕ, true, false, cond, List, [],
 use Rattle.std.specs.Prelude.{Result, Ok, Err, codes}
 use Rattle.std.specs.Prelude.{◌≢◌}
 use Rattle.std.specs.Str.{bytes_eq, all_ascii_digits}
+use Rattle.octets.specs.Decimal.{IsNumber, value_of}
 use Rattle.gw_script.specs.declared.command.Command.{Command}
 use Rattle.gw_script.specs.declared.command.Word.{Word}
 use Rattle.gw_script.specs.declared.command.Word.TheVariants as words
@@ -12,7 +13,6 @@ use Rattle.gw_world.specs.declared.event.Event.TheVariants as events
 use Rattle.gw_script.specs.declared.command.Command.TheVariants as commands
 use Rattle.gw_script.specs.Commands.{fields_of, text_of, IsAddress, IsFailure, IsSpared, Says, Spells}
 use Rattle.gw_script.specs.inner.Commands.{Reads}
-use Rattle.gw_script.specs.Numbers.{IsNumber, value_of}
 use Rattle.gw_script.specs.Octets.{IsHex}
 use Rattle.sn_topic.specs.Topics.{IsName}
 use Rattle.hex.specs.Hex.{decode_of}

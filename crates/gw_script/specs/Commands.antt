@@ -1,13 +1,13 @@
 -- The lines of a script.
 use Rattle.std.specs.Prelude.{◌≡◌, Bool, true, false, ℕ, ◌-◌, ◌^◌, ◌==◌, ◌⊎◌, List, [], ◌∷◌, codes}
 use Rattle.std.specs.List.{slice_split}
+use Rattle.octets.specs.Decimal.{IsNumber}
 use Rattle.sn_local.specs.declared.config.Addr.{Addr}
 use Rattle.gw_world.specs.declared.event.Event.TheVariants as events
 use Rattle.gw_script.specs.declared.command.Command.{Command}
 use Rattle.gw_script.specs.declared.command.Command.TheVariants as commands
 use Rattle.gw_script.specs.declared.command.Word.{Word}
 use Rattle.gw_script.specs.declared.command.Word.TheVariants as words
-use Rattle.gw_script.specs.Numbers.{IsNumber}
 use Rattle.sn_topic.specs.Topics.{IsName}
 use Rattle.gw_script.specs.Octets.{IsHex}
 

@@ -1,5 +1,4 @@
 pub mod Commands
-pub mod Numbers
 pub mod Octets
 pub mod Scripts
 pub mod inner

@@ -8,9 +8,9 @@
 //! - `script`: what the lines say together (`Script`, `parse`).
 //! - `fault`: why a line (`LineFault`), or a script (`ScriptFault`), is refused.
 //!
-//! The definitions are in `specs/`: `Commands`, `Numbers`, `Octets` (lines), `Scripts` (lines
-//! together, and the first bad one). Lemmas are in `proofs/`: `Digits` (of numbers), `Lines` (a
-//! line is read in one way), `Growth` (how a script grows line by line).
+//! The definitions are in `specs/`: `Commands`, `Octets` (lines), `Scripts` (lines together, and
+//! the first bad one); what digits write is `Decimal` of `octets`. Lemmas are in `proofs/`: `Lines`
+//! (a line is read in one way), `Growth` (how a script grows line by line).
 #![tactic(auto)]
 
 mod bytes;

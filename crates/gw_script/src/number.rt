@@ -1,7 +1,7 @@
 //! Numbers in decimal digits.
 
 ghost use Rattle.std.specs.Prelude.{◌≡◌, ◌==◌, ℕ, MatchOption, slice_index};
-ghost use Rattle.gw_script.specs.Numbers.{IsNumber};
+ghost use Rattle.octets.specs.Decimal.{IsNumber};
 
 /// The number that decimal digits write. Nothing where another octet stands among them, a sign too,
 /// where there is none, and where a `u64` cannot hold the number.

@@ -26,7 +26,8 @@ impl Script {
     ghost use Rattle.std.specs.Prelude.{◌≡◌, OnOk, OnErr};
     ghost use Rattle.gw_script.specs.declared.script.Script.{Script};
     ghost use Rattle.gw_script.specs.declared.command.Command.TheVariants.{Gateway, Predefine};
-    ghost use Rattle.gw_script.specs.Scripts.{empty_script, has_gateway, Adds, Extends};
+    ghost use Rattle.gw_script.specs.Scripts.{empty_script, Adds, Extends};
+    ghost use Rattle.gw_script.specs.Scripts as spec;
 
     /// The script that says nothing.
     pub fn empty(alloc: Global) -> Script
@@ -117,7 +118,7 @@ impl Script {
 
     /// Whether there is a gateway of this number.
     fn has_gateway(&self, number: u8) -> bool
-        ensures { result ≡ has_gateway self.now.configs number }
+        ensures { result ≡ spec.has_gateway self.now.configs number }
     {
         self.configs
             .as_slice()

@@ -2,7 +2,7 @@
 
 ghost use Rattle.std.specs.Prelude.{◌≡◌, ◌≤◌, length, IfOk, IfSome};
 ghost use Rattle.gw_wire.specs.Addresses.{IsAddress};
-ghost use Rattle.gw_wire.specs.inner.Addresses.{addr_of};
+ghost use Rattle.gw_wire.specs.inner.Addresses as spec;
 
 use super::ends::{Arrival, Post, Unsent, Wire, WireFault};
 use jr_disk::Failures;
@@ -57,7 +57,7 @@ pub fn address(addr: Addr) -> SocketAddr
 
 /// The host and the port of the system's address.
 fn addr_of(from: SocketAddrV4) -> Addr
-    ensures { result ≡ addr_of from }
+    ensures { result ≡ spec.addr_of from }
 {
     Addr {
         host: from.ip().to_bits(),

@@ -24,7 +24,7 @@ use Rattle.gw_node.specs.Keeping.{Keeps}
 use Rattle.gw_node.specs.Opening.{IsStarted, GoesOnIn, IsOpenFault, IsDiskFault}
 use Rattle.gw_node.specs.Parts.{State}
 use Rattle.gw_node.specs.Standing.{Stands}
-use Rattle.gw_node.specs.Taking.{ops_of, IsBetween, IsWhole, StandsFor, HasTaken}
+use Rattle.gw_node.specs.Taking.{IsBetween, IsWhole, StandsFor, HasTaken}
 use Rattle.gw_node.proofs.Standing.{keeps-read, recovered_synced, from_taken}
 use Rattle.gw_node.proofs.Started.{wants_memory}
 use Rattle.gw_node.proofs.Taken.{as_taken}
@@ -55,10 +55,10 @@ stands_empty gateway i empty =
     let none : [] ≡ records gateway i = sym (ap (λ (j : Image). records gateway j) empty ∙ no_records gateway) in
     record {
       sound = ap (λ (j : Image). fault_of gateway j) empty ∙ no_fault gateway;
-      between = subst (λ (ds : List (List Op)). IsBetween [] [] (ops_of ds)) none (record { lower = nothing_within; upper = nothing_within });
-      whole = subst (λ (ds : List (List Op)). IsWhole [] [] (ops_of ds)) none (inl (counts-refl []));
+      between = subst (λ (ds : List (List Op)). IsBetween [] [] (all_of ds)) none (record { lower = nothing_within; upper = nothing_within });
+      whole = subst (λ (ds : List (List Op)). IsWhole [] [] (all_of ds)) none (inl (counts-refl []));
       roomy = subst (λ (ds : List (List Op)). (k : ℕ) → first_passed (all_of (take k ds)) ≡ None) none none_roomy;
-      proper = subst (λ (ds : List (List Op)). IsConsistent (ops_of ds)) none tt;
+      proper = subst (λ (ds : List (List Op)). IsConsistent (all_of ds)) none tt;
     }
 
 -- nothing but want of memory refuses an opening there
@@ -77,7 +77,7 @@ module _ {D : Type 0} {G : Ghosts D} where
   pub record WasOpened (config : Config) (i : Image) (plan : Option Failure) (new : State G) : Type 0 where
     pub honest : G.honest
     pub starts : IsStarted config new
-    pub keeps : Keeps (ops_of (records config.gateway i)) new.kept
+    pub keeps : Keeps (all_of (records config.gateway i)) new.kept
     pub durable : (S : List Op) → StandsFor config.gateway S [] i → HasTaken S [] new
     pub place : GoesOnIn new config.gateway i
     pub known : G.slots (disk_of new.journal) ≡ recovered config.gateway i
@@ -88,7 +88,7 @@ module _ {D : Type 0} {G : Ghosts D} where
   pub opened_shown : (config : Config) (i : Image) (plan : Option Failure) (S : List Op) (new : State G) → IsTrue (is_quiet (Some plan) false) → StandsFor config.gateway S [] i → WasOpened config i plan new
       → IsShown (started config S plan i) new
   opened_shown config i plan S new quiet there h =
-      let J = ops_of (records config.gateway i) in
+      let J = all_of (records config.gateway i) in
       let stands : Stands (started config S plan i) new = record {
         configured = h.starts.configured;
         numbered = h.starts.gateway;

@@ -1,8 +1,9 @@
 //! Records are taken, one after the other.
 
 ghost use Rattle.std.specs.Prelude.{◌≡◌, [], OnOk, IfErr};
+ghost use Rattle.rep_ops.specs.Splitting.{all_of};
 ghost use Rattle.rep_model.specs.Keep.{CountsAs};
-ghost use Rattle.jr_read.specs.Folding.{ops_of, IsMisfit};
+ghost use Rattle.jr_read.specs.Folding.{IsMisfit};
 
 use rep_model::{Replica, TakeFault};
 use rep_ops::Delta;
@@ -21,7 +22,7 @@ pub struct Misfit {
 pub fn take_all<R: Replica>(alloc: Global, replica: &mut R, records: &[Delta]) -> Result<(), Misfit>
     requires { R.kept replica.old ≡ [] }
     // What is kept counts as all operations of the records together.
-    ensures ok { OnOk result (CountsAs (ops_of records.now) (R.kept replica.new)) }
+    ensures ok { OnOk result (CountsAs (all_of records.now) (R.kept replica.new)) }
     ensures err { IfErr result (λ misfit. IsMisfit records.now misfit) }
 {
     for (before, record) in records.iter().enumerate() {

@@ -12,48 +12,58 @@
 //! themselves. OCTETS are words: hexadecimal digits in as many as is pleasant, names of octets, and
 //! `-` for none.
 //!
-//! | Names, which stay from row to row | |
-//! |---|---|
-//! | `name NAME OCTETS ..` | after this line, which may stand anywhere, the name is these octets |
-//! | `repeat COUNT OCTETS ..` | these stand behind the octets of the latest name so many times; `%` is the number of the time, from 0 on, in two octets |
+//! Names, which stay from row to row:
 //!
-//! | A gateway on the row's disk; the first three lines close the one that is open | |
-//! |---|---|
-//! | `open GATEWAY` | a gateway of this number is opened: the records that it read |
-//! | `open GATEWAY SECONDS PORT` | the same of one that advertises itself so often, to a port of host 0 |
-//! | `fail COUNT`, `fail sync` | the next append stops behind so many octets; or it goes out and its sync fails |
-//! | `slots` | the octets of both slots |
-//! | `state` | the records of its opening, whether it has halted, and how many clients it knows |
+//! - `name NAME OCTETS ..`: after this line, which may stand anywhere, the name is these octets.
+//! - `repeat COUNT OCTETS ..`: these stand behind the octets of the latest name so many times; `%`
+//!   is the number of the time, from 0 on, in two octets.
 //!
-//! | Calls of the gateway, each with its answer | |
-//! |---|---|
-//! | `frame PORT MOMENT OCTETS ..` | a datagram comes from a port of host 0 |
-//! | `take OCTETS ..` | the delta that they spell comes |
-//! | `tick MOMENT` | time goes by |
-//! | `view CLIENT` | somebody asks for a client's view |
-//! | `compact`, `reopen` | the journal is written anew; the gateway is opened again in place |
-//! | `thrice CALL` | one of these as a value, with the answer three times |
+//! A gateway on the row's disk; the first three lines close the one that is open:
+//!
+//! - `open GATEWAY`: a gateway of this number is opened: the records that it read.
+//! - `open GATEWAY SECONDS PORT`: the same of one that advertises itself so often, to a port of
+//!   host 0.
+//! - `fail COUNT`, `fail sync`: the next append stops behind so many octets; or it goes out and its
+//!   sync fails.
+//! - `slots`: the octets of both slots.
+//! - `state`: the records of its opening, whether it has halted, and how many clients it knows.
+//!
+//! Calls of the gateway, each with its answer:
+//!
+//! - `frame PORT MOMENT OCTETS ..`: a datagram comes from a port of host 0.
+//! - `take OCTETS ..`: the delta that they spell comes.
+//! - `tick MOMENT`: time goes by.
+//! - `view CLIENT`: somebody asks for a client's view.
+//! - `compact`, `reopen`: the journal is written anew; the gateway is opened again in place.
+//! - `thrice CALL`: one of these as a value, with the answer three times.
 //!
 //! Of an answer are printed the datagrams; the number of operations that were made; of a view its
 //! stamp, the duration of the session and how many messages wait. A refusal is printed by its
 //! number, as `N3`, with the answer that it brings.
 //!
-//! | Deliveries to a client, of which the gateway has a session, at port 7 of host 0 and moment 3; what is drafted is not carried out | |
-//! |---|---|
-//! | `deliver CLIENT`, `resend CLIENT` | what waits goes out; what was sent goes out again |
-//! | `hear CLIENT OCTETS ..` | the client answers a publication, or releases its own, by this frame |
-//! | `meaning CLIENT OCTETS ..` | what a publication is about with these flags, an octet, and this topic field, two octets: the topic, or a return code |
+//! Deliveries to a client, of which the gateway has a session, at port 7 of host 0 and moment 3;
+//! what is drafted is not carried out:
+//!
+//! - `deliver CLIENT`, `resend CLIENT`: what waits goes out; what was sent goes out again.
+//! - `hear CLIENT OCTETS ..`: the client answers a publication, or releases its own, by this frame.
+//! - `meaning CLIENT OCTETS ..`: what a publication is about with these flags, an octet, and this
+//!   topic field, two octets: the topic, or a return code.
 //!
 //! Of a draft are printed how many changes of the session there are, the messages that are
 //! acknowledged, and the datagrams.
 //!
-//! | Digests, and a link | |
-//! |---|---|
-//! | `digest OCTETS ..` | of how many clients they spell a digest |
-//! | `beginnings OCTETS ..` | the same of each beginning of them but the whole |
-//! | `say hello GATEWAY`, `say digest OCTETS ..`, `say delta OCTETS ..` | a message goes out: all that went out in this row |
-//! | `within COUNT hello GATEWAY`, .. | a message goes to a writer that fails behind so many octets |
-//! | `feed OCTETS ..` | a piece comes in: the messages that are whole now, and the fault behind them |
+//! Digests, and a link:
+//!
+//! - `digest OCTETS ..`: of how many clients they spell a digest.
+//! - `beginnings OCTETS ..`: the same of each beginning of them but the whole.
+//! - `say hello GATEWAY`, `say digest OCTETS ..`, `say delta OCTETS ..`: a message goes out: all
+//!   that went out in this row.
+//! - `within COUNT hello GATEWAY` and so on: a message goes to a writer that fails behind so many
+//!   octets.
+//! - `feed OCTETS ..`: a piece comes in: the messages that are whole now, and the fault behind
+//!   them.
+//!
+//! The files:
 //!
 //! - `row`: what the lines of a row have brought about (`Row`), and the play of one more.
 //! - `fields`, `names`: lines that are read.

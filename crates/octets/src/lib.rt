@@ -3,6 +3,9 @@
 //! `Octets` is an owned octet string that contracts see as a list of numbers. `number` reads and
 //! appends numbers with the most significant octet first, as MQTT-SN 1.2 section 5 writes them.
 //! `NoMemory` is want of memory.
+//!
+//! What decimal digits write is defined in `specs/` (`Decimal`); what `parse` makes of them is a
+//! lemma in `proofs/` (`Digits`). Settings and scripts are read by both.
 #![tactic(auto)]
 
 mod memory;

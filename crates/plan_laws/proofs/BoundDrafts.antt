@@ -15,6 +15,7 @@ use Rattle.sn_tables.specs.Topics.{topic_named, free_id}
 use Rattle.sn_frame.specs.declared.frame.Frame.{Frame}
 use Rattle.sn_frame.specs.declared.frame.Frame.TheVariants as frames
 use Rattle.rep_op.specs.declared.op.Put.{Put}
+use Rattle.rep_op.specs.Orders.{name_of}
 use Rattle.rep_model.specs.declared.view.ClientView.{ClientView}
 use Rattle.sn_local.specs.declared.config.Addr.{Addr}
 use Rattle.sn_plan.specs.declared.draft.NewPut.{NewPut}
@@ -23,15 +24,14 @@ use Rattle.sn_local.specs.declared.local.LocalChange.TheVariants.{Bind, Unbind, 
 use Rattle.sn_plan.specs.declared.row.Follow.{Follow}
 use Rattle.sn_plan.specs.declared.row.Follow.TheVariants as follows
 use Rattle.sn_local.specs.Bindings.{is_stamp_of}
-use Rattle.sn_plan.specs.Drafts.{Drafted, nothing, changed, changed_if, acked, put_all, sent, moved}
-use Rattle.sn_plan.specs.Names.{name_of}
+use Rattle.sn_plan.specs.Drafts.{Drafted, nothing, changed, changed_if, acked, put_all, sent, moved, session_after}
 use Rattle.sn_plan.specs.Others.{is_up, can_wake}
 use Rattle.sn_plan.proofs.Lists.{all-append}
 use Rattle.sn_exchange.specs.declared.form.Form.{Form}
 use Rattle.sn_exchange.specs.declared.peer.Peer.{Peer}
 use Rattle.sn_exchange.specs.declared.delivery.ToldId.{ToldId}
 use Rattle.sn_exchange.specs.Forms.{form_of, form_again, publication}
-use Rattle.sn_exchange.specs.Exchanges.{so_far, left, put_left, message_of, open_exchange, is_served, is_awake}
+use Rattle.sn_exchange.specs.Exchanges.{left, put_left, message_of, open_exchange, is_served, is_awake}
 use Rattle.sn_exchange.specs.Delivery.{next_after, Stop, begun, entry_or_fresh, id_to_tell, register_first, deliver_by, and_then, deliver, deliver_left, deliver_if}
 use Rattle.sn_exchange.specs.Resending.{register_by, register_again, publish_by, publish_again, resend_in, resend_if}
 use Rattle.sn_exchange.specs.Following.{followed_by}
@@ -214,6 +214,6 @@ module _ (g : ℕ) (c : List ℕ) (v : ClientView) (predefined : Entries) (peer 
 module _ (g : ℕ) (c : List ℕ) (v : ClientView) where
   pub followed-fits : (predefined : Entries) (peer : Peer) (s : Session) (pending : List Put) (d : Drafted) (follow : Follow) → Fits g c v d → Fits g c v (followed_by predefined peer s pending d follow)
   followed-fits predefined peer s pending d follows.Nothing h = h
-  followed-fits predefined peer s pending d follows.Delivery h = if-fits g c v predefined peer (so_far s d) pending d h
+  followed-fits predefined peer s pending d follows.Delivery h = if-fits g c v predefined peer (session_after s d) pending d h
   followed-fits predefined peer s pending d follows.Resend h =
-      resend-fits g c v predefined peer (so_far s d) pending (open_exchange (so_far s d) d.acks pending) d h
+      resend-fits g c v predefined peer (session_after s d) pending (open_exchange (session_after s d) d.acks pending) d h

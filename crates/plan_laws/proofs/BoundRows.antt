@@ -2,6 +2,7 @@
 use Rattle.std.proofs.Common.{inl, inr, ◌≡◌, ℕ, ◌==◌, Bool, true, false, nat_lt, is_some, if◌then◌else◌, List, [], ◌∷◌, filter, length, Option, Some, None, IfSome, refl, ap, ◌∙◌}
 use Rattle.std.specs.List.{AllByRecursion}
 use Rattle.sn_topic.specs.Table.{Entries}
+use Rattle.sn_topic.specs.Topics.{name_asked}
 use Rattle.sn_session.specs.declared.presence.Presence.{Presence as State}
 use Rattle.sn_session.specs.declared.presence.Presence.TheVariants.{Active, Asleep, Awake, Disconnected, Lost}
 use Rattle.sn_session.specs.declared.outbound.Outbound.{Outbound as Exchange}
@@ -24,6 +25,7 @@ use Rattle.sn_frame.specs.declared.frame.Will.{Will}
 use Rattle.sn_frame.specs.FlagBits.{qos_of, kind_of}
 use Rattle.rep_op.specs.declared.op.Put.{Put}
 use Rattle.rep_op.specs.declared.op.Op.{Op}
+use Rattle.rep_op.specs.Orders.{name_of}
 use Rattle.rep_model.specs.declared.view.ClientView.{ClientView}
 use Rattle.rep_model.specs.Views.{view}
 use Rattle.sn_local.specs.declared.config.Addr.{Addr}
@@ -40,13 +42,12 @@ use Rattle.sn_local.specs.declared.local.WillDialog.{WillDialog}
 use Rattle.sn_subscribe.specs.declared.registration.NamedId.{NamedId}
 use Rattle.sn_plan.specs.declared.row.Row.{Row}
 use Rattle.sn_flow.specs.Accept.{accept, has_no_room}
-use Rattle.sn_plan.specs.Asking.{qos_asked, name_asked, topics_asked}
+use Rattle.sn_plan.specs.Asking.{qos_asked, topics_asked}
 use Rattle.sn_local.specs.Bindings.{client_at, is_stamp_of}
 use Rattle.sn_plan.specs.Bound.{bound_to, session_of}
 use Rattle.sn_flow.specs.Connection.{has_bit, request_of, refusal_of, ask_topic, connect_row, connect, leave, disconnect_draft, disconnect_of}
 use Rattle.sn_plan.specs.Drafts.{Drafted, nothing, changed, moved}
 use Rattle.sn_local.specs.Locals.{Local}
-use Rattle.sn_plan.specs.Names.{name_of}
 use Rattle.sn_plan.specs.Others.{is_up, can_wake, other}
 use Rattle.sn_local.specs.Seen.{Seen, seen_of}
 use Rattle.sn_subscribe.specs.Registration.{entry_or_free, id_for, registered, register_name}

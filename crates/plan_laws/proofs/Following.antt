@@ -16,17 +16,17 @@ use Rattle.sn_frame.specs.declared.frame.Frame.{Frame}
 use Rattle.sn_frame.specs.declared.frame.Frame.TheVariants as frames
 use Rattle.rep_op.specs.declared.op.Put.{Put}
 use Rattle.rep_op.specs.Ranges.{is_topic_id, is_topic, is_exchange}
+use Rattle.rep_op.specs.Orders.{name_of}
 use Rattle.sn_local.specs.declared.config.Addr.{Addr}
 use Rattle.sn_local.specs.declared.local.LocalChange.TheVariants.{Sent, Resent}
 use Rattle.sn_plan.specs.declared.row.Follow.{Follow}
 use Rattle.sn_plan.specs.declared.row.Follow.TheVariants as follows
-use Rattle.sn_plan.specs.Names.{name_of}
-use Rattle.sn_plan.specs.Drafts.{Drafted, changed, changed_if, acked, sent, moved}
+use Rattle.sn_plan.specs.Drafts.{Drafted, changed, changed_if, acked, sent, moved, session_after}
 use Rattle.sn_exchange.specs.declared.form.Form.{Form}
 use Rattle.sn_exchange.specs.declared.peer.Peer.{Peer}
 use Rattle.sn_exchange.specs.declared.delivery.ToldId.{ToldId}
 use Rattle.sn_exchange.specs.Forms.{form_of, form_again, publication}
-use Rattle.sn_exchange.specs.Exchanges.{so_far, is_left, left, put_left, message_of, open_exchange, is_served, is_awake}
+use Rattle.sn_exchange.specs.Exchanges.{is_left, left, put_left, message_of, open_exchange, is_served, is_awake}
 use Rattle.sn_exchange.specs.Delivery.{next_after, Stop, begun, entry_or_fresh, id_to_tell, register_first, deliver_by, none_left, and_then, deliver, deliver_left, deliver_if}
 use Rattle.sn_exchange.specs.Resending.{register_by, register_again, publish_by, publish_again, resend_in, resend_if}
 use Rattle.sn_exchange.specs.Following.{followed_by}
@@ -188,6 +188,6 @@ pub followed-sound : (predefined : Entries) (peer : Peer) (s : Session) (pending
     → Fine s → AllByRecursion IsWell pending → AreApart pending → Sound d → Sound (followed_by predefined peer s pending d follow)
 followed-sound predefined peer s pending d follows.Nothing fine well apart h = h
 followed-sound predefined peer s pending d follows.Delivery fine well apart h =
-    if-sound predefined peer (so_far s d) (fold-fine s d.changes fine h.changes) pending d well apart h
+    if-sound predefined peer (session_after s d) (fold-fine s d.changes fine h.changes) pending d well apart h
 followed-sound predefined peer s pending d follows.Resend fine well apart h =
-    resend-sound predefined peer (so_far s d) (fold-fine s d.changes fine h.changes) pending (open_exchange (so_far s d) d.acks pending) d well apart h
+    resend-sound predefined peer (session_after s d) (fold-fine s d.changes fine h.changes) pending (open_exchange (session_after s d) d.acks pending) d well apart h

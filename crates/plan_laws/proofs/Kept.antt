@@ -15,7 +15,7 @@ use Rattle.rep_op.specs.declared.op.Put.{Put}
 use Rattle.rep_op.specs.declared.op.Op.{Op}
 use Rattle.rep_op.specs.declared.op.Op.TheVariants.{Session as OfSession, Put as OfPut, Ack}
 use Rattle.rep_ops.specs.Making.{AreWellMade}
-use Rattle.rep_op.specs.Orders.{operation_cmp, put_cmp}
+use Rattle.rep_op.specs.Orders.{operation_cmp, name_of, put_cmp}
 use Rattle.rep_op.specs.Ranges.{is_change, is_session}
 use Rattle.rep_op.specs.Sets.{same_client, operation_of, operation_at, puts, is_acknowledged}
 use Rattle.rep_op.specs.WellMade.{is_stamp, is_counted, is_put, is_well_made}
@@ -23,7 +23,6 @@ use Rattle.rep_model.specs.Views.{visible, gapless, then_more, history_at, histo
 use Rattle.rep_model.proofs.Lookup.{find-all}
 use Rattle.rep_model.proofs.Pending.{pending-ascend}
 use Rattle.rep_model.proofs.Readers.{operation_exact, put_total}
-use Rattle.sn_plan.specs.Names.{name_of}
 use Rattle.sn_plan.specs.Bound.{session_of as session_seen}
 use Rattle.sn_local.specs.Seen.{seen_of}
 use Rattle.sn_plan.proofs.Lists.{all-weaken}

@@ -29,6 +29,7 @@ use Rattle.sn_frame.specs.declared.frame.Will.{Will}
 use Rattle.sn_frame.specs.FlagBits.{qos_of, kind_of}
 use Rattle.rep_op.specs.declared.op.Put.{Put}
 use Rattle.rep_op.specs.declared.op.Op.{Op}
+use Rattle.rep_op.specs.Orders.{name_of}
 use Rattle.rep_ops.specs.Making.{AreWellMade}
 use Rattle.sn_tables.specs.Levels.{is_qos}
 use Rattle.rep_op.specs.Ranges.{is_topic_id, is_topic, is_message, is_will, is_will_topic, is_exchange, is_session}
@@ -48,13 +49,12 @@ use Rattle.sn_local.specs.declared.local.WillDialog.{WillDialog}
 use Rattle.sn_subscribe.specs.declared.registration.NamedId.{NamedId}
 use Rattle.sn_plan.specs.declared.row.Row.{Row}
 use Rattle.sn_flow.specs.Accept.{will_after, unknowing, going_on, as_asked, accepted, cleared, accept, has_no_room}
-use Rattle.sn_plan.specs.Asking.{qos_asked, name_asked, topics_asked, id_in}
+use Rattle.sn_plan.specs.Asking.{qos_asked, topics_asked, id_in}
 use Rattle.sn_local.specs.Bindings.{client_at, same_address, is_stamp_of}
 use Rattle.sn_plan.specs.Bound.{bound_to, heard_of, session_of}
 use Rattle.sn_flow.specs.Connection.{has_bit, request_of, refusal_of, ask_topic, connect_row, connect, leave, fall_asleep, disconnect_draft, disconnect_of, disconnect}
 use Rattle.sn_plan.specs.Drafts.{Drafted, nothing, changed, changed_if, acked, acked_all, put_all, sent, moved}
 use Rattle.sn_local.specs.Locals.{Local}
-use Rattle.sn_plan.specs.Names.{name_of}
 use Rattle.sn_plan.specs.Others.{is_up}
 use Rattle.sn_local.specs.Seen.{Seen, seen_of}
 use Rattle.sn_subscribe.specs.Registration.{entry_id, new_id, entry_or_free, id_for, registered, register_name, register as register_draft}

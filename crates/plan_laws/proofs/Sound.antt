@@ -7,11 +7,11 @@ use Rattle.sn_session.specs.declared.change.SessionOp.{SessionOp}
 use Rattle.sn_frame.specs.declared.frame.Frame.{Frame}
 use Rattle.rep_op.specs.declared.op.Put.{Put}
 use Rattle.rep_op.specs.WellMade.{is_put}
+use Rattle.rep_op.specs.Orders.{name_of}
 use Rattle.sn_local.specs.declared.config.Addr.{Addr}
 use Rattle.sn_plan.specs.declared.draft.NewPut.{NewPut}
 use Rattle.sn_local.specs.declared.local.LocalChange.{LocalChange}
 use Rattle.sn_local.specs.declared.local.LocalChange.TheVariants.{Ask}
-use Rattle.sn_plan.specs.Names.{name_of}
 use Rattle.sn_plan.specs.Drafts.{Drafted, nothing, changed, changed_if, acked, acked_all, put_all, sent, moved}
 use Rattle.sn_plan.proofs.Lists.{all-append, all-both, all-given}
 use Rattle.sn_exchange.specs.Exchanges.{same_name, is_done, is_left, left}

@@ -1,4 +1,5 @@
-//! Laws of plans that stand beside the chain: nothing is built on them.
+//! Laws of plans that stand beside the chain: nothing is built on them but the laws of a field's own
+//! operations (`field_laws`).
 //!
 //! - `laws`: the operations of a plan can always be written, each well made and no two under one
 //!   name, at a gateway that keeps well; a gateway keeps well whatever it does and takes; and a

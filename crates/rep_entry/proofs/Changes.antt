@@ -9,7 +9,7 @@ use Rattle.sn_session.specs.declared.change.SessionOp.{SessionOp}
 use Rattle.rep_op.specs.declared.op.Stamp.{Stamp}
 use Rattle.rep_op.specs.declared.op.Put.{Put}
 use Rattle.rep_op.specs.declared.op.Op.TheVariants.{Session as OfSession, Put as OfPut, Ack}
-use Rattle.rep_op.specs.Orders.{operation_cmp, put_cmp}
+use Rattle.rep_op.specs.Orders.{operation_cmp, name_of, put_cmp}
 use Rattle.rep_op.specs.Sets.{same_client, operation_at, put_at, is_acknowledged, Same}
 use Rattle.rep_model.specs.Keep.{keep}
 use Rattle.rep_model.proofs.Lookup.{or_else}
@@ -17,7 +17,7 @@ use Rattle.rep_model.proofs.Readers.{put_exact, operation_exact, same_client-tru
 use Rattle.rep_model.proofs.Joins.{same_trans, same_sym}
 use Rattle.rep_model.proofs.Thin.{thin-same, same_kept}
 use Rattle.rep_log.specs.Logs.{visible_in}
-use Rattle.rep_log.specs.Mail.{name_of, Range, covers, is_left, weave, named_puts, put_named, InOne, NoneCovered}
+use Rattle.rep_log.specs.Mail.{Range, covers, is_left, weave, named_puts, put_named, InOne, NoneCovered}
 use Rattle.rep_log.specs.Kept.{kept_ops}
 use Rattle.rep_log.proofs.Logging.{NoneBelow}
 use Rattle.rep_entry.proofs.Rising.{find_weave}

@@ -11,12 +11,12 @@ use Rattle.sn_session.specs.declared.session.Session.{Session}
 use Rattle.sn_session.specs.declared.change.SessionOp.{SessionOp}
 use Rattle.rep_op.specs.declared.op.Stamp.{Stamp}
 use Rattle.rep_op.specs.declared.op.Put.{Put}
-use Rattle.rep_op.specs.Orders.{stamp_cmp, operation_cmp, put_cmp}
+use Rattle.rep_op.specs.Orders.{stamp_cmp, operation_cmp, name_of, put_cmp}
 use Rattle.rep_op.specs.Sets.{same_client, operation_of, operations, put_of, puts, acknowledges, is_acknowledged}
 use Rattle.rep_model.specs.declared.view.ClientView.{ClientView}
 use Rattle.rep_model.specs.Views.{greatest, take_stamp, names, visible, history_at, history, session_of, in_order, pending, view}
 use Rattle.rep_model.proofs.Readers.{client_total}
-use Rattle.rep_log.specs.Mail.{name_of, Range, covers, named_puts, Rising, NoneCovered}
+use Rattle.rep_log.specs.Mail.{Range, covers, named_puts, Rising, NoneCovered}
 use Rattle.rep_log.specs.Kept.{of_log, of_mail, of_acks, kept_ops}
 use Rattle.rep_entry.proofs.Rising.{in_order_rising, values_named}
 

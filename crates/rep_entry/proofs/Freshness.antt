@@ -7,14 +7,14 @@ use Rattle.std.specs.FinMap.{find, put, is_sorted}
 use Rattle.std.specs.FinMap.Entries.{below_all, by_order, is_sorted-put, find-put}
 use Rattle.std.proofs.lemmas.Map.Views.{tells_apart}
 use Rattle.rep_op.specs.declared.op.Put.{Put}
-use Rattle.rep_op.specs.Orders.{put_cmp}
+use Rattle.rep_op.specs.Orders.{name_of, put_cmp}
 use Rattle.rep_op.specs.WellMade.{is_put}
 use Rattle.rep_model.specs.Views.{in_order}
 use Rattle.rep_model.proofs.Lookup.{or_else}
 use Rattle.rep_model.proofs.Readers.{put_total, put_exact}
 use Rattle.rep_shared.proofs.Flat.{all_put}
 use Rattle.rep_entry.specs.declared.span.Span.{Span}
-use Rattle.rep_log.specs.Mail.{Range, name_of, covers, Above, Rising, NoneCovered, named_puts, put_named, InOne, weave}
+use Rattle.rep_log.specs.Mail.{Range, covers, Above, Rising, NoneCovered, named_puts, put_named, InOne, weave}
 use Rattle.rep_entry.specs.Spans.{IsFreeOutside}
 use Rattle.rep_log.specs.Origins.{ranges_in, origins_after, ranges_on}
 use Rattle.rep_entry.specs.Entries.{AreUnderNames, AreMade, NoneCoveredBelow, messages}

@@ -7,10 +7,10 @@ use Rattle.std.specs.Ordering.{is_eq, is_lt, ordering_reverse, ordering_then}
 use Rattle.sn_tables.specs.inner.Tables.{AllAbove, IsAt, IsGap}
 use Rattle.sn_tables.proofs.Ascending.{Ascends}
 use Rattle.rep_op.specs.declared.op.Put.{Put}
-use Rattle.rep_op.specs.Orders.{put_cmp}
+use Rattle.rep_op.specs.Orders.{name_of, put_cmp}
 use Rattle.rep_model.specs.Fresh.{largest}
 use Rattle.rep_model.proofs.Readers.{put_total}
-use Rattle.rep_log.specs.Mail.{name_of, goes_before, front_before, rest_from, weave, IsLess, Rising, put_named}
+use Rattle.rep_log.specs.Mail.{goes_before, front_before, rest_from, weave, IsLess, Rising, put_named}
 use Rattle.rep_entry.specs.inner.Mail.{are_behind}
 use Rattle.rep_entry.specs.inner.Numbers.{seq_from}
 

@@ -4,9 +4,9 @@ use Rattle.std.specs.List.{insert}
 use Rattle.std.specs.FinMap.{put as with, is_sorted}
 use Rattle.sn_tables.specs.inner.Tables.{AllAbove, IsGap}
 use Rattle.rep_op.specs.declared.op.Put.{Put}
-use Rattle.rep_op.specs.Orders.{put_cmp}
+use Rattle.rep_op.specs.Orders.{name_of, put_cmp}
 use Rattle.rep_model.proofs.Readers.{put_total}
-use Rattle.rep_log.specs.Mail.{name_of, named_puts, Rising}
+use Rattle.rep_log.specs.Mail.{named_puts, Rising}
 use Rattle.rep_entry.specs.Entries.{AreUnderNames, messages}
 use Rattle.rep_entry.proofs.Freshness.{rising_messages}
 use Rattle.rep_log.proofs.Sorting.{put_gap}

@@ -11,7 +11,7 @@ use Rattle.rep_op.specs.declared.op.Stamp.{Stamp}
 use Rattle.rep_op.specs.declared.op.Put.{Put}
 use Rattle.rep_op.specs.declared.op.Op.{Op}
 use Rattle.rep_op.specs.declared.op.Op.TheVariants.{Session as OfSession}
-use Rattle.rep_op.specs.Orders.{operation_cmp, put_cmp}
+use Rattle.rep_op.specs.Orders.{operation_cmp, name_of, put_cmp}
 use Rattle.rep_op.specs.Sets.{same_client, operation_of, operations, operation_at, put_of, puts, put_at, acknowledges, is_acknowledged, Same}
 use Rattle.rep_model.specs.Views.{visible}
 use Rattle.rep_model.specs.Keep.{is_below, keep}
@@ -20,7 +20,7 @@ use Rattle.rep_model.proofs.Readers.{same_client-true, operation_exact, put_exac
 use Rattle.rep_model.proofs.Thin.{thin-same, visible-thin}
 use Rattle.rep_log.specs.Logs.{visible_in, IsKeptIn}
 use Rattle.rep_log.proofs.Logging.{NoneBelow, all_kept}
-use Rattle.rep_log.specs.Mail.{name_of, Range, covers, put_named}
+use Rattle.rep_log.specs.Mail.{Range, covers, put_named}
 use Rattle.rep_log.specs.Kept.{of_log, of_mail, of_acks, kept_ops}
 use Rattle.rep_entry.proofs.Client.{itself, kept_operations, kept_puts, kept_acknowledged}
 use Rattle.rep_entry.proofs.Steps.{KeepsOf, kept_of_readers}

@@ -5,12 +5,12 @@ use Rattle.std.specs.Ordering.{is_lt, is_eq, eq_by_cmp, ordering_reverse}
 use Rattle.std.specs.FinMap.{find, put}
 use Rattle.std.specs.FinMap.Entries.{by_order}
 use Rattle.rep_op.specs.declared.op.Put.{Put}
-use Rattle.rep_op.specs.Orders.{put_cmp}
+use Rattle.rep_op.specs.Orders.{name_of, put_cmp}
 use Rattle.rep_model.specs.Views.{in_order}
 use Rattle.rep_model.proofs.Lookup.{or_else, find_both}
 use Rattle.rep_model.proofs.Readers.{put_total}
 use Rattle.rep_model.proofs.Joins.{all-both, all-weaker}
-use Rattle.rep_log.specs.Mail.{name_of, goes_before, front_before, rest_from, weave, IsLess, Above, Rising, named_puts, put_named, InOne}
+use Rattle.rep_log.specs.Mail.{goes_before, front_before, rest_from, weave, IsLess, Above, Rising, named_puts, put_named, InOne}
 
 -- p's name is none of theirs
 abbrev pub IsApart : Put → List Put → Type 0

@@ -6,9 +6,10 @@ use Rattle.std.proofs.lemmas.Bool.{and_parts, and_from, ltb-true, lt-ltb, leb-tr
 use Rattle.std.proofs.lemmas.List.Elements.{filter-append}
 use Rattle.std.proofs.lemmas.List.Sums.{length-filter}
 use Rattle.rep_op.specs.declared.op.Put.{Put}
+use Rattle.rep_op.specs.Orders.{name_of}
 use Rattle.rep_model.proofs.Joins.{all-weaker}
 use Rattle.rep_entry.specs.declared.span.Span.{Span}
-use Rattle.rep_log.specs.Mail.{Range, name_of, covers, is_left, Above, Rising, NoneCovered}
+use Rattle.rep_log.specs.Mail.{Range, covers, is_left, Above, Rising, NoneCovered}
 use Rattle.rep_entry.specs.Spans.{lies_in, IsFreeOutside, AreFreeOutside}
 use Rattle.rep_entry.specs.inner.Mail.{left_from, widened}
 use Rattle.rep_entry.proofs.Names.{not_after}

@@ -6,7 +6,7 @@ use Rattle.sn_session.specs.declared.change.SessionOp.{SessionOp}
 use Rattle.rep_op.specs.declared.op.Stamp.{Stamp}
 use Rattle.rep_op.specs.declared.op.Put.{Put}
 use Rattle.rep_op.specs.declared.op.Op.{Op}
-use Rattle.rep_op.specs.Orders.{operation_cmp, put_cmp}
+use Rattle.rep_op.specs.Orders.{operation_cmp, name_of, put_cmp}
 use Rattle.rep_op.specs.Sets.{Same}
 use Rattle.rep_op.specs.WellMade.{is_stamp, is_counted, is_put}
 use Rattle.rep_op.specs.Ranges.{is_change}
@@ -17,7 +17,7 @@ use Rattle.rep_log.specs.declared.log.Log.{Log}
 use Rattle.rep_entry.specs.declared.entry.Entry.{Entry}
 use Rattle.rep_entry.specs.declared.fresh.Fresh.{Fresh}
 use Rattle.rep_log.specs.Logs.{IsFoldedOf, Whole, IsFolded, stamp_on, prefix_on, session_on, known_on}
-use Rattle.rep_log.specs.Mail.{Range, covers, name_of, Rising, NoneCovered, InOne, is_left, weave}
+use Rattle.rep_log.specs.Mail.{Range, covers, Rising, NoneCovered, InOne, is_left, weave}
 use Rattle.rep_entry.specs.Spans.{IsFreeOutside, AreFreeOutside}
 use Rattle.rep_log.specs.Origins.{ranges_in, AreOrigins, origins_after, ranges_on}
 use Rattle.rep_log.specs.Kept.{kept_ops}

@@ -2,8 +2,9 @@
 use Rattle.std.specs.Prelude.{◌≡◌, ℕ, Bool, false, ◌&&◌, nat_le, List}
 use Rattle.std.specs.List.{list_any, AllByRecursion}
 use Rattle.rep_op.specs.declared.op.Put.{Put}
+use Rattle.rep_op.specs.Orders.{name_of}
 use Rattle.rep_entry.specs.declared.span.Span.{Span}
-use Rattle.rep_log.specs.Mail.{Range, covers, name_of}
+use Rattle.rep_log.specs.Mail.{Range, covers}
 
 -- whether the span has the number
 abbrev pub lies_in : Span → ℕ → Bool

@@ -5,12 +5,12 @@ ghost use Rattle.std.specs.Prelude.{◌≡◌, ◌+◌, ◌==◌, ◌≤◌, ◌
 ghost use Rattle.std.specs.List.{list_any};
 ghost use Rattle.std.specs.FinMap.{find};
 ghost use Rattle.rep_op.specs.declared.op.Op.TheVariants.{Session as OfSession, Put as OfPut, Ack};
-ghost use Rattle.rep_op.specs.Orders.{operation_cmp, put_cmp};
+ghost use Rattle.rep_op.specs.Orders.{operation_cmp, name_of, put_cmp};
 ghost use Rattle.rep_op.specs.WellMade.{is_well_made};
 ghost use Rattle.rep_shared.specs.Rows.{IsOwnOp};
 ghost use Rattle.rep_entry.specs.declared.entry.Entry.{Entry as AnEntry};
 ghost use Rattle.rep_log.specs.Logs.{known_on, whole_of};
-ghost use Rattle.rep_log.specs.Mail.{covers, name_of, put_named, Rising};
+ghost use Rattle.rep_log.specs.Mail.{covers, put_named, Rising};
 ghost use Rattle.rep_log.specs.Origins.{ranges_in, origins_after};
 ghost use Rattle.rep_entry.specs.Entries.{whole_after};
 ghost use Rattle.rep_entry.specs.inner.Entries.{parked_on, exceptions_on, HasLogRoom};

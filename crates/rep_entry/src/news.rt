@@ -2,8 +2,7 @@
 
 ghost use Rattle.std.specs.Prelude.{◌≡◌, [], None, is_some, OnOk};
 ghost use Rattle.std.specs.FinMap.{find, put as with};
-ghost use Rattle.rep_op.specs.Orders.{put_cmp};
-ghost use Rattle.rep_log.specs.Mail.{name_of};
+ghost use Rattle.rep_op.specs.Orders.{name_of, put_cmp};
 ghost use Rattle.rep_entry.specs.Entries.{messages};
 
 use super::searching::{find_put, place_of_name};

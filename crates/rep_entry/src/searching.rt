@@ -6,8 +6,8 @@ ghost use Rattle.std.specs.List.{AllByRecursion};
 ghost use Rattle.std.specs.List.Sorted.{IsSearchInRange};
 ghost use Rattle.std.specs.Option.{option_copied};
 ghost use Rattle.sn_tables.specs.inner.Tables.{IsPlace};
-ghost use Rattle.rep_op.specs.Orders.{put_cmp};
-ghost use Rattle.rep_log.specs.Mail.{name_of, put_named, Rising};
+ghost use Rattle.rep_op.specs.Orders.{name_of, put_cmp};
+ghost use Rattle.rep_log.specs.Mail.{put_named, Rising};
 
 use rep_ops::Put;
 

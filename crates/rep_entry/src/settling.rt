@@ -2,9 +2,11 @@
 
 ghost use Rattle.std.specs.Prelude.{◌≡◌, ◌+◌, ◌==◌, ◌<◌, ◌≤◌, ◌++◌, [], suc, false, vec_capacity, List, take, drop, filter, length, count_by, IfOk, IsTrue};
 ghost use Rattle.rep_op.specs.declared.op.Put.{Put};
-ghost use Rattle.rep_log.specs.Mail.{weave, is_left, NoneCovered, Rising};
+ghost use Rattle.rep_log.specs.Mail.{weave, NoneCovered, Rising};
+ghost use Rattle.rep_log.specs.Mail as mail;
 ghost use Rattle.rep_entry.specs.Spans.{AreFreeOutside};
-ghost use Rattle.rep_entry.specs.inner.Mail.{are_behind, left_from};
+ghost use Rattle.rep_entry.specs.inner.Mail.{left_from};
+ghost use Rattle.rep_entry.specs.inner.Mail as spec;
 ghost use Rattle.rep_log.specs.Origins.{ranges_in};
 
 use super::span::{Span, between};
@@ -19,14 +21,14 @@ const FEW: usize = 8;
 
 /// Whether the message is not acknowledged.
 fn is_left(acks: &Acks, put: &Put) -> bool
-    ensures { result ≡ is_left (ranges_in acks.now) put.now }
+    ensures { result ≡ mail.is_left (ranges_in acks.now) put.now }
 {
     !acks.covers(put.seq, put.origin)
 }
 
 /// Drops the messages that are acknowledged. All are asked.
 fn drop_any(all: &mut Vec<Put>, acks: &Acks)
-    ensures { all.new.items ≡ filter (is_left (ranges_in acks.now)) all.old.items }
+    ensures { all.new.items ≡ filter (mail.is_left (ranges_in acks.now)) all.old.items }
 {
     all.retain(|put| is_left(acks, put));
 }
@@ -49,7 +51,7 @@ fn drop_each(all: &mut Vec<Put>, from: usize, count: usize, acks: &Acks)
     requires bound { from + count ≤ length all.old.items }
     requires front { NoneCovered (ranges_in acks.now) (take from all.old.items) }
     requires back { NoneCovered (ranges_in acks.now) (drop count (drop from all.old.items)) }
-    ensures { all.new.items ≡ filter (is_left (ranges_in acks.now)) all.old.items }
+    ensures { all.new.items ≡ filter (mail.is_left (ranges_in acks.now)) all.old.items }
 {
     let mut at = from + count;
     while from < at {
@@ -63,7 +65,7 @@ fn drop_each(all: &mut Vec<Put>, from: usize, count: usize, acks: &Acks)
 fn drop_covered(all: &mut Vec<Put>, span: Span, acks: &Acks)
     requires rising { Rising all.old.items }
     requires free { AreFreeOutside span (ranges_in acks.now) all.old.items }
-    ensures { all.new.items ≡ filter (is_left (ranges_in acks.now)) all.old.items }
+    ensures { all.new.items ≡ filter (mail.is_left (ranges_in acks.now)) all.old.items }
 {
     let (from, count) = between(all.as_slice(), span);
     if count > FEW {
@@ -86,7 +88,7 @@ fn come_behind(waiting: &[Put], news: &[Put]) -> bool
 
 /// Whether the first of the new messages, if there is one, comes behind this.
 fn are_behind(last: &Put, news: &[Put]) -> bool
-    ensures { result ≡ are_behind last.now news.now }
+    ensures { result ≡ spec.are_behind last.now news.now }
 {
     match news.first() {
         None => true,
@@ -128,7 +130,7 @@ pub(crate) fn settled(
     requires rising { Rising waiting.items }
     requires woven { Rising (weave waiting.items news.items) }
     requires free { AreFreeOutside span (ranges_in acks.now) (weave waiting.items news.items) }
-    ensures { result.items ≡ filter (is_left (ranges_in acks.now))
+    ensures { result.items ≡ filter (mail.is_left (ranges_in acks.now))
         (weave waiting.items news.items) }
 {
     let mut all = joined(room, waiting, news);
@@ -138,7 +140,7 @@ pub(crate) fn settled(
 
 /// How many of the messages are not acknowledged. All are asked.
 fn count_each(puts: &[Put], acks: &Acks) -> usize
-    ensures count { result ≡ count_by (is_left (ranges_in acks.now)) puts.now }
+    ensures count { result ≡ count_by (mail.is_left (ranges_in acks.now)) puts.now }
     ensures bound { result ≤ length puts.now }
 {
     puts.iter().filter(|put| is_left(acks, *put)).count()
@@ -148,7 +150,7 @@ fn count_each(puts: &[Put], acks: &Acks) -> usize
 fn count_left(puts: &[Put], span: Span, acks: &Acks) -> usize
     ensures { Rising puts.now
         → AreFreeOutside span (ranges_in acks.now) puts.now
-        → result ≡ count_by (is_left (ranges_in acks.now)) puts.now }
+        → result ≡ count_by (mail.is_left (ranges_in acks.now)) puts.now }
 {
     let (from, count) = between(puts, span);
     let asked = puts.split_at(from).1.split_at(count).0;
@@ -168,7 +170,7 @@ pub(crate) fn count_settled(
         → AreFreeOutside span (ranges_in acks.now) waiting.now
         → AreFreeOutside span (ranges_in acks.now) news.now
         → IfOk result (λ count. count
-        ≡ length (filter (is_left (ranges_in acks.now)) (weave waiting.now news.now))) }
+        ≡ length (filter (mail.is_left (ranges_in acks.now)) (weave waiting.now news.now))) }
 {
     sum(
         count_left(waiting, span, acks),

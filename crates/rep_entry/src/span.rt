@@ -17,7 +17,7 @@ pub struct Span {
 
 impl Span {
     ghost use Rattle.rep_entry.specs.Spans.{lies_in};
-    ghost use Rattle.rep_entry.specs.inner.Mail.{widened};
+    ghost use Rattle.rep_entry.specs.inner.Mail as spec;
 
     /// No number.
     pub(crate) fn none() -> Span
@@ -31,7 +31,7 @@ impl Span {
 
     /// As far as both reach, this and the numbers from first to last.
     pub(crate) fn widened(self, first: u64, last: u64) -> Span
-        ensures { result ≡ widened self first last }
+        ensures { result ≡ spec.widened self first last }
     {
         Span {
             first: self.first.min(first),

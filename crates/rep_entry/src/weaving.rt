@@ -2,15 +2,16 @@
 
 ghost use Rattle.std.specs.Prelude.{◌≡◌, ◌+◌, ◌<◌, ◌≤◌, ◌++◌, ◌∷◌, [], vec_len, vec_capacity, length};
 ghost use Rattle.std.specs.VecDeque.{deque_len};
-ghost use Rattle.rep_log.specs.Mail.{goes_before, front_before, rest_from, weave};
-ghost use Rattle.rep_entry.specs.inner.Mail.{begins_before};
+ghost use Rattle.rep_log.specs.Mail.{front_before, rest_from, weave};
+ghost use Rattle.rep_log.specs.Mail as mail;
+ghost use Rattle.rep_entry.specs.inner.Mail as spec;
 
 use rep_ops::Put;
 use std::collections::VecDeque;
 
 /// Whether the first message goes before the second.
 pub(crate) fn goes_before(put: &Put, other: &Put) -> bool
-    ensures { result ≡ goes_before put.now other.now }
+    ensures { result ≡ mail.goes_before put.now other.now }
 {
     put.seq
         .cmp(&other.seq)
@@ -20,7 +21,7 @@ pub(crate) fn goes_before(put: &Put, other: &Put) -> bool
 
 /// Whether the first of the messages goes before the other.
 fn begins_before(news: &VecDeque<Put>, put: &Put) -> bool
-    ensures { result ≡ begins_before put.now news.now.items }
+    ensures { result ≡ spec.begins_before put.now news.now.items }
 {
     match news.front() {
         Some(new) => goes_before(new, put),

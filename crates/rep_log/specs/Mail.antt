@@ -5,10 +5,7 @@ use Rattle.std.specs.List.{list_any, AllByRecursion}
 use Rattle.std.specs.FinMap.{find}
 use Rattle.std.specs.Ordering.{is_lt}
 use Rattle.rep_op.specs.declared.op.Put.{Put}
-use Rattle.rep_op.specs.Orders.{put_cmp}
-
-abbrev pub name_of : Put → ℕ × ℕ
-name_of p = (p.seq, p.origin)
+use Rattle.rep_op.specs.Orders.{name_of, put_cmp}
 
 abbrev pub goes_before : Put → Put → Bool
 goes_before p q = is_lt (put_cmp (name_of p) (name_of q))

@@ -6,7 +6,8 @@ ghost use Rattle.std.specs.Prelude.{◌≡◌, ◌+◌, ◌≤◌, ◌<◌, ◌=
 ghost use Rattle.std.specs.List.{list_any};
 ghost use Rattle.std.specs.BTreeMap.{values};
 ghost use Rattle.rep_op.specs.declared.op.Op.TheVariants.{Ack};
-ghost use Rattle.rep_model.specs.Ranges.{is_within, in_ranges};
+ghost use Rattle.rep_model.specs.Ranges.{in_ranges};
+ghost use Rattle.rep_model.specs.Ranges as range_list;
 ghost use Rattle.rep_shared.specs.Steps.{capped};
 ghost use Rattle.rep_log.specs.Kept.{of_acks};
 ghost use Rattle.rep_log.specs.Mail.{covers};
@@ -226,7 +227,7 @@ fn any_within(ranges: &[(u64, u64)], number: u64) -> bool
 
 /// Whether the number is in the range.
 fn is_within(number: u64, range: (u64, u64)) -> bool
-    ensures { result ≡ is_within number range }
+    ensures { result ≡ range_list.is_within number range }
 {
     range.0 <= number && number <= range.1
 }

@@ -3,8 +3,9 @@
 ghost use Rattle.std.specs.Prelude.{◌≡◌, ℕ, ◌+◌, ◌++◌, ◌∷◌, List, [], drop, false, true, IfOk, OnOk, IfErr, MatchOption};
 ghost use Rattle.rep_op.specs.declared.op.Op.{Op};
 ghost use Rattle.rep_ops.specs.Making.{AreWellMade};
-ghost use Rattle.rep_model.specs.Views.{view, clients, is_named};
-ghost use Rattle.rep_model.specs.Fresh.{next_epoch, next_seq};
+ghost use Rattle.rep_model.specs.Views.{view, is_named};
+ghost use Rattle.rep_model.specs.Views as views;
+ghost use Rattle.rep_model.specs.Fresh as fresh;
 ghost use Rattle.rep_model.specs.Keep.{IsKeptOf};
 ghost use Rattle.rep_model.specs.Held.{IsHeld};
 ghost use Rattle.rep_model.specs.Asking.{NoneAsks, IsCandidate};
@@ -62,16 +63,16 @@ pub trait Replica: Drop {
 
     /// The clients that operations name, in ascending order.
     fn clients(&self, alloc: Global) -> Result<Vec<ClientId>, TakeFault>
-        ensures ok { IfOk result (λ all. all.items ≡ clients (kept self.now)) }
+        ensures ok { IfOk result (λ all. all.items ≡ views.clients (kept self.now)) }
         ensures err { IfErr result (λ fault. fault ≡ Memory) };
 
     /// The client at a place among those that operations name, which stand in ascending order from
     /// place 0 on, with its view, and the place behind it; nothing behind the last.
     fn client_at(&self, place: usize) -> Option<(usize, &ClientId, &ClientView)>
         ensures { MatchOption result
-            (drop place (clients (kept self.now)) ≡ [])
-            (λ found. (drop place (clients (kept self.now))
-            ≡ found.1.now ∷ drop found.0 (clients (kept self.now)))
+            (drop place (views.clients (kept self.now)) ≡ [])
+            (λ found. (drop place (views.clients (kept self.now))
+            ≡ found.1.now ∷ drop found.0 (views.clients (kept self.now)))
             × (found.0 ≡ place + 1)
             × (found.2.now ≡ view found.1.now (kept self.now))) };
 
@@ -85,17 +86,17 @@ pub trait Replica: Drop {
         place: usize,
     ) -> Option<(usize, &ClientId, &ClientView)>
         ensures { MatchOption result
-            (NoneAsks topic.now (kept self.now) (drop place (clients (kept self.now))))
+            (NoneAsks topic.now (kept self.now) (drop place (views.clients (kept self.now))))
             (λ found. IsCandidate topic.now
             (kept self.now) place found.0 found.1.now found.2.now) };
 
     /// The epoch of the client's next Take; nothing after the last.
     fn next_epoch(&self, client: &ClientId) -> Option<u64>
-        ensures { result ≡ next_epoch client.now (kept self.now) };
+        ensures { result ≡ fresh.next_epoch client.now (kept self.now) };
 
     /// The sequence number of a gateway's next message for the client; nothing after the last.
     fn next_seq(&self, client: &ClientId, gateway: u8) -> Option<u64>
-        ensures { result ≡ next_seq client.now gateway (kept self.now) };
+        ensures { result ≡ fresh.next_seq client.now gateway (kept self.now) };
 
     /// The operations that must be kept, in the order of their names, as deltas that are as full as
     /// they can be: a new one begins where the next operation does not fit. Where nothing must be

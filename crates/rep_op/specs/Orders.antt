@@ -5,6 +5,7 @@ use Rattle.std.specs.declared.cmp.Ordering.TheVariants.{Less, Greater}
 use Rattle.std.specs.Ordering.{nat_cmp, ordering_then}
 use Rattle.std.specs.Cmp.Lexicographic.{slice_cmp}
 use Rattle.rep_op.specs.declared.op.Stamp.{Stamp}
+use Rattle.rep_op.specs.declared.op.Put.{Put}
 use Rattle.rep_op.specs.declared.op.Op.{Op}
 use Rattle.rep_op.specs.declared.op.Op.TheVariants.{Session as OfSession, Put as OfPut, Ack}
 
@@ -20,7 +21,11 @@ stamp_cmp a b = ordering_then (nat_cmp a.epoch b.epoch) (nat_cmp a.gateway b.gat
 abbrev pub operation_cmp : Stamp × ℕ → Stamp × ℕ → Ordering
 operation_cmp a b = ordering_then (stamp_cmp a.0 b.0) (nat_cmp a.1 b.1)
 
--- a put of a client is named by its sequence number and its origin; this is the order of delivery
+-- a put of a client is named by its sequence number and its origin
+abbrev pub name_of : Put → ℕ × ℕ
+name_of put = (put.seq, put.origin)
+
+-- puts of a client are ordered by these names; this is the order of delivery
 abbrev pub put_cmp : ℕ × ℕ → ℕ × ℕ → Ordering
 put_cmp a b = ordering_then (nat_cmp a.0 b.0) (nat_cmp a.1 b.1)
 

@@ -71,7 +71,7 @@ no_parts (x ∷ y ∷ ds) h = absurd (let none = no_parts (y ∷ ds) h.1 in cc)
 
 -- ---- parts
 
-all_of_more : (ds : List (List Op)) (d : List Op) → all_of (ds ++ d ∷ []) ≡ all_of ds ++ d
+pub all_of_more : (ds : List (List Op)) (d : List Op) → all_of (ds ++ d ∷ []) ≡ all_of ds ++ d
 all_of_more ds d = flat_map-append (λ (x : List Op). x) ds (d ∷ []) ∙ ap (λ (xs : List Op). all_of ds ++ xs) (append-nil d)
 
 pub octets : List Op → ℕ

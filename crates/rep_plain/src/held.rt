@@ -2,11 +2,12 @@
 
 ghost use Rattle.std.specs.Prelude.{◌≡◌, ◌++◌, filter, IfOk, OnOk};
 ghost use Rattle.rep_model.specs.Held.{IsHeld};
-ghost use Rattle.rep_model.specs.Keep.{keep, is_below};
+ghost use Rattle.rep_model.specs.Keep.{keep};
+ghost use Rattle.rep_model.specs.Keep as keeps;
 ghost use Rattle.rep_shared.specs.Rows.{flat};
 ghost use Rattle.rep_plain.specs.inner.Rows.{kept_rows};
 ghost use Rattle.rep_shared.specs.inner.Rows.{AreRows};
-ghost use Rattle.rep_plain.specs.inner.Steps.{must_stay};
+ghost use Rattle.rep_plain.specs.inner.Steps as spec;
 ghost use Rattle.rep_plain.specs.Tables.{rows_of, IsEntry, AreEntries};
 
 use super::entry::Entry;
@@ -63,7 +64,7 @@ fn push_kept(
     ranges: &[Range],
 ) -> Result<(), NoMemory>
     ensures { OnOk result (kept.new.items ≡ kept.old.items ++ filter
-        (must_stay visible ranges.now) ops.now) }
+        (spec.must_stay visible ranges.now) ops.now) }
 {
     for op in ops {
         if must_stay(op, visible, ranges) {
@@ -75,7 +76,7 @@ fn push_kept(
 
 /// Whether an operation must be kept, by the visible stamp and the acknowledgements of its client.
 fn must_stay(op: &Op, visible: Option<Stamp>, ranges: &[Range]) -> bool
-    ensures { result ≡ must_stay visible ranges.now op.now }
+    ensures { result ≡ spec.must_stay visible ranges.now op.now }
 {
     match op {
         Op::Session { stamp, .. } => !is_below(*stamp, visible),
@@ -86,7 +87,7 @@ fn must_stay(op: &Op, visible: Option<Stamp>, ranges: &[Range]) -> bool
 
 /// Whether a stamp is below the visible one.
 fn is_below(stamp: Stamp, visible: Option<Stamp>) -> bool
-    ensures { result ≡ is_below stamp visible }
+    ensures { result ≡ keeps.is_below stamp visible }
 {
     match visible {
         Some(seen) => stamp < seen,

@@ -7,7 +7,8 @@ ghost use Rattle.rep_model.specs.Taking.{AllAgree, IsFaultOf};
 ghost use Rattle.rep_shared.specs.Rows.{flat};
 ghost use Rattle.rep_shared.specs.inner.Rows.{AreRows};
 ghost use Rattle.rep_plain.specs.Tables.{rows_of};
-ghost use Rattle.rep_plain.specs.inner.Tables.{is_known, has_range, one_new};
+ghost use Rattle.rep_plain.specs.inner.Tables.{one_new};
+ghost use Rattle.rep_plain.specs.inner.Tables as spec;
 ghost use Rattle.rep_shared.specs.inner.Tables.{IsRefusalOf};
 
 use super::reading::{agrees, operation_at, put_at};
@@ -22,7 +23,7 @@ pub(crate) fn news(alloc: Global, table: &Table, delta: &[Op]) -> Result<Vec<Op>
     requires { AreRows (rows_of table.now.entries) }
     ensures agree { OnOk result (AllAgree (flat (rows_of table.now.entries)) delta.now) }
     ensures news { IfOk result (λ news. news.items
-        ≡ filter (λ op. not (is_known (flat (rows_of table.now.entries)) op)) delta.now) }
+        ≡ filter (λ op. not (spec.is_known (flat (rows_of table.now.entries)) op)) delta.now) }
     ensures fault { IfErr result (IsFaultOf (flat (rows_of table.now.entries)) delta.now) }
 {
     let mut news = Vec::new(alloc);
@@ -62,7 +63,7 @@ fn conflict(alloc: Global, client: &ClientId) -> TakeFault
 
 /// Whether the operation's name is there.
 fn is_known(ops: &[Op], op: &Op) -> bool
-    ensures { result ≡ is_known ops.now op.now }
+    ensures { result ≡ spec.is_known ops.now op.now }
 {
     match op {
         Op::Session {
@@ -83,14 +84,14 @@ fn is_known(ops: &[Op], op: &Op) -> bool
 
 /// Whether the range of acknowledgements lies within one of the operations.
 fn any_has_range(ops: &[Op], client: &ClientId, wanted: u8, range: (u64, u64)) -> bool
-    ensures { result ≡ list_any (has_range client.now wanted range.0 range.1) ops.now }
+    ensures { result ≡ list_any (spec.has_range client.now wanted range.0 range.1) ops.now }
 {
     ops.iter().any(|op| has_range(client, wanted, range, op))
 }
 
 /// Whether the range of acknowledgements lies within the operation.
 fn has_range(client: &ClientId, wanted: u8, range: (u64, u64), op: &Op) -> bool
-    ensures { result ≡ has_range client.now wanted range.0 range.1 op.now }
+    ensures { result ≡ spec.has_range client.now wanted range.0 range.1 op.now }
 {
     match op {
         Op::Ack {

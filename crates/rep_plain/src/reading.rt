@@ -5,10 +5,12 @@ ghost use Rattle.std.specs.Option.{option_copied};
 ghost use Rattle.std.specs.Ordering.{is_eq};
 ghost use Rattle.rep_op.specs.declared.op.Op.{Op};
 ghost use Rattle.rep_op.specs.Orders.{operation_cmp, put_cmp};
-ghost use Rattle.rep_op.specs.Sets.{operation_at, put_at, is_acknowledged, acknowledges, Agrees};
+ghost use Rattle.rep_op.specs.Sets.{is_acknowledged, acknowledges, Agrees};
+ghost use Rattle.rep_op.specs.Sets as sets;
 ghost use Rattle.rep_model.specs.Views.{visible};
 ghost use Rattle.rep_plain.specs.inner.Steps.{first_of_two};
-ghost use Rattle.rep_model.specs.Fresh.{greatest_epoch, seq_of, largest};
+ghost use Rattle.rep_model.specs.Fresh.{seq_of, largest};
+ghost use Rattle.rep_model.specs.Fresh as fresh;
 
 use rep_ops::{ClientId, Op, Put, Stamp};
 use rep_same::same_change;
@@ -71,7 +73,7 @@ pub(crate) fn operation_at<'a>(
     client: &ClientId,
     name: (Stamp, u8),
 ) -> Option<&'a SessionOp>
-    ensures { option_copied result ≡ operation_at client.now ops.now name }
+    ensures { option_copied result ≡ sets.operation_at client.now ops.now name }
 {
     for op in ops {
         if let Some(change) = change_named(op, client, name) {
@@ -83,8 +85,8 @@ pub(crate) fn operation_at<'a>(
 
 /// The change that an operation of this name makes, in front of any others.
 fn change_named<'a>(op: &'a Op, client: &ClientId, name: (Stamp, u8)) -> Option<&'a SessionOp>
-    ensures { (S : List Op) → operation_at client.now (op.now ∷ S) name ≡ first_of_two
-        (option_copied result) (operation_at client.now S name) }
+    ensures { (S : List Op) → sets.operation_at client.now (op.now ∷ S) name ≡ first_of_two
+        (option_copied result) (sets.operation_at client.now S name) }
 {
     match op {
         Op::Session {
@@ -99,7 +101,7 @@ fn change_named<'a>(op: &'a Op, client: &ClientId, name: (Stamp, u8)) -> Option<
 
 /// The put that is there under a name.
 pub(crate) fn put_at<'a>(ops: &'a [Op], client: &ClientId, name: (u64, u8)) -> Option<&'a Put>
-    ensures { option_copied result ≡ put_at client.now ops.now name }
+    ensures { option_copied result ≡ sets.put_at client.now ops.now name }
 {
     for op in ops {
         if let Some(put) = put_named(op, client, name) {
@@ -111,8 +113,8 @@ pub(crate) fn put_at<'a>(ops: &'a [Op], client: &ClientId, name: (u64, u8)) -> O
 
 /// The put that an operation of this name makes, in front of any others.
 fn put_named<'a>(op: &'a Op, client: &ClientId, name: (u64, u8)) -> Option<&'a Put>
-    ensures { (S : List Op) → put_at client.now (op.now ∷ S) name ≡ first_of_two
-        (option_copied result) (put_at client.now S name) }
+    ensures { (S : List Op) → sets.put_at client.now (op.now ∷ S) name ≡ first_of_two
+        (option_copied result) (sets.put_at client.now S name) }
 {
     match op {
         Op::Put { client: owner, put } if owner == client && has_put_name(name, put) => Some(put),
@@ -144,7 +146,7 @@ pub(crate) fn agrees(ops: &[Op], op: &Op) -> bool
 
 /// The greatest epoch of the client, or 0.
 pub(crate) fn greatest_epoch(ops: &[Op], client: &ClientId) -> u64
-    ensures { result ≡ greatest_epoch client.now ops.now }
+    ensures { result ≡ fresh.greatest_epoch client.now ops.now }
 {
     let mut most = 0;
     let mut i = ops.len();
@@ -157,8 +159,8 @@ pub(crate) fn greatest_epoch(ops: &[Op], client: &ClientId) -> u64
 
 /// The greatest epoch with one operation more, in front of those that gave `most`.
 fn greater_epoch(op: &Op, client: &ClientId, most: u64) -> u64
-    ensures { (S : List Op) → most ≡ greatest_epoch client.now S
-        → result ≡ greatest_epoch client.now (op.now ∷ S) }
+    ensures { (S : List Op) → most ≡ fresh.greatest_epoch client.now S
+        → result ≡ fresh.greatest_epoch client.now (op.now ∷ S) }
 {
     match op {
         Op::Session {

@@ -5,7 +5,8 @@ ghost use Rattle.std.specs.List.{list_any, AllByRecursion};
 ghost use Rattle.std.specs.FinMap.{find, is_sorted};
 ghost use Rattle.rep_op.specs.Orders.{client_cmp};
 ghost use Rattle.rep_shared.specs.Rows.{own, flat, has_any};
-ghost use Rattle.rep_shared.specs.inner.Rows.{count_new, named_rows};
+ghost use Rattle.rep_shared.specs.inner.Rows.{named_rows};
+ghost use Rattle.rep_shared.specs.inner.Rows as rows;
 ghost use Rattle.rep_plain.specs.Tables.{rows_of};
 ghost use Rattle.rep_plain.specs.inner.Tables.{passed_by, too_many_pending, too_many_parked, too_many_exceptions};
 
@@ -72,7 +73,7 @@ fn any_exceptions(fresh: &[(ClientId, Entry)]) -> bool
 
 /// How many of the fresh clients had no operations.
 pub(crate) fn count_new(table: &Table, fresh: &[(ClientId, Entry)]) -> usize
-    ensures { result ≡ count_new (rows_of table.now.entries) (rows_of fresh.now) }
+    ensures { result ≡ rows.count_new (rows_of table.now.entries) (rows_of fresh.now) }
 {
     fresh
         .iter()

@@ -2,7 +2,8 @@
 //! does not depend on its length.
 
 ghost use Rattle.std.specs.Prelude.{◌≡◌, ◌+◌, IfOk, nat_lt, nat_le, if◌then◌else◌, max, sum_by};
-ghost use Rattle.rep_model.specs.Limits.{with_range, size_of, above_a_gap};
+ghost use Rattle.rep_model.specs.Limits.{size_of, above_a_gap};
+ghost use Rattle.rep_model.specs.Limits as limits;
 ghost use Rattle.rep_shared.specs.Steps.{capped};
 
 use octets::NoMemory;
@@ -15,7 +16,7 @@ pub fn with_range(
     range: (u64, u64),
     ranges: &[(u64, u64)],
 ) -> Result<Vec<(u64, u64)>, NoMemory>
-    ensures { IfOk result (λ made. made.items ≡ with_range range ranges.now) }
+    ensures { IfOk result (λ made. made.items ≡ limits.with_range range ranges.now) }
 {
     let mut made = Vec::new(alloc);
     let mut open = range;

@@ -7,7 +7,7 @@ ghost use Rattle.rep_op.specs.Sets.{operations};
 ghost use Rattle.rep_model.specs.Views.{in_order, after_change};
 ghost use Rattle.std.specs.Prelude.{count_by};
 ghost use Rattle.std.specs.BTreeMap.{keys};
-ghost use Rattle.rep_shared.specs.Steps.{waits};
+ghost use Rattle.rep_shared.specs.Steps as spec;
 
 use octets::NoMemory;
 use rep_ops::{ClientId, Op, Stamp};
@@ -89,7 +89,7 @@ pub fn count_parked(
     visible: Option<Stamp>,
     prefix: u16,
 ) -> usize
-    ensures { result ≡ count_by (waits visible prefix) (keys known.now) }
+    ensures { result ≡ count_by (spec.waits visible prefix) (keys known.now) }
 {
     known
         .keys()
@@ -99,7 +99,7 @@ pub fn count_parked(
 
 /// Whether an operation of that name waits for earlier ones.
 fn waits(name: (Stamp, u8), visible: Option<Stamp>, prefix: u16) -> bool
-    ensures { result ≡ waits visible prefix name }
+    ensures { result ≡ spec.waits visible prefix name }
 {
     match visible {
         None => true,

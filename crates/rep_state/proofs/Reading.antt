@@ -9,7 +9,7 @@ use Rattle.std.specs.FinMap.Entries.{below_all}
 use Rattle.sn_session.specs.declared.change.SessionOp.{SessionOp}
 use Rattle.rep_op.specs.declared.op.Stamp.{Stamp}
 use Rattle.rep_op.specs.declared.op.Put.{Put}
-use Rattle.rep_op.specs.Orders.{client_cmp, put_cmp}
+use Rattle.rep_op.specs.Orders.{client_cmp, name_of, put_cmp}
 use Rattle.rep_model.specs.Fresh.{largest, seq_of, greatest_epoch}
 use Rattle.rep_model.specs.Ranges.{AreApartFrom}
 use Rattle.rep_model.specs.Views.{names}
@@ -19,7 +19,7 @@ use Rattle.rep_state.proofs.Rows.{find_rows}
 use Rattle.rep_state.specs.Tables.{rows_of}
 use Rattle.rep_shared.proofs.Flat.{find_below}
 use Rattle.rep_entry.specs.declared.entry.Entry.{Entry}
-use Rattle.rep_log.specs.Mail.{name_of, put_named}
+use Rattle.rep_log.specs.Mail.{put_named}
 use Rattle.rep_log.specs.Origins.{or_no_range, ranges_at, ranges_in, IsOrigin, AreOrigins}
 use Rattle.rep_log.specs.Kept.{of_log, of_mail, of_acks}
 use Rattle.rep_entry.specs.Entries.{row_of}

@@ -1,6 +1,7 @@
 -- What these rows leave alone: they acknowledge no message, put none, and change nothing but the session.
 use Rattle.std.proofs.Common.{ℕ, Bool, true, false, if◌then◌else◌, List, Option, Some, None, refl}
 use Rattle.sn_topic.specs.Table.{Entries}
+use Rattle.sn_topic.specs.Topics.{name_asked}
 use Rattle.sn_session.specs.declared.session.Session.{Session}
 use Rattle.sn_session.specs.declared.change.SessionOp.{SessionOp}
 use Rattle.sn_session.specs.declared.will.WillTopic.{WillTopic}
@@ -13,7 +14,7 @@ use Rattle.sn_local.specs.declared.config.Addr.{Addr}
 use Rattle.sn_plan.specs.declared.asking.Asked.{Asked}
 use Rattle.sn_plan.specs.declared.asking.Asked.TheVariants.{Topics, Refused}
 use Rattle.sn_subscribe.specs.declared.registration.NamedId.{NamedId}
-use Rattle.sn_plan.specs.Asking.{qos_asked, name_asked, topics_asked}
+use Rattle.sn_plan.specs.Asking.{qos_asked, topics_asked}
 use Rattle.sn_plan.specs.Drafts.{Drafted, nothing, changed_if, sent}
 use Rattle.sn_subscribe.specs.Registration.{id_for, registered, register_name, register}
 use Rattle.sn_subscribe.specs.Subscription.{refused, suback, subscribe_change, subscribed, subscribe_asked, subscribe_at, subscribe, id_asked, unsubscribe_asked, unsubscribe}

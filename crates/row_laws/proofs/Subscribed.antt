@@ -7,6 +7,7 @@ use Rattle.std.specs.Ordering.{is_eq, ordering_reverse}
 use Rattle.std.specs.Cmp.Lexicographic.{nat_list_cmp_total, texts_ties}
 use Rattle.std.specs.declared.cmp.Ordering.TheVariants.{Less, Equal, Greater}
 use Rattle.sn_topic.specs.Table.{Entries}
+use Rattle.sn_topic.specs.Topics.{name_asked}
 use Rattle.sn_session.specs.declared.session.Session.{Session}
 use Rattle.sn_tables.specs.declared.topics.TopicEntry.{TopicEntry}
 use Rattle.sn_tables.specs.declared.subscriptions.Subscription.{Subscription}
@@ -23,11 +24,11 @@ use Rattle.sn_local.specs.declared.config.Addr.{Addr}
 use Rattle.sn_plan.specs.declared.asking.Asked.{Asked}
 use Rattle.sn_plan.specs.declared.asking.Asked.TheVariants.{Topics}
 use Rattle.sn_subscribe.specs.declared.registration.NamedId.{NamedId}
-use Rattle.sn_plan.specs.Asking.{qos_asked, name_asked, topics_asked}
-use Rattle.sn_plan.specs.Drafts.{nothing, changed_if}
+use Rattle.sn_plan.specs.Asking.{qos_asked, topics_asked}
+use Rattle.sn_plan.specs.Drafts.{nothing, changed_if, session_after}
 use Rattle.sn_subscribe.specs.Registration.{entry_or_free}
 use Rattle.sn_subscribe.specs.Subscription.{refused, id_in_full, id_asked, subscribe_change, subscribed, subscribe_asked, subscribe_at, subscribe, unsubscribe_asked, unsubscribe}
-use Rattle.row_laws.specs.RequestLaws.{session_after, IsSubscribed, IsUnsubscribed}
+use Rattle.row_laws.specs.RequestLaws.{IsSubscribed, IsUnsubscribed}
 use Rattle.row_laws.proofs.Given.{fits}
 
 -- a subscription that is set is found

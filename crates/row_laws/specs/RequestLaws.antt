@@ -1,22 +1,17 @@
 -- What the rows of REGISTER, SUBSCRIBE, UNSUBSCRIBE and the updates of wills promise, and what they
 -- leave alone.
-use Rattle.std.specs.Prelude.{◌≡◌, ℕ, true, List, [], fold, Some, None}
+use Rattle.std.specs.Prelude.{◌≡◌, ℕ, true, List, [], Some, None}
 use Rattle.sn_session.specs.declared.session.Session.{Session}
-use Rattle.sn_session.specs.Session.{applied}
 use Rattle.sn_tables.specs.Topics.{topic_of}
 use Rattle.sn_tables.specs.Subscriptions.{qos_of}
 use Rattle.sn_subscribe.specs.declared.registration.NamedId.{NamedId}
-use Rattle.sn_plan.specs.Drafts.{Drafted, nothing, changed_if}
+use Rattle.sn_plan.specs.Drafts.{Drafted, nothing, changed_if, session_after}
 
 -- no acknowledgement, no message and no change of the local state
 pub record ChangesSessionOnly (d : Drafted) : Type 0 where
   pub acks : d.acks ≡ []
   pub puts : d.puts ≡ []
   pub local : d.local ≡ []
-
--- the session after the changes of a draft
-abbrev pub session_after : Session → Drafted → Session
-session_after s d = fold applied s d.changes
 
 -- the id stands for the name from then on, and the client knows it
 abbrev pub StandsFor : List ℕ → Session → NamedId → Type 0

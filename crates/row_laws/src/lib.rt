@@ -1,4 +1,5 @@
-//! Laws of plans and of the rows that need no other message: nothing that runs is built on them.
+//! Laws of plans and of the rows that need no other message: no gateway and no client is built on
+//! them. A field (`gw_world`) is, and so the simulator.
 //!
 //! - `laws`: what holds of every plan, proved for every draft and so for every row.
 //! - `request_laws`: what a client may rely on that registers a topic, subscribes or ends a

@@ -11,12 +11,13 @@ ghost use Rattle.sn_frame.specs.declared.frame.Will.{Will};
 ghost use Rattle.sn_frame.specs.FlagBits.{qos_of, kind_of};
 ghost use Rattle.sn_local.specs.declared.config.Addr.{Addr};
 ghost use Rattle.sn_plan.specs.declared.asking.Asked.TheVariants.{Topics};
+ghost use Rattle.sn_plan.specs.Drafts.{session_after};
 ghost use Rattle.sn_subscribe.specs.declared.registration.NamedId.{NamedId};
 ghost use Rattle.sn_plan.specs.Asking.{qos_asked, topics_asked};
 ghost use Rattle.sn_subscribe.specs.Registration.{id_for, register};
 ghost use Rattle.sn_subscribe.specs.Subscription.{id_asked, subscribe, unsubscribe};
 ghost use Rattle.sn_flow.specs.WillUpdate.{will_topic_update, will_msg_update};
-ghost use Rattle.row_laws.specs.RequestLaws.{ChangesSessionOnly, session_after, StandsFor, IsSubscribed, IsUnsubscribed};
+ghost use Rattle.row_laws.specs.RequestLaws.{ChangesSessionOnly, StandsFor, IsSubscribed, IsUnsubscribed};
 
 /// A client that registers a name, subscribes, unsubscribes or updates its will loses no message by
 /// it and gets none: these rows acknowledge nothing, put nothing and change no binding.

@@ -14,22 +14,29 @@
 //! stand anywhere, also the name of some. The name of a client or a topic, a filter and a message
 //! are a word each, and stand for the octets of the word; `-` is no octet.
 //!
-//! | The session, and operations, which wait to be used | |
-//! |---|---|
-//! | `session WHERE clean SECONDS`, or `kept` | a session without anything else; WHERE is `active`, `asleep`, `awake`, `disconnected` or `lost` |
-//! | `apply CHANGE` | it changes, or a table is full |
-//! | `applies FIRST LAST CHANGE` | it changes so under each number from the first to the last, which stands in the place of each `%` that ends a word |
-//! | `tell` | the session and all that it has |
-//! | `sizes` | how many entries its tables have, and the least topic id that is not in use |
-//! | `id NAME`, `topic ID` | the least topic id of a name; the name of a topic id; and whether the client knows it |
-//! | `filter FILTER`, `asked NAME` | the quality of service of a filter; the greatest that is asked for a topic |
-//! | `heard ID` | whether a message of this id was received |
-//! | `op CLIENT EPOCH.GATEWAY COUNTER CHANGE` | a change of a client's session |
-//! | `ops CLIENT EPOCH.GATEWAY FIRST LAST CHANGE` | the same change under each counter from the first to the last |
-//! | `put CLIENT ORIGIN.NUMBER TOPIC QOS BODY` | a message for a client |
-//! | `puts CLIENT ORIGIN FIRST LAST TOPIC QOS SIZE` | messages of so many octets, all the letter `a` |
-//! | `ack CLIENT ORIGIN FIRST LAST` | a client has these messages |
-//! | `acks COUNT` | message 1 of gateway 1 for so many clients, whose names are 0, 1 and so on in two octets |
+//! The session, and operations, which wait to be used:
+//!
+//! - `session WHERE clean SECONDS`, or `kept`: a session without anything else; WHERE is `active`,
+//!   `asleep`, `awake`, `disconnected` or `lost`.
+//! - `apply CHANGE`: it changes, or a table is full.
+//! - `applies FIRST LAST CHANGE`: it changes so under each number from the first to the last, which
+//!   stands in the place of each `%` that ends a word.
+//! - `tell`: the session and all that it has.
+//! - `sizes`: how many entries its tables have, and the least topic id that is not in use.
+//! - `id NAME`, `topic ID`: the least topic id of a name; the name of a topic id; and whether the
+//!   client knows it.
+//! - `filter FILTER`, `asked NAME`: the quality of service of a filter; the greatest that is asked
+//!   for a topic.
+//! - `heard ID`: whether a message of this id was received.
+//! - `op CLIENT EPOCH.GATEWAY COUNTER CHANGE`: a change of a client's session.
+//! - `ops CLIENT EPOCH.GATEWAY FIRST LAST CHANGE`: the same change under each counter from the
+//!   first to the last.
+//! - `put CLIENT ORIGIN.NUMBER TOPIC QOS BODY`: a message for a client.
+//! - `puts CLIENT ORIGIN FIRST LAST TOPIC QOS SIZE`: messages of so many octets, all the letter
+//!   `a`.
+//! - `ack CLIENT ORIGIN FIRST LAST`: a client has these messages.
+//! - `acks COUNT`: message 1 of gateway 1 for so many clients, whose names are 0, 1 and so on in
+//!   two octets.
 //!
 //! A CHANGE is `take` (the row's session), `presence WHERE SECONDS`, `register ID NAME known` or
 //! `new`, `subscribe FILTER QOS`, `unsubscribe FILTER`, `will none`, `will TOPIC QOS retained` or
@@ -37,46 +44,58 @@
 //! `exchange ORIGIN.NUMBER ID PHASE NEXT` with `registering`, `published` or `released`; NEXT is
 //! the next message id.
 //!
-//! | Deltas; a delta is printed as a line with the number of its operations, and their lines | |
-//! |---|---|
-//! | `delta`, `copy`, `none` | the delta of the operations, a copy of it, the delta of no operations |
-//! | `written` | the delta of the operations, and its octets, which stand in place of those that were there |
-//! | `spell` | the octets of the delta of the operations stand behind those that are there; nothing is printed |
-//! | `client NAME` | whether a client may have this name |
-//! | `octets OCTETS ..`, `behind OCTETS ..` | these octets; these stand behind those that are there |
-//! | `set AT HEX`, `fill COUNT`, `cut COUNT` | an octet is another; octets of 0 behind, up to so many; the first so many are left |
-//! | `print`, `size` | the octets; how many there are |
-//! | `read`, `count` | the delta that they spell; how many operations it has |
-//! | `altered AT HEX` | how many operations it has where an octet is another; the octets stay |
-//! | `beginnings` | the same of each beginning of them but the whole; neighbours that give the same share a line |
+//! Deltas; a delta is printed as a line with the number of its operations, and their lines:
 //!
-//! | The replica | |
-//! |---|---|
-//! | `join` | it takes the operations in one delta |
-//! | `view CLIENT`, `copied CLIENT` | what it knows of a client; the same of a copy, and of a copy of the messages that wait |
-//! | `waiting CLIENT` | how many messages wait |
-//! | `next CLIENT GATEWAY` | the epoch of the client's next Take, and the number of the gateway's next message for it |
-//! | `clients` | how many clients it knows |
-//! | `held`, `parts` | the deltas of what must be kept; how many operations each has |
+//! - `delta`, `copy`, `none`: the delta of the operations, a copy of it, the delta of no
+//!   operations.
+//! - `written`: the delta of the operations, and its octets, which stand in place of those that
+//!   were there.
+//! - `spell`: the octets of the delta of the operations stand behind those that are there; nothing
+//!   is printed.
+//! - `client NAME`: whether a client may have this name.
+//! - `octets OCTETS ..`, `behind OCTETS ..`: these octets; these stand behind those that are there.
+//! - `set AT HEX`, `fill COUNT`, `cut COUNT`: an octet is another; octets of 0 behind, up to so
+//!   many; the first so many are left.
+//! - `print`, `size`: the octets; how many there are.
+//! - `read`, `count`: the delta that they spell; how many operations it has.
+//! - `altered AT HEX`: how many operations it has where an octet is another; the octets stay.
+//! - `beginnings`: the same of each beginning of them but the whole; neighbours that give the same
+//!   share a line.
 //!
-//! | The disk, and the journal on it; SLOT is `first` or `second` | |
-//! |---|---|
-//! | `store SLOT` | the octets stand behind those of a slot, synced |
-//! | `fail COUNT`, `fail sync` | the next append stops behind so many octets; or it goes out and its sync fails |
-//! | `crash COUNT`, `crash all` | of what is not synced so many octets of each slot are left, or all |
-//! | `slots` | the octets of both slots |
-//! | `open GATEWAY` | the journal of a gateway is opened: its records |
-//! | `append` | the delta of the operations is a new record |
-//! | `compact` | the operations, each a record by itself, take the place of all records |
-//! | `reopen` | the journal is opened once more as it stands: its records |
-//! | `halt` | the journal is stopped |
-//! | `halted` | whether it has stopped, and whether memory was refused |
-//! | `place` | the slot that it writes |
-//! | `close` | the journal is closed |
-//! | `openings GATEWAY SLOT` | what is opened where each beginning of the octets stands behind what the slot has: the slot that is read, and its octets |
-//! | `appends GATEWAY COUNT` | what is opened behind an `append` that stops behind each number of octets up to this one, and a crash that leaves these |
-//! | `compactions GATEWAY COUNT` | the same of a `compact` |
-//! | `retries GATEWAY CALL COUNT` | what an `open`, a `reopen` and a `compact` answer where one CALL (`sync`, `cut` or `read`) fails behind each number of them up to this one |
+//! The replica:
+//!
+//! - `join`: it takes the operations in one delta.
+//! - `view CLIENT`, `copied CLIENT`: what it knows of a client; the same of a copy, and of a copy
+//!   of the messages that wait.
+//! - `waiting CLIENT`: how many messages wait.
+//! - `next CLIENT GATEWAY`: the epoch of the client's next Take, and the number of the gateway's
+//!   next message for it.
+//! - `clients`: how many clients it knows.
+//! - `held`, `parts`: the deltas of what must be kept; how many operations each has.
+//!
+//! The disk, and the journal on it; SLOT is `first` or `second`:
+//!
+//! - `store SLOT`: the octets stand behind those of a slot, synced.
+//! - `fail COUNT`, `fail sync`: the next append stops behind so many octets; or it goes out and its
+//!   sync fails.
+//! - `crash COUNT`, `crash all`: of what is not synced so many octets of each slot are left, or
+//!   all.
+//! - `slots`: the octets of both slots.
+//! - `open GATEWAY`: the journal of a gateway is opened: its records.
+//! - `append`: the delta of the operations is a new record.
+//! - `compact`: the operations, each a record by itself, take the place of all records.
+//! - `reopen`: the journal is opened once more as it stands: its records.
+//! - `halt`: the journal is stopped.
+//! - `halted`: whether it has stopped, and whether memory was refused.
+//! - `place`: the slot that it writes.
+//! - `close`: the journal is closed.
+//! - `openings GATEWAY SLOT`: what is opened where each beginning of the octets stands behind what
+//!   the slot has: the slot that is read, and its octets.
+//! - `appends GATEWAY COUNT`: what is opened behind an `append` that stops behind each number of
+//!   octets up to this one, and a crash that leaves these.
+//! - `compactions GATEWAY COUNT`: the same of a `compact`.
+//! - `retries GATEWAY CALL COUNT`: what an `open`, a `reopen` and a `compact` answer where one CALL
+//!   (`sync`, `cut` or `read`) fails behind each number of them up to this one.
 //!
 //! From `append` to `close` these want the journal open, all others closed. The last four try each
 //! place on a disk of its own, with what the row's disk has; neighbours that give the same share a

@@ -4,8 +4,8 @@ use Rattle.sn_frame.specs.declared.flags.Qos.{Qos}
 use Rattle.sn_frame.specs.declared.flags.Qos.TheVariants as levels
 use Rattle.sn_frame.specs.declared.flags.TopicIdType.{TopicIdType}
 use Rattle.sn_frame.specs.declared.flags.TopicIdType.TheVariants as kinds
-use Rattle.sn_frame.specs.FlagBits.{qos_of, kind_of}
-use Rattle.sn_client.specs.inner.Asking.{qos_bits, kind_bits, retain_bit}
+use Rattle.sn_frame.specs.FlagBits.{qos_of, kind_of, kind_bits}
+use Rattle.sn_client.specs.inner.Asking.{qos_bits, retain_bit}
 
 -- the quality of service
 pub flags_qos : (q : Qos) (r : Bool) (k : TopicIdType) → qos_of (qos_bits q + retain_bit r + kind_bits k) ≡ q

@@ -2,7 +2,8 @@
 
 ghost use Rattle.std.specs.Prelude.{◌≡◌, ◌≤◌, ◌≢◌, ◌↔◌, IfOk, IsTrue, IsBitSet};
 ghost use Rattle.sn_frame.specs.FlagBits.{qos_of, kind_of};
-ghost use Rattle.sn_client.specs.inner.Asking.{qos_bits, kind_bits, retain_bit, flags_of, connect_flags, publish_id};
+ghost use Rattle.sn_frame.specs.FlagBits as flag_bits;
+ghost use Rattle.sn_client.specs.inner.Asking as spec;
 ghost use Rattle.sn_client.specs.inner.Exchanges.{IsAsked};
 
 use crate::talk::{Awaited, Publication, Talk};
@@ -16,7 +17,7 @@ const PROTOCOL: u8 = 1;
 
 /// The bits of a quality of service.
 fn qos_bits(qos: Qos) -> u8
-    ensures value { result ≡ qos_bits qos }
+    ensures value { result ≡ spec.qos_bits qos }
     ensures most { result ≤ 96 }
 {
     match qos {
@@ -29,7 +30,7 @@ fn qos_bits(qos: Qos) -> u8
 
 /// The bits of a topic's type.
 fn kind_bits(kind: TopicIdType) -> u8
-    ensures value { result ≡ kind_bits kind }
+    ensures value { result ≡ flag_bits.kind_bits kind }
     ensures most { result ≤ 3 }
 {
     match kind {
@@ -42,7 +43,7 @@ fn kind_bits(kind: TopicIdType) -> u8
 
 /// The bit that says that a publication is to be kept.
 fn retain_bit(retain: bool) -> u8
-    ensures value { result ≡ retain_bit retain }
+    ensures value { result ≡ spec.retain_bit retain }
     ensures most { result ≤ 16 }
 {
     if retain { 16 } else { 0 }
@@ -51,7 +52,7 @@ fn retain_bit(retain: bool) -> u8
 /// The flags of a frame that is sent for the first time.
 #[tactic(auto, using(crate::proofs::FlagLemmas::flags_qos, crate::proofs::FlagLemmas::flags_kind, crate::proofs::FlagLemmas::flags_retain))]
 fn flags_of(qos: Qos, retain: bool, kind: TopicIdType) -> Flags
-    ensures value { result ≡ flags_of qos retain kind }
+    ensures value { result ≡ spec.flags_of qos retain kind }
     ensures qos { qos_of result.bits ≡ qos }
     ensures kind { kind_of result.bits ≡ kind }
     ensures retain { IsTrue retain ↔ IsBitSet result.bits 4 }
@@ -63,7 +64,7 @@ fn flags_of(qos: Qos, retain: bool, kind: TopicIdType) -> Flags
 
 /// The flags of a CONNECT.
 fn connect_flags(clean: bool, will: bool) -> Flags
-    ensures value { result ≡ connect_flags clean will }
+    ensures value { result ≡ spec.connect_flags clean will }
     ensures clean { IsTrue clean ↔ IsBitSet result.bits 2 }
     ensures will { IsTrue will ↔ IsBitSet result.bits 3 }
 {
@@ -79,7 +80,7 @@ fn connect_flags(clean: bool, will: bool) -> Flags
 /// The message id of a publication: 0 where none is wanted, and else another than that of a
 /// registration before it.
 fn publish_id(qos: Qos, msg_id: u16) -> u16
-    ensures value { result ≡ publish_id qos msg_id }
+    ensures value { result ≡ spec.publish_id qos msg_id }
     ensures other { 1 ≤ msg_id → result ≢ msg_id }
 {
     match qos {

@@ -2,8 +2,10 @@
 //! (MQTT-SN 1.2 sections 6.2 to 6.14).
 
 ghost use Rattle.std.specs.Prelude.{◌≡◌, option_map};
-ghost use Rattle.sn_client.specs.inner.Talking.{status_of, awaited_at, outcome_at, repeated, turn_of};
-ghost use Rattle.sn_client.specs.inner.Exchanges.{beginning, frame_by_id, outcome_of, planned_of, publishing_of, registering, turned};
+ghost use Rattle.sn_client.specs.inner.Talking.{status_of, repeated, turn_of};
+ghost use Rattle.sn_client.specs.inner.Talking as spec;
+ghost use Rattle.sn_client.specs.inner.Exchanges.{beginning, frame_by_id, outcome_of, planned_of, publishing_of, turned};
+ghost use Rattle.sn_client.specs.inner.Exchanges as exchanges;
 
 use octets::Octets;
 use sn_frame::{Flags, Frame, Qos};
@@ -122,7 +124,7 @@ impl Publication {
 
 /// What is awaited behind a publication.
 pub(crate) fn awaited_at(qos: Qos, msg_id: u16) -> Awaited
-    ensures { result ≡ awaited_at qos msg_id }
+    ensures { result ≡ spec.awaited_at qos msg_id }
 {
     match qos {
         Qos::One => Awaited::Publication { msg_id },
@@ -133,7 +135,7 @@ pub(crate) fn awaited_at(qos: Qos, msg_id: u16) -> Awaited
 
 /// How a publication has ended when it is sent: where nothing answers it, it is taken for accepted.
 pub(crate) fn outcome_at(qos: Qos) -> Option<Outcome>
-    ensures { result ≡ outcome_at qos }
+    ensures { result ≡ spec.outcome_at qos }
 {
     match qos {
         Qos::One | Qos::Two => None,
@@ -170,7 +172,7 @@ impl Talk {
 
     /// An exchange that is a publication behind the registration of its topic's name (section 6.5).
     pub(crate) fn registering(publication: Publication, name: Octets, msg_id: u16) -> Talk
-        ensures { result ≡ registering publication name msg_id }
+        ensures { result ≡ exchanges.registering publication name msg_id }
     {
         let frame = Frame::Register {
             topic_id: 0,

@@ -14,8 +14,8 @@ use Rattle.sn_frame.specs.declared.flags.TopicIdType.TheVariants as kinds
 use Rattle.sn_frame.specs.declared.frame.Frame.{Frame}
 use Rattle.sn_frame.specs.declared.frame.Frame.TheVariants as frames
 use Rattle.rep_op.specs.declared.op.Put.{Put}
+use Rattle.rep_op.specs.Orders.{name_of}
 use Rattle.sn_local.specs.declared.local.LocalChange.TheVariants.{Resent}
-use Rattle.sn_plan.specs.Names.{name_of}
 use Rattle.sn_plan.specs.Drafts.{Drafted, nothing, changed, acked, sent, moved}
 use Rattle.sn_exchange.specs.declared.form.Form.{Form}
 use Rattle.sn_exchange.specs.declared.peer.Peer.{Peer}

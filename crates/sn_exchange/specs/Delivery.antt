@@ -13,14 +13,14 @@ use Rattle.sn_tables.specs.Topics.{topic_named, free_id}
 use Rattle.sn_frame.specs.declared.frame.Frame.{Frame}
 use Rattle.sn_frame.specs.declared.frame.Frame.TheVariants as frames
 use Rattle.rep_op.specs.declared.op.Put.{Put}
+use Rattle.rep_op.specs.Orders.{name_of}
 use Rattle.sn_local.specs.declared.local.LocalChange.TheVariants.{Sent}
-use Rattle.sn_plan.specs.Names.{name_of}
-use Rattle.sn_plan.specs.Drafts.{Drafted, changed, changed_if, acked, sent, moved}
+use Rattle.sn_plan.specs.Drafts.{Drafted, changed, changed_if, acked, sent, moved, session_after}
 use Rattle.sn_exchange.specs.declared.form.Form.{Form}
 use Rattle.sn_exchange.specs.declared.peer.Peer.{Peer}
 use Rattle.sn_exchange.specs.declared.delivery.ToldId.{ToldId}
 use Rattle.sn_exchange.specs.Forms.{form_of, publication}
-use Rattle.sn_exchange.specs.Exchanges.{so_far, left, open_exchange, is_served, is_awake}
+use Rattle.sn_exchange.specs.Exchanges.{left, open_exchange, is_served, is_awake}
 
 -- the message id after one; after 65,535 comes 1
 abbrev pub next_after : ℕ → ℕ
@@ -109,4 +109,4 @@ deliver_if predefined peer s pending d =
 -- and then Delivery: by the session as the step so far has changed it, and the messages that waited
 -- before the step
 abbrev pub then_deliver : Entries → Peer → Session → List Put → Drafted → Drafted
-then_deliver predefined peer s pending d = deliver_if predefined peer (so_far s d) pending d
+then_deliver predefined peer s pending d = deliver_if predefined peer (session_after s d) pending d

@@ -1,6 +1,6 @@
 -- The open exchange of a client: the message that it is being handed (MQTT-SN 1.2 sections 6.6 and
 -- 6.10).
-use Rattle.std.specs.Prelude.{ℕ, ◌==◌, Bool, true, false, ◌&&◌, not, if◌then◌else◌, nat_lt, is_some, List, find, filter, fold, Option, Some, None}
+use Rattle.std.specs.Prelude.{ℕ, ◌==◌, Bool, true, false, ◌&&◌, not, if◌then◌else◌, nat_lt, is_some, List, find, filter, Option, Some, None}
 use Rattle.std.specs.List.{list_any}
 use Rattle.sn_session.specs.declared.presence.Presence.{Presence}
 use Rattle.sn_session.specs.declared.presence.Presence.TheVariants.{Active, Asleep, Awake, Disconnected, Lost}
@@ -8,15 +8,9 @@ use Rattle.sn_session.specs.declared.outbound.Outbound.{Outbound}
 use Rattle.sn_session.specs.declared.outbound.Phase.{Phase}
 use Rattle.sn_session.specs.declared.outbound.Phase.TheVariants.{Registering, Published, Released}
 use Rattle.sn_session.specs.declared.session.Session.{Session}
-use Rattle.sn_session.specs.Session.{applied}
 use Rattle.sn_tables.specs.Topics.{topic_named}
 use Rattle.rep_op.specs.declared.op.Put.{Put}
-use Rattle.sn_plan.specs.Names.{name_of}
-use Rattle.sn_plan.specs.Drafts.{Drafted}
-
--- the session as the step so far has changed it
-abbrev pub so_far : Session → Drafted → Session
-so_far s d = fold applied s d.changes
+use Rattle.rep_op.specs.Orders.{name_of}
 
 abbrev pub same_name : ℕ × ℕ → ℕ × ℕ → Bool
 same_name a b = (a.0 == b.0) && (a.1 == b.1)

@@ -6,10 +6,10 @@ use Rattle.sn_topic.specs.Table.{Entries, ids_of, least}
 use Rattle.sn_session.specs.declared.session.Session.{Session}
 use Rattle.sn_tables.specs.declared.topics.TopicEntry.{TopicEntry}
 use Rattle.sn_tables.specs.Topics.{topic_named}
-use Rattle.sn_frame.specs.declared.flags.TopicIdType.{TopicIdType}
 use Rattle.sn_frame.specs.declared.flags.TopicIdType.TheVariants as kinds
 use Rattle.sn_frame.specs.declared.frame.Frame.{Frame}
 use Rattle.sn_frame.specs.declared.frame.Frame.TheVariants as frames
+use Rattle.sn_frame.specs.FlagBits.{kind_bits}
 use Rattle.rep_op.specs.declared.op.Put.{Put}
 use Rattle.sn_exchange.specs.declared.form.Form.{Form}
 
@@ -50,13 +50,6 @@ form_again predefined s name =
 -- the bits of a quality of service of 0, 1 or 2
 abbrev pub qos_bits : ℕ → ℕ
 qos_bits qos = if qos == 0 then 0 else (if qos == 1 then 32 else 64)
-
--- the bits of what the topic field holds
-abbrev pub kind_bits : TopicIdType → ℕ
-kind_bits kinds.Normal = 0
-kind_bits kinds.Predefined = 1
-kind_bits kinds.Short = 2
-kind_bits kinds.Reserved = 3
 
 -- the DUP bit: the message was sent before
 abbrev pub dup_bit : Bool → ℕ

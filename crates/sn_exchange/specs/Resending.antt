@@ -13,11 +13,11 @@ use Rattle.sn_frame.specs.declared.frame.Frame.{Frame}
 use Rattle.sn_frame.specs.declared.frame.Frame.TheVariants as frames
 use Rattle.rep_op.specs.declared.op.Put.{Put}
 use Rattle.sn_local.specs.declared.local.LocalChange.TheVariants.{Resent}
-use Rattle.sn_plan.specs.Drafts.{Drafted, changed, sent, moved}
+use Rattle.sn_plan.specs.Drafts.{Drafted, changed, sent, moved, session_after}
 use Rattle.sn_exchange.specs.declared.form.Form.{Form}
 use Rattle.sn_exchange.specs.declared.peer.Peer.{Peer}
 use Rattle.sn_exchange.specs.Forms.{form_again, publication}
-use Rattle.sn_exchange.specs.Exchanges.{so_far, put_left, message_of, open_exchange}
+use Rattle.sn_exchange.specs.Exchanges.{put_left, message_of, open_exchange}
 use Rattle.sn_exchange.specs.Delivery.{Stop, and_then, deliver_left, deliver_if}
 
 -- a frame of the exchange, again
@@ -72,4 +72,5 @@ resend_or_deliver predefined peer s pending d =
 -- and then Resend, where an exchange is open, else Delivery: by the session as the step so far has
 -- changed it
 abbrev pub then_resend : Entries → Peer → Session → List Put → Drafted → Drafted
-then_resend predefined peer s pending d = resend_or_deliver predefined peer (so_far s d) pending d
+then_resend predefined peer s pending d =
+    resend_or_deliver predefined peer (session_after s d) pending d

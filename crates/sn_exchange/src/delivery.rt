@@ -12,7 +12,7 @@ ghost use Rattle.sn_exchange.specs.Delivery.{begun};
 ghost use Rattle.sn_exchange.specs.Delivery as spec;
 
 use super::exchange::{
-    is_awake, is_done, is_left_in_turn, is_served, name_of, open_exchange, so_far,
+    is_awake, is_done, is_left_in_turn, is_served, name_of, open_exchange, session_after,
 };
 use super::form::{Form, form_of, publication};
 use super::peer::Peer;
@@ -316,6 +316,6 @@ pub fn then_deliver(
     if draft.changes().is_empty() {
         return deliver_if(alloc, predefined, peer, session, pending, draft);
     }
-    let session = so_far(alloc, session, draft)?;
+    let session = session_after(alloc, session, draft)?;
     deliver_if(alloc, predefined, peer, &session, pending, draft)
 }

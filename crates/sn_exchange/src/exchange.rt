@@ -3,7 +3,8 @@
 ghost use Rattle.std.specs.Prelude.{◌≡◌, fold, OnOk, IfOk};
 ghost use Rattle.std.specs.Option.{option_copied};
 ghost use Rattle.sn_session.specs.Session.{applied};
-ghost use Rattle.sn_plan.specs.Names as names;
+ghost use Rattle.rep_op.specs.Orders as orders;
+ghost use Rattle.sn_plan.specs.Drafts as drafts;
 ghost use Rattle.sn_exchange.specs.Exchanges as spec;
 
 use octets::NoMemory;
@@ -22,9 +23,9 @@ fn apply_all(alloc: Global, session: &mut Session, changes: &[SessionOp]) -> Res
     Ok(())
 }
 
-/// The session as the step so far has changed it.
-pub fn so_far(alloc: Global, session: &Session, draft: &Draft) -> Result<Session, NoMemory>
-    ensures { IfOk result (λ made. made ≡ spec.so_far session.now draft.now) }
+/// The session after the changes of a draft.
+pub fn session_after(alloc: Global, session: &Session, draft: &Draft) -> Result<Session, NoMemory>
+    ensures { IfOk result (λ made. made ≡ drafts.session_after session.now draft.now) }
 {
     let mut made = session.copied(alloc)?;
     apply_all(alloc, &mut made, draft.changes())?;
@@ -47,7 +48,7 @@ pub fn is_done(acks: &[(u64, u8)], name: (u64, u8)) -> bool
 
 /// The name of a message: sequence number and origin.
 pub fn name_of(put: &Put) -> (u64, u8)
-    ensures { result ≡ names.name_of put.now }
+    ensures { result ≡ orders.name_of put.now }
 {
     (put.seq, put.origin)
 }

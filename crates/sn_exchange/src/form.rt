@@ -4,6 +4,7 @@ ghost use Rattle.std.specs.Prelude.{◌≡◌, ◌≤◌, IfOk};
 ghost use Rattle.std.specs.Option.{option_copied};
 ghost use Rattle.sn_frame.specs.declared.frame.TheConstants.{MAX_FRAME};
 ghost use Rattle.sn_frame.specs.Bodies.{IsMessage};
+ghost use Rattle.sn_frame.specs.FlagBits as flag_bits;
 ghost use Rattle.sn_frame.specs.Grammar.{total_of};
 ghost use Rattle.sn_exchange.specs.Forms as spec;
 
@@ -119,7 +120,7 @@ fn qos_bits(qos: QosLevel) -> u8
 
 /// The bits of what the topic field holds.
 fn kind_bits(kind: TopicIdType) -> u8
-    ensures value { result ≡ spec.kind_bits kind }
+    ensures value { result ≡ flag_bits.kind_bits kind }
     ensures limit { result ≤ 3 }
 {
     match kind {

@@ -16,7 +16,8 @@ mod resend;
 
 pub use delivery::{ToldId, deliver_if, deliver_left, send, then_deliver};
 pub use exchange::{
-    is_awake, is_done, is_left, is_served, message_of, open_exchange, put_left, put_named, so_far,
+    is_awake, is_done, is_left, is_served, message_of, open_exchange, put_left, put_named,
+    session_after,
 };
 pub use follow::{deliver_next, peer_at};
 pub use form::{Form, form_again, form_of, publication};

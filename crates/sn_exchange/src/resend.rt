@@ -9,7 +9,7 @@ ghost use Rattle.sn_frame.specs.Grammar.{total_of};
 ghost use Rattle.sn_exchange.specs.Resending as spec;
 
 use super::delivery::{deliver_if, deliver_left, send};
-use super::exchange::{message_of, open_exchange, put_left, so_far};
+use super::exchange::{message_of, open_exchange, put_left, session_after};
 use super::form::{Form, form_again, publication};
 use super::peer::Peer;
 use octets::{NoMemory, Octets};
@@ -244,6 +244,6 @@ pub fn then_resend(
     if draft.changes().is_empty() {
         return resend_or_deliver(alloc, predefined, peer, session, pending, draft);
     }
-    let session = so_far(alloc, session, draft)?;
+    let session = session_after(alloc, session, draft)?;
     resend_or_deliver(alloc, predefined, peer, &session, pending, draft)
 }

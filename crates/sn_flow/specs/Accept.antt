@@ -7,6 +7,7 @@ use Rattle.sn_session.specs.declared.change.SessionOp.TheVariants.{Take}
 use Rattle.sn_session.specs.Session.{empty_session}
 use Rattle.sn_tables.specs.Topics.{unknown}
 use Rattle.rep_op.specs.declared.op.Put.{Put}
+use Rattle.rep_op.specs.Orders.{name_of}
 use Rattle.rep_model.specs.declared.view.ClientView.{ClientView}
 use Rattle.sn_frame.specs.declared.frame.Frame.TheVariants as frames
 use Rattle.sn_flow.specs.declared.accept.TheConstants.{MAX_CLIENTS}
@@ -14,7 +15,6 @@ use Rattle.sn_flow.specs.declared.accept.GivenWill.{GivenWill}
 use Rattle.sn_flow.specs.declared.accept.GivenWill.TheVariants.{AsItIs, Deleted, Replaced}
 use Rattle.sn_local.specs.declared.local.Request.{Request}
 use Rattle.sn_local.specs.declared.local.LocalChange.TheVariants.{EndDialog}
-use Rattle.sn_plan.specs.Names.{name_of}
 use Rattle.sn_plan.specs.Drafts.{Drafted, nothing, changed, acked_all, sent, moved}
 use Rattle.sn_local.specs.Seen.{Seen}
 use Rattle.sn_plan.specs.Bound.{bound_to}

@@ -1,5 +1,6 @@
 -- The rows of WILLTOPICUPD and WILLMSGUPD (MQTT-SN 1.2 section 6.4).
 use Rattle.std.specs.Prelude.{ℕ, ◌||◌, Bool, nat_lt, is_none, if◌then◌else◌, List, length, Option, Some, None}
+use Rattle.sn_topic.specs.Topics.{name_asked}
 use Rattle.sn_session.specs.declared.session.Session.{Session}
 use Rattle.sn_session.specs.declared.will.WillTopic.{WillTopic}
 use Rattle.sn_session.specs.declared.change.SessionOp.TheVariants.{WillTopic as SetTopic, WillMsg}
@@ -8,7 +9,7 @@ use Rattle.sn_frame.specs.declared.frame.Frame.TheVariants as frames
 use Rattle.sn_frame.specs.FlagBits.{qos_of}
 use Rattle.sn_session.specs.Messages.{is_too_long}
 use Rattle.sn_local.specs.declared.config.Addr.{Addr}
-use Rattle.sn_plan.specs.Asking.{qos_asked, name_asked}
+use Rattle.sn_plan.specs.Asking.{qos_asked}
 use Rattle.sn_flow.specs.Connection.{has_bit}
 use Rattle.sn_plan.specs.Drafts.{Drafted, nothing, changed, sent}
 

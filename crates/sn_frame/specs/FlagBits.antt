@@ -18,3 +18,10 @@ kind_of bits =
     if bits % 4 == 0 then kinds.Normal
     else (if bits % 4 == 1 then kinds.Predefined
     else (if bits % 4 == 2 then kinds.Short else kinds.Reserved))
+
+-- the bits of a topic's type
+abbrev pub kind_bits : TopicIdType → ℕ
+kind_bits kinds.Normal = 0
+kind_bits kinds.Predefined = 1
+kind_bits kinds.Short = 2
+kind_bits kinds.Reserved = 3

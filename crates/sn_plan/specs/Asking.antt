@@ -17,10 +17,6 @@ qos_asked levels.One = Some 1
 qos_asked levels.Two = Some 2
 qos_asked levels.MinusOne = None
 
--- these octets, if they are a topic name
-abbrev pub name_asked : List ℕ → Option (List ℕ)
-name_asked octets = if is_name octets then Some octets else None
-
 -- these octets, if they are a filter; else code 3, not supported
 abbrev pub in_full : List ℕ → Asked
 in_full octets = if is_filter octets then Topics octets else Refused 3

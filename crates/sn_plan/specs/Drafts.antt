@@ -1,6 +1,8 @@
 -- What a row of the step table says, in a few words.
-use Rattle.std.specs.Prelude.{ℕ, List, [], ◌∷◌, ◌++◌, Option, Some, None}
+use Rattle.std.specs.Prelude.{ℕ, List, [], ◌∷◌, ◌++◌, fold, Option, Some, None}
 use Rattle.sn_session.specs.declared.change.SessionOp.{SessionOp}
+use Rattle.sn_session.specs.declared.session.Session.{Session}
+use Rattle.sn_session.specs.Session.{applied}
 use Rattle.sn_frame.specs.declared.frame.Frame.{Frame}
 use Rattle.sn_frame.specs.Grammar.{spelling}
 use Rattle.sn_local.specs.declared.config.Addr.{Addr}
@@ -48,3 +50,7 @@ sent to frame d = record d { sends = d.sends ++ record { to = to; bytes = spelli
 -- and then this change of the local state
 abbrev pub moved : LocalChange → Drafted → Drafted
 moved change d = record d { local = d.local ++ change ∷ [] }
+
+-- a session after the changes of a draft
+abbrev pub session_after : Session → Drafted → Session
+session_after s d = fold applied s d.changes

@@ -2,7 +2,6 @@ pub mod Asking
 pub mod Bound
 pub mod Drafts
 pub mod Flush
-pub mod Names
 pub mod Numbering
 pub mod Others
 pub mod Own

@@ -3,6 +3,7 @@
 
 ghost use Rattle.std.specs.Prelude.{◌≡◌, IfOk};
 ghost use Rattle.std.specs.Option.{option_copied};
+ghost use Rattle.sn_topic.specs.Topics as topics;
 ghost use Rattle.sn_plan.specs.Asking as spec;
 
 use super::codes::{INVALID_ID, NOT_SUPPORTED};
@@ -35,7 +36,7 @@ pub fn qos_asked(qos: Qos) -> Option<QosLevel>
 
 /// The topic name of these octets, if they are one.
 pub fn name_asked(alloc: Global, octets: &[u8]) -> Result<Option<TopicName>, NoMemory>
-    ensures { IfOk result (λ name. name ≡ spec.name_asked octets.now) }
+    ensures { IfOk result (λ name. name ≡ topics.name_asked octets.now) }
 {
     match TopicName::new(alloc, octets) {
         Ok(name) => Ok(Some(name)),

@@ -1,10 +1,10 @@
 //! What a row of the step table says.
 
 ghost use Rattle.std.specs.Prelude.{◌≡◌, ◌≤◌, ◌++◌, [], map, OnOk, IfOk, IsTrue, ◌↔◌, Err};
-ghost use Rattle.sn_plan.specs.Names.{name_of};
 ghost use Rattle.sn_frame.specs.declared.frame.TheConstants.{MAX_FRAME};
 ghost use Rattle.sn_frame.specs.Bodies.{IsMessage};
 ghost use Rattle.sn_frame.specs.Grammar.{total_of};
+ghost use Rattle.rep_op.specs.Orders.{name_of};
 
 use octets::{NoMemory, Octets};
 use rep_ops::{ClientId, Put};
@@ -55,7 +55,8 @@ impl Model for Draft {
 }
 
 impl Draft {
-    ghost use Rattle.sn_plan.specs.Drafts.{nothing, changed, changed_if, acked, acked_all, put_all, sent, moved};
+    ghost use Rattle.sn_plan.specs.Drafts.{nothing, changed, changed_if, acked, acked_all, sent, moved};
+    ghost use Rattle.sn_plan.specs.Drafts as spec;
 
     /// A step that does nothing.
     pub fn new(alloc: Global) -> Draft
@@ -145,7 +146,7 @@ impl Draft {
 
     /// And then these messages.
     pub fn put_all(&mut self, puts: Vec<NewPut>) -> Result<(), AllocError>
-        ensures { OnOk result (self.new ≡ put_all puts.items self.old) }
+        ensures { OnOk result (self.new ≡ spec.put_all puts.items self.old) }
     {
         extend_puts(&mut self.puts, puts)
     }

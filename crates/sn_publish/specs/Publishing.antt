@@ -2,6 +2,7 @@
 use Rattle.std.specs.Prelude.{ℕ, ◌/◌, ◌%◌, if◌then◌else◌, List, [], ◌∷◌, Option, Some, None}
 use Rattle.std.specs.Option.{option_map}
 use Rattle.sn_topic.specs.Table.{Entries, name_of}
+use Rattle.sn_topic.specs.Topics.{name_asked}
 use Rattle.sn_session.specs.declared.session.Session.{Session}
 use Rattle.sn_tables.specs.declared.topics.TopicEntry.{TopicEntry}
 use Rattle.sn_session.specs.declared.change.SessionOp.{SessionOp}
@@ -17,7 +18,6 @@ use Rattle.sn_frame.specs.declared.frame.Frame.TheVariants as frames
 use Rattle.sn_frame.specs.FlagBits.{qos_of, kind_of}
 use Rattle.sn_session.specs.Messages.{is_too_long}
 use Rattle.sn_local.specs.declared.config.Addr.{Addr}
-use Rattle.sn_plan.specs.Asking.{name_asked}
 use Rattle.sn_plan.specs.Drafts.{Drafted, nothing, changed, changed_if, put_all, sent}
 use Rattle.sn_local.specs.Seen.{Seen}
 use Rattle.sn_publish.specs.declared.meaning.Meant.{Meant}

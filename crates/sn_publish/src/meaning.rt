@@ -4,7 +4,7 @@ ghost use Rattle.std.specs.Prelude.{◌≡◌, IfOk};
 ghost use Rattle.std.specs.Option.{option_copied, option_map};
 ghost use Rattle.sn_publish.specs.Publishing.{entry_name};
 ghost use Rattle.sn_publish.specs.Publishing as spec;
-ghost use Rattle.sn_plan.specs.Asking as asking;
+ghost use Rattle.sn_topic.specs.Topics as topic_names;
 ghost use Rattle.sn_tables.specs.Topics.{topic_of};
 
 use octets::NoMemory;
@@ -47,7 +47,7 @@ fn by_entry(alloc: Global, session: &Session, id: u16) -> Result<Meant, NoMemory
 /// The topic of a short name.
 fn by_short(alloc: Global, topic: u16) -> Result<Meant, NoMemory>
     ensures { IfOk result
-        (λ meant. meant ≡ spec.named (asking.name_asked (spec.short_name topic))) }
+        (λ meant. meant ≡ spec.named (topic_names.name_asked (spec.short_name topic))) }
 {
     let octets = [(topic / 256) as u8, (topic % 256) as u8];
     match name_asked(alloc, &octets)? {

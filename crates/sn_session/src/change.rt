@@ -1,7 +1,8 @@
 //! The operations that change a session.
 
 ghost use Rattle.std.specs.Prelude.{◌≡◌, ◌↔◌, IfOk, OnOk, OnErr, IsErrOf, IsTrue};
-ghost use Rattle.sn_session.specs.Session.{applied, is_full, is_take};
+ghost use Rattle.sn_session.specs.Session.{applied};
+ghost use Rattle.sn_session.specs.Session as spec;
 
 use super::message::Message;
 use crate::outbound::Outbound;
@@ -61,7 +62,7 @@ pub enum SessionOp {
 impl SessionOp {
     /// Whether the operation holds a whole session.
     pub fn is_take(&self) -> bool
-        ensures { result ≡ is_take self.now }
+        ensures { result ≡ spec.is_take self.now }
     {
         matches!(self, SessionOp::Take(_))
     }
@@ -106,7 +107,7 @@ impl SessionOp {
 impl Session {
     /// Whether the operation would make a table of 256 entries grow.
     pub fn is_full(&self, change: &SessionOp) -> bool
-        ensures { result ≡ is_full self.now change.now }
+        ensures { result ≡ spec.is_full self.now change.now }
     {
         match change {
             SessionOp::Register { id, .. } => self.topics.has_no_room(*id),
@@ -127,7 +128,8 @@ impl Session {
     pub fn apply(&mut self, alloc: Global, change: &SessionOp) -> Result<(), SessionFault>
         ensures ok { OnOk result (self.new ≡ applied self.old change.now) }
         ensures err { OnErr result (self.new ≡ self.old) }
-        ensures full { IsErrOf result SessionFault.Full ↔ IsTrue (is_full self.old change.now) }
+        ensures full { IsErrOf result SessionFault.Full ↔ IsTrue
+            (spec.is_full self.old change.now) }
     {
         match change {
             SessionOp::Take(taken) => {

@@ -2,9 +2,11 @@
 
 ghost use Rattle.std.specs.Prelude.{◌≡◌, ◌≤◌, IfOk, IfErr, IfSome, option_copied};
 ghost use Rattle.sn_session.specs.Session.{empty_session};
-ghost use Rattle.sn_tables.specs.Topics.{topic_of, topic_named, topic_id, free_id, IsLeastUnused, IsLeastIdOf};
-ghost use Rattle.sn_tables.specs.Subscriptions.{qos_of, asked_qos, subscribed_qos, IsGreatest};
-ghost use Rattle.sn_tables.specs.Received.{is_received};
+ghost use Rattle.sn_tables.specs.Topics.{IsLeastUnused, IsLeastIdOf};
+ghost use Rattle.sn_tables.specs.Topics as topic_list;
+ghost use Rattle.sn_tables.specs.Subscriptions.{asked_qos, IsGreatest};
+ghost use Rattle.sn_tables.specs.Subscriptions as subscription_list;
+ghost use Rattle.sn_tables.specs.Received as received_list;
 
 use crate::outbound::Outbound;
 use crate::presence::Presence;
@@ -57,21 +59,21 @@ impl Session {
 
     /// The entry of a topic id.
     pub fn topic_of(&self, id: u16) -> Option<&TopicEntry>
-        ensures { option_copied result ≡ topic_of id self.now.topics }
+        ensures { option_copied result ≡ topic_list.topic_of id self.now.topics }
     {
         self.topics.topic_of(id)
     }
 
     /// The entry of a topic name; of several that with the least id.
     pub fn topic_named(&self, name: &TopicName) -> Option<&TopicEntry>
-        ensures { option_copied result ≡ topic_named name.now self.now.topics }
+        ensures { option_copied result ≡ topic_list.topic_named name.now self.now.topics }
     {
         self.topics.topic_named(name)
     }
 
     /// The least id of a topic name.
     pub fn topic_id(&self, name: &TopicName) -> Option<u16>
-        ensures value { result ≡ topic_id name.now self.now.topics }
+        ensures value { result ≡ topic_list.topic_id name.now self.now.topics }
         ensures least { IfSome result (IsLeastIdOf name.now self.now.topics) }
     {
         self.topics.topic_id(name)
@@ -80,7 +82,7 @@ impl Session {
     /// The least topic id from 1 on that is not in use; nothing where 256 are. So it is at most
     /// 257.
     pub fn free_id(&self) -> Option<u16>
-        ensures value { result ≡ free_id self.now.topics }
+        ensures value { result ≡ topic_list.free_id self.now.topics }
         ensures least { IfSome result (IsLeastUnused self.now.topics) }
         ensures limit { IfSome result (λ id. id ≤ 257) }
     {
@@ -89,7 +91,7 @@ impl Session {
 
     /// The quality of service of a filter that the client subscribed to.
     pub fn subscription(&self, filter: &Filter) -> Option<QosLevel>
-        ensures { result ≡ qos_of filter.now self.now.subscriptions }
+        ensures { result ≡ subscription_list.qos_of filter.now self.now.subscriptions }
     {
         self.subscriptions.qos_of(filter)
     }
@@ -97,7 +99,7 @@ impl Session {
     /// The greatest quality of service of the filters that ask for a topic; nothing where none
     /// does.
     pub fn subscribed_qos(&self, name: &TopicName) -> Option<QosLevel>
-        ensures value { result ≡ subscribed_qos name.now self.now.subscriptions }
+        ensures value { result ≡ subscription_list.subscribed_qos name.now self.now.subscriptions }
         ensures greatest { IfSome result (IsGreatest (asked_qos name.now self.now.subscriptions)) }
     {
         self.subscriptions.subscribed_qos(name)
@@ -105,7 +107,7 @@ impl Session {
 
     /// Whether a message of this id was received and is not released.
     pub fn is_received(&self, id: u16) -> bool
-        ensures { result ≡ is_received id self.now.received }
+        ensures { result ≡ received_list.is_received id self.now.received }
     {
         self.received.contains(id)
     }

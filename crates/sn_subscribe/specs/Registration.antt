@@ -1,6 +1,7 @@
 -- The row of REGISTER (MQTT-SN 1.2 section 6.5), and the topic id of a name.
 use Rattle.std.specs.Prelude.{ℕ, true, if◌then◌else◌, List, Option, Some, None}
 use Rattle.std.specs.Option.{option_map}
+use Rattle.sn_topic.specs.Topics.{name_asked}
 use Rattle.sn_session.specs.declared.session.Session.{Session}
 use Rattle.sn_tables.specs.declared.topics.TopicEntry.{TopicEntry}
 use Rattle.sn_session.specs.declared.change.SessionOp.TheVariants.{Register}
@@ -8,7 +9,6 @@ use Rattle.sn_tables.specs.Topics.{topic_named, free_id}
 use Rattle.sn_frame.specs.declared.frame.Frame.TheVariants as frames
 use Rattle.sn_local.specs.declared.config.Addr.{Addr}
 use Rattle.sn_subscribe.specs.declared.registration.NamedId.{NamedId}
-use Rattle.sn_plan.specs.Asking.{name_asked}
 use Rattle.sn_plan.specs.Drafts.{Drafted, nothing, changed_if, sent}
 
 -- the id of an entry of the name, which the client knows from now on

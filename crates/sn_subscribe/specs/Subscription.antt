@@ -1,6 +1,7 @@
 -- The rows of SUBSCRIBE and UNSUBSCRIBE (MQTT-SN 1.2 section 6.9).
 use Rattle.std.specs.Prelude.{ℕ, ◌==◌, if◌then◌else◌, is_some, List, Option, Some, None, bit_and}
 use Rattle.sn_topic.specs.Table.{Entries}
+use Rattle.sn_topic.specs.Topics.{name_asked}
 use Rattle.sn_session.specs.declared.session.Session.{Session}
 use Rattle.sn_session.specs.declared.change.SessionOp.{SessionOp}
 use Rattle.sn_session.specs.declared.change.SessionOp.TheVariants.{Subscribe, Unsubscribe}
@@ -14,7 +15,7 @@ use Rattle.sn_local.specs.declared.config.Addr.{Addr}
 use Rattle.sn_plan.specs.declared.asking.Asked.{Asked}
 use Rattle.sn_plan.specs.declared.asking.Asked.TheVariants.{Topics, Refused}
 use Rattle.sn_subscribe.specs.declared.registration.NamedId.{NamedId}
-use Rattle.sn_plan.specs.Asking.{qos_asked, name_asked, topics_asked, id_in}
+use Rattle.sn_plan.specs.Asking.{qos_asked, topics_asked, id_in}
 use Rattle.sn_plan.specs.Drafts.{Drafted, nothing, changed_if, sent}
 use Rattle.sn_subscribe.specs.Registration.{id_for}
 

@@ -5,7 +5,7 @@ ghost use Rattle.sn_tables.specs.declared.table.TheConstants.{MAX_ENTRIES};
 ghost use Rattle.sn_tables.specs.Tables.{IsTable};
 ghost use Rattle.sn_tables.specs.Tables as tables;
 ghost use Rattle.sn_tables.specs.inner.Tables.{IsPlace};
-ghost use Rattle.sn_tables.specs.Subscriptions.{filter_cmp, subscription_cmp, with_subscription, without_filter, subscription_of, qos_of, filter_has_no_room, asked_qos, subscribed_qos, IsGreatest};
+ghost use Rattle.sn_tables.specs.Subscriptions.{filter_cmp, subscription_cmp, with_subscription, without_filter, subscription_of, filter_has_no_room, asked_qos, IsGreatest};
 ghost use Rattle.sn_tables.specs.Subscriptions as spec;
 
 use crate::fault::SessionFault;
@@ -105,7 +105,7 @@ impl Subscriptions {
 
     /// The quality of service of a filter. The time is logarithmic.
     pub fn qos_of(&self, filter: &Filter) -> Option<QosLevel>
-        ensures { result ≡ qos_of filter.now self.now }
+        ensures { result ≡ spec.qos_of filter.now self.now }
     {
         let entries = self.entries.as_slice();
         match place(entries, filter) {
@@ -124,7 +124,7 @@ impl Subscriptions {
     /// The greatest quality of service of the filters that ask for a topic; nothing where none
     /// does.
     pub fn subscribed_qos(&self, name: &TopicName) -> Option<QosLevel>
-        ensures value { result ≡ subscribed_qos name.now self.now }
+        ensures value { result ≡ spec.subscribed_qos name.now self.now }
         ensures greatest { IfSome result (IsGreatest (asked_qos name.now self.now)) }
     {
         let mut greatest = None;

@@ -4,9 +4,10 @@ ghost use Rattle.std.specs.Prelude.{◌≡◌, ◌==◌, ◌<◌, ◌≤◌, ◌
 ghost use Rattle.std.specs.Ordering.{nat_cmp};
 ghost use Rattle.sn_tables.specs.declared.table.TheConstants.{MAX_ENTRIES};
 ghost use Rattle.sn_tables.specs.Tables.{IsTable};
-ghost use Rattle.sn_tables.specs.Tables as spec;
+ghost use Rattle.sn_tables.specs.Tables as tables;
 ghost use Rattle.sn_tables.specs.inner.Tables.{IsPlace};
-ghost use Rattle.sn_tables.specs.Topics.{topic_cmp, unknown, with_topic, topic_of, topic_named, topic_id, topic_has_no_room, free_id, least_unused, IsLeastUnused, IsLeastIdOf};
+ghost use Rattle.sn_tables.specs.Topics.{topic_cmp, unknown, with_topic, topic_has_no_room, IsLeastUnused, IsLeastIdOf};
+ghost use Rattle.sn_tables.specs.Topics as spec;
 
 use crate::fault::SessionFault;
 use crate::table::{MAX_ENTRIES, insert_at};
@@ -61,7 +62,7 @@ impl Model for Topics {
 
 /// Where the entry of an id is, or where it would go. The time is logarithmic.
 fn place(entries: &[TopicEntry], id: u16) -> Result<usize, usize>
-    requires { IsTrue (spec.is_ascending topic_cmp entries.now) }
+    requires { IsTrue (tables.is_ascending topic_cmp entries.now) }
     ensures { IsPlace (λ entry. nat_cmp entry.id id) entries.now result }
 {
     entries.binary_search_by_key(&id, |entry| entry.id)
@@ -102,7 +103,7 @@ impl Topics {
 
     /// The entry of an id. The time is logarithmic.
     pub fn topic_of(&self, id: u16) -> Option<&TopicEntry>
-        ensures { option_copied result ≡ topic_of id self.now }
+        ensures { option_copied result ≡ spec.topic_of id self.now }
     {
         let entries = self.entries.as_slice();
         match place(entries, id) {
@@ -120,14 +121,14 @@ impl Topics {
 
     /// The entry of a name; of several that with the least id.
     pub fn topic_named(&self, name: &TopicName) -> Option<&TopicEntry>
-        ensures { option_copied result ≡ topic_named name.now self.now }
+        ensures { option_copied result ≡ spec.topic_named name.now self.now }
     {
         entry_named(self.entries.as_slice(), name)
     }
 
     /// The least id of a name.
     pub fn topic_id(&self, name: &TopicName) -> Option<u16>
-        ensures value { result ≡ topic_id name.now self.now }
+        ensures value { result ≡ spec.topic_id name.now self.now }
         ensures least { IfSome result (IsLeastIdOf name.now self.now) }
     {
         match entry_named(self.entries.as_slice(), name) {
@@ -166,7 +167,7 @@ impl Topics {
     /// The least id from 1 on that is not in use; nothing where there are 256 entries. So it is at
     /// most 257.
     pub fn free_id(&self) -> Option<u16>
-        ensures value { result ≡ free_id self.now }
+        ensures value { result ≡ spec.free_id self.now }
         ensures least { IfSome result (IsLeastUnused self.now) }
         ensures limit { IfSome result (λ id. id ≤ 257) }
     {
@@ -220,7 +221,7 @@ fn forget_all(entries: &mut Vec<TopicEntry>)
 
 /// The first entry of a name.
 fn entry_named<'a>(entries: &'a [TopicEntry], name: &TopicName) -> Option<&'a TopicEntry>
-    ensures { option_copied result ≡ topic_named name.now entries.now }
+    ensures { option_copied result ≡ spec.topic_named name.now entries.now }
 {
     for entry in entries {
         if entry.name == *name {
@@ -232,7 +233,7 @@ fn entry_named<'a>(entries: &'a [TopicEntry], name: &TopicName) -> Option<&'a To
 
 /// Whether the ids strictly ascend.
 fn is_ascending(entries: &[TopicEntry]) -> bool
-    ensures { result ≡ spec.is_ascending topic_cmp entries.now }
+    ensures { result ≡ tables.is_ascending topic_cmp entries.now }
 {
     let mut left = entries;
     while let [first, second, ..] = left {
@@ -247,7 +248,7 @@ fn is_ascending(entries: &[TopicEntry]) -> bool
 /// The least id from 1 on that is not in use, of entries whose ids ascend.
 fn least_unused(entries: &[TopicEntry]) -> u16
     requires { length entries.now < MAX_ENTRIES }
-    ensures value { result ≡ least_unused 1 entries.now }
+    ensures value { result ≡ spec.least_unused 1 entries.now }
     ensures limit { result ≤ 257 }
 {
     let mut free: u16 = 1;

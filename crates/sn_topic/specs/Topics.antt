@@ -1,5 +1,5 @@
 -- which octets are topic names and which are filters
-use Rattle.std.specs.Prelude.{ℕ, ◌<◌, ◌≤◌, Bool, ◌&&◌, not, nat_lt, nat_le, List, length, IsTrue, IsFalse}
+use Rattle.std.specs.Prelude.{ℕ, ◌<◌, ◌≤◌, Bool, ◌&&◌, not, nat_lt, nat_le, if◌then◌else◌, List, length, Option, Some, None, IsTrue, IsFalse}
 use Rattle.sn_topic.specs.declared.level.TheConstants.{MAX_TOPIC}
 use Rattle.sn_topic.specs.Levels.{has_wildcard, levels, wildcards_stand_alone}
 
@@ -22,6 +22,10 @@ is_topic_size octets = nat_lt 0 (length octets) && nat_le (length octets) MAX_TO
 -- `IsName` as a test
 abbrev pub is_name : List ℕ → Bool
 is_name octets = is_topic_size octets && not (has_wildcard octets)
+
+-- these octets, if they are a topic name
+abbrev pub name_asked : List ℕ → Option (List ℕ)
+name_asked octets = if is_name octets then Some octets else None
 
 -- `IsFilter` as a test
 abbrev pub is_filter : List ℕ → Bool

@@ -12,15 +12,15 @@ use Rattle.sn_session.specs.declared.change.SessionOp.TheVariants.{Presence, Out
 use Rattle.sn_tables.specs.Topics.{topic_named}
 use Rattle.sn_frame.specs.declared.frame.Frame.TheVariants as frames
 use Rattle.rep_op.specs.declared.op.Put.{Put}
+use Rattle.rep_op.specs.Orders.{name_of}
 use Rattle.sn_plan.specs.declared.row.Follow.{Follow}
 use Rattle.sn_plan.specs.declared.row.Follow.TheVariants as follows
-use Rattle.sn_plan.specs.Names.{name_of}
-use Rattle.sn_plan.specs.Drafts.{Drafted, changed, changed_if, acked, sent}
+use Rattle.sn_plan.specs.Drafts.{Drafted, changed, changed_if, acked, sent, session_after}
 use Rattle.sn_exchange.specs.declared.form.Form.{Form}
 use Rattle.sn_exchange.specs.declared.peer.Peer.{Peer}
 use Rattle.sn_exchange.specs.declared.delivery.ToldId.{ToldId}
 use Rattle.sn_exchange.specs.Forms.{form_of, form_again, publication}
-use Rattle.sn_exchange.specs.Exchanges.{so_far, left, put_left, message_of, open_exchange, is_awake}
+use Rattle.sn_exchange.specs.Exchanges.{left, put_left, message_of, open_exchange, is_awake}
 use Rattle.sn_exchange.specs.Delivery.{Stop, next_after, id_to_tell, begun, register_first, deliver_by, none_left, and_then, deliver, deliver_left}
 use Rattle.sn_exchange.specs.Resending.{given_up, register_by, publish_by, resend_in, resend_if}
 use Rattle.sn_exchange.specs.Following.{followed_by}
@@ -122,11 +122,11 @@ module _ (predefined : Entries) (peer : Peer) (s : Session) where
       (resend_ends x.msg_id x.phase (put_left d.acks pending (message_of x)) d))
 
 follow_ends : (predefined : Entries) (peer : Peer) (s : Session) (pending : List Put) (d : Drafted) (follow : Follow) (x : Exchange)
-    → open_exchange (so_far s d) d.acks pending ≡ Some x
-    → EndsFirst d.changes (so_far s d).next_id (followed_by predefined peer s pending d follow).changes
+    → open_exchange (session_after s d) d.acks pending ≡ Some x
+    → EndsFirst d.changes (session_after s d).next_id (followed_by predefined peer s pending d follow).changes
 follow_ends predefined peer s pending d follows.Nothing x is = inl refl
 follow_ends predefined peer s pending d follows.Delivery x is = inl (ap (λ (e : Drafted). e.changes) (delivery-rests predefined peer s pending d x is))
-follow_ends predefined peer s pending d follows.Resend x is = exchange_ends predefined peer (so_far s d) pending d x is
+follow_ends predefined peer s pending d follows.Resend x is = exchange_ends predefined peer (session_after s d) pending d x is
 
 pub one-exchange : OneExchange
 one-exchange = record { delivered = delivery-rests; followed = follow_ends }

@@ -37,7 +37,7 @@ use Rattle.sn_plan.specs.declared.plan.Plan.{Plan}
 use Rattle.sn_plan.specs.declared.row.Row.{Row}
 use Rattle.sn_plan.specs.declared.row.Follow.{Follow}
 use Rattle.sn_plan.specs.declared.row.Follow.TheVariants as follows
-use Rattle.sn_plan.specs.Drafts.{Drafted, nothing, changed, changed_if, moved}
+use Rattle.sn_plan.specs.Drafts.{Drafted, nothing, changed, changed_if, moved, session_after}
 use Rattle.sn_local.specs.Seen.{Seen, seen_of}
 use Rattle.sn_plan.specs.Plans.{plan_without}
 use Rattle.sn_local.specs.Bindings.{client_at, is_stamp_of}
@@ -54,7 +54,7 @@ use Rattle.sn_tick.specs.declared.due.Due.TheVariants as dues
 use Rattle.sn_publish.specs.declared.meaning.Meant.{Meant}
 use Rattle.sn_publish.specs.declared.meaning.Meant.TheVariants.{Topic, Refused}
 use Rattle.sn_exchange.specs.Forms.{form_of, form_again}
-use Rattle.sn_exchange.specs.Exchanges.{so_far, left, put_left, message_of, open_exchange, is_served, is_awake}
+use Rattle.sn_exchange.specs.Exchanges.{left, put_left, message_of, open_exchange, is_served, is_awake}
 use Rattle.sn_publish.specs.Recipients.{puts_among, puts_for, is_another, qos_for}
 use Rattle.sn_publish.specs.Publishing.{publication_meant, spread_twice, publish_at, publish_meant, spread_meant, release}
 use Rattle.sn_exchange.specs.Delivery.{Stop, id_to_tell, register_first, deliver_by, none_left, and_then, deliver, deliver_left, deliver_if}
@@ -151,8 +151,8 @@ module _ (predefined : Entries) (peer : Peer) (s : Session) where
 
 pub followed_by_puts : (predefined : Entries) (peer : Peer) (s : Session) (pending : List Put) (d : Drafted) (follow : Follow) → SamePuts (followed_by predefined peer s pending d follow) d
 followed_by_puts predefined peer s pending d follows.Nothing = refl
-followed_by_puts predefined peer s pending d follows.Delivery = deliver_if_puts predefined peer (so_far s d) pending d
-followed_by_puts predefined peer s pending d follows.Resend = resend_puts predefined peer (so_far s d) pending (open_exchange (so_far s d) d.acks pending) d
+followed_by_puts predefined peer s pending d follows.Delivery = deliver_if_puts predefined peer (session_after s d) pending d
+followed_by_puts predefined peer s pending d follows.Resend = resend_puts predefined peer (session_after s d) pending (open_exchange (session_after s d) d.acks pending) d
 
 followed_for_puts : (predefined : Entries) (seen : Seen) (a : Addr) (now : ℕ) (d : Drafted) (follow : Follow) (client : Option (List ℕ)) → SamePuts (followed_for predefined seen a now d follow client) d
 followed_for_puts predefined seen a now d follow None = refl

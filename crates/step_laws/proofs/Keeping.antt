@@ -13,12 +13,12 @@ use Rattle.sn_tables.specs.Received.{is_received, id_has_no_room}
 use Rattle.sn_frame.specs.declared.frame.Frame.TheVariants as frames
 use Rattle.sn_frame.specs.Grammar.{spelling}
 use Rattle.rep_op.specs.declared.op.Put.{Put}
+use Rattle.rep_op.specs.Orders.{name_of}
 use Rattle.sn_local.specs.declared.config.Send.{Send}
 use Rattle.sn_local.specs.declared.local.Timer.{Timer}
 use Rattle.sn_local.specs.declared.local.WillDialog.{WillDialog}
 use Rattle.sn_local.specs.declared.local.LocalChange.TheVariants.{Heard, EndDialog}
-use Rattle.sn_plan.specs.Names.{name_of}
-use Rattle.sn_plan.specs.Drafts.{Drafted, nothing, changed, changed_if, acked, put_all, sent, moved}
+use Rattle.sn_plan.specs.Drafts.{Drafted, nothing, changed, changed_if, acked, put_all, sent, moved, session_after}
 use Rattle.sn_local.specs.Seen.{Seen}
 use Rattle.sn_plan.specs.Plans.{plan_without}
 use Rattle.sn_local.specs.Locals.{Local}
@@ -27,7 +27,7 @@ use Rattle.sn_exchange.specs.declared.peer.Peer.{Peer}
 use Rattle.sn_exchange.specs.declared.delivery.ToldId.{ToldId}
 use Rattle.sn_exchange.specs.Forms.{form_of, publication}
 use Rattle.sn_publish.specs.Recipients.{puts_for}
-use Rattle.sn_exchange.specs.Exchanges.{so_far, put_left, message_of, open_exchange, is_served, is_awake}
+use Rattle.sn_exchange.specs.Exchanges.{put_left, message_of, open_exchange, is_served, is_awake}
 use Rattle.sn_exchange.specs.Delivery.{Stop, id_to_tell, begun, register_first, deliver_by, none_left, and_then, deliver, deliver_left, then_deliver}
 use Rattle.sn_exchange.specs.Resending.{publish_by, publish_again, resend_in}
 use Rattle.sn_tick.specs.Due.{elapsed, first_due}
@@ -67,7 +67,7 @@ puts-once = record {
   recorded = λ seen a s topic msg_id body name fresh room.
       choose_last (is_received msg_id s.received) (id_has_no_room msg_id s.received) (sent a (frames.PubRec msg_id) nothing) (sent a (frames.PubAck topic msg_id 1) nothing)
       (sent a (frames.PubRec msg_id) (changed (Received msg_id) (put_all (puts_for seen name 2 body) nothing)))
-      (λ d. is_received msg_id (so_far s d).received ≡ true) fresh room
+      (λ d. is_received msg_id (session_after s d).received ≡ true) fresh room
       (if_room (id_has_no_room msg_id s.received) s (changed_by s (Received msg_id)) msg_id room (added msg_id s.received));
   stays = stays-received;
   repeated = λ seen a s topic msg_id body name received.
@@ -86,10 +86,10 @@ choose_other true false x d e = refl
 choose_other false c x d e = refl
 
 pub delivery-rests : (predefined : Entries) (peer : Peer) (s : Session) (pending : List Put) (d : Drafted) (x : Exchange)
-    → open_exchange (so_far s d) d.acks pending ≡ Some x → then_deliver predefined peer s pending d ≡ d
+    → open_exchange (session_after s d) d.acks pending ≡ Some x → then_deliver predefined peer s pending d ≡ d
 delivery-rests predefined peer s pending d x is =
-    choose_other (is_served (so_far s d).presence) (is_none (open_exchange (so_far s d) d.acks pending))
-    (deliver_left predefined peer (so_far s d) pending d) d (ap is_none is)
+    choose_other (is_served (session_after s d).presence) (is_none (open_exchange (session_after s d) d.acks pending))
+    (deliver_left predefined peer (session_after s d) pending d) d (ap is_none is)
 
 -- ---- a PUBLISH that is sent again
 

@@ -14,7 +14,7 @@ use Rattle.sn_local.specs.declared.config.Addr.{Addr}
 use Rattle.sn_local.specs.declared.local.WillDialog.{WillDialog}
 use Rattle.sn_local.specs.declared.local.LocalChange.{LocalChange}
 use Rattle.sn_local.specs.declared.local.LocalChange.TheVariants.{Heard, Sent, Resent, Retried, EndDialog}
-use Rattle.sn_plan.specs.Drafts.{Drafted, nothing, changed_if, moved}
+use Rattle.sn_plan.specs.Drafts.{Drafted, nothing, changed_if, moved, session_after}
 use Rattle.sn_local.specs.Seen.{Seen}
 use Rattle.sn_local.specs.Bindings.{is_stamp_of}
 use Rattle.sn_plan.specs.Bound.{session_of}
@@ -25,7 +25,7 @@ use Rattle.sn_exchange.specs.declared.delivery.ToldId.{ToldId}
 use Rattle.sn_exchange.specs.declared.form.Form.{Form}
 use Rattle.sn_exchange.specs.declared.peer.Peer.{Peer}
 use Rattle.sn_exchange.specs.Forms.{form_of, form_again}
-use Rattle.sn_exchange.specs.Exchanges.{so_far, left, put_left, message_of, open_exchange, is_served, is_awake}
+use Rattle.sn_exchange.specs.Exchanges.{left, put_left, message_of, open_exchange, is_served, is_awake}
 use Rattle.sn_exchange.specs.Delivery.{Stop, id_to_tell, register_first, deliver_by, none_left, and_then, deliver, deliver_left, deliver_if}
 use Rattle.sn_exchange.specs.Resending.{register_by, register_again, publish_by, publish_again, resend_in, resend_if}
 use Rattle.sn_exchange.specs.Following.{peer_at}
@@ -176,14 +176,14 @@ module _ (predefined : Entries) (seen : Seen) (a : Addr) (now : ℕ) (c : List �
   resends_kept changes h = kept-resent now local (IsAnother c) changes h c (λ x is. is)
 
   pub delivery-kept : (d : Drafted) → AreKept now local Anyone d.local
-      → Kept (deliver_if predefined (peer_at a c now) (so_far (session_of seen c) d) (seen.of c).pending d).local
+      → Kept (deliver_if predefined (peer_at a c now) (session_after (session_of seen c) d) (seen.of c).pending d).local
   delivery-kept d h =
-      deliver_if_has Kept predefined (peer_at a c now) sends_kept resends_kept (so_far (session_of seen c) d) (seen.of c).pending d (others_only d.local h)
+      deliver_if_has Kept predefined (peer_at a c now) sends_kept resends_kept (session_after (session_of seen c) d) (seen.of c).pending d (others_only d.local h)
 
   pub retry-kept : (d : Drafted) → AreKept now local Anyone d.local
-      → Kept (resend_if predefined (peer_at a c now) (so_far (session_of seen c) (moved (Retried c now) d)) (seen.of c).pending
-      (open_exchange (so_far (session_of seen c) (moved (Retried c now) d)) d.acks (seen.of c).pending) (moved (Retried c now) d)).local
+      → Kept (resend_if predefined (peer_at a c now) (session_after (session_of seen c) (moved (Retried c now) d)) (seen.of c).pending
+      (open_exchange (session_after (session_of seen c) (moved (Retried c now) d)) d.acks (seen.of c).pending) (moved (Retried c now) d)).local
   retry-kept d h =
-      resend_has Kept predefined (peer_at a c now) sends_kept resends_kept (so_far (session_of seen c) (moved (Retried c now) d)) (seen.of c).pending
-      (open_exchange (so_far (session_of seen c) (moved (Retried c now) d)) d.acks (seen.of c).pending) (moved (Retried c now) d)
+      resend_has Kept predefined (peer_at a c now) sends_kept resends_kept (session_after (session_of seen c) (moved (Retried c now) d)) (seen.of c).pending
+      (open_exchange (session_after (session_of seen c) (moved (Retried c now) d)) d.acks (seen.of c).pending) (moved (Retried c now) d)
       (kept-retried now local (IsAnother c) d.local (others_only d.local h) c (λ x is. is))

@@ -8,13 +8,12 @@ use Rattle.std.proofs.lemmas.Cmp.{tied_itself}
 use Rattle.rep_op.specs.declared.op.Put.{Put}
 use Rattle.rep_op.specs.declared.op.Op.{Op}
 use Rattle.rep_op.specs.declared.op.Op.TheVariants.{Session as OfSession, Put as OfPut, Ack}
-use Rattle.rep_op.specs.Orders.{put_cmp}
+use Rattle.rep_op.specs.Orders.{name_of, put_cmp}
 use Rattle.rep_op.specs.Sets.{same_client, puts, is_acknowledged}
 use Rattle.rep_model.specs.Views.{unacknowledged, pending_at, in_order, pending}
 use Rattle.rep_model.proofs.Lookup.{find-in_order, is_sorted-in_order}
 use Rattle.rep_model.proofs.Readers.{put_total, put_exact}
 use Rattle.rep_model.proofs.Waiting.{AreUnderNames, waiting_entries, waiting_under, waiting_sorted, waiting_found}
-use Rattle.sn_plan.specs.Names.{name_of}
 use Rattle.sn_exchange.specs.Exchanges.{same_name, is_done, left}
 use Rattle.step_laws.specs.Laws.{AreApart}
 

@@ -15,7 +15,7 @@ use Rattle.sn_tables.specs.Tables.{is_table_full, by_order}
 use Rattle.sn_tables.specs.Topics.{topic_cmp, topic_of, topic_named, with_topic, free_id, least_unused}
 use Rattle.sn_session.specs.Session.{applied, changed as changed_session}
 use Rattle.rep_op.specs.declared.op.Put.{Put}
-use Rattle.sn_plan.specs.Names.{name_of}
+use Rattle.rep_op.specs.Orders.{name_of}
 use Rattle.row_laws.proofs.Given.{fits}
 use Rattle.sn_exchange.specs.Exchanges.{same_name, is_done, is_left, left, put_named, put_left, message_of, is_open_in, if_open, open_exchange}
 use Rattle.step_laws.specs.Laws.{AreApart}

@@ -17,13 +17,13 @@ use Rattle.sn_session.specs.Session.{applied, changed as changed_session}
 use Rattle.sn_frame.specs.declared.frame.Frame.{Frame}
 use Rattle.sn_frame.specs.declared.frame.Frame.TheVariants as frames
 use Rattle.rep_op.specs.declared.op.Put.{Put}
+use Rattle.rep_op.specs.Orders.{name_of}
 use Rattle.sn_local.specs.declared.config.Addr.{Addr}
 use Rattle.sn_local.specs.declared.config.Send.{Send}
 use Rattle.sn_plan.specs.declared.draft.NewPut.{NewPut}
 use Rattle.sn_local.specs.declared.local.Timer.{Timer}
 use Rattle.sn_local.specs.declared.local.LocalChange.{LocalChange}
 use Rattle.sn_local.specs.declared.local.LocalChange.TheVariants.{Sent, Resent, Retried}
-use Rattle.sn_plan.specs.Names.{name_of}
 use Rattle.sn_plan.specs.Drafts.{Drafted, changed, acked, sent, moved}
 use Rattle.sn_local.specs.Seen.{Seen}
 use Rattle.sn_plan.specs.Bound.{session_of}

@@ -2,6 +2,7 @@
 use Rattle.std.specs.Prelude.{◌≡◌, ℕ, ◌+◌, ◌==◌, Bool, true, false, ◌⊎◌, List, [], ◌∷◌, ◌++◌, Option, Some, None, Contains}
 use Rattle.std.specs.List.{AllByRecursion}
 use Rattle.sn_topic.specs.Table.{Entries}
+use Rattle.sn_frame.specs.FlagBits.{kind_bits}
 use Rattle.sn_session.specs.declared.outbound.Phase.TheVariants.{Published}
 use Rattle.sn_session.specs.declared.session.Session.{Session}
 use Rattle.sn_session.specs.declared.change.SessionOp.{SessionOp}
@@ -11,14 +12,14 @@ use Rattle.sn_tables.specs.Received.{is_received, id_has_no_room}
 use Rattle.sn_frame.specs.declared.frame.Frame.TheVariants as frames
 use Rattle.sn_frame.specs.Grammar.{spelling}
 use Rattle.rep_op.specs.declared.op.Put.{Put}
+use Rattle.rep_op.specs.Orders.{name_of}
 use Rattle.sn_local.specs.declared.config.Addr.{Addr}
 use Rattle.sn_local.specs.declared.config.Send.{Send}
 use Rattle.sn_local.specs.declared.local.Timer.{Timer}
 use Rattle.sn_plan.specs.declared.plan.Plan.{Plan}
 use Rattle.sn_plan.specs.declared.row.Follow.{Follow}
 use Rattle.sn_plan.specs.declared.row.Follow.TheVariants as follows
-use Rattle.sn_plan.specs.Names.{name_of}
-use Rattle.sn_plan.specs.Drafts.{Drafted, sent}
+use Rattle.sn_plan.specs.Drafts.{Drafted, sent, session_after}
 use Rattle.sn_plan.specs.Bound.{session_of}
 use Rattle.sn_local.specs.Seen.{Seen}
 use Rattle.sn_plan.specs.Rows.{row_of}
@@ -26,11 +27,11 @@ use Rattle.sn_local.specs.Timers.{timer_of, timers_after}
 use Rattle.sn_local.specs.Locals.{Local}
 use Rattle.sn_exchange.specs.declared.form.Form.{Form}
 use Rattle.sn_exchange.specs.declared.peer.Peer.{Peer}
-use Rattle.sn_exchange.specs.Forms.{form_of, form_again, publication, qos_bits, kind_bits}
+use Rattle.sn_exchange.specs.Forms.{form_of, form_again, publication, qos_bits}
 use Rattle.sn_session.specs.declared.outbound.Outbound.{Outbound as Exchange}
 use Rattle.sn_tick.specs.declared.due.Due.{Due}
 use Rattle.sn_tick.specs.declared.due.Due.TheVariants.{Loss, Retry, Delivery}
-use Rattle.sn_exchange.specs.Exchanges.{so_far, same_name, left, put_left, message_of, open_exchange}
+use Rattle.sn_exchange.specs.Exchanges.{same_name, left, put_left, message_of, open_exchange}
 use Rattle.sn_exchange.specs.Delivery.{id_to_tell, deliver, then_deliver}
 use Rattle.sn_exchange.specs.Resending.{resend}
 use Rattle.sn_publish.specs.Publishing.{spread_twice}
@@ -79,7 +80,8 @@ ends_received id change = false
 pub record PutsOnce : Type 0 where
   pub recorded : (seen : Seen) (a : Addr) (s : Session) (topic msg_id : ℕ) (body name : List ℕ)
       → is_received msg_id s.received ≡ false → id_has_no_room msg_id s.received ≡ false
-      → is_received msg_id (so_far s (spread_twice seen a s topic msg_id body name)).received ≡ true
+      → is_received msg_id (session_after s (spread_twice seen a s topic msg_id body name)).received
+      ≡ true
   pub stays : (s : Session) (change : SessionOp) (msg_id : ℕ) → ends_received msg_id change ≡ false
       → is_received msg_id s.received ≡ true → is_received msg_id (applied s change).received ≡ true
   pub repeated : (seen : Seen) (a : Addr) (s : Session) (topic msg_id : ℕ) (body name : List ℕ)
@@ -98,12 +100,12 @@ EndsFirst before next_id after =
 pub record OneExchange : Type 0 where
   pub delivered : (predefined : Entries) (peer : Peer) (s : Session) (pending : List Put)
       (d : Drafted) (x : Exchange)
-      → open_exchange (so_far s d) d.acks pending ≡ Some x
+      → open_exchange (session_after s d) d.acks pending ≡ Some x
       → then_deliver predefined peer s pending d ≡ d
   pub followed : (predefined : Entries) (peer : Peer) (s : Session) (pending : List Put)
       (d : Drafted) (follow : Follow) (x : Exchange)
-      → open_exchange (so_far s d) d.acks pending ≡ Some x
-      → EndsFirst d.changes (so_far s d).next_id
+      → open_exchange (session_after s d) d.acks pending ≡ Some x
+      → EndsFirst d.changes (session_after s d).next_id
       (followed_by predefined peer s pending d follow).changes
 
 -- a PUBLISH that is sent again has DUP, and the message id of its exchange
@@ -144,7 +146,7 @@ abbrev pub due_after : ℕ → List ℕ → Session → List Put → List Timer 
     → Option Due
 due_after now c s pending timers a d =
     due_session now (left d.acks pending) (timer_of c (timers_after timers d.local)) a
-    (Some (so_far s d))
+    (Some (session_after s d))
 
 -- what a tick does with a client behind what it did first
 abbrev pub due_draft : Entries → Seen → ℕ → List ℕ → Drafted → Due → Drafted

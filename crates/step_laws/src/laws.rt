@@ -94,9 +94,9 @@ pub fn ticks_end()
         → due_with g (seen_of S) local now c ≡ None }
 {}
 
-/// The laws of `sn_flow` hold of every step and of every tick: each of their plans is the plan of a
-/// draft with at most one message a client. So no step loses a message but by an acknowledgement of
-/// its own, and a gateway whose set is flush never refuses for a conflict what it made itself.
+/// The laws of `row_laws` hold of every step and of every tick: each of their plans is the plan of
+/// a draft with at most one message a client. So no step loses a message but by an acknowledgement
+/// of its own, and a gateway whose set is flush never refuses for a conflict what it made itself.
 pub fn every_step()
     ensures steps { (g : ℕ) (predefined : Entries) (S : List Op) (local : Local) (a : Addr)
         (frame : Frame) (now : ℕ) (plan : Plan) → step g predefined (seen_of S) local a frame now

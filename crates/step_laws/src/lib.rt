@@ -1,4 +1,5 @@
-//! Laws of deliveries, of publications and of time: nothing that runs is built on them.
+//! Laws of deliveries, of publications and of time: no gateway and no client is built on them. A
+//! field (`gw_world`) is, and so the simulator.
 //!
 //! Each function of `laws` does nothing; its contract is a law, proved for all sessions and
 //! messages. The definitions are in `specs/`: `Laws`, and `Ticks` (ticks of one moment, one after

@@ -5,28 +5,34 @@
 //! line that is none of these, `no such line` and the line. Numbers are decimal, octets are
 //! hexadecimal digits in one word.
 //!
-//! | Settings, and a gateway that is opened as they say | |
-//! |---|---|
-//! | `toml TEXT` | the text is one more line of the settings |
-//! | `gateway NUMBER` | the settings are those four that a gateway must be told |
-//! | `settings` | what they are, or why they are refused |
-//! | `begin` | a gateway is opened on the disk in memory of the one before it, or on an empty one: what is printed, and the status |
-//! | `fail` | the next write of its journal stops after five octets |
-//! | `files OCTETS` | a gateway is opened on the two files of the settings, is given a datagram, and is closed |
+//! Settings, and a gateway that is opened as they say:
 //!
-//! | The next serving; without these, two workers, 4,096 calls, and a post and a wire that do not fail | |
-//! |---|---|
-//! | `workers COUNT`, `steps COUNT` | how many passes the shift has, 1 to 8; how many calls, 1 to 4,096 |
-//! | `turns COUNT` | how many turns the reader has beside one for each thing that comes |
-//! | `post fails` | no reply is sent |
-//! | `hold FIRST SECOND` | the replies to the datagram of the first number wait until those of the second are out, but not longer than ten million turns |
-//! | `datagram HOST MOMENT OCTETS` | a datagram comes, from port 1 of a host |
-//! | `failure` | a receive fails |
+//! - `toml TEXT`: the text is one more line of the settings.
+//! - `gateway NUMBER`: the settings are those four that a gateway must be told.
+//! - `settings`: what they are, or why they are refused.
+//! - `begin`: a gateway is opened on the disk in memory of the one before it, or on an empty one:
+//!   what is printed, and the status.
+//! - `fail`: the next write of its journal stops after five octets.
+//! - `files OCTETS`: a gateway is opened on the two files of the settings, is given a datagram, and
+//!   is closed.
 //!
-//! | Serving, in a shift of the gateway that is open, which goes on behind it | |
-//! |---|---|
-//! | `serve` | serves what comes |
-//! | `loopback FIRST SECOND` | serves a socket of this machine, to which somebody sends the first datagram and, behind its answer, the second |
+//! The next serving; without these, two workers, 4,096 calls, and a post and a wire that do not
+//! fail:
+//!
+//! - `workers COUNT`, `steps COUNT`: how many passes the shift has, 1 to 8; how many calls, 1 to
+//!   4,096.
+//! - `turns COUNT`: how many turns the reader has beside one for each thing that comes.
+//! - `post fails`: no reply is sent.
+//! - `hold FIRST SECOND`: the replies to the datagram of the first number wait until those of the
+//!   second are out, but not longer than ten million turns.
+//! - `datagram HOST MOMENT OCTETS`: a datagram comes, from port 1 of a host.
+//! - `failure`: a receive fails.
+//!
+//! Serving, in a shift of the gateway that is open, which goes on behind it:
+//!
+//! - `serve`: serves what comes.
+//! - `loopback FIRST SECOND`: serves a socket of this machine, to which somebody sends the first
+//!   datagram and, behind its answer, the second.
 //!
 //! Of serving is printed how it ended, with how many passes; for each datagram what was asked of
 //! the outside, in its order, and how many things in all; what became of it, as its call stands in

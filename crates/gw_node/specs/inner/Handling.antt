@@ -4,6 +4,7 @@ use Rattle.rep_op.specs.declared.op.Op.{Op}
 use Rattle.sn_frame.specs.declared.frame.Frame.{Frame}
 use Rattle.sn_frame.specs.declared.fault.FrameFault.TheVariants as frame_faults
 use Rattle.sn_frame.specs.Faults.{IsFirstFault}
+use Rattle.rep_ops.specs.Splitting.{all_of}
 use Rattle.sn_local.specs.declared.config.Addr.{Addr}
 use Rattle.sn_local.specs.declared.config.Send.{Send}
 use Rattle.sn_plan.specs.declared.plan.Plan.{Plan}
@@ -22,7 +23,6 @@ use Rattle.gw_answer.specs.Answers.{only_sends}
 use Rattle.gw_node.specs.Plans.{MakeNoDelta}
 use Rattle.gw_node.specs.Calls.{IsDone, IsGivenUp, AreTooMuch}
 use Rattle.gw_node.specs.Keeping.{Keeps}
-use Rattle.gw_node.specs.Taking.{ops_of}
 use Rattle.gw_node.specs.Opening.{FitInTurn}
 use Rattle.gw_node.specs.inner.Opening.{DoNotFit}
 
@@ -111,7 +111,7 @@ pub record IsRefilled {D : Type 0} {G : Ghosts D} (old : State G) (deltas : List
   pub local : new.local ≡ no_local
   pub journal : new.journal ≡ old.journal
   pub records : new.records ≡ length deltas
-  pub keeps : Keeps (ops_of deltas) new.kept
+  pub keeps : Keeps (all_of deltas) new.kept
   pub none : deltas ≡ [] → new.kept ≡ []
   pub fits : FitInTurn [] deltas
 

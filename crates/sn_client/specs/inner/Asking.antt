@@ -4,7 +4,7 @@ use Rattle.sn_frame.specs.declared.flags.Flags.{Flags}
 use Rattle.sn_frame.specs.declared.flags.Qos.{Qos}
 use Rattle.sn_frame.specs.declared.flags.Qos.TheVariants as levels
 use Rattle.sn_frame.specs.declared.flags.TopicIdType.{TopicIdType}
-use Rattle.sn_frame.specs.declared.flags.TopicIdType.TheVariants as kinds
+use Rattle.sn_frame.specs.FlagBits.{kind_bits}
 
 -- bits 6 and 5
 abbrev pub qos_bits : Qos → ℕ
@@ -12,13 +12,6 @@ qos_bits levels.Zero = 0
 qos_bits levels.One = 32
 qos_bits levels.Two = 64
 qos_bits levels.MinusOne = 96
-
--- bits 1 and 0
-abbrev pub kind_bits : TopicIdType → ℕ
-kind_bits kinds.Normal = 0
-kind_bits kinds.Predefined = 1
-kind_bits kinds.Short = 2
-kind_bits kinds.Reserved = 3
 
 -- bit 4
 abbrev pub retain_bit : Bool → ℕ

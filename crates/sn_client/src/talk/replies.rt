@@ -1,7 +1,8 @@
 //! What a frame from the gateway is acknowledged by, and a frame that is sent again.
 
 ghost use Rattle.std.specs.Prelude.{◌≡◌, IfSome};
-ghost use Rattle.sn_client.specs.inner.Talking.{acknowledgement_of, acknowledgement_at, msg_id_of, repeated, repeated_bits};
+ghost use Rattle.sn_client.specs.inner.Talking.{acknowledgement_of, msg_id_of, repeated, repeated_bits};
+ghost use Rattle.sn_client.specs.inner.Talking as spec;
 
 use sn_frame::{Flags, Frame, Qos};
 
@@ -10,7 +11,7 @@ const ACCEPTED: u8 = 0;
 
 /// The acknowledgement of a publication.
 fn acknowledgement_at(qos: Qos, topic_id: u16, msg_id: u16) -> Option<Frame>
-    ensures { result ≡ acknowledgement_at qos topic_id msg_id }
+    ensures { result ≡ spec.acknowledgement_at qos topic_id msg_id }
 {
     match qos {
         Qos::One => Some(Frame::PubAck {

@@ -2,7 +2,8 @@
 //! under no other.
 
 ghost use Rattle.std.specs.Prelude.{◌≡◌};
-ghost use Rattle.sn_client.specs.inner.Talking.{turn_of, turn_under, turn_by_code, turn_by_refusal, turn_by_reg_ack, msg_id_of, id_awaited, OnProgress};
+ghost use Rattle.sn_client.specs.inner.Talking.{msg_id_of, id_awaited, OnProgress};
+ghost use Rattle.sn_client.specs.inner.Talking as spec;
 
 use super::{Awaited, Outcome, Turn};
 use sn_frame::Frame;
@@ -19,28 +20,28 @@ const REFUSED: Turn = Turn::End {
 
 /// A turn that counts under one message id alone.
 fn turn_under(msg_id: u16, came: u16, turn: Turn) -> Turn
-    ensures { result ≡ turn_under msg_id came turn }
+    ensures { result ≡ spec.turn_under msg_id came turn }
 {
     if came == msg_id { turn } else { Turn::Stay }
 }
 
 /// What a return code says.
 fn turn_by_code(code: u8) -> Turn
-    ensures { result ≡ turn_by_code code }
+    ensures { result ≡ spec.turn_by_code code }
 {
     if code == 0 { DONE } else { REFUSED }
 }
 
 /// What a return code says where only a refusal ends the exchange.
 fn turn_by_refusal(code: u8) -> Turn
-    ensures { result ≡ turn_by_refusal code }
+    ensures { result ≡ spec.turn_by_refusal code }
 {
     if code == 0 { Turn::Stay } else { REFUSED }
 }
 
 /// What a REGACK says.
 fn turn_by_reg_ack(topic_id: u16, code: u8) -> Turn
-    ensures { result ≡ turn_by_reg_ack topic_id code }
+    ensures { result ≡ spec.turn_by_reg_ack topic_id code }
 {
     if code == 0 {
         Turn::Publish { topic_id }
@@ -52,7 +53,7 @@ fn turn_by_reg_ack(topic_id: u16, code: u8) -> Turn
 /// What a frame leads to. A DISCONNECT that answers none says that the gateway has no connection
 /// with the client.
 fn turn_by_type(awaited: Awaited, frame: &Frame) -> Turn
-    ensures { result ≡ turn_of awaited frame.now }
+    ensures { result ≡ spec.turn_of awaited frame.now }
 {
     match (awaited, frame) {
         (Awaited::Gateway, Frame::GwInfo { .. }) => DONE,
@@ -115,7 +116,7 @@ fn turn_by_type(awaited: Awaited, frame: &Frame) -> Turn
 
 /// What a frame leads to.
 pub(crate) fn turn_of(awaited: Awaited, frame: &Frame) -> Turn
-    ensures value { result ≡ turn_of awaited frame.now }
+    ensures value { result ≡ spec.turn_of awaited frame.now }
 
     // What moves the exchange on, or ends it well, has the message id of what is awaited.
     ensures own { OnProgress result (msg_id_of frame.now ≡ id_awaited awaited) }

@@ -1,7 +1,8 @@
 //! Bodies, and parts of bodies, that several messages share.
 
 ghost use Rattle.std.specs.Prelude.{◌≡◌, IfOk};
-ghost use Rattle.sn_frame.specs.inner.Reading.{Gives, number, read_bare, read_octet, read_number, read_ids, read_filter, read_will};
+ghost use Rattle.sn_frame.specs.inner.Reading.{Gives, read_bare, read_octet, read_number, read_ids, read_filter, read_will};
+ghost use Rattle.sn_frame.specs.inner.Reading as spec;
 
 use crate::fault::FrameFault;
 use crate::flags::Flags;
@@ -12,7 +13,7 @@ use std::alloc::Global;
 
 /// The number in two octets.
 pub(super) fn number(high: u8, low: u8) -> u16
-    ensures { result ≡ number high low }
+    ensures { result ≡ spec.number high low }
 {
     BigEndian::read_u16(&[high, low])
 }

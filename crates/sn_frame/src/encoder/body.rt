@@ -2,7 +2,8 @@
 
 ghost use Rattle.std.specs.Prelude.{◌≡◌, ◌∷◌, ◌++◌, ◌↔◌, List, [], IfOk, IsTrue};
 ghost use Rattle.byteorder.specs.Endian.{big_bytes};
-ghost use Rattle.sn_frame.specs.Bodies.{body_of, type_of, IsMessage};
+ghost use Rattle.sn_frame.specs.Bodies.{IsMessage};
+ghost use Rattle.sn_frame.specs.Bodies as spec;
 
 use crate::encoder::parts::{
     ids_and_code, joined, number_body, octets_of, optional_duration, optional_will, subscription,
@@ -29,7 +30,7 @@ pub(super) fn is_message(frame: &Frame) -> bool
 
 /// Which message a frame is.
 pub(super) fn type_of(frame: &Frame) -> MsgType
-    ensures { result ≡ type_of frame.now }
+    ensures { result ≡ spec.type_of frame.now }
 {
     match frame {
         Frame::Advertise { .. } => MsgType::Advertise,
@@ -64,7 +65,7 @@ pub(super) fn type_of(frame: &Frame) -> MsgType
 
 /// What follows the type.
 pub(super) fn body_of(alloc: Global, frame: &Frame) -> Result<Vec<u8>, AllocError>
-    ensures { IfOk result (λ body. body.items ≡ body_of frame.now) }
+    ensures { IfOk result (λ body. body.items ≡ spec.body_of frame.now) }
 {
     match frame {
         Frame::WillTopicReq | Frame::WillMsgReq | Frame::PingResp => Ok(Vec::new(alloc)),

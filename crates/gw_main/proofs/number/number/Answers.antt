@@ -1,6 +1,6 @@
 use Rattle.std.proofs.Common.{◌≢◌, arith, get_or}
 use Rattle.std.proofs.lemmas.Bool.Decides.{nat_tests}
-use Rattle.gw_main.proofs.Digits.{digits_utf8, parsed}
+use Rattle.octets.proofs.Digits.{digits_utf8, parsed}
 use Rattle.gw_main.proofs.number.number.Goals as goal
 
 pub returns-in_default : goal.returns-in_default

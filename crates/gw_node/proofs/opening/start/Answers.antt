@@ -1,13 +1,13 @@
 use Rattle.std.proofs.Common.{List, [], subst, ◌∙◌}
 use Rattle.rep_op.specs.declared.op.Op.{Op}
+use Rattle.rep_ops.specs.Splitting.{all_of}
 use Rattle.gw_node.specs.Keeping.{Keeps}
-use Rattle.gw_node.specs.Taking.{ops_of}
 use Rattle.gw_node.specs.Opening.{FitInTurn}
 use Rattle.gw_node.proofs.opening.start.Goals as goal
 
 pub returns-in-Ok-clause-keeps : goal.returns-in-Ok-clause-keeps
 returns-in-Ok-clause-keeps g c =
-    subst (λ (ds : List (List Op)). Keeps (ops_of ds) (g.R.Replica.kept c.take_all.new.replica)) c.as_slice.ensures.value c.in-Ok.ensures.ok
+    subst (λ (ds : List (List Op)). Keeps (all_of ds) (g.R.Replica.kept c.take_all.new.replica)) c.as_slice.ensures.value c.in-Ok.ensures.ok
 
 pub returns-in-Ok-clause-fits : goal.returns-in-Ok-clause-fits
 returns-in-Ok-clause-fits g c = subst (λ (ds : List (List Op)). FitInTurn [] ds) c.as_slice.ensures.value c.in-Ok.ensures.fits

@@ -2,9 +2,9 @@
 use Rattle.std.proofs.Common.{◌≡◌, ◌+◌, ◌∷◌, ◌++◌, [], List, sym, ap, ◌∙◌, subst, take, take_all, length, arith}
 use Rattle.std.proofs.lemmas.List.{take_more}
 use Rattle.rep_op.specs.declared.op.Op.{Op}
+use Rattle.rep_ops.specs.Splitting.{all_of}
 use Rattle.rep_model.specs.Keep.{IsKeptOf}
 use Rattle.gw_node.specs.Keeping.{Keeps}
-use Rattle.gw_node.specs.Taking.{ops_of}
 use Rattle.gw_node.proofs.Keeping.{keeps_none}
 use Rattle.gw_node.proofs.Started.{keeps_one_more, fit_one_more, fit_at_the_end}
 use Rattle.gw_node.proofs.opening.take_all.Goals as goal
@@ -20,7 +20,7 @@ loop-delta-preserved g c =
     let next = g.R.Replica.kept c.commit.new.self in
     let more : take (c.loop-delta.delta-index + 1) c.args.deltas.now ≡ before ++ delta ∷ [] =
     take_more c.args.deltas.now c.loop-delta.delta-index delta c.loop-delta-test.true ∙ ap (λ x. before ++ x ∷ []) (sym c.delta-item.is) in (
-      subst (λ (ds : List (List Op)). Keeps (ops_of ds) next) (sym more)
+      subst (λ (ds : List (List Op)). Keeps (all_of ds) next) (sym more)
           (keeps_one_more before delta kept next c.loop-delta.invariant.0
           (subst (λ (K : List Op). IsKeptOf (kept ++ delta) K) (sym c.commit.ensures) c.in-Ok.ensures.taken)),
       λ first. absurd (omega arith),
@@ -31,7 +31,7 @@ loop-delta-preserved g c =
 
 pub returns-clause-ok : goal.returns-clause-ok
 returns-clause-ok g c =
-    subst (λ (ds : List (List Op)). Keeps (ops_of ds) (g.R.Replica.kept c.loop-delta.replica)) (take_all c.loop-delta.delta-index c.args.deltas.now c.loop-delta-test.false) c.loop-delta.invariant.0
+    subst (λ (ds : List (List Op)). Keeps (all_of ds) (g.R.Replica.kept c.loop-delta.replica)) (take_all c.loop-delta.delta-index c.args.deltas.now c.loop-delta-test.false) c.loop-delta.invariant.0
 
 pub returns-clause-fits : goal.returns-clause-fits
 returns-clause-fits g c = c.loop-delta.invariant.2 (fit_at_the_end c.args.deltas.now c.loop-delta.delta-index (omega arith))

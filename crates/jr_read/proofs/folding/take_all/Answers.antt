@@ -2,8 +2,8 @@
 use Rattle.std.proofs.Common.{List, refl, subst, take_all}
 use Rattle.std.proofs.lemmas.Option.{slice_get_read}
 use Rattle.rep_op.specs.declared.op.Op.{Op}
+use Rattle.rep_ops.specs.Splitting.{all_of}
 use Rattle.rep_model.specs.Keep.{CountsAs}
-use Rattle.jr_read.specs.Folding.{ops_of}
 use Rattle.jr_read.proofs.Taken.{counts_none, counts_more}
 use Rattle.jr_read.proofs.folding.take_all.Goals as goal
 
@@ -25,4 +25,4 @@ returns-in-Err-clause-err g c = record {
 
 pub returns-clause-ok : goal.returns-clause-ok
 returns-clause-ok g c =
-    subst (λ (ds : List (List Op)). CountsAs (ops_of ds) (g.R.Replica.kept c.loop-before.replica)) (take_all c.loop-before.before c.args.records.now c.loop-before-test.false) c.loop-before.invariant
+    subst (λ (ds : List (List Op)). CountsAs (all_of ds) (g.R.Replica.kept c.loop-before.replica)) (take_all c.loop-before.before c.args.records.now c.loop-before-test.false) c.loop-before.invariant

@@ -1,10 +1,9 @@
 use Rattle.std.proofs.Common.{◌≡◌, ℕ, rules}
 use Rattle.std.proofs.lemmas.Fn.{always_returns_same}
 use Rattle.rep_op.specs.declared.op.Put.{Put}
-use Rattle.rep_op.specs.Orders.{put_cmp}
+use Rattle.rep_op.specs.Orders.{name_of, put_cmp}
 use Rattle.rep_model.proofs.Readers.{put_total}
 use Rattle.sn_tables.proofs.Places.{placed}
-use Rattle.rep_log.specs.Mail.{name_of}
 use Rattle.rep_entry.proofs.Names.{ascends}
 use Rattle.rep_entry.proofs.searching.place_of_name.Goals as goal
 

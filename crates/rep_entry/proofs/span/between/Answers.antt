@@ -1,7 +1,8 @@
 use Rattle.std.proofs.Common.{◌≡◌, true, false, nat_lt, nat_le, List, length, take, drop, arith, length-drop, sym, ap, subst, ◌∙◌}
 use Rattle.std.specs.List.{AllByRecursion, list_any}
 use Rattle.rep_op.specs.declared.op.Put.{Put}
-use Rattle.rep_log.specs.Mail.{name_of, covers, Rising}
+use Rattle.rep_op.specs.Orders.{name_of}
+use Rattle.rep_log.specs.Mail.{covers, Rising}
 use Rattle.rep_entry.specs.Spans.{IsFreeOutside}
 use Rattle.rep_entry.proofs.Spans.{before_span, behind_span, free_there, free_empty, take_every, drop_every, rising_drop}
 use Rattle.rep_entry.proofs.span.between.Goals as goal

@@ -1,5 +1,5 @@
 use Rattle.std.proofs.Common.{◌≡◌, ◌++◌, map, take}
-use Rattle.sn_plan.specs.Names.{name_of}
+use Rattle.rep_op.specs.Orders.{name_of}
 use Rattle.sn_plan.proofs.draft.extend_names.Given as goal
 
 abbrev pub invariant-loop-put : goal.invariant-loop-put

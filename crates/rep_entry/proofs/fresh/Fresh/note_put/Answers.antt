@@ -1,11 +1,11 @@
 use Rattle.std.proofs.Common.{◌≡◌, true, false, ◌||◌, is_some, sym, ap, ◌∙◌}
 use Rattle.std.specs.List.{list_any}
 use Rattle.std.specs.FinMap.{find, put as place}
-use Rattle.rep_op.specs.Orders.{put_cmp}
+use Rattle.rep_op.specs.Orders.{name_of, put_cmp}
 use Rattle.rep_op.specs.declared.op.Put.{Put}
 use Rattle.rep_model.proofs.Lookup.{or_else}
 use Rattle.rep_log.specs.Logs.{stamp_on, known_on}
-use Rattle.rep_log.specs.Mail.{name_of, covers, put_named, weave}
+use Rattle.rep_log.specs.Mail.{covers, put_named, weave}
 use Rattle.rep_log.specs.Origins.{ranges_in, ranges_on}
 use Rattle.rep_entry.specs.Entries.{messages}
 use Rattle.rep_entry.proofs.Rising.{find_weave}

@@ -3,9 +3,9 @@ use Rattle.std.specs.FinMap.{find, put as with, is_sorted}
 use Rattle.std.specs.FinMap.Entries.{is_sorted-put}
 use Rattle.sn_tables.specs.inner.Tables.{IsGap}
 use Rattle.rep_op.specs.declared.op.Put.{Put}
-use Rattle.rep_op.specs.Orders.{put_cmp}
+use Rattle.rep_op.specs.Orders.{name_of, put_cmp}
 use Rattle.rep_model.proofs.Readers.{put_total}
-use Rattle.rep_log.specs.Mail.{name_of, named_puts, put_named, Rising}
+use Rattle.rep_log.specs.Mail.{named_puts, put_named, Rising}
 use Rattle.rep_entry.proofs.Names.{named_at}
 use Rattle.rep_entry.proofs.Newcomers.{rising_of, with_gap}
 use Rattle.rep_entry.proofs.news.News.insert.Goals as goal

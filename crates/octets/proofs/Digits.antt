@@ -10,8 +10,7 @@ use Rattle.std.proofs.lemmas.Str.{IsUtf8-from_ascii}
 use Rattle.std.proofs.lemmas.Str.Ascii.{IsAscii-nil, IsAscii-cons}
 use Rattle.std.proofs.lemmas.Str.Parse.{IsNumeralModel, numerals_by_weight, tells_all_ascii_digits, parse_plain}
 use Rattle.std.proofs.lemmas.Bool.Decides.{nat_tests}
-use Rattle.gw_main.specs.Numbers.{value_of}
-use Rattle.gw_main.specs.inner.Numbers.{IsDigits, IsNumber}
+use Rattle.octets.specs.Decimal.{IsDigits, value_of, IsNumber}
 
 own : IsNumeralModel (λ ds. all_ascii_digits ds ≡ true) value_of
 own = numerals_by_weight _ tells_all_ascii_digits value_of (search rules)
