@@ -46,7 +46,8 @@ PARTS = [
      "an opening. Gateways may be stopped and opened again between any two events. `run` may always stop for want of memory. What one "
      "step does is named here and defined in part 4, and what a datagram spells in part 6.",
      ["gw_world::run", "gw_world::steady_field", "gw_world::consistent_field", "gw_world::made_once", "gw_world::settled_field",
-      "gw_world::one_run", "gw_world::answered_field", "field_laws::own_full", "field_laws::takes_at_zero"],
+      "gw_world::one_run", "gw_world::answered_field", "row_laws::own_names", "row_laws::fresh_names", "field_laws::own_full",
+      "field_laws::takes_at_zero"],
      []),
     ("The step table",
      "What a gateway does with each frame of MQTT-SN 1.2, and when time goes by: what it sends, what it writes and what it notes. "
@@ -55,7 +56,7 @@ PARTS = [
      "always answer that memory ran out.",
      ["sn_deliver::step", "sn_tick::tick", "sn_flow::connect", "sn_flow::disconnect", "sn_flow::will_topic", "sn_flow::will_msg",
       "sn_flow::will_topic_update", "sn_flow::will_msg_update", "sn_subscribe::register", "sn_subscribe::subscribe", "sn_subscribe::unsubscribe",
-      "sn_plan::other", "plan_laws::every_plan", "plan_laws::bound_up"],
+      "sn_plan::other", "plan_laws::every_plan", "plan_laws::bound_up", "field_laws::bound_clients"],
      ["sn_deliver/Steps/step", "sn_tick/Ticking/tick", "sn_local/Locals/after_all", "sn_local/Locals/owned"]),
     ("The disk",
      "What a gateway makes or takes is written and synced before it is answered. After every crash its journal gives what counts as "
@@ -85,7 +86,11 @@ PARTS = [
       "rep_digest/Spelling/IsWithinLimit", "rep_digest/Reading/reading", "rep_digest/digest/impl Model for Digest"]),
 ]
 
+NOTES = []
+
+
 def note(words):
+    NOTES.append(words)
     print("trust.py: " + words, file=sys.stderr)
 
 
@@ -356,15 +361,14 @@ def main():
     text = page(book)
     for word, where in sorted(book.unknown):
         note(f"what is {word} in {where}?")
-    wrong = list(misplaced(book))
-    for words in wrong:
+    for words in misplaced(book):
         note(words)
     if sys.argv[1:] != ["--check"]:
         PAGE.write_text(text, encoding="utf-8")
     elif not PAGE.exists() or PAGE.read_text(encoding="utf-8") != text:
         print("docs/TRUST.md is out of date: make trust writes it.")
         return 1
-    return int(sys.argv[1:] == ["--check"] and bool(wrong))
+    return int(sys.argv[1:] == ["--check"] and bool(NOTES))
 
 
 if __name__ == "__main__":

@@ -19,23 +19,14 @@ is_fresh i = is_nil i.second && nat_lt (length i.first) 14
 -- the fault of two slots: a header of another, the first slot first; a bad piece, the first slot
 -- first, in the slot that is not read too; then two seals of one generation, or none
 abbrev pub slots_fault : SlotContent → SlotContent → Bool → Option JournalFault
-slots_fault Alien Alien fresh = Some Foreign
-slots_fault Alien Unsealed fresh = Some Foreign
-slots_fault Alien (Sealed n g) fresh = Some Foreign
-slots_fault Alien (Broken from) fresh = Some Foreign
-slots_fault Unsealed Alien fresh = Some Foreign
-slots_fault (Sealed m f) Alien fresh = Some Foreign
-slots_fault (Broken at) Alien fresh = Some Foreign
-slots_fault (Broken at) Unsealed fresh = Some (BadRecord First at)
-slots_fault (Broken at) (Sealed n g) fresh = Some (BadRecord First at)
-slots_fault (Broken at) (Broken from) fresh = Some (BadRecord First at)
-slots_fault Unsealed (Broken from) fresh = Some (BadRecord Second from)
-slots_fault (Sealed m f) (Broken from) fresh = Some (BadRecord Second from)
-slots_fault Unsealed Unsealed fresh = if fresh then None else Some Foreign
-slots_fault Unsealed (Sealed n g) fresh = None
-slots_fault (Sealed m f) Unsealed fresh = None
+slots_fault Alien right fresh = Some Foreign
+slots_fault left Alien fresh = Some Foreign
+slots_fault (Broken at) right fresh = Some (BadRecord First at)
+slots_fault left (Broken from) fresh = Some (BadRecord Second from)
 slots_fault (Sealed m f) (Sealed n g) fresh =
     if nat_lt m n then None else (if nat_lt n m then None else Some Foreign)
+slots_fault Unsealed Unsealed fresh = if fresh then None else Some Foreign
+slots_fault left right fresh = None
 
 -- the fault of an image, if any
 abbrev pub fault_of : ℕ → Image → Option JournalFault

@@ -127,21 +127,9 @@ generation_in (Broken at) = 0
 abbrev pub chosen : SlotContent → SlotContent → List (List Op)
 chosen (Sealed m f) (Sealed n g) =
     if nat_lt n m then f.deltas else (if nat_lt m n then g.deltas else [])
-chosen (Sealed m f) Alien = f.deltas
-chosen (Sealed m f) Unsealed = f.deltas
-chosen (Sealed m f) (Broken from) = f.deltas
-chosen Alien (Sealed n g) = g.deltas
-chosen Unsealed (Sealed n g) = g.deltas
-chosen (Broken at) (Sealed n g) = g.deltas
-chosen Alien Alien = []
-chosen Alien Unsealed = []
-chosen Alien (Broken from) = []
-chosen Unsealed Alien = []
-chosen Unsealed Unsealed = []
-chosen Unsealed (Broken from) = []
-chosen (Broken at) Alien = []
-chosen (Broken at) Unsealed = []
-chosen (Broken at) (Broken from) = []
+chosen (Sealed m f) right = f.deltas
+chosen left (Sealed n g) = g.deltas
+chosen left right = []
 
 -- the records of an image
 abbrev pub records : ℕ → Image → List (List Op)

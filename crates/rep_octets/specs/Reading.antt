@@ -79,7 +79,7 @@ number_at w bytes =
 abbrev pub sized_at : (ℕ → Bool) → Reader ℕ → Reader (List ℕ)
 sized_at test size bytes = ranged test size bytes >>= λ x. octets_at x.0 x.1
 
--- origins, gateways, epochs, sequence numbers and message ids begin at 1
+-- origins, gateways, epochs, sequence numbers and next message ids begin at 1
 abbrev pub is_counted : ℕ → Bool
 is_counted n = nat_le 1 n
 

@@ -193,8 +193,8 @@ impl Run {
                 self.answer(rt, command, &frame, moment)
             }
             Err(fault) => {
-                let digits = Hex(octets);
-                println!(rt; "<- no frame: {fault}: {digits}")?;
+                let (number, digits) = (fault.number(), Hex(octets));
+                println!(rt; "<- no frame: F{number}: {fault}: {digits}")?;
                 Ok(())
             }
         }

@@ -1,5 +1,5 @@
 -- What an operation makes of a session.
-use Rattle.std.specs.Prelude.{Bool, true, false, if◌then◌else◌, [], None}
+use Rattle.std.specs.Prelude.{Bool, true, false, if◌then◌else◌, [], None, is_none}
 use Rattle.sn_session.specs.declared.presence.Presence.TheVariants.{Active}
 use Rattle.sn_session.specs.declared.session.Session.{Session}
 use Rattle.sn_session.specs.declared.change.SessionOp.{SessionOp}
@@ -77,3 +77,16 @@ is_take (WillMsg message) = false
 is_take (Received id) = false
 is_take (Released id) = false
 is_take (Outbound exchange next_id) = false
+
+-- whether the operation puts nothing into a session that takes memory: no octets, and no entry
+abbrev pub is_light : SessionOp → Bool
+is_light (Take taken) = false
+is_light (SetPresence presence duration) = true
+is_light (Register id name known) = false
+is_light (Subscribe filter qos) = false
+is_light (Unsubscribe filter) = true
+is_light (WillTopic asked) = is_none asked
+is_light (WillMsg message) = false
+is_light (Received id) = false
+is_light (Released id) = true
+is_light (Outbound exchange next_id) = true

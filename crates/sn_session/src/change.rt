@@ -1,6 +1,6 @@
 //! The operations that change a session.
 
-ghost use Rattle.std.specs.Prelude.{◌≡◌, ◌↔◌, IfOk, OnOk, OnErr, IsErrOf, IsTrue};
+ghost use Rattle.std.specs.Prelude.{◌≡◌, ◌↔◌, false, IfOk, OnOk, OnErr, IsErrOf, IsTrue};
 ghost use Rattle.sn_session.specs.Session.{applied};
 ghost use Rattle.sn_session.specs.Session as spec;
 
@@ -124,12 +124,14 @@ impl Session {
     }
 
     /// Changes the session by one operation. `Full` exactly where a table of 256 entries would
-    /// grow. On an error the session is as it was.
+    /// grow. On an error the session is as it was. One that puts no octets and no entry into the
+    /// session takes no memory, and so succeeds.
     pub fn apply(&mut self, alloc: Global, change: &SessionOp) -> Result<(), SessionFault>
         ensures ok { OnOk result (self.new ≡ applied self.old change.now) }
         ensures err { OnErr result (self.new ≡ self.old) }
         ensures full { IsErrOf result SessionFault.Full ↔ IsTrue
             (spec.is_full self.old change.now) }
+        ensures light { OnErr result (spec.is_light change.now ≡ false) }
     {
         match change {
             SessionOp::Take(taken) => {

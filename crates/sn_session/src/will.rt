@@ -1,6 +1,6 @@
 //! The will of a client: what is published when the client is lost (MQTT-SN 1.2 section 6.3).
 
-ghost use Rattle.std.specs.Prelude.{◌≡◌, IfOk, OnOk, OnErr};
+ghost use Rattle.std.specs.Prelude.{◌≡◌, false, IfOk, OnOk, OnErr, is_none};
 ghost use Rattle.sn_session.specs.Wills.{with_will_topic, with_will_message};
 
 use super::message::Message;
@@ -61,7 +61,7 @@ impl Will {
 }
 
 /// Sets the topic of a will: a new will has an empty message, one that is there keeps its message.
-/// No topic deletes the will. On an error it is as it was.
+/// No topic deletes the will, and takes no memory. On an error it is as it was.
 pub fn set_topic(
     will: &mut Option<Will>,
     alloc: Global,
@@ -69,6 +69,7 @@ pub fn set_topic(
 ) -> Result<(), NoMemory>
     ensures ok { OnOk result (will.new ≡ with_will_topic asked.now will.old) }
     ensures err { OnErr result (will.new ≡ will.old) }
+    ensures light { OnErr result (is_none asked.now ≡ false) }
 {
     let Some(asked) = asked else {
         *will = None;
