@@ -21,10 +21,12 @@ pub record Image : Type 0 where
   pub first : List ℕ
   pub second : List ℕ
 
+-- what a slot holds
 abbrev pub at : Slots → Slot → SlotBytes
 at d First = d.first
 at d Second = d.second
 
+-- the slots, of which one holds this now
 abbrev pub replaced : Slots → Slot → SlotBytes → Slots
 replaced d First s = record { first = s; second = d.second }
 replaced d Second s = record { first = d.first; second = s }
