@@ -7,13 +7,10 @@ mod grammar;
 use clap::{ArgMatches, Error};
 use grammar::command_line;
 use octets::read_u16;
-use sn_frame::Qos;
+use sn_frame::{MAX_CLIENT_ID, Qos};
 use sn_topic::{Filter, TopicFault, TopicName};
 use std::alloc::{AllocError, Global};
 use std::net::SocketAddr;
-
-/// The most octets that a client's id has (MQTT-SN 1.2 section 5.3.1).
-const MAX_ID: usize = 23;
 
 /// How a topic is named in a frame (MQTT-SN 1.2 sections 5.3.11 and 5.3.12).
 #[derive(Clone, Copy)]
@@ -156,7 +153,7 @@ fn client<'a>(matches: &ArgMatches<'a>) -> Result<&'a str, Unread> {
     match matches.get_str("id") {
         None => Err(Unread::Word("--id is missing: the client's id, as s1")),
         Some(word) if word.is_empty() => Err(Unread::Word("--id is empty")),
-        Some(word) if word.len() > MAX_ID => Err(Unread::Word("--id has more than 23 octets")),
+        Some(word) if word.len() > MAX_CLIENT_ID => Err(Unread::Word("--id has more than 23 octets")),
         Some(word) => Ok(word),
     }
 }
