@@ -97,36 +97,64 @@ pub(crate) fn converse<R: Net + Clock + Print + AllocGlobal>(
     rt: &R,
     settings: &Settings<'_>,
 ) -> Result<Outcome, Fault> {
-    let wire = match Wire::open(rt, settings.port, settings.gateway) {
-        Ok(wire) => wire,
-        Err(error) => {
-            return Err(Fault::Port {
-                port: settings.port,
-                error,
-            });
-        }
-    };
-    let (client, gateway, port) = (settings.client, settings.gateway, wire.port()?);
-    println!(rt; "-- client {client:?} at port {port}, gateway {gateway}")?;
-    let talk = begin(rt.alloc(), client, &CONNECT, message_id(rt)?)?;
+    let wire = opened(rt, settings)?;
+    introduce(rt, settings, &wire)?;
+    let talk = talk_of(rt, settings, &CONNECT)?;
     let mut run = Run {
         wire,
         talk,
         pace: Pace::of(settings.seconds),
         hex: settings.hex,
     };
-    if settings.connect {
-        let outcome = run.exchange(rt, &CONNECT)?;
-        if outcome != Outcome::Accepted {
-            return Ok(outcome);
-        }
+    run.carry_out(rt, settings)
+}
+
+/// The socket that the settings ask for.
+fn opened<R: Net>(rt: &R, settings: &Settings<'_>) -> Result<Wire, Fault> {
+    match Wire::open(rt, settings.port, settings.gateway) {
+        Ok(wire) => Ok(wire),
+        Err(error) => Err(Fault::Port {
+            port: settings.port,
+            error,
+        }),
     }
-    run.talk = begin(rt.alloc(), client, &settings.command, message_id(rt)?)?;
-    run.pace = Pace::of(settings.seconds);
-    run.exchange(rt, &settings.command)
+}
+
+/// Says who speaks, and with whom.
+fn introduce<R: Print>(rt: &R, settings: &Settings<'_>, wire: &Wire) -> Result<(), Fault> {
+    let (client, gateway, port) = (settings.client, settings.gateway, wire.port()?);
+    println!(rt; "-- client {client:?} at port {port}, gateway {gateway}")?;
+    Ok(())
+}
+
+/// The beginning of an exchange for a command.
+fn talk_of<R: Clock + AllocGlobal>(
+    rt: &R,
+    settings: &Settings<'_>,
+    command: &Command<'_>,
+) -> Result<Talk, Fault> {
+    let id = message_id(rt)?;
+    Ok(begin(rt.alloc(), settings.client, command, id)?)
 }
 
 impl Run {
+    /// The command that was asked for, behind a connection where one is asked for.
+    fn carry_out<R: Clock + Print + AllocGlobal>(
+        &mut self,
+        rt: &R,
+        settings: &Settings<'_>,
+    ) -> Result<Outcome, Fault> {
+        if settings.connect {
+            let outcome = self.exchange(rt, &CONNECT)?;
+            if outcome != Outcome::Accepted {
+                return Ok(outcome);
+            }
+        }
+        self.talk = talk_of(rt, settings, &settings.command)?;
+        self.pace = Pace::of(settings.seconds);
+        self.exchange(rt, &settings.command)
+    }
+
     /// One exchange, to its end.
     fn exchange<R: Clock + Print + AllocGlobal>(
         &mut self,

@@ -153,7 +153,9 @@ fn client<'a>(matches: &ArgMatches<'a>) -> Result<&'a str, Unread> {
     match matches.get_str("id") {
         None => Err(Unread::Word("--id is missing: the client's id, as s1")),
         Some(word) if word.is_empty() => Err(Unread::Word("--id is empty")),
-        Some(word) if word.len() > MAX_CLIENT_ID => Err(Unread::Word("--id has more than 23 octets")),
+        Some(word) if word.len() > MAX_CLIENT_ID => Err(Unread::Word(
+            "--id has more than 23 octets",
+        )),
         Some(word) => Ok(word),
     }
 }

@@ -34,60 +34,108 @@ pub(super) fn command_line<'a>(alloc: Global) -> Result<Command<'a>, AllocError>
         .subcommand_required(true)
         .arg_required_else_help(true)
         .disable_help_subcommand(true);
-    let command = with_options(alloc, command)?
+    let command = with_addresses(alloc, command)?;
+    let command = with_manners(alloc, command)?;
+    let command = with_subscriptions(alloc, command)?;
+    with_messages(alloc, command)
+}
+
+/// The commands about a connection and what a client asks for.
+fn with_subscriptions<'a>(alloc: Global, command: Command<'a>) -> Result<Command<'a>, AllocError> {
+    command
         .subcommand(plain(alloc, "search", "Ask whether a gateway is there"))?
         .subcommand(connect(alloc)?)?
         .subcommand(subscribe(alloc)?)?
-        .subcommand(unsubscribe(alloc)?)?
+        .subcommand(unsubscribe(alloc)?)
+}
+
+/// The commands about messages that go and come, and the end of a connection.
+fn with_messages<'a>(alloc: Global, command: Command<'a>) -> Result<Command<'a>, AllocError> {
+    command
         .subcommand(publish(alloc)?)?
         .subcommand(sleep(alloc)?)?
         .subcommand(plain(
             alloc,
             "wake",
             "Wake up for the messages that were kept, and sleep on",
-        ))?;
-    command
+        ))?
         .subcommand(listen(alloc)?)?
         .subcommand(plain(alloc, "disconnect", "End the connection"))
 }
 
-/// The options of every command.
-fn with_options<'a>(alloc: Global, command: Command<'a>) -> Result<Command<'a>, AllocError> {
-    let gateway = text(
+/// The options of every command that say who speaks, and with whom.
+fn with_addresses<'a>(alloc: Global, command: Command<'a>) -> Result<Command<'a>, AllocError> {
+    command
+        .arg(gateway(alloc))?
+        .arg(id(alloc))?
+        .arg(port(alloc))
+}
+
+/// The options of every command that say how.
+fn with_manners<'a>(alloc: Global, command: Command<'a>) -> Result<Command<'a>, AllocError> {
+    command
+        .arg(connect_first(alloc))?
+        .arg(wait(alloc))?
+        .arg(hex(alloc))
+}
+
+/// The option `--gateway`.
+fn gateway<'a>(alloc: Global) -> Arg<'a> {
+    text(
         alloc,
         "gateway",
         "ADDRESS",
         "Where the gateway listens, as 127.0.0.1:18841",
     )
-    .short('g');
-    let id = text(alloc, "id", "ID", "The client's id: 1 to 23 octets").short('i');
-    let port = text(
+    .short('g')
+    .global(true)
+}
+
+/// The option `--id`.
+fn id<'a>(alloc: Global) -> Arg<'a> {
+    text(alloc, "id", "ID", "The client's id: 1 to 23 octets")
+        .short('i')
+        .global(true)
+}
+
+/// The option `--port`.
+fn port<'a>(alloc: Global) -> Arg<'a> {
+    text(
         alloc,
         "port",
         "PORT",
         "The client's own port; 0 for any. Left out, one that is made of the id",
     )
-    .value_parser(value_parser!(u16));
-    let wait = text(
+    .value_parser(value_parser!(u16))
+    .global(true)
+}
+
+/// The option `--connect`.
+fn connect_first<'a>(alloc: Global) -> Arg<'a> {
+    flag(
+        alloc,
+        "connect",
+        "Connect first, with the session that is there",
+    )
+    .global(true)
+}
+
+/// The option `--wait`.
+fn wait<'a>(alloc: Global) -> Arg<'a> {
+    text(
         alloc,
         "wait",
         "SECONDS",
         "How long to wait for an answer; 0 for no end",
     )
     .value_parser(value_parser!(u16))
-    .default_value("3");
-    command
-        .arg(gateway.global(true))?
-        .arg(id.global(true))?
-        .arg(port.global(true))?
-        .arg(flag(
-            alloc,
-            "connect",
-            "Connect first, with the session that is there",
-        )
-        .global(true))?
-        .arg(wait.global(true))?
-        .arg(flag(alloc, "hex", "Also print the octets of each frame").global(true))
+    .default_value("3")
+    .global(true)
+}
+
+/// The option `--hex`.
+fn hex<'a>(alloc: Global) -> Arg<'a> {
+    flag(alloc, "hex", "Also print the octets of each frame").global(true)
 }
 
 /// A command without words of its own.
@@ -187,17 +235,32 @@ fn unsubscribe<'a>(alloc: Global) -> Result<Command<'a>, AllocError> {
 
 /// The command `publish`.
 fn publish<'a>(alloc: Global) -> Result<Command<'a>, AllocError> {
-    plain(alloc, "publish", "Publish a text")
-        .arg(word(
-            alloc,
-            "topic",
-            "TOPIC",
-            "The topic's name; one of two octets needs no id",
-        ))?
-        .arg(word(alloc, "text", "TEXT", "What is published").allow_negative_numbers(true))?
+    let command = plain(alloc, "publish", "Publish a text");
+    let command = command.arg(topic(alloc))?.arg(message(alloc))?;
+    publish_options(alloc, command)
+}
+
+/// The options of `publish`.
+fn publish_options<'a>(alloc: Global, command: Command<'a>) -> Result<Command<'a>, AllocError> {
+    command
         .arg(qos(alloc, OF_PUBLISH.as_slice()))?
         .arg(flag(alloc, "retain", "Set the retain flag"))?
         .arg(predefined(alloc))
+}
+
+/// The topic of a publication.
+fn topic<'a>(alloc: Global) -> Arg<'a> {
+    word(
+        alloc,
+        "topic",
+        "TOPIC",
+        "The topic's name; one of two octets needs no id",
+    )
+}
+
+/// The text of a publication.
+fn message<'a>(alloc: Global) -> Arg<'a> {
+    word(alloc, "text", "TEXT", "What is published").allow_negative_numbers(true)
 }
 
 /// The command `sleep`.
