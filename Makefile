@@ -11,7 +11,8 @@
 #   make look   proves and builds jr_look, which shows what is in a journal
 #   make install PREFIX=/usr/local
 #               installs the programs that are built, man pages, a systemd unit and examples; DESTDIR is honoured; make uninstall
-#   make bench  times the simulator, single steps beside their goals, digests and answers, the lock, and the two codecs beside plain C
+#   make bench  times the simulator, single steps beside their goals, digests and answers, the lock, and the two codecs beside plain C,
+#               and tells what a gateway keeps in memory
 #
 # All but make install need the Rattle kit's command `rt`; make test, trust and install need python3 as well, make bench gcc too.
 

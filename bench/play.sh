@@ -1,6 +1,7 @@
 #!/bin/sh
 # Builds gw_sim, plays a script of bench/script.py, and prints events per second; then those of bench/sessions.py, publications.py and
-# takeover.py, and what single steps cost, with goals (steps.py).
+# takeover.py, what single steps cost, with goals (steps.py), what each stretch of a script adds (goes_on.py), and what a gateway
+# keeps in memory (memory.py).
 #
 # Usage: bench/play.sh [EVENTS] [GATEWAYS] [CLIENTS]
 set -eu
@@ -24,3 +25,4 @@ python3 "$top/bench/publications.py" "$program"
 python3 "$top/bench/takeover.py" "$program"
 python3 "$top/bench/steps.py" "$program"
 python3 "$top/bench/goes_on.py" "$program"
+python3 "$top/bench/memory.py" "$program"

@@ -3,7 +3,7 @@
 
 Usage: bench/steps.py PROGRAM [--clients N] [--waiting N] [--past N] [--sleepers N] [--records N] [--seconds S] [--only WORD]
                       [--instructions]
-       (gw_sim; 1024, 1024, 20000, 1000, 20000 and 0.3 where nothing is said; WORD is one of idle, waits, past, tick, spread, opening)
+       (gw_sim; 1024, 1024, 100000, 1000, 100000 and 0.3 where nothing is said; WORD is one of idle, waits, past, tick, spread, opening)
 
 A script that builds up is played without and with the events that are measured, in turn, five times; the best times count, and what
 building up takes is taken off. As many events are played as take S seconds, and as long as building up takes, where they change nothing
@@ -12,7 +12,8 @@ time that passes. A figure has the reading of its line and the printing of its a
 take is about what a SEARCHGW takes, which is told first.
 
 With --instructions each script is played once under valgrind, and instructions are counted in the place of time: they are the same
-each time, whatever else the machine does, but say nothing of memory that is far away. It takes some minutes.
+each time, whatever else the machine does, but say nothing of memory that is far away. It takes some minutes with --past 4000 and
+--records 4000, and far longer with what stands where nothing is said.
 """
 import argparse
 import re
@@ -277,6 +278,7 @@ def bench_past(bench: Bench, asked: argparse.Namespace) -> None:
 def bench_tick(bench: Bench, asked: argparse.Namespace) -> None:
     both = [idle(10), idle(asked.clients)]
     told(bench, "a tick with nothing due", "at 10 clients", f"at {asked.clients:,}", bench.repeated(both, "tick 1 1", "quiet"), 1.5, 1.0)
+    print("  (`tick 1 1` again and again: the first looks ten seconds ahead, at each client; the others are what is remembered of it)", flush=True)
 
 
 def bench_spread(bench: Bench, asked: argparse.Namespace) -> None:
@@ -313,7 +315,7 @@ PARTS = [
 def main() -> int:
     words = argparse.ArgumentParser(usage=__doc__)
     words.add_argument("program")
-    for name, number in (("--clients", 1024), ("--waiting", 1024), ("--past", 20000), ("--sleepers", 1000), ("--records", 20000)):
+    for name, number in (("--clients", 1024), ("--waiting", 1024), ("--past", 100000), ("--sleepers", 1000), ("--records", 100000)):
         words.add_argument(name, type=int, default=number)
     words.add_argument("--seconds", type=float, default=0.3)
     words.add_argument("--only", choices=[word for word, _, _ in PARTS])
