@@ -1,15 +1,16 @@
 -- what a frame that is spelled says about reading, and about refusals
 use Rattle.std.proofs.Common.{◌≡◌, ℕ, ◌+◌, ◌≤◌, ◌⊎◌, inl, inr, Bool, true, false, leb, List, [], length, Option, Some, None, refl, ap, sym, subst, arith}
 use Rattle.std.proofs.lemmas.Bool.{leb-true}
-use Rattle.std.specs.Prelude.{Result, Ok, Err, IfOk, IfErr, ◌≢◌}
+use Rattle.std.specs.Prelude.{Result, Ok, Err, IfOk, IfErr, IsTrue, ◌≢◌}
 use Rattle.sn_frame.specs.declared.fault.FrameFault.{FrameFault}
 use Rattle.sn_frame.specs.declared.fault.FrameFault.TheVariants as faults
 use Rattle.sn_frame.specs.declared.frame.Frame.{Frame}
+use Rattle.sn_frame.specs.declared.frame.Frame.TheVariants as frames
 use Rattle.sn_frame.specs.declared.msg_type.MsgType.{MsgType}
-use Rattle.sn_frame.specs.Bodies.{type_of, body_of, IsMessage, IsValue}
+use Rattle.sn_frame.specs.Bodies.{type_of, body_of, is_light, IsMessage, IsValue}
 use Rattle.sn_frame.specs.Faults.{IsFirstFault, IsPlain, type_place}
 use Rattle.sn_frame.specs.Grammar.{IsFramed, Spells, spelling, total_of}
-use Rattle.sn_frame.specs.inner.Reading.{frame_of, Gives}
+use Rattle.sn_frame.specs.inner.Reading.{copies, frame_of, Gives, WantsFor}
 use Rattle.sn_frame.specs.Types.{octet_of}
 use Rattle.sn_frame.proofs.Framing.{one_framing, one_type, no_capsule, framed_place, framed_there, body_bytes}
 use Rattle.sn_frame.proofs.Numbers.{IsBytes, chosen, otherwise}
@@ -142,6 +143,55 @@ answers_only bytes t body (Err faults.Empty) f framed read v s = absurd read
 answers_only bytes t body (Err faults.Encapsulated) f framed read v s = absurd read
 answers_only bytes t body (Err (faults.Length said held)) f framed read v s = absurd read
 answers_only bytes t body (Err (faults.UnknownType kind)) f framed read v s = absurd read
+
+-- a frame without octets copies none
+copies_none : (f : Frame) → IsTrue (is_light f) → copies (type_of f) (body_of f) ≡ false
+copies_none (frames.Advertise g d) h = refl
+copies_none (frames.SearchGw x) h = refl
+copies_none (frames.GwInfo g address) h = absurd cc
+copies_none (frames.Connect f p d client) h = absurd cc
+copies_none (frames.ConnAck x) h = refl
+copies_none frames.WillTopicReq h = refl
+copies_none (frames.WillTopic None) h = refl
+copies_none (frames.WillTopic (Some w)) h = absurd cc
+copies_none frames.WillMsgReq h = refl
+copies_none (frames.WillMsg x) h = absurd cc
+copies_none (frames.Register i m name) h = absurd cc
+copies_none (frames.RegAck i m c) h = refl
+copies_none (frames.Publish f i m message) h = absurd cc
+copies_none (frames.PubAck i m c) h = refl
+copies_none (frames.PubComp n) h = refl
+copies_none (frames.PubRec n) h = refl
+copies_none (frames.PubRel n) h = refl
+copies_none (frames.Subscribe f m topic) h = absurd cc
+copies_none (frames.SubAck f i m c) h = refl
+copies_none (frames.Unsubscribe f m topic) h = absurd cc
+copies_none (frames.UnsubAck n) h = refl
+copies_none (frames.PingReq client) h = absurd cc
+copies_none frames.PingResp h = refl
+copies_none (frames.Disconnect d) h = refl
+copies_none (frames.WillTopicUpd None) h = refl
+copies_none (frames.WillTopicUpd (Some w)) h = absurd cc
+copies_none (frames.WillTopicResp x) h = refl
+copies_none (frames.WillMsgUpd x) h = absurd cc
+copies_none (frames.WillMsgResp x) h = refl
+
+-- so no memory is wanted for it
+light_of : (copied : Bool) (r : Result Frame FrameFault) (f : Frame) → copied ≡ false → WantsFor copied r → (r ≡ Ok f) ⊎ (r ≡ Err faults.Memory) → r ≡ Ok f
+light_of true r f e wants answer = absurd cc
+light_of false r f e wants (inl is) = is
+light_of false r f e wants (inr is) =
+    let P : Result Frame FrameFault → Type 0 = λ x. WantsFor false x in absurd (subst P is wants refl)
+
+pub answers_light : (bytes : List ℕ) (t : MsgType) (body : List ℕ) (r : Result Frame FrameFault) (f : Frame)
+    → IsFramed bytes (octet_of t) body → Gives (frame_of t body) r → WantsFor (copies t body) r → IsValue f → Spells bytes f → IsTrue (is_light f) → r ≡ Ok f
+answers_light bytes t body r f framed read wants v s h =
+    let one = one_framing bytes _ _ _ _ framed s.framed in
+    let kind : t ≡ type_of f = one_type t (type_of f) one.0 in
+    let parts : body ≡ body_of f = one.1 in
+    let none = copies_none f h in
+    let copied : copies t body ≡ false = cc in
+    light_of (copies t body) r f copied wants (answers_only bytes t body r f framed read v s)
 
 pub answers_fault : (bytes : List ℕ) (t : MsgType) (body : List ℕ) (r : Result Frame FrameFault)
     → IsBytes bytes → IsPlain bytes → IsFramed bytes (octet_of t) body → Gives (frame_of t body) r → IfErr r (IsFirstFault bytes)

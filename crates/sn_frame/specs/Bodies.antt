@@ -1,6 +1,6 @@
 -- The body of each message, MQTT-SN 1.2 section 5.4: its octets, and the sizes that its parts may
 -- have.
-use Rattle.std.specs.Prelude.{◌≡◌, ℕ, ◌^◌, ◌<◌, ◌≤◌, List, [], ◌∷◌, ◌++◌, length, Option, Some, None, IfSome}
+use Rattle.std.specs.Prelude.{◌≡◌, ℕ, ◌^◌, ◌<◌, ◌≤◌, Bool, true, false, List, [], ◌∷◌, ◌++◌, length, Option, Some, None, IfSome}
 use Rattle.byteorder.specs.Endian.{big_bytes}
 use Rattle.sn_frame.specs.declared.flags.TopicIdType.{TopicIdType}
 use Rattle.sn_frame.specs.declared.flags.TopicIdType.TheVariants as kinds
@@ -86,6 +86,22 @@ body_of (frames.WillTopicUpd will) = will_octets will
 body_of (frames.WillTopicResp code) = code ∷ []
 body_of (frames.WillMsgUpd message) = message
 body_of (frames.WillMsgResp code) = code ∷ []
+
+-- whether it has no octet string: no address, client, name, topic field, body, message or will. An
+-- empty one counts, and so does an id in the topic field of SUBSCRIBE or UNSUBSCRIBE.
+abbrev pub is_light : Frame → Bool
+is_light (frames.GwInfo gateway address) = false
+is_light (frames.Connect flags protocol duration client) = false
+is_light (frames.WillTopic (Some will)) = false
+is_light (frames.WillMsg message) = false
+is_light (frames.Register topic_id msg_id name) = false
+is_light (frames.Publish flags topic msg_id body) = false
+is_light (frames.Subscribe flags msg_id topic) = false
+is_light (frames.Unsubscribe flags msg_id topic) = false
+is_light (frames.PingReq client) = false
+is_light (frames.WillTopicUpd (Some will)) = false
+is_light (frames.WillMsgUpd message) = false
+is_light f = true
 
 -- an id and a short name have two octets, a filter has any number
 abbrev pub IsTopicField : TopicIdType → List ℕ → Type 0

@@ -1,12 +1,12 @@
 //! From a datagram to a frame (MQTT-SN 1.2 sections 5.2 and 5.4).
 
-ghost use Rattle.std.specs.Prelude.{◌≡◌, ◌≢◌, ◌⊎◌, IfOk, IfErr, Ok, Err};
+ghost use Rattle.std.specs.Prelude.{◌≡◌, ◌≢◌, ◌⊎◌, IfOk, IfErr, IsTrue, Ok, Err};
 ghost use Rattle.sn_frame.specs.declared.frame.Frame.{Frame};
 ghost use Rattle.sn_frame.specs.declared.fault.FrameFault.TheVariants as frame_faults;
-ghost use Rattle.sn_frame.specs.Bodies.{IsValue};
+ghost use Rattle.sn_frame.specs.Bodies.{IsValue, is_light};
 ghost use Rattle.sn_frame.specs.Faults.{IsPlain, IsFirstFault};
 ghost use Rattle.sn_frame.specs.Grammar.{IsFramed, Spells};
-ghost use Rattle.sn_frame.specs.inner.Reading.{frame_of, Gives};
+ghost use Rattle.sn_frame.specs.inner.Reading.{copies, frame_of, Gives, WantsFor};
 
 use crate::fault::FrameFault;
 use crate::frame::Frame;
@@ -32,6 +32,10 @@ pub fn decode(alloc: Global, bytes: &[u8]) -> Result<Frame, FrameFault>
     // What is spelled so is read, unless memory runs out.
     ensures only { (f : Frame) → IsValue f → Spells bytes.now f → (result ≡ Ok f)
         ⊎ (result ≡ Err FrameFault.Memory) }
+
+    // A message without octets takes no memory.
+    ensures light { (f : Frame) → IsValue f → Spells bytes.now f → IsTrue (is_light f)
+        → result ≡ Ok f }
 
     // A refusal names the first thing that is wrong.
     ensures fault { IfErr result (IsFirstFault bytes.now) }
@@ -83,7 +87,8 @@ fn open(bytes: &[u8]) -> Result<(u8, &[u8]), FrameFault>
 
 /// The message of this type with this body.
 fn message(alloc: Global, msg_type: MsgType, body: &[u8]) -> Result<Frame, FrameFault>
-    ensures { Gives (frame_of msg_type body.now) result }
+    ensures gives { Gives (frame_of msg_type body.now) result }
+    ensures light { WantsFor (copies msg_type body.now) result }
 {
     match msg_type {
         MsgType::Advertise => advertise(body),

@@ -1,6 +1,6 @@
 -- What the readers of `decode` make of a body. They alone cite this file: `decode` is stated by the
 -- grammar.
-use Rattle.std.specs.Prelude.{◌≡◌, ◌≢◌, ℕ, ◌+◌, ◌*◌, ◌==◌, Bool, true, nat_le, ◌&&◌, if◌then◌else◌, List, [], ◌∷◌, length, Option, Some, None, option_map, Result, Ok, Err}
+use Rattle.std.specs.Prelude.{◌≡◌, ◌≢◌, ℕ, ◌+◌, ◌*◌, ◌==◌, Bool, true, false, nat_le, ◌&&◌, if◌then◌else◌, List, [], ◌∷◌, length, Option, Some, None, option_map, Result, Ok, Err, IfErr}
 use Rattle.sn_frame.specs.declared.fault.FrameFault.{FrameFault}
 use Rattle.sn_frame.specs.declared.fault.FrameFault.TheVariants as faults
 use Rattle.sn_frame.specs.declared.flags.Flags.{Flags}
@@ -21,6 +21,35 @@ Gives there (Ok x) = there ≡ Some x
 Gives there (Err faults.Memory) = there ≢ None
 Gives there (Err faults.Body) = there ≡ None
 Gives there (Err fault) = ⊥
+
+-- the answer is not that memory is wanted
+abbrev pub WantsNone : {A : Type 0} → Result A FrameFault → Type 0
+WantsNone answer = IfErr answer (λ e. e ≢ faults.Memory)
+
+-- memory is wanted only where octets are copied
+abbrev pub WantsFor : {A : Type 0} → Bool → Result A FrameFault → Type 0
+WantsFor true answer = Unit {0}
+WantsFor false answer = WantsNone answer
+
+-- whether there are octets
+abbrev pub has_octets : List ℕ → Bool
+has_octets [] = false
+has_octets (octet ∷ body) = true
+
+-- whether octets of a body of this type are copied
+abbrev pub copies : MsgType → List ℕ → Bool
+copies types.GwInfo body = true
+copies types.Connect body = true
+copies types.WillTopic body = has_octets body
+copies types.WillMsg body = true
+copies types.Register body = true
+copies types.Publish body = true
+copies types.Subscribe body = true
+copies types.Unsubscribe body = true
+copies types.PingReq body = true
+copies types.WillTopicUpd body = has_octets body
+copies types.WillMsgUpd body = true
+copies msg_type body = false
 
 -- the number in two octets
 abbrev pub number : ℕ → ℕ → ℕ

@@ -1,6 +1,6 @@
 //! Bodies that one message alone has.
 
-ghost use Rattle.sn_frame.specs.inner.Reading.{Gives, read_advertise, read_gw_info, read_connect, read_register, read_publish, read_sub_ack, read_ping_req, read_disconnect};
+ghost use Rattle.sn_frame.specs.inner.Reading.{Gives, WantsNone, read_advertise, read_gw_info, read_connect, read_register, read_publish, read_sub_ack, read_ping_req, read_disconnect};
 
 use crate::decoder::parts::number;
 use crate::fault::FrameFault;
@@ -11,7 +11,8 @@ use std::alloc::Global;
 
 /// ADVERTISE.
 pub(super) fn advertise(body: &[u8]) -> Result<Frame, FrameFault>
-    ensures { Gives (read_advertise body.now) result }
+    ensures gives { Gives (read_advertise body.now) result }
+    ensures light { WantsNone result }
 {
     match body {
         [gateway, high, low] => Ok(Frame::Advertise {
@@ -84,7 +85,8 @@ pub(super) fn publish(alloc: Global, body: &[u8]) -> Result<Frame, FrameFault>
 
 /// SUBACK.
 pub(super) fn sub_ack(body: &[u8]) -> Result<Frame, FrameFault>
-    ensures { Gives (read_sub_ack body.now) result }
+    ensures gives { Gives (read_sub_ack body.now) result }
+    ensures light { WantsNone result }
 {
     match body {
         [bits, t1, t0, m1, m0, code] => Ok(Frame::SubAck {
@@ -111,7 +113,8 @@ pub(super) fn ping_req(alloc: Global, body: &[u8]) -> Result<Frame, FrameFault>
 
 /// DISCONNECT.
 pub(super) fn disconnect(body: &[u8]) -> Result<Frame, FrameFault>
-    ensures { Gives (read_disconnect body.now) result }
+    ensures gives { Gives (read_disconnect body.now) result }
+    ensures light { WantsNone result }
 {
     match body {
         [] => Ok(Frame::Disconnect { duration: None }),

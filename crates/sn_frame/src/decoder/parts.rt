@@ -1,7 +1,7 @@
 //! Bodies, and parts of bodies, that several messages share.
 
-ghost use Rattle.std.specs.Prelude.{◌≡◌, IfOk};
-ghost use Rattle.sn_frame.specs.inner.Reading.{Gives, read_bare, read_octet, read_number, read_ids, read_filter, read_will};
+ghost use Rattle.std.specs.Prelude.{◌≡◌, IfOk, IfErr, true};
+ghost use Rattle.sn_frame.specs.inner.Reading.{Gives, WantsNone, has_octets, read_bare, read_octet, read_number, read_ids, read_filter, read_will};
 ghost use Rattle.sn_frame.specs.inner.Reading as spec;
 
 use crate::fault::FrameFault;
@@ -20,7 +20,8 @@ pub(super) fn number(high: u8, low: u8) -> u16
 
 /// This frame, which has no body.
 pub(super) fn bare(body: &[u8], frame: Frame) -> Result<Frame, FrameFault>
-    ensures { Gives (read_bare body.now frame) result }
+    ensures gives { Gives (read_bare body.now frame) result }
+    ensures light { WantsNone result }
 {
     match body {
         [] => Ok(frame),
@@ -30,7 +31,8 @@ pub(super) fn bare(body: &[u8], frame: Frame) -> Result<Frame, FrameFault>
 
 /// A body of one octet.
 pub(super) fn one_octet(body: &[u8]) -> Result<u8, FrameFault>
-    ensures { Gives (read_octet body.now) result }
+    ensures gives { Gives (read_octet body.now) result }
+    ensures light { WantsNone result }
 {
     match body {
         [octet] => Ok(*octet),
@@ -40,7 +42,8 @@ pub(super) fn one_octet(body: &[u8]) -> Result<u8, FrameFault>
 
 /// A body of one number.
 pub(super) fn one_number(body: &[u8]) -> Result<u16, FrameFault>
-    ensures { Gives (read_number body.now) result }
+    ensures gives { Gives (read_number body.now) result }
+    ensures light { WantsNone result }
 {
     match body {
         [high, low] => Ok(number(*high, *low)),
@@ -50,7 +53,8 @@ pub(super) fn one_number(body: &[u8]) -> Result<u16, FrameFault>
 
 /// A topic id, a message id and a return code.
 pub(super) fn ids_and_code(body: &[u8]) -> Result<(u16, u16, u8), FrameFault>
-    ensures { Gives (read_ids body.now) result }
+    ensures gives { Gives (read_ids body.now) result }
+    ensures light { WantsNone result }
 {
     match body {
         [t1, t0, m1, m0, code] => Ok((number(*t1, *t0), number(*m1, *m0), *code)),
@@ -80,7 +84,8 @@ pub(super) fn subscription(alloc: Global, body: &[u8]) -> Result<(Flags, u16, Oc
 
 /// A will's flags and topic, or nothing.
 pub(super) fn optional_will(alloc: Global, body: &[u8]) -> Result<Option<Will>, NoMemory>
-    ensures { IfOk result (λ will. will ≡ read_will body.now) }
+    ensures ok { IfOk result (λ will. will ≡ read_will body.now) }
+    ensures light { IfErr result (λ _. has_octets body.now ≡ true) }
 {
     match body {
         [] => Ok(None),
