@@ -22,9 +22,9 @@ pub(crate) fn frame(
     let datagram = octets(alloc, fields)?;
     match decode(alloc, &datagram) {
         Ok(frame) => {
-            print_frame(alloc, text, &frame)?;
+            let printed = print_frame(alloc, text, &frame);
             *kept = Some(frame);
-            Ok(())
+            printed
         }
         Err(fault) => refused_frame(text, fault),
     }
@@ -141,12 +141,17 @@ fn replaced_topic(frame: &Frame, other: Octets) -> Result<Frame, Stop> {
 fn brief(alloc: Global, datagram: &[u8]) -> Result<String, Stop> {
     match decode(alloc, datagram) {
         Ok(frame) => Ok(String::from_str(alloc, message_name(&frame))?),
-        Err(FrameFault::Memory) => Err(Stop::Memory),
-        Err(fault) => {
-            let number = fault.number();
-            Ok(format!(in alloc; "refused {number}")?)
-        }
+        Err(fault) => brief_fault(alloc, fault),
     }
+}
+
+/// The number of a fault.
+fn brief_fault(alloc: Global, fault: FrameFault) -> Result<String, Stop> {
+    if fault == FrameFault::Memory {
+        return Err(Stop::Memory);
+    }
+    let number = fault.number();
+    Ok(format!(in alloc; "refused {number}")?)
 }
 
 /// What an octet in the place of MsgType and a body are; behind it what they are with a Length of
@@ -156,16 +161,25 @@ fn both_forms(alloc: Global, kind: u8, body: &[u8]) -> Result<String, Stop> {
         return Err(Stop::Line);
     }
     let size = body.len() as u8;
-    let mut short = Vec::from_slice(alloc, &[size.saturating_add(2), kind])?;
-    short.extend_from_slice(body)?;
+    let said = behind(alloc, &[size.saturating_add(2), kind], body)?;
     let [high, low] = u16::from(size).saturating_add(4).to_be_bytes();
-    let mut long = Vec::from_slice(alloc, &[1, high, low, kind])?;
-    long.extend_from_slice(body)?;
-    let (said, said_long) = (brief(alloc, &short)?, brief(alloc, &long)?);
+    let said_long = behind(alloc, &[1, high, low, kind], body)?;
     if said.as_str() == said_long.as_str() {
         return Ok(said);
     }
-    Ok(format!(in alloc; "{said}, but {said_long} with a Length of three octets")?)
+    both_words(alloc, said.as_str(), said_long.as_str())
+}
+
+/// What a datagram of this head and this body is, in a word.
+fn behind(alloc: Global, head: &[u8], body: &[u8]) -> Result<String, Stop> {
+    let mut datagram = Vec::from_slice(alloc, head)?;
+    datagram.extend_from_slice(body)?;
+    brief(alloc, &datagram)
+}
+
+/// What is said of two datagrams that are not the same.
+fn both_words(alloc: Global, short: &str, long: &str) -> Result<String, Stop> {
+    Ok(format!(in alloc; "{short}, but {long} with a Length of three octets")?)
 }
 
 /// Prints an answer that is another than the one before it; the answer.

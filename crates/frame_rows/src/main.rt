@@ -64,29 +64,50 @@ use std::io::{self, Write};
 const MARK: &str = "== ";
 
 fn main(rt: HostRuntime) -> Result<()> {
-    let alloc = rt.alloc();
-    let mut row = begin(alloc)?;
-    let mut printed = String::new(alloc);
-    for line in rt.lines(alloc) {
-        answer(alloc, &mut printed, &mut row, line?.as_str())?;
-    }
+    let mut printed = String::new(rt.alloc());
+    play_all(&rt, &mut printed)?;
     io::writer(&rt).write_all(printed.as_bytes())?;
     Ok(())
 }
 
-/// Plays a line; one that is none of the language is told.
+/// Plays all lines of standard input.
+fn play_all(rt: &HostRuntime, printed: &mut String) -> Result<()> {
+    let mut row = begin(rt.alloc())?;
+    play_lines(rt, printed, &mut row)
+}
+
+/// Plays the lines of standard input, one after the other.
+fn play_lines(rt: &HostRuntime, printed: &mut String, row: &mut Row) -> Result<()> {
+    let alloc = rt.alloc();
+    for line in rt.lines(alloc) {
+        let line = line?;
+        answer(alloc, printed, row, line.as_str())?;
+    }
+    Ok(())
+}
+
+/// Plays a line; empty ones and explanations say nothing.
 fn answer(alloc: Global, text: &mut String, row: &mut Row, line: &str) -> Result<(), Stop> {
     if line.is_empty() || line.starts_with('#') {
         return Ok(());
     }
-    if let Some(name) = line.strip_prefix(MARK) {
-        *row = begin(alloc)?;
-        return Ok(writeln!(text, "== {name}")?);
+    match line.strip_prefix(MARK) {
+        Some(name) => begin_row(alloc, text, row, name),
+        None => play_line(alloc, text, row, line),
     }
+}
+
+/// Begins a row, and prints its name.
+fn begin_row(alloc: Global, text: &mut String, row: &mut Row, name: &str) -> Result<(), Stop> {
+    *row = begin(alloc)?;
+    Ok(writeln!(text, "== {name}")?)
+}
+
+/// Plays a line of a row; one that is none of the language is told.
+fn play_line(alloc: Global, text: &mut String, row: &mut Row, line: &str) -> Result<(), Stop> {
     let words = fields(alloc, line)?;
     match play(alloc, text, row, &words) {
-        Ok(()) => Ok(()),
         Err(Stop::Line) => Ok(writeln!(text, "no such line: {line}")?),
-        Err(Stop::Memory) => Err(Stop::Memory),
+        played => played,
     }
 }

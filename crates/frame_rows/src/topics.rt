@@ -9,26 +9,30 @@ use std::alloc::Global;
 /// `name OCTETS ..`: a topic name, as a copy of it tells it.
 pub(crate) fn name(alloc: Global, text: &mut String, fields: &[&str]) -> Result<(), Stop> {
     match TopicName::new(alloc, &octets(alloc, fields)?) {
-        Ok(name) => {
-            let copy = name.copy(alloc)?;
-            let shown = Text(copy.bytes());
-            Ok(writeln!(text, "name {shown}")?)
-        }
+        Ok(name) => print_name(text, &name.copy(alloc)?),
         Err(fault) => refused_topic(text, fault),
     }
+}
+
+/// A topic name.
+fn print_name(text: &mut String, name: &TopicName) -> Result<(), Stop> {
+    let shown = Text(name.bytes());
+    Ok(writeln!(text, "name {shown}")?)
 }
 
 /// `filter OCTETS ..`: a filter, as a copy of it tells it.
 pub(crate) fn filter(alloc: Global, text: &mut String, fields: &[&str]) -> Result<(), Stop> {
     match Filter::new(alloc, &octets(alloc, fields)?) {
-        Ok(filter) => {
-            let copy = filter.copy(alloc)?;
-            let wildcard = wildcard_word(&copy);
-            let shown = Text(copy.bytes());
-            Ok(writeln!(text, "filter {shown}, {wildcard}")?)
-        }
+        Ok(filter) => print_filter(text, &filter.copy(alloc)?),
         Err(fault) => refused_topic(text, fault),
     }
+}
+
+/// A filter, and which wildcards it has.
+fn print_filter(text: &mut String, filter: &Filter) -> Result<(), Stop> {
+    let wildcard = wildcard_word(filter);
+    let shown = Text(filter.bytes());
+    Ok(writeln!(text, "filter {shown}, {wildcard}")?)
 }
 
 /// Which wildcards a filter has.
@@ -46,9 +50,26 @@ pub(crate) fn asked(alloc: Global, text: &mut String, fields: &[&str]) -> Result
     let [asked, given] = fields else {
         return Err(Stop::Line);
     };
-    let filter = Filter::new(alloc, &field_octets(alloc, asked)?)?;
-    let name = TopicName::new(alloc, &field_octets(alloc, given)?)?;
-    let answer = if matches(&filter, &name) {
+    let filter = filter_of(alloc, asked)?;
+    let name = name_in(alloc, given)?;
+    print_asked(text, &filter, &name)
+}
+
+/// The filter that a field writes.
+fn filter_of(alloc: Global, field: &str) -> Result<Filter, Stop> {
+    let octets = field_octets(alloc, field)?;
+    Ok(Filter::new(alloc, &octets)?)
+}
+
+/// The name that a field writes.
+fn name_in(alloc: Global, field: &str) -> Result<TopicName, Stop> {
+    let octets = field_octets(alloc, field)?;
+    Ok(TopicName::new(alloc, &octets)?)
+}
+
+/// A filter, a name, and whether the one asks for the other.
+fn print_asked(text: &mut String, filter: &Filter, name: &TopicName) -> Result<(), Stop> {
+    let answer = if matches(filter, name) {
         "asks for"
     } else {
         "does not ask for"
@@ -88,8 +109,7 @@ fn entry(alloc: Global, fields: &[&str]) -> Result<(u16, TopicName), Stop> {
         return Err(Stop::Line);
     };
     let id = small_number(id)?;
-    let name = TopicName::new(alloc, &field_octets(alloc, name)?)?;
-    Ok((id, name))
+    Ok((id, name_in(alloc, name)?))
 }
 
 /// The entries of a table.
@@ -110,9 +130,15 @@ pub(crate) fn id(
     table: &Predefined,
     fields: &[&str],
 ) -> Result<(), Stop> {
-    let name = TopicName::new(alloc, &octets(alloc, fields)?)?;
+    let octets = octets(alloc, fields)?;
+    let name = TopicName::new(alloc, &octets)?;
+    print_id(text, &name, table.id(&name))
+}
+
+/// A name and its id.
+fn print_id(text: &mut String, name: &TopicName, id: Option<u16>) -> Result<(), Stop> {
     let shown = Text(name.bytes());
-    match table.id(&name) {
+    match id {
         Some(id) => Ok(writeln!(text, "{shown} has id {id}")?),
         None => Ok(writeln!(text, "{shown} has no id")?),
     }
