@@ -1,23 +1,19 @@
 //! Equal events, and events with what each leaves shown.
 
 use gw_world::Event;
-use octets::NoMemory;
+use octets::{NoMemory, Octets};
+use sn_local::Addr;
 use std::alloc::Global;
 
 /// An equal event.
-pub(crate) fn copy_event(alloc: Global, event: &Event) -> Result<Event, NoMemory> {
+fn copy_event(alloc: Global, event: &Event) -> Result<Event, NoMemory> {
     match event {
         Event::Frame {
             gateway,
             from,
             bytes,
             now,
-        } => Ok(Event::Frame {
-            gateway: *gateway,
-            from: *from,
-            bytes: bytes.copied(alloc)?,
-            now: *now,
-        }),
+        } => copy_frame(alloc, *gateway, *from, bytes, *now),
         Event::Tick { gateway, now } => Ok(Event::Tick {
             gateway: *gateway,
             now: *now,
@@ -48,6 +44,22 @@ pub(crate) fn copy_event(alloc: Global, event: &Event) -> Result<Event, NoMemory
     }
 }
 
+/// A datagram with equal octets.
+fn copy_frame(
+    alloc: Global,
+    gateway: u8,
+    from: Addr,
+    bytes: &Octets,
+    now: u64,
+) -> Result<Event, NoMemory> {
+    Ok(Event::Frame {
+        gateway,
+        from,
+        bytes: bytes.copied(alloc)?,
+        now,
+    })
+}
+
 /// Appends equal events.
 pub(crate) fn append_copies(
     alloc: Global,
@@ -55,22 +67,46 @@ pub(crate) fn append_copies(
     events: &[Event],
 ) -> Result<(), NoMemory> {
     for event in events {
-        made.push(copy_event(alloc, event)?)?;
+        append_copy(alloc, made, event)?;
     }
     Ok(())
+}
+
+/// Appends an equal event.
+pub(crate) fn append_copy(
+    alloc: Global,
+    made: &mut Vec<Event>,
+    event: &Event,
+) -> Result<(), NoMemory> {
+    append(made, copy_event(alloc, event)?)
+}
+
+/// Appends an event.
+pub(crate) fn append(made: &mut Vec<Event>, event: Event) -> Result<(), NoMemory> {
+    made.push(event)?;
+    Ok(())
+}
+
+/// Appends that a gateway is shown.
+pub(crate) fn append_show(made: &mut Vec<Event>, gateway: u8) -> Result<(), NoMemory> {
+    append(made, Event::Show { gateway })
 }
 
 /// The events, each with what its gateways show behind it.
 pub(crate) fn with_shows(alloc: Global, events: &[Event]) -> Result<Vec<Event>, NoMemory> {
     let mut made = Vec::new(alloc);
     for event in events {
-        made.push(copy_event(alloc, event)?)?;
-        made.push(Event::Show {
-            gateway: event.gateway(),
-        })?;
-        if let Some(peer) = event.peer() {
-            made.push(Event::Show { gateway: peer })?;
-        }
+        append_shown(alloc, &mut made, event)?;
     }
     Ok(made)
+}
+
+/// Appends an equal event, and what its gateways show behind it.
+fn append_shown(alloc: Global, made: &mut Vec<Event>, event: &Event) -> Result<(), NoMemory> {
+    append_copy(alloc, made, event)?;
+    append_show(made, event.gateway())?;
+    match event.peer() {
+        Some(peer) => append_show(made, peer),
+        None => Ok(()),
+    }
 }

@@ -1,6 +1,6 @@
 //! Events at a gateway whose disk may fail.
 
-use super::copying::copy_event;
+use super::copying::append_copy;
 use super::drive::Left;
 use super::field::{Field, Played};
 use super::judge::{What, delta_at, held_of};
@@ -134,15 +134,33 @@ fn made_without<R: Replica>(
     let Some(last) = events.get(at) else {
         return Ok(None);
     };
-    let mut calm = Vec::new(alloc);
-    for (index, event) in events.iter().take(at.saturating_add(1)).enumerate() {
-        if is_played(event, last.gateway(), index >= first) {
-            calm.push(copy_event(alloc, event)?)?;
-        }
-    }
+    let calm = calm(alloc, events, at, last.gateway(), first)?;
     let Some(played) = field.play::<R>(alloc, calm.as_slice())? else {
         return Ok(None);
     };
+    last_made(alloc, &played)
+}
+
+/// The events up to this index that are played again, where no failure was arranged for the
+/// gateway from the event `first` on.
+fn calm(
+    alloc: Global,
+    events: &[Event],
+    at: usize,
+    gateway: u8,
+    first: usize,
+) -> Result<Vec<Event>, NoMemory> {
+    let mut calm = Vec::new(alloc);
+    for (index, event) in events.iter().take(at.saturating_add(1)).enumerate() {
+        if is_played(event, gateway, index >= first) {
+            append_copy(alloc, &mut calm, event)?;
+        }
+    }
+    Ok(calm)
+}
+
+/// The delta that the last answer tells of.
+fn last_made(alloc: Global, played: &Played) -> Result<Option<Delta>, NoMemory> {
     match played.answers.as_slice().last() {
         Some(answer) => copy_of(alloc, made_of(answer)),
         None => Ok(None),
@@ -180,8 +198,13 @@ pub(crate) fn follow_restart(
     };
     let base = base_of(alloc, seat)?;
     let left = seat.drive.left(*keep, told, base);
-    let refused = seat.drive.refused.take();
     seat.drive.reopen(told);
+    follow_left(alloc, seat, left)
+}
+
+/// What a restart left of the delta that was refused, which is refused no more.
+fn follow_left(alloc: Global, seat: &mut Seat, left: Left) -> Result<Option<What>, NoMemory> {
+    let refused = seat.drive.refused.take();
     match left {
         Left::Before => Ok(None),
         Left::Wrong => Ok(Some(What::Records)),

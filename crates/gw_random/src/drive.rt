@@ -3,7 +3,7 @@
 use rep_ops::Delta;
 
 /// A failure that is arranged.
-#[derive(Clone, Copy, Debug)]
+#[derive(Clone, Copy)]
 pub(crate) struct Failure {
     /// After so many bytes.
     bytes: u64,
@@ -14,7 +14,7 @@ pub(crate) struct Failure {
 }
 
 /// What a restart left of a delta that was refused.
-#[derive(Clone, Copy, Debug, PartialEq, Eq)]
+#[derive(Clone, Copy)]
 pub(crate) enum Left {
     /// The journal is as it was before.
     Before,

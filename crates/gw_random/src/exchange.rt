@@ -14,16 +14,35 @@ pub(crate) fn with_exchange<R: Replica>(
     field: &Field,
     events: &[Event],
 ) -> Result<Option<Vec<Event>>, NoMemory> {
+    let mut all = with_questions(alloc, field, events)?;
+    let Some(takes) = answered::<R>(alloc, field, all.as_slice(), events.len())? else {
+        return Ok(None);
+    };
+    append_copies(alloc, &mut all, takes.as_slice())?;
+    Ok(Some(all))
+}
+
+/// The events, and behind them each gateway is opened again, and asks each other.
+fn with_questions(alloc: Global, field: &Field, events: &[Event]) -> Result<Vec<Event>, NoMemory> {
     let mut all = Vec::new(alloc);
     append_copies(alloc, &mut all, events)?;
     append_restarts(&mut all, field.gateways, events)?;
     append_questions(&mut all, field.gateways)?;
-    let Some(played) = field.play::<R>(alloc, all.as_slice())? else {
+    Ok(all)
+}
+
+/// What gateways take once these events are played, of which the last, from this index on, are
+/// their questions. Nothing where they cannot be played.
+fn answered<R: Replica>(
+    alloc: Global,
+    field: &Field,
+    events: &[Event],
+    from: usize,
+) -> Result<Option<Vec<Event>>, NoMemory> {
+    let Some(played) = field.play::<R>(alloc, events)? else {
         return Ok(None);
     };
-    let takes = takes(alloc, all.as_slice(), &played, events.len())?;
-    append_copies(alloc, &mut all, takes.as_slice())?;
-    Ok(Some(all))
+    Ok(Some(takes(alloc, events, &played, from)?))
 }
 
 /// Each gateway is opened again. Where failures were arranged for it, none is left.

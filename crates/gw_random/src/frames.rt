@@ -78,8 +78,33 @@ fn service(draw: &mut Draw) -> u8 {
     draw.octet_below(3) * 32
 }
 
-/// A frame that a client sends of itself.
-pub(crate) fn any_frame(alloc: Global, draw: &mut Draw, client: u8) -> Result<Frame, NoMemory> {
+/// What a client sends of itself.
+#[derive(Clone, Copy)]
+pub(crate) enum Kind {
+    /// CONNECT.
+    Connect,
+    /// PINGREQ.
+    Ping,
+    /// Any frame but CONNECT.
+    Any,
+}
+
+/// A frame of this kind that a client sends of itself.
+pub(crate) fn frame_of(
+    alloc: Global,
+    draw: &mut Draw,
+    client: u8,
+    kind: Kind,
+) -> Result<Frame, NoMemory> {
+    match kind {
+        Kind::Connect => connect(alloc, draw, client),
+        Kind::Ping => ping(alloc, draw, client),
+        Kind::Any => any_frame(alloc, draw, client),
+    }
+}
+
+/// A frame that a client sends once it has connected.
+fn any_frame(alloc: Global, draw: &mut Draw, client: u8) -> Result<Frame, NoMemory> {
     match draw.octet_below(20) {
         0..=2 => register(alloc, draw),
         3..=6 => subscribe(alloc, draw),
@@ -97,7 +122,7 @@ pub(crate) fn any_frame(alloc: Global, draw: &mut Draw, client: u8) -> Result<Fr
 }
 
 /// CONNECT, clean or not, with a will or without.
-pub(crate) fn connect(alloc: Global, draw: &mut Draw, client: u8) -> Result<Frame, NoMemory> {
+fn connect(alloc: Global, draw: &mut Draw, client: u8) -> Result<Frame, NoMemory> {
     let clean = if draw.is_once_in(3) { 4 } else { 0 };
     let will = if draw.is_once_in(3) { 8 } else { 0 };
     Ok(Frame::Connect {
@@ -215,7 +240,7 @@ fn will_update(alloc: Global, draw: &mut Draw) -> Result<Frame, NoMemory> {
 }
 
 /// PINGREQ with the client's id, or without one.
-pub(crate) fn ping(alloc: Global, draw: &mut Draw, client: u8) -> Result<Frame, NoMemory> {
+fn ping(alloc: Global, draw: &mut Draw, client: u8) -> Result<Frame, NoMemory> {
     if draw.is_once_in(4) {
         return Ok(Frame::PingReq {
             client: Octets::new(Vec::new(alloc))?,

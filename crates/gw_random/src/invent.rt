@@ -1,11 +1,12 @@
 //! A script from a seed.
 
+use super::copying::append;
 use super::draw::Draw;
 use super::field::{Field, added};
-use super::frames::{any_frame, connect, octets_of, ping, reply};
+use super::frames::{Kind, frame_of, octets_of, reply};
 use super::listed::Listed;
 use gw_world::{Answer, Event, NodeFault, Out};
-use octets::NoMemory;
+use octets::{NoMemory, Octets};
 use rep_model::Replica;
 use sn_frame::{Frame, decode};
 use sn_local::Addr;
@@ -50,28 +51,40 @@ pub(crate) fn invented<R: Replica>(
     let mut events = Vec::new(alloc);
     let mut invention = Invention::begun(alloc, field.gateways, seed)?;
     invention.arrivals(alloc, &mut events)?;
-    for _ in 0..ROUNDS {
-        let seen = events.len();
-        invention.round(alloc, &mut events)?;
-        let Some(played) = field.play::<R>(alloc, events.as_slice())? else {
-            return Ok(events);
-        };
-        let both = events.as_slice().iter().zip(played.answers.as_slice());
-        for (event, answer) in both.skip(seen) {
-            invention.learn(alloc, event, answer)?;
-        }
-    }
+    invention.rounds::<R>(alloc, field, &mut events)?;
     Ok(events)
+}
+
+/// The gateways that clients are at first.
+fn first_homes(alloc: Global, draw: &mut Draw, gateways: u8) -> Result<Vec<u8>, NoMemory> {
+    let mut homes = Vec::new(alloc);
+    for _ in 0..draw.octet_below(4).saturating_add(2) {
+        homes.push(draw.octet_below(gateways).saturating_add(1))?;
+    }
+    Ok(homes)
+}
+
+/// The frame that a client was sent.
+fn decoded(alloc: Global, bytes: &[u8]) -> Result<Frame, NoMemory> {
+    match decode(alloc, bytes) {
+        Ok(frame) => Ok(frame),
+        Err(_) => Err(NoMemory),
+    }
+}
+
+/// The octets of what a client answers to a frame, if it answers.
+fn reply_octets(alloc: Global, draw: &mut Draw, sent: &Frame) -> Result<Option<Octets>, NoMemory> {
+    match reply(alloc, draw, sent)? {
+        Some(frame) => Ok(Some(octets_of(alloc, &frame)?)),
+        None => Ok(None),
+    }
 }
 
 impl Invention {
     /// Nothing has happened.
     fn begun(alloc: Global, gateways: u8, seed: u64) -> Result<Invention, NoMemory> {
         let mut draw = Draw::new(seed);
-        let mut homes = Vec::new(alloc);
-        for _ in 0..draw.octet_below(4).saturating_add(2) {
-            homes.push(draw.octet_below(gateways).saturating_add(1))?;
-        }
+        let homes = first_homes(alloc, &mut draw, gateways)?;
         Ok(Invention {
             draw,
             gateways,
@@ -81,6 +94,53 @@ impl Invention {
             listed: Listed::empty(alloc),
             due: None,
         })
+    }
+
+    /// All rounds, each played behind it. The last is the first that cannot be played.
+    fn rounds<R: Replica>(
+        &mut self,
+        alloc: Global,
+        field: &Field,
+        events: &mut Vec<Event>,
+    ) -> Result<(), NoMemory> {
+        for _ in 0..ROUNDS {
+            let seen = events.len();
+            self.round(alloc, events)?;
+            if !self.looks_back::<R>(alloc, field, events.as_slice(), seen)? {
+                break;
+            }
+        }
+        Ok(())
+    }
+
+    /// The events are played, and those from this index on are learned from. False where they
+    /// cannot be played.
+    fn looks_back<R: Replica>(
+        &mut self,
+        alloc: Global,
+        field: &Field,
+        events: &[Event],
+        seen: usize,
+    ) -> Result<bool, NoMemory> {
+        let Some(played) = field.play::<R>(alloc, events)? else {
+            return Ok(false);
+        };
+        self.learn_all(alloc, events, played.answers.as_slice(), seen)?;
+        Ok(true)
+    }
+
+    /// What the answers to the events from this index on tell the inventor.
+    fn learn_all(
+        &mut self,
+        alloc: Global,
+        events: &[Event],
+        answers: &[Answer],
+        seen: usize,
+    ) -> Result<(), NoMemory> {
+        for (event, answer) in events.iter().zip(answers).skip(seen) {
+            self.learn(alloc, event, answer)?;
+        }
+        Ok(())
     }
 
     /// A gateway.
@@ -136,16 +196,21 @@ impl Invention {
     fn arrivals(&mut self, alloc: Global, events: &mut Vec<Event>) -> Result<(), NoMemory> {
         for client in 0..self.homes.len() {
             let client = u8::try_from(client).unwrap_or(0);
-            let event = self.connects(alloc, client, false)?;
-            events.push(event)?;
+            let gateway = self.home(client, false);
+            append(events, self.speaks(alloc, client, gateway, Kind::Connect)?)?;
         }
         Ok(())
     }
 
-    /// A client connects.
-    fn connects(&mut self, alloc: Global, client: u8, roams: bool) -> Result<Event, NoMemory> {
-        let gateway = self.home(client, roams);
-        let frame = connect(alloc, &mut self.draw, client)?;
+    /// A client sends a frame of this kind to a gateway.
+    fn speaks(
+        &mut self,
+        alloc: Global,
+        client: u8,
+        gateway: u8,
+        kind: Kind,
+    ) -> Result<Event, NoMemory> {
+        let frame = frame_of(alloc, &mut self.draw, client, kind)?;
         self.frame(alloc, client, gateway, &frame)
     }
 
@@ -153,26 +218,19 @@ impl Invention {
     fn sends(&mut self, alloc: Global) -> Result<Event, NoMemory> {
         let client = self.client();
         let roams = self.draw.is_once_in(3);
-        match self.draw.octet_below(12) {
-            0 => self.connects(alloc, client, roams),
-            1 => {
-                let gateway = self.home(client, roams);
-                let frame = ping(alloc, &mut self.draw, client)?;
-                self.frame(alloc, client, gateway, &frame)
-            }
-            _ => {
-                let gateway = self.home(client, false);
-                let frame = any_frame(alloc, &mut self.draw, client)?;
-                self.frame(alloc, client, gateway, &frame)
-            }
-        }
+        let (kind, roams) = match self.draw.octet_below(12) {
+            0 => (Kind::Connect, roams),
+            1 => (Kind::Ping, roams),
+            _ => (Kind::Any, false),
+        };
+        let gateway = self.home(client, roams);
+        self.speaks(alloc, client, gateway, kind)
     }
 
     /// A round of events.
     fn round(&mut self, alloc: Global, events: &mut Vec<Event>) -> Result<(), NoMemory> {
         for _ in 0..self.draw.octet_below(LEAST).saturating_add(LEAST) {
-            let event = self.next(alloc)?;
-            events.push(event)?;
+            append(events, self.next(alloc)?)?;
         }
         Ok(())
     }
@@ -208,12 +266,9 @@ impl Invention {
             4 => Ok(Event::Compact { gateway }),
             _ => {
                 let client = self.client();
-                let frame = if self.draw.is_once_in(4) {
-                    connect(alloc, &mut self.draw, client)?
-                } else {
-                    any_frame(alloc, &mut self.draw, client)?
-                };
-                self.frame(alloc, client, gateway, &frame)
+                let connects = self.draw.is_once_in(4);
+                let kind = if connects { Kind::Connect } else { Kind::Any };
+                self.speaks(alloc, client, gateway, kind)
             }
         }
     }
@@ -333,18 +388,29 @@ impl Invention {
             self.replies.clear();
         }
         for send in out.sends.as_slice() {
-            let Ok(sent) = decode(alloc, send.bytes.as_slice()) else {
-                return Err(NoMemory);
-            };
-            if let Some(frame) = reply(alloc, &mut self.draw, &sent)? {
-                self.replies.push(Event::Frame {
-                    gateway,
-                    from: send.to,
-                    bytes: octets_of(alloc, &frame)?,
-                    now: self.now,
-                })?;
+            if let Some(bytes) = self.reply_to(alloc, send.bytes.as_slice())? {
+                self.keep_in_mind(gateway, send.to, bytes)?;
             }
         }
         Ok(())
+    }
+
+    /// A client has this to answer.
+    fn keep_in_mind(&mut self, gateway: u8, from: Addr, bytes: Octets) -> Result<(), NoMemory> {
+        append(
+            &mut self.replies,
+            Event::Frame {
+                gateway,
+                from,
+                bytes,
+                now: self.now,
+            },
+        )
+    }
+
+    /// What a client answers to this, if it answers.
+    fn reply_to(&mut self, alloc: Global, bytes: &[u8]) -> Result<Option<Octets>, NoMemory> {
+        let sent = decoded(alloc, bytes)?;
+        reply_octets(alloc, &mut self.draw, &sent)
     }
 }

@@ -11,7 +11,7 @@ use rep_same::same_deltas;
 use std::alloc::Global;
 
 /// What differs.
-#[derive(Clone, Copy, Debug, PartialEq, Eq)]
+#[derive(Clone, Copy, PartialEq, Eq)]
 pub(crate) enum What {
     /// The run stops where it must not.
     Stopped,
@@ -34,7 +34,7 @@ pub(crate) enum What {
 }
 
 /// Where a run differs from the definitions.
-#[derive(Clone, Copy, Debug)]
+#[derive(Clone, Copy)]
 pub(crate) struct Difference {
     /// The index of the event.
     pub(crate) at: usize,
@@ -77,12 +77,8 @@ pub(crate) fn judged<R: Replica>(
     played: &Played,
 ) -> Result<Option<Difference>, NoMemory> {
     let mut seats = Seats::empty(alloc, field.gateways)?;
-    let both = events.iter().zip(played.answers.as_slice());
-    for (at, (event, answer)) in both.enumerate() {
-        if let Some(what) = seats.follow::<R>(alloc, field, events, played, at, event, answer)? {
-            let gateway = event.gateway();
-            return Ok(Some(Difference { at, gateway, what }));
-        }
+    if let Some(difference) = seats.follow_all::<R>(alloc, field, events, played)? {
+        return Ok(Some(difference));
     }
     let Some(what) = seats.settled(alloc, played)? else {
         return Ok(None);
@@ -118,6 +114,24 @@ impl Seats {
         Ok(Seats { seats, listed: 0 })
     }
 
+    /// Goes on by all events, up to the first behind which something differs.
+    fn follow_all<R: Replica>(
+        &mut self,
+        alloc: Global,
+        field: &Field,
+        events: &[Event],
+        played: &Played,
+    ) -> Result<Option<Difference>, NoMemory> {
+        let both = events.iter().zip(played.answers.as_slice());
+        for (at, (event, answer)) in both.enumerate() {
+            if let Some(what) = self.follow::<R>(alloc, field, events, played, at, event, answer)? {
+                let gateway = event.gateway();
+                return Ok(Some(Difference { at, gateway, what }));
+            }
+        }
+        Ok(None)
+    }
+
     /// Goes on by one event. What differs, if something does.
     fn follow<R: Replica>(
         &mut self,
@@ -151,17 +165,33 @@ impl Seats {
             return Ok(None);
         };
         let held = held_of(alloc, first)?;
-        for seat in rest {
-            let other = held_of(alloc, seat)?;
-            if !same_deltas(held.as_slice(), other.as_slice()) {
-                return Ok(Some(What::Sets));
-            }
-            if !show_same(played, first, seat) {
-                return Ok(Some(What::Apart));
-            }
-        }
-        Ok(None)
+        settled_with(alloc, played, first, held.as_slice(), rest)
     }
+}
+
+/// What differs between a gateway, which holds these deltas, and others, if something does.
+fn settled_with(
+    alloc: Global,
+    played: &Played,
+    first: &Seat,
+    held: &[Delta],
+    rest: &[Seat],
+) -> Result<Option<What>, NoMemory> {
+    for seat in rest {
+        if !holds(alloc, seat, held)? {
+            return Ok(Some(What::Sets));
+        }
+        if !show_same(played, first, seat) {
+            return Ok(Some(What::Apart));
+        }
+    }
+    Ok(None)
+}
+
+/// Whether these deltas are what must be kept of a gateway's set.
+fn holds(alloc: Global, seat: &Seat, held: &[Delta]) -> Result<bool, NoMemory> {
+    let own = held_of(alloc, seat)?;
+    Ok(same_deltas(held, own.as_slice()))
 }
 
 /// What must be kept of a gateway's set.

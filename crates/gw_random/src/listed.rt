@@ -55,12 +55,7 @@ impl Listed {
     ) -> Result<Option<u64>, NoMemory> {
         let bit = bit_of(gateway);
         let any = draw.is_once_in(10);
-        let mut open = Vec::new(alloc);
-        for (index, holders) in self.holders.as_slice().iter().enumerate() {
-            if any || *holders & bit == 0 {
-                open.push(index)?;
-            }
-        }
+        let open = self.open(alloc, bit, any)?;
         let Some(index) = draw.one_of(open.as_slice()).copied() else {
             return Ok(None);
         };
@@ -68,5 +63,16 @@ impl Listed {
             *holders |= bit;
         }
         Ok(Some((index as u64).saturating_add(1)))
+    }
+
+    /// The indices of the deltas that the gateway of this bit has not, or of all.
+    fn open(&self, alloc: Global, bit: u8, any: bool) -> Result<Vec<usize>, NoMemory> {
+        let mut open = Vec::new(alloc);
+        for (index, holders) in self.holders.as_slice().iter().enumerate() {
+            if any || *holders & bit == 0 {
+                open.push(index)?;
+            }
+        }
+        Ok(open)
     }
 }

@@ -2,7 +2,7 @@
 
 ghost use Rattle.std.specs.Prelude.{◌≡◌, ◌≤◌, ◌<◌, ◌⊎◌, ◌↔◌, IfOk, None, Err};
 
-use super::copying::append_copies;
+use super::copying::{append_copies, append_show};
 use super::draw::Draw;
 use super::fault::RandomFault;
 use super::field::Field;
@@ -13,7 +13,7 @@ use super::writing::script;
 use gw_world::Event;
 use octets::NoMemory;
 use rep_model::Replica;
-use std::alloc::Global;
+use std::alloc::{AllocError, Global};
 
 /// A script that shows something else than the definitions say.
 #[derive(Debug, Drop)]
@@ -88,36 +88,80 @@ fn look<R: Replica>(
             events: all,
             difference,
         } => {
-            let short = shortened::<R>(alloc, field, events, all, difference)?;
-            Ok(Some(describe(alloc, field, seed, &short)?))
+            let found = shortest::<R>(alloc, field, seed, events, all, difference)?;
+            Ok(Some(found))
         }
     }
+}
+
+/// A script that differs, made short and told.
+fn shortest<R: Replica>(
+    alloc: Global,
+    field: &Field,
+    seed: u64,
+    events: Vec<Event>,
+    all: Vec<Event>,
+    difference: Difference,
+) -> Result<Found, NoMemory> {
+    let short = shortened::<R>(alloc, field, events, all, difference)?;
+    describe(alloc, field, seed, &short)
 }
 
 /// A script that cannot be played.
 fn stuck(alloc: Global, field: &Field, seed: u64, events: &[Event]) -> Result<Found, NoMemory> {
     let words = What::Stopped.words();
-    Ok(Found {
-        script: script(alloc, field.gateways, events)?,
-        told: format!(in alloc; "script {seed}: {words}")?,
-    })
+    let told = format!(in alloc; "script {seed}: {words}")?;
+    as_found(alloc, field, events, told)
 }
 
 /// A short script that differs, and what differs.
 fn describe(alloc: Global, field: &Field, seed: u64, short: &Short) -> Result<Found, NoMemory> {
-    let Difference { at, gateway, what } = short.difference;
-    let mut front = Vec::new(alloc);
-    let until = at.saturating_add(1).min(short.all.len());
-    append_copies(alloc, &mut front, &short.all[..until])?;
-    for number in 1..=field.gateways {
-        if number == gateway || what == What::Apart || what == What::Sets {
-            front.push(Event::Show { gateway: number })?;
-        }
-    }
+    let front = front_of(alloc, field, short)?;
+    let told = told_of(alloc, seed, short.difference)?;
+    as_found(alloc, field, front.as_slice(), told)
+}
+
+/// These events as a script, with what differs.
+fn as_found(
+    alloc: Global,
+    field: &Field,
+    events: &[Event],
+    told: String,
+) -> Result<Found, NoMemory> {
+    Ok(Found {
+        script: script(alloc, field.gateways, events)?,
+        told,
+    })
+}
+
+/// What differs, in a line.
+fn told_of(alloc: Global, seed: u64, difference: Difference) -> Result<String, AllocError> {
+    let Difference { at, gateway, what } = difference;
     let number = at.saturating_add(1);
     let words = what.words();
-    Ok(Found {
-        script: script(alloc, field.gateways, front.as_slice())?,
-        told: format!(in alloc; "script {seed}: event {number}, gateway {gateway}: {words}")?,
-    })
+    format!(in alloc; "script {seed}: event {number}, gateway {gateway}: {words}")
+}
+
+/// The events up to the one that differs, and what the gateways show then that matter there.
+fn front_of(alloc: Global, field: &Field, short: &Short) -> Result<Vec<Event>, NoMemory> {
+    let mut front = Vec::new(alloc);
+    let until = short.difference.at.saturating_add(1).min(short.all.len());
+    append_copies(alloc, &mut front, &short.all[..until])?;
+    append_shows(&mut front, field.gateways, short.difference)?;
+    Ok(front)
+}
+
+/// Appends what the gateway shows that differs, or what all show where two differ.
+fn append_shows(
+    front: &mut Vec<Event>,
+    gateways: u8,
+    difference: Difference,
+) -> Result<(), NoMemory> {
+    let Difference { gateway, what, .. } = difference;
+    for number in 1..=gateways {
+        if number == gateway || what == What::Apart || what == What::Sets {
+            append_show(front, number)?;
+        }
+    }
+    Ok(())
 }

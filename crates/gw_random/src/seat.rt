@@ -59,19 +59,28 @@ impl Seat {
         let Ok(clients) = self.plain.clients(alloc) else {
             return Err(NoMemory);
         };
-        if clients.len() != views.len() {
-            return Ok(false);
-        }
-        for (client, (shown, view)) in clients.as_slice().iter().zip(views) {
-            if !same_client(client, shown) || !self.sees(client, view) {
-                return Ok(false);
-            }
-        }
-        Ok(true)
+        Ok(self.shows_each(clients.as_slice(), views))
     }
 
-    /// Whether this is the view of a client.
-    fn sees(&self, client: &ClientId, view: &ClientView) -> bool {
+    /// Whether these are the views of these clients, one by one.
+    fn shows_each(&self, clients: &[ClientId], views: &[(ClientId, ClientView)]) -> bool {
+        if clients.len() != views.len() {
+            return false;
+        }
+        for (client, row) in clients.iter().zip(views) {
+            if !self.sees(client, row) {
+                return false;
+            }
+        }
+        true
+    }
+
+    /// Whether this is the client, and its view.
+    fn sees(&self, client: &ClientId, row: &(ClientId, ClientView)) -> bool {
+        let (shown, view) = row;
+        if !same_client(client, shown) {
+            return false;
+        }
         match self.plain.view_of(client) {
             Some(seen) => same_view(seen, view),
             None => false,
@@ -84,12 +93,17 @@ pub(crate) fn are_same(a: &[(ClientId, ClientView)], b: &[(ClientId, ClientView)
     if a.len() != b.len() {
         return false;
     }
-    for ((client, view), (other, seen)) in a.iter().zip(b) {
-        if !same_client(client, other) || !same_view(view, seen) {
+    for (one, other) in a.iter().zip(b) {
+        if !is_same_row(one, other) {
             return false;
         }
     }
     true
+}
+
+/// Whether these are equal clients with equal views.
+fn is_same_row(one: &(ClientId, ClientView), other: &(ClientId, ClientView)) -> bool {
+    same_client(&one.0, &other.0) && same_view(&one.1, &other.1)
 }
 
 /// Whether a message waited before, waits no more, and this delta does not acknowledge it.

@@ -1,10 +1,10 @@
 //! A script that differs, made short.
 
-use super::copying::{copy_event, with_shows};
+use super::copying::{append, append_copy, with_shows};
 use super::exchange::with_exchange;
 use super::field::{Field, added};
 use super::judge::{Difference, What, judged};
-use gw_world::Event;
+use gw_world::{Answer, Event};
 use octets::NoMemory;
 use rep_model::Replica;
 use std::alloc::Global;
@@ -28,6 +28,17 @@ pub(crate) enum Verdict {
     },
 }
 
+/// The same, without the events.
+#[derive(Clone, Copy)]
+enum Outcome {
+    /// They cannot be played.
+    Stuck,
+    /// All is as the definitions say.
+    Same,
+    /// They differ; the index is among the events without shows.
+    Differs(Difference),
+}
+
 /// A script that differs.
 #[derive(Drop)]
 pub(crate) struct Short {
@@ -48,19 +59,32 @@ pub(crate) fn examined<R: Replica>(
     let Some(all) = with_exchange::<R>(alloc, field, events)? else {
         return Ok(Verdict::Stuck);
     };
-    let shown = with_shows(alloc, all.as_slice())?;
+    match compared::<R>(alloc, field, all.as_slice())? {
+        Outcome::Stuck => Ok(Verdict::Stuck),
+        Outcome::Same => Ok(Verdict::Same),
+        Outcome::Differs(difference) => Ok(Verdict::Differs {
+            events: all,
+            difference,
+        }),
+    }
+}
+
+/// What comes of events, each with what its gateways show behind it.
+fn compared<R: Replica>(
+    alloc: Global,
+    field: &Field,
+    events: &[Event],
+) -> Result<Outcome, NoMemory> {
+    let shown = with_shows(alloc, events)?;
     let Some(played) = field.play::<R>(alloc, shown.as_slice())? else {
-        return Ok(Verdict::Stuck);
+        return Ok(Outcome::Stuck);
     };
     match judged::<R>(alloc, field, shown.as_slice(), &played)? {
-        None => Ok(Verdict::Same),
-        Some(found) => Ok(Verdict::Differs {
-            events: all,
-            difference: Difference {
-                at: place_of(shown.as_slice(), found.at),
-                ..found
-            },
-        }),
+        None => Ok(Outcome::Same),
+        Some(found) => Ok(Outcome::Differs(Difference {
+            at: place_of(shown.as_slice(), found.at),
+            ..found
+        })),
     }
 }
 
@@ -119,12 +143,17 @@ fn counts<R: Replica>(
     field: &Field,
     events: &[Event],
 ) -> Result<Vec<(u64, u64)>, NoMemory> {
+    match field.play::<R>(alloc, events)? {
+        Some(played) => counted(alloc, played.answers.as_slice()),
+        None => Ok(Vec::new(alloc)),
+    }
+}
+
+/// For each answer, how many deltas there are before it, and how many it adds.
+fn counted(alloc: Global, answers: &[Answer]) -> Result<Vec<(u64, u64)>, NoMemory> {
     let mut counts = Vec::new(alloc);
     let mut listed = 0u64;
-    let Some(played) = field.play::<R>(alloc, events)? else {
-        return Ok(counts);
-    };
-    for answer in played.answers.as_slice() {
+    for answer in answers {
         let count = added(answer);
         counts.push((listed, count))?;
         listed = listed.saturating_add(count);
@@ -184,18 +213,25 @@ fn push_moved(
     first: u64,
     count: u64,
 ) -> Result<(), NoMemory> {
-    match event {
-        Event::Take { gateway, delta } => {
-            if *delta > first.saturating_add(count) {
-                made.push(Event::Take {
-                    gateway: *gateway,
-                    delta: delta.saturating_sub(count),
-                })?;
-            } else if *delta <= first {
-                made.push(copy_event(alloc, event)?)?;
-            }
-        }
-        _ => made.push(copy_event(alloc, event)?)?,
+    let Event::Take { gateway, delta } = event else {
+        return append_copy(alloc, made, event);
+    };
+    match moved(*delta, first, count) {
+        Some(delta) => append(
+            made,
+            Event::Take {
+                gateway: *gateway,
+                delta,
+            },
+        ),
+        None => Ok(()),
     }
-    Ok(())
+}
+
+/// The number that a delta has without those that are left out, if it is none of these.
+fn moved(delta: u64, first: u64, count: u64) -> Option<u64> {
+    if delta > first.saturating_add(count) {
+        return Some(delta.saturating_sub(count));
+    }
+    if delta <= first { Some(delta) } else { None }
 }

@@ -62,6 +62,11 @@ fn frame_line(
     bytes: &[u8],
 ) -> Result<(), AllocError> {
     write!(text, "frame {gateway} {port} {now} ")?;
+    digits_line(alloc, text, bytes)
+}
+
+/// The digits of octets, or a hyphen for none, up to the line's end.
+fn digits_line(alloc: Global, text: &mut String, bytes: &[u8]) -> Result<(), AllocError> {
     if bytes.is_empty() {
         return text.push_str("-\n");
     }
