@@ -10,7 +10,7 @@ use jr_journal::MemoryDisk;
 use octets::Octets;
 use rep_model::Replica;
 use rep_ops::{Delta, OpsFault};
-use std::alloc::Global;
+use std::alloc::{AllocError, Global};
 
 /// The call that a line says.
 fn step(alloc: Global, names: &Names, words: &[&str]) -> Result<Step, Stop> {
@@ -41,12 +41,14 @@ fn frame(
 ) -> Result<Step, Stop> {
     let from = address(port)?;
     let now = u64::from(number(moment)?);
-    let bytes = octets(alloc, names, rest)?;
-    Ok(Step::Frame {
-        from,
-        bytes: Octets::from_slice(alloc, &bytes)?,
-        now,
-    })
+    let bytes = body(alloc, names, rest)?;
+    Ok(Step::Frame { from, bytes, now })
+}
+
+/// The octets of a datagram.
+fn body(alloc: Global, names: &Names, fields: &[&str]) -> Result<Octets, Stop> {
+    let bytes = octets(alloc, names, fields)?;
+    Ok(Octets::from_slice(alloc, &bytes)?)
 }
 
 /// The delta that octets spell.
@@ -95,8 +97,18 @@ pub(crate) fn call_thrice<R: Replica>(
     words: &[&str],
 ) -> Result<(), Stop> {
     let step = step(alloc, names, words)?;
-    let (first, second, third) = node.step(alloc, &step);
-    print_answer(alloc, text, &first)?;
-    print_answer(alloc, text, &second)?;
-    Ok(print_answer(alloc, text, &third)?)
+    let answers = node.step(alloc, &step);
+    Ok(print_answers(alloc, text, &answers)?)
+}
+
+/// What a gateway answered, three times.
+fn print_answers(
+    alloc: Global,
+    text: &mut String,
+    answers: &(Answer, Answer, Answer),
+) -> Result<(), AllocError> {
+    let (first, second, third) = answers;
+    print_answer(alloc, text, first)?;
+    print_answer(alloc, text, second)?;
+    print_answer(alloc, text, third)
 }

@@ -3,7 +3,7 @@
 use crate::fields::client;
 use crate::gateways::no_predefined;
 use crate::names::{Names, octets};
-use crate::printing::{print_draft, shown};
+use crate::printing::{print_draft, print_octets};
 use crate::stop::Stop;
 use gw_node::Node;
 use jr_journal::MemoryDisk;
@@ -33,17 +33,30 @@ pub(crate) fn play<R: Replica>(
     };
     let peer = peer(alloc, name)?;
     let bytes = octets(alloc, names, rest)?;
+    play_for(alloc, text, node, &peer, first, &bytes)
+}
+
+/// Plays a line about this client.
+fn play_for<R: Replica>(
+    alloc: Global,
+    text: &mut String,
+    node: &Node<R, MemoryDisk>,
+    peer: &Peer,
+    first: &str,
+    bytes: &[u8],
+) -> Result<(), Stop> {
     match node.view(alloc, &peer.client) {
-        Ok(out) => play_seen(alloc, text, &peer, &out.view, first, &bytes),
+        Ok(out) => play_seen(alloc, text, peer, &out.view, first, bytes),
         Err(_) => Err(Stop::Memory),
     }
 }
 
 /// The client, at port 7 of host 0 and moment 3.
 fn peer(alloc: Global, name: &str) -> Result<Peer, Stop> {
+    let client = client(alloc, name)?;
     Ok(Peer {
         address: Addr { host: 0, port: 7 },
-        client: client(alloc, name)?,
+        client,
         moment: 3,
     })
 }
@@ -80,6 +93,18 @@ fn send(
     pending: &[Put],
     first: &str,
 ) -> Result<(), Stop> {
+    let draft = sent(alloc, peer, session, pending, first)?;
+    Ok(print_draft(alloc, text, draft)?)
+}
+
+/// What is drafted where messages go out, or go out again.
+fn sent(
+    alloc: Global,
+    peer: &Peer,
+    session: &Session,
+    pending: &[Put],
+    first: &str,
+) -> Result<Draft, Stop> {
     let predefined = no_predefined(alloc)?;
     let mut draft = Draft::new(alloc);
     let done = match first {
@@ -87,7 +112,7 @@ fn send(
         _ => then_resend(alloc, &predefined, peer, session, pending, &mut draft),
     };
     match done {
-        Ok(()) => Ok(print_draft(alloc, text, draft)?),
+        Ok(()) => Ok(draft),
         Err(_) => Err(Stop::Memory),
     }
 }
@@ -101,16 +126,37 @@ fn hear(
     pending: &[Put],
     bytes: &[u8],
 ) -> Result<(), Stop> {
-    let predefined = no_predefined(alloc)?;
-    let heard = match decode(alloc, bytes) {
-        Ok(Frame::PubRel { msg_id }) => pubrel(alloc, peer.address, session, msg_id),
-        Ok(frame) => acknowledge(alloc, &predefined, peer, session, pending, &frame),
-        Err(_) => return Err(Stop::Line),
+    let draft = heard(alloc, peer, session, pending, bytes)?;
+    Ok(print_draft(alloc, text, draft)?)
+}
+
+/// What is drafted where this frame is heard.
+fn heard(
+    alloc: Global,
+    peer: &Peer,
+    session: &Session,
+    pending: &[Put],
+    bytes: &[u8],
+) -> Result<Draft, Stop> {
+    let Ok(frame) = decode(alloc, bytes) else {
+        return Err(Stop::Line);
     };
-    match heard {
-        Ok(draft) => Ok(print_draft(alloc, text, draft)?),
-        Err(_) => Err(Stop::Memory),
+    match &frame {
+        Frame::PubRel { msg_id } => Ok(pubrel(alloc, peer.address, session, *msg_id)?),
+        frame => acknowledged(alloc, peer, session, pending, frame),
     }
+}
+
+/// What is drafted where the client acknowledges by this frame.
+fn acknowledged(
+    alloc: Global,
+    peer: &Peer,
+    session: &Session,
+    pending: &[Put],
+    frame: &Frame,
+) -> Result<Draft, Stop> {
+    let predefined = no_predefined(alloc)?;
+    Ok(acknowledge(alloc, &predefined, peer, session, pending, frame)?)
 }
 
 /// `meaning CLIENT OCTETS ..`: what a publication is about with these flags and this topic field.
@@ -118,27 +164,27 @@ fn meaning(alloc: Global, text: &mut String, session: &Session, bytes: &[u8]) ->
     let [bits, high, low] = bytes else {
         return Err(Stop::Line);
     };
-    let (flags, topic) = (
-        Flags { bits: *bits },
-        u16::from(*high) * 256 + u16::from(*low),
-    );
+    let flags = Flags { bits: *bits };
+    let topic = u16::from(*high) * 256 + u16::from(*low);
+    let meant = meaning_of(alloc, session, flags, topic)?;
+    print_meant(alloc, text, &meant)
+}
+
+/// The topic of these flags and this topic field.
+fn meaning_of(alloc: Global, session: &Session, flags: Flags, topic: u16) -> Result<Meant, Stop> {
     let predefined = no_predefined(alloc)?;
-    match topic_meant(alloc, &predefined, session, flags.kind(), topic) {
-        Ok(meant) => print_meant(alloc, text, &meant),
-        Err(_) => Err(Stop::Memory),
-    }
+    Ok(topic_meant(alloc, &predefined, session, flags.kind(), topic)?)
 }
 
 /// What a publication is about.
 fn print_meant(alloc: Global, text: &mut String, meant: &Meant) -> Result<(), Stop> {
     match meant {
-        Meant::Topic(name) => {
-            let octets = shown(alloc, name.bytes())?;
-            Ok(writeln!(text, "topic {octets}")?)
-        }
-        Meant::Refused(code) => {
-            let code = *code;
-            Ok(writeln!(text, "code {code}")?)
-        }
+        Meant::Topic(name) => Ok(print_octets(alloc, text, "topic", name.bytes())?),
+        Meant::Refused(code) => print_code(text, *code),
     }
+}
+
+/// A return code.
+fn print_code(text: &mut String, code: u8) -> Result<(), Stop> {
+    Ok(writeln!(text, "code {code}")?)
 }

@@ -52,17 +52,29 @@ pub(crate) fn open<R: Replica>(
     fields: &[&str],
 ) -> Result<(), Stop> {
     let config = config(alloc, fields)?;
+    print_opening(text, start(alloc, store, config))
+}
+
+/// The records of an opening, or the number of its refusal.
+fn print_opening(text: &mut String, opening: Result<u64, u8>) -> Result<(), Stop> {
+    match opening {
+        Ok(records) => Ok(writeln!(text, "records {records}")?),
+        Err(number) => Ok(writeln!(text, "refused N{number}")?),
+    }
+}
+
+/// Opens a gateway on the disk: the records that it read, or the number of its refusal.
+fn start<R: Replica>(alloc: Global, store: &mut Store<R>, config: Config) -> Result<u64, u8> {
     let disk = mem::replace(closed(store), MemoryDisk::new(alloc));
     match Node::open(alloc, config, disk) {
         Ok(node) => {
             let records = node.records();
             store.node = Some(node);
-            Ok(writeln!(text, "records {records}")?)
+            Ok(records)
         }
         Err((disk, fault)) => {
             store.disk = disk;
-            let number = fault.number();
-            Ok(writeln!(text, "refused N{number}")?)
+            Err(fault.number())
         }
     }
 }
@@ -70,13 +82,19 @@ pub(crate) fn open<R: Replica>(
 /// What the gateway is told.
 fn config(alloc: Global, fields: &[&str]) -> Result<Config, Stop> {
     match fields {
-        [name] => told(alloc, name, 0, Sequence::empty(alloc)),
-        [name, seconds, port] => {
-            let to = address(port)?;
-            told(alloc, name, number(seconds)?, only(alloc, to)?)
-        }
+        [name] => told(alloc, gateway(name)?, 0, Sequence::empty(alloc)),
+        [name, seconds, port] => advertising(alloc, name, seconds, port),
         _ => Err(Stop::Line),
     }
+}
+
+/// What a gateway is told that advertises itself so often, to this port.
+fn advertising(alloc: Global, name: &str, seconds: &str, port: &str) -> Result<Config, Stop> {
+    let to = address(port)?;
+    let advertise = number(seconds)?;
+    let gateway = gateway(name)?;
+    let field = only(alloc, to)?;
+    told(alloc, gateway, advertise, field)
 }
 
 /// A field of one address.
@@ -93,13 +111,13 @@ pub(crate) fn address(port: &str) -> Result<Addr, Stop> {
 }
 
 /// What a gateway of this number is told.
-fn told(alloc: Global, name: &str, advertise: u16, field: Sequence<Addr>) -> Result<Config, Stop> {
-    let gateway = gateway(name)?;
+fn told(alloc: Global, gateway: u8, advertise: u16, field: Sequence<Addr>) -> Result<Config, Stop> {
+    let predefined = no_predefined(alloc)?;
     Ok(Config {
         gateway,
         advertise,
         field,
-        predefined: no_predefined(alloc)?,
+        predefined,
     })
 }
 

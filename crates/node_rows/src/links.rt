@@ -3,12 +3,13 @@
 use crate::calls::delta;
 use crate::fields::{gateway, number};
 use crate::names::{Names, octets};
-use crate::printing::{print_fault, print_message, shown};
+use crate::printing::{print_fault, print_message, print_octets};
 use crate::stop::Stop;
-use gw_net::{LinkFault, LinkIn, LinkMessage, LinkOutFault, link_out};
+use gw_net::{Fed, LinkFault, LinkIn, LinkMessage, LinkOutFault, link_out};
 use rep_digest::Digest;
 use rep_ops::OpsFault;
 use std::alloc::Global;
+use std::fmt::Display;
 use std::io::{self, Write};
 
 /// A writer that takes so many octets, and then fails.
@@ -51,6 +52,11 @@ pub(crate) fn beginnings(
     fields: &[&str],
 ) -> Result<(), Stop> {
     let bytes = octets(alloc, names, fields)?;
+    read_beginnings(alloc, text, &bytes)
+}
+
+/// The digests that the beginnings of octets spell.
+fn read_beginnings(alloc: Global, text: &mut String, bytes: &[u8]) -> Result<(), Stop> {
     for end in 0..bytes.len() {
         write!(text, "{end}: ")?;
         read_digest(alloc, text, &bytes[..end])?;
@@ -61,13 +67,21 @@ pub(crate) fn beginnings(
 /// The digest that octets spell.
 fn read_digest(alloc: Global, text: &mut String, bytes: &[u8]) -> Result<(), Stop> {
     match Digest::decode(alloc, bytes) {
-        Ok(digest) => {
-            let count = digest.entries().len();
-            Ok(writeln!(text, "digest of {count}")?)
-        }
+        Ok(digest) => print_count(text, &digest),
         Err(OpsFault::Memory) => Err(Stop::Memory),
-        Err(fault) => Ok(writeln!(text, "refused: {fault}")?),
+        Err(fault) => print_refused(text, &fault),
     }
+}
+
+/// Of how many clients a digest is.
+fn print_count(text: &mut String, digest: &Digest) -> Result<(), Stop> {
+    let count = digest.entries().len();
+    Ok(writeln!(text, "digest of {count}")?)
+}
+
+/// Why something is refused.
+fn print_refused<F: Display>(text: &mut String, fault: &F) -> Result<(), Stop> {
+    Ok(writeln!(text, "refused: {fault}")?)
 }
 
 /// The message that fields say.
@@ -75,14 +89,17 @@ fn message(alloc: Global, names: &Names, fields: &[&str]) -> Result<LinkMessage,
     match fields {
         ["hello", name] => Ok(LinkMessage::Hello(gateway(name)?)),
         ["delta", rest @ ..] => Ok(LinkMessage::Delta(delta(alloc, names, rest)?)),
-        ["digest", rest @ ..] => {
-            let bytes = octets(alloc, names, rest)?;
-            match Digest::decode(alloc, &bytes) {
-                Ok(digest) => Ok(LinkMessage::Digest(digest)),
-                Err(_) => Err(Stop::Line),
-            }
-        }
+        ["digest", rest @ ..] => Ok(LinkMessage::Digest(said_digest(alloc, names, rest)?)),
         _ => Err(Stop::Line),
+    }
+}
+
+/// The digest that fields say.
+fn said_digest(alloc: Global, names: &Names, fields: &[&str]) -> Result<Digest, Stop> {
+    let bytes = octets(alloc, names, fields)?;
+    match Digest::decode(alloc, &bytes) {
+        Ok(digest) => Ok(digest),
+        Err(_) => Err(Stop::Line),
     }
 }
 
@@ -109,12 +126,20 @@ pub(crate) fn say(
     fields: &[&str],
 ) -> Result<(), Stop> {
     let message = message(alloc, names, fields)?;
-    match go_out(alloc, said, &message) {
+    let gone = go_out(alloc, said, &message);
+    print_said(alloc, text, said, gone)
+}
+
+/// All that went out, if the latest message did.
+fn print_said(
+    alloc: Global,
+    text: &mut String,
+    said: &[u8],
+    gone: Option<Result<(), LinkOutFault>>,
+) -> Result<(), Stop> {
+    match gone {
         None => Err(Stop::Line),
-        Some(Ok(())) => {
-            let octets = shown(alloc, said)?;
-            Ok(writeln!(text, "went out {octets}")?)
-        }
+        Some(Ok(())) => Ok(print_octets(alloc, text, "went out", said)?),
         Some(Err(_)) => Err(Stop::Memory),
     }
 }
@@ -131,10 +156,15 @@ pub(crate) fn within(
     };
     let room = usize::from(number(far)?);
     let message = message(alloc, names, rest)?;
-    match go_out(alloc, &mut Full { room }, &message) {
+    print_written(text, go_out(alloc, &mut Full { room }, &message))
+}
+
+/// Whether a message went out.
+fn print_written(text: &mut String, gone: Option<Result<(), LinkOutFault>>) -> Result<(), Stop> {
+    match gone {
         None => Err(Stop::Line),
         Some(Ok(())) => Ok(text.push_str("went out\n")?),
-        Some(Err(fault)) => Ok(writeln!(text, "refused: {fault}")?),
+        Some(Err(fault)) => print_refused(text, &fault),
     }
 }
 
@@ -147,18 +177,31 @@ pub(crate) fn feed(
     fields: &[&str],
 ) -> Result<(), Stop> {
     let bytes = octets(alloc, names, fields)?;
-    match link.feed(alloc, &bytes) {
-        Ok(fed) => {
-            print_fed(alloc, text, fed.messages.as_slice())?;
-            print_fault(text, fed.fault)
-        }
+    read_piece(alloc, text, link, &bytes)
+}
+
+/// What these octets give where they come in.
+fn read_piece(
+    alloc: Global,
+    text: &mut String,
+    link: &mut LinkIn,
+    bytes: &[u8],
+) -> Result<(), Stop> {
+    match link.feed(alloc, bytes) {
+        Ok(fed) => print_fed(alloc, text, &fed),
         Err(LinkFault::Memory) => Err(Stop::Memory),
-        Err(fault) => Ok(writeln!(text, "refused: {fault}")?),
+        Err(fault) => print_refused(text, &fault),
     }
 }
 
-/// The messages that are whole now.
-fn print_fed(alloc: Global, text: &mut String, messages: &[LinkMessage]) -> Result<(), Stop> {
+/// The messages that are whole now, and the fault behind them.
+fn print_fed(alloc: Global, text: &mut String, fed: &Fed) -> Result<(), Stop> {
+    print_messages(alloc, text, fed.messages.as_slice())?;
+    print_fault(text, fed.fault)
+}
+
+/// Messages, and how many there are.
+fn print_messages(alloc: Global, text: &mut String, messages: &[LinkMessage]) -> Result<(), Stop> {
     let count = messages.len();
     writeln!(text, "messages {count}")?;
     for message in messages {

@@ -89,43 +89,70 @@ use anyhow::Result;
 use rep_model::Replica;
 use rep_plain::Plain;
 use rep_state::Folded;
-use std::alloc::Global;
+use std::alloc::{AllocError, Global};
 use std::io::{self, Write};
 
 fn main(rt: HostRuntime) -> Result<()> {
+    let mut printed = String::new(rt.alloc());
+    play_input(&rt, &mut printed)?;
+    io::writer(&rt).write_all(printed.as_bytes())?;
+    Ok(())
+}
+
+/// Plays all lines of standard input.
+fn play_input(rt: &HostRuntime, text: &mut String) -> Result<()> {
     let alloc = rt.alloc();
     let mut lines = Vec::new(alloc);
+    read_lines(rt, alloc, &mut lines)?;
+    print_both(alloc, text, lines.as_slice())?;
+    Ok(())
+}
+
+/// The lines of standard input.
+fn read_lines(rt: &HostRuntime, alloc: Global, lines: &mut Vec<String>) -> Result<()> {
     for line in rt.lines(alloc) {
         lines.push(line?)?;
     }
-    let printed = print_both(alloc, lines.as_slice())?;
-    io::writer(&rt).write_all(printed.as_bytes())?;
     Ok(())
 }
 
 /// What both replicas print, which is the same, and a line that says so; where it is not, what each
 /// prints.
-fn print_both(alloc: Global, lines: &[String]) -> Result<String, Stop> {
-    let mut folded = played::<Folded>(alloc, lines)?;
-    let plain = played::<Plain>(alloc, lines)?;
-    if folded.as_str() == plain.as_str() {
-        folded.push_str("== both replicas\nno difference\n")?;
-    } else {
-        folded.push_str("== the plain replica prints otherwise\n")?;
-        folded.push_str(plain.as_str())?;
-    }
-    Ok(folded)
+fn print_both(alloc: Global, text: &mut String, lines: &[String]) -> Result<(), Stop> {
+    let mut plain = String::new(alloc);
+    play_all::<Folded>(alloc, text, lines)?;
+    play_all::<Plain>(alloc, &mut plain, lines)?;
+    Ok(print_difference(text, plain.as_str())?)
 }
 
-/// What the lines give on a replica.
-fn played<R: Replica>(alloc: Global, lines: &[String]) -> Result<String, Stop> {
+/// Whether the plain replica prints otherwise, and what.
+fn print_difference(text: &mut String, plain: &str) -> Result<(), AllocError> {
+    if text.as_str() == plain {
+        return text.push_str("== both replicas\nno difference\n");
+    }
+    text.push_str("== the plain replica prints otherwise\n")?;
+    text.push_str(plain)
+}
+
+/// Plays all lines on a replica.
+fn play_all<R: Replica>(alloc: Global, text: &mut String, lines: &[String]) -> Result<(), Stop> {
     let mut row: Row<R> = begin(alloc);
     let mut names = names::none(alloc);
-    let mut printed = String::new(alloc);
+    play_lines(alloc, text, &mut row, &mut names, lines)
+}
+
+/// Plays lines, one after the other.
+fn play_lines<R: Replica>(
+    alloc: Global,
+    text: &mut String,
+    row: &mut Row<R>,
+    names: &mut Names,
+    lines: &[String],
+) -> Result<(), Stop> {
     for line in lines {
-        answer(alloc, &mut printed, &mut row, &mut names, line.as_str())?;
+        answer(alloc, text, row, names, line.as_str())?;
     }
-    Ok(printed)
+    Ok(())
 }
 
 /// Plays a line; one that is none of the language is told.
@@ -139,14 +166,34 @@ fn answer<R: Replica>(
     if line.is_empty() || line.starts_with('#') {
         return Ok(());
     }
-    if let Some(name) = line.strip_prefix("== ") {
-        *row = begin(alloc);
-        return Ok(writeln!(text, "== {name}")?);
+    match line.strip_prefix("== ") {
+        Some(name) => begin_row(alloc, text, row, name),
+        None => play_or_tell(alloc, text, row, names, line),
     }
+}
+
+/// A row of this name begins.
+fn begin_row<R: Replica>(
+    alloc: Global,
+    text: &mut String,
+    row: &mut Row<R>,
+    name: &str,
+) -> Result<(), Stop> {
+    *row = begin(alloc);
+    Ok(writeln!(text, "== {name}")?)
+}
+
+/// Plays a line of words, or tells it.
+fn play_or_tell<R: Replica>(
+    alloc: Global,
+    text: &mut String,
+    row: &mut Row<R>,
+    names: &mut Names,
+    line: &str,
+) -> Result<(), Stop> {
     match play_line(alloc, text, row, names, line) {
-        Ok(()) => Ok(()),
         Err(Stop::Line) => Ok(writeln!(text, "no such line: {line}")?),
-        Err(Stop::Memory) => Err(Stop::Memory),
+        played => played,
     }
 }
 

@@ -29,9 +29,15 @@ pub(crate) fn add(alloc: Global, names: &mut Names, fields: &[&str]) -> Result<(
     let Some((name, rest)) = fields.split_first() else {
         return Err(Stop::Line);
     };
-    let octets = octets(alloc, names, rest)?;
+    let entry = entry(alloc, names, name, rest)?;
+    Ok(names.all.push(entry)?)
+}
+
+/// The octets of fields, and their name.
+fn entry(alloc: Global, names: &Names, name: &str, fields: &[&str]) -> Result<Named, Stop> {
+    let octets = octets(alloc, names, fields)?;
     let name = String::from_str(alloc, name)?;
-    Ok(names.all.push(Named { name, octets })?)
+    Ok(Named { name, octets })
 }
 
 /// `repeat COUNT OCTETS ..`: these stand behind the octets of the latest name so many times.
@@ -41,11 +47,14 @@ pub(crate) fn repeat(alloc: Global, names: &mut Names, fields: &[&str]) -> Resul
     };
     let times = number(times)?;
     let mut octets = Vec::new(alloc);
-    for time in 0..times {
-        add_all(alloc, names, &mut octets, rest, time)?;
-    }
+    add_times(alloc, names, &mut octets, rest, times)?;
+    extend_latest(names, &octets)
+}
+
+/// Puts octets behind those of the latest name.
+fn extend_latest(names: &mut Names, octets: &[u8]) -> Result<(), Stop> {
     match names.all.last_mut() {
-        Some(named) => Ok(named.octets.extend_from_slice(&octets)?),
+        Some(named) => Ok(named.octets.extend_from_slice(octets)?),
         None => Err(Stop::Line),
     }
 }
@@ -55,6 +64,20 @@ pub(crate) fn octets(alloc: Global, names: &Names, fields: &[&str]) -> Result<Ve
     let mut octets = Vec::new(alloc);
     add_all(alloc, names, &mut octets, fields, 0)?;
     Ok(octets)
+}
+
+/// Puts the octets of fields behind those that are there, so many times.
+fn add_times(
+    alloc: Global,
+    names: &Names,
+    octets: &mut Vec<u8>,
+    fields: &[&str],
+    times: u16,
+) -> Result<(), Stop> {
+    for time in 0..times {
+        add_all(alloc, names, octets, fields, time)?;
+    }
+    Ok(())
 }
 
 /// Puts the octets of fields behind those that are there.

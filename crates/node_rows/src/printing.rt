@@ -4,13 +4,15 @@ use crate::stop::Stop;
 use gw_net::{LinkFault, LinkMessage};
 use gw_node::{Answer, NodeFault, Out};
 use jr_journal::{Disk, MemoryDisk, Slot};
+use rep_digest::Digest;
 use rep_model::ClientView;
+use rep_ops::Delta;
 use sn_local::Send as Sending;
 use sn_plan::{Draft, plan_without};
 use std::alloc::{AllocError, Global};
 
 /// Octets in hexadecimal digits, `-` for none.
-pub(crate) fn shown(alloc: Global, octets: &[u8]) -> Result<String, AllocError> {
+fn shown(alloc: Global, octets: &[u8]) -> Result<String, AllocError> {
     match octets {
         [] => String::from_str(alloc, "-"),
         _ => hex::encode(alloc, octets),
@@ -25,15 +27,31 @@ pub(crate) fn print_slot(
     name: &str,
     slot: Slot,
 ) -> Result<(), Stop> {
+    let octets = slot_octets(alloc, disk, slot)?;
+    Ok(print_octets(alloc, text, name, &octets)?)
+}
+
+/// The octets that stand in a slot.
+fn slot_octets(alloc: Global, disk: &mut MemoryDisk, slot: Slot) -> Result<Vec<u8>, Stop> {
     let Ok(size) = disk.len(slot) else {
         return Err(Stop::Memory);
     };
-    let mut bytes = vec![in alloc; 0u8; size]?;
-    if disk.read_at(slot, 0, &mut bytes).is_err() {
-        return Err(Stop::Memory);
+    let mut octets = vec![in alloc; 0u8; size]?;
+    match disk.read_at(slot, 0, &mut octets) {
+        Ok(()) => Ok(octets),
+        Err(_) => Err(Stop::Memory),
     }
-    let octets = shown(alloc, &bytes)?;
-    Ok(writeln!(text, "{name} {octets}")?)
+}
+
+/// A line of octets behind a word.
+pub(crate) fn print_octets(
+    alloc: Global,
+    text: &mut String,
+    word: &str,
+    octets: &[u8],
+) -> Result<(), AllocError> {
+    let octets = shown(alloc, octets)?;
+    writeln!(text, "{word} {octets}")
 }
 
 /// What a gateway answered.
@@ -78,11 +96,16 @@ fn print_out(alloc: Global, text: &mut String, out: &Out) -> Result<(), AllocErr
 /// Datagrams, each with where it goes to.
 fn print_sends(alloc: Global, text: &mut String, sends: &[Sending]) -> Result<(), AllocError> {
     for send in sends {
-        let (host, port) = (send.to.host, send.to.port);
-        let octets = shown(alloc, send.bytes.as_slice())?;
-        write!(text, ", to {host}:{port} {octets}")?;
+        print_send(alloc, text, send)?;
     }
     Ok(())
+}
+
+/// A datagram, and where it goes to.
+fn print_send(alloc: Global, text: &mut String, send: &Sending) -> Result<(), AllocError> {
+    let (host, port) = (send.to.host, send.to.port);
+    let octets = shown(alloc, send.bytes.as_slice())?;
+    write!(text, ", to {host}:{port} {octets}")
 }
 
 /// The stamp of a view, the duration of its session, and how many messages wait.
@@ -105,14 +128,20 @@ pub(crate) fn print_draft(
     text: &mut String,
     draft: Draft,
 ) -> Result<(), AllocError> {
+    print_drafted(text, &draft)?;
+    let plan = plan_without(alloc, draft);
+    print_sends(alloc, text, plan.sends.as_slice())?;
+    text.push('\n')
+}
+
+/// How many changes there are, and the messages that are acknowledged.
+fn print_drafted(text: &mut String, draft: &Draft) -> Result<(), AllocError> {
     let count = draft.changes().len();
     write!(text, "changes {count}")?;
     for (number, origin) in draft.acks() {
         write!(text, ", has {origin}.{number}")?;
     }
-    let plan = plan_without(alloc, draft);
-    print_sends(alloc, text, plan.sends.as_slice())?;
-    text.push('\n')
+    Ok(())
 }
 
 /// What came over a link.
@@ -121,20 +150,34 @@ pub(crate) fn print_message(
     text: &mut String,
     message: &LinkMessage,
 ) -> Result<(), Stop> {
-    let mut bytes = Vec::new(alloc);
-    let (word, encoded) = match message {
-        LinkMessage::Hello(gateway) => {
-            let gateway = *gateway;
-            return Ok(writeln!(text, "hello {gateway}")?);
-        }
-        LinkMessage::Digest(digest) => ("digest", digest.encode(alloc, &mut bytes)),
-        LinkMessage::Delta(delta) => ("delta", delta.encode(alloc, &mut bytes)),
-    };
-    if encoded.is_err() {
-        return Err(Stop::Memory);
+    match message {
+        LinkMessage::Hello(gateway) => print_hello(text, *gateway),
+        LinkMessage::Digest(digest) => print_digest(alloc, text, digest),
+        LinkMessage::Delta(delta) => print_delta(alloc, text, delta),
     }
-    let octets = shown(alloc, &bytes)?;
-    Ok(writeln!(text, "{word} {octets}")?)
+}
+
+/// A hello of this gateway.
+fn print_hello(text: &mut String, gateway: u8) -> Result<(), Stop> {
+    Ok(writeln!(text, "hello {gateway}")?)
+}
+
+/// The octets of a digest.
+fn print_digest(alloc: Global, text: &mut String, digest: &Digest) -> Result<(), Stop> {
+    let mut bytes = Vec::new(alloc);
+    match digest.encode(alloc, &mut bytes) {
+        Ok(()) => Ok(print_octets(alloc, text, "digest", &bytes)?),
+        Err(_) => Err(Stop::Memory),
+    }
+}
+
+/// The octets of a delta.
+fn print_delta(alloc: Global, text: &mut String, delta: &Delta) -> Result<(), Stop> {
+    let mut bytes = Vec::new(alloc);
+    match delta.encode(alloc, &mut bytes) {
+        Ok(()) => Ok(print_octets(alloc, text, "delta", &bytes)?),
+        Err(_) => Err(Stop::Memory),
+    }
 }
 
 /// Why a link has failed, where it has.

@@ -7,6 +7,8 @@ use crate::links::{beginnings, digest, feed, say, within};
 use crate::names::Names;
 use crate::stop::Stop;
 use gw_net::LinkIn;
+use gw_node::Node;
+use jr_journal::MemoryDisk;
 use rep_model::Replica;
 use std::alloc::Global;
 
@@ -42,17 +44,46 @@ pub(crate) fn play<R: Replica>(
     };
     match *first {
         "open" | "fail" | "slots" => play_store(alloc, text, &mut row.store, first, rest),
-        "state" => state(alloc, text, opened(&mut row.store)?),
-        "deliver" | "resend" | "hear" | "meaning" => {
-            deliveries::play(alloc, text, opened(&mut row.store)?, names, first, rest)
-        }
-        "digest" => digest(alloc, text, names, rest),
-        "beginnings" => beginnings(alloc, text, names, rest),
+        "digest" | "beginnings" => play_digest(alloc, text, names, first, rest),
         "say" => say(alloc, text, names, &mut row.said, rest),
         "within" => within(alloc, text, names, rest),
         "feed" => feed(alloc, text, names, &mut row.link, rest),
-        "thrice" => call_thrice(alloc, text, names, opened(&mut row.store)?, rest),
-        _ => call_once(alloc, text, names, opened(&mut row.store)?, words),
+        _ => play_opened(alloc, text, names, opened(&mut row.store)?, words),
+    }
+}
+
+/// Lines about digests.
+fn play_digest(
+    alloc: Global,
+    text: &mut String,
+    names: &Names,
+    first: &str,
+    rest: &[&str],
+) -> Result<(), Stop> {
+    match first {
+        "digest" => digest(alloc, text, names, rest),
+        _ => beginnings(alloc, text, names, rest),
+    }
+}
+
+/// Lines about the gateway that is open.
+fn play_opened<R: Replica>(
+    alloc: Global,
+    text: &mut String,
+    names: &Names,
+    node: &mut Node<R, MemoryDisk>,
+    words: &[&str],
+) -> Result<(), Stop> {
+    let Some((first, rest)) = words.split_first() else {
+        return Err(Stop::Line);
+    };
+    match *first {
+        "state" => state(alloc, text, node),
+        "deliver" | "resend" | "hear" | "meaning" => {
+            deliveries::play(alloc, text, node, names, first, rest)
+        }
+        "thrice" => call_thrice(alloc, text, names, node, rest),
+        _ => call_once(alloc, text, names, node, words),
     }
 }
 
