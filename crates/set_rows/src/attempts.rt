@@ -2,38 +2,57 @@
 
 use crate::deltas::made;
 use crate::fields::{count, octet};
-use crate::journals::{Store, base_of, both, octets_of, put, slot};
-use crate::runs::{add, finish};
+use crate::journals::{Held, Store, base_of, both, octets_of, put, slot};
+use crate::retries::all_calls;
+use crate::runs::{Run, add, finish};
 use crate::stop::Stop;
 use crate::words::{journal_fault, shown_octets, slot_word};
-use jr_journal::{Journal, JournalFault, MemoryDisk, Slot};
+use jr_journal::{Journal, JournalFault, MemoryDisk, OnceCall, OnceDisk, Slot};
 use rep_ops::{Delta, Op};
-use std::alloc::Global;
+use std::alloc::{AllocError, Global};
+
+/// What is tried at each place.
+#[derive(Clone, Copy)]
+pub(crate) enum Trial<'a> {
+    /// An append of a record that stops after so many octets.
+    Append(&'a Delta),
+    /// A compaction that stops after so many octets.
+    Compaction(&'a [Delta]),
+    /// The calls of a journal, of which one fails behind so many of its kind.
+    Calls(OnceCall, &'a [Delta]),
+}
 
 /// A disk with these octets in its slots, synced.
-pub(crate) fn disk_with(alloc: Global, first: &[u8], second: &[u8]) -> Result<MemoryDisk, Stop> {
+fn disk_with(alloc: Global, held: &Held) -> Result<MemoryDisk, Stop> {
     let mut disk = MemoryDisk::new(alloc);
-    put(&mut disk, Slot::First, first)?;
-    put(&mut disk, Slot::Second, second)?;
+    fill(&mut disk, held)?;
     Ok(disk)
 }
 
+/// Puts octets in both slots.
+fn fill(disk: &mut MemoryDisk, held: &Held) -> Result<(), Stop> {
+    put(disk, Slot::First, &held.first)?;
+    put(disk, Slot::Second, &held.second)
+}
+
 /// How many records an opening reads, and in which slot, or why none.
-pub(crate) fn opening(alloc: Global, disk: MemoryDisk, gateway: u8) -> Result<String, Stop> {
+pub(crate) fn opening(alloc: Global, disk: MemoryDisk, gateway: u8) -> Result<String, AllocError> {
     match Journal::open(alloc, disk, gateway) {
-        Ok((journal, deltas)) => {
-            let slot = slot_word(journal.slot());
-            let count = deltas.len();
-            Ok(format!(in alloc; "records {count} in {slot}")?)
-        }
+        Ok((journal, deltas)) => count_text(alloc, deltas.len(), journal.slot()),
         Err((_disk, fault)) => fault_text(alloc, fault),
     }
 }
 
+/// The words of a number of records in a slot.
+fn count_text(alloc: Global, count: usize, slot: Slot) -> Result<String, AllocError> {
+    let slot = slot_word(slot);
+    format!(in alloc; "records {count} in {slot}")
+}
+
 /// The words of a refusal.
-fn fault_text(alloc: Global, fault: JournalFault) -> Result<String, Stop> {
+fn fault_text(alloc: Global, fault: JournalFault) -> Result<String, AllocError> {
     let why = journal_fault(alloc, fault)?;
-    Ok(format!(in alloc; "refused {why}")?)
+    format!(in alloc; "refused {why}")
 }
 
 /// How many records an opening reads, and what their slot holds behind it.
@@ -41,19 +60,28 @@ fn opening_whole(alloc: Global, disk: MemoryDisk, gateway: u8) -> Result<String,
     match Journal::open(alloc, disk, gateway) {
         Ok((journal, deltas)) => {
             let slot = journal.slot();
-            let mut disk = journal.into_disk();
-            let octets = octets_of(alloc, &mut disk, slot)?;
-            read_text(alloc, deltas.len(), slot, &octets)
+            slot_text(alloc, deltas.len(), slot, &mut journal.into_disk())
         }
-        Err((_disk, fault)) => fault_text(alloc, fault),
+        Err((_disk, fault)) => Ok(fault_text(alloc, fault)?),
     }
 }
 
-/// A number of records, their slot and its octets.
-fn read_text(alloc: Global, count: usize, slot: Slot, octets: &[u8]) -> Result<String, Stop> {
+/// The words of a number of records, their slot and what that holds.
+fn slot_text(
+    alloc: Global,
+    count: usize,
+    slot: Slot,
+    disk: &mut MemoryDisk,
+) -> Result<String, Stop> {
+    let octets = octets_of(alloc, disk, slot)?;
+    Ok(read_text(alloc, count, slot, &octets)?)
+}
+
+/// The words of a number of records, their slot and its octets.
+fn read_text(alloc: Global, count: usize, slot: Slot, octets: &[u8]) -> Result<String, AllocError> {
     let slot = slot_word(slot);
     let octets = shown_octets(alloc, octets)?;
-    Ok(format!(in alloc; "records {count} in {slot}, {octets}")?)
+    format!(in alloc; "records {count} in {slot}, {octets}")
 }
 
 /// `openings GATEWAY SLOT`: an opening where each beginning of the octets stands behind what the
@@ -69,15 +97,48 @@ pub(crate) fn openings(
         return Err(Stop::Line);
     };
     let (gateway, slot) = (octet(gateway)?, slot(name)?);
-    let (first, second) = both(alloc, store)?;
+    let held = both(alloc, store)?;
     let mut run = None;
-    for end in 0..=bytes.len() {
-        let mut disk = disk_with(alloc, &first, &second)?;
-        put(&mut disk, slot, &bytes[..end])?;
-        let said = opening_whole(alloc, disk, gateway)?;
-        run = add(text, run, end, said)?;
-    }
+    open_each(alloc, text, &mut run, &held, gateway, slot, bytes)?;
     Ok(finish(text, run)?)
+}
+
+/// The openings behind each beginning of the octets.
+fn open_each(
+    alloc: Global,
+    text: &mut String,
+    run: &mut Option<Run>,
+    held: &Held,
+    gateway: u8,
+    slot: Slot,
+    bytes: &[u8],
+) -> Result<(), Stop> {
+    for end in 0..=bytes.len() {
+        let said = opening_behind(alloc, held, gateway, slot, &bytes[..end])?;
+        add(text, run, end, said)?;
+    }
+    Ok(())
+}
+
+/// An opening where octets stand behind what the slot has.
+fn opening_behind(
+    alloc: Global,
+    held: &Held,
+    gateway: u8,
+    slot: Slot,
+    bytes: &[u8],
+) -> Result<String, Stop> {
+    let mut disk = disk_with(alloc, held)?;
+    put(&mut disk, slot, bytes)?;
+    opening_whole(alloc, disk, gateway)
+}
+
+/// A gateway, and the last place.
+fn gateway_and_last(fields: &[&str]) -> Result<(u8, usize), Stop> {
+    let [gateway, most] = fields else {
+        return Err(Stop::Line);
+    };
+    Ok((octet(gateway)?, count(most)?))
 }
 
 /// `appends GATEWAY COUNT`: a record of the operations whose append stops after each number of
@@ -89,48 +150,11 @@ pub(crate) fn appends(
     ops: Vec<Op>,
     fields: &[&str],
 ) -> Result<(), Stop> {
-    let [gateway, most] = fields else {
-        return Err(Stop::Line);
-    };
-    let (gateway, most) = (octet(gateway)?, count(most)?);
-    let Some(delta) = made(alloc, text, ops)? else {
-        return Ok(());
-    };
-    let (first, second) = both(alloc, store)?;
-    let mut run = None;
-    for far in 0..=most {
-        let mut disk = disk_with(alloc, &first, &second)?;
-        disk.fail_next(far, false);
-        let said = append_on(alloc, disk, gateway, &delta)?;
-        run = add(text, run, far, said)?;
+    let (gateway, most) = gateway_and_last(fields)?;
+    match made(alloc, text, ops)? {
+        None => Ok(()),
+        Some(delta) => tried(alloc, text, store, gateway, most, &Trial::Append(&delta)),
     }
-    Ok(finish(text, run)?)
-}
-
-/// One such append.
-fn append_on(alloc: Global, disk: MemoryDisk, gateway: u8, delta: &Delta) -> Result<String, Stop> {
-    let (mut journal, _deltas) = match Journal::open(alloc, disk, gateway) {
-        Ok(opened) => opened,
-        Err((_disk, fault)) => return fault_text(alloc, fault),
-    };
-    let Err(fault) = journal.append(alloc, delta) else {
-        return Err(Stop::Line);
-    };
-    behind_crash(alloc, journal, gateway, fault)
-}
-
-/// What a write answered, and an opening behind a crash that leaves all.
-fn behind_crash(
-    alloc: Global,
-    journal: Journal<MemoryDisk>,
-    gateway: u8,
-    fault: JournalFault,
-) -> Result<String, Stop> {
-    let mut disk = journal.into_disk();
-    disk.crash(usize::MAX);
-    let why = journal_fault(alloc, fault)?;
-    let found = opening(alloc, disk, gateway)?;
-    Ok(format!(in alloc; "refused {why}, {found}")?)
 }
 
 /// `compactions GATEWAY COUNT`: the same of compactions to the operations.
@@ -141,22 +165,77 @@ pub(crate) fn compactions(
     ops: Vec<Op>,
     fields: &[&str],
 ) -> Result<(), Stop> {
-    let [gateway, most] = fields else {
-        return Err(Stop::Line);
-    };
-    let (gateway, most) = (octet(gateway)?, count(most)?);
-    let Some(base) = base_of(alloc, text, ops)? else {
-        return Ok(());
-    };
-    let (first, second) = both(alloc, store)?;
-    let mut run = None;
-    for far in 0..=most {
-        let mut disk = disk_with(alloc, &first, &second)?;
-        disk.fail_next(far, false);
-        let said = compact_on(alloc, disk, gateway, base.as_slice())?;
-        run = add(text, run, far, said)?;
+    let (gateway, most) = gateway_and_last(fields)?;
+    match base_of(alloc, text, ops)? {
+        None => Ok(()),
+        Some(base) => tried(alloc, text, store, gateway, most, &Trial::Compaction(&base)),
     }
+}
+
+/// What a trial gives at each place up to the last, each on a disk as the row's.
+pub(crate) fn tried(
+    alloc: Global,
+    text: &mut String,
+    store: &mut Store,
+    gateway: u8,
+    most: usize,
+    trial: &Trial<'_>,
+) -> Result<(), Stop> {
+    let held = both(alloc, store)?;
+    let mut run = None;
+    try_each(alloc, text, &mut run, &held, gateway, most, trial)?;
     Ok(finish(text, run)?)
+}
+
+/// What a trial gives at each place.
+fn try_each(
+    alloc: Global,
+    text: &mut String,
+    run: &mut Option<Run>,
+    held: &Held,
+    gateway: u8,
+    most: usize,
+    trial: &Trial<'_>,
+) -> Result<(), Stop> {
+    for far in 0..=most {
+        let said = tried_at(alloc, disk_with(alloc, held)?, gateway, far, trial)?;
+        add(text, run, far, said)?;
+    }
+    Ok(())
+}
+
+/// What a trial gives at a place.
+fn tried_at(
+    alloc: Global,
+    disk: MemoryDisk,
+    gateway: u8,
+    far: usize,
+    trial: &Trial<'_>,
+) -> Result<String, Stop> {
+    match trial {
+        Trial::Append(delta) => append_on(alloc, stopped(disk, far), gateway, delta),
+        Trial::Compaction(base) => compact_on(alloc, stopped(disk, far), gateway, base),
+        Trial::Calls(call, base) => {
+            all_calls(alloc, OnceDisk::over(disk, *call, far), gateway, base)
+        }
+    }
+}
+
+/// A disk whose next append stops after so many octets.
+fn stopped(mut disk: MemoryDisk, far: usize) -> MemoryDisk {
+    disk.fail_next(far, false);
+    disk
+}
+
+/// One such append.
+fn append_on(alloc: Global, disk: MemoryDisk, gateway: u8, delta: &Delta) -> Result<String, Stop> {
+    match Journal::open(alloc, disk, gateway) {
+        Ok((mut journal, _deltas)) => {
+            let outcome = journal.append(alloc, delta);
+            behind_crash(alloc, journal.into_disk(), gateway, outcome)
+        }
+        Err((_disk, fault)) => Ok(fault_text(alloc, fault)?),
+    }
 }
 
 /// One such compaction.
@@ -166,12 +245,38 @@ fn compact_on(
     gateway: u8,
     base: &[Delta],
 ) -> Result<String, Stop> {
-    let (mut journal, _deltas) = match Journal::open(alloc, disk, gateway) {
-        Ok(opened) => opened,
-        Err((_disk, fault)) => return fault_text(alloc, fault),
-    };
-    let Err(fault) = journal.compact(alloc, base) else {
-        return Err(Stop::Line);
-    };
-    behind_crash(alloc, journal, gateway, fault)
+    match Journal::open(alloc, disk, gateway) {
+        Ok((mut journal, _deltas)) => {
+            let outcome = journal.compact(alloc, base);
+            behind_crash(alloc, journal.into_disk(), gateway, outcome)
+        }
+        Err((_disk, fault)) => Ok(fault_text(alloc, fault)?),
+    }
+}
+
+/// What a write answered, which was to be refused, and an opening behind a crash that leaves all.
+fn behind_crash(
+    alloc: Global,
+    mut disk: MemoryDisk,
+    gateway: u8,
+    outcome: Result<(), JournalFault>,
+) -> Result<String, Stop> {
+    match outcome {
+        Ok(()) => Err(Stop::Line),
+        Err(fault) => {
+            disk.crash(usize::MAX);
+            let found = opening(alloc, disk, gateway)?;
+            Ok(refused_and_found(alloc, fault, &found)?)
+        }
+    }
+}
+
+/// The words of a refusal and of the opening behind it.
+fn refused_and_found(
+    alloc: Global,
+    fault: JournalFault,
+    found: &str,
+) -> Result<String, AllocError> {
+    let why = journal_fault(alloc, fault)?;
+    format!(in alloc; "refused {why}, {found}")
 }

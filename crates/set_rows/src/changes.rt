@@ -106,17 +106,17 @@ fn unsubscribed(alloc: Global, rest: &[&str]) -> Result<SessionOp, Stop> {
 fn will_topic(alloc: Global, rest: &[&str]) -> Result<SessionOp, Stop> {
     match rest {
         ["none"] => Ok(SessionOp::WillTopic(None)),
-        [name, qos, kept] => {
-            let qos = level(qos)?;
-            let retain = is_first(kept, "retained", "fleeting")?;
-            Ok(SessionOp::WillTopic(Some(WillTopic {
-                topic: topic(alloc, name)?,
-                qos,
-                retain,
-            })))
-        }
+        [name, qos, kept] => Ok(SessionOp::WillTopic(Some(will_on(alloc, name, qos, kept)?))),
         _ => Err(Stop::Line),
     }
+}
+
+/// A will's topic.
+fn will_on(alloc: Global, name: &str, qos: &str, kept: &str) -> Result<WillTopic, Stop> {
+    let qos = level(qos)?;
+    let retain = is_first(kept, "retained", "fleeting")?;
+    let topic = topic(alloc, name)?;
+    Ok(WillTopic { topic, qos, retain })
 }
 
 /// `message BODY`
@@ -160,22 +160,27 @@ fn phase(text: &str) -> Result<Phase, Stop> {
 /// `exchange none NEXT`, or `exchange ORIGIN.NUMBER ID PHASE NEXT`
 fn exchange(rest: &[&str]) -> Result<SessionOp, Stop> {
     match rest {
-        ["none", next] => Ok(SessionOp::Outbound {
-            exchange: None,
-            next_id: small_number(next)?,
-        }),
-        [message, id, far, next] => {
-            let (origin, seq) = message_number(message)?;
-            Ok(SessionOp::Outbound {
-                exchange: Some(Outbound {
-                    origin,
-                    seq,
-                    msg_id: small_number(id)?,
-                    phase: phase(far)?,
-                }),
-                next_id: small_number(next)?,
-            })
-        }
+        ["none", next] => outbound(None, next),
+        [message, id, far, next] => outbound(Some(begun(message, id, far)?), next),
         _ => Err(Stop::Line),
     }
+}
+
+/// The exchange that a session has, if any, and the id of the next.
+fn outbound(exchange: Option<Outbound>, next: &str) -> Result<SessionOp, Stop> {
+    let next_id = small_number(next)?;
+    Ok(SessionOp::Outbound { exchange, next_id })
+}
+
+/// An exchange that was begun.
+fn begun(message: &str, id: &str, far: &str) -> Result<Outbound, Stop> {
+    let (origin, seq) = message_number(message)?;
+    let msg_id = small_number(id)?;
+    let phase = phase(far)?;
+    Ok(Outbound {
+        origin,
+        seq,
+        msg_id,
+        phase,
+    })
 }

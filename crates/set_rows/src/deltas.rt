@@ -3,11 +3,11 @@
 use crate::fields::{count, digits, word};
 use crate::names::{Names, octets};
 use crate::printing::print_delta;
-use crate::runs::{add, finish};
+use crate::runs::{Run, add, finish};
 use crate::stop::Stop;
 use crate::words::{ops_fault, shown_octets};
 use rep_ops::{ClientId, Delta, Op, OpsFault};
-use std::alloc::Global;
+use std::alloc::{AllocError, Global};
 
 /// Says why operations or octets are refused.
 fn refused(text: &mut String, fault: OpsFault) -> Result<(), Stop> {
@@ -28,21 +28,26 @@ pub(crate) fn made(alloc: Global, text: &mut String, ops: Vec<Op>) -> Result<Opt
 
 /// `delta`: the delta of the operations.
 pub(crate) fn shown(alloc: Global, text: &mut String, ops: Vec<Op>) -> Result<(), Stop> {
-    if let Some(delta) = made(alloc, text, ops)? {
-        print_delta(alloc, text, &delta)?;
+    match made(alloc, text, ops)? {
+        None => Ok(()),
+        Some(delta) => Ok(print_delta(alloc, text, &delta)?),
     }
-    Ok(())
 }
 
 /// `copy`: a copy of the delta of the operations.
 pub(crate) fn copied(alloc: Global, text: &mut String, ops: Vec<Op>) -> Result<(), Stop> {
-    if let Some(delta) = made(alloc, text, ops)? {
-        match delta.copy(alloc) {
-            Ok(copy) => print_delta(alloc, text, &copy)?,
-            Err(fault) => refused(text, fault)?,
-        }
+    match made(alloc, text, ops)? {
+        None => Ok(()),
+        Some(delta) => print_read(alloc, text, delta.copy(alloc)),
     }
-    Ok(())
+}
+
+/// A delta, or why there is none.
+fn print_read(alloc: Global, text: &mut String, read: Result<Delta, OpsFault>) -> Result<(), Stop> {
+    match read {
+        Ok(delta) => Ok(print_delta(alloc, text, &delta)?),
+        Err(fault) => refused(text, fault),
+    }
 }
 
 /// `none`: the delta of no operations.
@@ -57,12 +62,18 @@ pub(crate) fn spelled(
     ops: Vec<Op>,
     out: &mut Vec<u8>,
 ) -> Result<(), Stop> {
-    if let Some(delta) = made(alloc, text, ops)? {
-        if let Err(fault) = delta.encode(alloc, out) {
-            refused(text, fault)?;
-        }
+    match made(alloc, text, ops)? {
+        None => Ok(()),
+        Some(delta) => spell(alloc, text, &delta, out),
     }
-    Ok(())
+}
+
+/// Puts the octets of a delta behind those that are there.
+fn spell(alloc: Global, text: &mut String, delta: &Delta, out: &mut Vec<u8>) -> Result<(), Stop> {
+    match delta.encode(alloc, out) {
+        Ok(()) => Ok(()),
+        Err(fault) => refused(text, fault),
+    }
 }
 
 /// `written`: the delta of the operations, and its octets, which stand in place of those that were
@@ -73,15 +84,25 @@ pub(crate) fn written(
     ops: Vec<Op>,
     out: &mut Vec<u8>,
 ) -> Result<(), Stop> {
-    if let Some(delta) = made(alloc, text, ops)? {
-        print_delta(alloc, text, &delta)?;
-        out.clear();
-        match delta.encode(alloc, out) {
-            Ok(()) => print(alloc, text, out)?,
-            Err(fault) => refused(text, fault)?,
-        }
+    match made(alloc, text, ops)? {
+        None => Ok(()),
+        Some(delta) => print_written(alloc, text, &delta, out),
     }
-    Ok(())
+}
+
+/// A delta and its octets.
+fn print_written(
+    alloc: Global,
+    text: &mut String,
+    delta: &Delta,
+    out: &mut Vec<u8>,
+) -> Result<(), Stop> {
+    print_delta(alloc, text, delta)?;
+    out.clear();
+    match delta.encode(alloc, out) {
+        Ok(()) => print(alloc, text, out),
+        Err(fault) => refused(text, fault),
+    }
 }
 
 /// `client NAME`: whether a client may have this name.
@@ -109,10 +130,7 @@ pub(crate) fn size(text: &mut String, bytes: &[u8]) -> Result<(), Stop> {
 
 /// `read`: the delta that the octets spell.
 pub(crate) fn read(alloc: Global, text: &mut String, bytes: &[u8]) -> Result<(), Stop> {
-    match Delta::decode(alloc, bytes) {
-        Ok(delta) => Ok(print_delta(alloc, text, &delta)?),
-        Err(fault) => refused(text, fault),
-    }
+    print_read(alloc, text, Delta::decode(alloc, bytes))
 }
 
 /// `count`: how many operations the delta has that the octets spell.
@@ -122,17 +140,22 @@ pub(crate) fn counted(alloc: Global, text: &mut String, bytes: &[u8]) -> Result<
 }
 
 /// How many operations octets spell, or why none.
-fn answer(alloc: Global, bytes: &[u8]) -> Result<String, Stop> {
+fn answer(alloc: Global, bytes: &[u8]) -> Result<String, AllocError> {
     match Delta::decode(alloc, bytes) {
-        Ok(delta) => {
-            let count = delta.ops().len();
-            Ok(format!(in alloc; "operations {count}")?)
-        }
-        Err(fault) => {
-            let why = ops_fault(fault);
-            Ok(format!(in alloc; "refused {why}")?)
-        }
+        Ok(delta) => count_text(alloc, delta.ops().len()),
+        Err(fault) => fault_text(alloc, fault),
     }
+}
+
+/// The words of a number of operations.
+fn count_text(alloc: Global, count: usize) -> Result<String, AllocError> {
+    format!(in alloc; "operations {count}")
+}
+
+/// The words of a refusal.
+fn fault_text(alloc: Global, fault: OpsFault) -> Result<String, AllocError> {
+    let why = ops_fault(fault);
+    format!(in alloc; "refused {why}")
 }
 
 /// `altered AT HEX`: what the octets are read as where one of them is another; they stay.
@@ -150,11 +173,22 @@ pub(crate) fn altered(
 /// `beginnings`: what each beginning of the octets is read as, but all of them.
 pub(crate) fn beginnings(alloc: Global, text: &mut String, bytes: &[u8]) -> Result<(), Stop> {
     let mut run = None;
+    read_each(alloc, text, &mut run, bytes)?;
+    Ok(finish(text, run)?)
+}
+
+/// What each beginning of the octets is read as.
+fn read_each(
+    alloc: Global,
+    text: &mut String,
+    run: &mut Option<Run>,
+    bytes: &[u8],
+) -> Result<(), Stop> {
     for end in 0..bytes.len() {
         let said = answer(alloc, &bytes[..end])?;
-        run = add(text, run, end, said)?;
+        add(text, run, end, said)?;
     }
-    Ok(finish(text, run)?)
+    Ok(())
 }
 
 /// `behind OCTETS ..`: these octets stand behind those that are there.

@@ -115,12 +115,12 @@ pub(crate) fn filter(alloc: Global, text: &str) -> Result<Filter, Stop> {
 
 /// What a message says.
 pub(crate) fn body(alloc: Global, text: &str) -> Result<Message, Stop> {
-    message(Octets::from_slice(alloc, word(text))?)
+    message(alloc, word(text))
 }
 
 /// The message of these octets.
-pub(crate) fn message(octets: Octets) -> Result<Message, Stop> {
-    match Message::new(octets) {
+pub(crate) fn message(alloc: Global, octets: &[u8]) -> Result<Message, Stop> {
+    match Message::new(Octets::from_slice(alloc, octets)?) {
         Some(message) => Ok(message),
         None => Err(Stop::Message),
     }

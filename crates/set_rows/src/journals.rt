@@ -153,10 +153,20 @@ pub(crate) fn append(
     store: &mut Store,
     ops: Vec<Op>,
 ) -> Result<(), Stop> {
-    let Some(delta) = made(alloc, text, ops)? else {
-        return Ok(());
-    };
-    match opened(store)?.append(alloc, &delta) {
+    match made(alloc, text, ops)? {
+        None => Ok(()),
+        Some(delta) => append_delta(alloc, text, opened(store)?, &delta),
+    }
+}
+
+/// The delta is a new record.
+fn append_delta(
+    alloc: Global,
+    text: &mut String,
+    journal: &mut Journal<MemoryDisk>,
+    delta: &Delta,
+) -> Result<(), Stop> {
+    match journal.append(alloc, delta) {
         Ok(()) => Ok(text.push_str("appended\n")?),
         Err(fault) => refused(alloc, text, fault),
     }
@@ -169,13 +179,43 @@ pub(crate) fn base_of(
     ops: Vec<Op>,
 ) -> Result<Option<Vec<Delta>>, Stop> {
     let mut base = Vec::new(alloc);
+    if add_records(alloc, text, &mut base, ops)? {
+        Ok(Some(base))
+    } else {
+        Ok(None)
+    }
+}
+
+/// Adds a delta for each operation: whether there is one for each.
+fn add_records(
+    alloc: Global,
+    text: &mut String,
+    base: &mut Vec<Delta>,
+    ops: Vec<Op>,
+) -> Result<bool, Stop> {
     for op in ops {
-        match made(alloc, text, vec![in alloc; op]?)? {
-            None => return Ok(None),
-            Some(delta) => base.push(delta)?,
+        if !add_record(alloc, text, base, op)? {
+            return Ok(false);
         }
     }
-    Ok(Some(base))
+    Ok(true)
+}
+
+/// Adds the delta of an operation: whether there is one.
+fn add_record(
+    alloc: Global,
+    text: &mut String,
+    base: &mut Vec<Delta>,
+    op: Op,
+) -> Result<bool, Stop> {
+    let ops = vec![in alloc; op]?;
+    match made(alloc, text, ops)? {
+        None => Ok(false),
+        Some(delta) => {
+            base.push(delta)?;
+            Ok(true)
+        }
+    }
 }
 
 /// `compact`: the operations, each a record, take the place of all records.
@@ -185,10 +225,20 @@ pub(crate) fn compact(
     store: &mut Store,
     ops: Vec<Op>,
 ) -> Result<(), Stop> {
-    let Some(base) = base_of(alloc, text, ops)? else {
-        return Ok(());
-    };
-    match opened(store)?.compact(alloc, base.as_slice()) {
+    match base_of(alloc, text, ops)? {
+        None => Ok(()),
+        Some(base) => compact_to(alloc, text, opened(store)?, &base),
+    }
+}
+
+/// These records take the place of all.
+fn compact_to(
+    alloc: Global,
+    text: &mut String,
+    journal: &mut Journal<MemoryDisk>,
+    base: &[Delta],
+) -> Result<(), Stop> {
+    match journal.compact(alloc, base) {
         Ok(()) => Ok(text.push_str("compacted\n")?),
         Err(fault) => refused(alloc, text, fault),
     }
@@ -254,10 +304,17 @@ fn print_slot(
     Ok(writeln!(text, "{name} {digits}")?)
 }
 
+/// What both slots of a disk hold.
+#[derive(Drop)]
+pub(crate) struct Held {
+    pub(crate) first: Vec<u8>,
+    pub(crate) second: Vec<u8>,
+}
+
 /// What both slots of a closed disk hold.
-pub(crate) fn both(alloc: Global, store: &mut Store) -> Result<(Vec<u8>, Vec<u8>), Stop> {
+pub(crate) fn both(alloc: Global, store: &mut Store) -> Result<Held, Stop> {
     let disk = closed(store)?;
     let first = octets_of(alloc, disk, Slot::First)?;
     let second = octets_of(alloc, disk, Slot::Second)?;
-    Ok((first, second))
+    Ok(Held { first, second })
 }

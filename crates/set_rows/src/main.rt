@@ -134,20 +134,31 @@ use anyhow::Result;
 use rep_model::Replica;
 use rep_plain::Plain;
 use rep_state::Folded;
-use std::alloc::Global;
+use std::alloc::{AllocError, Global};
 use std::io::{self, Write};
 
 /// What stands in front of a row's name.
 const MARK: &str = "== ";
 
 fn main(rt: HostRuntime) -> Result<()> {
-    let alloc = rt.alloc();
-    let mut lines = Vec::new(alloc);
-    for line in rt.lines(alloc) {
-        lines.push(line?)?;
+    let mut lines = Vec::new(rt.alloc());
+    read_lines(&rt, &mut lines)?;
+    play_both(&rt, lines.as_slice())
+}
+
+/// Reads the lines of standard input.
+fn read_lines(rt: &HostRuntime, lines: &mut Vec<String>) -> Result<()> {
+    for line in rt.lines(rt.alloc()) {
+        let line = line?;
+        lines.push(line)?;
     }
-    let printed = print_both(alloc, lines.as_slice())?;
-    io::writer(&rt).write_all(printed.as_bytes())?;
+    Ok(())
+}
+
+/// Plays lines on both replicas, and writes what that prints.
+fn play_both(rt: &HostRuntime, lines: &[String]) -> Result<()> {
+    let printed = print_both(rt.alloc(), lines)?;
+    io::writer(rt).write_all(printed.as_bytes())?;
     Ok(())
 }
 
@@ -156,27 +167,48 @@ fn main(rt: HostRuntime) -> Result<()> {
 fn print_both(alloc: Global, lines: &[String]) -> Result<String, Stop> {
     let mut folded = played::<Folded>(alloc, lines)?;
     let plain = played::<Plain>(alloc, lines)?;
-    if folded.as_str() == plain.as_str() {
-        folded.push_str("== both replicas\nno difference\n")?;
-    } else {
-        folded.push_str("== the plain replica prints otherwise\n")?;
-        folded.push_str(plain.as_str())?;
-    }
+    compare(&mut folded, plain.as_str())?;
     Ok(folded)
+}
+
+/// Says behind what one replica prints whether the other prints the same; where not, what that is.
+fn compare(folded: &mut String, plain: &str) -> Result<(), AllocError> {
+    if folded.as_str() == plain {
+        return folded.push_str("== both replicas\nno difference\n");
+    }
+    folded.push_str("== the plain replica prints otherwise\n")?;
+    folded.push_str(plain)
 }
 
 /// What the lines give on a replica.
 fn played<R: Replica>(alloc: Global, lines: &[String]) -> Result<String, Stop> {
-    let mut row: Row<R> = begin(alloc)?;
-    let mut names = names::none(alloc);
     let mut printed = String::new(alloc);
-    for line in lines {
-        answer(alloc, &mut printed, &mut row, &mut names, line.as_str())?;
-    }
+    play_all::<R>(alloc, &mut printed, lines)?;
     Ok(printed)
 }
 
-/// Plays a line; one that is none of the language is told.
+/// Plays the lines on a replica.
+fn play_all<R: Replica>(alloc: Global, printed: &mut String, lines: &[String]) -> Result<(), Stop> {
+    let mut row: Row<R> = begin(alloc)?;
+    let mut names = names::none(alloc);
+    play_lines(alloc, printed, &mut row, &mut names, lines)
+}
+
+/// Plays lines, one after the other.
+fn play_lines<R: Replica>(
+    alloc: Global,
+    printed: &mut String,
+    row: &mut Row<R>,
+    names: &mut Names,
+    lines: &[String],
+) -> Result<(), Stop> {
+    for line in lines {
+        answer(alloc, printed, row, names, line.as_str())?;
+    }
+    Ok(())
+}
+
+/// Plays a line; empty ones and explanations say nothing.
 fn answer<R: Replica>(
     alloc: Global,
     text: &mut String,
@@ -187,15 +219,32 @@ fn answer<R: Replica>(
     if line.is_empty() || line.starts_with('#') {
         return Ok(());
     }
-    if let Some(name) = line.strip_prefix(MARK) {
-        *row = begin(alloc)?;
-        return Ok(writeln!(text, "== {name}")?);
+    match line.strip_prefix(MARK) {
+        Some(name) => begin_row(alloc, text, row, name),
+        None => match play_line(alloc, text, row, names, line) {
+            Ok(()) => Ok(()),
+            Err(stop) => tell(text, stop, line),
+        },
     }
-    match play_line(alloc, text, row, names, line) {
-        Ok(()) => Ok(()),
-        Err(Stop::Line) => Ok(writeln!(text, "no such line: {line}")?),
-        Err(Stop::Message) => Ok(writeln!(text, "{}: {line}", Stop::Message)?),
-        Err(Stop::Memory) => Err(Stop::Memory),
+}
+
+/// Begins a row, and prints its name.
+fn begin_row<R: Replica>(
+    alloc: Global,
+    text: &mut String,
+    row: &mut Row<R>,
+    name: &str,
+) -> Result<(), Stop> {
+    *row = begin(alloc)?;
+    Ok(writeln!(text, "== {name}")?)
+}
+
+/// Tells a line that is none of the language.
+fn tell(text: &mut String, stop: Stop, line: &str) -> Result<(), Stop> {
+    match stop {
+        Stop::Line => Ok(writeln!(text, "no such line: {line}")?),
+        Stop::Message => Ok(writeln!(text, "{}: {line}", Stop::Message)?),
+        Stop::Memory => Err(Stop::Memory),
     }
 }
 

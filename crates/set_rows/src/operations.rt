@@ -2,10 +2,9 @@
 
 use crate::changes::change;
 use crate::fields::{
-    body, client, count, level, message, message_number, number, octet, small_number, stamp, topic,
+    client, count, level, message, message_number, number, octet, small_number, stamp, topic, word,
 };
 use crate::stop::Stop;
-use octets::Octets;
 use rep_ops::{ClientId, Op, OpsFault, Put, Stamp};
 use sn_session::Session;
 use sn_tables::QosLevel;
@@ -30,12 +29,28 @@ fn changed(
     counter: u8,
     fields: &[&str],
 ) -> Result<Op, Stop> {
+    let client = client(alloc, name)?;
+    let change = change(alloc, session, fields)?;
     Ok(Op::Session {
-        client: client(alloc, name)?,
+        client,
         stamp,
         counter,
-        change: change(alloc, session, fields)?,
+        change,
     })
+}
+
+/// Adds a change of a session under a counter.
+fn add_change(
+    alloc: Global,
+    session: &Session,
+    ops: &mut Vec<Op>,
+    name: &str,
+    stamp: Stamp,
+    counter: u8,
+    fields: &[&str],
+) -> Result<(), Stop> {
+    let op = changed(alloc, session, name, stamp, counter, fields)?;
+    Ok(ops.push(op)?)
 }
 
 /// `ops CLIENT EPOCH.GATEWAY FIRST LAST CHANGE`: the same change under each counter from the first
@@ -52,7 +67,7 @@ pub(crate) fn session_ops(
     let stamp = stamp(under)?;
     let (first, last) = (octet(first)?, octet(last)?);
     for counter in first..=last {
-        ops.push(changed(alloc, session, name, stamp, counter, rest)?)?;
+        add_change(alloc, session, ops, name, stamp, counter, rest)?;
     }
     Ok(())
 }
@@ -62,18 +77,9 @@ pub(crate) fn put_op(alloc: Global, fields: &[&str]) -> Result<Op, Stop> {
     let [name, message, about, qos, said] = fields else {
         return Err(Stop::Line);
     };
-    let (origin, seq) = message_number(message)?;
+    let number = message_number(message)?;
     let qos = level(qos)?;
-    Ok(Op::Put {
-        client: client(alloc, name)?,
-        put: Put {
-            origin,
-            seq,
-            topic: topic(alloc, about)?,
-            qos,
-            body: body(alloc, said)?,
-        },
-    })
+    put_for(alloc, name, number, about, qos, word(said))
 }
 
 /// `puts CLIENT ORIGIN FIRST LAST TOPIC QOS SIZE`: messages of so many octets, each the letter `a`.
@@ -85,13 +91,27 @@ pub(crate) fn put_ops(alloc: Global, ops: &mut Vec<Op>, fields: &[&str]) -> Resu
     let (first, last) = (number(first)?, number(last)?);
     let said = vec![in alloc; b'a'; size]?;
     for seq in first..=last {
-        ops.push(large(alloc, name, (origin, seq), about, qos, &said)?)?;
+        add_put(alloc, ops, name, (origin, seq), about, qos, &said)?;
     }
     Ok(())
 }
 
-/// One of these messages.
-fn large(
+/// Adds one of these messages.
+fn add_put(
+    alloc: Global,
+    ops: &mut Vec<Op>,
+    name: &str,
+    number: (u8, u64),
+    about: &str,
+    qos: QosLevel,
+    said: &[u8],
+) -> Result<(), Stop> {
+    let op = put_for(alloc, name, number, about, qos, said)?;
+    Ok(ops.push(op)?)
+}
+
+/// A message for a client.
+fn put_for(
     alloc: Global,
     name: &str,
     number: (u8, u64),
@@ -99,16 +119,28 @@ fn large(
     qos: QosLevel,
     said: &[u8],
 ) -> Result<Op, Stop> {
+    let client = client(alloc, name)?;
+    let put = put(alloc, number, about, qos, said)?;
+    Ok(Op::Put { client, put })
+}
+
+/// A message on a topic.
+fn put(
+    alloc: Global,
+    number: (u8, u64),
+    about: &str,
+    qos: QosLevel,
+    said: &[u8],
+) -> Result<Put, Stop> {
     let (origin, seq) = number;
-    Ok(Op::Put {
-        client: client(alloc, name)?,
-        put: Put {
-            origin,
-            seq,
-            topic: topic(alloc, about)?,
-            qos,
-            body: message(Octets::from_slice(alloc, said)?)?,
-        },
+    let topic = topic(alloc, about)?;
+    let body = message(alloc, said)?;
+    Ok(Put {
+        origin,
+        seq,
+        topic,
+        qos,
+        body,
     })
 }
 
@@ -135,14 +167,20 @@ pub(crate) fn ack_ops(alloc: Global, ops: &mut Vec<Op>, fields: &[&str]) -> Resu
     };
     let clients = small_number(clients)?;
     for client in 0..clients {
-        ops.push(Op::Ack {
-            client: numbered(alloc, client)?,
-            origin: 1,
-            first: 1,
-            last: 1,
-        })?;
+        add_ack(alloc, ops, client)?;
     }
     Ok(())
+}
+
+/// Adds that the client of a number has message 1 of gateway 1.
+fn add_ack(alloc: Global, ops: &mut Vec<Op>, number: u16) -> Result<(), Stop> {
+    let client = numbered(alloc, number)?;
+    Ok(ops.push(Op::Ack {
+        client,
+        origin: 1,
+        first: 1,
+        last: 1,
+    })?)
 }
 
 /// The client of a number.

@@ -27,6 +27,11 @@ pub(crate) fn print_delta(
 /// The lines of an operation.
 fn print_op(alloc: Global, text: &mut String, op: &Op) -> Result<(), AllocError> {
     let client = word(alloc, op.client().bytes())?;
+    print_op_of(alloc, text, client.as_str(), op)
+}
+
+/// The lines of an operation of a client.
+fn print_op_of(alloc: Global, text: &mut String, client: &str, op: &Op) -> Result<(), AllocError> {
     match op {
         Op::Session {
             stamp,
@@ -74,22 +79,16 @@ fn print_change(alloc: Global, text: &mut String, change: &SessionOp) -> Result<
             writeln!(text, "presence {place} {seconds}")
         }
         SessionOp::Register { id, name, known } => {
-            text.push_str("register ")?;
-            print_topic(alloc, text, *id, name.bytes(), *known)
+            print_topic(alloc, text, "register", *id, name.bytes(), *known)
         }
         SessionOp::Subscribe { filter, qos } => {
-            text.push_str("subscribe ")?;
-            print_filter(alloc, text, filter.bytes(), *qos)
+            print_filter(alloc, text, "subscribe", filter.bytes(), *qos)
         }
         SessionOp::Unsubscribe { filter } => {
-            let filter = word(alloc, filter.bytes())?;
-            writeln!(text, "unsubscribe {filter}")
+            print_word(alloc, text, "unsubscribe", filter.bytes())
         }
         SessionOp::WillTopic(asked) => print_will_topic(alloc, text, asked),
-        SessionOp::WillMsg(message) => {
-            let message = word(alloc, message.as_slice())?;
-            writeln!(text, "message {message}")
-        }
+        SessionOp::WillMsg(message) => print_word(alloc, text, "message", message.as_slice()),
         SessionOp::Received { id } => print_id(text, "received", *id),
         SessionOp::Released { id } => print_id(text, "released", *id),
         SessionOp::Outbound { exchange, next_id } => print_exchange(text, exchange, *next_id),
@@ -101,28 +100,42 @@ fn print_id(text: &mut String, what: &str, id: u16) -> Result<(), AllocError> {
     writeln!(text, "{what} {id}")
 }
 
-/// A topic id.
+/// Octets as a word behind another.
+fn print_word(
+    alloc: Global,
+    text: &mut String,
+    what: &str,
+    octets: &[u8],
+) -> Result<(), AllocError> {
+    let octets = word(alloc, octets)?;
+    writeln!(text, "{what} {octets}")
+}
+
+/// A topic id behind a word.
 fn print_topic(
     alloc: Global,
     text: &mut String,
+    what: &str,
     id: u16,
     name: &[u8],
     known: bool,
 ) -> Result<(), AllocError> {
     let name = word(alloc, name)?;
     let known = known_word(known);
-    writeln!(text, "{id} {name} {known}")
+    writeln!(text, "{what} {id} {name} {known}")
 }
 
-/// A filter.
+/// A filter behind a word.
 fn print_filter(
     alloc: Global,
     text: &mut String,
+    what: &str,
     filter: &[u8],
     qos: QosLevel,
 ) -> Result<(), AllocError> {
     let filter = word(alloc, filter)?;
-    writeln!(text, "{filter} {}", qos.number())
+    let qos = qos.number();
+    writeln!(text, "{what} {filter} {qos}")
 }
 
 /// A will's topic.
@@ -180,8 +193,14 @@ pub(crate) fn print_session(
 /// The topic ids of a session.
 fn print_topics(alloc: Global, text: &mut String, topics: &[TopicEntry]) -> Result<(), AllocError> {
     for entry in topics {
-        text.push_str("  topic ")?;
-        print_topic(alloc, text, entry.id, entry.name.bytes(), entry.known)?;
+        print_topic(
+            alloc,
+            text,
+            "  topic",
+            entry.id,
+            entry.name.bytes(),
+            entry.known,
+        )?;
     }
     Ok(())
 }
@@ -193,8 +212,7 @@ fn print_filters(
     subscriptions: &[Subscription],
 ) -> Result<(), AllocError> {
     for entry in subscriptions {
-        text.push_str("  filter ")?;
-        print_filter(alloc, text, entry.filter.bytes(), entry.qos)?;
+        print_filter(alloc, text, "  filter", entry.filter.bytes(), entry.qos)?;
     }
     Ok(())
 }

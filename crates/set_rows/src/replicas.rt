@@ -5,9 +5,12 @@ use crate::fields::{client, octet};
 use crate::printing::{print_delta, print_view, print_waiting};
 use crate::stop::Stop;
 use crate::words::take_fault;
-use rep_model::{ClientView, Replica, TakeFault};
+use rep_model::{ClientView, Puts, Replica, TakeFault};
 use rep_ops::{ClientId, Delta, Op};
-use std::alloc::Global;
+use std::alloc::{AllocError, Global};
+
+/// What is said of a client that the replica does not know.
+const NOT_NAMED: &str = "not named\n";
 
 /// An empty replica.
 pub(crate) fn empty<R: Replica>(alloc: Global) -> Result<R, Stop> {
@@ -68,9 +71,18 @@ pub(crate) fn view<R: Replica>(
     fields: &[&str],
 ) -> Result<(), Stop> {
     let client = only_client(alloc, fields)?;
-    match replica.view_of(&client) {
-        None => Ok(text.push_str("not named\n")?),
-        Some(view) => Ok(print_view(alloc, text, view)?),
+    Ok(print_known(alloc, text, replica.view_of(&client))?)
+}
+
+/// What is known of a client, if it is named.
+fn print_known(
+    alloc: Global,
+    text: &mut String,
+    known: Option<&ClientView>,
+) -> Result<(), AllocError> {
+    match known {
+        None => text.push_str(NOT_NAMED),
+        Some(view) => print_view(alloc, text, view),
     }
 }
 
@@ -83,7 +95,7 @@ pub(crate) fn copied<R: Replica>(
 ) -> Result<(), Stop> {
     let client = only_client(alloc, fields)?;
     match replica.view_of(&client) {
-        None => Ok(text.push_str("not named\n")?),
+        None => Ok(text.push_str(NOT_NAMED)?),
         Some(view) => print_copy(alloc, text, view),
     }
 }
@@ -93,13 +105,23 @@ fn print_copy(alloc: Global, text: &mut String, view: &ClientView) -> Result<(),
     let Ok(copy) = view.copy(alloc) else {
         return Err(Stop::Memory);
     };
-    let Ok(messages) = copy.pending.copied(alloc) else {
+    print_copied(alloc, text, &copy)
+}
+
+/// A view, and a copy of its messages.
+fn print_copied(alloc: Global, text: &mut String, view: &ClientView) -> Result<(), Stop> {
+    let Ok(messages) = view.pending.copied(alloc) else {
         return Err(Stop::Memory);
     };
-    print_view(alloc, text, &copy)?;
+    print_view(alloc, text, view)?;
+    Ok(print_messages(alloc, text, &messages)?)
+}
+
+/// Messages, behind a line with their number.
+fn print_messages(alloc: Global, text: &mut String, messages: &Puts) -> Result<(), AllocError> {
     let (count, is_empty) = (messages.len(), messages.is_empty());
     writeln!(text, "messages {count}, none: {is_empty}")?;
-    Ok(print_waiting(alloc, text, messages.as_slice())?)
+    print_waiting(alloc, text, messages.as_slice())
 }
 
 /// `waiting CLIENT`: how many messages wait for a client.
@@ -110,11 +132,16 @@ pub(crate) fn waiting<R: Replica>(
     fields: &[&str],
 ) -> Result<(), Stop> {
     let client = only_client(alloc, fields)?;
-    match replica.view_of(&client) {
-        None => Ok(text.push_str("not named\n")?),
+    Ok(print_count(text, replica.view_of(&client))?)
+}
+
+/// How many messages wait for a client, if it is named.
+fn print_count(text: &mut String, known: Option<&ClientView>) -> Result<(), AllocError> {
+    match known {
+        None => text.push_str(NOT_NAMED),
         Some(view) => {
             let count = view.pending.len();
-            Ok(writeln!(text, "waiting {count}")?)
+            writeln!(text, "waiting {count}")
         }
     }
 }
@@ -132,15 +159,24 @@ pub(crate) fn next<R: Replica>(
     };
     let gateway = octet(gateway)?;
     let client = client(alloc, name)?;
-    next_number(text, "epoch", replica.next_epoch(&client))?;
-    next_number(text, "message", replica.next_seq(&client, gateway))
+    let (epoch, seq) = (
+        replica.next_epoch(&client),
+        replica.next_seq(&client, gateway),
+    );
+    Ok(print_next(text, epoch, seq)?)
+}
+
+/// A next epoch and a next number of a message.
+fn print_next(text: &mut String, epoch: Option<u64>, seq: Option<u64>) -> Result<(), AllocError> {
+    next_number(text, "epoch", epoch)?;
+    next_number(text, "message", seq)
 }
 
 /// The next number of something.
-fn next_number(text: &mut String, what: &str, number: Option<u64>) -> Result<(), Stop> {
+fn next_number(text: &mut String, what: &str, number: Option<u64>) -> Result<(), AllocError> {
     match number {
-        None => Ok(writeln!(text, "no next {what}")?),
-        Some(number) => Ok(writeln!(text, "next {what} {number}")?),
+        None => writeln!(text, "no next {what}"),
+        Some(number) => writeln!(text, "next {what} {number}"),
     }
 }
 
@@ -164,9 +200,14 @@ pub(crate) fn held<R: Replica>(alloc: Global, text: &mut String, replica: &R) ->
     let Ok(deltas) = replica.held(alloc) else {
         return Err(Stop::Memory);
     };
+    Ok(print_held(alloc, text, &deltas)?)
+}
+
+/// Deltas of what must be kept.
+fn print_held(alloc: Global, text: &mut String, deltas: &[Delta]) -> Result<(), AllocError> {
     let count = deltas.len();
     writeln!(text, "held in {count}")?;
-    for delta in &deltas {
+    for delta in deltas {
         print_delta(alloc, text, delta)?;
     }
     Ok(())
@@ -177,7 +218,12 @@ pub(crate) fn parts<R: Replica>(alloc: Global, text: &mut String, replica: &R) -
     let Ok(deltas) = replica.held(alloc) else {
         return Err(Stop::Memory);
     };
-    for delta in &deltas {
+    Ok(print_parts(text, &deltas)?)
+}
+
+/// How many operations each of these deltas has.
+fn print_parts(text: &mut String, deltas: &[Delta]) -> Result<(), AllocError> {
+    for delta in deltas {
         let count = delta.ops().len();
         writeln!(text, "part of {count}")?;
     }

@@ -1,9 +1,8 @@
 //! A line that tries a journal on disks of which one call fails.
 
-use crate::attempts::{disk_with, opening};
+use crate::attempts::{Trial, opening, tried};
 use crate::fields::{count, octet};
-use crate::journals::{Store, base_of, both};
-use crate::runs::{add, finish};
+use crate::journals::{Store, base_of};
 use crate::stop::Stop;
 use crate::words::journal_fault;
 use jr_journal::{Journal, JournalFault, OnceCall, OnceDisk};
@@ -30,37 +29,70 @@ pub(crate) fn retries(
     ops: Vec<Op>,
     fields: &[&str],
 ) -> Result<(), Stop> {
+    let (gateway, call, most) = gateway_call_and_last(fields)?;
+    match base_of(alloc, text, ops)? {
+        None => Ok(()),
+        Some(base) => tried(
+            alloc,
+            text,
+            store,
+            gateway,
+            most,
+            &Trial::Calls(call, &base),
+        ),
+    }
+}
+
+/// A gateway, the kind of a call, and the last place.
+fn gateway_call_and_last(fields: &[&str]) -> Result<(u8, OnceCall, usize), Stop> {
     let [gateway, name, most] = fields else {
         return Err(Stop::Line);
     };
-    let (gateway, call, most) = (octet(gateway)?, call(name)?, count(most)?);
-    let Some(base) = base_of(alloc, text, ops)? else {
-        return Ok(());
-    };
-    let (first, second) = both(alloc, store)?;
-    let mut run = None;
-    for after in 0..=most {
-        let disk = OnceDisk::over(disk_with(alloc, &first, &second)?, call, after);
-        let said = all_calls(alloc, disk, gateway, base.as_slice())?;
-        run = add(text, run, after, said)?;
-    }
-    Ok(finish(text, run)?)
+    Ok((octet(gateway)?, call(name)?, count(most)?))
 }
 
 /// What the three calls answer, and what is opened of the disk that they leave.
-fn all_calls(alloc: Global, disk: OnceDisk, gateway: u8, base: &[Delta]) -> Result<String, Stop> {
+pub(crate) fn all_calls(
+    alloc: Global,
+    disk: OnceDisk,
+    gateway: u8,
+    base: &[Delta],
+) -> Result<String, Stop> {
     let mut said = String::new(alloc);
-    let mut journal = open(alloc, &mut said, disk, gateway)?;
-    if !reopens(alloc, &mut said, &mut journal)? {
-        reopens(alloc, &mut said, &mut journal)?;
+    call_all(alloc, &mut said, disk, gateway, base)?;
+    Ok(said)
+}
+
+/// Adds what the three calls answer, and what is opened of the disk that they leave.
+fn call_all(
+    alloc: Global,
+    said: &mut String,
+    disk: OnceDisk,
+    gateway: u8,
+    base: &[Delta],
+) -> Result<(), Stop> {
+    let mut journal = open(alloc, said, disk, gateway)?;
+    reopen_and_compact(alloc, said, &mut journal, base)?;
+    let disk = journal.into_disk().into_inner();
+    let found = opening(alloc, disk, gateway)?;
+    Ok(write!(said, "; then {found}")?)
+}
+
+/// The journal is opened once more and compacted.
+fn reopen_and_compact(
+    alloc: Global,
+    said: &mut String,
+    journal: &mut Journal<OnceDisk>,
+    base: &[Delta],
+) -> Result<(), Stop> {
+    if !reopens(alloc, said, journal)? {
+        reopens(alloc, said, journal)?;
     }
-    if !compacts(alloc, &mut said, &mut journal, base)? {
-        reopens(alloc, &mut said, &mut journal)?;
-        compacts(alloc, &mut said, &mut journal, base)?;
+    if !compacts(alloc, said, journal, base)? {
+        reopens(alloc, said, journal)?;
+        compacts(alloc, said, journal, base)?;
     }
-    let disk = journal.into_disk();
-    let found = opening(alloc, disk.into_inner(), gateway)?;
-    Ok(format!(in alloc; "{said}; then {found}")?)
+    Ok(())
 }
 
 /// How many records were read.
@@ -83,16 +115,25 @@ fn open(
     gateway: u8,
 ) -> Result<Journal<OnceDisk>, Stop> {
     said.push_str("open")?;
-    let disk = match Journal::open(alloc, disk, gateway) {
+    match Journal::open(alloc, disk, gateway) {
         Ok((journal, deltas)) => {
             read(said, deltas.as_slice())?;
-            return Ok(journal);
+            Ok(journal)
         }
         Err((disk, fault)) => {
             refused(alloc, said, fault)?;
-            disk
+            open_again(alloc, said, disk, gateway)
         }
-    };
+    }
+}
+
+/// The opening behind one that was refused.
+fn open_again(
+    alloc: Global,
+    said: &mut String,
+    disk: OnceDisk,
+    gateway: u8,
+) -> Result<Journal<OnceDisk>, Stop> {
     match Journal::open(alloc, disk, gateway) {
         Ok((journal, deltas)) => {
             read(said, deltas.as_slice())?;

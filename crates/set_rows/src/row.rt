@@ -27,11 +27,12 @@ pub(crate) struct Row<R: Replica> {
 
 /// A row without a line.
 pub(crate) fn begin<R: Replica>(alloc: Global) -> Result<Row<R>, Stop> {
+    let replica = replicas::empty(alloc)?;
     Ok(Row {
         session: Session::empty(alloc),
         ops: Vec::new(alloc),
         octets: Vec::new(alloc),
-        replica: replicas::empty(alloc)?,
+        replica,
         store: journals::empty(alloc),
     })
 }
@@ -124,12 +125,22 @@ fn play_operation(
     rest: &[&str],
 ) -> Result<(), Stop> {
     match first {
-        "op" => Ok(ops.push(session_op(alloc, session, rest)?)?),
-        "put" => Ok(ops.push(put_op(alloc, rest)?)?),
-        "ack" => Ok(ops.push(ack_op(alloc, rest)?)?),
         "ops" => session_ops(alloc, session, ops, rest),
         "puts" => put_ops(alloc, ops, rest),
-        _ => ack_ops(alloc, ops, rest),
+        "acks" => ack_ops(alloc, ops, rest),
+        _ => {
+            let op = operation(alloc, session, first, rest)?;
+            Ok(ops.push(op)?)
+        }
+    }
+}
+
+/// The operation of a line that adds one.
+fn operation(alloc: Global, session: &Session, first: &str, rest: &[&str]) -> Result<Op, Stop> {
+    match first {
+        "op" => session_op(alloc, session, rest),
+        "put" => put_op(alloc, rest),
+        _ => ack_op(alloc, rest),
     }
 }
 

@@ -13,22 +13,19 @@ pub(crate) struct Run {
 /// Adds the answer at the next place: a run that it ends is printed.
 pub(crate) fn add(
     text: &mut String,
-    run: Option<Run>,
+    run: &mut Option<Run>,
     at: usize,
     said: String,
-) -> Result<Option<Run>, AllocError> {
-    let Some(run) = run else {
-        return Ok(Some(begun(at, said)));
-    };
-    if run.said.as_str() == said.as_str() {
-        return Ok(Some(Run {
-            first: run.first,
-            last: at,
-            said,
-        }));
+) -> Result<(), AllocError> {
+    if let Some(run) = run {
+        if run.said.as_str() == said.as_str() {
+            run.last = at;
+            return Ok(());
+        }
+        print(text, run)?;
     }
-    print(text, &run)?;
-    Ok(Some(begun(at, said)))
+    *run = Some(begun(at, said));
+    Ok(())
 }
 
 /// A run of one place.

@@ -6,8 +6,8 @@ use crate::printing::print_session;
 use crate::stop::Stop;
 use crate::words::{known_word, word};
 use sn_session::Session;
-use sn_tables::SessionFault;
-use std::alloc::Global;
+use sn_tables::{QosLevel, SessionFault, TopicEntry};
+use std::alloc::{AllocError, Global};
 
 /// Where the number of a change stands that is made under each of several.
 const NUMBER: char = '%';
@@ -51,26 +51,52 @@ pub(crate) fn applies(
     };
     let (first, last) = (small_number(first)?, small_number(last)?);
     for number in first..=last {
-        let line = numbered(alloc, rest, number)?;
-        let words = words_of(alloc, line.as_str())?;
-        apply(alloc, text, session, &words)?;
+        apply_numbered(alloc, text, session, rest, number)?;
     }
     Ok(())
 }
 
+/// The session changes under a number.
+fn apply_numbered(
+    alloc: Global,
+    text: &mut String,
+    session: &mut Session,
+    fields: &[&str],
+    number: u16,
+) -> Result<(), Stop> {
+    let line = numbered(alloc, fields, number)?;
+    apply_line(alloc, text, session, line.as_str())
+}
+
+/// The session changes as a line says.
+fn apply_line(
+    alloc: Global,
+    text: &mut String,
+    session: &mut Session,
+    line: &str,
+) -> Result<(), Stop> {
+    let words = words_of(alloc, line)?;
+    apply(alloc, text, session, &words)
+}
+
 /// The words of a line, with a number behind each word that ends in its sign.
-fn numbered(alloc: Global, fields: &[&str], number: u16) -> Result<String, Stop> {
+fn numbered(alloc: Global, fields: &[&str], number: u16) -> Result<String, AllocError> {
     let mut line = String::new(alloc);
     for field in fields {
-        if !line.is_empty() {
-            line.push(' ')?;
-        }
-        match field.strip_suffix(NUMBER) {
-            Some(word) => write!(line, "{word}{number}")?,
-            None => line.push_str(field)?,
-        }
+        add_word(&mut line, field, number)?;
     }
     Ok(line)
+}
+
+/// Adds a word to a line, with a number behind it where it ends in its sign.
+fn add_word(line: &mut String, field: &str, number: u16) -> Result<(), AllocError> {
+    if !line.is_empty() {
+        line.push(' ')?;
+    }
+    match field.strip_suffix(NUMBER) {
+        Some(word) => write!(line, "{word}{number}"),
+        None => line.push_str(field),
+    }
 }
 
 /// `tell`: the session and all that it has.
@@ -103,13 +129,24 @@ pub(crate) fn id(
         return Err(Stop::Line);
     };
     let name = topic(alloc, asked)?;
-    match (session.topic_id(&name), session.topic_named(&name)) {
+    let (id, entry) = (session.topic_id(&name), session.topic_named(&name));
+    Ok(print_id(text, asked, id, entry)?)
+}
+
+/// The least topic id of a name.
+fn print_id(
+    text: &mut String,
+    asked: &str,
+    id: Option<u16>,
+    entry: Option<&TopicEntry>,
+) -> Result<(), AllocError> {
+    match (id, entry) {
         (Some(id), Some(entry)) => {
             let known = known_word(entry.known);
-            Ok(writeln!(text, "{asked} has id {id} {known}")?)
+            writeln!(text, "{asked} has id {id} {known}")
         }
-        (None, None) => Ok(writeln!(text, "{asked} has no id")?),
-        _ => Ok(writeln!(text, "{asked} has an id and none")?),
+        (None, None) => writeln!(text, "{asked} has no id"),
+        _ => writeln!(text, "{asked} has an id and none"),
     }
 }
 
@@ -125,13 +162,21 @@ pub(crate) fn topic_of(
     };
     let id = small_number(id)?;
     match session.topic_of(id) {
-        Some(entry) => {
-            let name = word(alloc, entry.name.bytes())?;
-            let known = known_word(entry.known);
-            Ok(writeln!(text, "{id} is {name} {known}")?)
-        }
+        Some(entry) => Ok(print_name(alloc, text, id, entry)?),
         None => Ok(writeln!(text, "{id} has no name")?),
     }
+}
+
+/// The name of a topic id.
+fn print_name(
+    alloc: Global,
+    text: &mut String,
+    id: u16,
+    entry: &TopicEntry,
+) -> Result<(), AllocError> {
+    let name = word(alloc, entry.name.bytes())?;
+    let known = known_word(entry.known);
+    writeln!(text, "{id} is {name} {known}")
 }
 
 /// `filter FILTER`: the quality of service of a filter.
@@ -144,9 +189,16 @@ pub(crate) fn qos_of(
     let [asked] = fields else {
         return Err(Stop::Line);
     };
-    match session.subscription(&filter(alloc, asked)?) {
-        Some(qos) => Ok(writeln!(text, "filter {asked} at {}", qos.number())?),
-        None => Ok(writeln!(text, "no filter {asked}")?),
+    let filter = filter(alloc, asked)?;
+    let found = session.subscription(&filter);
+    Ok(print_filter(text, asked, found)?)
+}
+
+/// The quality of service of a filter.
+fn print_filter(text: &mut String, asked: &str, found: Option<QosLevel>) -> Result<(), AllocError> {
+    match found {
+        Some(qos) => writeln!(text, "filter {asked} at {}", qos.number()),
+        None => writeln!(text, "no filter {asked}"),
     }
 }
 
@@ -160,9 +212,16 @@ pub(crate) fn asked_qos(
     let [name] = fields else {
         return Err(Stop::Line);
     };
-    match session.subscribed_qos(&topic(alloc, name)?) {
-        Some(qos) => Ok(writeln!(text, "{name} is asked for at {}", qos.number())?),
-        None => Ok(writeln!(text, "{name} is not asked for")?),
+    let topic = topic(alloc, name)?;
+    let found = session.subscribed_qos(&topic);
+    Ok(print_asked(text, name, found)?)
+}
+
+/// The greatest quality of service that is asked for a topic.
+fn print_asked(text: &mut String, name: &str, found: Option<QosLevel>) -> Result<(), AllocError> {
+    match found {
+        Some(qos) => writeln!(text, "{name} is asked for at {}", qos.number()),
+        None => writeln!(text, "{name} is not asked for"),
     }
 }
 
