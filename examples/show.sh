@@ -9,14 +9,12 @@ work=$(mktemp -d)
 trap 'rm -rf "$work"' EXIT
 mkdir "$work/cases"
 
-# What a line prints is what the script up to it prints more than the script before it: one case for each line.
+# Behind each event of a script comes a SEARCHGW from an address that no story uses, which changes nothing (MQTT-SN 1.2 section 6.1):
+# its answer ends what the event printed.
+marker="frame 1 65000 0 030100"
+answered="to 65000 030201"
 for script in "$top"/examples/*.script; do
-    lines=$(wc -l <"$script")
-    number=0
-    while [ "$number" -lt "$lines" ]; do
-        number=$((number + 1))
-        head -n "$number" "$script" >"$work/cases/$(basename "$script" .script).$number"
-    done
+    awk -v marker="$marker" '{ print } !/^(gateway|predefine) / { print marker }' "$script" >"$work/cases/$(basename "$script" .script)"
 done
 
 # The program is the proved one of these sources: it is younger than each of them, and prints what the row of a story says.
@@ -27,6 +25,7 @@ is_proved() {
 
 program=$top/crates/gw_sim/out/gw_sim
 mkdir "$work/printed"
+echo >"$work/nothing"
 if is_proved; then
     for case in "$work"/cases/*; do
         "$program" <"$case" >"$work/printed/$(basename "$case")" || true
@@ -45,19 +44,22 @@ for script in "$top"/examples/*.script; do
     name=$(basename "$script" .script)
     told=$top/examples/$name.told
     echo "== $name"
-    seen=0
+    awk -v answered="$answered" -v to="$work/printed/$name." \
+        'BEGIN { event = 1 } $0 == answered { event++; next } { print > (to event) }' "$work/printed/$name"
+    event=0
     number=0
     while IFS= read -r line; do
         number=$((number + 1))
-        printed=$work/printed/$name.$number
-        tail -n +"$((seen + 1))" "$printed" >"$work/more"
-        seen=$(wc -l <"$printed")
+        more=$work/nothing
+        case $line in
+            "gateway "* | "predefine "*) ;;
+            *) event=$((event + 1)); if [ -f "$work/printed/$name.$event" ]; then more=$work/printed/$name.$event; fi ;;
+        esac
         left=$line
-        if [ ! -s "$work/more" ]; then echo >"$work/more"; fi
         while IFS= read -r answer; do
             printf '  %-40s %s\n' "$left" "$answer"
             left=
-        done <"$work/more"
+        done <"$more"
         if [ -f "$told" ]; then sed -n "${number}{/./s/^/    # /p}" "$told"; fi
     done <"$script"
 done
