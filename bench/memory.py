@@ -54,7 +54,7 @@ def apart(program: str, one: list, other: list) -> int:
 def taken(count: int, upto: int, again: int) -> list:
     """Gateway 2 takes so many deltas: the first ones in turn, and then the last few of these again and again."""
     numbers = [number if number <= upto else upto - again + 1 + (number - upto - 1) % again for number in range(1, count + 1)]
-    return [f"take 2 {number}" for number in numbers]
+    return [f"take 2 {number:07}" for number in numbers]  # as many digits in each, so that the text is as long
 
 
 def visit(client: int) -> list:
