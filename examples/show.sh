@@ -31,7 +31,7 @@ if is_proved; then
         "$program" <"$case" >"$work/printed/$(basename "$case")" || true
     done
 else
-    echo "This build of gw_sim is NOT PROVED: it shows what the program does, after some minutes. 'make prove' proves it."
+    echo "This build of gw_sim is NOT PROVED: it shows what the program does, within two minutes. 'make prove' proves it."
     echo
     (cd "$top/crates/gw_sim" && rt try --cases "$work/cases") >"$work/all" 2>"$work/told" || {
         cat "$work/told" "$work/all" >&2
