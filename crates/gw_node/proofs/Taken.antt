@@ -1,5 +1,5 @@
 -- What a node has taken, from call to call.
-use Rattle.std.proofs.Common.{◌≡◌, ◌≢◌, ℕ, Bool, true, false, true≢false, List, [], ◌∷◌, ◌++◌, length, Option, Some, None, Result, Ok, Err, refl, sym, ap, ◌∙◌, subst, inl, inr, ◌⊎◌, arith}
+use Rattle.std.proofs.Common.{◌≡◌, ◌≢◌, ℕ, Bool, true, false, true≢false, List, [], ◌∷◌, ◌++◌, length, Option, Some, None, unwrap_or, Result, Ok, Err, refl, sym, ap, ◌∙◌, subst, inl, inr, ◌⊎◌, arith}
 use Rattle.std.proofs.lemmas.List.{append-nil, take_all}
 use Rattle.rep_op.specs.declared.op.Op.{Op}
 use Rattle.rep_ops.specs.Deltas.{IsDelta}
@@ -33,7 +33,7 @@ use Rattle.gw_node.specs.Writing.{IsWritten, IsFailed, IsRewritten, IsNotRewritt
 use Rattle.gw_node.specs.Plans.{Makes}
 use Rattle.gw_node.specs.Taking.{on_disk, IsBetween, IsWhole, StandsFor, HasTaken}
 use Rattle.gw_node.specs.Opening.{IsReopened, IsNotReopened, ReopenCall}
-use Rattle.gw_node.specs.Carrying.{TakesMore, TakesNoMore, TakesNothing, TakesAgain, made_by, CarriesOn, OwnCarriesOn, ReopenCarriesOn, StepCarriesOn}
+use Rattle.gw_node.specs.Carrying.{TakesMore, TakesNoMore, TakesNothing, TakesAgain, CarriesOn, OwnCarriesOn, ReopenCarriesOn, StepCarriesOn}
 use Rattle.gw_node.specs.Calls.{OwnCall, TakeCall, ViewCall, DigestCall, AnswerCall, CompactCall, StepCall, IsNoted}
 use Rattle.gw_node.proofs.Between.{between_more, between_refused, between_left_over, between_again, counts_back, counts_again, within-trans, within-nothing, within-nothing_more, within-same, within-keep}
 use Rattle.gw_node.proofs.Proper.{delta_consistent, proper_more}
@@ -358,7 +358,7 @@ module _ {D : Type 0} {G : Ghosts D} where
   taken_nothing : (old new : State G) → TakesNothing old new → TakesMore old [] new
   taken_nothing old new f = λ S all h. subst (λ (T : List Op). HasTaken T [] new) (sym (append-nil S)) (f S [] h)
 
-  made : (ops : List Op) (delta : Option (List Op)) (old new : State G) → Makes ops delta old new → TakesMore old (made_by delta) new
+  made : (ops : List Op) (delta : Option (List Op)) (old new : State G) → Makes ops delta old new → TakesMore old (unwrap_or delta []) new
   made [] None old new h = taken_nothing old new (same old new h.0 h.1)
   made [] (Some delta) old new h = absurd h
   made (op ∷ ops) None old new h = absurd h

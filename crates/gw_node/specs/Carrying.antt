@@ -1,5 +1,5 @@
 -- Whatever set a node has taken before a call, which it has taken after it.
-use Rattle.std.specs.Prelude.{ℕ, List, [], ◌++◌, Option, Some, None, Result, Ok, Err}
+use Rattle.std.specs.Prelude.{ℕ, List, [], ◌++◌, Option, Some, None, unwrap_or, Result, Ok, Err}
 use Rattle.rep_op.specs.declared.op.Op.{Op}
 use Rattle.rep_ops.specs.Making.{IsDeltaOf}
 use Rattle.rep_ops.specs.Splitting.{all_of}
@@ -37,10 +37,6 @@ pub record TakesAgain {D : Type 0} {G : Ghosts D} (old new : State G) : Type 0 w
       → HasTaken (S ++ all_of (on_disk old)) [] new
   pub itself : G.honest → (S : List Op) → HasTaken S [] old → HasTaken S [] new
 
-abbrev pub made_by : Option (List Op) → List Op
-made_by None = []
-made_by (Some delta) = delta
-
 -- by a delta
 abbrev pub CarriesOn : {D : Type 0} {G : Ghosts D} → State G → List Op → Result Out Refusal
     → State G → Type 0
@@ -58,7 +54,7 @@ CarriesOn old delta (Err refusals.Memory) new = TakesNothing old new
 -- of the plan was refused
 abbrev pub OwnCarriesOn : {D : Type 0} {G : Ghosts D} → State G → Occasion → ℕ → Result Out Refusal
     → State G → Type 0
-OwnCarriesOn old occasion now (Ok out) new = TakesMore old (made_by out.made) new
+OwnCarriesOn old occasion now (Ok out) new = TakesMore old (unwrap_or out.made []) new
 OwnCarriesOn old occasion now (Err (refusals.Disk excuse)) new =
     (plan : Plan) × IsPlanFor old occasion now (Some plan)
     × ((delta : List Op) × IsDeltaOf plan.ops delta × TakesNoMore old delta new)

@@ -4,6 +4,7 @@ use Rattle.std.specs.Int.{w16, w32, w64}
 use Rattle.std.specs.List.{list_all}
 use Rattle.std.specs.Ordering.{is_lt}
 use Rattle.rep_op.specs.declared.fault.OpsFault.{OpsFault}
+use Rattle.rep_op.specs.declared.op.TheConstants.{MAX_OPERATIONS}
 use Rattle.rep_op.specs.declared.op.Stamp.{Stamp}
 use Rattle.rep_op.specs.Orders.{client_cmp}
 use Rattle.rep_octets.specs.Reading.{Reader, both, made, ranged, octet_at, number_at, is_counted, client_at, range_at, counted_by}
@@ -31,7 +32,7 @@ origin_at =
 abbrev pub is_seen : ℕ × (ℕ × ℕ) → Bool
 is_seen x =
     if x.0 == 0 then (x.1.0 == 0) && (x.1.1 == 0)
-    else nat_le 1 x.1.0 && nat_le 1 x.1.1 && nat_le x.1.1 256
+    else nat_le 1 x.1.0 && nat_le 1 x.1.1 && nat_le x.1.1 MAX_OPERATIONS
 
 abbrev pub stamp_of : ℕ × (ℕ × ℕ) → Option Stamp
 stamp_of x = if x.0 == 0 then None else Some (record { epoch = x.0; gateway = x.1.0 })

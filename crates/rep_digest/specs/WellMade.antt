@@ -3,6 +3,7 @@ use Rattle.std.specs.Prelude.{◌≡◌, ℕ, ◌≤◌, ◌<◌, ◌^◌, List,
 use Rattle.std.specs.List.{AllByRecursion}
 use Rattle.std.specs.declared.cmp.Ordering.TheVariants.{Less}
 use Rattle.rep_op.specs.ClientIds.{IsClientId}
+use Rattle.rep_op.specs.declared.op.TheConstants.{MAX_OPERATIONS}
 use Rattle.rep_op.specs.declared.op.Stamp.{Stamp}
 use Rattle.rep_op.specs.Orders.{client_cmp}
 use Rattle.rep_model.specs.Ranges.{AreApart}
@@ -29,7 +30,7 @@ abbrev pub IsSeen : Option Stamp → ℕ → Type 0
 IsSeen None prefix = prefix ≡ 0
 IsSeen (Some s) prefix =
     (1 ≤ s.epoch) × (s.epoch < 2 ^ 64) × (1 ≤ s.gateway) × (s.gateway < 2 ^ 8) × (1 ≤ prefix)
-    × (prefix ≤ 256)
+    × (prefix ≤ MAX_OPERATIONS)
 
 -- origins in strictly ascending order
 abbrev pub OriginsAscend : List OriginEntry → Type 0

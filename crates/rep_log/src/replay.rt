@@ -1,16 +1,17 @@
 //! The session that operations without a gap make, gone on with.
 
-ghost use Rattle.std.specs.Prelude.{◌≡◌, ◌++◌, ◌<◌, length, Some, IfOk, T};
+ghost use Rattle.std.specs.Prelude.{◌≡◌, ◌++◌, ◌≤◌, length, Some, IfOk, T};
 ghost use Rattle.std.specs.FinMap.{find, is_sorted};
 ghost use Rattle.std.specs.Option.{option_copied};
 ghost use Rattle.rep_op.specs.Orders.{operation_cmp};
+ghost use Rattle.rep_op.specs.declared.op.TheConstants.{MAX_OPERATIONS};
 ghost use Rattle.rep_model.specs.Views.{session_of};
 ghost use Rattle.rep_log.specs.Logs.{history_in};
 ghost use Rattle.rep_log.specs.inner.Logs.{IsReplayed};
 
 use super::known::{NamedOp, find_op};
 use octets::NoMemory;
-use rep_ops::Stamp;
+use rep_ops::{MAX_OPERATIONS, Stamp};
 use rep_shared::changed;
 use sn_session::{Session, SessionOp};
 use std::alloc::Global;
@@ -44,7 +45,7 @@ pub(crate) fn go_on(
 ) -> Result<(u16, Option<Session>), NoMemory>
     requires first { T (is_sorted operation_cmp first.now) }
     requires more { T (is_sorted operation_cmp more.now) }
-    requires replayed { (from < 257) × IsReplayed
+    requires replayed { (from ≤ MAX_OPERATIONS) × IsReplayed
         (λ k. find operation_cmp (stamp, k) (first.now ++ more.now)) session from }
     ensures prefix { IfOk result (λ made. made.0
         ≡ length (history_in (first.now ++ more.now) (Some stamp))) }
@@ -53,7 +54,7 @@ pub(crate) fn go_on(
 {
     let mut session = session;
     let mut prefix = from;
-    while prefix < 256 {
+    while prefix < MAX_OPERATIONS {
         let Some(change) = find_among(first, more, stamp, prefix as u8) else {
             return Ok((prefix, session));
         };

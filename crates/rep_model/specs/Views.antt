@@ -8,6 +8,7 @@ use Rattle.sn_session.specs.declared.session.Session.{Session}
 use Rattle.sn_session.specs.declared.change.SessionOp.{SessionOp}
 use Rattle.sn_session.specs.declared.change.SessionOp.TheVariants.{Take}
 use Rattle.sn_session.specs.Session.{applied}
+use Rattle.rep_op.specs.declared.op.TheConstants.{MAX_OPERATIONS}
 use Rattle.rep_op.specs.declared.op.Stamp.{Stamp}
 use Rattle.rep_op.specs.declared.op.Put.{Put}
 use Rattle.rep_op.specs.declared.op.Op.{Op}
@@ -48,7 +49,7 @@ gapless at (suc room) k = then_more (at k) (gapless at room (k + 1))
 
 abbrev pub history_at : (Stamp × ℕ → Option SessionOp) → Option Stamp → List SessionOp
 history_at at None = []
-history_at at (Some stamp) = gapless (λ k. at (stamp, k)) 256 0
+history_at at (Some stamp) = gapless (λ k. at (stamp, k)) MAX_OPERATIONS 0
 
 -- the operations 0, 1, 2, .. of the visible stamp, without a gap
 abbrev pub history : List ℕ → List Op → List SessionOp

@@ -11,6 +11,9 @@ use sn_topic::TopicName;
 use std::alloc::Global;
 use std::cmp::Ordering;
 
+/// The most operations of a session under one stamp: their counters are 0 to 255.
+pub const MAX_OPERATIONS: u16 = 256;
+
 /// Who writes a client's session, and since when: an epoch and the number of the only gateway that
 /// writes under this stamp. Stamps are ordered by epoch, then gateway.
 #[derive(Clone, Copy, Debug, PartialEq, Eq, PartialOrd, Ord)]

@@ -3,6 +3,7 @@ use Rattle.std.proofs.Common.{◌≡◌, ℕ, suc, ◌+◌, ◌^◌, min, ◌-�
 use Rattle.sn_session.specs.declared.session.Session.{Session}
 use Rattle.sn_session.specs.declared.change.SessionOp.{SessionOp}
 use Rattle.std.specs.List.{filter_map}
+use Rattle.rep_op.specs.declared.op.TheConstants.{MAX_OPERATIONS}
 use Rattle.rep_model.specs.Views.{gapless, then_more, after_change, session_of}
 use Rattle.rep_model.specs.Limits.{joined, above_a_gap}
 use Rattle.rep_plain.specs.declared.ranges.Range.{Range}
@@ -12,8 +13,8 @@ use Rattle.rep_shared.proofs.Numbers.{capped_sum}
 
 -- n operations of `at` are there without a gap, and make the session
 pub record IsReplayed (at : ℕ → Option SessionOp) (session : Option Session) (n : ℕ) : Type 0 where
-  pub prefix : length (gapless at 256 0) ≡ n + length (gapless at (256 - n) n)
-  pub made : session_of (gapless at 256 0) ≡ fold after_change session (gapless at (256 - n) n)
+  pub prefix : length (gapless at MAX_OPERATIONS 0) ≡ n + length (gapless at (MAX_OPERATIONS - n) n)
+  pub made : session_of (gapless at MAX_OPERATIONS 0) ≡ fold after_change session (gapless at (MAX_OPERATIONS - n) n)
 
 pub replayed_none : (at : ℕ → Option SessionOp) → IsReplayed at None 0
 replayed_none at = record { prefix = omega arith; made = refl }

@@ -6,7 +6,7 @@ ghost use Rattle.rep_op.specs.Orders.{operation_cmp};
 ghost use Rattle.rep_model.specs.Views.{history_at, session_of};
 
 use octets::NoMemory;
-use rep_ops::Stamp;
+use rep_ops::{MAX_OPERATIONS, Stamp};
 use rep_shared::changed;
 use sn_session::{Session, SessionOp};
 use std::alloc::Global;
@@ -28,11 +28,11 @@ pub(crate) fn replay(
         return Ok((0, None));
     };
     let mut session = None;
-    for counter in 0..256u16 {
+    for counter in 0..MAX_OPERATIONS {
         let Some(change) = known.get(&(stamp, counter as u8)) else {
             return Ok((counter, session));
         };
         session = changed(alloc, session, change)?;
     }
-    Ok((256, session))
+    Ok((MAX_OPERATIONS, session))
 }

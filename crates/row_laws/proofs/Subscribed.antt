@@ -3,8 +3,8 @@ use Rattle.std.proofs.Common.{◌≡◌, ℕ, ◌==◌, Bool, true, false, cond,
 use Rattle.std.proofs.lemmas.Bool.Decides.{nat_tests}
 use Rattle.std.proofs.lemmas.Slice.Eq.{bytes_eq-Decides}
 use Rattle.std.specs.Option.{option_map}
-use Rattle.std.specs.Ordering.{is_eq, ordering_reverse}
-use Rattle.std.specs.Cmp.Lexicographic.{nat_list_cmp_total, texts_ties}
+use Rattle.std.specs.Ordering.{nat_cmp, is_eq, ordering_reverse}
+use Rattle.std.specs.Cmp.Lexicographic.{slice_cmp, nat_list_cmp_total, texts_ties}
 use Rattle.std.specs.declared.cmp.Ordering.TheVariants.{Less, Equal, Greater}
 use Rattle.sn_topic.specs.Table.{Entries}
 use Rattle.sn_topic.specs.Topics.{name_asked}
@@ -15,7 +15,7 @@ use Rattle.sn_session.specs.declared.change.SessionOp.{SessionOp}
 use Rattle.sn_session.specs.declared.change.SessionOp.TheVariants.{Register, Subscribe, Unsubscribe}
 use Rattle.sn_tables.specs.Tables.{by_order}
 use Rattle.sn_tables.specs.Topics.{topic_named, free_id, topic_has_no_room}
-use Rattle.sn_tables.specs.Subscriptions.{filter_cmp, subscription_cmp, subscription_of, qos_of as subscribed_at, with_subscription, without_filter, filter_has_no_room}
+use Rattle.sn_tables.specs.Subscriptions.{subscription_cmp, subscription_of, qos_of as subscribed_at, with_subscription, without_filter, filter_has_no_room}
 use Rattle.sn_session.specs.Session.{applied, changed}
 use Rattle.sn_frame.specs.declared.flags.TopicIdType.{TopicIdType}
 use Rattle.sn_frame.specs.declared.flags.TopicIdType.TheVariants as kinds
@@ -40,7 +40,7 @@ set_first e rest = rw (same_filter e.filter) refl
 
 set_later : (e x : Subscription) (rest : List Subscription) → subscription_cmp e x ≡ Greater → subscription_of e.filter rest ≡ Some e → subscription_of e.filter (x ∷ rest) ≡ Some e
 set_later e x rest above h =
-    let below : filter_cmp x.filter e.filter ≡ Less = nat_list_cmp_total.antisymm x.filter e.filter ∙ ap ordering_reverse above in
+    let below : slice_cmp nat_cmp x.filter e.filter ≡ Less = nat_list_cmp_total.antisymm x.filter e.filter ∙ ap ordering_reverse above in
     let apart : bytes_eq x.filter e.filter ≡ false = texts_ties x.filter e.filter ∙ ap is_eq below in
     rw apart h
 

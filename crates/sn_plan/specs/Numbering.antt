@@ -12,7 +12,7 @@ use Rattle.rep_model.specs.declared.view.ClientView.{ClientView}
 use Rattle.rep_model.specs.Fresh.{one_more}
 use Rattle.sn_plan.specs.declared.draft.NewPut.{NewPut}
 use Rattle.sn_plan.specs.declared.plan.Plan.{Plan}
-use Rattle.sn_plan.specs.declared.numbering.TheConstants.{MAX_COUNTER}
+use Rattle.rep_op.specs.declared.op.TheConstants.{MAX_OPERATIONS}
 use Rattle.sn_plan.specs.Drafts.{Drafted}
 
 -- where the client's next session operation is written (epoch and counter), the epoch of its next
@@ -50,11 +50,11 @@ taken_at c g session w e =
 abbrev pub taken : List ℕ → ℕ → Session → Written → Option Written
 taken c g session w = option_map (taken_at c g session w) w.next
 
--- a change that is no Take; where 256 operations stand under the stamp, a Take of the session so
+-- a change that is no Take; where no more operations fit under the stamp, a Take of the session so
 -- far goes first
 abbrev pub counted : List ℕ → ℕ → SessionOp → Written → Option Written
 counted c g change w =
-    if nat_lt w.counter MAX_COUNTER then Some (another c g change w)
+    if nat_lt w.counter MAX_OPERATIONS then Some (another c g change w)
     else option_map (another c g change) (taken c g w.session w)
 
 -- one session operation more
@@ -70,8 +70,8 @@ written c g (change ∷ rest) w = option_and_then (written c g rest) (write c g 
 -- the next counter of the visible stamp where that is the gateway's own; else none, so that a Take
 -- has to go first
 abbrev pub own_counter : ℕ → ℕ → Option Stamp → ℕ
-own_counter g prefix None = MAX_COUNTER
-own_counter g prefix (Some stamp) = if stamp.gateway == g then prefix else MAX_COUNTER
+own_counter g prefix None = MAX_OPERATIONS
+own_counter g prefix (Some stamp) = if stamp.gateway == g then prefix else MAX_OPERATIONS
 
 abbrev pub epoch_of : Option Stamp → ℕ
 epoch_of None = 0

@@ -24,7 +24,7 @@ pub use asking::{Asked, id_in, name_asked, qos_asked, topics_asked};
 pub use bound::{bind_to, hear_of, session_or, unseen, view_or};
 pub use codes::{ACCEPTED, CONGESTION, INVALID_ID, NOT_SUPPORTED};
 pub use draft::{Draft, NewPut};
-pub use numbering::{MAX_COUNTER, apply};
+pub use numbering::apply;
 pub use others::{can_wake, is_up, other};
 pub use plan::{Plan, plan_of, plan_of_puts, plan_without};
 pub use row::{Follow, Row, heard_row, plan_of_row, quiet, stray, turn_away};

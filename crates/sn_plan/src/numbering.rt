@@ -4,22 +4,19 @@ ghost use Rattle.std.specs.Prelude.{◌≡◌, ℕ, ◌<◌, ◌∷◌, ◌++◌
 ghost use Rattle.rep_model.specs.Fresh.{next_seq};
 ghost use Rattle.rep_model.specs.Fresh as spec;
 ghost use Rattle.sn_session.specs.Session.{applied};
-ghost use Rattle.sn_plan.specs.declared.numbering.TheConstants.{MAX_COUNTER};
+ghost use Rattle.rep_op.specs.declared.op.TheConstants.{MAX_OPERATIONS};
 ghost use Rattle.sn_plan.specs.Numbering.{with_puts, ack_of};
 ghost use Rattle.sn_plan.specs.inner.Plans.{Becomes};
 
 use super::draft::NewPut;
 use octets::NoMemory;
 use rep_model::{ClientView, Replica};
-use rep_ops::{ClientId, Op, Put, Stamp};
+use rep_ops::{ClientId, MAX_OPERATIONS, Op, Put, Stamp};
 use sn_local::StepFault;
 use sn_session::{Session, SessionOp};
 use sn_tables::SessionFault;
 use std::alloc::{AllocError, Global};
 use std::marker::Model;
-
-/// How many operations stand under one stamp.
-pub const MAX_COUNTER: u16 = 256;
 
 /// Where the client's next session operation is written, and what is written.
 #[derive(Drop)]
@@ -87,13 +84,13 @@ impl Writer {
             Some(session) => session.copied(alloc)?,
         };
         let (epoch, counter) = match view.stamp {
-            None => (0, MAX_COUNTER),
+            None => (0, MAX_OPERATIONS),
             Some(stamp) => (
                 stamp.epoch,
                 if stamp.gateway == gateway {
                     view.prefix
                 } else {
-                    MAX_COUNTER
+                    MAX_OPERATIONS
                 },
             ),
         };
@@ -112,7 +109,7 @@ impl Writer {
     {
         Writer {
             epoch: 0,
-            counter: MAX_COUNTER,
+            counter: MAX_OPERATIONS,
             next,
             session: Session::empty(alloc),
             ops: Vec::new(alloc),
@@ -134,7 +131,7 @@ impl Writer {
         client: &ClientId,
         change: SessionOp,
     ) -> Result<(), StepFault>
-        requires { self.old.counter < MAX_COUNTER }
+        requires { self.old.counter < MAX_OPERATIONS }
         ensures { Becomes result self.new (Some (another client.now gateway change self.old)) }
     {
         apply(&mut self.session, alloc, &change)?;
@@ -190,7 +187,7 @@ impl Writer {
     ) -> Result<(), StepFault>
         ensures { Becomes result self.new (counted client.now gateway change self.old) }
     {
-        if self.counter >= MAX_COUNTER {
+        if self.counter >= MAX_OPERATIONS {
             let session = self.session.copied(alloc)?;
             self.take(alloc, gateway, client, session)?;
         }

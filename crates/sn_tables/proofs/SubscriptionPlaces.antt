@@ -2,15 +2,15 @@
 use Rattle.std.proofs.Common.{◌≡◌, ℕ, ◌<◌, ◌≤◌, true, false, not, List, length, get_or, set, Some, None, is_none, bytes_eq, sym, ap, ◌∙◌}
 use Rattle.std.specs.declared.cmp.Ordering.{Ordering}
 use Rattle.std.specs.declared.cmp.Ordering.TheVariants.{Less, Equal, Greater}
-use Rattle.std.specs.Ordering.{is_eq, ordering_reverse}
+use Rattle.std.specs.Ordering.{nat_cmp, is_eq, ordering_reverse}
 use Rattle.std.specs.Cmp.{IsTotalOrder, on_total}
-use Rattle.std.specs.Cmp.Lexicographic.{nat_list_cmp_total, texts_ties}
+use Rattle.std.specs.Cmp.Lexicographic.{slice_cmp, nat_list_cmp_total, texts_ties}
 use Rattle.std.specs.FinMap.{slice_cmp-IsAntisymmetric, nat_cmp-IsAntisymmetric}
 use Rattle.std.specs.List.{insert, remove}
 use Rattle.sn_tables.specs.declared.subscriptions.Subscription.{Subscription}
 use Rattle.sn_tables.specs.Tables.{IsTable}
 use Rattle.sn_tables.specs.inner.Tables.{IsAt, IsGap}
-use Rattle.sn_tables.specs.Subscriptions.{filter_cmp, subscription_cmp, with_subscription, without_filter, subscription_of, filter_has_no_room}
+use Rattle.sn_tables.specs.Subscriptions.{subscription_cmp, with_subscription, without_filter, subscription_of, filter_has_no_room}
 use Rattle.sn_tables.proofs.Numbers.{room_left}
 use Rattle.sn_tables.proofs.Places.{find_at, find_gap, at_equal, with_at, with_gap, table_set, table_insert, table_filter, without_at, without_gap}
 
@@ -19,18 +19,18 @@ subscription_total = on_total (λ (e : Subscription). e.filter) nat_list_cmp_tot
 
 -- how each subscription compares with a filter
 abbrev pub by_filter : List ℕ → Subscription → Ordering
-by_filter asked entry = filter_cmp entry.filter asked
+by_filter asked entry = slice_cmp nat_cmp entry.filter asked
 
 turns : (e x : Subscription) → subscription_cmp e x ≡ ordering_reverse (by_filter e.filter x)
 turns e x = nat_list_cmp_total.antisymm e.filter x.filter
 
-tied : (a b : List ℕ) → filter_cmp a b ≡ Equal → bytes_eq a b ≡ true
+tied : (a b : List ℕ) → slice_cmp nat_cmp a b ≡ Equal → bytes_eq a b ≡ true
 tied a b h = texts_ties a b ∙ ap is_eq h
 
-lower : (a b : List ℕ) → filter_cmp a b ≡ Less → bytes_eq a b ≡ false
+lower : (a b : List ℕ) → slice_cmp nat_cmp a b ≡ Less → bytes_eq a b ≡ false
 lower a b h = texts_ties a b ∙ ap is_eq h
 
-higher : (a b : List ℕ) → filter_cmp a b ≡ Greater → bytes_eq a b ≡ false
+higher : (a b : List ℕ) → slice_cmp nat_cmp a b ≡ Greater → bytes_eq a b ≡ false
 higher a b h = texts_ties a b ∙ ap is_eq h
 
 module _ (xs : List Subscription) (i : ℕ) where

@@ -10,13 +10,9 @@ use Rattle.sn_topic.specs.Matching.{is_match}
 use Rattle.sn_tables.specs.declared.subscriptions.Subscription.{Subscription}
 use Rattle.sn_tables.specs.Tables.{is_table_full, with_entry}
 
--- filters are ordered by their octets, as words in a dictionary
-abbrev pub filter_cmp : List ℕ → List ℕ → Ordering
-filter_cmp a b = slice_cmp nat_cmp a b
-
--- subscriptions are ordered by filter
+-- subscriptions are ordered by the octets of their filters, as words in a dictionary
 abbrev pub subscription_cmp : Subscription → Subscription → Ordering
-subscription_cmp a b = filter_cmp a.filter b.filter
+subscription_cmp a b = slice_cmp nat_cmp a.filter b.filter
 
 -- the table with this subscription for its filter
 abbrev pub with_subscription : Subscription → List Subscription → List Subscription

@@ -1,11 +1,13 @@
 //! The subscriptions of a session.
 
 ghost use Rattle.std.specs.Prelude.{◌≡◌, ◌==◌, ◌<◌, ◌≤◌, ◌↔◌, [], length, IfOk, IfSome, MatchOption, OnOk, OnErr, IsErrOf, IsTrue, false, Some, is_none};
+ghost use Rattle.std.specs.Ordering.{nat_cmp};
+ghost use Rattle.std.specs.Cmp.Lexicographic.{slice_cmp};
 ghost use Rattle.sn_tables.specs.declared.table.TheConstants.{MAX_ENTRIES};
 ghost use Rattle.sn_tables.specs.Tables.{IsTable};
 ghost use Rattle.sn_tables.specs.Tables as tables;
 ghost use Rattle.sn_tables.specs.inner.Tables.{IsPlace};
-ghost use Rattle.sn_tables.specs.Subscriptions.{filter_cmp, subscription_cmp, with_subscription, without_filter, subscription_of, filter_has_no_room, asked_qos, IsGreatest};
+ghost use Rattle.sn_tables.specs.Subscriptions.{subscription_cmp, with_subscription, without_filter, subscription_of, filter_has_no_room, asked_qos, IsGreatest};
 ghost use Rattle.sn_tables.specs.Subscriptions as spec;
 
 use crate::fault::SessionFault;
@@ -193,14 +195,14 @@ impl Subscriptions {
 /// Where the subscription of a filter is, or where it would go. The time is logarithmic.
 fn place(entries: &[Subscription], filter: &Filter) -> Result<usize, usize>
     requires { IsTrue (tables.is_ascending subscription_cmp entries.now) }
-    ensures { IsPlace (λ entry. filter_cmp entry.filter filter.now) entries.now result }
+    ensures { IsPlace (λ entry. slice_cmp nat_cmp entry.filter filter.now) entries.now result }
 {
     entries.binary_search_by(|entry| compare(&entry.filter, filter))
 }
 
 /// The order of two filters: that of their octets, as words in a dictionary.
 fn compare(a: &Filter, b: &Filter) -> Ordering
-    ensures { result ≡ filter_cmp a.now b.now }
+    ensures { result ≡ slice_cmp nat_cmp a.now b.now }
 {
     a.bytes().cmp(&b.bytes())
 }

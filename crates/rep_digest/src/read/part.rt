@@ -7,12 +7,10 @@ ghost use Rattle.rep_digest.specs.Reading.{ranges_at, origin_at, seen_at};
 use crate::entry::OriginEntry;
 use octets::Sequence;
 use rep_ops::{
-    OpsFault, read_counted_eight, read_counted_octet, read_eight, read_four, read_octet, read_two,
+    MAX_OPERATIONS, OpsFault, read_counted_eight, read_counted_octet, read_eight, read_four,
+    read_octet, read_two,
 };
 use std::alloc::Global;
-
-/// The most operations of a stamp.
-const MAX_PREFIX: u16 = 256;
 
 /// A range.
 #[tactic(auto, unfolding(rep_octets::specs::Reading::range_at))]
@@ -97,6 +95,6 @@ fn is_seen(epoch: u64, gateway: u8, prefix: u16) -> bool
     if epoch == 0 {
         gateway == 0 && prefix == 0
     } else {
-        gateway >= 1 && prefix >= 1 && prefix <= MAX_PREFIX
+        gateway >= 1 && prefix >= 1 && prefix <= MAX_OPERATIONS
     }
 }
