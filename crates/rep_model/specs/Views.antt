@@ -69,10 +69,6 @@ session_of done = fold after_change None done
 abbrev pub unacknowledged : List ℕ → List Op → List ((ℕ × ℕ) × Put)
 unacknowledged c S = filter (λ e. not (is_acknowledged c S e.0)) (puts c S)
 
--- the put that waits under a name
-abbrev pub pending_at : List ℕ → List Op → ℕ × ℕ → Option Put
-pending_at c S name = find put_cmp name (unacknowledged c S)
-
 -- entries in the order of their names, of each name the first
 abbrev pub in_order : {K X : Type 0} → (K → K → Ordering) → List (K × X) → List (K × X)
 in_order R [] = []
@@ -81,6 +77,10 @@ in_order R (e ∷ rest) = put R e.0 e.1 (in_order R rest)
 -- the messages that wait for the client, by sequence number, then origin
 abbrev pub pending : List ℕ → List Op → List Put
 pending c S = map (λ e. e.1) (in_order put_cmp (unacknowledged c S))
+
+-- the one of them that has this name
+abbrev pub pending_at : List ℕ → List Op → ℕ × ℕ → Option Put
+pending_at c S name = find put_cmp name (unacknowledged c S)
 
 -- the view of a client
 abbrev pub view : List ℕ → List Op → ClientView
