@@ -2,4 +2,3 @@ pub mod Logs
 pub mod Mail
 pub mod Kept
 pub mod Origins
-pub mod inner

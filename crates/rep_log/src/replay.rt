@@ -7,7 +7,7 @@ ghost use Rattle.rep_op.specs.Orders.{operation_cmp};
 ghost use Rattle.rep_op.specs.declared.op.TheConstants.{MAX_OPERATIONS};
 ghost use Rattle.rep_model.specs.Views.{session_of};
 ghost use Rattle.rep_log.specs.Logs.{history_in};
-ghost use Rattle.rep_log.specs.inner.Logs.{IsReplayed};
+ghost use Rattle.rep_shared.specs.inner.Replays.{IsReplayed};
 
 use super::known::{NamedOp, find_op};
 use octets::NoMemory;

@@ -9,3 +9,4 @@ pub mod Flat
 pub mod Found
 pub mod Counting
 pub mod Kept
+pub mod Replays

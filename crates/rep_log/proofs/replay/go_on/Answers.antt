@@ -1,8 +1,8 @@
 use Rattle.std.proofs.Common.{◌≡◌, ℕ, ◌+◌, ◌++◌, Some, None, sym, subst, arith}
 use Rattle.std.specs.FinMap.{find}
 use Rattle.rep_op.specs.Orders.{operation_cmp}
-use Rattle.rep_log.specs.inner.Logs.{IsReplayed}
-use Rattle.rep_log.proofs.Logging.{replayed_more, replayed_gap, replayed_all}
+use Rattle.rep_shared.specs.inner.Replays.{IsReplayed}
+use Rattle.rep_shared.proofs.Replays.{replayed_more, replayed_gap, replayed_all}
 use Rattle.rep_log.proofs.replay.go_on.Goals as goal
 
 pub returns-in_default-clause-prefix : goal.returns-in_default-clause-prefix

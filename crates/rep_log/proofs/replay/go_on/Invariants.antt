@@ -1,7 +1,7 @@
 use Rattle.std.proofs.Common.{◌-◌, ◌<◌, ◌++◌}
 use Rattle.std.specs.FinMap.{find}
 use Rattle.rep_op.specs.Orders.{operation_cmp}
-use Rattle.rep_log.specs.inner.Logs.{IsReplayed}
+use Rattle.rep_shared.specs.inner.Replays.{IsReplayed}
 use Rattle.rep_log.proofs.replay.go_on.Given as goal
 
 abbrev pub invariant-loop-prefix : goal.invariant-loop-prefix

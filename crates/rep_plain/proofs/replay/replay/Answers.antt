@@ -3,7 +3,8 @@ use Rattle.std.specs.FinMap.{find}
 use Rattle.rep_op.specs.Orders.{operation_cmp}
 use Rattle.rep_model.specs.Views.{history_at, session_of}
 use Rattle.rep_shared.proofs.Maps.{lookup_is_find}
-use Rattle.rep_plain.proofs.Prefixes.{IsReplayed, replayed_more, replayed_gap, replayed_all}
+use Rattle.rep_shared.specs.inner.Replays.{IsReplayed}
+use Rattle.rep_shared.proofs.Replays.{replayed_more, replayed_gap, replayed_all}
 use Rattle.rep_plain.proofs.replay.replay.Goals as goal
 
 pub returns-in_default-get-clause-prefix : goal.returns-in_default-get-clause-prefix
@@ -34,7 +35,8 @@ pub returns-clause-prefix : goal.returns-clause-prefix
 returns-clause-prefix c =
     let es = c.args.known.now.entries in
     let at = λ (k : ℕ). find operation_cmp (c.in-Some.stamp, k) es in
-    (replayed_all at c.loop-counter.session c.loop-counter.counter (omega arith) c.loop-counter.invariant).0
+    let whole : c.loop-counter.counter ≡ 256 = omega arith in
+    sym whole ∙ (replayed_all at c.loop-counter.session c.loop-counter.counter whole c.loop-counter.invariant).0
     ∙ ap (λ v. length (history_at (λ name. find operation_cmp name es) v)) (sym c.in-Some.is)
 
 pub returns-clause-session : goal.returns-clause-session

@@ -1,6 +1,6 @@
 use Rattle.std.specs.FinMap.{find}
 use Rattle.rep_op.specs.Orders.{operation_cmp}
-use Rattle.rep_plain.proofs.Prefixes.{IsReplayed}
+use Rattle.rep_shared.specs.inner.Replays.{IsReplayed}
 use Rattle.rep_plain.proofs.replay.replay.Given as goal
 
 abbrev pub invariant-loop-counter : goal.invariant-loop-counter

@@ -9,7 +9,7 @@ use Rattle.rep_model.specs.Keep.{is_below}
 use Rattle.rep_model.specs.Views.{session_of}
 use Rattle.rep_model.proofs.Readers.{operation_total}
 use Rattle.rep_log.specs.Logs.{history_in, all_of, IsFoldedOf, IsKeptIn}
-use Rattle.rep_log.specs.inner.Logs.{IsReplayed}
+use Rattle.rep_shared.specs.inner.Replays.{IsReplayed}
 use Rattle.rep_log.proofs.Logging.{kept_below, kept_take, kept_other, folded_take, folded_other, grows, replayed_grown, gapless_short}
 use Rattle.rep_log.proofs.log.Log.note.Goals as goal
 

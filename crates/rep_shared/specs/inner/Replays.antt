@@ -1,4 +1,4 @@
--- Session operations of one client under their names.
+-- The operations of a stamp, one after the other.
 use Rattle.std.specs.Prelude.{◌≡◌, ℕ, ◌+◌, ◌-◌, Option, length, fold}
 use Rattle.sn_session.specs.declared.session.Session.{Session}
 use Rattle.sn_session.specs.declared.change.SessionOp.{SessionOp}
@@ -8,4 +8,5 @@ use Rattle.rep_model.specs.Views.{gapless, session_of, after_change}
 -- n operations of `at` are there without a gap, and make the session
 pub record IsReplayed (at : ℕ → Option SessionOp) (session : Option Session) (n : ℕ) : Type 0 where
   pub prefix : length (gapless at MAX_OPERATIONS 0) ≡ n + length (gapless at (MAX_OPERATIONS - n) n)
-  pub made : session_of (gapless at MAX_OPERATIONS 0) ≡ fold after_change session (gapless at (MAX_OPERATIONS - n) n)
+  pub made : session_of (gapless at MAX_OPERATIONS 0)
+      ≡ fold after_change session (gapless at (MAX_OPERATIONS - n) n)

@@ -1,2 +1,0 @@
--- What proofs stand on and no public clause cites.
-pub mod Logs
