@@ -10,6 +10,11 @@ use std::alloc::{AllocError, Global};
 /// The lines of an operation.
 pub(crate) fn operation(alloc: Global, text: &mut String, op: &Op) -> Result<(), AllocError> {
     let client = name(alloc, op.client().bytes())?;
+    operation_of(alloc, text, client.as_str(), op)
+}
+
+/// The lines of an operation of a client.
+fn operation_of(alloc: Global, text: &mut String, client: &str, op: &Op) -> Result<(), AllocError> {
     match op {
         Op::Session {
             stamp,

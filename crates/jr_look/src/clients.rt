@@ -18,7 +18,17 @@ pub(crate) fn clients(
     let Ok(all) = replica.clients(alloc) else {
         return Err(AllocError);
     };
-    for client in all.as_slice() {
+    each(alloc, text, replica, all.as_slice())
+}
+
+/// The lines of these clients.
+fn each(
+    alloc: Global,
+    text: &mut String,
+    replica: &Folded,
+    clients: &[ClientId],
+) -> Result<(), AllocError> {
+    for client in clients {
         if let Some(view) = replica.view_of(client) {
             one(alloc, text, client, view)?;
         }
@@ -33,14 +43,19 @@ fn one(
     client: &ClientId,
     view: &ClientView,
 ) -> Result<(), AllocError> {
-    let client = name(alloc, client.bytes())?;
-    write!(text, "client {client} ")?;
+    begin(alloc, text, client)?;
     owned(alloc, text, view)?;
     for put in view.pending.as_slice() {
         text.push_str("  ")?;
         waiting(alloc, text, put)?;
     }
     Ok(())
+}
+
+/// The begin of a client's line.
+fn begin(alloc: Global, text: &mut String, client: &ClientId) -> Result<(), AllocError> {
+    let client = name(alloc, client.bytes())?;
+    write!(text, "client {client} ")
 }
 
 /// Who owns a client, and the session.

@@ -4,6 +4,7 @@ use crate::stop::Stop;
 use jr_journal::{JournalFault, Slot};
 use jr_read::{Misfit, Reading, generation, owner, read, take_all};
 use rep_model::{Replica, TakeFault};
+use rep_ops::Delta;
 use rep_state::Folded;
 use std::alloc::Global;
 
@@ -76,15 +77,27 @@ pub(crate) fn look_at(
         fault: None,
         replica: None,
     };
-    match read(alloc, gateway.unwrap_or(0), first, second) {
-        Ok(reading) => settle(alloc, &mut seen, reading)?,
-        Err(JournalFault::Memory) => return Err(Stop::Memory),
+    read_records(alloc, &mut seen, first, second)?;
+    Ok(seen)
+}
+
+/// Reads the records, or finds why an opening would refuse.
+fn read_records(
+    alloc: Global,
+    seen: &mut Findings,
+    first: &[u8],
+    second: &[u8],
+) -> Result<(), Stop> {
+    let gateway = seen.gateway.unwrap_or(0);
+    match read(alloc, gateway, first, second) {
+        Ok(reading) => settle(alloc, seen, reading),
+        Err(JournalFault::Memory) => Err(Stop::Memory),
         Err(fault) => {
-            seen.reading = front(alloc, gateway.unwrap_or(0), first, second, fault);
+            seen.reading = front(alloc, gateway, first, second, fault);
             seen.fault = Some(Fault::Journal(fault));
+            Ok(())
         }
     }
-    Ok(seen)
 }
 
 /// What the records in front of a bad one are.
@@ -119,6 +132,14 @@ fn until(octets: &[u8], at: usize) -> &[u8] {
 
 /// The records are read, and are taken one after the other.
 fn settle(alloc: Global, seen: &mut Findings, reading: Reading) -> Result<(), Stop> {
+    find_end(seen, &reading);
+    take_records(alloc, seen, reading.records.as_slice())?;
+    seen.reading = Some(reading);
+    Ok(())
+}
+
+/// Whether there is no journal yet, and what the end cuts.
+fn find_end(seen: &mut Findings, reading: &Reading) {
     let size = match reading.slot {
         Slot::First => seen.first,
         Slot::Second => seen.second,
@@ -131,18 +152,27 @@ fn settle(alloc: Global, seen: &mut Findings, reading: Reading) -> Result<(), St
             octets: size - reading.whole,
         });
     }
+}
+
+/// The records are taken one after the other.
+fn take_records(alloc: Global, seen: &mut Findings, records: &[Delta]) -> Result<(), Stop> {
     let Ok(mut replica) = Folded::empty(alloc) else {
         return Err(Stop::Memory);
     };
-    match take_all(alloc, &mut replica, reading.records.as_slice()) {
-        Ok(()) => seen.replica = Some(replica),
-        Err(misfit) => {
-            if matches!(&misfit.fault, TakeFault::Memory) {
-                return Err(Stop::Memory);
-            }
-            seen.fault = Some(Fault::Record(misfit));
+    match take_all(alloc, &mut replica, records) {
+        Ok(()) => {
+            seen.replica = Some(replica);
+            Ok(())
         }
+        Err(misfit) => refuse(seen, misfit),
     }
-    seen.reading = Some(reading);
+}
+
+/// A record does not fit, or memory ran out.
+fn refuse(seen: &mut Findings, misfit: Misfit) -> Result<(), Stop> {
+    if matches!(&misfit.fault, TakeFault::Memory) {
+        return Err(Stop::Memory);
+    }
+    seen.fault = Some(Fault::Record(misfit));
     Ok(())
 }

@@ -25,7 +25,7 @@ use crate::looking::{Findings, look_at};
 use crate::slots::slot_at;
 use crate::stop::Stop;
 use crate::words::{Options, read_words};
-use std::alloc::Global;
+use std::alloc::{AllocError, Global};
 use std::env::Env;
 use std::fs::{File, Files};
 use std::io::Write;
@@ -61,30 +61,53 @@ fn look<T: Env + Files<File = File>, O: Write>(
     let Some(asked) = asked(rt, alloc) else {
         return Err(Stop::Arguments);
     };
-    let first = slot_at(rt, alloc, asked.path.as_str(), "0")?;
-    let second = slot_at(rt, alloc, asked.path.as_str(), "1")?;
-    let seen = look_at(alloc, asked.gateway, first.as_slice(), second.as_slice())?;
-    let text = report(alloc, &seen, asked.is_json)?;
-    if out.write_all(text.as_bytes()).is_err() {
-        return Err(Stop::Output);
-    }
+    let seen = findings(rt, alloc, &asked)?;
+    print(alloc, out, &seen, asked.is_json)?;
     Ok(seen.fault.is_none())
 }
 
-/// The report.
-fn report(alloc: Global, seen: &Findings, is_json: bool) -> Result<String, Stop> {
-    if is_json {
-        Ok(object::report(alloc, seen)?)
-    } else {
-        Ok(plain::report(alloc, seen)?)
+/// Reads both files, and finds what there is to show.
+fn findings<T: Files<File = File>>(
+    rt: &T,
+    alloc: Global,
+    asked: &Options,
+) -> Result<Findings, Stop> {
+    let first = slot_at(rt, alloc, asked.path.as_str(), "0")?;
+    let second = slot_at(rt, alloc, asked.path.as_str(), "1")?;
+    look_at(alloc, asked.gateway, first.as_slice(), second.as_slice())
+}
+
+/// Prints the report.
+fn print<O: Write>(alloc: Global, out: &mut O, seen: &Findings, is_json: bool) -> Result<(), Stop> {
+    let text = report(alloc, seen, is_json)?;
+    match out.write_all(text.as_bytes()) {
+        Ok(()) => Ok(()),
+        Err(_) => Err(Stop::Output),
     }
+}
+
+/// The report.
+fn report(alloc: Global, seen: &Findings, is_json: bool) -> Result<String, AllocError> {
+    let mut text = String::new(alloc);
+    if is_json {
+        object::report(alloc, &mut text, seen)?;
+    } else {
+        plain::report(alloc, &mut text, seen)?;
+    }
+    Ok(text)
 }
 
 /// What the command line asks for.
 fn asked<T: Env>(rt: &T, alloc: Global) -> Option<Options> {
     let mut words = Vec::new(alloc);
+    add_words(rt, alloc, &mut words)?;
+    read_words(alloc, words.as_slice())
+}
+
+/// Adds the words of the command line.
+fn add_words<T: Env>(rt: &T, alloc: Global, words: &mut Vec<String>) -> Option<()> {
     for word in env::args(&(rt, alloc)).ok()? {
         words.push(word).ok()?;
     }
-    read_words(alloc, words.as_slice())
+    Some(())
 }

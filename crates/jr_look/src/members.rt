@@ -3,7 +3,7 @@
 use crate::changes::presence_word;
 use crate::clients::phase_word;
 use crate::shown::quoted;
-use rep_ops::{Op, Put};
+use rep_ops::{ClientId, Op, Put};
 use sn_session::{Message, Outbound, Presence, Session, SessionOp, Will, WillTopic};
 use sn_tables::QosLevel;
 use sn_topic::{Filter, TopicName};
@@ -20,8 +20,20 @@ pub(crate) fn comma(text: &mut String, index: usize) -> Result<(), AllocError> {
 
 /// An operation.
 pub(crate) fn operation(alloc: Global, text: &mut String, op: &Op) -> Result<(), AllocError> {
-    let client = quoted(alloc, op.client().bytes())?;
-    write!(text, "{{\"client\":{client},")?;
+    begin(alloc, text, op.client())?;
+    text.push_str(",")?;
+    members(alloc, text, op)?;
+    text.push_str("}")
+}
+
+/// The begin of an object with a client as its first member.
+pub(crate) fn begin(alloc: Global, text: &mut String, client: &ClientId) -> Result<(), AllocError> {
+    let client = quoted(alloc, client.bytes())?;
+    write!(text, "{{\"client\":{client}")
+}
+
+/// The members of an operation behind its client.
+fn members(alloc: Global, text: &mut String, op: &Op) -> Result<(), AllocError> {
     match op {
         Op::Session {
             stamp,
@@ -36,11 +48,11 @@ pub(crate) fn operation(alloc: Global, text: &mut String, op: &Op) -> Result<(),
                 text,
                 "\"epoch\":{epoch},\"gateway\":{gateway},\"counter\":{counter},\"change\":"
             )?;
-            session_change(alloc, text, change)?;
+            session_change(alloc, text, change)
         }
         Op::Put { put, .. } => {
             text.push_str("\"change\":\"put\",")?;
-            waiting(alloc, text, put)?;
+            waiting(alloc, text, put)
         }
         Op::Ack {
             origin,
@@ -52,10 +64,9 @@ pub(crate) fn operation(alloc: Global, text: &mut String, op: &Op) -> Result<(),
             write!(
                 text,
                 "\"change\":\"ack\",\"origin\":{origin},\"first\":{first},\"last\":{last}"
-            )?;
+            )
         }
     }
-    text.push_str("}")
 }
 
 /// The members of a message that waits.

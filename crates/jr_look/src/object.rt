@@ -2,7 +2,7 @@
 
 use crate::advice::{advice, number, slot_number};
 use crate::looking::{Fault, Findings, Torn};
-use crate::members::{comma, operation, session_of, waiting};
+use crate::members::{begin, comma, operation, session_of, waiting};
 use crate::shown::quoted;
 use jr_journal::JournalFault;
 use jr_read::{Misfit, Place, Reading};
@@ -12,26 +12,24 @@ use rep_state::Folded;
 use std::alloc::{AllocError, Global};
 
 /// The report as a JSON object.
-pub(crate) fn report(alloc: Global, seen: &Findings) -> Result<String, AllocError> {
-    let mut text = String::new(alloc);
-    head(&mut text, seen)?;
+pub(crate) fn report(alloc: Global, text: &mut String, seen: &Findings) -> Result<(), AllocError> {
+    head(text, seen)?;
     if let Some(reading) = &seen.reading {
         if !seen.is_fresh {
-            read_slot(&mut text, reading)?;
+            read_slot(text, reading)?;
         }
-        records(alloc, &mut text, reading)?;
+        records(alloc, text, reading)?;
     }
     if let Some(torn) = &seen.torn {
-        torn_end(&mut text, torn)?;
+        torn_end(text, torn)?;
     }
     if let Some(fault) = &seen.fault {
-        refusal(alloc, &mut text, fault)?;
+        refusal(alloc, text, fault)?;
     }
     if let Some(replica) = &seen.replica {
-        clients(alloc, &mut text, replica)?;
+        clients(alloc, text, replica)?;
     }
-    text.push_str("}\n")?;
-    Ok(text)
+    text.push_str("}\n")
 }
 
 /// Whose journal it is, and how long its slots are.
@@ -155,8 +153,18 @@ fn clients(alloc: Global, text: &mut String, replica: &Folded) -> Result<(), All
     let Ok(all) = replica.clients(alloc) else {
         return Err(AllocError);
     };
+    each(alloc, text, replica, all.as_slice())
+}
+
+/// What the records come to for these clients.
+fn each(
+    alloc: Global,
+    text: &mut String,
+    replica: &Folded,
+    clients: &[ClientId],
+) -> Result<(), AllocError> {
     text.push_str(",\"clients\":[")?;
-    for (index, client) in all.as_slice().iter().enumerate() {
+    for (index, client) in clients.iter().enumerate() {
         comma(text, index)?;
         if let Some(view) = replica.view_of(client) {
             one(alloc, text, client, view)?;
@@ -172,22 +180,27 @@ fn one(
     client: &ClientId,
     view: &ClientView,
 ) -> Result<(), AllocError> {
-    let client = quoted(alloc, client.bytes())?;
-    write!(text, "{{\"client\":{client}")?;
-    if let Some(stamp) = &view.stamp {
-        let epoch = stamp.epoch;
-        let gateway = stamp.gateway;
-        let prefix = view.prefix;
-        write!(
-            text,
-            ",\"epoch\":{epoch},\"gateway\":{gateway},\"changes\":{prefix}"
-        )?;
-    }
+    begin(alloc, text, client)?;
+    owner(text, view)?;
     if let Some(session) = &view.session {
         text.push_str(",\"session\":")?;
         session_of(alloc, text, session)?;
     }
     waits(alloc, text, view.pending.as_slice())
+}
+
+/// Who owns a client, if a gateway does.
+fn owner(text: &mut String, view: &ClientView) -> Result<(), AllocError> {
+    let Some(stamp) = &view.stamp else {
+        return Ok(());
+    };
+    let epoch = stamp.epoch;
+    let gateway = stamp.gateway;
+    let prefix = view.prefix;
+    write!(
+        text,
+        ",\"epoch\":{epoch},\"gateway\":{gateway},\"changes\":{prefix}"
+    )
 }
 
 /// The messages that wait for a client.

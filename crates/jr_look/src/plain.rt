@@ -9,25 +9,24 @@ use rep_ops::Delta;
 use std::alloc::{AllocError, Global};
 
 /// The report in words.
-pub(crate) fn report(alloc: Global, seen: &Findings) -> Result<String, AllocError> {
-    let mut text = String::new(alloc);
-    head(&mut text, seen)?;
+pub(crate) fn report(alloc: Global, text: &mut String, seen: &Findings) -> Result<(), AllocError> {
+    head(text, seen)?;
     if let Some(reading) = &seen.reading {
         if !seen.is_fresh {
-            read_slot(&mut text, reading)?;
+            read_slot(text, reading)?;
         }
-        records(alloc, &mut text, reading)?;
+        records(alloc, text, reading)?;
     }
     if let Some(torn) = &seen.torn {
-        torn_end(&mut text, torn)?;
+        torn_end(text, torn)?;
     }
     if let Some(fault) = &seen.fault {
-        refusal(alloc, &mut text, fault)?;
+        refusal(alloc, text, fault)?;
     }
     if let Some(replica) = &seen.replica {
-        clients(alloc, &mut text, replica)?;
+        clients(alloc, text, replica)?;
     }
-    Ok(text)
+    Ok(())
 }
 
 /// Whose journal it is, and how long its slots are.

@@ -16,15 +16,26 @@ pub(crate) fn slot_at<T: Files<File = File>>(
     ending: &'static str,
 ) -> Result<Vec<u8>, Stop> {
     let name = format!(in alloc; "{path}.{ending}")?;
-    let Ok(file) = File::open(rt, name.as_str()) else {
+    let mut octets = Vec::new(alloc);
+    read_file(rt, &mut octets, name.as_str(), ending)?;
+    Ok(octets)
+}
+
+/// Adds all octets of a file.
+fn read_file<T: Files<File = File>>(
+    rt: &T,
+    octets: &mut Vec<u8>,
+    name: &str,
+    ending: &'static str,
+) -> Result<(), Stop> {
+    let Ok(file) = File::open(rt, name) else {
         return Err(Stop::File { ending });
     };
-    let mut octets = Vec::new(alloc);
-    if file.take(MAX_SLOT + 1).read_to_end(&mut octets).is_err() {
+    if file.take(MAX_SLOT + 1).read_to_end(octets).is_err() {
         return Err(Stop::File { ending });
     }
     if octets.len() as u64 > MAX_SLOT {
         return Err(Stop::Long { ending });
     }
-    Ok(octets)
+    Ok(())
 }

@@ -1,6 +1,6 @@
 //! The words of the command line.
 
-use clap::{Arg, ArgAction, Command};
+use clap::{Arg, ArgAction, ArgMatches, Command};
 use std::alloc::Global;
 
 /// What was asked for.
@@ -17,21 +17,44 @@ pub struct Options {
 /// Reads the words, the program's name first. Nothing where they do not parse, `--help` among them,
 /// or where memory ran out.
 pub(crate) fn read_words(alloc: Global, words: &[String]) -> Option<Options> {
-    let path = Arg::new(alloc, "path")
+    let matches = command(alloc)?.try_get_matches_from(words).ok()?;
+    found(alloc, &matches)
+}
+
+/// The command line that the program reads.
+fn command<'a>(alloc: Global) -> Option<Command<'a>> {
+    let command = Command::new(alloc, "jr_look").arg(path(alloc)).ok()?;
+    let command = command.arg(gateway(alloc)).ok()?;
+    command.arg(json(alloc)).ok()
+}
+
+/// The path of the journal.
+fn path<'a>(alloc: Global) -> Arg<'a> {
+    Arg::new(alloc, "path")
         .required(true)
-        .action(ArgAction::Set);
-    let gateway = Arg::new(alloc, "gateway")
+        .action(ArgAction::Set)
+}
+
+/// The number of the gateway.
+fn gateway<'a>(alloc: Global) -> Arg<'a> {
+    Arg::new(alloc, "gateway")
         .long("gateway")
         .action(ArgAction::Set)
-        .value_parser(clap::value_parser!(u8).range(0..=255));
-    let json = Arg::new(alloc, "json")
+        .value_parser(clap::value_parser!(u8).range(0..=255))
+}
+
+/// Whether a JSON object is asked for.
+fn json<'a>(alloc: Global) -> Arg<'a> {
+    Arg::new(alloc, "json")
         .long("json")
-        .action(ArgAction::SetTrue);
-    let command = Command::new(alloc, "jr_look").arg(path).ok()?;
-    let command = command.arg(gateway).ok()?.arg(json).ok()?;
-    let matches = command.try_get_matches_from(words).ok()?;
+        .action(ArgAction::SetTrue)
+}
+
+/// What was found on the command line.
+fn found(alloc: Global, matches: &ArgMatches<'_>) -> Option<Options> {
+    let path = String::from_str(alloc, matches.get_str("path")?).ok()?;
     Some(Options {
-        path: String::from_str(alloc, matches.get_str("path")?).ok()?,
+        path,
         gateway: matches.get_one::<u8>("gateway"),
         is_json: matches.get_flag("json"),
     })
