@@ -54,19 +54,34 @@ pub(crate) fn over_sockets<T: Threads + Wait + Sync + Clock + Net>(
     let Ok(mut socket) = Socket::bind(rt, alloc, HOME) else {
         return Err(Stop::Line);
     };
-    let Ok(client) = UdpSocket::bind(rt, address(HOME)) else {
-        return Err(Stop::Line);
-    };
-    let asker = Asker {
-        socket: client,
-        at: socket.local,
-    };
-    let (mut ears, mouth) = socket.sides(rt);
-    let (answer, outcome) = side_by_side(
-        rt, alloc, shift, passes, &mut ears, &mouth, &asker, questions,
-    );
+    let asker = asker_of(rt, socket.local)?;
+    let (answer, outcome) = asked(rt, alloc, shift, passes, &mut socket, &asker, questions);
     print_answer(alloc, text, answer)?;
     Ok(outcome)
+}
+
+/// Somebody who asks the gateway at this address.
+fn asker_of<T: Net>(rt: &T, at: SocketAddr) -> Result<Asker, Stop> {
+    match UdpSocket::bind(rt, address(HOME)) {
+        Ok(socket) => Ok(Asker { socket, at }),
+        Err(_) => Err(Stop::Line),
+    }
+}
+
+/// The first answer to what is asked over a socket, and how serving ended.
+fn asked<T: Threads + Wait + Sync + Clock>(
+    rt: &T,
+    alloc: Global,
+    shift: &Shared,
+    passes: Vec<Pass>,
+    socket: &mut Socket,
+    asker: &Asker,
+    questions: &Questions<'_>,
+) -> (Option<Vec<u8>>, Outcome) {
+    let (mut ears, mouth) = socket.sides(rt);
+    side_by_side(
+        rt, alloc, shift, passes, &mut ears, &mouth, asker, questions,
+    )
 }
 
 /// What was answered, if anything.

@@ -73,12 +73,45 @@ use std::time::Clock;
 
 fn main(rt: HostRuntime) -> Result<()> {
     let alloc = rt.alloc();
-    let mut row = begin(alloc);
+    let mut lines = Vec::new(alloc);
     let mut printed = String::new(alloc);
-    for line in rt.lines(alloc) {
-        answer(&rt, alloc, &mut printed, &mut row, line?.as_str())?;
-    }
+    read_lines(&rt, alloc, &mut lines)?;
+    play_all(&rt, alloc, &mut printed, lines.as_slice())?;
     io::writer(&rt).write_all(printed.as_bytes())?;
+    Ok(())
+}
+
+/// The lines of standard input.
+fn read_lines(rt: &HostRuntime, alloc: Global, lines: &mut Vec<String>) -> Result<()> {
+    for line in rt.lines(alloc) {
+        lines.push(line?)?;
+    }
+    Ok(())
+}
+
+/// Plays all lines.
+fn play_all<T>(rt: &T, alloc: Global, text: &mut String, lines: &[String]) -> Result<(), Stop>
+where
+    T: Threads + Wait + Sync + Clock + Net + Files<File = File>,
+{
+    let mut row = begin(alloc);
+    play_lines(rt, alloc, text, &mut row, lines)
+}
+
+/// Plays lines, one after the other.
+fn play_lines<T>(
+    rt: &T,
+    alloc: Global,
+    text: &mut String,
+    row: &mut Row,
+    lines: &[String],
+) -> Result<(), Stop>
+where
+    T: Threads + Wait + Sync + Clock + Net + Files<File = File>,
+{
+    for line in lines {
+        answer(rt, alloc, text, row, line.as_str())?;
+    }
     Ok(())
 }
 
@@ -96,17 +129,35 @@ where
     if line.is_empty() || line.starts_with('#') {
         return Ok(());
     }
-    if let Some(name) = line.strip_prefix("== ") {
-        *row = begin(alloc);
-        return Ok(writeln!(text, "== {name}")?);
+    match line.strip_prefix("== ") {
+        Some(name) => begin_row(alloc, text, row, name),
+        None => play_or_tell(rt, alloc, text, row, line),
     }
+}
+
+/// A row of this name begins.
+fn begin_row(alloc: Global, text: &mut String, row: &mut Row, name: &str) -> Result<(), Stop> {
+    *row = begin(alloc);
+    Ok(writeln!(text, "== {name}")?)
+}
+
+/// Plays a line of a row, or tells it.
+fn play_or_tell<T>(
+    rt: &T,
+    alloc: Global,
+    text: &mut String,
+    row: &mut Row,
+    line: &str,
+) -> Result<(), Stop>
+where
+    T: Threads + Wait + Sync + Clock + Net + Files<File = File>,
+{
     if let Some(more) = line.strip_prefix("toml ") {
         return add(row, more);
     }
     match play_line(rt, alloc, text, row, line) {
-        Ok(()) => Ok(()),
         Err(Stop::Line) => Ok(writeln!(text, "no such line: {line}")?),
-        Err(Stop::Memory) => Err(Stop::Memory),
+        played => played,
     }
 }
 

@@ -6,7 +6,7 @@ use crate::stop::Stop;
 use file_disk::FileDisk;
 use gw_main::options::Settings;
 use gw_main::{SettingsFault, begin, settings};
-use gw_node::Node;
+use gw_node::{Answer, Node};
 use gw_wire::address;
 use jr_journal::{Disk, MemoryDisk};
 use rep_plain::Plain;
@@ -19,21 +19,28 @@ fn read(alloc: Global, text: &mut String, toml: &str) -> Result<Option<Settings>
     match settings(alloc, toml) {
         Ok(read) => Ok(Some(read)),
         Err(SettingsFault::Memory) => Err(Stop::Memory),
-        Err(fault) => {
-            writeln!(text, "settings {fault}")?;
-            Ok(None)
-        }
+        Err(fault) => refused(text, fault),
     }
+}
+
+/// Nothing, with what is printed of refused settings.
+fn refused(text: &mut String, fault: SettingsFault) -> Result<Option<Settings>, Stop> {
+    writeln!(text, "settings {fault}")?;
+    Ok(None)
 }
 
 /// `settings`: what they are.
 pub(crate) fn show(alloc: Global, text: &mut String, toml: &str) -> Result<(), Stop> {
-    let Some(read) = read(alloc, text, toml)? else {
-        return Ok(());
-    };
-    print_needed(text, &read)?;
-    print_others(text, &read)?;
-    Ok(())
+    match read(alloc, text, toml)? {
+        Some(read) => Ok(print_settings(text, &read)?),
+        None => Ok(()),
+    }
+}
+
+/// Settings.
+fn print_settings(text: &mut String, read: &Settings) -> Result<(), AllocError> {
+    print_needed(text, read)?;
+    print_others(text, read)
 }
 
 /// The settings that must be there.
@@ -58,14 +65,18 @@ fn print_others(text: &mut String, read: &Settings) -> Result<(), AllocError> {
         text,
         "workers {workers} steps {steps} advertise {advertise}"
     )?;
-    for at in read.field.as_slice() {
-        print_address(text, "field", *at)?;
-    }
-    for at in read.peers.as_slice() {
-        print_address(text, "peer", *at)?;
-    }
+    print_addresses(text, "field", read.field.as_slice())?;
+    print_addresses(text, "peer", read.peers.as_slice())?;
     let predefined = read.predefined.entries().len();
     writeln!(text, " predefined {predefined}")
+}
+
+/// Addresses, each behind a word.
+fn print_addresses(text: &mut String, word: &str, all: &[Addr]) -> Result<(), AllocError> {
+    for at in all {
+        print_address(text, word, *at)?;
+    }
+    Ok(())
 }
 
 /// `begin`: opens a gateway on a disk in memory.
@@ -93,6 +104,14 @@ fn begun<D: Disk + Drop>(
     let node = begin::<Plain, D, Vec<u8>, Vec<u8>>(alloc, read, disk, &mut out, &mut err);
     print_octets(text, out)?;
     print_octets(text, err)?;
+    started(text, node)
+}
+
+/// The gateway that was opened, or nothing, with the status that is printed then.
+fn started<D: Disk + Drop>(
+    text: &mut String,
+    node: Result<Node<Plain, D>, u8>,
+) -> Result<Option<Node<Plain, D>>, Stop> {
     match node {
         Ok(node) => Ok(Some(node)),
         Err(status) => {
@@ -119,11 +138,22 @@ pub(crate) fn files<T: Files<File = File>>(
     toml: &str,
     bytes: &[u8],
 ) -> Result<(), Stop> {
-    let Some(read) = read(alloc, text, toml)? else {
-        return Ok(());
-    };
+    match read(alloc, text, toml)? {
+        Some(read) => files_of(rt, alloc, text, &read, bytes),
+        None => Ok(()),
+    }
+}
+
+/// A gateway on the two files of these settings is opened, and asked once.
+fn files_of<T: Files<File = File>>(
+    rt: &T,
+    alloc: Global,
+    text: &mut String,
+    read: &Settings,
+    bytes: &[u8],
+) -> Result<(), Stop> {
     match FileDisk::at(rt, alloc, read.journal.as_str()) {
-        Ok(disk) => asked(alloc, text, &read, disk, bytes),
+        Ok(disk) => asked(alloc, text, read, disk, bytes),
         Err(fault) => Ok(writeln!(text, "{fault}")?),
     }
 }
@@ -140,7 +170,12 @@ fn asked<D: Disk + Drop>(
         return Ok(());
     };
     let answer = node.frame(alloc, Addr { host: 7, port: 1 }, bytes, 0);
+    Ok(print_answered(alloc, text, &answer)?)
+}
+
+/// What was answered, as a line.
+fn print_answered(alloc: Global, text: &mut String, answer: &Answer) -> Result<(), AllocError> {
     text.push_str("answered")?;
-    print_answer(alloc, text, &answer)?;
-    Ok(text.push('\n')?)
+    print_answer(alloc, text, answer)?;
+    text.push('\n')
 }

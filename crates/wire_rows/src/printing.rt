@@ -62,6 +62,11 @@ fn print_numbers(
             writeln!(text, "datagram {number} left")?;
         }
     }
+    print_count(text, outcome)
+}
+
+/// How many datagrams became calls, and how many did not.
+pub(crate) fn print_count(text: &mut String, outcome: &Outcome) -> Result<(), AllocError> {
     let (taken, left) = (outcome.taken.len(), outcome.left.len());
     writeln!(text, "taken {taken}, left {left}")
 }
@@ -225,8 +230,13 @@ fn print_clients(alloc: Global, text: &mut String, node: &Gateway) -> Result<(),
         return Err(Stop::Memory);
     };
     for client in clients.as_slice() {
-        let name = shown(alloc, client.bytes())?;
-        write!(text, " {name}")?;
+        print_name(alloc, text, client.bytes())?;
     }
     Ok(())
+}
+
+/// The name of a client.
+fn print_name(alloc: Global, text: &mut String, name: &[u8]) -> Result<(), AllocError> {
+    let name = shown(alloc, name)?;
+    write!(text, " {name}")
 }

@@ -3,15 +3,15 @@
 use crate::fields::{digits, host, number};
 use crate::loopback::{Questions, over_sockets};
 use crate::options::{begin_on, files, show};
-use crate::outside::{Hold, Outside};
-use crate::printing::{print_calls, print_notes, print_outcome, print_over};
-use crate::serving::{Gateway, Outcome, Shared, close, serve_all, shift_of};
+use crate::outside::{Hold, Note, Outside};
+use crate::printing::{print_calls, print_count, print_notes, print_outcome, print_over};
+use crate::serving::{Gateway, Outcome, Over, Shared, close, serve_all, shift_of};
 use crate::stop::Stop;
 use crate::wire::{Coming, Told};
 use gw_shift::Pass;
 use gw_wire::{Gate, Post};
 use jr_journal::MemoryDisk;
-use std::alloc::Global;
+use std::alloc::{AllocError, Global};
 use std::fs::{File, Files};
 use std::mem;
 use std::net::Net;
@@ -78,14 +78,23 @@ where
         ["settings"] => show(alloc, text, row.toml.as_str()),
         ["begin"] => play_begin(alloc, text, row),
         ["fail"] => fail(row),
-        ["files", octets] => {
-            let octets = digits(alloc, octets)?;
-            files(rt, alloc, text, row.toml.as_str(), octets.as_slice())
-        }
+        ["files", octets] => play_files(rt, alloc, text, row.toml.as_str(), octets),
         ["serve"] => play_serve(rt, alloc, text, row),
         ["loopback", first, second] => play_loopback(rt, alloc, text, row, first, second),
         _ => play_plan(alloc, &mut row.plan, words),
     }
+}
+
+/// `files OCTETS`: a gateway is opened on files, and given a datagram of these octets.
+fn play_files<T: Files<File = File>>(
+    rt: &T,
+    alloc: Global,
+    text: &mut String,
+    toml: &str,
+    octets: &str,
+) -> Result<(), Stop> {
+    let octets = digits(alloc, octets)?;
+    files(rt, alloc, text, toml, octets.as_slice())
 }
 
 /// A line of the settings' text.
@@ -111,14 +120,21 @@ fn play_plan(alloc: Global, plan: &mut Plan, words: &[&str]) -> Result<(), Stop>
         ["turns", count] => plan.turns = number(count)?,
         ["post", "fails"] => plan.fails = true,
         ["hold", first, second] => plan.hold = Some(hold(first, second)?),
-        ["failure"] => plan.coming.push(Coming::Failure)?,
-        ["datagram", from, moment, octets] => {
-            let come = datagram(alloc, from, moment, octets)?;
-            plan.coming.push(come)?;
-        }
-        _ => return Err(Stop::Line),
+        _ => return play_coming(alloc, &mut plan.coming, words),
     }
     Ok(())
+}
+
+/// Lines that say what comes.
+fn play_coming(alloc: Global, coming: &mut Vec<Coming>, words: &[&str]) -> Result<(), Stop> {
+    match words {
+        ["failure"] => Ok(coming.push(Coming::Failure)?),
+        ["datagram", from, moment, octets] => {
+            let come = datagram(alloc, from, moment, octets)?;
+            Ok(coming.push(come)?)
+        }
+        _ => Err(Stop::Line),
+    }
 }
 
 /// Which replies are held.
@@ -131,21 +147,29 @@ fn hold(first: &str, second: &str) -> Result<Hold, Stop> {
 
 /// A datagram that comes.
 fn datagram(alloc: Global, from: &str, moment: &str, octets: &str) -> Result<Coming, Stop> {
+    let host = host(from)?;
+    let moment = number(moment)?;
+    let bytes = digits(alloc, octets)?;
     Ok(Coming::Datagram {
-        host: host(from)?,
-        moment: number(moment)?,
-        bytes: digits(alloc, octets)?,
+        host,
+        moment,
+        bytes,
     })
 }
 
 /// `begin`: the gateway is opened on the disk of the one that was open, or on an empty one.
 fn play_begin(alloc: Global, text: &mut String, row: &mut Row) -> Result<(), Stop> {
-    let disk = match row.node.take() {
-        Some(node) => node.into_disk(),
-        None => MemoryDisk::new(alloc),
-    };
+    let disk = disk_of(alloc, row.node.take());
     row.node = begin_on(alloc, text, row.toml.as_str(), disk)?;
     Ok(())
+}
+
+/// The disk of a gateway, which is closed; an empty one where there is none.
+fn disk_of(alloc: Global, node: Option<Gateway>) -> MemoryDisk {
+    match node {
+        Some(node) => node.into_disk(),
+        None => MemoryDisk::new(alloc),
+    }
 }
 
 /// `fail`: the next write of the open gateway's journal stops after five octets.
@@ -175,17 +199,54 @@ fn play_serve<T: Threads + Wait + Sync>(
     row: &mut Row,
 ) -> Result<(), Stop> {
     let plan = mem::replace(&mut row.plan, default_plan(alloc));
-    let (shift, passes) = opened(alloc, row, &plan)?;
+    serve_plan(rt, alloc, text, row, &plan)
+}
+
+/// Serves what comes in a shift of the open gateway, and closes that.
+fn serve_plan<T: Threads + Wait + Sync>(
+    rt: &T,
+    alloc: Global,
+    text: &mut String,
+    row: &mut Row,
+    plan: &Plan,
+) -> Result<(), Stop> {
+    let (shift, passes) = opened(alloc, row, plan)?;
+    let outcome = serve_noted(rt, alloc, text, &shift, passes, plan)?;
+    finish(alloc, text, row, shift, outcome, plan.coming.len())
+}
+
+/// Serves what comes, and prints how that ended and what the outside was asked.
+fn serve_noted<T: Threads + Wait + Sync>(
+    rt: &T,
+    alloc: Global,
+    text: &mut String,
+    shift: &Shared,
+    passes: Vec<Pass>,
+    plan: &Plan,
+) -> Result<Outcome, Stop> {
     let outside = Outside::new(rt, alloc, plan.fails, plan.hold);
-    let outcome = serve_told(rt, alloc, &shift, passes, &plan, &outside);
-    print_outcome(text, &outcome)?;
-    print_notes(
+    let outcome = serve_told(rt, alloc, shift, passes, plan, &outside);
+    let notes = outside.into_notes();
+    print_served(
         alloc,
         text,
+        &outcome,
         plan.coming.as_slice(),
-        outside.into_notes().as_slice(),
+        notes.as_slice(),
     )?;
-    finish(alloc, text, row, shift, outcome, plan.coming.len())
+    Ok(outcome)
+}
+
+/// How serving ended, and what the outside was asked.
+fn print_served(
+    alloc: Global,
+    text: &mut String,
+    outcome: &Outcome,
+    coming: &[Coming],
+    notes: &[Note],
+) -> Result<(), AllocError> {
+    print_outcome(text, outcome)?;
+    print_notes(alloc, text, coming, notes)
 }
 
 /// Serves what comes, with a turn for each thing and those that are asked for.
@@ -218,10 +279,21 @@ fn finish(
     let mut outcome = outcome;
     let passes = mem::replace(&mut outcome.passes, Vec::new(alloc));
     let over = close(shift, passes);
-    print_calls(alloc, text, &outcome, over.history.as_slice(), count)?;
-    print_over(alloc, text, &over)?;
+    let printed = print_finished(alloc, text, &outcome, &over, count);
     row.node = Some(over.node);
-    Ok(())
+    printed
+}
+
+/// What became of the datagrams, and of the shift.
+fn print_finished(
+    alloc: Global,
+    text: &mut String,
+    outcome: &Outcome,
+    over: &Over,
+    count: usize,
+) -> Result<(), Stop> {
+    print_calls(alloc, text, outcome, over.history.as_slice(), count)?;
+    print_over(alloc, text, over)
 }
 
 /// `loopback FIRST SECOND`: serves what comes over a socket: a datagram, and behind its answer
@@ -241,13 +313,29 @@ fn play_loopback<T: Threads + Wait + Sync + Clock + Net>(
         first: first.as_slice(),
         second: second.as_slice(),
     };
-    let (shift, passes) = opened(alloc, row, &plan)?;
-    let outcome = over_sockets(rt, alloc, text, &shift, passes, &questions)?;
-    print_outcome(text, &outcome)?;
-    let (taken, left) = (outcome.taken.len(), outcome.left.len());
-    writeln!(text, "taken {taken}, left {left}")?;
+    serve_questions(rt, alloc, text, row, &plan, &questions)
+}
+
+/// Serves what is asked over a socket in a shift of the open gateway, and closes that.
+fn serve_questions<T: Threads + Wait + Sync + Clock + Net>(
+    rt: &T,
+    alloc: Global,
+    text: &mut String,
+    row: &mut Row,
+    plan: &Plan,
+    questions: &Questions<'_>,
+) -> Result<(), Stop> {
+    let (shift, passes) = opened(alloc, row, plan)?;
+    let outcome = over_sockets(rt, alloc, text, &shift, passes, questions)?;
+    print_counted(text, &outcome)?;
     let over = close(shift, outcome.passes);
-    print_over(alloc, text, &over)?;
+    let printed = print_over(alloc, text, &over);
     row.node = Some(over.node);
-    Ok(())
+    printed
+}
+
+/// How serving ended, and how many datagrams became calls.
+fn print_counted(text: &mut String, outcome: &Outcome) -> Result<(), AllocError> {
+    print_outcome(text, outcome)?;
+    print_count(text, outcome)
 }
