@@ -6,8 +6,8 @@
 //! The definitions are in `specs/Addresses`: addresses as the system has them.
 //!
 //! What comes over a socket and whether a datagram arrives is not said by any contract; what is
-//! proved is that a receive fails only where the wire counts a failure, and that a datagram lies
-//! within the buffer.
+//! proved is that a receive that fails raises the wire's count of failures by one, that no other
+//! changes it, and that a datagram lies within the buffer.
 #![tactic(auto)]
 
 mod ends;

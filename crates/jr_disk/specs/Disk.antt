@@ -1,5 +1,5 @@
 -- A disk of two slots: what is in them, what a crash leaves, and when a call may fail.
-use Rattle.std.specs.Prelude.{Option, Some, None, ◌≡◌, ℕ, ◌-◌, ◌<◌, ◌≤◌, min, List, [], ◌++◌, length, take, Result, IsOk, IsErr, IsErrAnd, MatchResult}
+use Rattle.std.specs.Prelude.{Option, Some, None, ◌≡◌, ℕ, ◌+◌, ◌-◌, ◌≤◌, min, List, [], ◌++◌, length, take, Result, IsOk, IsErr, IsErrAnd, MatchResult}
 use Rattle.jr_disk.specs.declared.disk.Slot.{Slot}
 use Rattle.jr_disk.specs.declared.disk.Slot.TheVariants.{First, Second}
 use Rattle.jr_disk.specs.declared.disk.DiskFault.{DiskFault}
@@ -69,9 +69,9 @@ EachCrash P d = (k l : ℕ) → P (after_crash k l d)
 
 -- ---- failures
 
--- the count of failures rises where an error is told, and nowhere else
+-- a call that succeeds leaves the count of failures as it was, and one that fails raises it by one
 abbrev pub HasCause : {T E : Type 0} → ℕ → ℕ → Result T E → Type 0
-HasCause old new result = (old ≤ new) × MatchResult result (λ _. new ≡ old) (λ _. old < new)
+HasCause old new result = (old ≤ new) × MatchResult result (λ _. new ≡ old) (λ _. new ≡ old + 1)
 
 -- what an append of this many bytes does by the failure that is arranged: nothing is known, none,
 -- or this one

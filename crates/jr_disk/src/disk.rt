@@ -35,7 +35,7 @@ pub enum Plan {
 /// appended since, from the first on.
 ///
 /// On an honest disk each call does what its clauses say. Of any other nothing is known but that a
-/// call fails only where the count of failures rises.
+/// call that fails raises the count of failures by one, and that no other call changes it.
 pub trait Disk {
     ghost use Rattle.std.specs.Prelude.{Bool, Option, Some, None, true, false, ℕ, ◌≡◌, ◌≤◌, ◌+◌, ◌⊎◌, length, take, drop, OnOk, OnErr, IfOk, IfErr, IsErr};
     ghost use Rattle.jr_disk.specs.Disk.{Slots, HasCause, at, replaced, bytes_of, appended, all_synced, cut_to};

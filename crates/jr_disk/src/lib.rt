@@ -1,8 +1,8 @@
 //! The disk under a journal: two slots of bytes, of which any call may fail.
 //!
 //! On an honest disk each call does what its clauses say, and a crash leaves of a slot what is
-//! synced and a front part of the rest. Of any other disk nothing is known but that a call fails
-//! only where the count of failures rises.
+//! synced and a front part of the rest. Of any other disk nothing is known but that a call that
+//! fails raises the count of failures by one, and that no other call changes it.
 //!
 //! - `disk`: what a journal asks of a disk (`Disk`), with its slots, faults and the failures that
 //!   can be arranged.
