@@ -14,7 +14,7 @@
 #   make bench  times the simulator, single steps beside their goals, digests and answers, the lock, and the two codecs beside plain C,
 #               and tells what a gateway keeps in memory
 #
-# All but make install need the Rattle kit's command `rt`; make test, trust and install need python3 as well, make bench gcc too.
+# All but make install and trust need the Rattle kit's command `rt`; make test, trust, daemon, field, bench and install need python3, make bench gcc too.
 
 PREFIX ?= /usr/local
 DESTDIR ?=
