@@ -1,8 +1,7 @@
 -- What a gateway is told by its settings, and the number by which a refused opening is told.
 use Rattle.std.specs.Prelude.{ℕ}
 use Rattle.sn_local.specs.declared.config.Config.{Config}
-use Rattle.jr_journal.specs.declared.fault.JournalFault.{JournalFault}
-use Rattle.jr_journal.specs.declared.fault.JournalFault.TheVariants as journal
+use Rattle.jr_journal.specs.Faults.{fault_number}
 use Rattle.gw_answer.specs.declared.refusal.Refusal.{Refusal}
 use Rattle.gw_answer.specs.declared.refusal.Refusal.TheVariants as refusals
 use Rattle.gw_main.specs.declared.options.Settings.{Settings}
@@ -17,16 +16,9 @@ config_of settings =
       predefined = settings.predefined;
     }
 
-abbrev pub journal_number : JournalFault → ℕ
-journal_number journal.Disk = 1
-journal_number journal.Foreign = 2
-journal_number (journal.BadRecord slot at) = 3
-journal_number journal.Memory = 4
-journal_number journal.Halted = 5
-
 -- the disk's failure is the journal's, a record that does not fit is a bad one
 abbrev pub number_of : Refusal → ℕ
-number_of (refusals.Journal fault) = journal_number fault
+number_of (refusals.Journal fault) = fault_number fault
 number_of (refusals.Disk excuse) = 1
 number_of (refusals.Conflict client) = 3
 number_of refusals.Full = 3

@@ -9,13 +9,12 @@ ghost use Rattle.gw_node.specs.Parts.{state_of, records_of};
 ghost use Rattle.gw_answer.specs.Answers.{told};
 ghost use Rattle.gw_node.specs.Keeping.{Keeps};
 ghost use Rattle.gw_node.specs.Opening.{IsStarted, MayRefuse};
-ghost use Rattle.gw_main.specs.Beginning.{journal_number};
 ghost use Rattle.gw_main.specs.Beginning as spec;
 ghost use Rattle.gw_answer.specs.declared.fault.NodeFault.TheVariants as faults;
 
 use super::options::Settings;
 use gw_node::{Node, NodeFault};
-use jr_journal::{Disk, JournalFault};
+use jr_journal::Disk;
 use octets::{NoMemory, Sequence};
 use rep_model::Replica;
 use sn_local::Config;
@@ -120,22 +119,9 @@ pub fn number_of(fault: &NodeFault) -> u8
     ensures { result ≡ spec.number_of (told fault.now) }
 {
     match fault {
-        NodeFault::Journal { fault } => number_of_journal(*fault),
+        NodeFault::Journal { fault } => fault.number(),
         NodeFault::Disk { .. } => 1,
         NodeFault::Conflict { .. } | NodeFault::Full => 3,
         NodeFault::Frame { .. } | NodeFault::Halted | NodeFault::Exhausted | NodeFault::Memory => 4,
-    }
-}
-
-/// The number of a fault of the journal.
-fn number_of_journal(fault: JournalFault) -> u8
-    ensures { result ≡ journal_number fault }
-{
-    match fault {
-        JournalFault::Disk => 1,
-        JournalFault::Foreign => 2,
-        JournalFault::BadRecord { .. } => 3,
-        JournalFault::Memory => 4,
-        JournalFault::Halted => 5,
     }
 }

@@ -9,11 +9,8 @@ ghost use Rattle.gw_node.specs.Excuses as spec;
 use octets::{NoMemory, Sequence};
 use sn_frame::{Flags, Frame, Qos};
 use sn_local::{Addr, Send};
-use sn_plan::{Draft, plan_without};
+use sn_plan::{CONGESTION, Draft, plan_without};
 use std::alloc::Global;
-
-/// Return code 1: congestion (MQTT-SN 1.2 section 5.3.10).
-const CONGESTION: u8 = 1;
 
 /// Whether the first of these datagrams accepts a connection.
 fn accepts(sends: &[Send]) -> bool

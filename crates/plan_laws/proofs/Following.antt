@@ -15,7 +15,8 @@ use Rattle.sn_tables.specs.Topics.{topic_named, free_id, least_unused}
 use Rattle.sn_frame.specs.declared.frame.Frame.{Frame}
 use Rattle.sn_frame.specs.declared.frame.Frame.TheVariants as frames
 use Rattle.rep_op.specs.declared.op.Put.{Put}
-use Rattle.rep_op.specs.Ranges.{is_topic_id, is_topic, is_exchange}
+use Rattle.sn_topic.specs.Table.{is_topic_id}
+use Rattle.rep_op.specs.Ranges.{is_topic, is_exchange}
 use Rattle.rep_op.specs.Orders.{name_of}
 use Rattle.sn_local.specs.declared.config.Addr.{Addr}
 use Rattle.sn_local.specs.declared.local.LocalChange.TheVariants.{Sent, Resent}

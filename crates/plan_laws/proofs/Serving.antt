@@ -32,7 +32,8 @@ use Rattle.rep_op.specs.declared.op.Op.{Op}
 use Rattle.rep_op.specs.Orders.{name_of}
 use Rattle.rep_ops.specs.Making.{AreWellMade}
 use Rattle.sn_tables.specs.Levels.{is_qos}
-use Rattle.rep_op.specs.Ranges.{is_topic_id, is_topic, is_message, is_will, is_will_topic, is_exchange, is_session}
+use Rattle.sn_topic.specs.Table.{is_topic_id}
+use Rattle.rep_op.specs.Ranges.{is_topic, is_message, is_will, is_will_topic, is_exchange, is_session}
 use Rattle.rep_model.specs.declared.view.ClientView.{ClientView}
 use Rattle.rep_model.specs.Views.{view, clients}
 use Rattle.sn_local.specs.declared.config.Addr.{Addr}

@@ -20,12 +20,13 @@ use Rattle.rep_shared.proofs.Numbers.{capped_sum}
 use Rattle.rep_shared.proofs.Flat.{find_below, all_put}
 use Rattle.rep_shared.proofs.Found.{find_map, map_put}
 use Rattle.rep_log.specs.Mail.{covers}
-use Rattle.rep_log.specs.Origins.{origins_of, or_no_range, ranges_at, ranges_in, IsOrigin, AreOrigins, above_gaps}
+use Rattle.rep_shared.specs.Rows.{or_nothing}
+use Rattle.rep_log.specs.Origins.{origins_of, ranges_at, ranges_in, IsOrigin, AreOrigins, above_gaps}
 
 -- ---- out of the map
 
-pub ranges_found : (o : ℕ) (es : List (ℕ × Vec (ℕ × ℕ) Global)) (found : Option (Vec (ℕ × ℕ) Global)) → found ≡ lookup (is_at (nat_cmp o)) es → or_no_range (option_map (λ (v : Vec (ℕ × ℕ) Global). v.items) found) ≡ ranges_at o (origins_of es)
-ranges_found o es found h = ap (λ x. or_no_range (option_map (λ (v : Vec (ℕ × ℕ) Global). v.items) x)) (h ∙ lookup_is_find nat_cmp o es) ∙ sym (ap or_no_range (find_map nat_cmp (λ (v : Vec (ℕ × ℕ) Global). v.items) o es))
+pub ranges_found : (o : ℕ) (es : List (ℕ × Vec (ℕ × ℕ) Global)) (found : Option (Vec (ℕ × ℕ) Global)) → found ≡ lookup (is_at (nat_cmp o)) es → or_nothing (option_map (λ (v : Vec (ℕ × ℕ) Global). v.items) found) ≡ ranges_at o (origins_of es)
+ranges_found o es found h = ap (λ x. or_nothing (option_map (λ (v : Vec (ℕ × ℕ) Global). v.items) x)) (h ∙ lookup_is_find nat_cmp o es) ∙ sym (ap or_nothing (find_map nat_cmp (λ (v : Vec (ℕ × ℕ) Global). v.items) o es))
 
 pub origins_put : (o : ℕ) (v : Vec (ℕ × ℕ) Global) (es new : List (ℕ × Vec (ℕ × ℕ) Global)) → new ≡ insert_entry nat_cmp es o v → origins_of new ≡ put nat_cmp o v.items (origins_of es)
 origins_put o v es new is = ap origins_of (is ∙ insert_is_put nat_cmp o v es) ∙ map_put nat_cmp (λ (v : Vec (ℕ × ℕ) Global). v.items) o v es
@@ -69,23 +70,23 @@ covers_at q (e ∷ es) h =
     let rest = covers_at q es (second (below_all nat_cmp e.0 es) (is_sorted nat_cmp es) h) in
     list_any-append (covers q) (map (λ r. (e.0, r)) e.1) (ranges_in es)
     ∙ (λ i. covers_one q e.0 e.1 i || rest i)
-    ∙ elim (q.1 == e.0) as (λ b. (q.1 == e.0) ≡ b → ((b && in_ranges q.0 e.1) || in_ranges q.0 (ranges_at q.1 es)) ≡ in_ranges q.0 (or_no_range (cond b (Some e.1) (find nat_cmp q.1 es)))) [
+    ∙ elim (q.1 == e.0) as (λ b. (q.1 == e.0) ≡ b → ((b && in_ranges q.0 e.1) || in_ranges q.0 (ranges_at q.1 es)) ≡ in_ranges q.0 (or_nothing (cond b (Some e.1) (find nat_cmp q.1 es)))) [
       | true ↦ λ t.
           let same : q.1 ≡ e.0 = eqb-true q.1 e.0 t in
           let below = subst (λ k. T (below_all nat_cmp k es)) (sym same) (first (below_all nat_cmp e.0 es) (is_sorted nat_cmp es) h) in
-          ap (λ x. in_ranges q.0 e.1 || in_ranges q.0 (or_no_range x)) (find_below nat_cmp q.1 es below) ∙ or_none (in_ranges q.0 e.1)
+          ap (λ x. in_ranges q.0 e.1 || in_ranges q.0 (or_nothing x)) (find_below nat_cmp q.1 es below) ∙ or_none (in_ranges q.0 e.1)
       | false ↦ λ _. refl
     ] refl
-    ∙ sym (ap (λ b. in_ranges q.0 (or_no_range (cond b (Some e.1) (find nat_cmp q.1 es)))) (unsigned_tied q.1 e.0))
+    ∙ sym (ap (λ b. in_ranges q.0 (or_nothing (cond b (Some e.1) (find nat_cmp q.1 es)))) (unsigned_tied q.1 e.0))
 
 -- with one range more
 pub covers_put : (q : ℕ × ℕ) (o : ℕ) (r : ℕ × ℕ) (es : List (ℕ × List (ℕ × ℕ))) → T (is_sorted nat_cmp es) → list_any (covers q) (ranges_in (put nat_cmp o (with_range r (ranges_at o es)) es)) ≡ (list_any (covers q) (ranges_in es) || covers q (o, r))
 covers_put q o r es h =
     let more = with_range r (ranges_at o es) in
     covers_at q (put nat_cmp o more es) (is_sorted-put nat_cmp nat_cmp_total o more es h)
-    ∙ ap (λ x. in_ranges q.0 (or_no_range x)) (find-put nat_cmp nat_cmp_total q.1 o more es)
-    ∙ ap (λ b. in_ranges q.0 (or_no_range (cond b (Some more) (find nat_cmp q.1 es)))) (unsigned_tied q.1 o)
-    ∙ elim (q.1 == o) as (λ b. (q.1 == o) ≡ b → in_ranges q.0 (or_no_range (cond b (Some more) (find nat_cmp q.1 es))) ≡ (in_ranges q.0 (ranges_at q.1 es) || ((b && nat_le r.0 q.0) && nat_le q.0 r.1))) [
+    ∙ ap (λ x. in_ranges q.0 (or_nothing x)) (find-put nat_cmp nat_cmp_total q.1 o more es)
+    ∙ ap (λ b. in_ranges q.0 (or_nothing (cond b (Some more) (find nat_cmp q.1 es)))) (unsigned_tied q.1 o)
+    ∙ elim (q.1 == o) as (λ b. (q.1 == o) ≡ b → in_ranges q.0 (or_nothing (cond b (Some more) (find nat_cmp q.1 es))) ≡ (in_ranges q.0 (ranges_at q.1 es) || ((b && nat_le r.0 q.0) && nat_le q.0 r.1))) [
       | true ↦ λ t. in-with_range q.0 r (ranges_at o es)
           ∙ ap (λ k. is_within q.0 r || in_ranges q.0 (ranges_at k es)) (sym (eqb-true q.1 o t))
           ∙ turned (is_within q.0 r) (in_ranges q.0 (ranges_at q.1 es))
@@ -97,7 +98,7 @@ covers_put q o r es h =
 
 found_origin : (o : ℕ) (es : List (ℕ × List (ℕ × ℕ))) → AllByRecursion (λ e. IsOrigin e.0 e.1) es → AreApartFrom 1 (ranges_at o es)
 found_origin o [] h = tt
-found_origin o (e ∷ es) h = elim (eq_by_cmp nat_cmp o e.0) as (λ b. AreApartFrom 1 (or_no_range (cond b (Some e.1) (find nat_cmp o es)))) [ true ↦ h.0.1 | false ↦ found_origin o es h.1 ]
+found_origin o (e ∷ es) h = elim (eq_by_cmp nat_cmp o e.0) as (λ b. AreApartFrom 1 (or_nothing (cond b (Some e.1) (find nat_cmp o es)))) [ true ↦ h.0.1 | false ↦ found_origin o es h.1 ]
 
 pub apart_at : (o : ℕ) (es : List (ℕ × List (ℕ × ℕ))) → AreOrigins es → AreApartFrom 1 (ranges_at o es)
 apart_at o es h = found_origin o es h.apart

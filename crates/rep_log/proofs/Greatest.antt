@@ -6,7 +6,8 @@ use Rattle.std.specs.Ordering.{is_eq, is_lt}
 use Rattle.std.specs.Map.{keys_of}
 use Rattle.std.specs.FinMap.{find}
 use Rattle.rep_model.specs.Limits.{above_a_gap, sum_to}
-use Rattle.rep_log.specs.Origins.{origins_of, or_no_range, ranges_at, above_gaps}
+use Rattle.rep_shared.specs.Rows.{or_nothing}
+use Rattle.rep_log.specs.Origins.{origins_of, ranges_at, above_gaps}
 
 none_above : (last o : ℕ) (es : List (ℕ × List (ℕ × ℕ))) → AllByRecursion (λ k. is_lt (nat_cmp last k) ≡ false) (keys_of es) → last < o → find nat_cmp o es ≡ None
 none_above last o [] h above = refl
@@ -20,7 +21,7 @@ none_above last o (e ∷ es) h above =
     not_above last o k t h above = grind (arith, nat_tests)
 
 pub nothing_above : (last : ℕ) (es : List (ℕ × List (ℕ × ℕ))) → AllByRecursion (λ k. is_lt (nat_cmp last k) ≡ false) (keys_of es) → (o : ℕ) → last < o → ranges_at o es ≡ []
-nothing_above last es h o above = ap or_no_range (none_above last o es h above)
+nothing_above last es h o above = ap or_nothing (none_above last o es h above)
 
 by_place : {X : Type 0} (P : X → Type 0) (xs : List X) → All P xs → AllByRecursion P xs
 by_place P [] h = tt

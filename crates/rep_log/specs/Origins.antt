@@ -6,19 +6,16 @@ use Rattle.std.specs.List.{AllByRecursion}
 use Rattle.std.specs.FinMap.{find, is_sorted}
 use Rattle.rep_model.specs.Ranges.{AreApartFrom}
 use Rattle.rep_model.specs.Limits.{above_a_gap, sum_to}
+use Rattle.rep_shared.specs.Rows.{or_nothing}
 use Rattle.rep_log.specs.Mail.{Range}
 
 -- the ranges of each origin, out of the map that holds them
 abbrev pub origins_of : List (ℕ × Vec (ℕ × ℕ) Global) → List (ℕ × List (ℕ × ℕ))
 origins_of entries = map (λ e. (e.0, e.1.items)) entries
 
-abbrev pub or_no_range : Option (List (ℕ × ℕ)) → List (ℕ × ℕ)
-or_no_range None = []
-or_no_range (Some ranges) = ranges
-
 -- the ranges of one origin
 abbrev pub ranges_at : ℕ → List (ℕ × List (ℕ × ℕ)) → List (ℕ × ℕ)
-ranges_at origin origins = or_no_range (find nat_cmp origin origins)
+ranges_at origin origins = or_nothing (find nat_cmp origin origins)
 
 -- all ranges, each with its origin
 abbrev pub ranges_in : List (ℕ × List (ℕ × ℕ)) → List Range

@@ -17,7 +17,8 @@ use Rattle.sn_session.specs.declared.will.Will.{Will}
 use Rattle.sn_session.specs.declared.will.WillTopic.{WillTopic}
 use Rattle.sn_session.specs.declared.outbound.Outbound.{Outbound}
 use Rattle.sn_tables.specs.Levels.{is_qos}
-use Rattle.rep_op.specs.Ranges.{is_topic_id, is_topic, is_subscription, is_will, is_will_topic, is_exchange, is_session}
+use Rattle.sn_topic.specs.Table.{is_topic_id}
+use Rattle.rep_op.specs.Ranges.{is_topic, is_subscription, is_will, is_will_topic, is_exchange, is_session}
 use Rattle.rep_octets.specs.Reading.{both, made, ranged, octet_at, number_at, is_counted, topic_at, filter_at, body_at, flag_at, presence_at, phase_at, qos_at, entry_of, entry_at, subscription_of, subscription_at, will_topic_of, will_topic_at, will_of, will_at, exchange_of, exchange_at, topics_at, subscriptions_at, received_at, some_will_at, some_topic_at, some_exchange_at, Head, head_at, Parts, parts_at, session_of, session_at}
 use Rattle.rep_octets.specs.Sessions.{text_octets, flag_octet, presence_octet, phase_octet, option_octets, table_octets, topic_octets, subscription_octets, will_topic_octets, will_octets, exchange_octets, session_octets}
 use Rattle.rep_op.specs.Values.{IsEntryValue, IsSubscriptionValue, IsWillValue, IsWillTopicValue, IsExchangeValue, IsSessionValue}

@@ -1,5 +1,19 @@
 -- Reading an operation from left to right, up to the first fault. A reader gives a value and the
 -- octets behind it.
+--
+-- Numbers here are octets; "2 + n" is a size of two octets and so many octets behind it. An
+-- operation is its kind, 1, its client, 1 + n, and by its kind:
+--   1 a change     epoch 8, gateway 1, counter 1, tag 1, the fields of that tag
+--   2 a message    origin 1, sequence number 8, topic 2 + n, quality of service 1, message 2 + n
+--   3 acknowledged origin 1, first 8, last 8
+-- The fields of a change, by its tag:
+--   0 a session                     1 presence 1, duration 2     2 topic id 2, known 1, name 2 + n
+--   3 filter 2 + n, quality 1       4 filter 2 + n               5 the topic of a will, or none
+--   6 the message of a will 2 + n   7 and 8 message id 2         9 next message id 2, exchange
+-- A session is presence 1, clean 1, duration 2, next message id 2, topic ids, subscriptions, will,
+-- received message ids, exchange. A table is its count, 2, and its entries; what may be absent has
+-- 0 or 1 in front. What `NAME_at` reads here `NAME_octets` writes, in Sessions and Spelling:
+-- `client`, `topic`, `subscription`, `will_topic`, `will`, `exchange`, `session`, `change`, `op`.
 use Rattle.std.specs.Prelude.{Option, Some, None, ◌≡◌, ℕ, zero, suc, ◌==◌, Bool, ◌&&◌, not, if◌then◌else◌, nat_le, nat_lt, List, [], ◌∷◌, ◌++◌, length, take, drop, Result, Ok, Err}
 use Rattle.std.specs.Int.{Width, w16, w64, byte_len, from_be_bytes}
 use Rattle.std.specs.declared.cmp.Ordering.{Ordering}
@@ -29,7 +43,7 @@ use Rattle.sn_session.specs.declared.message.TheConstants.{MAX_MESSAGE}
 use Rattle.rep_op.specs.declared.op.Op.{Op}
 use Rattle.rep_op.specs.declared.op.Op.TheVariants.{Session as OfSession, Put as OfPut, Ack}
 use Rattle.sn_tables.specs.Levels.{is_qos}
-use Rattle.rep_op.specs.Ranges.{is_topic_id}
+use Rattle.sn_topic.specs.Table.{is_topic_id}
 
 -- ---- readers
 

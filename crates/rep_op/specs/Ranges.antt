@@ -2,6 +2,7 @@
 -- tables are their types' own.
 use Rattle.std.specs.Prelude.{ℕ, Bool, true, ◌&&◌, nat_le, List, length, Option, Some, None}
 use Rattle.std.specs.List.{list_all}
+use Rattle.sn_topic.specs.Table.{is_topic_id}
 use Rattle.sn_tables.specs.Levels.{is_qos}
 use Rattle.sn_session.specs.declared.message.TheConstants.{MAX_MESSAGE}
 use Rattle.sn_session.specs.declared.session.Session.{Session}
@@ -12,10 +13,6 @@ use Rattle.sn_session.specs.declared.will.WillTopic.{WillTopic}
 use Rattle.sn_session.specs.declared.outbound.Outbound.{Outbound}
 use Rattle.sn_session.specs.declared.change.SessionOp.{SessionOp}
 use Rattle.sn_session.specs.declared.change.SessionOp.TheVariants.{Take, Presence as SetPresence, Register, Subscribe, Unsubscribe, WillTopic as SetWillTopic, WillMsg, Received, Released, Outbound as SetOutbound}
-
--- topic ids 0 and 65,535 are reserved
-abbrev pub is_topic_id : ℕ → Bool
-is_topic_id id = nat_le 1 id && nat_le id 65534
 
 -- a message has at most 4,096 octets
 abbrev pub is_message : List ℕ → Bool

@@ -30,6 +30,5 @@ pub use client_id::{ClientId, MAX_CLIENT_ID};
 pub use fault::OpsFault;
 pub use op::{MAX_OPERATIONS, Op, Put, Stamp};
 pub use order::{name_order, share_name};
-pub use range::is_topic_id;
 pub use value::is_value;
 pub use well_made::is_well_made;

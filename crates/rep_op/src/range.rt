@@ -6,13 +6,7 @@ ghost use Rattle.rep_op.specs.Ranges as spec;
 
 use sn_session::{MAX_MESSAGE, Outbound, Session, SessionOp, Will, WillTopic};
 use sn_tables::{Subscription, TopicEntry};
-
-/// Whether a topic id is not reserved.
-pub fn is_topic_id(id: u16) -> bool
-    ensures { result ≡ spec.is_topic_id id }
-{
-    id >= 1 && id <= 65534
-}
+use sn_topic::is_topic_id;
 
 /// Whether the values of a will are in range.
 fn is_will(will: &Option<Will>) -> bool

@@ -12,9 +12,10 @@ abbrev pub flat : List (List ℕ × List Op) → List Op
 flat [] = []
 flat (row ∷ rows) = row.1 ++ flat rows
 
-abbrev pub or_nothing : Option (List Op) → List Op
+-- the list, or one of nothing
+abbrev pub or_nothing : {A : Type 0} → Option (List A) → List A
 or_nothing None = []
-or_nothing (Some ops) = ops
+or_nothing (Some xs) = xs
 
 -- the client's own operations
 abbrev pub own : List ℕ → List (List ℕ × List Op) → List Op

@@ -24,8 +24,8 @@ use Rattle.sn_tick.specs.declared.due.Due.{Due}
 use Rattle.sn_tick.specs.declared.due.Due.TheVariants.{Loss, Retry}
 use Rattle.sn_exchange.specs.Exchanges.{open_exchange, is_served}
 use Rattle.sn_tick.specs.Due.{patience, is_overdue, due_exchange, due_by, due_at, due_session, due_view, due_with, or_later, first_due}
-use Rattle.sn_tick.specs.Ticking.{needs_timer, timer_begun, timers_begun, dialog_ended, dialogs_ended, cleaned, is_long_ago, may_advertise, advertised, plan_if_due, one_thing, tick}
-use Rattle.sn_tick.specs.Rest.{is_old, asks, is_idle}
+use Rattle.sn_tick.specs.Ticking.{is_old, needs_timer, timer_begun, timers_begun, dialog_ended, dialogs_ended, cleaned, is_long_ago, may_advertise, advertised, plan_if_due, one_thing, tick}
+use Rattle.sn_tick.specs.Rest.{asks, is_idle}
 use Rattle.sn_tick.proofs.Calm.{some_none}
 
 -- ---- tests

@@ -12,6 +12,7 @@ use Rattle.sn_local.specs.Bindings.{address_of, is_stamp_of}
 use Rattle.sn_local.specs.Timers.{timer_of}
 use Rattle.sn_local.specs.Locals.{Local}
 use Rattle.sn_plan.specs.Others.{is_up}
+use Rattle.sn_tick.specs.declared.due.TheConstants.{RETRY_AFTER, MAX_TRIES}
 use Rattle.sn_tick.specs.declared.due.Due.{Due}
 use Rattle.sn_tick.specs.declared.due.Due.TheVariants.{Loss, Retry, Delivery}
 use Rattle.sn_exchange.specs.Exchanges.{open_exchange, is_served, is_awake}
@@ -36,8 +37,8 @@ is_overdue now s (Some timer) = is_up s.presence && is_silent now s timer
 -- a frame that is not answered for 10 seconds is sent again, four times; then the client is lost
 abbrev pub due_again : ℕ → Addr → Timer → Option Due
 due_again now a timer =
-    if nat_le 10 (elapsed now timer.sent)
-    then (if nat_le 4 timer.tries then Some Loss else Some (Retry a)) else None
+    if nat_le RETRY_AFTER (elapsed now timer.sent)
+    then (if nat_le MAX_TRIES timer.tries then Some Loss else Some (Retry a)) else None
 
 abbrev pub due_exchange : ℕ → Addr → Option Timer → Option Due
 due_exchange now a None = None

@@ -1,16 +1,11 @@
 -- When a tick has nothing to do.
-use Rattle.std.specs.Prelude.{ℕ, Bool, ◌&&◌, ◌||◌, not, nat_le, is_some, List}
+use Rattle.std.specs.Prelude.{ℕ, Bool, ◌&&◌, ◌||◌, not, is_some, List}
 use Rattle.std.specs.List.{list_any}
 use Rattle.sn_local.specs.declared.config.Addr.{Addr}
-use Rattle.sn_local.specs.declared.local.WillDialog.{WillDialog}
 use Rattle.sn_local.specs.Seen.{Seen}
 use Rattle.sn_local.specs.Locals.{Local}
-use Rattle.sn_tick.specs.Due.{elapsed, due_with}
-use Rattle.sn_tick.specs.Ticking.{needs_timer, may_advertise}
-
--- a will dialog is a minute old
-abbrev pub is_old : ℕ → WillDialog → Bool
-is_old now dialog = nat_le 60 (elapsed now dialog.begun)
+use Rattle.sn_tick.specs.Due.{due_with}
+use Rattle.sn_tick.specs.Ticking.{is_old, needs_timer, may_advertise}
 
 -- a client asks for something: it needs a timer, or something is due with it
 abbrev pub asks : ℕ → Seen → Local → ℕ → List ℕ → Bool

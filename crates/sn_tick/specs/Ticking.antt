@@ -24,16 +24,21 @@ use Rattle.sn_plan.specs.Bound.{session_of}
 use Rattle.sn_plan.specs.Others.{can_wake}
 use Rattle.sn_plan.specs.Rows.{row_of}
 use Rattle.sn_plan.specs.declared.row.Follow.TheVariants as follows
+use Rattle.sn_tick.specs.declared.ticking.TheConstants.{DIALOG_SECONDS}
 use Rattle.sn_tick.specs.declared.due.Due.{Due}
 use Rattle.sn_tick.specs.declared.due.Due.TheVariants.{Loss, Retry, Delivery}
 use Rattle.sn_publish.specs.Recipients.{puts_of_will}
 use Rattle.sn_exchange.specs.Following.{deliver_next}
 use Rattle.sn_tick.specs.Due.{elapsed, first_due}
 
--- and then no dialog at this address, where its CONNECT is a minute ago
+-- the CONNECT of a will dialog is a minute ago
+abbrev pub is_old : ℕ → WillDialog → Bool
+is_old now dialog = nat_le DIALOG_SECONDS (elapsed now dialog.begun)
+
+-- and then no dialog at this address, where it is so old
 abbrev pub dialog_ended : ℕ → Drafted → WillDialog → Drafted
 dialog_ended now d dialog =
-    if nat_le 60 (elapsed now dialog.begun) then moved (EndDialog dialog.request.address) d else d
+    if is_old now dialog then moved (EndDialog dialog.request.address) d else d
 
 -- and then none of these dialogs that is so old
 abbrev pub dialogs_ended : ℕ → List WillDialog → Drafted → Drafted

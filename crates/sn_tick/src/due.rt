@@ -17,11 +17,11 @@ use sn_plan::is_up;
 use sn_session::{Outbound, Session};
 use std::alloc::Global;
 
-/// After how many seconds a frame is sent again.
-const RETRY_AFTER: u64 = 10;
+/// After how many seconds a frame is sent again (MQTT-SN 1.2 section 6.13).
+pub const RETRY_AFTER: u64 = 10;
 
-/// How often a frame is sent again.
-const MAX_TRIES: u8 = 4;
+/// How often a frame is sent again, before the client is lost (MQTT-SN 1.2 section 6.13).
+pub const MAX_TRIES: u8 = 4;
 
 /// What is due with a client.
 #[derive(Clone, Copy, Debug, PartialEq, Eq)]

@@ -11,6 +11,6 @@ mod due;
 mod rest;
 mod ticking;
 
-pub use due::Due;
+pub use due::{Due, MAX_TRIES, RETRY_AFTER};
 pub use rest::is_idle;
-pub use ticking::tick;
+pub use ticking::{DIALOG_SECONDS, tick};

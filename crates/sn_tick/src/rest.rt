@@ -8,22 +8,15 @@ ghost use Rattle.sn_tick.specs.Due as due;
 ghost use Rattle.sn_tick.specs.Ticking as ticking;
 ghost use Rattle.sn_tick.specs.Rest as spec;
 
-use super::due::{due_view, elapsed};
-use super::ticking::{DIALOG_SECONDS, may_advertise, needs_timer};
+use super::due::due_view;
+use super::ticking::{is_old, may_advertise, needs_timer};
 use rep_model::{ClientView, Replica};
 use rep_ops::ClientId;
 use sn_local::{Config, Dialogs, WillDialog};
 
-/// Whether a will dialog is a minute old.
-fn is_old(now: u64, dialog: &WillDialog) -> bool
-    ensures { result ≡ spec.is_old now dialog.now }
-{
-    elapsed(now, dialog.begun) >= DIALOG_SECONDS
-}
-
 /// Whether one of these dialogs is a minute old.
 fn any_old(now: u64, dialogs: &[WillDialog]) -> bool
-    ensures { result ≡ list_any (λ dialog. spec.is_old now dialog) dialogs.now }
+    ensures { result ≡ list_any (λ dialog. ticking.is_old now dialog) dialogs.now }
 {
     dialogs.iter().any(|dialog| is_old(now, dialog))
 }

@@ -23,13 +23,20 @@ use sn_session::{Presence, Session, SessionOp, Will};
 use std::alloc::Global;
 
 /// How many seconds a will dialog lasts.
-pub(crate) const DIALOG_SECONDS: u64 = 60;
+pub const DIALOG_SECONDS: u64 = 60;
 
-/// And then no dialog at this address, where its CONNECT is a minute ago.
+/// Whether the CONNECT of a will dialog is a minute ago.
+pub(crate) fn is_old(now: u64, dialog: &WillDialog) -> bool
+    ensures { result ≡ spec.is_old now dialog.now }
+{
+    elapsed(now, dialog.begun) >= DIALOG_SECONDS
+}
+
+/// And then no dialog at this address, where it is so old.
 fn end_dialog(draft: &mut Draft, now: u64, dialog: &WillDialog) -> Result<(), NoMemory>
     ensures { OnOk result (draft.new ≡ dialog_ended now draft.old dialog.now) }
 {
-    if elapsed(now, dialog.begun) >= DIALOG_SECONDS {
+    if is_old(now, dialog) {
         draft.note(LocalChange::EndDialog {
             address: dialog.request.address,
         })?;

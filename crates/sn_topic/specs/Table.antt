@@ -1,16 +1,17 @@
 -- the table of predefined ids
-use Rattle.std.specs.Prelude.{ℕ, Bool, true, ◌==◌, ◌&&◌, not, nat_lt, List, [], ◌∷◌, map, filter, find, fold, Option, min, None, Some}
+use Rattle.std.specs.Prelude.{ℕ, Bool, true, ◌==◌, ◌&&◌, not, nat_le, List, [], ◌∷◌, map, filter, find, fold, Option, min, None, Some}
 use Rattle.std.specs.List.{list_any}
 use Rattle.std.specs.Option.{option_map}
 use Rattle.std.specs.Str.{bytes_eq}
+use Rattle.sn_topic.specs.declared.predefined.TheConstants.{MAX_TOPIC_ID}
 
 -- the entries of a table: ids with the octets of their names
 abbrev pub Entries : Type 0
 Entries = List (ℕ × List ℕ)
 
--- 0 and 65535 are reserved
-abbrev pub may_name : ℕ → Bool
-may_name id = nat_lt 0 id && nat_lt id 65535
+-- 0 and 65,535 are reserved
+abbrev pub is_topic_id : ℕ → Bool
+is_topic_id id = nat_le 1 id && nat_le id MAX_TOPIC_ID
 
 -- whether an id stands in the table
 abbrev pub has_id : ℕ → Entries → Bool
@@ -19,7 +20,7 @@ has_id id entries = list_any (λ entry. entry.0 == id) entries
 -- no id is reserved, and none stands twice
 abbrev pub is_table : Entries → Bool
 is_table [] = true
-is_table (entry ∷ later) = may_name entry.0 && not (has_id entry.0 later) && is_table later
+is_table (entry ∷ later) = is_topic_id entry.0 && not (has_id entry.0 later) && is_table later
 
 -- the name that an id stands for
 abbrev pub name_of : ℕ → Entries → Option (List ℕ)

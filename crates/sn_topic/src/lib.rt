@@ -19,4 +19,4 @@ pub use filter::Filter;
 pub use level::MAX_TOPIC;
 pub use matching::matches;
 pub use name::TopicName;
-pub use predefined::Predefined;
+pub use predefined::{MAX_TOPIC_ID, Predefined, is_topic_id};

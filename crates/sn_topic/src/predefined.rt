@@ -11,6 +11,9 @@ use octets::NoMemory;
 use std::alloc::Global;
 use std::marker::Model;
 
+/// The greatest topic id: 65535 is reserved, and so is 0 (MQTT-SN 1.2 section 5.3.11).
+pub const MAX_TOPIC_ID: u16 = 65534;
+
 /// Predefined topic ids with their names (MQTT-SN 1.2 section 6.7). Contracts see the list of the
 /// entries in the order in which they were given. Each look-up reads the entries from the front,
 /// since tables are small.
@@ -111,10 +114,10 @@ fn lesser(known: Option<u16>, id: u16) -> u16
 }
 
 /// Whether an id may stand for a topic: 0 and 65535 are reserved (MQTT-SN 1.2 section 5.3.11).
-fn may_name(id: u16) -> bool
-    ensures { result ≡ spec.may_name id }
+pub fn is_topic_id(id: u16) -> bool
+    ensures { result ≡ spec.is_topic_id id }
 {
-    0 < id && id < u16::MAX
+    1 <= id && id <= MAX_TOPIC_ID
 }
 
 /// Whether an id stands among the entries.
@@ -130,7 +133,7 @@ fn is_table(entries: &[(u16, TopicName)]) -> bool
 {
     let mut left = entries;
     while let [entry, later @ ..] = left {
-        if !may_name(entry.0) || has_id(entry.0, later) {
+        if !is_topic_id(entry.0) || has_id(entry.0, later) {
             return false;
         }
         left = later;

@@ -2,14 +2,14 @@
 
 ghost use Rattle.std.specs.Prelude.{◌≡◌};
 ghost use Rattle.std.specs.Int.{w16, w32, w64};
-ghost use Rattle.rep_op.specs.Ranges as ranges;
+ghost use Rattle.sn_topic.specs.Table as topics;
 ghost use Rattle.rep_octets.specs.Reading.{Gives, octet_at, octets_at, number_at, ranged, client_at, topic_at, body_at};
 ghost use Rattle.rep_octets.specs.Reading as spec;
 
 use octets::{Octets, read_u16, read_u32, read_u64};
-use rep_op::{ClientId, MAX_CLIENT_ID, OpsFault, is_topic_id};
+use rep_op::{ClientId, MAX_CLIENT_ID, OpsFault};
 use sn_session::{MAX_MESSAGE, Message};
-use sn_topic::{MAX_TOPIC, TopicName};
+use sn_topic::{MAX_TOPIC, TopicName, is_topic_id};
 use std::alloc::Global;
 
 /// An octet.
@@ -88,7 +88,7 @@ pub fn read_counted_two(bytes: &[u8]) -> Result<(u16, &[u8]), OpsFault>
 /// A topic id that is not reserved.
 pub fn read_topic_id(bytes: &[u8]) -> Result<(u16, &[u8]), OpsFault>
     ensures { Gives (λ x. (x.0, x.1.now)) result
-        (ranged ranges.is_topic_id (number_at w16) bytes.now) }
+        (ranged topics.is_topic_id (number_at w16) bytes.now) }
 {
     let (id, rest) = read_two(bytes)?;
     if !is_topic_id(id) {
