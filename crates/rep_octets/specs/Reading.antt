@@ -12,8 +12,9 @@
 --   6 the message of a will 2 + n   7 and 8 message id 2         9 next message id 2, exchange
 -- A session is presence 1, clean 1, duration 2, next message id 2, topic ids, subscriptions, will,
 -- received message ids, exchange. A table is its count, 2, and its entries; what may be absent has
--- 0 or 1 in front. What `NAME_at` reads here `NAME_octets` writes, in Sessions and Spelling:
--- `client`, `topic`, `subscription`, `will_topic`, `will`, `exchange`, `session`, `change`, `op`.
+-- 0 or 1 in front. Sessions and Spelling write what is read here: `topic_octets` what `entry_at`
+-- reads, and `client`, `subscription`, `will_topic`, `will`, `exchange`, `session`, `change` and
+-- `op`, each with `_octets`, what the same word with `_at` reads.
 use Rattle.std.specs.Prelude.{Option, Some, None, ◌≡◌, ℕ, zero, suc, ◌==◌, Bool, ◌&&◌, not, if◌then◌else◌, nat_le, nat_lt, List, [], ◌∷◌, ◌++◌, length, take, drop, Result, Ok, Err}
 use Rattle.std.specs.Int.{Width, w16, w64, byte_len, from_be_bytes}
 use Rattle.std.specs.declared.cmp.Ordering.{Ordering}
