@@ -375,6 +375,22 @@ def try_qualities(gateway: Gateway) -> None:
         expect(got == [b"without a connection", b"at 0", b"at 2", b"predefined"], f"the sleeper got {got}")
 
 
+def try_order(gateway: Gateway) -> None:
+    """Publications at 0 that are sent one right behind the other, and DISCONNECT behind them, are handled in this order."""
+    bodies = [b"%03d" % place for place in range(60)]
+    with Client(b"ordered", gateway) as sleeper, Client(b"hurried", gateway) as publisher:
+        sleeper.connect()
+        sleeper.ask(subscribe(b"oo", 1, 0x22), b"\x08\x13")
+        sleeper.sleep()
+        for first in range(0, len(bodies), 6):
+            publisher.connect(clean=True)
+            for body in bodies[first:first + 6]:
+                publisher.send(publish(b"oo", body, 0, 0x02))
+            publisher.ask(leave(), GONE)
+        got = sleeper.wake()
+        expect(got == bodies, f"the sleeper got {b' '.join(got).decode()}")
+
+
 def try_advertise(program: str, folder: str) -> None:
     """ADVERTISE comes to the addresses of the field, again and again."""
     with socket.socket(socket.AF_INET, socket.SOCK_DGRAM) as hearer:
@@ -399,6 +415,7 @@ def part_loopback(account: Account, program: str, folder: str, _) -> None:
         account.check("the daemon is killed between sleep and wake", lambda: try_sleep(gateway, True))
         account.check("a message comes to a client that is there", lambda: try_active(gateway))
         account.check("qualities of service and a predefined id", lambda: try_qualities(gateway))
+        account.check("publications that follow each other at once", lambda: try_order(gateway))
         account.check("the daemon still runs", gateway.alive)
     account.check("ADVERTISE", lambda: try_advertise(program, folder))
 

@@ -48,7 +48,9 @@ pub struct Link<S: Drop> {
     pub(crate) failed: bool,
     /// What is to go out, a message each.
     pub(crate) outgoing: VecDeque<Vec<u8>>,
-    /// How many octets they have.
+    /// How many of them, from the first on, are the answer to a digest.
+    pub(crate) answering: usize,
+    /// How many octets the others have.
     pub(crate) behind: usize,
     /// How many octets of the first of them went out.
     pub(crate) written: usize,
@@ -74,6 +76,7 @@ impl<S: Drop> Link<S> {
             silence: 0,
             failed: false,
             outgoing: VecDeque::new(alloc),
+            answering: 0,
             behind: 0,
             written: 0,
             stalls: 0,

@@ -11,7 +11,8 @@ use std::alloc::Global;
 use std::io::{Error, ErrorKind, Write};
 
 /// How many octets may wait for a stream to take them before no more deltas are told and the link
-/// is given up. An answer may be longer.
+/// is given up. Those of an answer do not count: who lacks much would else be given up at the end
+/// of each shift, and asked to begin anew.
 const MOST_BEHIND: usize = 67_108_864;
 
 /// How often in turn a stream may take nothing before the link is given up: who takes in a long
@@ -135,7 +136,11 @@ fn go_on<S: Drop>(link: &mut Link<S>, size: usize) {
 /// The first message went out.
 fn forget_first<S: Drop>(link: &mut Link<S>) {
     if let Some(first) = link.outgoing.pop_front() {
-        link.behind = link.behind.saturating_sub(first.len());
+        if link.answering > 0 {
+            link.answering = link.answering.saturating_sub(1);
+        } else {
+            link.behind = link.behind.saturating_sub(first.len());
+        }
     }
 }
 

@@ -51,18 +51,24 @@ fn say_digest<S: Drop>(alloc: Global, link: &mut Link<S>, digest: &Digest) -> Re
     say(alloc, link, &LinkMessage::Digest(digest))
 }
 
-/// Says what the other end lacks.
+/// Says what the other end lacks. Nothing else is to go out then, where that is anything: its
+/// octets do not count among those that wait.
 pub(crate) fn say_answer<S: Drop>(
     alloc: Global,
     link: &mut Link<S>,
     deltas: &[Delta],
 ) -> Result<(), End> {
+    if deltas.is_empty() {
+        return Ok(());
+    }
     for delta in deltas {
         let Ok(delta) = delta.copied(alloc) else {
             return Err(End::Memory);
         };
         say(alloc, link, &LinkMessage::Delta(delta))?;
     }
+    link.answering = deltas.len();
+    link.behind = 0;
     Ok(())
 }
 

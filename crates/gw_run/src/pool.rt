@@ -120,15 +120,17 @@ impl<S: Drop> Pool<S> {
     }
 
     /// Closes each link that has no seat. The other ends dial again, or are dialled, and say anew
-    /// what they have.
+    /// what they have. One that is made meanwhile is closed too: were they counted before, it would
+    /// be closed in the place of another, which would stay.
     pub fn close_all<T: Wait>(&self, rt: &T) {
         self.begin_shift(rt);
-        let waiting = self.links.lock(rt).waiting.len();
-        for _ in 0..waiting {
-            if let Some(link) = self.take(rt) {
-                self.lose(rt, link);
-            }
+        for _ in rt.forever() {
+            let Some(link) = self.take(rt) else {
+                return;
+            };
+            self.lose(rt, link);
         }
+        unreachable!()
     }
 
     /// A link is closed.

@@ -18,10 +18,14 @@
 //!   before they sleep.
 //! - A worker whose look has ended takes its word back itself where the count is the same: no ring
 //!   has come, so the word is its own.
+//!
+//! Beside the bell stands the turn of the workers: who has it takes a number and makes its call, so
+//! that the calls are made in the order of the numbers. A worker that took a number and then waited
+//! for the gateway would be overtaken there by one with a later number.
 
 use std::hint::spin_loop;
 use std::sync::atomic::{AtomicU64, Ordering};
-use std::sync::{Condvar, Mutex, Wait};
+use std::sync::{Condvar, Mutex, MutexGuard, Wait};
 
 /// How often a worker looks for a ring before it sleeps. A look lasts some ten to fifty
 /// nanoseconds.
@@ -41,6 +45,8 @@ pub struct Bell {
     /// How often it has rung, and one more where it is closed. Who looks reads it without the lock.
     count: AtomicU64,
     rung: Condvar,
+    /// Who has it takes a number and makes its call.
+    turn: Mutex<()>,
 }
 
 /// What was heard at one moment.
@@ -62,7 +68,14 @@ impl Bell {
             }),
             count: AtomicU64::new(0),
             rung: Condvar::new(),
+            turn: Mutex::new(()),
         }
+    }
+
+    /// Waits for the turn to take a number and make its call. It is over when what comes back is
+    /// unlocked.
+    pub(crate) fn take_turn<R: Wait>(&self, rt: &R) -> MutexGuard<'_, ()> {
+        self.turn.lock(rt)
     }
 
     /// Wakes one that waits, unless one looks. The lock is free by then: who wakes takes it first.

@@ -15,7 +15,7 @@ use octets::Octets;
 use rep_model::Replica;
 use std::alloc::Global;
 use std::sync::atomic::{AtomicBool, Ordering};
-use std::sync::{Arc, Wait};
+use std::sync::{Arc, MutexGuard, Wait};
 use thiserror::Error;
 
 /// Why serving ended early.
@@ -145,10 +145,11 @@ fn take_all<T: Wait, R: Replica, D: Disk + Drop, P: Post, G: Gate>(
             return seat_of(pass, ticket, taken, left, Some(Trouble::Memory));
         }
         let heard = bell.heard(rt);
+        let turn = bell.take_turn(rt);
         match receiver.try_recv_as::<Takes, T>(rt, &mut ticket) {
             Ok(datagram) => {
                 let number = datagram.number;
-                let (after, handled) = handle(rt, alloc, shift, post, gate, pass, datagram);
+                let (after, handled) = handle(rt, alloc, shift, post, gate, pass, datagram, turn);
                 pass = after;
                 has_worked = true;
                 match handled {
@@ -168,6 +169,7 @@ fn take_all<T: Wait, R: Replica, D: Disk + Drop, P: Post, G: Gate>(
                 }
             }
             Err(_) => {
+                let _ = MutexGuard::unlock(turn);
                 if heard.closed {
                     return seat_of(pass, ticket, taken, left, None);
                 }
@@ -213,7 +215,8 @@ fn has_room(taken: &mut Vec<Taken>, left: &mut Vec<u64>) -> bool
     taken.reserve(1).is_ok() && left.reserve(1).is_ok()
 }
 
-/// Makes the call of a datagram, and sends its replies behind the lock.
+/// Makes the call of a datagram, which ends the worker's turn, and sends its replies behind the
+/// lock.
 fn handle<T: Wait, R: Replica, D: Disk + Drop, P: Post, G: Gate>(
     rt: &T,
     alloc: Global,
@@ -222,6 +225,7 @@ fn handle<T: Wait, R: Replica, D: Disk + Drop, P: Post, G: Gate>(
     gate: &G,
     pass: Pass,
     datagram: Datagram,
+    turn: MutexGuard<'_, ()>,
 ) -> (Pass, Handled)
     ensures { IsHandled pass result.1 result.0 }
 {
@@ -244,10 +248,14 @@ fn handle<T: Wait, R: Replica, D: Disk + Drop, P: Post, G: Gate>(
     };
     match shift.call(rt, alloc, pass, step) {
         Ok((pass, out, made)) => {
+            let _ = MutexGuard::unlock(turn);
             send_all(post, gate, number, &out);
             (pass, Handled::Stepped(made))
         }
-        Err((pass, fault)) => (pass, refused(post, gate, number, fault)),
+        Err((pass, fault)) => {
+            let _ = MutexGuard::unlock(turn);
+            (pass, refused(post, gate, number, fault))
+        }
     }
 }
 

@@ -13,7 +13,7 @@ use std::alloc::Global;
 use std::io;
 use std::io::ErrorKind;
 use std::net::{Ipv4Addr, Net, SocketAddr, SocketAddrV4};
-use std::time::{Clock, Duration, SystemTime};
+use std::time::{Clock, Duration};
 
 /// How many milliseconds a receive waits for a datagram. As long a shift that has had all its calls
 /// may go on.
@@ -157,13 +157,12 @@ impl<'a, C: Clock> Ears<'a, C> {
     }
 }
 
-/// The system clock's seconds since 1970.
+/// The seconds of the clock that nobody sets, from any beginning. By the date of the machine
+/// whoever sets it ahead would have clients taken for lost, and whoever sets it back would have
+/// nothing sent again until it has caught up.
 pub fn moment<C: Clock>(clock: &C) -> u64 {
-    match SystemTime::now(clock) {
-        Ok(now) => match now.duration_since(SystemTime::UNIX_EPOCH) {
-            Ok(since) => since.as_secs(),
-            Err(_) => 0,
-        },
+    match clock.monotonic() {
+        Ok(since) => since.as_secs(),
         Err(_) => 0,
     }
 }

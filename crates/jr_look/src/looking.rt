@@ -11,6 +11,9 @@ use std::alloc::Global;
 /// The octets of a journal that was begun and has no record.
 const BEGUN: usize = 14;
 
+/// The octet that is a seal.
+const SEAL: u8 = 0x53;
+
 /// Why an opening would refuse.
 #[derive(Drop)]
 pub enum Fault {
@@ -100,7 +103,8 @@ fn read_records(
     }
 }
 
-/// What the records in front of a bad one are.
+/// What the records in front of a bad one are. Where that stands in front of the seal they are read
+/// as a base that ends with them.
 fn front(
     alloc: Global,
     gateway: u8,
@@ -108,16 +112,32 @@ fn front(
     second: &[u8],
     fault: JournalFault,
 ) -> Option<Reading> {
-    match fault {
-        JournalFault::BadRecord {
-            slot: Slot::First,
-            at,
-        } => read(alloc, gateway, until(first, at), &[]).ok(),
-        JournalFault::BadRecord {
-            slot: Slot::Second,
-            at,
-        } => read(alloc, gateway, &[], until(second, at)).ok(),
-        _ => None,
+    let JournalFault::BadRecord { slot, at } = fault else {
+        return None;
+    };
+    let octets = match slot {
+        Slot::First => until(first, at),
+        Slot::Second => until(second, at),
+    };
+    let sealed = sealed(alloc, octets)?;
+    match alone(alloc, gateway, slot, sealed.as_slice()) {
+        Some(reading) => Some(reading),
+        None => alone(alloc, gateway, slot, octets),
+    }
+}
+
+/// These octets with a seal behind them.
+fn sealed(alloc: Global, octets: &[u8]) -> Option<Vec<u8>> {
+    let mut sealed = Vec::from_slice(alloc, octets).ok()?;
+    sealed.push(SEAL).ok()?;
+    Some(sealed)
+}
+
+/// What an opening reads of a slot, where the other one is empty.
+fn alone(alloc: Global, gateway: u8, slot: Slot, octets: &[u8]) -> Option<Reading> {
+    match slot {
+        Slot::First => read(alloc, gateway, octets, &[]).ok(),
+        Slot::Second => read(alloc, gateway, &[], octets).ok(),
     }
 }
 
