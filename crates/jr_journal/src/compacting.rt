@@ -12,7 +12,7 @@ ghost use Rattle.jr_journal.specs.Journals as spec;
 use crate::content::MAGIC;
 use crate::fault::JournalFault;
 use crate::piece::SEAL;
-use crate::record::record_of;
+use crate::record::append_record;
 use jr_disk::{Disk, Slot};
 use octets::{NoMemory, append_u64};
 use rep_ops::Delta;
@@ -50,8 +50,7 @@ pub(crate) fn base_of(
 {
     let mut bytes = header_of(alloc, gateway, generation)?;
     for delta in base {
-        let record = record_of(alloc, delta)?;
-        bytes.extend_from_slice(&record)?;
+        append_record(&mut bytes, delta)?;
     }
     bytes.extend_from_slice(&[SEAL])?;
     Ok(bytes)
