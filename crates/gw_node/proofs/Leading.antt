@@ -22,8 +22,10 @@ use Rattle.jr_disk.specs.declared.disk.Plan.{Plan as Failure}
 use Rattle.jr_journal.specs.declared.fault.JournalFault.TheVariants as journal_faults
 use Rattle.jr_disk.specs.Disk.{Slots, Image, at, image}
 use Rattle.jr_journal.specs.Faults.{is_fresh}
-use Rattle.jr_journal.specs.Journals.{other, emptied, after_append, last_generation}
-use Rattle.jr_journal.specs.Opening.{recovered, slot_read, is_quiet}
+use Rattle.jr_journal.specs.Crashes.{recovered}
+use Rattle.jr_journal.specs.Arranged.{after_append, is_quiet}
+use Rattle.jr_journal.specs.Journals.{other, emptied, last_generation}
+use Rattle.jr_journal.specs.Opening.{slot_read}
 use Rattle.jr_journal.specs.Parts.{disk_of, gateway_of, slot_of, generation_of}
 use Rattle.jr_journal.specs.Records.{base_bytes, slot_content, generation_in, records}
 use Rattle.gw_answer.specs.declared.out.Out.{Out}

@@ -4,8 +4,8 @@ use Rattle.std.specs.Prelude.{IsTrue}
 use Rattle.rep_op.specs.declared.op.Op.{Op}
 use Rattle.jr_disk.specs.declared.disk.Disk.{Ghosts}
 use Rattle.jr_journal.specs.Faults.{is_fresh, fault_of}
-use Rattle.jr_journal.specs.Journals.{Leaves}
-use Rattle.jr_journal.specs.Opening.{recovered, is_quiet}
+use Rattle.jr_journal.specs.Crashes.{Leaves, recovered}
+use Rattle.jr_journal.specs.Arranged.{is_quiet}
 use Rattle.jr_journal.specs.Parts.{disk_of, gateway_of}
 use Rattle.gw_answer.specs.declared.refusal.Refusal.{Refusal}
 use Rattle.gw_answer.specs.declared.refusal.Refusal.TheVariants as refusals

@@ -19,8 +19,9 @@ use Rattle.jr_disk.specs.declared.disk.Slot.TheVariants.{First, Second}
 use Rattle.jr_journal.specs.declared.fault.JournalFault.TheVariants as journal_faults
 use Rattle.jr_disk.specs.Disk.{Slots, Image, image, after_crash, EachCrash}
 use Rattle.jr_journal.specs.Faults.{is_fresh}
-use Rattle.jr_journal.specs.Journals.{Opens, emptied, after_append, IsStruck, AppendedAs}
-use Rattle.jr_journal.specs.Opening.{recovered, reads_first}
+use Rattle.jr_journal.specs.Crashes.{Opens, recovered, reads_first}
+use Rattle.jr_journal.specs.Arranged.{after_append, IsStruck, AppendedAs}
+use Rattle.jr_journal.specs.Journals.{emptied}
 use Rattle.jr_journal.specs.Parts.{disk_of, gateway_of, slot_of}
 use Rattle.jr_journal.specs.Records.{written, records, slot_content}
 use Rattle.gw_node.specs.Drives.{with_record, torn, has_more, left_by}

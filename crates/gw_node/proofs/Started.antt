@@ -18,8 +18,8 @@ use Rattle.jr_journal.specs.declared.journal.Journal.{Journal}
 use Rattle.jr_disk.specs.Disk.{Slots, Image, image}
 use Rattle.jr_journal.specs.Records.{records}
 use Rattle.jr_journal.specs.Faults.{fault_of, IsFault}
-use Rattle.jr_journal.specs.Journals.{Leaves}
-use Rattle.jr_journal.specs.Opening.{LeavesNoMore, synced_slots, recovered, slot_read, generation_read}
+use Rattle.jr_journal.specs.Crashes.{Leaves, LeavesNoMore, recovered}
+use Rattle.jr_journal.specs.Opening.{synced_slots, slot_read, generation_read}
 use Rattle.jr_journal.specs.Parts.{disk_of, gateway_of, slot_of, generation_of, is_halted as is_stopped}
 use Rattle.gw_answer.specs.declared.out.Out.{Out}
 use Rattle.gw_answer.specs.declared.refusal.Refusal.{Refusal}

@@ -18,8 +18,7 @@ use Rattle.jr_disk.specs.Disk.{Slots, SlotBytes, Image, image, bytes_of, left_of
 use Rattle.jr_journal.specs.Records.{records}
 use Rattle.jr_journal.specs.Faults.{is_fresh}
 use Rattle.jr_journal.specs.declared.fault.JournalFault.TheVariants as journal_faults
-use Rattle.jr_journal.specs.Journals.{Opens, Leaves, LeavesOneMore, LeavesEither}
-use Rattle.jr_journal.specs.Opening.{LeavesNoMore}
+use Rattle.jr_journal.specs.Crashes.{Opens, Leaves, LeavesOneMore, LeavesEither, LeavesNoMore}
 use Rattle.jr_journal.specs.Parts.{disk_of, gateway_of}
 use Rattle.rep_digest.specs.declared.entry.ClientEntry.{ClientEntry}
 use Rattle.gw_answer.specs.declared.out.Out.{Out}

@@ -6,8 +6,10 @@ use Rattle.jr_disk.specs.declared.disk.Plan.{Plan}
 use Rattle.jr_disk.specs.declared.disk.Plan.TheVariants.{Stop, KeepBack}
 use Rattle.jr_disk.specs.Disk.{Slots, Image, at, after_crash}
 use Rattle.jr_journal.specs.Records.{written, base_bytes, slot_content, generation_in, records}
-use Rattle.jr_journal.specs.Journals.{other, emptied, after_append}
-use Rattle.jr_journal.specs.Opening.{recovered, slot_read}
+use Rattle.jr_journal.specs.Crashes.{recovered}
+use Rattle.jr_journal.specs.Arranged.{after_append}
+use Rattle.jr_journal.specs.Journals.{other, emptied}
+use Rattle.jr_journal.specs.Opening.{slot_read}
 
 -- its two slots, the one that the journal writes, whether a write has failed since it was opened,
 -- and the failure that is arranged

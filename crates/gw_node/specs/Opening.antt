@@ -9,8 +9,9 @@ use Rattle.jr_disk.specs.declared.disk.Disk.{Ghosts}
 use Rattle.jr_disk.specs.Disk.{Slots, Image, image}
 use Rattle.jr_journal.specs.Records.{records}
 use Rattle.jr_journal.specs.Faults.{is_fresh, fault_of}
-use Rattle.jr_journal.specs.Journals.{Leaves}
-use Rattle.jr_journal.specs.Opening.{synced_slots, recovered, slot_read, generation_read, is_quiet, LeavesNoMore}
+use Rattle.jr_journal.specs.Crashes.{Leaves, recovered, LeavesNoMore}
+use Rattle.jr_journal.specs.Arranged.{is_quiet}
+use Rattle.jr_journal.specs.Opening.{synced_slots, slot_read, generation_read}
 use Rattle.jr_journal.specs.Parts.{disk_of, gateway_of, slot_of, generation_of}
 use Rattle.gw_answer.specs.declared.out.Out.{Out}
 use Rattle.gw_answer.specs.declared.refusal.Refusal.{Refusal}

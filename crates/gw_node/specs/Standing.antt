@@ -8,7 +8,7 @@ use Rattle.jr_disk.specs.declared.disk.Disk.{Ghosts}
 use Rattle.jr_disk.specs.declared.disk.Plan.{Plan as Failure}
 use Rattle.jr_disk.specs.Disk.{Slots, EachCrash}
 use Rattle.jr_journal.specs.Faults.{is_fresh}
-use Rattle.jr_journal.specs.Opening.{is_quiet}
+use Rattle.jr_journal.specs.Arranged.{is_quiet}
 use Rattle.jr_journal.specs.Parts.{disk_of, gateway_of, slot_of}
 use Rattle.gw_answer.specs.declared.out.Out.{Out}
 use Rattle.gw_answer.specs.declared.refusal.Refusal.{Refusal}

@@ -6,7 +6,9 @@ use Rattle.jr_journal.specs.declared.fault.JournalFault.TheVariants as faults
 use Rattle.jr_journal.specs.declared.journal.Journal.{Journal}
 use Rattle.jr_disk.specs.Disk.{at, image}
 use Rattle.jr_journal.specs.Records.{written, base_bytes, slot_content, generation_in, records}
-use Rattle.jr_journal.specs.Journals.{other, Leaves, LeavesOneMore, LeavesEither, after_append, IsStruck, AppendedAs, emptied, last_generation}
+use Rattle.jr_journal.specs.Crashes.{Leaves, LeavesOneMore, LeavesEither}
+use Rattle.jr_journal.specs.Arranged.{after_append, IsStruck, AppendedAs}
+use Rattle.jr_journal.specs.Journals.{other, emptied, last_generation}
 use Rattle.jr_journal.specs.Parts.{disk_of, gateway_of, slot_of, generation_of, is_halted}
 
 -- The delta is the last record: synced, so that every crash leaves it.

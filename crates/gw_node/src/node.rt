@@ -45,7 +45,8 @@ impl<R: Replica, D: Disk + Drop> Node<R, D> {
     ghost use Rattle.jr_disk.specs.Disk.{image};
     ghost use Rattle.jr_journal.specs.Records.{records};
     ghost use Rattle.jr_journal.specs.Faults.{is_fresh, fault_of};
-    ghost use Rattle.jr_journal.specs.Opening.{recovered, is_quiet, LeavesNoMore};
+    ghost use Rattle.jr_journal.specs.Crashes.{recovered, LeavesNoMore};
+    ghost use Rattle.jr_journal.specs.Arranged.{is_quiet};
     ghost use Rattle.gw_answer.specs.declared.fault.NodeFault.TheVariants as faults;
     ghost use Rattle.gw_answer.specs.declared.step.Step.TheVariants as steps;
     ghost use Rattle.gw_node.specs.Occasions.{Datagram, Clock};

@@ -12,7 +12,7 @@ use Rattle.rep_answer.proofs.Completing.{same_answer}
 use Rattle.jr_disk.specs.declared.disk.Disk.{Ghosts}
 use Rattle.jr_disk.specs.declared.disk.Plan.TheVariants.{Stop, KeepBack}
 use Rattle.jr_disk.specs.Memory.{MemoryState, failing as failing_disk}
-use Rattle.jr_journal.specs.Opening.{is_quiet}
+use Rattle.jr_journal.specs.Arranged.{is_quiet}
 use Rattle.jr_journal.specs.Parts.{disk_of}
 use Rattle.gw_answer.specs.declared.out.Out.{Out}
 use Rattle.gw_answer.specs.declared.refusal.Refusal.{Refusal}

@@ -13,7 +13,8 @@ use Rattle.jr_disk.specs.declared.disk.Plan.{Plan as Failure}
 use Rattle.jr_disk.specs.Disk.{Image, image, left_of, after_crash}
 use Rattle.jr_journal.specs.Faults.{is_fresh, fault_of}
 use Rattle.jr_disk.specs.Memory.{MemoryState, empty_disk, crashed_disk}
-use Rattle.jr_journal.specs.Opening.{recovered, is_quiet}
+use Rattle.jr_journal.specs.Crashes.{recovered}
+use Rattle.jr_journal.specs.Arranged.{is_quiet}
 use Rattle.jr_journal.specs.Parts.{disk_of}
 use Rattle.jr_journal.specs.Records.{records, slot_content}
 use Rattle.gw_answer.specs.declared.refusal.Refusal.{Refusal}

@@ -14,7 +14,8 @@ use Rattle.jr_journal.specs.declared.piece.Found.{Found}
 use Rattle.jr_disk.specs.Disk.{SlotBytes, Slots, at, replaced, image, appended, all_synced, AppendsAs, SyncsAs}
 use Rattle.jr_journal.specs.Records.{written, slot_content, generation_in, records}
 use Rattle.jr_journal.specs.inner.Records.{IsReadable}
-use Rattle.jr_journal.specs.Journals.{Leaves, LeavesOneMore, after_append, IsStruck, AppendedAs}
+use Rattle.jr_journal.specs.Crashes.{Leaves, LeavesOneMore}
+use Rattle.jr_journal.specs.Arranged.{after_append, IsStruck, AppendedAs}
 use Rattle.jr_journal.specs.inner.Journals.{is_in_use}
 use Rattle.jr_journal.proofs.Calm.{Outlook}
 use Rattle.jr_journal.proofs.Settled.{IsUsed, in_use_shape, in_use_again, used_leaves, used_records, more_leaves, synced_used}

@@ -7,7 +7,7 @@ use Rattle.jr_disk.specs.declared.disk.Plan.{Plan}
 use Rattle.jr_disk.specs.declared.disk.Plan.TheVariants.{Stop, KeepBack, FailSync}
 use Rattle.jr_disk.specs.Disk.{AppendsAs, SyncsAs, GoesAs}
 use Rattle.jr_journal.specs.inner.Disk.{is_calm}
-use Rattle.jr_journal.specs.Opening.{is_quiet}
+use Rattle.jr_journal.specs.Arranged.{is_quiet}
 
 pub not_starved : (a b : Bool) → (a ≡ true → b ≡ true) → b ≡ false → a ≡ false
 not_starved true b h e = let clash : true ≡ false = sym (h refl) ∙ e in clash

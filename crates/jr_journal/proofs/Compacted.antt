@@ -11,9 +11,11 @@ use Rattle.jr_disk.specs.Disk.{SlotBytes, Slots, at, bytes_of, all_synced, image
 use Rattle.jr_journal.specs.inner.Disk.{synced_part}
 use Rattle.jr_journal.specs.Records.{base_bytes, slot_content, records}
 use Rattle.jr_journal.specs.inner.Records.{IsReadable}
-use Rattle.jr_journal.specs.Journals.{other, after_append, emptied, Opens, Leaves, LeavesEither}
-use Rattle.jr_journal.specs.inner.Journals.{is_below, is_in_use}
+use Rattle.jr_journal.specs.Crashes.{Opens, Leaves, LeavesEither}
+use Rattle.jr_journal.specs.Arranged.{after_append}
+use Rattle.jr_journal.specs.Journals.{other, emptied}
 use Rattle.jr_journal.specs.Opening.{synced_slots}
+use Rattle.jr_journal.specs.inner.Journals.{is_below, is_in_use}
 use Rattle.jr_journal.proofs.Contents.{IsSealed, sealed_again}
 use Rattle.jr_journal.proofs.Sound.{image_at, used_sound, not_fresh}
 use Rattle.jr_journal.proofs.Settled.{IsUsed, in_use_shape, in_use_again, used_leaves, used_records, records_at, with_more, crash_more, take_both, sealed_at}

@@ -14,7 +14,8 @@ use Rattle.jr_journal.specs.declared.opening.Opening.TheVariants.{New, Held}
 use Rattle.jr_disk.specs.Disk.{SlotBytes, Slots, Image, replaced, bytes_of, image, all_synced, left_of, after_crash}
 use Rattle.jr_journal.specs.Records.{new_journal, magic, made, begins, after_header, found, slot_content, chosen, records}
 use Rattle.jr_journal.specs.Faults.{is_fresh, slots_fault, fault_of}
-use Rattle.jr_journal.specs.Opening.{synced_slots, OpensAlike, LeavesNoMore}
+use Rattle.jr_journal.specs.Crashes.{OpensAlike, LeavesNoMore}
+use Rattle.jr_journal.specs.Opening.{synced_slots}
 use Rattle.jr_journal.specs.inner.Opening.{IsOpening, IsPartly}
 use Rattle.jr_journal.proofs.Pieces.{found_nothing}
 use Rattle.jr_journal.proofs.Contents.{IsSealed, content_cut, content_whole, sealed_again}

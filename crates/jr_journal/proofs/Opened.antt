@@ -18,9 +18,10 @@ use Rattle.jr_journal.specs.declared.opening.Opening.TheVariants.{New, Held}
 use Rattle.jr_disk.specs.Disk.{SlotBytes, Slots, Image, at, replaced, bytes_of, image, cut_to}
 use Rattle.jr_journal.specs.Records.{new_journal, magic, piece_at, made, joined, one_seal, slot_content, generation_in, chosen, records}
 use Rattle.jr_journal.specs.Faults.{is_nil, is_fresh, slots_fault, fault_of}
-use Rattle.jr_journal.specs.Journals.{other, Leaves}
+use Rattle.jr_journal.specs.Crashes.{Leaves, synced_bytes, reads_first, cut_end, recovered}
+use Rattle.jr_journal.specs.Journals.{other}
+use Rattle.jr_journal.specs.Opening.{synced_slots, slot_read, generation_read}
 use Rattle.jr_journal.specs.inner.Journals.{is_below, is_in_use}
-use Rattle.jr_journal.specs.Opening.{synced_bytes, synced_slots, reads_first, cut_end, recovered, slot_read, generation_read}
 use Rattle.jr_journal.specs.inner.Opening.{synced_image, opening_of, deltas_of, place_of, number_of, IsOpening, IsSized, settled, is_new}
 use Rattle.jr_journal.proofs.Pieces.{found_seal, found_nothing}
 use Rattle.jr_journal.proofs.Append.{found_inside}

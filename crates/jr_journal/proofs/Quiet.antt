@@ -6,7 +6,8 @@ use Rattle.jr_journal.specs.declared.opening.Opening.{Opening}
 use Rattle.jr_disk.specs.Disk.{Slots, Image, image}
 use Rattle.jr_journal.specs.inner.Disk.{is_calm}
 use Rattle.jr_journal.specs.Faults.{is_fresh}
-use Rattle.jr_journal.specs.Opening.{synced_slots, is_quiet, IsUnhurt}
+use Rattle.jr_journal.specs.Arranged.{is_quiet, IsUnhurt}
+use Rattle.jr_journal.specs.Opening.{synced_slots}
 use Rattle.jr_journal.specs.inner.Opening.{IsOpening, is_new}
 use Rattle.jr_journal.proofs.Calm.{Outlook, not_starved, quiet_calm}
 use Rattle.jr_journal.proofs.Opened.{synced_same, opening_fresh}

@@ -13,7 +13,8 @@ use Rattle.jr_disk.specs.Disk.{SlotBytes, Slots, Image, at, replaced, bytes_of, 
 use Rattle.jr_journal.specs.inner.Disk.{synced_part}
 use Rattle.jr_journal.specs.Records.{delta_bytes, written, joined, ended, one_record, slot_content, generation_in, chosen, records}
 use Rattle.jr_journal.specs.inner.Records.{IsReadable}
-use Rattle.jr_journal.specs.Journals.{other, Leaves, LeavesOneMore}
+use Rattle.jr_journal.specs.Crashes.{Leaves, LeavesOneMore}
+use Rattle.jr_journal.specs.Journals.{other}
 use Rattle.jr_journal.specs.inner.Journals.{is_below, leads, is_settled, is_in_use}
 use Rattle.jr_journal.specs.Faults.{is_nil, fault_of}
 use Rattle.jr_journal.proofs.Append.{found_written, found_front, length_written}

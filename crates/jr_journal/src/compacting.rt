@@ -6,13 +6,14 @@ ghost use Rattle.std.specs.List.{AllByRecursion};
 ghost use Rattle.jr_disk.specs.Disk.{at, replaced, appended};
 ghost use Rattle.jr_journal.specs.Records.{header, written, base_bytes};
 ghost use Rattle.jr_journal.specs.inner.Records.{IsReadable};
-ghost use Rattle.jr_journal.specs.Journals.{emptied, after_append, AppendedAs};
+ghost use Rattle.jr_journal.specs.Arranged.{after_append, AppendedAs};
+ghost use Rattle.jr_journal.specs.Journals.{emptied};
 ghost use Rattle.jr_journal.specs.Journals as spec;
 
 use crate::content::MAGIC;
 use crate::fault::JournalFault;
 use crate::piece::SEAL;
-use crate::record::record_of;
+use crate::record::append_record;
 use jr_disk::{Disk, Slot};
 use octets::{NoMemory, append_u64};
 use rep_ops::Delta;
@@ -50,8 +51,7 @@ pub(crate) fn base_of(
 {
     let mut bytes = header_of(alloc, gateway, generation)?;
     for delta in base {
-        let record = record_of(alloc, delta)?;
-        bytes.extend_from_slice(&record)?;
+        append_record(&mut bytes, delta)?;
     }
     bytes.extend_from_slice(&[SEAL])?;
     Ok(bytes)

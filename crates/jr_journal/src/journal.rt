@@ -28,11 +28,13 @@ impl<D: Disk + Drop> Journal<D> {
     ghost use Rattle.jr_disk.specs.Disk.{at, image};
     ghost use Rattle.jr_journal.specs.Records.{written, base_bytes, slot_content, generation_in, records};
     ghost use Rattle.jr_journal.specs.Faults.{is_fresh, IsFault, fault_of};
-    ghost use Rattle.jr_journal.specs.Journals.{Leaves, LeavesOneMore, LeavesEither, after_append, IsStruck, AppendedAs, IsAppendFault, emptied, last_generation, IsCompactFault, IsBeforeWriting, IsTried};
+    ghost use Rattle.jr_journal.specs.Crashes.{Leaves, LeavesOneMore, LeavesEither, recovered, LeavesNoMore};
+    ghost use Rattle.jr_journal.specs.Arranged.{after_append, IsStruck, AppendedAs, is_quiet, IsUnhurt};
+    ghost use Rattle.jr_journal.specs.Journals.{IsAppendFault, emptied, last_generation, IsCompactFault, IsBeforeWriting, IsTried};
+    ghost use Rattle.jr_journal.specs.Opening.{synced_slots, slot_read, generation_read};
     ghost use Rattle.jr_journal.specs.Journals as spec;
     ghost use Rattle.jr_journal.specs.Parts.{disk_of, gateway_of, slot_of, generation_of};
     ghost use Rattle.jr_journal.specs.Parts as parts;
-    ghost use Rattle.jr_journal.specs.Opening.{synced_slots, recovered, slot_read, generation_read, is_quiet, IsUnhurt, LeavesNoMore};
 
     /// Opens the journal of a gateway on a disk, and gives the deltas of its records. First all
     /// bytes of both slots are made durable, then they are read; a record that the end cuts is cut

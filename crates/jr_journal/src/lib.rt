@@ -18,8 +18,10 @@
 //!
 //! What a journal asks of a disk (`Disk`), and disks in memory, are in the crate `jr_disk`. The
 //! definitions are in `specs/`: `Records` (from the bytes of a slot to its records), `Faults`
-//! (which fault there is in two slots), `Parts` (what contracts see of a journal), `Journals` (what
-//! a journal keeps true, an append, a compaction), `Opening` (the slots behind an opening).
+//! (which fault there is in two slots), `Crashes` (what a crash leaves, and what the next opening
+//! makes of that), `Journals` (slots, generations, and which faults an append and a compaction may
+//! tell), `Opening` (where an opened journal goes on), `Arranged` (what failures that are arranged
+//! make of a call), `Parts` (what contracts see of a journal).
 #![tactic(auto)]
 
 mod compacting;

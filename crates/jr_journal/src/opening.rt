@@ -5,10 +5,11 @@ ghost use Rattle.std.specs.Prelude.{◌≡◌, ◌≢◌, ◌≤◌, ◌<◌, �
 ghost use Rattle.jr_disk.specs.Disk.{at, replaced, bytes_of, image, all_synced, cut_to};
 ghost use Rattle.jr_journal.specs.inner.Disk.{is_calm};
 ghost use Rattle.jr_journal.specs.Records.{new_journal, slot_content, records};
-ghost use Rattle.jr_journal.specs.Opening.{synced_bytes, synced_slots, reads_first, slot_read, generation_read, recovered, is_quiet, IsUnhurt, LeavesNoMore};
+ghost use Rattle.jr_journal.specs.Crashes.{synced_bytes, reads_first, recovered, LeavesNoMore, Leaves};
+ghost use Rattle.jr_journal.specs.Arranged.{is_quiet, IsUnhurt};
+ghost use Rattle.jr_journal.specs.Opening.{synced_slots, slot_read, generation_read};
 ghost use Rattle.jr_journal.specs.inner.Opening.{held_of, opening_of, deltas_of, place_of, number_of, IsOpening, IsSized, settled, is_new, IsBegun, IsPartly};
 ghost use Rattle.jr_journal.specs.Faults.{is_fresh, IsFault, slots_fault, fault_of};
-ghost use Rattle.jr_journal.specs.Journals.{Leaves};
 ghost use Rattle.jr_journal.specs.inner.Journals.{is_in_use};
 
 use crate::content::{HEADER, MAGIC, SlotContent, read_content};

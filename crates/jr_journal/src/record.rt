@@ -1,44 +1,63 @@
 //! Records as they are written.
 
-ghost use Rattle.std.specs.Prelude.{◌≡◌, ◌≤◌, length, IfOk, OnOk};
+ghost use Rattle.std.specs.Prelude.{◌≡◌, ◌≤◌, ◌++◌, length, take, drop, IfOk, OnOk};
+ghost use Rattle.byteorder.specs.Endian.{big_bytes};
 ghost use Rattle.rep_ops.specs.Spelling.{max_octets};
 ghost use Rattle.jr_journal.specs.Records.{delta_bytes, written};
 ghost use Rattle.jr_journal.specs.inner.Records.{IsReadable};
 
 use crate::piece::RECORD;
-use octets::{NoMemory, append_u32};
+use byteorder::{BigEndian, ByteOrder};
+use octets::NoMemory;
 use rep_ops::Delta;
 use std::alloc::Global;
 
-/// How many bytes of a delta are made room for at first. Most deltas need no more, so that the list
-/// is seldom moved as it grows.
+/// How many bytes of a record are made room for at first. Most records need no more, so that the
+/// list is seldom moved as it grows.
 const FIRST_ROOM: usize = 256;
 
 /// How many bytes stand before a record's delta: its tag and its length.
 const BEFORE: usize = 5;
 
-/// The bytes of a delta.
+/// Appends the bytes of a delta.
 #[tactic(auto, using(crate::proofs::Readable::readable, crate::proofs::Readable::spelled))]
-fn bytes_of(alloc: Global, delta: &Delta) -> Result<Vec<u8>, NoMemory>
-    ensures ok { IfOk result (λ body. body.items ≡ delta_bytes delta.now) }
+fn append_delta(out: &mut Vec<u8>, delta: &Delta) -> Result<(), NoMemory>
+    ensures ok { OnOk result (out.new.items ≡ out.old.items ++ delta_bytes delta.now) }
     ensures readable { OnOk result (IsReadable delta.now) }
-    ensures size { IfOk result (λ body. length body.items ≤ max_octets) }
+    ensures size { OnOk result (length (delta_bytes delta.now) ≤ max_octets) }
 {
     let _ops = delta.ops();
-    let mut body = Vec::with_capacity(alloc, FIRST_ROOM)?;
-    delta.append_to(&mut body)?;
-    Ok(body)
+    delta.append_to(out)
 }
 
-/// A record: its tag, its length, the delta's bytes.
+/// Writes the length of a record's delta behind its tag.
+fn set_length(record: &mut [u8], size: u32)
+    requires { 5 ≤ length record.old }
+    ensures { record.new ≡ take 1 record.old ++ (big_bytes 4 size ++ drop 5 record.old) }
+{
+    BigEndian::write_u32(&mut record[1..], size);
+}
+
+/// Appends a record: its tag, its length, the delta's bytes. These are written once, where they
+/// stay; the length is told when they are there. On an error a part of it may stand there.
+pub(crate) fn append_record(out: &mut Vec<u8>, delta: &Delta) -> Result<(), NoMemory>
+    ensures ok { OnOk result (out.new.items ≡ out.old.items ++ written delta.now) }
+    ensures readable { OnOk result (IsReadable delta.now) }
+{
+    let start = out.len();
+    out.extend_from_slice(&[RECORD, 0, 0, 0, 0])?;
+    append_delta(out, delta)?;
+    let size = out.len() - start - BEFORE;
+    set_length(&mut out[start..], size as u32);
+    Ok(())
+}
+
+/// A record by itself.
 pub(crate) fn record_of(alloc: Global, delta: &Delta) -> Result<Vec<u8>, NoMemory>
     ensures ok { IfOk result (λ bytes. bytes.items ≡ written delta.now) }
     ensures readable { OnOk result (IsReadable delta.now) }
 {
-    let body = bytes_of(alloc, delta)?;
-    let mut bytes = Vec::with_capacity(alloc, body.len() + BEFORE)?;
-    bytes.push(RECORD)?;
-    append_u32(&mut bytes, body.len() as u32)?;
-    bytes.extend_from_slice(&body)?;
+    let mut bytes = Vec::with_capacity(alloc, FIRST_ROOM)?;
+    append_record(&mut bytes, delta)?;
     Ok(bytes)
 }

@@ -6,7 +6,8 @@ ghost use Rattle.jr_journal.specs.declared.fault.JournalFault.{JournalFault};
 ghost use Rattle.jr_disk.specs.Disk.{at, image, bytes_of};
 ghost use Rattle.jr_journal.specs.Records.{records};
 ghost use Rattle.jr_journal.specs.Faults.{IsFault, fault_of};
-ghost use Rattle.jr_journal.specs.Opening.{recovered, slot_read, generation_read};
+ghost use Rattle.jr_journal.specs.Crashes.{recovered};
+ghost use Rattle.jr_journal.specs.Opening.{slot_read, generation_read};
 ghost use Rattle.jr_read.specs.Places.{slots_of, octets_in, ArePlaced, IsTold};
 
 use super::places::{HEADER, Place, places_of};

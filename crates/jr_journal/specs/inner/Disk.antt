@@ -1,5 +1,5 @@
--- A disk of two slots: what is in them, what a crash leaves, and when a call may fail.
-use Rattle.std.specs.Prelude.{Option, Some, None, Bool, true, false, ◌-◌}
+-- What of a disk is synced, and whether a failure that is arranged waits for an append.
+use Rattle.std.specs.Prelude.{Option, Some, None, Bool, true, false}
 use Rattle.jr_disk.specs.declared.disk.Plan.{Plan}
 use Rattle.jr_disk.specs.declared.disk.Plan.TheVariants.{Stop, KeepBack, FailSync}
 use Rattle.jr_disk.specs.Disk.{Slots, Image}

@@ -10,7 +10,7 @@ use Rattle.jr_journal.specs.declared.opening.Opening.TheVariants.{New, Held}
 use Rattle.jr_disk.specs.Disk.{Slots, Image, at, replaced, bytes_of, cut_to}
 use Rattle.jr_journal.specs.Records.{new_journal, slot_content}
 use Rattle.jr_journal.specs.Faults.{fault_of}
-use Rattle.jr_journal.specs.Opening.{synced_bytes, reads_first}
+use Rattle.jr_journal.specs.Crashes.{synced_bytes, reads_first}
 
 abbrev pub synced_image : Image → Slots
 synced_image i = record { first = synced_bytes i.first; second = synced_bytes i.second }

@@ -1,7 +1,8 @@
 use Rattle.std.proofs.Common.{◌≡◌, ℕ, ◌⊎◌, None, take, sym, ap, subst, ◌∙◌}
 use Rattle.jr_disk.specs.declared.disk.Slot.{Slot}
 use Rattle.jr_journal.specs.Records.{base_bytes}
-use Rattle.jr_journal.specs.Journals.{after_append, emptied}
+use Rattle.jr_journal.specs.Arranged.{after_append}
+use Rattle.jr_journal.specs.Journals.{emptied}
 use Rattle.jr_journal.specs.inner.Journals.{is_in_use}
 use Rattle.jr_journal.proofs.Settled.{with_more}
 use Rattle.jr_journal.proofs.Compacted.{IsCompacting, torn_compact, compact_settles, compact_durable}

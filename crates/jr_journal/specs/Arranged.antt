@@ -1,0 +1,52 @@
+-- What a failure that is arranged makes of an append and of an opening; only fields whose disks are
+-- to fail need it.
+use Rattle.std.specs.Prelude.{Option, Some, None, ◌≡◌, ℕ, Bool, true, false, not, min, List, length, take, Result, Ok, Err, IsSome, IsErrOf}
+use Rattle.jr_disk.specs.declared.disk.Slot.{Slot}
+use Rattle.jr_disk.specs.declared.disk.Plan.{Plan}
+use Rattle.jr_disk.specs.declared.disk.Plan.TheVariants.{Stop, KeepBack, FailSync}
+use Rattle.jr_journal.specs.declared.fault.JournalFault.{JournalFault}
+use Rattle.jr_journal.specs.declared.fault.JournalFault.TheVariants.{Disk, Foreign, BadRecord, Memory, Halted}
+use Rattle.jr_disk.specs.Disk.{Slots, at, replaced, appended, all_synced}
+
+-- ---- an append
+
+-- the slots after an append and its sync, by the failure that was arranged
+abbrev pub after_append : Option Plan → Slots → Slot → List ℕ → Slots
+after_append None d slot bytes = replaced d slot (all_synced (appended (at d slot) bytes))
+after_append (Some (Stop k)) d slot bytes =
+    replaced d slot (appended (at d slot) (take (min k (length bytes)) bytes))
+after_append (Some KeepBack) d slot bytes = replaced d slot (appended (at d slot) bytes)
+after_append (Some FailSync) d slot bytes = replaced d slot (appended (at d slot) bytes)
+
+-- where the premise holds, the slots are as this failure of the append leaves them
+abbrev pub IsStruck : Type 0 → Slots → Slot → List ℕ → Slots → Type 0
+IsStruck Honest old slot bytes new =
+    (failure : Plan) × (Honest → new ≡ after_append (Some failure) old slot bytes)
+
+-- it fails exactly where a failure is arranged, and the slots are as that failure leaves them
+abbrev pub AppendedAs : Option (Option Plan) → Slots → Slot → List ℕ
+    → Result (Unit {0}) JournalFault → Slots → Option (Option Plan) → Type 0
+AppendedAs None old slot bytes result new after = Unit {0}
+AppendedAs (Some plan) old slot bytes (Ok done) new after =
+    (plan ≡ None) × (new ≡ after_append plan old slot bytes) × (after ≡ Some None)
+AppendedAs (Some plan) old slot bytes (Err Disk) new after =
+    IsSome plan × (new ≡ after_append plan old slot bytes) × (after ≡ Some None)
+AppendedAs (Some plan) old slot bytes (Err Foreign) new after = Unit {0}
+AppendedAs (Some plan) old slot bytes (Err (BadRecord place from)) new after = Unit {0}
+AppendedAs (Some plan) old slot bytes (Err Memory) new after = Unit {0}
+AppendedAs (Some plan) old slot bytes (Err Halted) new after = Unit {0}
+
+-- ---- an opening
+
+-- an opening does not meet it: it appends only where the journal is new
+abbrev pub is_quiet : Option (Option Plan) → Bool → Bool
+is_quiet None fresh = false
+is_quiet (Some None) fresh = true
+is_quiet (Some (Some (Stop k))) fresh = not fresh
+is_quiet (Some (Some KeepBack)) fresh = not fresh
+is_quiet (Some (Some FailSync)) fresh = false
+
+-- the disk is not to blame, and the same failure is arranged as before
+abbrev pub IsUnhurt : {T : Type 0} → Result T JournalFault → Option (Option Plan)
+    → Option (Option Plan) → Type 0
+IsUnhurt result old new = (IsErrOf result Disk → ⊥) × (new ≡ old)
