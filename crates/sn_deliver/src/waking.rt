@@ -14,7 +14,7 @@ ghost use Rattle.sn_deliver.specs.Waking as spec;
 
 use octets::NoMemory;
 use rep_model::{ClientView, Replica};
-use rep_ops::{ClientId, Put};
+use rep_ops::{ClientId, OpsFault, Put};
 use sn_exchange::open_exchange;
 use sn_frame::Frame;
 use sn_local::{Addr, Config, Dialogs, is_stamp_of};
@@ -214,14 +214,15 @@ fn wake_client<R: Replica>(
     heard_row(alloc, bound, now, row)
 }
 
-/// The client of this name.
+/// The client of this name. It has the size that a name has, so nothing but memory can be wanting.
 pub fn client_id(alloc: Global, octets: &[u8]) -> Result<ClientId, NoMemory>
     requires { IsClientId octets.now }
     ensures { IfOk result (λ id. id ≡ octets.now) }
 {
     match ClientId::new(alloc, octets) {
         Ok(id) => Ok(id),
-        Err(_) => Err(NoMemory),
+        Err(OpsFault::Memory) => Err(NoMemory),
+        Err(_) => unreachable!(),
     }
 }
 

@@ -3,12 +3,12 @@
 ghost use Rattle.std.specs.Prelude.{◌≡◌, ◌≤◌, ◌++◌, [], map, OnOk, IfOk, IsTrue, ◌↔◌, Err};
 ghost use Rattle.sn_frame.specs.declared.frame.TheConstants.{MAX_FRAME};
 ghost use Rattle.sn_frame.specs.Bodies.{IsMessage};
-ghost use Rattle.sn_frame.specs.Grammar.{total_of};
+ghost use Rattle.sn_frame.specs.Grammar.{total_of, spelling};
 ghost use Rattle.rep_op.specs.Orders.{name_of};
 
 use octets::{NoMemory, Octets};
 use rep_ops::{ClientId, Put};
-use sn_frame::{Frame, encode};
+use sn_frame::{EncodeFault, Frame, encode};
 use sn_local::{Addr, LocalChange, Send};
 use sn_session::{Message, SessionOp};
 use sn_tables::QosLevel;
@@ -157,11 +157,7 @@ impl Draft {
         requires size { total_of frame.now ≤ MAX_FRAME }
         ensures { OnOk result (self.new ≡ sent to frame.now self.old) }
     {
-        let mut bytes = Vec::new(alloc);
-        if encode(alloc, frame, &mut bytes).is_err() {
-            return Err(NoMemory);
-        }
-        let bytes = Octets::new(bytes)?;
+        let bytes = Octets::new(written(alloc, frame)?)?;
         self.sends.push(Send { to, bytes })?;
         Ok(())
     }
@@ -172,6 +168,21 @@ impl Draft {
     {
         self.local.push(change)?;
         Ok(())
+    }
+}
+
+/// The spelling of a frame. Its fields have sizes that its message allows, and it is not too long,
+/// so nothing but memory can be wanting.
+fn written(alloc: Global, frame: &Frame) -> Result<Vec<u8>, NoMemory>
+    requires message { IsMessage frame.now }
+    requires size { total_of frame.now ≤ MAX_FRAME }
+    ensures { IfOk result (λ bytes. bytes.items ≡ spelling frame.now) }
+{
+    let mut bytes = Vec::new(alloc);
+    match encode(alloc, frame, &mut bytes) {
+        Ok(()) => Ok(bytes),
+        Err(EncodeFault::Memory) => Err(NoMemory),
+        Err(EncodeFault::Body | EncodeFault::TooLong) => unreachable!(),
     }
 }
 
