@@ -1,6 +1,6 @@
 //! Calls of a shift, with a pass that comes back.
 
-ghost use Rattle.std.specs.Prelude.{◌≡◌, ℕ, Bool, true, IfOk, IfErr, Err};
+ghost use Rattle.std.specs.Prelude.{◌≡◌, ◌≢◌, ℕ, Bool, true, IfOk, IfErr, MatchResult, Err};
 ghost use Rattle.std.specs.Arc.{arc_value};
 ghost use Rattle.gw_answer.specs.Answers.{said, told};
 ghost use Rattle.gw_answer.specs.declared.step.Step.{Step as AnyStep};
@@ -8,12 +8,14 @@ ghost use Rattle.gw_shift.specs.Calling.{Made};
 ghost use Rattle.gw_link.specs.Adding.{Adds};
 ghost use Rattle.gw_link.specs.Calling.{says_halted, CannotCall};
 ghost use Rattle.gw_link.specs.inner.Calling.{reached_by};
-ghost use Rattle.gw_link.specs.declared.calling.End.TheVariants as ends;
+ghost use Rattle.gw_answer.specs.declared.refusal.Refusal.TheVariants as refusals;
+ghost use Rattle.gw_link.specs.declared.calling.End.TheVariants.{Memory};
 
 use crate::stage::Stage;
 use gw_node::{Answer, NodeFault, Step};
 use gw_shift::{CallFault, Pass, Shift};
 use jr_disk::Disk;
+use octets::NoMemory;
 use rep_model::Replica;
 use std::alloc::Global;
 use std::sync::{Arc, Wait};
@@ -42,6 +44,14 @@ pub enum End {
     /// The gateway was halted, and was opened anew.
     #[error("the gateway was halted, and was opened anew")]
     Reopened,
+}
+
+impl From<NoMemory> for End {
+    ghost from_gives = { λ _ e. e ≡ Memory };
+
+    fn from(_error: NoMemory) -> End {
+        End::Memory
+    }
 }
 
 /// Makes a call, once it is claimed. Says what the gateway answered, or why the call did not reach
@@ -86,12 +96,15 @@ fn reached(fault: CallFault) -> Result<NodeFault, End>
 
 /// What a refusal of the gateway means for what it was asked: that is dropped. Only want of memory
 /// ends anything.
-pub fn dropped(fault: &NodeFault) -> Result<(), End>
-    ensures { IfErr result (λ end. end ≡ ends.Memory) }
+pub fn dropped(fault: &NodeFault) -> Result<(), NoMemory>
+    ensures { MatchResult result (λ _. told fault.now ≢ refusals.Memory)
+        (λ _. told fault.now ≡ refusals.Memory) }
 {
     match fault {
-        NodeFault::Memory => Err(End::Memory),
-        _ => Ok(()),
+        NodeFault::Memory => Err(NoMemory),
+        NodeFault::Frame { .. } | NodeFault::Halted | NodeFault::Disk { .. } => Ok(()),
+        NodeFault::Conflict { .. } | NodeFault::Full | NodeFault::Exhausted => Ok(()),
+        NodeFault::Journal { .. } => Ok(()),
     }
 }
 

@@ -179,7 +179,10 @@ fn hear<T: Wait, R: Replica, D: Disk + Drop, S: Drop>(
     let (pass, answered) = call(rt, alloc, shift, pass, step, stage);
     match answered {
         Err(end) => (pass, Err(end)),
-        Ok(Err(fault)) => (pass, dropped(&fault)),
+        Ok(Err(fault)) => match dropped(&fault) {
+            Ok(()) => (pass, Ok(())),
+            Err(_) => (pass, Err(End::Memory)),
+        },
         Ok(Ok(out)) => (pass, say_answer(alloc, link, out.answer.as_slice())),
     }
 }

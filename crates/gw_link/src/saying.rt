@@ -1,6 +1,6 @@
 //! What goes out over a link.
 
-ghost use Rattle.std.specs.Prelude.{◌≡◌};
+ghost use Rattle.std.specs.Prelude.{◌≡◌, IfOk};
 ghost use Rattle.gw_link.specs.Adding.{Adds, is_of_link};
 
 use crate::calling::{End, call, dropped};
@@ -11,9 +11,10 @@ use gw_net::LinkMessage;
 use gw_node::{Out, Step};
 use gw_shift::{CallFault, Pass, Shift};
 use jr_disk::Disk;
+use octets::NoMemory;
 use rep_digest::Digest;
 use rep_model::Replica;
-use rep_ops::Delta;
+use rep_ops::{Delta, OpsFault};
 use std::alloc::Global;
 use std::sync::{Arc, Wait};
 
@@ -33,15 +34,17 @@ fn say_hello<S: Drop>(alloc: Global, link: &mut Link<S>, gateway: u8) -> Result<
     say(alloc, link, &LinkMessage::Hello(gateway))
 }
 
-/// An equal digest, by its octets.
-fn equal(alloc: Global, digest: &Digest) -> Result<Digest, End> {
+/// An equal digest, by its octets. These are read again, so nothing but memory can be wanting.
+fn equal(alloc: Global, digest: &Digest) -> Result<Digest, NoMemory>
+    ensures { IfOk result (λ made. made ≡ digest.now) }
+{
+    let _entries = digest.entries();
     let mut octets = Vec::new(alloc);
-    if digest.encode(alloc, &mut octets).is_err() {
-        return Err(End::Memory);
-    }
+    digest.append_to(&mut octets)?;
     match Digest::decode(alloc, octets.as_slice()) {
         Ok(digest) => Ok(digest),
-        Err(_) => Err(End::Memory),
+        Err(OpsFault::Memory) => Err(NoMemory),
+        Err(_) => unreachable!(),
     }
 }
 
@@ -62,9 +65,7 @@ pub(crate) fn say_answer<S: Drop>(
         return Ok(());
     }
     for delta in deltas {
-        let Ok(delta) = delta.copied(alloc) else {
-            return Err(End::Memory);
-        };
+        let delta = delta.copied(alloc)?;
         say(alloc, link, &LinkMessage::Delta(delta))?;
     }
     link.answering = deltas.len();
@@ -110,7 +111,7 @@ pub(crate) fn greet<T: Wait, R: Replica, D: Disk + Drop, S: Drop>(
         Ok(Ok(out)) => (pass, say_greeting(alloc, link, gateway, Some(out))),
         Ok(Err(fault)) => match dropped(&fault) {
             Ok(()) => (pass, say_greeting(alloc, link, gateway, None)),
-            Err(end) => (pass, Err(end)),
+            Err(_) => (pass, Err(End::Memory)),
         },
     }
 }
@@ -145,7 +146,8 @@ pub(crate) fn tell_all<T: Wait, R: Replica, D: Disk + Drop, S: Drop>(
         let made = match shift.after(rt, alloc, pass, link.told, AT_ONCE) {
             Ok(made) => made,
             Err(CallFault::Behind { .. }) => return Err(End::Behind),
-            Err(_) => return Err(End::Memory),
+            Err(CallFault::Memory) => return Err(End::Memory),
+            Err(CallFault::ShiftFull | CallFault::Node { .. }) => unreachable!(),
         };
         if made.is_empty() {
             return Ok(());

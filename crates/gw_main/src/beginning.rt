@@ -88,7 +88,7 @@ fn open<R: Replica, D: Disk + Drop>(
     match Node::open(alloc, config, disk) {
         Err((_, fault)) => Err(fault),
         Ok(node) => match node.clients(alloc) {
-            Err(_) => Err(NodeFault::Memory),
+            Err(NoMemory) => Err(NodeFault::Memory),
             Ok(clients) => Ok((node, clients.len())),
         },
     }

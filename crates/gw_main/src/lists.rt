@@ -68,8 +68,8 @@ fn named(alloc: Global, text: &[u8]) -> Result<Option<TopicName>, NoMemory>
         Err(TopicFault::Empty) => Ok(None),
         Err(TopicFault::TooLong) => Ok(None),
         Err(TopicFault::Wildcard) => Ok(None),
-        Err(TopicFault::Id) => Err(NoMemory),
         Err(TopicFault::Memory) => Err(NoMemory),
+        Err(TopicFault::Id) => unreachable!(),
     }
 }
 

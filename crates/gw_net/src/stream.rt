@@ -6,6 +6,7 @@ ghost use Rattle.gw_net.specs.Streams.{IsRead};
 use super::fault::LinkFault;
 use super::front::front;
 use super::message::LinkMessage;
+use octets::NoMemory;
 use std::alloc::Global;
 use std::marker::Model;
 
@@ -72,17 +73,16 @@ impl LinkIn {
             self.failed = fed.fault.is_some();
         }
         self.waiting = Some(waiting);
-        result
+        Ok(result?)
     }
 }
 
 /// Takes a piece behind the octets that wait, and the whole messages out of them. On an error what
 /// waits is as it was.
-fn take_piece(alloc: Global, waiting: &mut Vec<u8>, piece: &[u8]) -> Result<Fed, LinkFault>
+fn take_piece(alloc: Global, waiting: &mut Vec<u8>, piece: &[u8]) -> Result<Fed, NoMemory>
     ensures ok { IfOk result (λ fed. IsRead (waiting.old.items ++ piece.now) fed.messages.items
         fed.fault waiting.new.items) }
     ensures unchanged { OnErr result (waiting.new.items ≡ waiting.old.items) }
-    ensures err { IfErr result (λ fault. fault ≡ LinkFault.Memory) }
 {
     let start = waiting.len();
     waiting.extend_from_slice(piece)?;
@@ -99,11 +99,10 @@ fn take_piece(alloc: Global, waiting: &mut Vec<u8>, piece: &[u8]) -> Result<Fed,
 }
 
 /// The messages in front of the octets, what stands behind them, and how many octets are left.
-fn read_messages(alloc: Global, bytes: &[u8]) -> Result<(Fed, usize), LinkFault>
-    ensures ok { IfOk result (λ read. (read.1 ≤ length bytes.now)
+fn read_messages(alloc: Global, bytes: &[u8]) -> Result<(Fed, usize), NoMemory>
+    ensures { IfOk result (λ read. (read.1 ≤ length bytes.now)
         × IsRead bytes.now read.0.messages.items read.0.fault
         (drop (length bytes.now - read.1) bytes.now)) }
-    ensures err { IfErr result (λ fault. fault ≡ LinkFault.Memory) }
 {
     let mut messages = Vec::new(alloc);
     let mut rest = bytes;
@@ -117,7 +116,7 @@ fn read_messages(alloc: Global, bytes: &[u8]) -> Result<(Fed, usize), LinkFault>
                 messages.push(message)?;
                 rest = after;
             }
-            Err(LinkFault::Memory) => return Err(LinkFault::Memory),
+            Err(LinkFault::Memory) => return Err(NoMemory),
             Err(fault) => {
                 let fault = Some(fault);
                 return Ok((Fed { messages, fault }, rest.len()));

@@ -1,6 +1,6 @@
 -- Each call of a node is an event of the gateway that it stands for.
 use Rattle.std.proofs.Common.{◌≡◌, ◌≢◌, ◌⊎◌, ℕ, ◌+◌, ◌<◌, length, if◌then◌else◌, Bool, true, false, true≢false, inl, inr, List, [], ◌∷◌, ◌++◌, Option, Some, None, Result, Ok, Err, refl, sym, ap, ◌∙◌, subst, append-nil}
-use Rattle.std.specs.Prelude.{IsTrue, IfOk, IfErr}
+use Rattle.std.specs.Prelude.{IsTrue}
 use Rattle.rep_op.specs.declared.op.Op.{Op}
 use Rattle.rep_ops.specs.Making.{IsDeltaOf}
 use Rattle.rep_ops.specs.Spelling.{max_octets}
@@ -430,14 +430,6 @@ module _ {D : Type 0} {G : Ghosts D} (g : Gateway) (old : State G) (s : Stands g
   step_leads new steps.Compact answer premise h = compact_leads new answer premise h
   step_leads new steps.Reopen (Ok out) premise h = reopened_leads new out premise.0 premise.1 h
   step_leads new steps.Reopen (Err refusal) premise h = absurd premise
-
--- a view that was shown, or want of memory
-pub view_call : {D : Type 0} {G : Ghosts D} (state : State G) (client : List ℕ) (answer : Result Out Refusal) → IfOk answer (λ out. out ≡ shows state.kept client)
-    → IfErr answer (λ refusal. refusal ≡ refusals.Memory) → ViewCall state client answer state
-view_call state client (Ok out) shown wants = (shown, record { config = refl; kept = refl; local = refl; journal = record { gateway = refl; slot = refl; generation = refl; halted = refl; disk = refl }; records = refl })
-view_call state client (Err refusal) shown wants =
-    subst (λ (r : Refusal). ViewCall state client (Err r) state) (sym wants)
-    (record { config = refl; kept = refl; local = refl; journal = record { gateway = refl; slot = refl; generation = refl; halted = refl; disk = refl }; records = refl })
 
 -- each of them
 pub event_on : {D : Type 0} {G : Ghosts D} (old new : State G) (step : Step) (answer : Result Out Refusal) → StepCall old step answer new → EventOn old step answer new

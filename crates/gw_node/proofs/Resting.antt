@@ -1,5 +1,5 @@
 -- A tick that has nothing to do.
-use Rattle.std.proofs.Common.{◌≡◌, ℕ, ◌≤◌, false, true, List, [], Option, Some, None, Result, Ok, Err, IfOk, IfErr, refl, sym, ap, ◌∙◌, subst}
+use Rattle.std.proofs.Common.{◌≡◌, ℕ, ◌≤◌, false, true, List, [], Option, Some, None, Ok, Err, refl, sym, ap, ◌∙◌, subst}
 use Rattle.rep_op.specs.declared.op.Op.{Op}
 use Rattle.rep_ops.specs.Making.{AreApart}
 use Rattle.sn_local.specs.declared.config.Config.{Config}
@@ -11,7 +11,6 @@ use Rattle.sn_tick.specs.Rest.{is_idle}
 use Rattle.sn_tick.proofs.Idle.{idle_tick, idle_before}
 use Rattle.jr_disk.specs.declared.disk.Disk.{Ghosts}
 use Rattle.gw_answer.specs.declared.out.Out.{Out}
-use Rattle.gw_answer.specs.declared.refusal.Refusal.{Refusal}
 use Rattle.gw_answer.specs.declared.refusal.Refusal.TheVariants as refusals
 use Rattle.gw_node.specs.Occasions.{Clock}
 use Rattle.gw_node.specs.Parts.{State, is_halted, IsUnchanged, IsUntouched}
@@ -45,11 +44,12 @@ module _ {D : Type 0} {G : Ghosts D} where
     answer = is ∙ ap (λ (made : Option (List Op)). record (only_sends []) { made = made }) (sym (ap (λ (out : Out). out.made) is));
   }
 
-  -- a tick that has nothing to do is answered, or memory ran out
-  pub rested : (state : State G) (now : ℕ) (answer : Result Out Refusal) → is_halted state ≡ false → IsIdleAt state now
-      → IfOk answer (λ out. out ≡ only_sends []) → IfErr answer (λ refusal. refusal ≡ refusals.Memory) → OwnCall state Clock now answer state
-  rested state now (Ok out) runs idle is err =
+  -- a tick that has nothing to do is answered,
+  pub rested : (state : State G) (now : ℕ) (out : Out) → is_halted state ≡ false → IsIdleAt state now → out ≡ only_sends []
+      → OwnCall state Clock now (Ok out) state
+  rested state now out runs idle is =
       (runs, (plan_without nothing, idle_tick state.config.gateway state.config.advertise state.config.field state.config.predefined (seen_of state.kept) state.local now idle, done state out is))
-  rested state now (Err refusal) runs idle is err =
-      subst (λ (refusal : Refusal). OwnCall state Clock now (Err refusal) state) (sym err)
-      (record { config = refl; kept = refl; local = refl; journal = untouched state; records = refl })
+
+  -- or memory ran out
+  pub wanting : (state : State G) (now : ℕ) → OwnCall state Clock now (Err refusals.Memory) state
+  wanting state now = record { config = refl; kept = refl; local = refl; journal = untouched state; records = refl }

@@ -1,7 +1,7 @@
 //! The journal is written anew, from what is kept; or it is read anew, and the node keeps what it
 //! reads.
 
-ghost use Rattle.std.specs.Prelude.{◌≡◌, ◌↔◌, [], IsTrue, IfOk, IfErr};
+ghost use Rattle.std.specs.Prelude.{◌≡◌, ◌↔◌, [], IsTrue, IfOk};
 ghost use Rattle.rep_model.specs.Held.{IsHeld};
 ghost use Rattle.gw_node.specs.Parts.{state_of};
 ghost use Rattle.gw_node.specs.inner.Writing.{RewrittenAs};
@@ -15,20 +15,19 @@ use super::node::Node;
 use super::opening::take_all;
 use gw_answer::{Out, Refusal, Shares};
 use jr_journal::{Disk, Journal, JournalFault};
-use octets::Sequence;
+use octets::{NoMemory, Sequence};
 use rep_model::Replica;
 use rep_ops::Delta;
 use sn_local::Dialogs;
 use std::alloc::Global;
 
 /// What is kept, as deltas.
-fn base_of<R: Replica>(alloc: Global, replica: &R) -> Result<Vec<Delta>, Refusal>
-    ensures ok { IfOk result (λ base. IsHeld (R.kept replica.now) base.items) }
-    ensures err { IfErr result (λ refusal. refusal ≡ refusals.Memory) }
+fn base_of<R: Replica>(alloc: Global, replica: &R) -> Result<Vec<Delta>, NoMemory>
+    ensures { IfOk result (λ base. IsHeld (R.kept replica.now) base.items) }
 {
     match replica.held(alloc) {
         Ok(base) => Ok(base),
-        Err(_) => Err(Refusal::Memory),
+        Err(_) => Err(NoMemory),
     }
 }
 
@@ -53,10 +52,7 @@ pub(crate) fn handle_compact<R: Replica, D: Disk + Drop>(
     if node.journal.is_halted() {
         return Err(Refusal::Halted);
     }
-    let base = match base_of(alloc, &node.replica) {
-        Ok(base) => base,
-        Err(refusal) => return Err(refusal),
-    };
+    let base = base_of(alloc, &node.replica)?;
     let answer = Shares::new(alloc, Out::of_sends(alloc, Sequence::empty(alloc)))?;
     match rewrite(alloc, &mut node.journal, base.as_slice()) {
         Ok(()) => Ok(answer),

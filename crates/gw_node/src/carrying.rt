@@ -1,7 +1,7 @@
 //! A plan is carried out, and a delta is taken: room, delta, journal, replica, local state, in this
 //! order. What can be refused is refused before the journal is written; behind it nothing can be.
 
-ghost use Rattle.std.specs.Prelude.{◌≡◌, ◌≢◌, ◌++◌, [], IfOk, IfErr, OnOk, unwrap_or};
+ghost use Rattle.std.specs.Prelude.{◌≡◌, ◌≢◌, ◌++◌, [], IfOk, IfErr, OnOk, OnErr, unwrap_or};
 ghost use Rattle.rep_ops.specs.Deltas.{IsDelta};
 ghost use Rattle.rep_ops.specs.Making.{AreApart, IsDeltaOf};
 ghost use Rattle.rep_ops.specs.Spelling.{IsWithinLimit};
@@ -13,13 +13,12 @@ ghost use Rattle.gw_node.specs.Plans.{IsMisfit, IsWritable};
 ghost use Rattle.gw_node.specs.inner.Writing.{WrittenAs, WrittenIfMade, WrittenIfAny, refusal_of};
 ghost use Rattle.gw_node.specs.Calls.{TakeCall, IsDone};
 ghost use Rattle.gw_node.specs.inner.Handling.{HaveNoDelta, CarriedOut};
-ghost use Rattle.gw_answer.specs.declared.refusal.Refusal.TheVariants as refusals;
 
 use super::node::Node;
 use super::tidy::{keep_owned, note_changes, note_taken};
 use gw_answer::{Names, Out, Refusal, Shares};
 use jr_journal::{Disk, Journal, JournalFault};
-use octets::Sequence;
+use octets::{NoMemory, Sequence};
 use rep_model::{Replica, TakeFault};
 use rep_ops::{Delta, Op, OpsFault};
 use sn_plan::Plan;
@@ -132,12 +131,12 @@ pub(crate) fn note<R: Replica, D: Disk + Drop>(
     alloc: Global,
     node: &mut Node<R, D>,
     plan: Plan,
-) -> Result<Shares, Refusal>
+) -> Result<Shares, NoMemory>
     requires { plan.ops ≡ [] }
     ensures ok { IfOk result (λ out. IsDone (state_of R.kept node.old) plan out
         (state_of R.kept node.new)) }
-    ensures err { IfErr result (λ refusal. (refusal ≡ refusals.Memory)
-        × IsUnchanged (state_of R.kept node.old) (state_of R.kept node.new)) }
+    ensures err { OnErr result (IsUnchanged (state_of R.kept node.old) (state_of R.kept
+        node.new)) }
 {
     let Plan {
         ops: _,

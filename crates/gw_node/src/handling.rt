@@ -9,9 +9,8 @@ ghost use Rattle.gw_node.specs.Excuses as spec;
 ghost use Rattle.gw_node.specs.Parts.{state_of};
 ghost use Rattle.gw_node.specs.Parts as parts;
 ghost use Rattle.gw_answer.specs.Answers.{only_sends};
-ghost use Rattle.gw_node.specs.Calls.{OwnCall, shows, DigestCall, AnswerCall, StepCall};
+ghost use Rattle.gw_node.specs.Calls.{OwnCall, shows, ViewCall, DigestCall, AnswerCall, StepCall};
 ghost use Rattle.gw_node.specs.inner.Handling.{IsNoFrameBy, IsNoPlan, planned_for, ticked, CarriedOut, Answers, IsIdleAt};
-ghost use Rattle.gw_answer.specs.declared.refusal.Refusal.TheVariants as refusals;
 
 use super::anew::{handle_compact, handle_reopen};
 use super::carrying::{carry_out, note, take_in};
@@ -19,7 +18,7 @@ use super::excuse::excuses;
 use super::node::Node;
 use gw_answer::{Out, Refusal, Shares, Step};
 use jr_journal::Disk;
-use octets::Sequence;
+use octets::{NoMemory, Sequence};
 use rep_answer::answer;
 use rep_digest::{Digest, digest_of};
 use rep_model::Replica;
@@ -100,7 +99,7 @@ fn carry_for_frame<R: Replica, D: Disk + Drop>(
         (only_sends (spec.excuses from frame.now plan.sends)) result (state_of R.kept node.new) }
 {
     if plan.ops.is_empty() {
-        return note(alloc, node, plan);
+        return Ok(note(alloc, node, plan)?);
     }
     let excuse = excuses(alloc, from, frame, plan.sends.as_slice())?;
     carry_out(alloc, node, plan, Out::of_sends(alloc, excuse))
@@ -116,7 +115,7 @@ fn carry_for_tick<R: Replica, D: Disk + Drop>(
         (state_of R.kept node.new) }
 {
     if plan.ops.is_empty() {
-        return note(alloc, node, plan);
+        return Ok(note(alloc, node, plan)?);
     }
     carry_out(
         alloc,
@@ -188,9 +187,8 @@ fn is_idle_at<R: Replica, D: Disk>(node: &mut Node<R, D>, now: u64) -> bool
 }
 
 /// What is answered where there is nothing to do: nothing is sent.
-fn rest(alloc: Global) -> Result<Shares, Refusal>
-    ensures ok { IfOk result (λ out. out ≡ only_sends []) }
-    ensures err { IfErr result (λ refusal. refusal ≡ refusals.Memory) }
+fn rest(alloc: Global) -> Result<Shares, NoMemory>
+    ensures { IfOk result (λ out. out ≡ only_sends []) }
 {
     Ok(Shares::new(alloc, Out::of_sends(alloc, Sequence::empty(alloc)))?)
 }
@@ -222,19 +220,18 @@ pub(crate) fn handle_tick<R: Replica, D: Disk + Drop>(
         return Err(Refusal::Halted);
     }
     if is_idle_at(node, now) {
-        return rest(alloc);
+        return Ok(rest(alloc)?);
     }
     answer_tick(alloc, node, now)
 }
 
-/// Somebody asks for a client's view.
-pub(crate) fn handle_view<R: Replica, D: Disk>(
+/// An answer that shows a client's view.
+fn show<R: Replica, D: Disk>(
     alloc: Global,
     node: &Node<R, D>,
     client: &ClientId,
-) -> Result<Shares, Refusal>
-    ensures ok { IfOk result (λ out. out ≡ shows (R.kept node.now.replica) client.now) }
-    ensures err { IfErr result (λ refusal. refusal ≡ refusals.Memory) }
+) -> Result<Shares, NoMemory>
+    ensures { IfOk result (λ out. out ≡ shows (R.kept node.now.replica) client.now) }
 {
     let view = match node.replica.view_of(client) {
         Some(view) => Some(view.copied(alloc)?),
@@ -243,11 +240,21 @@ pub(crate) fn handle_view<R: Replica, D: Disk>(
     Ok(Shares::new(alloc, Out::of_view(alloc, view))?)
 }
 
+/// Somebody asks for a client's view.
+pub(crate) fn handle_view<R: Replica, D: Disk>(
+    alloc: Global,
+    node: &Node<R, D>,
+    client: &ClientId,
+) -> Result<Shares, Refusal>
+    ensures { ViewCall (state_of R.kept node.now) client.now result (state_of R.kept node.now) }
+{
+    Ok(show(alloc, node, client)?)
+}
+
 /// An answer that gives a digest, of which its type promises that it is not too long.
-fn give_digest(alloc: Global, digest: Digest) -> Result<Shares, Refusal>
+fn give_digest(alloc: Global, digest: Digest) -> Result<Shares, NoMemory>
     ensures size { IsWithinLimit digest }
     ensures ok { IfOk result (λ out. out ≡ record (only_sends []) { digest = Some digest }) }
-    ensures err { IfErr result (λ refusal. refusal ≡ refusals.Memory) }
 {
     let _entries = digest.entries();
     Ok(Shares::new(alloc, Out::of_digest(alloc, digest))?)
@@ -261,9 +268,10 @@ pub(crate) fn handle_digest<R: Replica, D: Disk>(
     ensures { DigestCall (state_of R.kept node.now) result (state_of R.kept node.now) }
 {
     match digest_of(alloc, &node.replica) {
-        Ok(digest) => give_digest(alloc, digest),
+        Ok(digest) => Ok(give_digest(alloc, digest)?),
         Err(OpsFault::Limit) => Err(Refusal::Full),
-        Err(_) => Err(Refusal::Memory),
+        Err(OpsFault::Memory) => Err(Refusal::Memory),
+        Err(_) => unreachable!(),
     }
 }
 

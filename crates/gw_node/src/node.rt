@@ -12,6 +12,7 @@ use super::handling::{
 use super::opening::{not_opened, nothing, start};
 use gw_answer::{Answer, NodeFault, Step, one_share, three_shares};
 use jr_journal::{Disk, Journal, MemoryDisk};
+use octets::NoMemory;
 use rep_digest::Digest;
 use rep_model::Replica;
 use rep_ops::{ClientId, Delta};
@@ -47,7 +48,6 @@ impl<R: Replica, D: Disk + Drop> Node<R, D> {
     ghost use Rattle.jr_journal.specs.Faults.{is_fresh, fault_of};
     ghost use Rattle.jr_journal.specs.Crashes.{recovered, LeavesNoMore};
     ghost use Rattle.jr_journal.specs.Arranged.{is_quiet};
-    ghost use Rattle.gw_answer.specs.declared.fault.NodeFault.TheVariants as faults;
     ghost use Rattle.gw_answer.specs.declared.step.Step.TheVariants as steps;
     ghost use Rattle.gw_node.specs.Occasions.{Datagram, Clock};
     ghost use Rattle.gw_node.specs.Parts.{state_of, disk_of, records_of};
@@ -328,26 +328,24 @@ impl<R: Replica, D: Disk + Drop> Node<R, D> {
     }
 
     /// The operations that must be kept, in the order of their names, as deltas of which each but
-    /// the last is as full as it can be. A halted node tells them too. The only fault is `Memory`.
-    pub fn held(&self, alloc: Global) -> Result<Vec<Delta>, NodeFault>
-        ensures ok { IfOk result (λ deltas. IsHeld (state_of R.kept self.now).kept deltas.items) }
-        ensures err { IfErr result (λ fault. fault ≡ faults.Memory) }
+    /// the last is as full as it can be. A halted node tells them too.
+    pub fn held(&self, alloc: Global) -> Result<Vec<Delta>, NoMemory>
+        ensures { IfOk result (λ deltas. IsHeld (state_of R.kept self.now).kept deltas.items) }
     {
         match self.replica.held(alloc) {
             Ok(deltas) => Ok(deltas),
-            Err(_) => Err(NodeFault::Memory),
+            Err(_) => Err(NoMemory),
         }
     }
 
     /// The clients that the node knows, in ascending order.
-    pub fn clients(&self, alloc: Global) -> Result<Vec<ClientId>, NodeFault>
-        ensures ok { IfOk result
+    pub fn clients(&self, alloc: Global) -> Result<Vec<ClientId>, NoMemory>
+        ensures { IfOk result
             (λ all. all.items ≡ views.clients (state_of R.kept self.now).kept) }
-        ensures err { IfErr result (λ fault. fault ≡ faults.Memory) }
     {
         match self.replica.clients(alloc) {
             Ok(clients) => Ok(clients),
-            Err(_) => Err(NodeFault::Memory),
+            Err(_) => Err(NoMemory),
         }
     }
 }

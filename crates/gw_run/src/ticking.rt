@@ -148,7 +148,7 @@ fn tick_once<T: Wait + Clock, R: Replica, D: Disk + Drop, P: Post>(
         }
         Ok(Err(fault)) => match dropped(&fault) {
             Ok(()) => (pass, Ok(false)),
-            Err(end) => (pass, Err(end)),
+            Err(_) => (pass, Err(End::Memory)),
         },
     }
 }

@@ -18,4 +18,5 @@ pub mod Determined
 pub mod Replaying
 pub mod Stops
 pub mod Telling
+pub mod Showing
 pub mod Catching

@@ -1,19 +1,18 @@
 //! One event in a field of gateways.
 
-ghost use Rattle.std.specs.Prelude.{◌≡◌, ◌<◌, false, Ok, IfOk, IfErr, OnOk, IfSome, length, map, vec_len};
+ghost use Rattle.std.specs.Prelude.{◌≡◌, ◌<◌, true, false, Ok, IfOk, OnOk, IfSome, length, map, vec_len};
 ghost use Rattle.std.specs.List.{AllByRecursion};
 ghost use Rattle.rep_model.specs.Views as spec;
 ghost use Rattle.gw_answer.specs.declared.refusal.Refusal.TheVariants as refusals;
 ghost use Rattle.gw_node.specs.Parts.{state_of, disk_of, records_of};
 ghost use Rattle.gw_answer.specs.Answers.{told, said};
 ghost use Rattle.gw_answer.specs.declared.step.Step.TheVariants as steps;
-ghost use Rattle.gw_world.specs.inner.Events.{IsFed, GoesOn, StartsAgain, FailsNext, IsStood, IsAnswered, AskKept, place_in, Moves, StepsAt};
+ghost use Rattle.gw_world.specs.inner.Events.{IsFed, GoesOn, StartsAgain, FailsNext, IsStood, IsAnswered, IsNoDigest, AskKept, place_in, Moves, StepsAt};
 ghost use Rattle.gw_world.specs.Field.{shown};
 
-use super::world::WorldFault;
 use gw_node::{Node, NodeFault, Out};
 use jr_journal::MemoryDisk;
-use octets::Sequence;
+use octets::{NoMemory, Sequence};
 use rep_digest::Digest;
 use rep_model::{ClientView, Replica};
 use rep_ops::{ClientId, Delta};
@@ -38,18 +37,17 @@ pub fn place_of<R: Replica>(nodes: &[Node<R, MemoryDisk>], number: u8) -> Option
 fn unless_starved<R: Replica>(
     node: &Node<R, MemoryDisk>,
     answer: Result<Arc<Out>, NodeFault>,
-) -> Result<Result<Arc<Out>, NodeFault>, WorldFault>
+) -> Result<Result<Arc<Out>, NodeFault>, NoMemory>
     ensures same { IfOk result (λ given. said given ≡ said answer) }
     ensures memory { OnOk result (IsFed (said answer)) }
     ensures fed { OnOk result ((disk_of node.now).starved ≡ false) }
-    ensures err { IfErr result (λ fault. fault ≡ WorldFault.Memory) }
 {
     if node.starved() {
-        return Err(WorldFault::Memory);
+        return Err(NoMemory);
     }
     match answer {
         Ok(out) => Ok(Ok(out)),
-        Err(NodeFault::Memory) => Err(WorldFault::Memory),
+        Err(NodeFault::Memory) => Err(NoMemory),
         Err(fault) => Ok(Err(fault)),
     }
 }
@@ -61,10 +59,9 @@ fn frame_to<R: Replica>(
     from: Addr,
     bytes: &[u8],
     now: u64,
-) -> Result<Result<Arc<Out>, NodeFault>, WorldFault>
-    ensures ok { IfOk result (λ answer. GoesOn (state_of R.kept node.old)
+) -> Result<Result<Arc<Out>, NodeFault>, NoMemory>
+    ensures { IfOk result (λ answer. GoesOn (state_of R.kept node.old)
         (steps.Frame from bytes.now now) (said answer) (state_of R.kept node.new)) }
-    ensures err { IfErr result (λ fault. fault ≡ WorldFault.Memory) }
 {
     let answer = node.frame(alloc, from, bytes, now);
     unless_starved(node, answer)
@@ -75,10 +72,9 @@ fn tick_to<R: Replica>(
     alloc: Global,
     node: &mut Node<R, MemoryDisk>,
     now: u64,
-) -> Result<Result<Arc<Out>, NodeFault>, WorldFault>
-    ensures ok { IfOk result (λ answer. GoesOn (state_of R.kept node.old) (steps.Tick now)
+) -> Result<Result<Arc<Out>, NodeFault>, NoMemory>
+    ensures { IfOk result (λ answer. GoesOn (state_of R.kept node.old) (steps.Tick now)
         (said answer) (state_of R.kept node.new)) }
-    ensures err { IfErr result (λ fault. fault ≡ WorldFault.Memory) }
 {
     let answer = node.tick(alloc, now);
     unless_starved(node, answer)
@@ -89,10 +85,9 @@ fn take_to<R: Replica>(
     alloc: Global,
     node: &mut Node<R, MemoryDisk>,
     delta: &Delta,
-) -> Result<Result<Arc<Out>, NodeFault>, WorldFault>
-    ensures ok { IfOk result (λ answer. GoesOn (state_of R.kept node.old) (steps.Take delta.now)
+) -> Result<Result<Arc<Out>, NodeFault>, NoMemory>
+    ensures { IfOk result (λ answer. GoesOn (state_of R.kept node.old) (steps.Take delta.now)
         (said answer) (state_of R.kept node.new)) }
-    ensures err { IfErr result (λ fault. fault ≡ WorldFault.Memory) }
 {
     let answer = node.take(alloc, delta);
     unless_starved(node, answer)
@@ -102,10 +97,9 @@ fn take_to<R: Replica>(
 fn compact_in<R: Replica>(
     alloc: Global,
     node: &mut Node<R, MemoryDisk>,
-) -> Result<Result<Arc<Out>, NodeFault>, WorldFault>
-    ensures ok { IfOk result (λ answer. GoesOn (state_of R.kept node.old) steps.Compact
+) -> Result<Result<Arc<Out>, NodeFault>, NoMemory>
+    ensures { IfOk result (λ answer. GoesOn (state_of R.kept node.old) steps.Compact
         (said answer) (state_of R.kept node.new)) }
-    ensures err { IfErr result (λ fault. fault ≡ WorldFault.Memory) }
 {
     let answer = node.compact(alloc);
     unless_starved(node, answer)
@@ -126,12 +120,11 @@ pub fn frame_at<R: Replica>(
     from: Addr,
     bytes: &[u8],
     now: u64,
-) -> Result<Result<Arc<Out>, NodeFault>, WorldFault>
+) -> Result<Result<Arc<Out>, NodeFault>, NoMemory>
     requires { place < vec_len nodes.old }
-    ensures ok { IfOk result (λ answer. StepsAt (map (λ node. state_of R.kept node) nodes.old.items)
+    ensures { IfOk result (λ answer. StepsAt (map (λ node. state_of R.kept node) nodes.old.items)
         place (steps.Frame from bytes.now now) (said answer) (map (λ node. state_of R.kept node)
         nodes.new.items)) }
-    ensures err { IfErr result (λ fault. fault ≡ WorldFault.Memory) }
 {
     let node = &mut nodes[place];
     frame_to(alloc, node, from, bytes, now)
@@ -143,11 +136,10 @@ pub fn tick_at<R: Replica>(
     nodes: &mut Vec<Node<R, MemoryDisk>>,
     place: usize,
     now: u64,
-) -> Result<Result<Arc<Out>, NodeFault>, WorldFault>
+) -> Result<Result<Arc<Out>, NodeFault>, NoMemory>
     requires { place < vec_len nodes.old }
-    ensures ok { IfOk result (λ answer. StepsAt (map (λ node. state_of R.kept node) nodes.old.items)
+    ensures { IfOk result (λ answer. StepsAt (map (λ node. state_of R.kept node) nodes.old.items)
         place (steps.Tick now) (said answer) (map (λ node. state_of R.kept node) nodes.new.items)) }
-    ensures err { IfErr result (λ fault. fault ≡ WorldFault.Memory) }
 {
     let node = &mut nodes[place];
     tick_to(alloc, node, now)
@@ -159,12 +151,11 @@ pub fn take_at<R: Replica>(
     nodes: &mut Vec<Node<R, MemoryDisk>>,
     place: usize,
     delta: &Delta,
-) -> Result<Result<Arc<Out>, NodeFault>, WorldFault>
+) -> Result<Result<Arc<Out>, NodeFault>, NoMemory>
     requires { place < vec_len nodes.old }
-    ensures ok { IfOk result (λ answer. StepsAt (map (λ node. state_of R.kept node) nodes.old.items)
+    ensures { IfOk result (λ answer. StepsAt (map (λ node. state_of R.kept node) nodes.old.items)
         place (steps.Take delta.now) (said answer) (map (λ node. state_of R.kept node)
         nodes.new.items)) }
-    ensures err { IfErr result (λ fault. fault ≡ WorldFault.Memory) }
 {
     let node = &mut nodes[place];
     take_to(alloc, node, delta)
@@ -175,11 +166,10 @@ pub fn compact_at<R: Replica>(
     alloc: Global,
     nodes: &mut Vec<Node<R, MemoryDisk>>,
     place: usize,
-) -> Result<Result<Arc<Out>, NodeFault>, WorldFault>
+) -> Result<Result<Arc<Out>, NodeFault>, NoMemory>
     requires { place < vec_len nodes.old }
-    ensures ok { IfOk result (λ answer. StepsAt (map (λ node. state_of R.kept node) nodes.old.items)
+    ensures { IfOk result (λ answer. StepsAt (map (λ node. state_of R.kept node) nodes.old.items)
         place steps.Compact (said answer) (map (λ node. state_of R.kept node) nodes.new.items)) }
-    ensures err { IfErr result (λ fault. fault ≡ WorldFault.Memory) }
 {
     let node = &mut nodes[place];
     compact_in(alloc, node)
@@ -201,13 +191,12 @@ pub fn fail_at<R: Replica>(
     fail_in(node, bytes, sync)
 }
 
-/// What is said where an opening was refused for want of memory.
-pub(crate) fn want_of_memory(fault: &NodeFault) -> WorldFault
+/// What is said where a call was refused for want of memory.
+pub(crate) fn want_of_memory(fault: &NodeFault) -> NoMemory
     requires { told fault.now ≡ refusals.Memory }
-    ensures { result ≡ WorldFault.Memory }
 {
     match fault {
-        NodeFault::Memory => WorldFault::Memory,
+        NodeFault::Memory => NoMemory,
         NodeFault::Frame { .. } | NodeFault::Halted | NodeFault::Disk { .. } => unreachable!(),
         NodeFault::Conflict { .. } | NodeFault::Full | NodeFault::Exhausted => unreachable!(),
         NodeFault::Journal { .. } => unreachable!(),
@@ -222,24 +211,23 @@ fn open_again<R: Replica>(
     alloc: Global,
     node: Node<R, MemoryDisk>,
     left: u64,
-) -> Result<Node<R, MemoryDisk>, WorldFault>
+) -> Result<Node<R, MemoryDisk>, NoMemory>
     requires { IsStood (state_of R.kept node) }
-    ensures ok { IfOk result (λ new. StartsAgain (state_of R.kept node) left (records_of new)
+    ensures { IfOk result (λ new. StartsAgain (state_of R.kept node) left (records_of new)
         (state_of R.kept new)) }
-    ensures err { IfErr result (λ fault. fault ≡ WorldFault.Memory) }
 {
     let (config, mut disk) = node.into_parts();
     disk.crash(left as usize);
     match Node::open(alloc, config, disk) {
         Ok(opened) => {
             if opened.starved() {
-                return Err(WorldFault::Memory);
+                return Err(NoMemory);
             }
             Ok(opened)
         }
         Err((disk, fault)) => {
             if disk.starved() {
-                return Err(WorldFault::Memory);
+                return Err(NoMemory);
             }
             Err(want_of_memory(&fault))
         }
@@ -253,13 +241,12 @@ pub fn restart_at<R: Replica>(
     nodes: &mut Vec<Node<R, MemoryDisk>>,
     place: usize,
     left: u64,
-) -> Result<u64, WorldFault>
+) -> Result<u64, NoMemory>
     requires place { place < vec_len nodes.old }
     requires stood { AllByRecursion IsStood (map (λ node. state_of R.kept node) nodes.old.items) }
-    ensures ok { IfOk result (λ count. Moves (map (λ node. state_of R.kept node) nodes.old.items)
+    ensures { IfOk result (λ count. Moves (map (λ node. state_of R.kept node) nodes.old.items)
         place (λ old new. StartsAgain old left count new) (map (λ node. state_of R.kept node)
         nodes.new.items)) }
-    ensures err { IfErr result (λ fault. fault ≡ WorldFault.Memory) }
 {
     let old = nodes.remove(place);
     let node = open_again(alloc, old, left)?;
@@ -273,14 +260,27 @@ fn answer_of<R: Replica>(
     alloc: Global,
     peer: &Node<R, MemoryDisk>,
     digest: &Digest,
-) -> Result<Arc<Out>, WorldFault>
-    ensures ok { IfOk result (λ out.
+) -> Result<Arc<Out>, NoMemory>
+    ensures { IfOk result (λ out.
         IsAnswered digest.now (state_of R.kept peer.now).kept (said (Ok out))) }
-    ensures err { IfErr result (λ fault. fault ≡ WorldFault.Memory) }
 {
     match peer.answer(alloc, digest) {
         Ok(out) => Ok(out),
-        Err(_) => Err(WorldFault::Memory),
+        Err(fault) => Err(want_of_memory(&fault)),
+    }
+}
+
+/// What is said where there is no digest: it is too long, unless memory ran out.
+fn too_long(fault: &NodeFault) -> Result<NodeFault, NoMemory>
+    requires { IsNoDigest (told fault.now) }
+    ensures { IfOk result (λ given. (told fault.now ≡ refusals.Full) × (told given ≡ refusals.Full)) }
+{
+    match fault {
+        NodeFault::Full => Ok(NodeFault::Full),
+        NodeFault::Memory => Err(NoMemory),
+        NodeFault::Frame { .. } | NodeFault::Halted | NodeFault::Disk { .. } => unreachable!(),
+        NodeFault::Conflict { .. } | NodeFault::Exhausted => unreachable!(),
+        NodeFault::Journal { .. } => unreachable!(),
     }
 }
 
@@ -289,18 +289,16 @@ pub fn ask<R: Replica>(
     alloc: Global,
     asker: &Node<R, MemoryDisk>,
     peer: &Node<R, MemoryDisk>,
-) -> Result<Result<Arc<Out>, NodeFault>, WorldFault>
-    ensures ok { IfOk result (λ answer.
+) -> Result<Result<Arc<Out>, NodeFault>, NoMemory>
+    ensures { IfOk result (λ answer.
         AskKept (state_of R.kept asker.now).kept (state_of R.kept peer.now).kept (said answer)) }
-    ensures err { IfErr result (λ fault. fault ≡ WorldFault.Memory) }
 {
     match asker.digest(alloc) {
         Ok(out) => match &out.digest {
             Some(digest) => Ok(Ok(answer_of(alloc, peer, digest)?)),
-            None => Err(WorldFault::Memory),
+            None => unreachable!(),
         },
-        Err(NodeFault::Full) => Ok(Err(NodeFault::Full)),
-        Err(_) => Err(WorldFault::Memory),
+        Err(fault) => Ok(Err(too_long(&fault)?)),
     }
 }
 
@@ -309,16 +307,16 @@ fn view_of<R: Replica>(
     alloc: Global,
     node: &Node<R, MemoryDisk>,
     client: &ClientId,
-) -> Result<ClientView, WorldFault>
-    ensures ok { IfOk result (λ seen. seen ≡ spec.view client.now (state_of R.kept node.now).kept) }
-    ensures err { IfErr result (λ fault. fault ≡ WorldFault.Memory) }
+) -> Result<ClientView, NoMemory>
+    requires { spec.is_named client.now (state_of R.kept node.now).kept ≡ true }
+    ensures { IfOk result (λ seen. seen ≡ spec.view client.now (state_of R.kept node.now).kept) }
 {
     match node.view(alloc, client) {
         Ok(out) => match &out.view {
             Some(view) => Ok(view.copied(alloc)?),
-            None => Err(WorldFault::Memory),
+            None => unreachable!(),
         },
-        Err(_) => Err(WorldFault::Memory),
+        Err(fault) => Err(want_of_memory(&fault)),
     }
 }
 
@@ -326,13 +324,10 @@ fn view_of<R: Replica>(
 pub fn show_at<R: Replica>(
     alloc: Global,
     node: &Node<R, MemoryDisk>,
-) -> Result<Sequence<(ClientId, ClientView)>, WorldFault>
-    ensures ok { IfOk result (λ views. views ≡ shown (state_of R.kept node.now).kept) }
-    ensures err { IfErr result (λ fault. fault ≡ WorldFault.Memory) }
+) -> Result<Sequence<(ClientId, ClientView)>, NoMemory>
+    ensures { IfOk result (λ views. views ≡ shown (state_of R.kept node.now).kept) }
 {
-    let Ok(clients) = node.clients(alloc) else {
-        return Err(WorldFault::Memory);
-    };
+    let clients = node.clients(alloc)?;
     let mut views = Vec::new(alloc);
     for client in clients {
         let view = view_of(alloc, node, &client)?;

@@ -21,7 +21,7 @@ use super::field::{
 use super::world::{World, WorldFault};
 use gw_node::{Node, NodeFault, Out};
 use jr_journal::MemoryDisk;
-use octets::Sequence;
+use octets::{NoMemory, Sequence};
 use rep_model::Replica;
 use rep_ops::Delta;
 use sn_local::{Addr, Config};
@@ -29,10 +29,9 @@ use std::alloc::Global;
 use std::sync::Arc;
 
 /// Puts a delta on the list. Its type promises that it can be written.
-fn record(alloc: Global, deltas: &mut Vec<Delta>, delta: &Delta) -> Result<(), WorldFault>
+fn record(alloc: Global, deltas: &mut Vec<Delta>, delta: &Delta) -> Result<(), NoMemory>
     ensures ok { OnOk result (deltas.new.items ≡ deltas.old.items ++ delta.now ∷ []) }
     ensures writable { IsWritable delta.now }
-    ensures err { IfErr result (λ fault. fault ≡ WorldFault.Memory) }
 {
     let _ops = delta.ops();
     deltas.push(delta.copied(alloc)?)?;
@@ -40,9 +39,8 @@ fn record(alloc: Global, deltas: &mut Vec<Delta>, delta: &Delta) -> Result<(), W
 }
 
 /// Puts deltas on the list, in their order.
-fn record_all(alloc: Global, deltas: &mut Vec<Delta>, more: &[Delta]) -> Result<(), WorldFault>
-    ensures ok { OnOk result (Join deltas.old.items more.now deltas.new.items) }
-    ensures err { IfErr result (λ fault. fault ≡ WorldFault.Memory) }
+fn record_all(alloc: Global, deltas: &mut Vec<Delta>, more: &[Delta]) -> Result<(), NoMemory>
+    ensures { OnOk result (Join deltas.old.items more.now deltas.new.items) }
 {
     for delta in more {
         record(alloc, deltas, delta)?;
@@ -55,9 +53,8 @@ fn record_made(
     alloc: Global,
     deltas: &mut Vec<Delta>,
     answer: &Result<Arc<Out>, NodeFault>,
-) -> Result<(), WorldFault>
-    ensures ok { OnOk result (Join deltas.old.items (made_of (said answer.now)) deltas.new.items) }
-    ensures err { IfErr result (λ fault. fault ≡ WorldFault.Memory) }
+) -> Result<(), NoMemory>
+    ensures { OnOk result (Join deltas.old.items (made_of (said answer.now)) deltas.new.items) }
 {
     match answer {
         Ok(out) => match &out.made {
@@ -73,10 +70,9 @@ fn record_answered(
     alloc: Global,
     deltas: &mut Vec<Delta>,
     answer: &Result<Arc<Out>, NodeFault>,
-) -> Result<(), WorldFault>
-    ensures ok { OnOk result (Join deltas.old.items (answered_of (said answer.now))
+) -> Result<(), NoMemory>
+    ensures { OnOk result (Join deltas.old.items (answered_of (said answer.now))
         deltas.new.items) }
-    ensures err { IfErr result (λ fault. fault ≡ WorldFault.Memory) }
 {
     match answer {
         Ok(out) => record_all(alloc, deltas, out.answer.as_slice()),
@@ -93,12 +89,11 @@ fn play_frame<R: Replica>(
     from: Addr,
     bytes: &[u8],
     now: u64,
-) -> Result<Answer, WorldFault>
+) -> Result<Answer, NoMemory>
     requires { place < vec_len nodes.old }
-    ensures ok { IfOk result (OwnAnswered (map (λ node. state_of R.kept node) nodes.old.items)
+    ensures { IfOk result (OwnAnswered (map (λ node. state_of R.kept node) nodes.old.items)
         deltas.old.items place (steps.Frame from bytes.now now) (map (λ node. state_of R.kept node)
         nodes.new.items) deltas.new.items) }
-    ensures err { IfErr result (λ fault. fault ≡ WorldFault.Memory) }
 {
     let answer = frame_at(alloc, nodes, place, from, bytes, now)?;
     record_made(alloc, deltas, &answer)?;
@@ -112,12 +107,11 @@ fn play_tick<R: Replica>(
     deltas: &mut Vec<Delta>,
     place: usize,
     now: u64,
-) -> Result<Answer, WorldFault>
+) -> Result<Answer, NoMemory>
     requires { place < vec_len nodes.old }
-    ensures ok { IfOk result (OwnAnswered (map (λ node. state_of R.kept node) nodes.old.items)
+    ensures { IfOk result (OwnAnswered (map (λ node. state_of R.kept node) nodes.old.items)
         deltas.old.items place (steps.Tick now) (map (λ node. state_of R.kept node) nodes.new.items)
         deltas.new.items) }
-    ensures err { IfErr result (λ fault. fault ≡ WorldFault.Memory) }
 {
     let answer = tick_at(alloc, nodes, place, now)?;
     record_made(alloc, deltas, &answer)?;
@@ -130,11 +124,10 @@ fn play_take<R: Replica>(
     nodes: &mut Vec<Node<R, MemoryDisk>>,
     place: usize,
     delta: &Delta,
-) -> Result<Answer, WorldFault>
+) -> Result<Answer, NoMemory>
     requires { place < vec_len nodes.old }
-    ensures ok { IfOk result (StepAnswered (map (λ node. state_of R.kept node) nodes.old.items)
+    ensures { IfOk result (StepAnswered (map (λ node. state_of R.kept node) nodes.old.items)
         place (steps.Take delta.now) (map (λ node. state_of R.kept node) nodes.new.items)) }
-    ensures err { IfErr result (λ fault. fault ≡ WorldFault.Memory) }
 {
     Ok(Answer::Node(take_at(alloc, nodes, place, delta)?))
 }
@@ -144,11 +137,10 @@ fn play_compact<R: Replica>(
     alloc: Global,
     nodes: &mut Vec<Node<R, MemoryDisk>>,
     place: usize,
-) -> Result<Answer, WorldFault>
+) -> Result<Answer, NoMemory>
     requires { place < vec_len nodes.old }
-    ensures ok { IfOk result (StepAnswered (map (λ node. state_of R.kept node) nodes.old.items)
+    ensures { IfOk result (StepAnswered (map (λ node. state_of R.kept node) nodes.old.items)
         place steps.Compact (map (λ node. state_of R.kept node) nodes.new.items)) }
-    ensures err { IfErr result (λ fault. fault ≡ WorldFault.Memory) }
 {
     Ok(Answer::Node(compact_at(alloc, nodes, place)?))
 }
@@ -159,12 +151,11 @@ fn play_restart<R: Replica>(
     nodes: &mut Vec<Node<R, MemoryDisk>>,
     place: usize,
     keep: u64,
-) -> Result<Answer, WorldFault>
+) -> Result<Answer, NoMemory>
     requires place { place < vec_len nodes.old }
     requires stood { AllByRecursion IsStood (map (λ node. state_of R.kept node) nodes.old.items) }
-    ensures ok { IfOk result (RestartAnswered (map (λ node. state_of R.kept node) nodes.old.items)
+    ensures { IfOk result (RestartAnswered (map (λ node. state_of R.kept node) nodes.old.items)
         place keep (map (λ node. state_of R.kept node) nodes.new.items)) }
-    ensures err { IfErr result (λ fault. fault ≡ WorldFault.Memory) }
 {
     Ok(Answer::Records(restart_at(alloc, nodes, place, keep)?))
 }
@@ -192,13 +183,12 @@ fn play_ask<R: Replica>(
     deltas: &mut Vec<Delta>,
     place: usize,
     other: usize,
-) -> Result<Answer, WorldFault>
+) -> Result<Answer, NoMemory>
     requires place { place < length nodes.now }
     requires other { other < length nodes.now }
-    ensures ok { IfOk result (AskAnswered (map (λ node. state_of R.kept node) nodes.now)
+    ensures { IfOk result (AskAnswered (map (λ node. state_of R.kept node) nodes.now)
         deltas.old.items
         place other deltas.new.items) }
-    ensures err { IfErr result (λ fault. fault ≡ WorldFault.Memory) }
 {
     let answer = ask(alloc, &nodes[place], &nodes[other])?;
     record_answered(alloc, deltas, &answer)?;
@@ -224,7 +214,7 @@ fn play_answer<R: Replica>(
     let Some(other) = place_of(nodes, peer) else {
         return Err(WorldFault::NoGateway { event: number });
     };
-    play_ask(alloc, nodes, deltas, place, other)
+    Ok(play_ask(alloc, nodes, deltas, place, other)?)
 }
 
 /// What the gateway in this place knows.
@@ -232,16 +222,12 @@ fn play_show<R: Replica>(
     alloc: Global,
     nodes: &Vec<Node<R, MemoryDisk>>,
     place: usize,
-) -> Result<Answer, WorldFault>
+) -> Result<Answer, NoMemory>
     requires { place < vec_len nodes.now }
-    ensures ok { IfOk result (ShowAnswered (map (λ node. state_of R.kept node)
+    ensures { IfOk result (ShowAnswered (map (λ node. state_of R.kept node)
         nodes.now.items) place) }
-    ensures err { IfErr result (λ fault. fault ≡ WorldFault.Memory) }
 {
-    match show_at(alloc, &nodes[place]) {
-        Ok(views) => Ok(Answer::Views(views)),
-        Err(_) => Err(WorldFault::Memory),
-    }
+    Ok(Answer::Views(show_at(alloc, &nodes[place])?))
 }
 
 /// The delta of this number; the first has number 1.
@@ -279,19 +265,19 @@ fn play_at<R: Replica>(
             bytes,
             now,
             ..
-        } => play_frame(alloc, nodes, deltas, place, *from, bytes.as_slice(), *now),
-        Event::Tick { now, .. } => play_tick(alloc, nodes, deltas, place, *now),
+        } => Ok(play_frame(alloc, nodes, deltas, place, *from, bytes.as_slice(), *now)?),
+        Event::Tick { now, .. } => Ok(play_tick(alloc, nodes, deltas, place, *now)?),
         Event::Take { delta, .. } => match delta_at(deltas.as_slice(), *delta) {
-            Some(delta) => play_take(alloc, nodes, place, delta),
+            Some(delta) => Ok(play_take(alloc, nodes, place, delta)?),
             None => Err(WorldFault::NoDelta { event: number }),
         },
         Event::Answer { peer, .. } => {
             play_answer(alloc, nodes.as_slice(), deltas, place, *peer, number)
         }
         Event::WriteFails { bytes, sync, .. } => Ok(play_fail(nodes, place, *bytes, *sync)),
-        Event::Compact { .. } => play_compact(alloc, nodes, place),
-        Event::Restart { keep, .. } => play_restart(alloc, nodes, place, *keep),
-        Event::Show { .. } => play_show(alloc, nodes, place),
+        Event::Compact { .. } => Ok(play_compact(alloc, nodes, place)?),
+        Event::Restart { keep, .. } => Ok(play_restart(alloc, nodes, place, *keep)?),
+        Event::Show { .. } => Ok(play_show(alloc, nodes, place)?),
     }
 }
 
@@ -320,20 +306,19 @@ fn play_event<R: Replica>(
 ///
 /// The disk stands for no operations and no failure is arranged on it, so nothing refuses the
 /// opening but want of memory.
-fn new_node<R: Replica>(alloc: Global, config: &Config) -> Result<Node<R, MemoryDisk>, WorldFault>
-    ensures ok { IfOk result (λ node. IsShown (new_gateway config.now) (state_of R.kept node)) }
-    ensures err { IfErr result (λ fault. fault ≡ WorldFault.Memory) }
+fn new_node<R: Replica>(alloc: Global, config: &Config) -> Result<Node<R, MemoryDisk>, NoMemory>
+    ensures { IfOk result (λ node. IsShown (new_gateway config.now) (state_of R.kept node)) }
 {
     match Node::open(alloc, config.copied(alloc)?, MemoryDisk::new(alloc)) {
         Ok(node) => {
             if node.starved() {
-                return Err(WorldFault::Memory);
+                return Err(NoMemory);
             }
             Ok(node)
         }
         Err((disk, fault)) => {
             if disk.starved() {
-                return Err(WorldFault::Memory);
+                return Err(NoMemory);
             }
             Err(want_of_memory(&fault))
         }
@@ -344,10 +329,9 @@ fn new_node<R: Replica>(alloc: Global, config: &Config) -> Result<Node<R, Memory
 fn new_nodes<R: Replica>(
     alloc: Global,
     configs: &[Config],
-) -> Result<Vec<Node<R, MemoryDisk>>, WorldFault>
-    ensures ok { IfOk result (λ nodes. AreShown (map new_gateway configs.now)
+) -> Result<Vec<Node<R, MemoryDisk>>, NoMemory>
+    ensures { IfOk result (λ nodes. AreShown (map new_gateway configs.now)
         (map (λ node. state_of R.kept node) nodes.items)) }
-    ensures err { IfErr result (λ fault. fault ≡ WorldFault.Memory) }
 {
     let mut nodes = Vec::with_capacity(alloc, configs.len())?;
     for config in configs {

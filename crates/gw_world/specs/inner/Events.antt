@@ -76,6 +76,17 @@ IsAnswered asked kept (Ok out) =
     IsAnswer asked kept out.answer × (out ≡ record (only_sends []) { answer = out.answer })
 IsAnswered asked kept (Err refusal) = ⊥
 
+-- why a gateway gives no digest: it is too long, or memory ran out
+abbrev pub IsNoDigest : Refusal → Type 0
+IsNoDigest refusals.Full = Unit {0}
+IsNoDigest refusals.Memory = Unit {0}
+IsNoDigest (refusals.Frame fault) = ⊥
+IsNoDigest refusals.Halted = ⊥
+IsNoDigest (refusals.Disk excuse) = ⊥
+IsNoDigest (refusals.Conflict client) = ⊥
+IsNoDigest refusals.Exhausted = ⊥
+IsNoDigest (refusals.Journal fault) = ⊥
+
 -- what the digest of what is kept comes to at a peer, by what that one keeps
 abbrev pub AskKept : List Op → List Op → Result Out Refusal → Type 0
 AskKept kept other (Ok out) =

@@ -15,4 +15,4 @@ returns-in-Ok-Err g c =
 
 pub returns : goal.returns
 returns g c =
-    starved_refused _ _ _ _ _ _ _ _ c.in-Ok-Err.is c.in-Ok-Err.field-0-is c.in-Ok.ensures.ok (sym c.is_halted.ensures ∙ c.if-is_halted.false) c.in-Err-dropped.ensures c.call-pass.ensures.made
+    starved_refused _ _ _ _ _ _ _ _ c.in-Ok-Err.is c.in-Ok-Err.field-0-is c.in-Ok.ensures.ok (sym c.is_halted.ensures ∙ c.if-is_halted.false) refl c.call-pass.ensures.made

@@ -6,8 +6,8 @@ use Rattle.gw_world.specs.inner.Events.{GoesOn}
 use Rattle.gw_world.proofs.Going.{goes_on, if_fed}
 use Rattle.gw_world.proofs.field.frame_to.Goals as goal
 
-pub returns-clause-ok : goal.returns-clause-ok
-returns-clause-ok g c =
+pub returns : goal.returns
+returns g c =
     if_fed c.unless_starved.result said (said c.frame-answer.result) (λ answer. GoesOn (state_of g.R.Replica.kept c.args.node.now) (steps.Frame c.args.from c.args.bytes.now c.args.now) answer (state_of g.R.Replica.kept c.frame-answer.new.self))
     c.unless_starved.ensures.same c.unless_starved.ensures.memory c.unless_starved.ensures.fed
     (λ memory fed. goes_on (state_of g.R.Replica.kept c.args.node.now) (state_of g.R.Replica.kept c.frame-answer.new.self) (steps.Frame c.args.from c.args.bytes.now c.args.now) (said c.frame-answer.result) tt fed memory (λ gateway s. tt) c.frame-answer.ensures.event)

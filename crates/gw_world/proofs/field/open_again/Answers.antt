@@ -18,8 +18,8 @@ want_of_memory-requires g c =
     (c.in-Err.ensures.fault tt)
     (c.in-Err.ensures.blameless tt (quiet_left old _ _ c.requires outlook (begun_left old c.args.left _ tt c.requires found)) (sym c.starved-in-Err.ensures ∙ c.if-starved-2.false)).0
 
-pub returns-else-starved-clause-ok : goal.returns-else-starved-clause-ok
-returns-else-starved-clause-ok g c = λ gateway s.
+pub returns-else-starved : goal.returns-else-starved
+returns-else-starved g c = λ gateway s.
     let old = state_of g.R.Replica.kept c.args.node in
     let found = ap (λ (d : MemoryState). image d.slots) c.crash.ensures ∙ crash_left c.args.left c.into_parts-config.result.1
     ∙ ap (λ (d : MemoryState). after_crash c.args.left c.args.left d.slots) c.into_parts-config.ensures.disk in

@@ -13,11 +13,11 @@ open_again-requires g c =
     (there_in_place (λ node. state_of g.R.Replica.kept node) c.args.nodes.now.items c.args.place c.remove-old.result
     (slice_get_read c.args.nodes.now.items _ c.args.place _ c.args.nodes.now.ok.0 c.requires.place c.remove-old.ensures.value))
 
-pub returns-clause-ok : goal.returns-clause-ok
-returns-clause-ok g c =
+pub returns : goal.returns
+returns g c =
     let within = subst (λ n. c.args.place < n) c.args.nodes.now.ok.0 c.requires.place in
     let items = c.in_ok-insert.ensures.items ∙ ap (λ xs. insert xs c.args.place c.in_ok-node.node) c.remove-old.ensures.items ∙ put_back c.args.nodes.now.items c.args.place c.in_ok-node.node within in
     subst (λ xs. Moves (map (λ node. state_of g.R.Replica.kept node) c.args.nodes.now.items) c.args.place (λ old new. StartsAgain old c.args.left c.records-count.result new) (map (λ node. state_of g.R.Replica.kept node) xs)) (sym items)
     (moves_in_place (λ node. state_of g.R.Replica.kept node) c.args.nodes.now.items c.args.place c.remove-old.result c.in_ok-node.node (λ old new. StartsAgain old c.args.left c.records-count.result new)
     (slice_get_read c.args.nodes.now.items _ c.args.place _ c.args.nodes.now.ok.0 c.requires.place c.remove-old.ensures.value)
-    (λ gateway s. let h = c.in_ok-node.ensures.ok gateway s in (h.0, c.records-count.ensures ∙ h.1)))
+    (λ gateway s. let h = c.in_ok-node.ensures gateway s in (h.0, c.records-count.ensures ∙ h.1)))

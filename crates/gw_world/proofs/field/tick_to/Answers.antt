@@ -6,8 +6,8 @@ use Rattle.gw_world.specs.inner.Events.{GoesOn}
 use Rattle.gw_world.proofs.Going.{goes_on, if_fed}
 use Rattle.gw_world.proofs.field.tick_to.Goals as goal
 
-pub returns-clause-ok : goal.returns-clause-ok
-returns-clause-ok g c =
+pub returns : goal.returns
+returns g c =
     if_fed c.unless_starved.result said (said c.tick-answer.result) (λ answer. GoesOn (state_of g.R.Replica.kept c.args.node.now) (steps.Tick c.args.now) answer (state_of g.R.Replica.kept c.tick-answer.new.self))
     c.unless_starved.ensures.same c.unless_starved.ensures.memory c.unless_starved.ensures.fed
     (λ memory fed. goes_on (state_of g.R.Replica.kept c.args.node.now) (state_of g.R.Replica.kept c.tick-answer.new.self) (steps.Tick c.args.now) (said c.tick-answer.result) tt fed memory (λ gateway s. tt) c.tick-answer.ensures.event)

@@ -16,8 +16,8 @@ want_of_memory-requires g c =
     (c.in-Err.ensures.fault tt)
     (c.in-Err.ensures.blameless tt (unplanned _ _ c.new.ensures) (sym c.starved-in-Err.ensures ∙ c.if-starved-2.false)).0
 
-pub returns-else-starved-clause-ok : goal.returns-else-starved-clause-ok
-returns-else-starved-clause-ok g c =
+pub returns-else-starved : goal.returns-else-starved
+returns-else-starved g c =
     let fed = sym c.starved.ensures ∙ c.if-starved.false in
     subst (λ (config : Config). IsShown (new_gateway config) (state_of g.R.Replica.kept c.in-Ok.node)) c.in_ok-copied.ensures
     (new_shown c.in_ok-copied.field-0 _ (state_of g.R.Replica.kept c.in-Ok.node) (ap (λ (d : MemoryState). image d.slots) c.new.ensures)

@@ -3,10 +3,10 @@ use Rattle.std.proofs.lemmas.Option.{slice_get_read}
 use Rattle.gw_world.proofs.Moving.{there_in_place}
 use Rattle.gw_world.proofs.running.play_show.Goals as goal
 
-pub returns-in-Ok-clause-ok : goal.returns-in-Ok-clause-ok
-returns-in-Ok-clause-ok g c = (
+pub returns : goal.returns
+returns g c = (
   _,
   there_in_place _ c.args.nodes.now.items c.args.place c.index.result.now
       (slice_get_read c.args.nodes.now.items _ c.args.place _ c.args.nodes.now.ok.0 c.requires c.index.ensures),
-  c.in-Ok.ensures.ok,
+  c.in_ok-show_at.ensures,
 )

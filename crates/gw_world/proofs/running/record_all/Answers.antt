@@ -12,5 +12,5 @@ loop-delta-preserved c =
     take_more c.args.more.now c.loop-delta.delta-index delta c.loop-delta-test.true ∙ ap (λ x. before ++ x ∷ []) (sym c.delta-item.is) in
     rw more (join_more _ before _ _ delta c.loop-delta.invariant c.in_ok-record.ensures.writable c.in_ok-record.ensures.ok)
 
-pub returns-clause-ok : goal.returns-clause-ok
-returns-clause-ok c = let all = take_all c.loop-delta.delta-index c.args.more.now c.loop-delta-test.false in rw all at c.loop-delta.invariant
+pub returns : goal.returns
+returns c = let all = take_all c.loop-delta.delta-index c.args.more.now c.loop-delta-test.false in rw all at c.loop-delta.invariant

@@ -4,14 +4,14 @@ use Rattle.gw_world.proofs.Fields.{led_at_start, stops_from_start, world_from_st
 use Rattle.gw_world.proofs.running.run.Goals as goal
 
 pub play_all-requires : goal.play_all-requires
-play_all-requires g c = led_at_start c.args.configs.now _ _ c.in_ok-nodes.ensures.ok c.new-deltas.ensures.items
+play_all-requires g c = led_at_start c.args.configs.now _ _ c.in_ok-nodes.ensures c.new-deltas.ensures.items
 
 pub returns-in-Err-clause-err : goal.returns-in-Err-clause-err
 returns-in-Err-clause-err g c =
-    stops_from_start c.args.configs.now _ _ c.args.events.now c.in-Err.fault c.in_ok-nodes.ensures.ok c.new-deltas.ensures.items c.in-Err.ensures.err
+    stops_from_start c.args.configs.now _ _ c.args.events.now c.in-Err.fault c.in_ok-nodes.ensures c.new-deltas.ensures.items c.in-Err.ensures.err
 
 pub returns-clause-ok : goal.returns-clause-ok
 returns-clause-ok g c =
     rw (c.new.ensures, c.new-2.ensures, c.new-3.ensures)
     (world_from_start (λ node. state_of g.R.Replica.kept node) c.args.configs.now c.args.events.now _ _ _ _ _
-    c.in_ok-nodes.ensures.ok c.new-deltas.ensures.items c.in-Ok.ensures.ok)
+    c.in_ok-nodes.ensures c.new-deltas.ensures.items c.in-Ok.ensures.ok)

@@ -1,10 +1,9 @@
 use Rattle.gw_node.specs.Parts.{state_of}
 use Rattle.gw_answer.specs.declared.step.Step.TheVariants as steps
-use Rattle.gw_node.proofs.Leading.{event_on, view_call}
+use Rattle.gw_node.proofs.Leading.{event_on}
 use Rattle.gw_node.proofs.node.Node.view.Goals as goal
 
 pub returns-clause-event : goal.returns-clause-event
 returns-clause-event g c =
     rw c.one_share.ensures
-    (event_on (state_of g.R.Replica.kept c.args.self.now) (state_of g.R.Replica.kept c.args.self.now) (steps.View c.args.client.now) c.handle_view.result
-    (view_call (state_of g.R.Replica.kept c.args.self.now) c.args.client.now c.handle_view.result c.handle_view.ensures.ok c.handle_view.ensures.err))
+    (event_on (state_of g.R.Replica.kept c.args.self.now) (state_of g.R.Replica.kept c.args.self.now) (steps.View c.args.client.now) c.handle_view.result c.handle_view.ensures)
