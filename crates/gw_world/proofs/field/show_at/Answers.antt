@@ -1,5 +1,5 @@
 -- Each client is named, so it has a view.
-use Rattle.std.proofs.Common.{◌≡◌, ◌∷◌, ◌++◌, [], ℕ, List, true, ap, sym, ◌∙◌, subst, map, append_assoc}
+use Rattle.std.proofs.Common.{◌≡◌, ◌++◌, ℕ, List, true, ap, sym, ◌∙◌, subst, map}
 use Rattle.std.specs.List.{AllByRecursion}
 use Rattle.rep_model.specs.declared.view.ClientView.{ClientView}
 use Rattle.rep_model.specs.Views.{view, is_named}
@@ -14,7 +14,10 @@ view_of-requires g c =
 
 pub loop-client-init : goal.loop-client-init
 loop-client-init g c =
-    let S = (state_of g.R.Replica.kept c.args.node.now).kept in (
-      ap (map (λ x. (x, view x S))) c.in_ok-clients.ensures,
-      subst (AllByRecursion (λ x. is_named x S ≡ true)) (sym c.in_ok-clients.ensures) (all_named S),
+    let S = (state_of g.R.Replica.kept c.args.node.now).kept in
+    let left = c.into_iter-client-iterator.result.rest.items in
+    let row : List ℕ → List ℕ × ClientView = λ x. (x, view x S) in
+    let is = c.into_iter-client-iterator.ensures.into_iter_gives.0 ∙ c.in_ok-clients.ensures in (
+      ap (λ (made : List (List ℕ × ClientView)). made ++ map row left) c.new-views.ensures.items ∙ ap (map row) is,
+      subst (AllByRecursion (λ x. is_named x S ≡ true)) (sym is) (all_named S),
     )
