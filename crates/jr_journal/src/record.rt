@@ -31,11 +31,11 @@ fn append_delta(out: &mut Vec<u8>, delta: &Delta) -> Result<(), NoMemory>
 }
 
 /// Writes the length of a record's delta behind its tag.
-fn set_length(record: &mut [u8], size: u32)
-    requires { 5 ≤ length record.old }
-    ensures { record.new ≡ take 1 record.old ++ (big_bytes 4 size ++ drop 5 record.old) }
+fn set_length(bytes: &mut [u8], size: u32)
+    requires { 5 ≤ length bytes.old }
+    ensures { bytes.new ≡ take 1 bytes.old ++ (big_bytes 4 size ++ drop 5 bytes.old) }
 {
-    BigEndian::write_u32(&mut record[1..], size);
+    BigEndian::write_u32(&mut bytes[1..], size);
 }
 
 /// Appends a record: its tag, its length, the delta's bytes. These are written once, where they
