@@ -208,7 +208,7 @@ def edit(root, name, names):
             command = words(root, read_crates(root), "check", name, "1")
             ran = subprocess.run([*command, "--incremental", f"{copy}/out/over"], cwd=copy, capture_output=True, text=True)
             lines = (ran.stdout + ran.stderr).splitlines()
-            first = next((line for line in lines if ": error" in line), "")
+            first = next((line for line in lines if ": error" in line or ": note" in line), "")
             refused = ran.returncode == 1 and any(line.startswith("logic=not-proved") for line in lines)
             print(f"{it}: {'refused' if refused else 'NOT REFUSED'}: {first[:160]}", flush=True)
             let_through += not refused
