@@ -122,6 +122,7 @@ def main(given):
     script.rt.KEPT = ["--incremental", "out/over"]
     script.rt.main, script.rt.Crate, script.rt.root_above = check, Crate, lambda _: root
     script.libraries = lambda _: libraries_of(script, root, crates, name)
+    os.makedirs(f"{folder}/out/over", exist_ok=True)
     os.chdir(folder)
     return script.main(*flags)
 
