@@ -1,8 +1,12 @@
 #!/usr/bin/env python3
-"""Publications of gw_sim: messages put per second, to many subscribers beside few, behind many waiting messages beside few, and on
-the folded replica beside the plain one (`gw_sim --plain`), which was the only one at first, and beside what this script told then.
+"""Publications of gw_sim: messages put per second, to many subscribers beside few, behind many waiting messages beside few, on the
+folded replica beside the plain one (`gw_sim --plain`), and beside a gw_sim of an earlier commit, where one is given.
 
-Usage: bench/publications.py PROGRAM
+Usage: bench/publications.py PROGRAM [BEFORE]
+
+BEFORE is the gw_sim of the last commit at which fields ran on the plain replica alone, as `bench/before.sh` builds it: the goals, five
+times as many messages by publications to 1,000 and ten times as many one by one, were set beside it. The plain replica of today is no
+measure of them, since all around it is today's too.
 
 Subscribers are asleep, so that messages wait; publications come without a connection (MQTT-SN 1.2 section 6.8) and by a short
 name. Of each script the processor time of its first part, in which clients connect and subscribe, is taken off. Each is run three
@@ -12,9 +16,7 @@ import sys
 
 from sessions import frame, seconds
 
-# Messages per second that this script told when the plain replica was the only one, on a machine said to be idle: by publications to 1,000
-# at a time, and one by one. On a slower machine they were 53,300 and 3,200. Day and machine are not known, so the ratio is a rough one.
-FIRST_MANY, FIRST_LONG = 62000, 3400
+GOAL_MANY, GOAL_LONG = 5, 10
 
 
 def asleep(client: int, topic: bytes) -> list:
@@ -52,12 +54,11 @@ def behind(program: str, apiece: int, *words: str) -> float:
     return 1000 / best(program, setup, lines, *words)
 
 
-def beside(what: str, folded: float, plain: float, first: float, goal: float) -> None:
-    """Messages per second on both replicas, how often that of the plain one, and of the plain one at first."""
-    ratios = folded / plain, folded / first
-    said = ["met" if ratio >= goal else "MISSED" for ratio in ratios]
-    print(f"  {what}: {folded:.0f} per second, on the plain replica {plain:.0f}, {ratios[0]:.1f} times as many, goal {goal:g}: {said[0]};"
-          f" at first {first}, {ratios[1]:.1f} times as many: {said[1]}")
+def beside(what: str, folded: float, other: float, name: str, goal: float) -> None:
+    """Messages per second, and how often those of another build or replica."""
+    ratio = folded / other
+    said = f", goal {goal:g}: {'met' if ratio >= goal else 'MISSED'}" if goal else ""
+    print(f"  {what}: {folded:.0f} per second, {name} {other:.0f}, {ratio:.1f} times as many{said}")
 
 
 def main() -> None:
@@ -69,9 +70,14 @@ def main() -> None:
     print("1,000 messages put one by one")
     print(f"  up to 1,000 waiting for one client {long:.0f} per second, up to 100 for each of ten {short:.0f},"
           f" {long / short:.2f} times as many")
-    print("on both replicas")
-    beside("by publications to 1,000 at a time", many, fan_out(program, 1000, 4, "--plain"), FIRST_MANY, 5)
-    beside("one by one, up to 1,000 for one client", long, behind(program, 1000, "--plain"), FIRST_LONG, 10)
+    print("beside today's plain replica")
+    beside("by publications to 1,000 at a time", many, fan_out(program, 1000, 4, "--plain"), "on the plain replica", 0)
+    beside("one by one, up to 1,000 for one client", long, behind(program, 1000, "--plain"), "on the plain replica", 0)
+    if len(sys.argv) > 2:
+        before = sys.argv[2]
+        print("beside the commit before the folded replica")
+        beside("by publications to 1,000 at a time", many, fan_out(before, 1000, 20), "there", GOAL_MANY)
+        beside("one by one, up to 1,000 for one client", long, behind(before, 1000), "there", GOAL_LONG)
 
 
 main()

@@ -34,9 +34,8 @@ ghost use Rattle.gw_node.specs.Event.{IsPlan, IsTooMuch, OwnStep};
 ghost use Rattle.field_laws.specs.OwnPlans.{AreNumbered, IsTooLong};
 ghost use Rattle.field_laws.specs.Takes.{IsTakeAtZero};
 
-/// In every run, whatever comes to a gateway: it keeps well, and the operations of its plan can be
-/// written. They are well made, with counter 0 exactly at those that take a session, and no two
-/// have a name in common.
+/// In every run, whatever comes to a gateway: it keeps well, and the operations of its plan are well
+/// made, with counter 0 exactly at those that take a session, and no two have a name in common.
 pub fn own_plans()
     ensures keeps { (configs : List Config) (events : List Event) (answers : List Answer)
         (field : Field) (number i : ℕ) (gateway : Gateway) → AreNumbered configs

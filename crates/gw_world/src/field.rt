@@ -273,7 +273,8 @@ fn answer_of<R: Replica>(
 /// What is said where there is no digest: it is too long, unless memory ran out.
 fn too_long(fault: &NodeFault) -> Result<NodeFault, NoMemory>
     requires { IsNoDigest (told fault.now) }
-    ensures { IfOk result (λ given. (told fault.now ≡ refusals.Full) × (told given ≡ refusals.Full)) }
+    ensures { IfOk result (λ given. (told fault.now ≡ refusals.Full)
+        × (told given ≡ refusals.Full)) }
 {
     match fault {
         NodeFault::Full => Ok(NodeFault::Full),

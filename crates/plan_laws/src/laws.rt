@@ -22,9 +22,8 @@ ghost use Rattle.sn_tick.specs.Ticking.{tick};
 ghost use Rattle.plan_laws.specs.KeepsWell.{KeepsWell};
 ghost use Rattle.plan_laws.specs.BoundUp.{IsUp};
 
-/// The operations of a plan can always be written: of each frame and of each tick, at a gateway
-/// that keeps well, they are well made, and no two of them have a name in common, acknowledgements
-/// neither.
+/// The operations of every plan, of each frame and of each tick, are well made at a gateway that
+/// keeps well, and no two of them have a name in common, acknowledgements neither.
 pub fn every_plan()
     ensures steps { (g : ℕ) (predefined : Entries) (S : List Op) (local : Local) (a : Addr)
         (frame : Frame) (now : ℕ) (plan : Plan) → KeepsWell g S local
