@@ -75,10 +75,10 @@ install:
 	@sh tools/install.sh "$(DESTDIR)" "$(PREFIX)"
 
 uninstall:
-	rm -f $(PROGRAMS:%=$(DESTDIR)$(PREFIX)/bin/%)
-	rm -f $(SHARE)/man/man8/sngw.8 $(SHARE)/man/man8/jr_look.8 $(SHARE)/man/man1/sn_client.1 $(SHARE)/man/man1/gw_sim.1
+	for name in $(PROGRAMS); do rm -f "$(DESTDIR)$(PREFIX)/bin/$$name"; done
+	for page in man8/sngw.8 man8/jr_look.8 man1/sn_client.1 man1/gw_sim.1; do rm -f "$(SHARE)/man/$$page"; done
 	rm -f "$(UNITS)/nimhazel@.service"
-	rm -rf $(SHARE)/doc/nimhazel
+	for name in one two three; do rm -f "$(SHARE)/doc/nimhazel/field/$$name.toml"; done
 
 bench:
 	@sh bench/play.sh

@@ -20,8 +20,9 @@ pub const MOST_TICKS: u64 = 1_024;
 /// How many milliseconds pass before the clock is looked at again.
 const A_LOOK: u64 = 100;
 
-/// How many seconds pass between two ticks at most, where nothing stood still.
-const A_BREATH: u64 = 2;
+/// How many seconds pass between two ticks at most, where nothing stood still: the clock is looked
+/// at several times in each.
+const A_BREATH: u64 = 1;
 
 /// Ticks in each second while the shift is serving: until a tick gives nothing, and no oftener than
 /// `MOST_TICKS`. What a tick has to send is sent at once. A second in which it has ticked in an
@@ -179,7 +180,8 @@ fn gives(out: &Out) -> bool {
     out.made.is_some() || !out.sends.is_empty()
 }
 
-/// Sends what a tick answered. What cannot be sent is sent again when its time comes.
+/// Sends what a tick answered. What cannot be sent is sent again when its time comes, but at
+/// quality of service 0.
 fn send_all<P: Post>(post: &P, out: &Out) {
     for send in out.sends.as_slice() {
         let _ = post.send(send.to, send.bytes.as_slice());

@@ -282,7 +282,8 @@ fn refused<P: Post, G: Gate>(post: &P, gate: &G, number: u64, fault: CallFault) 
     }
 }
 
-/// Sends what a call answered. A reply whose send fails is dropped: the client tries again.
+/// Sends what a call answered. A reply whose send fails is dropped: the client tries again, or the
+/// gateway does, but for a message at quality of service 0.
 fn send_all<P: Post, G: Gate>(post: &P, gate: &G, number: u64, out: &Arc<Out>) {
     gate.before_send(number);
     for reply in out.sends.as_slice() {

@@ -10,14 +10,18 @@ use mio::net::UdpSocket;
 use mio::{Events, Interest, Poll, Token};
 use sn_local::Addr;
 use std::alloc::Global;
-use std::io;
 use std::io::ErrorKind;
 use std::net::{Ipv4Addr, Net, SocketAddr, SocketAddrV4};
 use std::time::{Clock, Duration};
+use std::{io, thread};
 
 /// How many milliseconds a receive waits for a datagram. As long a shift that has had all its calls
 /// may go on.
 const A_WHILE: u64 = 10;
+
+/// How often a datagram is offered to the system while that has no room for it: some tens of
+/// milliseconds in all.
+const MOST_OFFERS: u32 = 20_000;
 
 /// A UDP socket with what tells that it is readable.
 #[derive(Drop)]
@@ -185,10 +189,17 @@ impl<'a, C: Clock> Wire for Ears<'a, C> {
 }
 
 impl<'a> Post for Mouth<'a> {
+    /// Where the system has no room, the datagram is offered again while other threads run: a client
+    /// that wakes is sent all that waits at quality of service 0 at once, and nothing sends that
+    /// again.
     fn send(&self, to: Addr, bytes: &[u8]) -> Result<(), Unsent> {
-        match self.socket.send_to(bytes, address(to)) {
-            Ok(_) => Ok(()),
-            Err(_) => Err(Unsent),
+        for _ in 0..MOST_OFFERS {
+            match self.socket.send_to(bytes, address(to)) {
+                Ok(_) => return Ok(()),
+                Err(e) if e.kind() == ErrorKind::WouldBlock => thread::yield_now(),
+                Err(_) => return Err(Unsent),
+            }
         }
+        Err(Unsent)
     }
 }

@@ -1,7 +1,7 @@
 //! When a frame is sent again, and when a run is over. A moment is a number of milliseconds since
 //! the run began.
 
-ghost use Rattle.std.specs.Prelude.{◌≡◌, ◌≤◌, ◌<◌, ◌*◌, IsTrue, IsFalse, IsSome, if◌then◌else◌, false, true};
+ghost use Rattle.std.specs.Prelude.{◌≡◌, ◌≤◌, ◌<◌, ◌*◌, ◌-◌, IsTrue, IsFalse, IsSome, if◌then◌else◌, false, true};
 
 use crate::talk::Talk;
 
@@ -16,7 +16,10 @@ const SILENCE: u64 = 300;
 /// The moments of a run.
 #[derive(Clone, Copy)]
 pub(crate) struct Pace {
-    /// When the run is over whatever comes.
+    /// When the time began to be counted: with the run, and for who wakes up with each frame that
+    /// comes.
+    pub since: u64,
+    /// How long after that the run is over whatever comes.
     pub limit: u64,
     /// When the pending frame was sent last, if it was.
     pub sent: Option<u64>,
@@ -30,7 +33,8 @@ impl Pace {
     /// The begin of a run of so many seconds; 0 for one without an end.
     pub(crate) fn of(seconds: u16) -> Pace
         ensures limit { 1 ≤ seconds → result.limit ≡ seconds * 1000 }
-        ensures begun { (result.sent ≡ None) × (result.last ≡ 0) × (result.came ≡ false) }
+        ensures begun { (result.since ≡ 0) × (result.sent ≡ None) × (result.last ≡ 0)
+            × (result.came ≡ false) }
     {
         let limit = if seconds == 0 {
             u64::MAX
@@ -38,6 +42,7 @@ impl Pace {
             u64::from(seconds) * 1000
         };
         Pace {
+            since: 0,
             limit,
             sent: None,
             last: 0,
@@ -48,10 +53,11 @@ impl Pace {
     /// Whether the run is over: its time is up, or it has its answer and nothing followed for a
     /// while.
     pub(crate) fn is_over(&self, talk: &Talk, moment: u64) -> bool
-        ensures late { self.now.limit ≤ moment → IsTrue result }
-        ensures waiting { moment < self.now.limit → talk.now.outcome ≡ None → IsFalse result }
+        ensures late { self.now.limit ≤ moment - self.now.since → IsTrue result }
+        ensures waiting { moment - self.now.since < self.now.limit → talk.now.outcome ≡ None
+            → IsFalse result }
     {
-        if moment >= self.limit {
+        if moment.saturating_sub(self.since) >= self.limit {
             return true;
         }
         talk.outcome.is_some() && self.sent.is_some() && moment.saturating_sub(self.last) >= SILENCE
@@ -69,6 +75,13 @@ impl Pace {
         }
     }
 
+    /// The time is counted from this moment on.
+    pub(crate) fn wait_from(&mut self, moment: u64)
+        ensures { self.new ≡ record self.old { since = moment } }
+    {
+        self.since = moment;
+    }
+
     /// The pending frame was sent.
     pub(crate) fn note_sent(&mut self, moment: u64)
         ensures { self.new ≡ record self.old { sent = Some moment; last = moment } }
@@ -80,7 +93,7 @@ impl Pace {
     /// A frame came, for which another is to be sent or not.
     pub(crate) fn note_came(&mut self, moment: u64, goes_on: bool)
         ensures came { (self.new.came ≡ true) × (self.new.last ≡ moment) }
-        ensures limit { self.new.limit ≡ self.old.limit }
+        ensures limit { (self.new.limit ≡ self.old.limit) × (self.new.since ≡ self.old.since) }
         ensures sent { self.new.sent ≡ (if goes_on then None else self.old.sent) }
     {
         self.came = true;

@@ -74,6 +74,8 @@ struct Run {
     talk: Talk,
     pace: Pace,
     hex: bool,
+    /// Whether a command follows this exchange, which hears what comes behind the answer.
+    is_followed: bool,
 }
 
 /// A message id that is not 0, and seldom that of a run before.
@@ -103,8 +105,9 @@ pub(crate) fn converse<R: Net + Clock + Print + AllocGlobal>(
     let mut run = Run {
         wire,
         talk,
-        pace: Pace::of(settings.seconds),
+        pace: Pace::of(settings.wait),
         hex: settings.hex,
+        is_followed: settings.connect,
     };
     run.carry_out(rt, settings)
 }
@@ -149,6 +152,7 @@ impl Run {
             if outcome != Outcome::Accepted {
                 return Ok(outcome);
             }
+            self.is_followed = false;
         }
         self.talk = talk_of(rt, settings, &settings.command)?;
         self.pace = Pace::of(settings.seconds);
@@ -165,18 +169,35 @@ impl Run {
         let start = Instant::now(rt)?;
         for _ in 0..u64::MAX {
             let moment = millis(start.elapsed(rt)?);
-            if self.pace.is_over(&self.talk, moment) {
+            if self.is_over(moment) {
                 break;
             }
             self.speak(rt, moment)?;
             self.hear(rt, command, buffer.as_mut_slice(), moment)?;
         }
-        let outcome = self.talk.conclude(self.pace.came);
+        let outcome = self.concluded();
         if outcome == Outcome::Unanswered {
             let why = self.silence();
             println!(rt; "-- {why}")?;
         }
         Ok(outcome)
+    }
+
+    /// Whether the exchange is over. One that is followed by another is over with its answer: what
+    /// comes behind that is heard there.
+    fn is_over(&self, moment: u64) -> bool {
+        if self.is_followed && self.talk.outcome.is_some() {
+            return true;
+        }
+        self.pace.is_over(&self.talk, moment)
+    }
+
+    /// How the exchange has ended. A frame that was still to go when the time was up never went.
+    fn concluded(&self) -> Outcome {
+        match self.pace.sent {
+            None => Outcome::Unanswered,
+            Some(_) => self.talk.conclude(self.pace.came),
+        }
     }
 
     /// What is said where the exchange has no answer.
@@ -248,6 +269,9 @@ impl Run {
             println!(rt;
                 "-- the gateway has no connection with this client at this port: connect"
             )?;
+        }
+        if matches!(self.talk.awaited, Awaited::Waking) {
+            self.pace.wait_from(moment);
         }
         let goes_on = self.talk.take(frame);
         self.pace.note_came(moment, goes_on);

@@ -88,7 +88,9 @@ pub(crate) struct Settings<'a> {
     pub hex: bool,
     /// Whether a connection is set up first.
     pub connect: bool,
-    /// How many seconds a run waits at most; 0 for no end.
+    /// How many seconds the answer to a connection is waited for; 0 for no end.
+    pub wait: u16,
+    /// How many seconds the command's own exchange takes at most; 0 for no end.
     pub seconds: u16,
     /// What the run is for.
     pub command: Command<'a>,
@@ -128,6 +130,7 @@ pub(crate) fn read<'a>(alloc: Global, words: &'a [String]) -> Result<Settings<'a
         port: inner.get_one::<u16>("port").unwrap_or(port_of(client)),
         hex: inner.get_flag("hex"),
         connect: inner.get_flag("connect"),
+        wait: number(inner, "wait")?,
         seconds: number(inner, if name == "listen" { "length" } else { "wait" })?,
         command: asked(alloc, name, inner)?,
     })
