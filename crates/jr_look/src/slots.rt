@@ -3,7 +3,7 @@
 use crate::stop::Stop;
 use std::alloc::Global;
 use std::fs::{File, Files};
-use std::io::Read;
+use std::io::{self, Read};
 
 /// The most octets that are read of a file, 1 GiB.
 const MAX_SLOT: u64 = 1_073_741_824;
@@ -28,14 +28,21 @@ fn read_file<T: Files<File = File>>(
     name: &str,
     ending: &'static str,
 ) -> Result<(), Stop> {
-    let Ok(file) = File::open(rt, name) else {
-        return Err(Stop::File { ending });
+    let file = match File::open(rt, name) {
+        Ok(file) => file,
+        Err(error) => return Err(unreadable(ending, &error)),
     };
-    if file.take(MAX_SLOT + 1).read_to_end(octets).is_err() {
-        return Err(Stop::File { ending });
+    if let Err(error) = file.take(MAX_SLOT + 1).read_to_end(octets) {
+        return Err(unreadable(ending, &error));
     }
     if octets.len() as u64 > MAX_SLOT {
         return Err(Stop::Long { ending });
     }
     Ok(())
+}
+
+/// What is said of a file that cannot be read.
+fn unreadable(ending: &'static str, error: &io::Error) -> Stop {
+    let kind = error.kind();
+    Stop::File { ending, kind }
 }

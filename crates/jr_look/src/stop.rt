@@ -2,6 +2,7 @@
 
 use octets::NoMemory;
 use std::alloc::AllocError;
+use std::io::ErrorKind;
 use thiserror::Error;
 
 /// Why the program has nothing to show.
@@ -11,11 +12,16 @@ pub enum Stop {
     #[error("arguments")]
     Arguments,
     /// A file cannot be read.
-    #[error("the file PATH.{ending} cannot be read")]
-    File { ending: &'static str },
+    #[error("the file PATH.{ending} cannot be read: {kind}")]
+    File {
+        ending: &'static str,
+        kind: ErrorKind,
+    },
     /// A file has more than 1,073,741,824 octets.
     #[error("the file PATH.{ending} has more than 1073741824 octets")]
-    Long { ending: &'static str },
+    Long {
+        ending: &'static str,
+    },
     /// What there is to show cannot be written.
     #[error("the output cannot be written")]
     Output,
