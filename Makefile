@@ -33,7 +33,7 @@ prove:
 
 test:
 	python3 tools/trust.py --check
-	rt ci
+	sh tools/ci.sh
 
 trust:
 	python3 tools/trust.py
