@@ -1,7 +1,7 @@
 """Plants wrong bodies in one crate over libraries that are built already, where `rt plant` would prove all below it first.
 
-Usage: plant.py ROOT CRATE [FLAG ..]      with the flags of `rt plant` (--only WORD, --max N, --minutes N, --all), and
-                                         --cured for those bodies alone that the kit's own script cannot write
+Usage: plant.py ROOT CRATE [FLAG ..]      with the flags of `rt plant` (--only WORD, or several with commas between them, --max N, --minutes N,
+                                         --all), and --cured for those bodies alone that the kit's own script cannot write
        plant.py count ROOT [CRATE ..]     how many bodies --cured has that give up, before anything is checked
 
 Libraries are looked for as by over.py, whose kept checks it uses. It drives the kit's own script, and so may want a change with a new kit.
@@ -84,6 +84,12 @@ def libraries_of(script, root, crates, name):
     return found
 
 
+def of_any(one, crate, source, symbols, only):
+    """The functions that one of several words chooses, each once."""
+    found = [one(crate, source, symbols, word) for word in only.split(",")]
+    return [[it for it in source.functions if any(it in chosen[part] for chosen in found)] for part in (0, 1)]
+
+
 def main(given):
     if len(given) < 2:
         return __doc__
@@ -122,6 +128,8 @@ def main(given):
     script.rt.KEPT = ["--incremental", "out/over"]
     script.rt.main, script.rt.Crate, script.rt.root_above = check, Crate, lambda _: root
     script.libraries = lambda _: libraries_of(script, root, crates, name)
+    one = script.chosen
+    script.chosen = lambda *given: of_any(one, *given)
     os.makedirs(f"{folder}/out/over", exist_ok=True)
     os.chdir(folder)
     return script.main(*flags)
