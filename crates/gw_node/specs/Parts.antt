@@ -37,7 +37,7 @@ records_of node = node.records
 abbrev pub disk_of : {R Z D : Type 0} {P : Promises R Z} {G : Ghosts D} → Node R D Z P G → D
 disk_of node = disk_under node.journal
 
--- whether a write of its journal has failed since it was opened
+-- whether its journal is halted: a write has failed since it was opened, or a try to open it again
 abbrev pub is_halted : {D : Type 0} {G : Ghosts D} → State G → Bool
 is_halted state = is_stopped state.journal
 

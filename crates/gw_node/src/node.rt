@@ -151,9 +151,10 @@ impl<R: Replica, D: Disk + Drop> Node<R, D> {
     /// nothing.
     ///
     /// The faults, in the order in which they are looked for: `Halted`, a write of the journal has
-    /// failed; `Frame`, the bytes are no frame; `Exhausted`, the step needs an epoch or a sequence
-    /// number after the last; `Conflict` and `Full`, its operations cannot be taken, or make no
-    /// delta; `Disk`, the disk failed. `Memory` may stand in the place of each.
+    /// failed, or a try to open it again; `Frame`, the bytes are no frame; `Exhausted`, the step
+    /// needs an epoch or a sequence number after the last; `Conflict` and `Full`, its operations
+    /// cannot be taken, or make no delta; `Disk`, the disk failed. `Memory` may stand in the place
+    /// of each.
     ///
     /// After `Disk` the node is halted, and what it keeps and knows is as before; `out` of the
     /// fault is to be sent: return code 1, congestion (section 5.3.10), where the frame's answer
@@ -174,10 +175,10 @@ impl<R: Replica, D: Disk + Drop> Node<R, D> {
     /// are dropped. Nothing is sent, and the delta is not handed on.
     ///
     /// The faults, in the order in which they are looked for: `Halted`, a write of the journal has
-    /// failed; `Conflict` and `Full`, the delta does not fit to what is kept; `Disk`, the disk
-    /// failed. `Memory` may stand in the place of each. After `Disk` the node is halted, what it
-    /// keeps and knows is as before, and nothing is to be sent. After each other fault nothing has
-    /// changed.
+    /// failed, or a try to open it again; `Conflict` and `Full`, the delta does not fit to what is
+    /// kept; `Disk`, the disk failed. `Memory` may stand in the place of each. After `Disk` the node
+    /// is halted, what it keeps and knows is as before, and nothing is to be sent. After each other
+    /// fault nothing has changed.
     pub fn take(&mut self, alloc: Global, delta: &Delta) -> Answer
         ensures call { TakeCall (state_of R.kept self.old) delta.now (said result)
             (state_of R.kept self.new) }
@@ -245,10 +246,10 @@ impl<R: Replica, D: Disk + Drop> Node<R, D> {
     /// and nothing is sent.
     ///
     /// The faults, in the order in which they are looked for: `Halted`, a write of the journal has
-    /// failed; `Journal` with `Foreign`, the journal's generation is the last that a header can
-    /// hold; `Disk`, the disk failed. `Memory` may stand in the place of each. After `Disk` the
-    /// node is halted, and a crash leaves the records from before, or what is kept. After each
-    /// other fault nothing has changed.
+    /// failed, or a try to open it again; `Journal` with `Foreign`, the journal's generation is the
+    /// last that a header can hold; `Disk`, the disk failed. `Memory` may stand in the place of
+    /// each. After `Disk` the node is halted, and a crash leaves the records from before, or what is
+    /// kept. After each other fault nothing has changed.
     pub fn compact(&mut self, alloc: Global) -> Answer
         ensures call { CompactCall (state_of R.kept self.old) (said result)
             (state_of R.kept self.new) }

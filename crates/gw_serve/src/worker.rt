@@ -117,7 +117,7 @@ pub fn work<T: Wait, R: Replica, D: Disk + Drop, P: Post, G: Gate>(
 }
 
 /// Takes numbers until the queue is closed and empty. Room for a number is made before it is taken,
-/// so each that was taken is told of.
+/// so each that was taken is told of, unless the worker must end with a fault.
 fn take_all<T: Wait, R: Replica, D: Disk + Drop, P: Post, G: Gate>(
     rt: &T,
     alloc: Global,

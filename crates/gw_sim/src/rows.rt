@@ -8,7 +8,7 @@
 //!
 //! A script of the one line `random SEED EVENTS GATEWAYS` stands for scripts that are made from a
 //! seed, of so many events in all: each is played, and what gateways show is compared with what the
-//! definitions say (`gw_random`).
+//! definitions say (`gw_random`). No status is printed for it.
 
 use crate::stop::Stop;
 use crate::words::Options;

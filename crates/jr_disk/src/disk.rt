@@ -34,8 +34,9 @@ pub enum Plan {
 /// Two slots of bytes. A crash leaves of a slot what is synced, and any number of the bytes
 /// appended since, from the first on.
 ///
-/// On an honest disk each call does what its clauses say. Of any other nothing is known but that a
-/// call that fails raises the count of failures by one, and that no other call changes it.
+/// On an honest disk each call does what its clauses say. Of any other those hold that have no such
+/// premise: a call that fails raises the count of failures by one, and no other call changes it; only
+/// an append says that memory was refused; and what becomes of a failure that is arranged.
 pub trait Disk {
     ghost use Rattle.std.specs.Prelude.{Bool, Option, Some, None, true, false, ℕ, ◌≡◌, ◌≤◌, ◌+◌, ◌⊎◌, length, take, drop, OnOk, OnErr, IfOk, IfErr, IsErr};
     ghost use Rattle.jr_disk.specs.Disk.{Slots, HasCause, at, replaced, bytes_of, appended, all_synced, cut_to};
@@ -71,7 +72,7 @@ pub trait Disk {
         ensures cause { HasCause (failures self.old) (failures self.new) result }
         ensures starved { starved self.new ≡ starved self.old }
         ensures keeps { StaysArranged (outlook self.old) (outlook self.new) }
-        // A read behind the end is a failure of its own.
+        // Of a read behind the end nothing is said here.
         ensures outlook { from + length buffer.old ≤ length (bytes_of (at (slots self.old) slot)) →
             GoesAs (outlook self.old) result (outlook self.new) }
         ensures same { honest → slots self.new ≡ slots self.old }

@@ -56,7 +56,7 @@ impl OnceDisk {
         }
     }
 
-    /// The disk as it stands, of which no call fails any more but by what is arranged on it.
+    /// The disk as it stands, which fails from here on as a disk in memory does.
     pub fn into_inner(self) -> MemoryDisk
         ensures { result ≡ self.disk }
     {

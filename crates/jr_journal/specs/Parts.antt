@@ -20,6 +20,6 @@ slot_of journal = journal.slot
 abbrev pub generation_of : {D : Type 0} {G : Ghosts D} → Journal D G → ℕ
 generation_of journal = journal.generation
 
--- whether a write has failed since it was opened
+-- whether a write has failed since it was opened, or a try to open it again, or it was halted
 abbrev pub is_halted : {D : Type 0} {G : Ghosts D} → Journal D G → Bool
 is_halted journal = journal.halted

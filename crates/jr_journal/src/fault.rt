@@ -25,7 +25,8 @@ pub enum JournalFault {
     /// Fault 4: memory ran out.
     #[error("out of memory")]
     Memory,
-    /// Fault 5: a write has failed since the journal was opened.
+    /// Fault 5: the journal is halted: a write has failed since it was opened, or a try to open it
+    /// again.
     #[error("the journal is halted")]
     Halted,
 }

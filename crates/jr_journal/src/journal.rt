@@ -114,8 +114,7 @@ impl<D: Disk + Drop> Journal<D> {
     /// Adds a record. At `Ok` it is synced. After `Disk` the journal is halted, and a crash leaves
     /// the records from before, or these and the new one.
     ///
-    /// `Halted` where a write has failed before; else `Memory`, and nothing was written; else
-    /// `Disk`.
+    /// `Halted` where the journal is halted; else `Memory`, and nothing was written; else `Disk`.
     pub fn append(&mut self, alloc: Global, delta: &Delta) -> Result<(), JournalFault>
         ensures halted { IsErrOf result JournalFault.Halted ↔ (parts.is_halted self.old ≡ true) }
         ensures same { (gateway_of self.new ≡ gateway_of self.old)
@@ -174,7 +173,7 @@ impl<D: Disk + Drop> Journal<D> {
     /// the seal, in one append that is synced, and the journal goes on there. The base takes the
     /// place of all records that were there.
     ///
-    /// `Halted` where a write has failed before; else `Foreign` where the generation is the last
+    /// `Halted` where the journal is halted; else `Foreign` where the generation is the last
     /// that a header can hold; else `Memory`: nothing was written then. Else `Disk`: the journal is
     /// halted, and a crash leaves the records from before, or the base.
     #[tactic(auto, using(crate::proofs::Appending::number_kept))]
@@ -345,7 +344,8 @@ impl<D: Disk + Drop> Journal<D> {
         self.disk
     }
 
-    /// Whether a write has failed since the journal was opened.
+    /// Whether a write has failed since the journal was opened, or a try to open it again, or it was
+    /// halted.
     pub fn is_halted(&self) -> bool
         ensures { result ≡ parts.is_halted self.now }
     {
