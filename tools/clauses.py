@@ -33,14 +33,14 @@ def sources_now(crate):
 
 
 def head_from(lines, at):
-    """The lines of a function before its body, as one."""
-    found = []
+    """The lines of a function before its body, as one. The body of one with clauses begins with a line of its own, as far to the left as `fn`."""
+    edge, found = re.match(r"\s*", lines[at])[0], []
     for line in lines[at:]:
-        word = line.strip()
-        is_clause = word.startswith(("ensures", "requires", "//"))
-        if word in ("{", "{}") or word.endswith(";") or (word.endswith("{") and not is_clause):
+        if line in (edge + "{", edge + "{}"):
             break
-        found.append(word)
+        found.append(line.strip())
+        if line.endswith("};") or not found[1:] and line.endswith((" {", ";")):
+            break
     return " ".join(found)
 
 
