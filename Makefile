@@ -22,6 +22,9 @@ PROGRAMS = sngw sn_client gw_sim jr_look
 UNITS = $(DESTDIR)$(PREFIX)/lib/systemd/system
 SHARE = $(DESTDIR)$(PREFIX)/share
 
+# All that a program is made of. One that is older than any of it is built anew.
+SOURCES := $(shell find crates.txt crates -path '*/out' -prune -o \( -name '*.rt' -o -name '*.antt' -o -name crates.txt \) -print)
+
 .PHONY: run prove test edits bench trust daemon field client look install uninstall clean
 
 run:
@@ -41,16 +44,18 @@ trust:
 edits:
 	@.ci/edits $(CRATES)
 
-# Proves and builds a program, and runs it without arguments, whatever it says to that. Where nothing is built, the end of what rt said is shown.
+# Proves and builds a program, and runs it without arguments, whatever it says to that. Where nothing is built, the end of what rt said is shown. A
+# program of other sources is taken away first, so that it is not taken for what was built.
 define build
 	@command -v rt >/dev/null || { echo "$(1) is not built, and the Rattle kit's command rt, which proves and builds it, is not here"; exit 1; }
 	@echo "Proving $(1) and all that it stands on: $(2) on four processors, the first time."
 	@mkdir -p crates/$(1)/out
+	@rm -f crates/$(1)/out/$(1)
 	@cd crates/$(1) && rt run </dev/null >out/build.log 2>&1; test -x out/$(1) || \
 	    { tail -n 20 out/build.log; echo "$(1) is not built; all that was said is in crates/$(1)/out/build.log"; exit 1; }
 endef
 
-crates/sngw/out/sngw:
+crates/sngw/out/sngw: $(SOURCES)
 	$(call build,sngw,half an hour)
 
 daemon: crates/sngw/out/sngw
@@ -59,13 +64,13 @@ daemon: crates/sngw/out/sngw
 field: crates/sngw/out/sngw
 	@python3 bench/field.py crates/sngw/out/sngw
 
-crates/sn_client/out/sn_client:
+crates/sn_client/out/sn_client: $(SOURCES)
 	$(call build,sn_client,some minutes)
 
 client: crates/sn_client/out/sn_client
 	@echo "crates/sn_client/out/sn_client is built; docs/TRY.md tells what to do with it"
 
-crates/jr_look/out/jr_look:
+crates/jr_look/out/jr_look: $(SOURCES)
 	$(call build,jr_look,some twenty minutes)
 
 look: crates/jr_look/out/jr_look

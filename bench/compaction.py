@@ -66,9 +66,10 @@ def seconds_to_open(gateway: Gateway) -> tuple:
 
 
 def turn_a_shift(gateway: Gateway) -> float:
-    """Works until a shift was closed, and gives the longest time for which a request went without an answer."""
+    """Works until a shift was closed that wrote something, and gives the longest time for which a request went without an answer."""
     longest = 0.0
     with Client(b"prober", gateway) as prober:
+        prober.connect()
         while not gateway.shifts() or len(gateway.slots()[1]) < 14:
             began = time.monotonic()
             prober.ask(search(), frame(0x02, bytes([gateway.number])), 120, 0.05)

@@ -75,10 +75,11 @@ def run(program: str, arguments: list, folder: str, limit: int = 0) -> tuple:
     return done.returncode, done.stdout.decode(errors="replace"), done.stderr.decode(errors="replace")
 
 
-def wanted(got: tuple, status: int, told: str, printed: str = None) -> None:
-    """Of a refusal one line is told, and nothing else."""
-    expect(got[0] == status and got[2] == told,
-           f"status {got[0]} and {got[2][:200]!r} on the error stream, wanted {status} and {told!r}")
+def wanted(got: tuple, status: int, told: str, printed: str = None, before: str = "") -> None:
+    """Of a refusal one line is told, and nothing else; or another line before it that has these words."""
+    ends = got[2].endswith("\n" + told) and before in got[2][:-len(told)] if before else got[2] == told
+    expect(got[0] == status and ends,
+           f"status {got[0]} and {got[2][:300]!r} on the error stream, wanted {status} and {told!r}" + (f" behind {before!r}" if before else ""))
     if printed is not None:
         expect(got[1] == printed, f"{got[1][:200]!r} on standard output, wanted {printed!r}")
 
@@ -132,20 +133,20 @@ def try_arguments(account: Account, texts: Texts) -> None:
 
 
 def try_files(account: Account, texts: Texts) -> None:
-    def refused(path: str, told: str = "file") -> None:
-        wanted(run(texts.program, ["--config", path, "--shifts", "0"], texts.folder), 1, f"sngw: settings {told}\n", "")
+    def refused(path: str, before: str, told: str = "file") -> None:
+        wanted(run(texts.program, ["--config", path, "--shifts", "0"], texts.folder), 1, f"sngw: settings {told}\n", "", f"{path}: {before}")
 
     good = settings_text(texts.good).encode()
-    account.check("settings file: not there", lambda: refused(os.path.join(texts.folder, "nowhere.toml")))
-    account.check("settings file: a folder", lambda: refused(texts.folder))
-    account.check("settings file: 32 MiB", lambda: refused(texts.file(good + (b"#" * 63 + b"\n") * (1 << 19))))
+    account.check("settings file: not there", lambda: refused(os.path.join(texts.folder, "nowhere.toml"), "entity not found"))
+    account.check("settings file: a folder", lambda: refused(texts.folder, "is a directory"))
+    account.check("settings file: 32 MiB", lambda: refused(texts.file(good + (b"#" * 63 + b"\n") * (1 << 19)), "more than 1048576 octets"))
     for name, octets in [("a lone octet", b"\xff"), ("a cut character", b"\xe2\x82"), ("a surrogate", b"\xed\xa0\x80")]:
-        account.check(f"settings text: no UTF-8, {name}", lambda: refused(texts.file(good + b"# " + octets + b"\n"), "text"))
+        account.check(f"settings text: no UTF-8, {name}", lambda: refused(texts.file(good + b"# " + octets + b"\n"), "not UTF-8", "text"))
 
 
 def try_keys(account: Account, texts: Texts) -> None:
     for text in [b"gateway = = 1\n", b"gateway\n", b"[gateway\n", b"gateway = 1\ngateway = 1\n", b'listen = "\n']:
-        account.check(f"settings text: {text!r}", lambda: wanted(texts.run_text(text), 1, "sngw: settings text\n", ""))
+        account.check(f"settings text: {text!r}", lambda: wanted(texts.run_text(text), 1, "sngw: settings text\n", "", "TOML parse error at line "))
     for key, values in BAD.items():
         for value in values:
             shown = "not there" if value is None else value if len(value) < 60 else value[:40] + ".."
@@ -165,15 +166,36 @@ def try_good_settings(account: Account, texts: Texts) -> None:
         "the most": {"workers": "8", "steps": "4096", "advertise": "65535"},
         "lists": {"field": '["127.0.0.1:1", "127.0.0.1:2"]', "peers": '["127.0.0.1:3"]',
                   "predefined": f'[{{ id = 1, topic = "a/b" }}, {{ id = 65534, topic = "{"a" * 256}" }}]'},
-        "a key that nobody knows": {"unknown": "[1, 2]"},
     }
     for place, (words, values) in enumerate(good.items()):
         values = {"journal": f'"{texts.folder}/good-{place}"', **values}
         account.check(f"good settings: {words}", lambda: wanted(texts.run_with(**values), 0, "", "gateway 1 records 0 clients 0\n"))
+    ignored = [("a key that nobody knows", "unknown = [1, 2]\n", "unknown is no key, and is ignored"),
+               ("peers behind an entry", '[[predefined]]\nid = 1\ntopic = "a"\npeers = []\n', "peers stands in an entry of predefined, and is ignored there")]
+    for place, (words, more, said) in enumerate(ignored):
+        text = settings_text({**texts.good, "journal": f'"{texts.folder}/ignored-{place}"'}) + more
+
+        def told(text: str = text, said: str = said) -> None:
+            status, printed, errors = texts.run_text(text.encode())
+            expect((status, printed) == (0, "gateway 1 records 0 clients 0\n") and errors.endswith(f": {said}\n") and errors.count("\n") == 1,
+                   f"status {status}, {printed!r}, {errors!r}")
+
+        account.check(f"settings of which a key is ignored: {words}", told)
     tables = settings_text({**texts.good, "gateway": "255", "journal": f'"{texts.folder}/good-tables"'})
     tables += '[[predefined]]\nid = 7\ntopic = "a"\n\n[[predefined]]\nid = 8\ntopic = "b"\n'
     account.check("good settings: predefined as tables, gateway 255",
                   lambda: wanted(texts.run_text(tables.encode()), 0, "", "gateway 255 records 0 clients 0\n"))
+
+
+def lost(texts: Texts, ending: str) -> None:
+    """A journal is begun, for its owner alone to read, and loses a file: it is refused, and nothing is made anew."""
+    path = os.path.join(texts.folder, f"lost-{ending}")
+    wanted(texts.run_with(journal=f'"{path}"'), 0, "", "gateway 1 records 0 clients 0\n")
+    rights = [os.stat(f"{path}.{it}").st_mode & 0o777 for it in "01"]
+    expect(rights == [0o600, 0o600], f"rights {rights}")
+    os.remove(f"{path}.{ending}")
+    wanted(texts.run_with(journal=f'"{path}"'), 2, "sngw: journal J1\n", "", "one of the two files of the journal is not there any more")
+    expect(not os.path.exists(f"{path}.{ending}"), "it was made anew")
 
 
 def try_journals(account: Account, texts: Texts) -> None:
@@ -188,10 +210,12 @@ def try_journals(account: Account, texts: Texts) -> None:
         wanted(opened_with(name, first, second), 2, f"sngw: journal {fault}\n")
 
     account.check("journal J1: a folder that is not there",
-                  lambda: wanted(texts.run_with(journal=f'"{texts.folder}/nowhere/journal"'), 2, "sngw: journal J1\n"))
+                  lambda: wanted(texts.run_with(journal=f'"{texts.folder}/nowhere/journal"'), 2, "sngw: journal J1\n", None, "entity not found"))
     os.mkdir(os.path.join(texts.folder, "taken.0"))
     account.check("journal J1: a folder in the place of its file",
-                  lambda: wanted(texts.run_with(journal=f'"{texts.folder}/taken"'), 2, "sngw: journal J1\n"))
+                  lambda: wanted(texts.run_with(journal=f'"{texts.folder}/taken"'), 2, "sngw: journal J1\n", None, "is a directory"))
+    for ending in ("0", "1"):
+        account.check(f"journal J1: the file .{ending} is not there any more", lambda: lost(texts, ending))
     other = HEADER[:4] + b"\x02" + HEADER[5:] + SEAL
     foreign = [("another gateway's number", other, b""), ("other octets", b"something else", b""),
                ("other octets in the second file", HEADER + SEAL, b"\x00"), ("no seal", HEADER + RECORD, b""),
@@ -249,6 +273,7 @@ def try_memory(account: Account, texts: Texts) -> None:
     with open(path + ".0", "wb") as file:
         file.write(HEADER + SEAL + RECORD)
         file.truncate(1 << 29)
+    open(path + ".1", "wb").close()
     settings = texts.file(settings_text({**texts.good, "journal": f'"{path}"'}).encode())
 
     def trial() -> str:
@@ -282,7 +307,7 @@ def try_lock(account: Account, texts: Texts) -> None:
         with Gateway(texts.program, texts.folder, 9, free_ports(2)) as gateway:
             gateway.start()
             settings = texts.file(settings_text({**texts.good, "gateway": "9", "journal": f'"{gateway.journal}"'}).encode())
-            wanted(run(texts.program, ["--config", settings, "--shifts", "0"], texts.folder), 2, "sngw: journal J1\n")
+            wanted(run(texts.program, ["--config", settings, "--shifts", "0"], texts.folder), 2, "sngw: journal J1\n", None, "another program has the journal open")
             gateway.kill()
             wanted(run(texts.program, ["--config", settings, "--shifts", "0"], texts.folder), 0, "", "gateway 9 records 0 clients 0\n")
 

@@ -2,6 +2,8 @@
 # Installs the programs that are built, their man pages, the systemd unit and example settings.
 #
 # Usage: install.sh DESTDIR PREFIX        from the top of the repository; DESTDIR may be empty
+#
+# A program that is older than a source is not installed: it is not the one that this text describes. The status is 1 where one is, or none is built.
 set -eu
 root=$1$2
 prefix=$2
@@ -16,9 +18,18 @@ target() {
     esac
 }
 
+# Whether a source is younger than a program.
+is_old() {
+    [ -n "$(find crates.txt crates/*/src crates/*/specs -newer "$1" -print 2>/dev/null | head -n 1)" ]
+}
+
 installed=0
+old=0
 for name in sngw sn_client gw_sim jr_look; do
-    if [ -x "crates/$name/out/$name" ]; then
+    if [ -x "crates/$name/out/$name" ] && is_old "crates/$name/out/$name"; then
+        old=$((old + 1))
+        echo "old       $name: sources changed since it was built; 'make $(target "$name")' proves and builds it"
+    elif [ -x "crates/$name/out/$name" ]; then
         install -D -m 755 "crates/$name/out/$name" "$root/bin/$name"
         installed=$((installed + 1))
         echo "installed $root/bin/$name"
@@ -37,3 +48,4 @@ for name in one two three; do
 done
 echo "installed $root/share/doc/nimhazel: settings to begin with"
 echo "$installed programs of 4 are installed"
+[ "$old" -eq 0 ] && [ "$installed" -gt 0 ]

@@ -2,7 +2,7 @@
 
 ghost use Rattle.std.specs.Prelude.{◌≡◌, ◌+◌, ◌≤◌, IfOk};
 
-use super::names::{FileDiskFault, open_slot, sync_folder};
+use super::names::{FileDiskFault, existing, is_lost, or_made, sync_folder};
 use super::transfer::{read_whole, write_front};
 use jr_disk::{Disk, DiskFault, Failures, Short, Slot};
 use std::alloc::Global;
@@ -38,10 +38,11 @@ struct Trusts {
 }
 
 impl FileDisk {
-    /// The files at a path with `.0` and `.1` behind it; one that is not there is made, and its
-    /// name is made durable. No call has failed.
+    /// The files at a path with `.0` and `.1` behind it. Where there is no journal yet they are made,
+    /// first the one and then the other, and their names are made durable. No call has failed.
     ///
-    /// The faults: `Files`, a file cannot be opened or made; `Memory`.
+    /// The faults: `Files`, a file cannot be opened or made; `InUse`, another program has one open
+    /// as its journal; `Lost`, one of them is not there any more; `Memory`.
     pub fn at<R: Files<File = File>>(
         rt: &R,
         alloc: Global,
@@ -49,8 +50,14 @@ impl FileDisk {
     ) -> Result<FileDisk, FileDiskFault>
         ensures { IfOk result (λ disk. disk.failures.count ≡ 0) }
     {
-        let first = open_slot(rt, alloc, path, "0")?;
-        let second = open_slot(rt, alloc, path, "1")?;
+        let first = existing(rt, alloc, path, "0")?;
+        let second = existing(rt, alloc, path, "1")?;
+        if is_lost(&first, &second) {
+            return Err(FileDiskFault::Lost);
+        }
+        let first = or_made(first, rt, alloc, path, "0")?;
+        sync_folder(rt, path)?;
+        let second = or_made(second, rt, alloc, path, "1")?;
         sync_folder(rt, path)?;
         Ok(FileDisk {
             first,

@@ -2,53 +2,109 @@
 
 use std::alloc::Global;
 use std::fs::{File, Files, TryLockError};
+use std::io::{self, ErrorKind};
 use std::os::fd::AsRawFd;
+use std::os::unix::fs::OpenOptionsExt;
 use thiserror::Error;
 
 /// The number of the last standard stream.
 const LAST_STANDARD: i32 = 2;
 
+/// Who may read and write a file that is made: its owner alone, since messages stand in it as they
+/// came.
+const OWNER_ALONE: u32 = 0o600;
+
 /// Why the two files could not be had.
 #[derive(Clone, Copy, Debug, PartialEq, Eq, Error)]
 pub enum FileDiskFault {
-    /// A file cannot be opened or made, or another program has it open as its journal.
-    #[error("the files of the journal cannot be opened")]
-    Files,
+    /// A file cannot be opened or made.
+    #[error("the files of the journal cannot be opened: {0}")]
+    Files(ErrorKind),
+    /// Another program has one of them open as its journal.
+    #[error("another program has the journal open")]
+    InUse,
+    /// One of the two files is not there any more. What it held may be newer than what is left, so a
+    /// gateway that went on without it would forget what it answered for.
+    #[error("one of the two files of the journal is not there any more")]
+    Lost,
     /// Memory ran out.
     #[error("out of memory")]
     Memory,
 }
 
-/// Opens a slot's file for reading and for writing at its end.
-pub(crate) fn open_slot<R: Files<File = File>>(
+/// The file of a slot, where it is there.
+pub(crate) fn existing<R: Files<File = File>>(
+    rt: &R,
+    alloc: Global,
+    path: &str,
+    ending: &str,
+) -> Result<Option<File>, FileDiskFault> {
+    let name = name_of(alloc, path, ending)?;
+    match opened(rt, name.as_str(), false) {
+        Ok(file) => Ok(Some(mine(file)?)),
+        Err(error) if error.kind() == ErrorKind::NotFound => Ok(None),
+        Err(error) => Err(FileDiskFault::Files(error.kind())),
+    }
+}
+
+/// The file of a slot, which is made where nothing was found.
+pub(crate) fn or_made<R: Files<File = File>>(
+    found: Option<File>,
     rt: &R,
     alloc: Global,
     path: &str,
     ending: &str,
 ) -> Result<File, FileDiskFault> {
-    let Ok(name) = format!(in alloc; "{path}.{ending}") else {
-        return Err(FileDiskFault::Memory);
-    };
-    let opened = File::options()
-        .read(true)
-        .append(true)
-        .create(true)
-        .open(rt, name.as_str());
-    match opened {
-        Ok(file) if is_mine(&file) => apart(file),
-        _ => Err(FileDiskFault::Files),
+    if let Some(file) = found {
+        return Ok(file);
+    }
+    let name = name_of(alloc, path, ending)?;
+    match opened(rt, name.as_str(), true) {
+        Ok(file) => mine(file),
+        Err(error) => Err(FileDiskFault::Files(error.kind())),
     }
 }
 
-/// Whether no other program has the file open as its journal: from now on this one has. Where the
+/// Whether a file was lost. The name of the first one is made, and made durable, before the second,
+/// and that before anything is written: so no crash leaves the second alone, or octets in the first
+/// alone.
+pub(crate) fn is_lost(first: &Option<File>, second: &Option<File>) -> bool {
+    match (first, second) {
+        (None, Some(_)) => true,
+        (Some(file), None) => !is_empty(file),
+        _ => false,
+    }
+}
+
+/// Whether a file is known to have no octets.
+fn is_empty(file: &File) -> bool {
+    match file.metadata() {
+        Ok(found) => found.len() == 0,
+        Err(_) => false,
+    }
+}
+
+/// The name of a slot's file.
+fn name_of(alloc: Global, path: &str, ending: &str) -> Result<String, FileDiskFault> {
+    format!(in alloc; "{path}.{ending}").map_err(|_| FileDiskFault::Memory)
+}
+
+/// A file, open for reading and for writing at its end.
+fn opened<R: Files<File = File>>(rt: &R, name: &str, makes: bool) -> io::Result<File> {
+    File::options()
+        .read(true)
+        .append(true)
+        .create(makes)
+        .mode(OWNER_ALONE)
+        .open(rt, name)
+}
+
+/// The file, from now on this program's, where no other one has it open as its journal. Where the
 /// file system knows no locks nobody is kept away.
-fn is_mine(file: &File) -> bool {
-    let Err(why) = file.try_lock() else {
-        return true;
-    };
-    match &why {
-        TryLockError::WouldBlock => false,
-        TryLockError::Error(_) => true,
+fn mine(file: File) -> Result<File, FileDiskFault> {
+    match file.try_lock() {
+        Err(TryLockError::WouldBlock) => Err(FileDiskFault::InUse),
+        Err(TryLockError::Error(_)) | Ok(()) => apart(file),
     }
 }
 
@@ -59,7 +115,10 @@ fn apart(file: File) -> Result<File, FileDiskFault> {
     if file.as_raw_fd() > LAST_STANDARD {
         return Ok(file);
     }
-    file.try_clone().map_err(|_| FileDiskFault::Files)
+    match file.try_clone() {
+        Ok(other) => Ok(other),
+        Err(error) => Err(FileDiskFault::Files(error.kind())),
+    }
 }
 
 /// Makes the names of new files durable: the folder is synced.
@@ -69,8 +128,13 @@ pub(crate) fn sync_folder<R: Files<File = File>>(rt: &R, path: &str) -> Result<(
         Some(0) => "/",
         Some(at) => &path[..at],
     };
-    match File::open(rt, folder) {
-        Ok(opened) if opened.sync_all().is_ok() => Ok(()),
-        _ => Err(FileDiskFault::Files),
+    match synced(rt, folder) {
+        Ok(()) => Ok(()),
+        Err(error) => Err(FileDiskFault::Files(error.kind())),
     }
+}
+
+/// Syncs a folder.
+fn synced<R: Files<File = File>>(rt: &R, folder: &str) -> io::Result<()> {
+    File::open(rt, folder)?.sync_all()
 }

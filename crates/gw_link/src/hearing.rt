@@ -21,6 +21,10 @@ use std::sync::{Arc, Wait};
 /// How often a read may find nothing before the other end has said its number: some ten seconds.
 const MOST_SILENCE: u32 = 1_000;
 
+/// How many octets an answer may have before it ends its shift: the history keeps it so long, and a
+/// peer whose disk fails asks for it again and again.
+const MOST_KEPT: usize = 16_777_216;
+
 /// What a message says.
 enum Said {
     /// The other end's number.
@@ -46,8 +50,11 @@ pub(crate) fn listen<S: Read + Drop>(
 }
 
 /// Nothing came. An end that does not say its number for too long is given up: it keeps another
-/// from its place.
+/// from its place. A link that is mute is at an end.
 fn wait_on<S: Drop>(link: &mut Link<S>) -> Result<(), End> {
+    if link.mute {
+        return Err(End::Lost);
+    }
     link.silence = link.silence.saturating_add(1);
     if link.other.is_none() && link.silence > MOST_SILENCE {
         return Err(End::Lost);
@@ -183,6 +190,14 @@ fn hear<T: Wait, R: Replica, D: Disk + Drop, S: Drop>(
             Ok(()) => (pass, Ok(())),
             Err(_) => (pass, Err(End::Memory)),
         },
-        Ok(Ok(out)) => (pass, say_answer(alloc, link, out.answer.as_slice())),
+        Ok(Ok(out)) => match say_answer(alloc, link, out.answer.as_slice()) {
+            Err(end) => (pass, Err(end)),
+            Ok(octets) => {
+                if octets > MOST_KEPT {
+                    stage.close(rt);
+                }
+                (pass, Ok(()))
+            }
+        },
     }
 }

@@ -56,6 +56,8 @@ pub struct Link<S: Drop> {
     pub(crate) written: usize,
     /// How often in turn the stream took none.
     pub(crate) stalls: u32,
+    /// The stream takes no more. What has come is still heard, and then the link is at an end.
+    pub(crate) mute: bool,
     /// This end has said its number and its digest.
     pub(crate) greeted: bool,
     /// The number of the last call of the shift whose delta was told.
@@ -80,6 +82,7 @@ impl<S: Drop> Link<S> {
             behind: 0,
             written: 0,
             stalls: 0,
+            mute: false,
             greeted: false,
             told: 0,
         }

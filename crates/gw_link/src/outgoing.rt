@@ -73,7 +73,7 @@ pub(crate) fn is_behind<S: Drop>(link: &Link<S>) -> bool {
 
 /// Lets go out what the stream takes in some writes, fewer at a shift's end. A stream that took
 /// less than it was given has no more room, and is not waited for. Where it took nothing for too
-/// long the link is lost.
+/// long the link is lost. Where it takes no more the link is mute.
 pub(crate) fn pump<S: Write + Drop>(link: &mut Link<S>, phase: Phase) -> Result<(), End> {
     let most = if phase == Phase::Quiet {
         LAST_WRITES
@@ -95,10 +95,23 @@ pub(crate) fn pump<S: Write + Drop>(link: &mut Link<S>, phase: Phase) -> Result<
                 return Ok(());
             }
             Outcome::Nothing => return stall(link),
-            Outcome::Closed => return Err(End::Lost),
+            Outcome::Closed => {
+                fall_silent(link);
+                return Ok(());
+            }
         }
     }
     Ok(())
+}
+
+/// Nothing goes out any more: what was to go out is let go. The other end may be gone for ever, and
+/// what it said before that may be nowhere else, so it is heard.
+fn fall_silent<S: Drop>(link: &mut Link<S>) {
+    link.mute = true;
+    link.outgoing.clear();
+    link.answering = 0;
+    link.behind = 0;
+    link.written = 0;
 }
 
 /// Writes once, behind so many octets that went out.

@@ -54,23 +54,22 @@ fn say_digest<S: Drop>(alloc: Global, link: &mut Link<S>, digest: &Digest) -> Re
     say(alloc, link, &LinkMessage::Digest(digest))
 }
 
-/// Says what the other end lacks. Nothing else is to go out then, where that is anything: its
-/// octets do not count among those that wait.
+/// Says what the other end lacks, and how many octets that takes. Nothing else is to go out then,
+/// where that is anything: its octets do not count among those that wait.
 pub(crate) fn say_answer<S: Drop>(
     alloc: Global,
     link: &mut Link<S>,
     deltas: &[Delta],
-) -> Result<(), End> {
+) -> Result<usize, End> {
     if deltas.is_empty() {
-        return Ok(());
+        return Ok(0);
     }
     for delta in deltas {
         let delta = delta.copied(alloc)?;
         say(alloc, link, &LinkMessage::Delta(delta))?;
     }
     link.answering = deltas.len();
-    link.behind = 0;
-    Ok(())
+    Ok(std::mem::replace(&mut link.behind, 0))
 }
 
 /// Says the number of this gateway once more, where nothing came for long.

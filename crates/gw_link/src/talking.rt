@@ -72,7 +72,8 @@ fn take_turn<T: Wait, R: Replica, D: Disk + Drop, S: Write + Drop>(
     }
 }
 
-/// Says who this is, takes the deltas that came, and answers the digest that did.
+/// Says who this is, takes the deltas that came, and answers the digest that did. A link that is
+/// mute only takes deltas.
 #[tactic(auto, using(crate::proofs::Adding::adds_more, crate::proofs::Adding::adds_none))]
 fn hear_in_turn<T: Wait, R: Replica, D: Disk + Drop, S: Drop>(
     rt: &T,
@@ -85,6 +86,9 @@ fn hear_in_turn<T: Wait, R: Replica, D: Disk + Drop, S: Drop>(
 ) -> (Pass, Result<(), End>)
     ensures { Adds is_of_link pass result.0 }
 {
+    if link.mute {
+        return hear_all(rt, alloc, shift, pass, link, stage);
+    }
     let (pass, greeted) = greet(rt, alloc, shift, pass, link, gateway, stage);
     if greeted.is_err() {
         return (pass, greeted);
@@ -107,7 +111,7 @@ fn tell<T: Wait, R: Replica, D: Disk + Drop, S: Write + Drop>(
     phase: Phase,
 ) -> Result<(), End> {
     // a link begins with its greeting; the answer to the peer's digest has what was made before
-    if !link.greeted {
+    if !link.greeted || link.mute {
         return Ok(());
     }
     if link.is_told() || phase == Phase::Quiet {

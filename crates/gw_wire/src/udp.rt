@@ -12,6 +12,7 @@ use sn_local::Addr;
 use std::alloc::Global;
 use std::io::ErrorKind;
 use std::net::{Ipv4Addr, Net, SocketAddr, SocketAddrV4};
+use std::sync::atomic::{AtomicBool, Ordering};
 use std::time::{Clock, Duration};
 use std::{io, thread};
 
@@ -20,7 +21,8 @@ use std::{io, thread};
 const A_WHILE: u64 = 10;
 
 /// How often a datagram is offered to the system while that has no room for it: some tens of
-/// milliseconds in all.
+/// milliseconds in all. Where it has none in all that time, those behind are offered once each until
+/// one goes out: no thread waits for each of many in turn.
 const MOST_OFFERS: u32 = 20_000;
 
 /// A UDP socket with what tells that it is readable.
@@ -29,6 +31,7 @@ pub struct Socket {
     socket: UdpSocket,
     poll: Poll,
     events: Events,
+    choked: AtomicBool,
     /// The address that it is bound to, as the system tells it.
     pub local: SocketAddr,
     /// How many receives have failed.
@@ -50,6 +53,8 @@ pub struct Ears<'a, C: Clock> {
 #[derive(Clone, Copy, Drop)]
 pub struct Mouth<'a> {
     socket: &'a UdpSocket,
+    /// Whether the system had no room for the last datagram, however often that was offered.
+    choked: &'a AtomicBool,
 }
 
 /// An address as the system has it: one of IPv4.
@@ -85,6 +90,7 @@ impl Socket {
             socket,
             poll,
             events,
+            choked: AtomicBool::new(false),
             local,
             failures: Failures::none(),
         })
@@ -98,6 +104,7 @@ impl Socket {
             socket,
             poll,
             events,
+            choked,
             local: _,
             failures: _,
         } = self;
@@ -108,7 +115,7 @@ impl Socket {
             events,
             failures: Failures::none(),
         };
-        (ears, Mouth { socket })
+        (ears, Mouth { socket, choked })
     }
 }
 
@@ -193,13 +200,22 @@ impl<'a> Post for Mouth<'a> {
     /// that wakes is sent all that waits at quality of service 0 at once, and nothing sends that
     /// again.
     fn send(&self, to: Addr, bytes: &[u8]) -> Result<(), Unsent> {
-        for _ in 0..MOST_OFFERS {
+        let offers = if self.choked.load(Ordering::SeqCst) {
+            1
+        } else {
+            MOST_OFFERS
+        };
+        for _ in 0..offers {
             match self.socket.send_to(bytes, address(to)) {
-                Ok(_) => return Ok(()),
+                Ok(_) => {
+                    self.choked.store(false, Ordering::SeqCst);
+                    return Ok(());
+                }
                 Err(e) if e.kind() == ErrorKind::WouldBlock => thread::yield_now(),
                 Err(_) => return Err(Unsent),
             }
         }
+        self.choked.store(true, Ordering::SeqCst);
         Err(Unsent)
     }
 }

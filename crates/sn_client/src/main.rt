@@ -28,6 +28,7 @@ mod telling;
 mod wire;
 mod words;
 
+use clap::error::ErrorKind;
 use run::{Fault, converse};
 use std::io;
 use std::net::Net;
@@ -73,6 +74,10 @@ fn carry_out<R: Env + Net + Clock + Print + Eprint + AllocGlobal>(rt: &R) -> Res
 /// Says why the arguments are no command, or gives the help that they ask for.
 fn explain<R: Print + Eprint>(rt: &R, unread: &Unread) -> io::Result<u8> {
     match unread {
+        Unread::Words(error) if matches!(error.kind(), ErrorKind::OutOfMemory) => {
+            error.print(rt)?;
+            Ok(FAILED)
+        }
         Unread::Words(error) if !error.use_stderr() => {
             error.print(rt)?;
             Ok(0)

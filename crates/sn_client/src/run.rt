@@ -9,7 +9,7 @@ use crate::telling::{Hex, Told};
 use crate::wire::Wire;
 use crate::words::{Command, Settings};
 use octets::NoMemory;
-use sn_frame::{EncodeFault, Frame, decode, encode};
+use sn_frame::{EncodeFault, Frame, FrameFault, decode, encode};
 use std::alloc::AllocError;
 use std::io;
 use std::net::Net;
@@ -51,7 +51,10 @@ impl From<io::Error> for Fault {
 
 impl From<EncodeFault> for Fault {
     fn from(fault: EncodeFault) -> Fault {
-        Fault::Frame(fault)
+        match fault {
+            EncodeFault::TooLong | EncodeFault::Body => Fault::Frame(fault),
+            EncodeFault::Memory => Fault::Memory,
+        }
     }
 }
 
@@ -241,6 +244,7 @@ impl Run {
                 tell(rt, "<-", &frame, octets, self.hex)?;
                 self.answer(rt, command, &frame, moment)
             }
+            Err(FrameFault::Memory) => Err(Fault::Memory),
             Err(fault) => {
                 let (number, digits) = (fault.number(), Hex(octets));
                 println!(rt; "<- no frame: F{number}: {fault}: {digits}")?;

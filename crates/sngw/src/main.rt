@@ -7,8 +7,12 @@
 //! clock in the shift or by tending behind it, which also writes its journal anew without what no
 //! longer counts. The program may be stopped at any moment: what it answered for is on its disk.
 //!
+//! Where it ends early the last line on standard error says why, and where a file is the cause the
+//! line before names it.
+//!
 //! - `words`: the words of the command line.
 //! - `reading`: the settings file.
+//! - `ignored`: keys of it that mean nothing where they stand.
 //! - `stop`: why the program ends early (`Stop`).
 //! - `running`: shifts one after the other.
 //! - `doors`: how links are made: peers are dialled, others are accepted.
@@ -18,6 +22,7 @@
 #![tactic(auto)]
 
 mod doors;
+mod ignored;
 mod late;
 mod reading;
 mod running;
@@ -70,8 +75,8 @@ where
     let Some(asked) = asked_of(rt, alloc) else {
         return Err(Stop::Arguments);
     };
-    let settings = settings_at(rt, alloc, asked.config.as_str())?;
-    let disk = disk_at(rt, alloc, &settings)?;
+    let settings = settings_at(rt, alloc, asked.config.as_str(), err)?;
+    let disk = disk_at(rt, alloc, &settings, err)?;
     let Ok(node) = begin::<Folded, FileDisk, O, E>(alloc, &settings, disk, out, err) else {
         return Err(Stop::Opening);
     };
@@ -91,14 +96,19 @@ fn asked_of<T: Env>(rt: &T, alloc: Global) -> Option<Asked> {
 }
 
 /// The two files of the journal.
-fn disk_at<T: Files<File = File>>(
+fn disk_at<T: Files<File = File>, E: Write>(
     rt: &T,
     alloc: Global,
     settings: &Settings,
+    err: &mut E,
 ) -> Result<FileDisk, Stop> {
-    match FileDisk::at(rt, alloc, settings.journal.as_str()) {
+    let path = settings.journal.as_str();
+    match FileDisk::at(rt, alloc, path) {
         Ok(disk) => Ok(disk),
-        Err(FileDiskFault::Files) => Err(Stop::Disk),
         Err(FileDiskFault::Memory) => Err(Stop::NoMemory),
+        Err(fault) => {
+            let _ = writeln!(err, "{path}.0, {path}.1: {fault}");
+            Err(Stop::Disk)
+        }
     }
 }

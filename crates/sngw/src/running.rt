@@ -121,7 +121,9 @@ where
 }
 
 /// The shifts, each with a line when it is over. Where the gateway was opened anew in a shift, that
-/// is told before its line; behind it the gateway is tended.
+/// is told before its line. Behind it the gateway is tended, unless it goes on and nothing was put
+/// into its journal: that is as short as it was, and whoever sends what changes nothing does not
+/// wear the disk.
 fn work_all<T, R, D>(
     rt: &T,
     alloc: Global,
@@ -145,10 +147,13 @@ where
             mut node,
             steps,
             tended,
+            has_written,
         } = work(rt, alloc, settings, node, inlet, pool, number)?;
         begin_anew(rt, alloc, &node, pool, tended);
         let _ = println!(rt; "shift {} steps {}", number + 1, steps);
-        tend_behind(rt, alloc, &mut node, pool)?;
+        if has_written || node.is_halted() {
+            tend_behind(rt, alloc, &mut node, pool)?;
+        }
         *place.lock(rt) = Some(node);
     }
     Ok(())

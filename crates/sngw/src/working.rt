@@ -9,10 +9,10 @@ use crate::watched::Watched;
 use gw_link::{End, Phase, Stage};
 use gw_main::Tended;
 use gw_main::options::Settings;
-use gw_node::Node;
+use gw_node::{Node, Step};
 use gw_run::{MOST_ACCEPTED, Pool, Seat, sit, tick_all};
 use gw_serve::{Cause, serve};
-use gw_shift::{Closed, MAX_STEPS, Pass, Shift};
+use gw_shift::{Closed, Entry, MAX_STEPS, Pass, Shift};
 use gw_wire::{Mouth, OpenGate, Wire};
 use jr_disk::Disk;
 use rep_model::Replica;
@@ -43,6 +43,8 @@ pub struct Worked<R: Replica, D: Disk> {
     pub steps: usize,
     /// Whether one of them opened it anew.
     pub tended: Tended,
+    /// Whether one of them put something into the journal.
+    pub has_written: bool,
 }
 
 /// Works the shift of this number, and the gateway comes back. A datagram that came late, or is
@@ -332,14 +334,28 @@ where
     match shift.end().close(passes) {
         Ok(Closed { node, history }) => {
             let steps = history.len();
+            let has_written = has_written(history.as_slice());
             Ok(Worked {
                 node,
                 steps,
                 tended,
+                has_written,
             })
         }
         Err(_) => Err(Stop::History),
     }
+}
+
+/// Whether one of the calls put something into the journal.
+fn has_written(history: &[Entry]) -> bool {
+    for call in history {
+        if let Ok(out) = &call.answer {
+            if out.made.is_some() || matches!(*call.step, Step::Take { .. } | Step::Reopen) {
+                return true;
+            }
+        }
+    }
+    false
 }
 
 /// What became of the gateway in the shift: the clock opens anew one that is halted.

@@ -15,6 +15,7 @@
 //! - `fail`: the next write of its journal stops after five octets.
 //! - `files OCTETS`: a gateway is opened on the two files of the settings, is given a datagram, and
 //!   is closed.
+//! - `lose NAME`: a file is taken away.
 //!
 //! The next serving; without these, two workers, 4,096 calls, and a post and a wire that do not
 //! fail:

@@ -12,7 +12,7 @@ use gw_shift::Pass;
 use gw_wire::{Gate, Post};
 use jr_journal::MemoryDisk;
 use std::alloc::{AllocError, Global};
-use std::fs::{File, Files};
+use std::fs::{File, Files, remove_file};
 use std::mem;
 use std::net::Net;
 use std::sync::Wait;
@@ -79,6 +79,7 @@ where
         ["begin"] => play_begin(alloc, text, row),
         ["fail"] => fail(row),
         ["files", octets] => play_files(rt, alloc, text, row.toml.as_str(), octets),
+        ["lose", name] => lose(rt, name),
         ["serve"] => play_serve(rt, alloc, text, row),
         ["loopback", first, second] => play_loopback(rt, alloc, text, row, first, second),
         _ => play_plan(alloc, &mut row.plan, words),
@@ -95,6 +96,14 @@ fn play_files<T: Files<File = File>>(
 ) -> Result<(), Stop> {
     let octets = digits(alloc, octets)?;
     files(rt, alloc, text, toml, octets.as_slice())
+}
+
+/// `lose NAME`: the file of this name is not there any more.
+fn lose<T: Files<File = File>>(rt: &T, name: &str) -> Result<(), Stop> {
+    match remove_file(rt, name) {
+        Ok(()) => Ok(()),
+        Err(_) => Err(Stop::Line),
+    }
 }
 
 /// A line of the settings' text.
