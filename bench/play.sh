@@ -4,6 +4,8 @@
 # keeps in memory (memory.py).
 #
 # Usage: bench/play.sh [EVENTS] [GATEWAYS] [CLIENTS]
+#
+# With BEFORE=PROGRAM, a gw_sim that bench/before.sh has built, publications.py is set beside that too.
 set -eu
 top=$(cd "$(dirname "$0")/.." && pwd)
 work=$(mktemp -d)
@@ -21,7 +23,7 @@ echo "$events events, $lines lines printed, status $status"
 [ "$status" -eq 0 ] || { head -n 1 "$work/printed"; exit 1; }
 awk -v n="$events" -v a="$start" -v b="$end" 'BEGIN { printf "%.3f s, %.0f events per second\n", b - a, n / (b - a) }'
 python3 "$top/bench/sessions.py" "$program"
-python3 "$top/bench/publications.py" "$program"
+python3 "$top/bench/publications.py" "$program" ${BEFORE:+"$BEFORE"}
 python3 "$top/bench/takeover.py" "$program"
 python3 "$top/bench/steps.py" "$program"
 python3 "$top/bench/goes_on.py" "$program"
