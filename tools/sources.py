@@ -472,10 +472,11 @@ class Book:
     def rust(self, crate, module, path, depth=0):
         """The type at a path of Rust, through what modules hand on."""
         here, path = list(module), list(path)
-        if path[0] in self.crates:
-            crate, here, path = path[0], [], path[1:]
-        elif path[0] == "crate":
+        if path[0] == "crate":
             here, path = [], path[1:]
+        # (one crate may be named through another, which passes it on)
+        while len(path) > 1 and path[0] in self.crates:
+            crate, here, path = path[0], [], path[1:]
         while path and path[0] in ("super", "self"):
             here, path = here[:-1] if path[0] == "super" else here, path[1:]
         source = self.sources.get((crate, tuple(here + path[:-1])))

@@ -5,8 +5,8 @@ ghost use Rattle.gw_answer.specs.Answers.{only_sends};
 
 use octets::Sequence;
 use rep_digest::Digest;
-use rep_model::ClientView;
 use rep_ops::Delta;
+use rep_same::rep_model::ClientView;
 use sn_local::Send;
 use std::alloc::Global;
 

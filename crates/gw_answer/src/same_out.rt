@@ -4,8 +4,8 @@ ghost use Rattle.std.specs.Prelude.{◌≡◌, ◌↔◌, IsTrue};
 
 use super::out::Out;
 use rep_digest::{ClientEntry, Digest, OriginEntry};
-use rep_model::ClientView;
 use rep_ops::Delta;
+use rep_same::rep_model::ClientView;
 use rep_same::{same_client, same_delta, same_deltas, same_view};
 use sn_local::Send;
 

@@ -12,7 +12,7 @@ ghost use Rattle.gw_answer.specs.declared.refusal.Refusal.TheVariants as refusal
 ghost use Rattle.gw_link.specs.declared.calling.End.TheVariants.{Memory};
 
 use crate::stage::Stage;
-use gw_node::{Answer, NodeFault, Step};
+use gw_shift::gw_node::{Answer, NodeFault, Step};
 use gw_shift::{CallFault, Pass, Shift};
 use jr_disk::Disk;
 use octets::NoMemory;

@@ -10,7 +10,7 @@ use crate::outgoing::is_nothing;
 use crate::saying::say_answer;
 use crate::stage::Stage;
 use gw_net::{LinkFault, LinkMessage};
-use gw_node::Step;
+use gw_shift::gw_node::Step;
 use gw_shift::{Pass, Shift};
 use jr_disk::Disk;
 use rep_model::Replica;

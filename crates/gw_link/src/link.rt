@@ -5,7 +5,7 @@ ghost use Rattle.std.specs.Arc.{arc_value};
 ghost use Rattle.gw_link.specs.Adding.{is_of_link};
 
 use gw_net::LinkIn;
-use gw_node::Step;
+use gw_shift::gw_node::Step;
 use std::alloc::Global;
 use std::collections::VecDeque;
 use std::sync::Arc;

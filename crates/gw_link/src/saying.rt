@@ -8,7 +8,7 @@ use crate::link::Link;
 use crate::outgoing::{is_behind, say};
 use crate::stage::Stage;
 use gw_net::LinkMessage;
-use gw_node::{Out, Step};
+use gw_shift::gw_node::{Out, Step};
 use gw_shift::{CallFault, Pass, Shift};
 use jr_disk::Disk;
 use octets::NoMemory;

@@ -5,7 +5,7 @@ ghost use Rattle.gw_run.specs.Clock.{AddsOfClock, OpensAs};
 
 use crate::pool::Pool;
 use gw_link::{End, Phase, Stage, call, dropped, is_halted};
-use gw_node::{Out, Step};
+use gw_shift::gw_node::{Out, Step};
 use gw_shift::{Pass, Shift};
 use gw_wire::{Post, moment};
 use jr_disk::Disk;

@@ -7,7 +7,7 @@ ghost use Rattle.gw_serve.specs.inner.Work.{IsFresh, IsWorked};
 
 use crate::bell::Bell;
 use crate::queue::{Datagram, Receiver, Takes, Ticket};
-use gw_node::{NodeFault, Out, Step};
+use gw_shift::gw_node::{NodeFault, Out, Step};
 use gw_shift::{CallFault, Pass, Shift};
 use gw_wire::{Gate, Post};
 use jr_disk::Disk;

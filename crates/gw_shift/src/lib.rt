@@ -23,6 +23,8 @@
 //! The definitions are in `specs/`: `Calls` (a call, and what contracts see of a pass), `Legal` (a
 //! legal history), `Passes` (what passes hold, and which deltas calls made), `Calling` (what a call
 //! leaves), `Closing` (when passes and history agree).
+//!
+//! `gw_node` is passed on, since types of it stand in ours.
 #![tactic(auto)]
 
 mod closing;
@@ -38,6 +40,7 @@ mod shift;
 pub use ended::{Closed, Ended};
 pub use entry::Entry;
 pub use fault::{CallFault, CloseFault, ShiftFault};
+pub use gw_node;
 pub use laws::{strangers_are_not_known, unused_passes_may_go};
 pub use pass::Pass;
 pub use shift::{MAX_STEPS, Shift};

@@ -16,6 +16,8 @@
 //! one after the other), `Asking` (whom a publication passes over). The lemmas that crates above
 //! cite are in `proofs/`: `Joins`, `Thin`, `Ranges`, `Named`, `Fresh`, `Limits`, `Agreeing`,
 //! `Occurring`, `Roomy`.
+//!
+//! `rep_ops` is passed on, since types of it stand in ours.
 #![tactic(auto)]
 
 mod fault;
@@ -28,5 +30,6 @@ pub use laws::{
     base_laws, client_laws, consistency, count_laws, join_laws, keep_laws, leaves_only, order_laws,
     pending_laws, range_laws,
 };
+pub use rep_ops;
 pub use replica::Replica;
 pub use view::{ClientView, Puts};

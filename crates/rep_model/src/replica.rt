@@ -13,7 +13,7 @@ ghost use Rattle.rep_model.specs.Asking.{NoneAsks, IsCandidate};
 use super::fault::TakeFault;
 use super::view::ClientView;
 use rep_ops::{ClientId, Delta};
-use sn_topic::TopicName;
+use sn_tables::sn_topic::TopicName;
 use std::alloc::Global;
 
 /// A replica of a set of operations.

@@ -4,7 +4,7 @@ ghost use Rattle.std.specs.Prelude.{◌≡◌, ℕ, ◌⊎◌, List, IfOk, IfErr
 ghost use Rattle.rep_op.specs.ClientIds.{IsClientId};
 
 use super::fault::OpsFault;
-use octets::{NoMemory, Octets};
+use sn_topic::octets::{NoMemory, Octets};
 use std::alloc::Global;
 use std::cmp::Ordering;
 use std::marker::Model;

@@ -17,8 +17,8 @@ use super::join::{has_twice, join_names, sort_by_name};
 use super::read::read_delta;
 use super::size::{are_well_made, is_within_limit};
 use super::write::write_delta;
-use octets::NoMemory;
 use rep_op::{Op, OpsFault};
+use sn_session::octets::NoMemory;
 use std::alloc::Global;
 use std::marker::Model;
 

@@ -8,8 +8,8 @@ ghost use Rattle.rep_op.specs.Orders.{ShareName, HasTwice, name_cmp};
 ghost use Rattle.rep_op.specs.declared.op.Op.{Op};
 ghost use Rattle.rep_ops.specs.inner.Joining as spec;
 
-use octets::NoMemory;
 use rep_op::{Op, name_order, share_name};
+use sn_session::octets::NoMemory;
 use std::alloc::Global;
 
 /// Sorts operations by their names.

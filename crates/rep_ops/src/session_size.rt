@@ -5,8 +5,8 @@ ghost use Rattle.byteorder.specs.Endian.{big_bytes};
 ghost use Rattle.rep_op.specs.Ranges.{is_will, is_session, is_change};
 ghost use Rattle.rep_octets.specs.Sessions.{table_octets, option_octets, topic_octets, subscription_octets, will_octets, will_topic_octets, exchange_octets, session_octets, change_octets};
 
+use sn_session::sn_tables::{Received, Subscriptions, Topics};
 use sn_session::{Outbound, Session, SessionOp, Will, WillTopic};
-use sn_tables::{Received, Subscriptions, Topics};
 
 /// How many octets topic ids are spelled in.
 fn topics_size(topics: &Topics) -> usize

@@ -8,8 +8,8 @@ ghost use Rattle.rep_ops.specs.Splitting.{IsSplit, AreDeltasOf};
 use super::delta::Delta;
 use super::join::{join_names, sort_stably};
 use super::size::{MAX_OCTETS, op_size};
-use octets::NoMemory;
 use rep_op::{Op, is_value};
+use sn_session::octets::NoMemory;
 use std::alloc::Global;
 use std::mem;
 

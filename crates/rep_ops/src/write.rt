@@ -8,9 +8,9 @@ ghost use Rattle.rep_octets.specs.Writing.{Writes};
 ghost use Rattle.rep_ops.specs.Making.{AreWellMade};
 ghost use Rattle.rep_ops.specs.Spelling.{spelling, IsWithinLimit};
 
-use octets::{NoMemory, append_u32};
 use rep_octets::write_op;
 use rep_op::Op;
+use sn_session::octets::{NoMemory, append_u32};
 
 /// The version of the format.
 const VERSION: u8 = 1;

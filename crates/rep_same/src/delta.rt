@@ -4,7 +4,7 @@ ghost use Rattle.std.specs.Prelude.{◌≡◌, ◌↔◌, IsTrue};
 
 use super::change::same_change;
 use super::view::same_put;
-use rep_ops::{ClientId, Delta, Op};
+use rep_model::rep_ops::{ClientId, Delta, Op};
 
 /// Whether two clients are one.
 pub fn same_client(a: &ClientId, b: &ClientId) -> bool

@@ -7,6 +7,8 @@
 //! - `change`: changes of a session, and sessions.
 //! - `delta`: operations and deltas.
 //! - `view`: messages that wait, and views.
+//!
+//! `rep_model` is passed on, since types of it stand in ours.
 #![tactic(auto)]
 
 mod change;
@@ -15,4 +17,5 @@ mod view;
 
 pub use change::{same_change, same_session};
 pub use delta::{same_client, same_delta, same_deltas};
+pub use rep_model;
 pub use view::{same_put, same_view};

@@ -4,7 +4,7 @@ ghost use Rattle.std.specs.Prelude.{◌≡◌, ◌↔◌, IsTrue};
 
 use super::change::same_session;
 use rep_model::ClientView;
-use rep_ops::Put;
+use rep_model::rep_ops::Put;
 use sn_session::Session;
 
 /// Whether two messages are equal.

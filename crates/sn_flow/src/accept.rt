@@ -7,8 +7,8 @@ ghost use Rattle.sn_flow.specs.Accept.{cleared};
 ghost use Rattle.sn_flow.specs.Accept as spec;
 
 use octets::NoMemory;
+use rep_model::rep_ops::{ClientId, Put};
 use rep_model::{ClientView, Replica};
-use rep_ops::{ClientId, Put};
 use sn_frame::Frame;
 use sn_local::{LocalChange, Request};
 use sn_plan::{ACCEPTED, Draft, bind_to};

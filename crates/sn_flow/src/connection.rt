@@ -10,8 +10,8 @@ ghost use Rattle.sn_flow.specs.Connection as spec;
 
 use super::accept::{GivenWill, accept, has_no_room};
 use octets::NoMemory;
+use rep_model::rep_ops::ClientId;
 use rep_model::{ClientView, Replica};
-use rep_ops::ClientId;
 use sn_frame::{Flags, Frame};
 use sn_local::{Addr, Awaited, Dialogs, LocalChange, Request, WillDialog};
 use sn_plan::{

@@ -13,7 +13,7 @@ use super::will_update::{
 };
 use octets::{NoMemory, Octets};
 use rep_model::Replica;
-use rep_ops::ClientId;
+use rep_model::rep_ops::ClientId;
 use sn_frame::{Frame, Will};
 use sn_local::{Addr, Awaited, Dialogs, LocalChange, Request, WillDialog};
 use sn_plan::{

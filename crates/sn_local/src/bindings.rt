@@ -14,7 +14,7 @@ ghost use Rattle.sn_local.specs.Seen.{seen_of};
 use super::config::Addr;
 use super::local::Binding;
 use rep_model::Replica;
-use rep_ops::{ClientId, Stamp};
+use rep_model::rep_ops::{ClientId, Stamp};
 
 /// Whether a binding has neither the address nor the client.
 fn is_apart(address: Addr, client: &ClientId, binding: &Binding) -> bool

@@ -9,6 +9,8 @@
 //! The definitions are in `specs/`: `Bindings`, `WillDialogs`, `Timers` (the lists), `Locals` (all
 //! of it), `Advertising` (when a gateway advertised itself last), `Seen` (what a step reads of a
 //! set of operations), `Faults`.
+//!
+//! `rep_model` is passed on, since types of it stand in ours.
 #![tactic(auto)]
 
 mod bindings;
@@ -23,4 +25,5 @@ pub use bindings::{is_owned, is_stamp_of};
 pub use config::{Addr, Config, Send};
 pub use fault::StepFault;
 pub use local::{Awaited, Binding, Dialogs, LocalChange, Request, Timer, WillDialog};
+pub use rep_model;
 pub use will_dialogs::MAX_DIALOGS;

@@ -10,7 +10,7 @@ use super::timers::{keep_timers, timer_of};
 use super::will_dialogs::{dialog_at, is_crowded};
 use octets::{NoMemory, Sequence};
 use rep_model::Replica;
-use rep_ops::ClientId;
+use rep_model::rep_ops::ClientId;
 use sn_session::WillTopic;
 use std::alloc::{AllocError, Global};
 use std::marker::Model;

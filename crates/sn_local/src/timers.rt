@@ -12,7 +12,7 @@ ghost use Rattle.sn_local.specs.Seen.{seen_of};
 use super::bindings::is_owned;
 use super::local::Timer;
 use rep_model::Replica;
-use rep_ops::ClientId;
+use rep_model::rep_ops::ClientId;
 
 /// Where the timer of a client is, or where it would go. The time is logarithmic.
 fn place(timers: &[Timer], client: &ClientId) -> Result<usize, usize>

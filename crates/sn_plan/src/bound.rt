@@ -11,8 +11,8 @@ ghost use Rattle.sn_plan.specs.Bound as spec;
 
 use super::draft::Draft;
 use octets::NoMemory;
+use rep_model::rep_ops::ClientId;
 use rep_model::{ClientView, Puts, Replica};
-use rep_ops::ClientId;
 use sn_local::{Addr, LocalChange, Timer};
 use sn_session::Session;
 use std::alloc::Global;

@@ -7,7 +7,7 @@ ghost use Rattle.sn_frame.specs.Grammar.{total_of, spelling};
 ghost use Rattle.rep_op.specs.Orders.{name_of};
 
 use octets::{NoMemory, Octets};
-use rep_ops::{ClientId, Put};
+use rep_model::rep_ops::{ClientId, Put};
 use sn_frame::{EncodeFault, Frame, encode};
 use sn_local::{Addr, LocalChange, Send};
 use sn_session::{Message, SessionOp};

@@ -10,8 +10,8 @@ ghost use Rattle.sn_plan.specs.inner.Plans.{Becomes};
 
 use super::draft::NewPut;
 use octets::NoMemory;
+use rep_model::rep_ops::{ClientId, MAX_OPERATIONS, Op, Put, Stamp};
 use rep_model::{ClientView, Replica};
-use rep_ops::{ClientId, MAX_OPERATIONS, Op, Put, Stamp};
 use sn_local::StepFault;
 use sn_session::{Session, SessionOp};
 use sn_tables::SessionFault;

@@ -8,7 +8,7 @@ use super::draft::Draft;
 use super::row::{Row, quiet, stray};
 use octets::{NoMemory, Octets};
 use rep_model::Replica;
-use rep_ops::ClientId;
+use rep_model::rep_ops::ClientId;
 use sn_frame::Frame;
 use sn_local::{Addr, Config, Dialogs};
 use sn_session::Presence;

@@ -13,7 +13,7 @@ use super::draft::Draft;
 use super::numbering::{Writer, append_acks, number_puts};
 use octets::{NoMemory, Sequence};
 use rep_model::Replica;
-use rep_ops::{ClientId, Op};
+use rep_model::rep_ops::{ClientId, Op};
 use sn_local::{LocalChange, Send, StepFault};
 use std::alloc::Global;
 

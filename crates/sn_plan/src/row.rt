@@ -12,7 +12,7 @@ use super::draft::Draft;
 use super::plan::{Plan, plan_of, plan_of_puts};
 use octets::NoMemory;
 use rep_model::Replica;
-use rep_ops::ClientId;
+use rep_model::rep_ops::ClientId;
 use sn_frame::Frame;
 use sn_local::{Addr, StepFault};
 use std::alloc::Global;

@@ -10,8 +10,8 @@ ghost use Rattle.sn_publish.specs.Recipients.{message_for};
 ghost use Rattle.sn_publish.specs.Recipients as spec;
 
 use octets::NoMemory;
+use rep_model::rep_ops::{ClientId, Put};
 use rep_model::{ClientView, Replica};
-use rep_ops::{ClientId, Put};
 use sn_plan::{NewPut, is_up};
 use sn_session::{Message, Presence, Session, Will};
 use sn_tables::QosLevel;

@@ -10,8 +10,8 @@ use crate::presence::Presence;
 use crate::session::Session;
 use crate::will::{WillTopic, set_message, set_topic};
 use octets::NoMemory;
+use sn_tables::sn_topic::{Filter, TopicName};
 use sn_tables::{QosLevel, SessionFault};
-use sn_topic::{Filter, TopicName};
 use std::alloc::Global;
 
 /// A change of a session.

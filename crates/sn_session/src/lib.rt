@@ -10,6 +10,8 @@
 //! - `message`: what is published.
 //! - `will`: the will and what is said of it.
 //! - `outbound`: the exchange by which a message is handed to the client.
+//!
+//! `octets` and `sn_tables` are passed on, since types of them stand in ours.
 #![tactic(auto)]
 
 mod change;
@@ -21,7 +23,9 @@ mod will;
 
 pub use change::SessionOp;
 pub use message::{MAX_MESSAGE, Message};
+pub use octets;
 pub use outbound::{Outbound, Phase};
 pub use presence::Presence;
 pub use session::Session;
+pub use sn_tables;
 pub use will::{Will, WillTopic};

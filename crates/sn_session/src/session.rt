@@ -12,8 +12,8 @@ use crate::outbound::Outbound;
 use crate::presence::Presence;
 use crate::will::Will;
 use octets::NoMemory;
+use sn_tables::sn_topic::{Filter, TopicName};
 use sn_tables::{QosLevel, Received, SessionFault, Subscriptions, TopicEntry, Topics};
-use sn_topic::{Filter, TopicName};
 use std::alloc::Global;
 
 /// What a gateway knows of a client.

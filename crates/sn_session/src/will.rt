@@ -6,7 +6,7 @@ ghost use Rattle.sn_session.specs.Wills.{with_will_topic, with_will_message};
 use super::message::Message;
 use octets::NoMemory;
 use sn_tables::QosLevel;
-use sn_topic::TopicName;
+use sn_tables::sn_topic::TopicName;
 use std::alloc::Global;
 
 /// What a client says of its will by WILLTOPIC or WILLTOPICUPD.

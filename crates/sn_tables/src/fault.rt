@@ -4,7 +4,7 @@ ghost use Rattle.std.specs.Prelude.{◌≡◌};
 ghost use Rattle.sn_tables.specs.Fault.{number_of};
 ghost use Rattle.sn_tables.specs.declared.fault.SessionFault.TheVariants as faults;
 
-use octets::NoMemory;
+use sn_topic::octets::NoMemory;
 use std::alloc::AllocError;
 use thiserror::Error;
 

@@ -14,6 +14,8 @@
 //! `Received`, `Levels` and `Fault`. What a search in a table finds, and what a change at that
 //! place makes, is in `proofs/`: `Ascending` and `Places` of any table, `TopicPlaces`,
 //! `SubscriptionPlaces` and `ReceivedPlaces` of the three.
+//!
+//! `sn_topic` is passed on, since types of it stand in ours.
 #![tactic(auto)]
 
 mod fault;
@@ -26,6 +28,7 @@ mod topics;
 pub use fault::SessionFault;
 pub use qos_level::QosLevel;
 pub use received::Received;
+pub use sn_topic;
 pub use subscriptions::{Subscription, Subscriptions};
 pub use table::MAX_ENTRIES;
 pub use topics::{TopicEntry, Topics};

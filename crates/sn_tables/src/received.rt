@@ -10,7 +10,7 @@ ghost use Rattle.sn_tables.specs.Received.{with_received, without_received, is_r
 
 use crate::fault::SessionFault;
 use crate::table::{MAX_ENTRIES, insert_at};
-use octets::NoMemory;
+use sn_topic::octets::NoMemory;
 use std::alloc::Global;
 use std::marker::Model;
 

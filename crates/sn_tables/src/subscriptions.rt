@@ -13,7 +13,7 @@ ghost use Rattle.sn_tables.specs.Subscriptions as spec;
 use crate::fault::SessionFault;
 use crate::qos_level::QosLevel;
 use crate::table::{MAX_ENTRIES, insert_at};
-use octets::NoMemory;
+use sn_topic::octets::NoMemory;
 use sn_topic::{Filter, TopicName, matches};
 use std::alloc::{AllocError, Global};
 use std::cmp::Ordering;

@@ -11,8 +11,8 @@ ghost use Rattle.sn_tables.specs.Topics as spec;
 
 use crate::fault::SessionFault;
 use crate::table::{MAX_ENTRIES, insert_at};
-use octets::NoMemory;
 use sn_topic::TopicName;
+use sn_topic::octets::NoMemory;
 use std::alloc::{AllocError, Global};
 use std::marker::Model;
 

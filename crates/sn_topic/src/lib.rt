@@ -5,6 +5,8 @@
 //! may have the wildcards `+` (any one level) and `#` (all levels that are left), and `matches`
 //! says whether a filter asks for a name. `Predefined` is the table of names whose ids every client
 //! knows from the start. `TopicFault` says why octets were refused.
+//!
+//! `octets` is passed on, since types of it stand in ours.
 #![tactic(auto)]
 
 mod fault;
@@ -19,4 +21,5 @@ pub use filter::Filter;
 pub use level::MAX_TOPIC;
 pub use matching::matches;
 pub use name::TopicName;
+pub use octets;
 pub use predefined::{MAX_TOPIC_ID, Predefined, is_topic_id};

@@ -3,7 +3,7 @@
 
 use super::closings::closed;
 use super::gateways::{CONNECT, Gateway, Shared, alone, answered, frame, gateway, shift_of_one};
-use gw_node::{NodeFault, Step};
+use gw_shift::gw_node::{NodeFault, Step};
 use gw_shift::{CallFault, Pass};
 use std::alloc::Global;
 use std::process::Abort;

@@ -2,7 +2,7 @@
 
 use super::closings::closed;
 use super::gateways::{SEARCHGW, frame, gateway, shift_of};
-use gw_node::Step;
+use gw_shift::gw_node::Step;
 use gw_shift::{Pass, Shift};
 use jr_journal::Disk;
 use rep_model::Replica;

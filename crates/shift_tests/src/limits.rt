@@ -4,7 +4,7 @@ ghost use Rattle.std.specs.Prelude.{◌<◌, ◌≤◌};
 
 use super::closings::closed;
 use super::gateways::{SEARCHGW, Shared, alone, call, frame, gateway, shift_of_one};
-use gw_node::{NodeFault, Step};
+use gw_shift::gw_node::{NodeFault, Step};
 use gw_shift::{CallFault, Pass};
 use std::alloc::Global;
 use std::process::Abort;

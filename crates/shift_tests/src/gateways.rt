@@ -2,7 +2,7 @@
 
 ghost use Rattle.std.specs.Prelude.{◌<◌, ◌≤◌};
 
-use gw_node::{Node, Out, Step};
+use gw_shift::gw_node::{Node, Out, Step};
 use gw_shift::{Pass, Shift};
 use jr_journal::MemoryDisk;
 use octets::{Octets, Sequence};

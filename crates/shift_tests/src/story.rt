@@ -6,7 +6,7 @@ use super::gateways::{
     CONNECT, Gateway, SEARCHGW, SUBSCRIBE, Shared, alone, answered, check_sent, frame, gateway,
     last, shift_of_one, shift_of_two, unused, used,
 };
-use gw_node::{Out, Step};
+use gw_shift::gw_node::{Out, Step};
 use gw_shift::{Pass, Shift};
 use jr_journal::Disk;
 use rep_model::Replica;

@@ -1,3 +1,0 @@
-//! Playing a script whose reading or writing fails.
-
-mod failures;
