@@ -21,10 +21,6 @@ use std::sync::{Arc, Wait};
 /// How often a read may find nothing before the other end has said its number: some ten seconds.
 const MOST_SILENCE: u32 = 1_000;
 
-/// How many octets an answer may have before it ends its shift: the history keeps it so long, and a
-/// peer whose disk fails asks for it again and again.
-const MOST_KEPT: usize = 16_777_216;
-
 /// What a message says.
 enum Said {
     /// The other end's number.
@@ -193,7 +189,7 @@ fn hear<T: Wait, R: Replica, D: Disk + Drop, S: Drop>(
         Ok(Ok(out)) => match say_answer(alloc, link, out.answer.as_slice()) {
             Err(end) => (pass, Err(end)),
             Ok(octets) => {
-                if octets > MOST_KEPT {
+                if stage.keep(octets) {
                     stage.close(rt);
                 }
                 (pass, Ok(()))

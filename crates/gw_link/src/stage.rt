@@ -25,7 +25,13 @@ pub struct Stage {
     steps: u64,
     /// How often one was asked for.
     claims: AtomicU64,
+    /// How many octets of answers to other gateways its history keeps.
+    kept: AtomicU64,
 }
+
+/// How many octets of answers a shift's history may keep before the shift is to end. A peer whose
+/// disk fails asks for the same again and again.
+const MOST_KEPT: u64 = 16_777_216;
 
 impl Stage {
     /// The begin of a shift of so many calls, of which so many are claimed.
@@ -35,6 +41,7 @@ impl Stage {
             changed: Condvar::new(),
             steps,
             claims: AtomicU64::new(claimed),
+            kept: AtomicU64::new(0),
         }
     }
 
@@ -51,6 +58,12 @@ impl Stage {
     /// Whether all of the shift's calls are claimed.
     pub fn is_full(&self) -> bool {
         self.claims.load(Ordering::SeqCst) >= self.steps
+    }
+
+    /// The history keeps an answer of so many octets. Says whether it keeps more than it should.
+    pub(crate) fn keep(&self, octets: usize) -> bool {
+        let before = self.kept.fetch_add(octets as u64, Ordering::SeqCst);
+        before.saturating_add(octets as u64) > MOST_KEPT
     }
 
     /// How far it is now.

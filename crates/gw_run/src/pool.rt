@@ -59,9 +59,11 @@ impl<S: Drop> Pool<S> {
         ticked != 0 && second > ticked.saturating_add(seconds)
     }
 
-    /// The clock has not done in this second what it had to: it may tick once more.
-    pub(crate) fn tick_again(&self) {
-        self.ticked.store(0, Ordering::SeqCst);
+    /// The clock has not done in this second what it had to: it may tick once more. That it ticked
+    /// before is not forgotten.
+    pub(crate) fn tick_again(&self, second: u64) {
+        self.ticked
+            .store(second.saturating_sub(1), Ordering::SeqCst);
     }
 
     /// Whether one more link of this origin may be open.

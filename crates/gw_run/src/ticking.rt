@@ -76,12 +76,13 @@ fn tick_in_turn<T: Wait + Clock, R: Replica, D: Disk + Drop, P: Post, S: Drop>(
     ensures { AddsOfClock pass result.1 result.0 }
 {
     let_in_first(rt, stage, pool);
-    if !pool.may_tick(moment(rt)) {
+    let second = moment(rt);
+    if !pool.may_tick(second) {
         return (pass, None);
     }
     let (pass, end) = tick_out(rt, alloc, shift, pass, stage, post);
     if end == Some(End::Full) {
-        pool.tick_again();
+        pool.tick_again(second);
     }
     (pass, end)
 }

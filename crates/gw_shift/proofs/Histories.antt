@@ -13,6 +13,7 @@ use Rattle.gw_shift.specs.inner.Passes.{call}
 use Rattle.gw_shift.specs.Calls.{Call}
 use Rattle.gw_node.specs.Failures.{failed}
 use Rattle.gw_node.proofs.Failing.{failures_grow}
+use Rattle.gw_node.proofs.Leading.{event_on}
 use Rattle.gw_shift.specs.Legal.{Does, Leads, failed_in, IsLegal}
 
 pub leads_on : {D : Type 0} {G : Ghosts D} (old : State G) (calls : List Call) (between : State G) (call : Call) (new : State G)
@@ -38,10 +39,17 @@ goes_on opening calls between call new does legal = record {
   failures = omega (arith, legal.failures, failed_on calls call, failures_grow between call.step call.answer new does.called);
 }
 
+-- what the node's clause of its call says, of the values that are entered
+called_so : {D : Type 0} {G : Ghosts D} (old : State G) (step told : Step) (answer said : Result Out Refusal) (new : State G)
+    → told ≡ step → answer ≡ said → StepCall old told said new → StepCall old step answer new
+called_so old step told answer said new same equal called =
+    subst (λ a. StepCall old step a new) (sym equal) (subst (λ s. StepCall old s said new) same called)
+
 -- what the node's call ensures, of the values that are entered
 pub does_so : {D : Type 0} {G : Ghosts D} (old : State G) (place : ℕ) (step told : Step) (answer said : Result Out Refusal) (new : State G)
     → told ≡ step → answer ≡ said → StepCall old told said new → StepCarriesOn old told said new → Does old (call place step answer) new
 does_so old place step told answer said new same equal called carried = record {
-  called = subst (λ a. StepCall old step a new) (sym equal) (subst (λ s. StepCall old s said new) same called);
+  called = called_so old step told answer said new same equal called;
   carried = subst (λ a. StepCarriesOn old step a new) (sym equal) (subst (λ s. StepCarriesOn old s said new) same carried);
+  event = event_on old new step answer (called_so old step told answer said new same equal called);
 }

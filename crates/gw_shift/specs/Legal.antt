@@ -7,14 +7,17 @@ use Rattle.jr_journal.specs.Parts.{disk_of}
 use Rattle.gw_node.specs.Parts.{State}
 use Rattle.gw_node.specs.Calls.{StepCall}
 use Rattle.gw_node.specs.Carrying.{StepCarriesOn}
+use Rattle.gw_node.specs.Standing.{EventOn}
 use Rattle.gw_node.specs.Failures.{failed}
 use Rattle.gw_shift.specs.Calls.{Call}
 
--- the node answers a call so, and is this after it
+-- The node answers a call so, and is this after it; for a gateway that it stood for the call was an
+-- event.
 pub record Does {D : Type 0} {G : Ghosts D} (old : State G) (call : Call)
     (new : State G) : Type 0 where
   pub called : StepCall old call.step call.answer new
   pub carried : StepCarriesOn old call.step call.answer new
+  pub event : EventOn old call.step call.answer new
 
 -- the calls, one after the other, lead from one state to the other
 abbrev pub Leads : {D : Type 0} {G : Ghosts D} → State G → List Call → State G → Type 0

@@ -28,7 +28,7 @@ pub(crate) fn advice(fault: &Fault) -> &'static str {
         Fault::Journal(JournalFault::Foreign) =>
             "look at the number that the gateway was given, and do not delete the files before you know whose they are",
         Fault::Journal(JournalFault::BadRecord { .. }) =>
-            "octets that were synced have changed: keep a copy of both files; the records in front are whole",
+            "octets that were synced have changed: keep a copy of both files; the records that are shown are whole",
         Fault::Journal(_) => "try again",
         Fault::Record(misfit) => match &misfit.fault {
             TakeFault::Conflict { .. } =>

@@ -103,8 +103,9 @@ fn read_records(
     }
 }
 
-/// What the records in front of a bad one are. Where that stands in front of the seal they are read
-/// as a base that ends with them.
+/// What can be shown where a record is bad: the other slot where that is sound and newer, or where
+/// the bad record stands in front of its slot's seal, so that nothing there counts yet; else the
+/// records in front of it.
 fn front(
     alloc: Global,
     gateway: u8,
@@ -115,15 +116,24 @@ fn front(
     let JournalFault::BadRecord { slot, at } = fault else {
         return None;
     };
-    let octets = match slot {
-        Slot::First => until(first, at),
-        Slot::Second => until(second, at),
+    let (bad, other) = match slot {
+        Slot::First => (first, alone(alloc, gateway, Slot::Second, second)),
+        Slot::Second => (second, alone(alloc, gateway, Slot::First, first)),
     };
-    let sealed = sealed(alloc, octets)?;
-    match alone(alloc, gateway, slot, sealed.as_slice()) {
-        Some(reading) => Some(reading),
-        None => alone(alloc, gateway, slot, octets),
+    let sound = other.filter(|it| !it.places.is_empty());
+    let octets = until(bad, at);
+    match (sound, alone(alloc, gateway, slot, octets)) {
+        (Some(sound), Some(older)) if sound.generation > older.generation => Some(sound),
+        (_, Some(own)) => Some(own),
+        (Some(sound), None) => Some(sound),
+        (None, None) => base(alloc, gateway, slot, octets),
     }
+}
+
+/// These octets as a base that ends with them, where there is nothing else to show.
+fn base(alloc: Global, gateway: u8, slot: Slot, octets: &[u8]) -> Option<Reading> {
+    let sealed = sealed(alloc, octets)?;
+    alone(alloc, gateway, slot, sealed.as_slice())
 }
 
 /// These octets with a seal behind them.

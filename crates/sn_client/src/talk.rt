@@ -143,6 +143,19 @@ pub(crate) fn outcome_at(qos: Qos) -> Option<Outcome>
     }
 }
 
+/// How an exchange has ended where one more answer comes. Its frame may have been sent again, so
+/// what was accepted stays accepted; where nothing accepts, and it was only taken for that, a
+/// refusal counts.
+fn ended(awaited: Awaited, had: Option<Outcome>, outcome: Outcome) -> Outcome
+    ensures { result ≡ exchanges.ended awaited had outcome }
+{
+    match (awaited, had) {
+        (Awaited::Refusal { .. }, _) => outcome,
+        (_, Some(Outcome::Accepted)) => Outcome::Accepted,
+        _ => outcome,
+    }
+}
+
 impl Talk {
     /// An exchange that begins with a frame.
     pub(crate) fn of(pending: Option<Frame>, awaited: Awaited) -> Talk
@@ -200,7 +213,7 @@ impl Talk {
                 true
             }
             Turn::End { outcome } => {
-                self.outcome = Some(outcome);
+                self.outcome = Some(ended(self.awaited, self.outcome, outcome));
                 false
             }
         }

@@ -39,11 +39,12 @@ use file_disk::{FileDisk, FileDiskFault};
 use gw_main::begin;
 use gw_main::options::Settings;
 use gw_node::Node;
+use jr_disk::{Disk, Slot};
 use rep_state::Folded;
 use std::alloc::Global;
 use std::env::Env;
 use std::fs::{File, Files};
-use std::io::{Print, Write};
+use std::io::{Eprint, Print, Write};
 use std::net::{Net, TcpListener, TcpStream};
 use std::process::ExitCode;
 use std::sync::Wait;
@@ -69,7 +70,7 @@ fn main(rt: HostRuntime) -> ExitCode {
 /// Everything that the program does.
 fn start<T, O: Write, E: Write>(rt: &T, alloc: Global, out: &mut O, err: &mut E) -> Result<(), Stop>
 where
-    T: Env + Files<File = File> + Print + Threads + Wait + Sync + Clock,
+    T: Env + Files<File = File> + Print + Eprint + Threads + Wait + Sync + Clock,
     T: Net<Listener = TcpListener, Stream = TcpStream>,
 {
     let Some(asked) = asked_of(rt, alloc) else {
@@ -95,7 +96,14 @@ fn asked_of<T: Env>(rt: &T, alloc: Global) -> Option<Asked> {
     asked_by(alloc, words.as_slice())
 }
 
-/// The two files of the journal.
+/// Whether both files are known to have no octets: then there is no journal, and an opening begins
+/// one.
+fn is_empty(disk: &mut FileDisk) -> bool {
+    disk.len(Slot::First) == Ok(0) && disk.len(Slot::Second) == Ok(0)
+}
+
+/// The two files of the journal. That none was there is told: where the path is wrong, or nothing is
+/// mounted there, a gateway would give names again that it has given.
 fn disk_at<T: Files<File = File>, E: Write>(
     rt: &T,
     alloc: Global,
@@ -104,7 +112,12 @@ fn disk_at<T: Files<File = File>, E: Write>(
 ) -> Result<FileDisk, Stop> {
     let path = settings.journal.as_str();
     match FileDisk::at(rt, alloc, path) {
-        Ok(disk) => Ok(disk),
+        Ok(mut disk) => {
+            if is_empty(&mut disk) {
+                let _ = writeln!(err, "{path}.0, {path}.1: no journal is there, one is begun");
+            }
+            Ok(disk)
+        }
         Err(FileDiskFault::Memory) => Err(Stop::NoMemory),
         Err(fault) => {
             let _ = writeln!(err, "{path}.0, {path}.1: {fault}");

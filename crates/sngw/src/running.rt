@@ -13,7 +13,7 @@ use gw_wire::{Socket, address};
 use jr_disk::Disk;
 use rep_model::Replica;
 use std::alloc::Global;
-use std::io::Print;
+use std::io::{Eprint, ErrorKind, Print};
 use std::net::{Net, TcpListener, TcpStream};
 use std::sync::{Mutex, Wait};
 use std::thread;
@@ -29,16 +29,19 @@ pub(crate) fn run<T, R, D>(
     shifts: u64,
 ) -> Result<(), Stop>
 where
-    T: Threads + Wait + Sync + Clock + Print + Net<Listener = TcpListener, Stream = TcpStream>,
+    T: Threads + Wait + Sync + Clock + Print + Eprint,
+    T: Net<Listener = TcpListener, Stream = TcpStream>,
     R: Replica + Send,
     R::Staged: Send,
     D: Disk + Drop + Send,
 {
-    let Ok(socket) = Socket::bind(rt, alloc, settings.listen) else {
-        return Err(Stop::Socket);
+    let socket = match Socket::bind(rt, alloc, settings.listen) {
+        Ok(socket) => socket,
+        Err(error) => return Err(no_socket(rt, "listen", error.kind())),
     };
-    let Ok(listener) = TcpListener::bind(rt, address(settings.link)) else {
-        return Err(Stop::Socket);
+    let listener = match TcpListener::bind(rt, address(settings.link)) {
+        Ok(listener) => listener,
+        Err(error) => return Err(no_socket(rt, "link", error.kind())),
     };
     if listener.set_nonblocking(true).is_err() {
         return Err(Stop::Socket);
@@ -67,6 +70,12 @@ where
         &pool,
         &over,
     )
+}
+
+/// Says which address of the settings cannot be had, and why.
+fn no_socket<T: Eprint>(rt: &T, key: &str, kind: ErrorKind) -> Stop {
+    let _ = eprintln!(rt; "{key}: {kind}");
+    Stop::Socket
 }
 
 /// The shifts beside the doors.

@@ -45,13 +45,21 @@ abbrev pub planned_of : Option Publication → ℕ → Talk → Talk
 planned_of None topic talk = talk
 planned_of (Some p) topic talk = publishing_of p topic
 
+-- How an exchange has ended where one more answer comes: its frame may have been sent again, so what
+-- was accepted stays accepted; where nothing accepts, and it was only taken for that, a refusal counts.
+abbrev pub ended : Awaited → Option Outcome → Outcome → Outcome
+ended (waits.Refusal id) had outcome = outcome
+ended awaited (Some outcomes.Accepted) outcome = outcomes.Accepted
+ended awaited had outcome = outcome
+
 -- the exchange behind a turn
 abbrev pub turned : Turn → Talk → Talk
 turned turns.Stay talk = talk
 turned (turns.Publish topic) talk = planned_of talk.planned topic talk
 turned (turns.Release id) talk =
     record talk { awaited = waits.Completion id; pending = Some (frames.PubRel id) }
-turned (turns.End outcome) talk = record talk { outcome = Some outcome }
+turned (turns.End outcome) talk =
+    record talk { outcome = Some (ended talk.awaited talk.outcome outcome) }
 
 -- how a run ends where nothing has ended the exchange
 abbrev pub outcome_of_silence : Awaited → Bool → Outcome
