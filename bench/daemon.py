@@ -65,7 +65,17 @@ class Account:
 # ---- messages and statuses
 
 
+# What is told where a journal is begun, on a line of its own.
+BEGUN = re.compile(r"^(.*)\.0, \1\.1: no journal is there, one is begun\n", re.M)
+
+
 def run(program: str, arguments: list, folder: str, limit: int = 0) -> tuple:
+    """One run to its end: status, standard output and standard error without the line that tells that a journal is begun."""
+    status, printed, told = run_whole(program, arguments, folder, limit)
+    return status, printed, BEGUN.sub("", told)
+
+
+def run_whole(program: str, arguments: list, folder: str, limit: int = 0) -> tuple:
     """One run to its end: status, standard output and standard error."""
     try:
         done = subprocess.run([program] + arguments, stdin=subprocess.DEVNULL, capture_output=True, cwd=folder, timeout=30,
@@ -187,6 +197,16 @@ def try_good_settings(account: Account, texts: Texts) -> None:
                   lambda: wanted(texts.run_text(tables.encode()), 0, "", "gateway 255 records 0 clients 0\n"))
 
 
+def begun(texts: Texts) -> None:
+    """That a journal is begun is told once, by the first start on its path."""
+    path = os.path.join(texts.folder, "begun")
+    words = ["--config", texts.file(settings_text({**texts.good, "journal": f'"{path}"'}).encode()), "--shifts", "0"]
+    first = run_whole(texts.program, words, texts.folder)
+    expect(first == (0, "gateway 1 records 0 clients 0\n", f"{path}.0, {path}.1: no journal is there, one is begun\n"), f"{first}")
+    second = run_whole(texts.program, words, texts.folder)
+    expect(second == (0, "gateway 1 records 0 clients 0\n", ""), f"at the second start {second}")
+
+
 def lost(texts: Texts, ending: str) -> None:
     """A journal is begun, for its owner alone to read, and loses a file: it is refused, and nothing is made anew."""
     path = os.path.join(texts.folder, f"lost-{ending}")
@@ -216,6 +236,7 @@ def try_journals(account: Account, texts: Texts) -> None:
                   lambda: wanted(texts.run_with(journal=f'"{texts.folder}/taken"'), 2, "sngw: journal J1\n", None, "is a directory"))
     for ending in ("0", "1"):
         account.check(f"journal J1: the file .{ending} is not there any more", lambda: lost(texts, ending))
+    account.check("that a journal is begun is told once", lambda: begun(texts))
     other = HEADER[:4] + b"\x02" + HEADER[5:] + SEAL
     foreign = [("another gateway's number", other, b""), ("other octets", b"something else", b""),
                ("other octets in the second file", HEADER + SEAL, b"\x00"), ("no seal", HEADER + RECORD, b""),
@@ -259,9 +280,9 @@ def try_sockets(account: Account, texts: Texts) -> None:
         listen, link = at_port(taken.getsockname()[1]), at_port(busy.getsockname()[1])
         journal = f'"{texts.folder}/sockets"'
         account.check("socket: the UDP port is taken",
-                      lambda: wanted(texts.run_with("1", listen=listen, journal=journal), 3, "sngw: socket\n"))
+                      lambda: wanted(texts.run_with("1", listen=listen, journal=journal), 3, "sngw: socket\n", None, "listen: "))
         account.check("socket: the TCP port is taken",
-                      lambda: wanted(texts.run_with("1", link=link, journal=journal), 3, "sngw: socket\n"))
+                      lambda: wanted(texts.run_with("1", link=link, journal=journal), 3, "sngw: socket\n", None, "link: "))
         account.check("no shifts: both ports are taken, and no socket is opened",
                       lambda: wanted(texts.run_with("0", listen=listen, link=link, journal=journal), 0, "",
                                      "gateway 1 records 0 clients 0\n"))
