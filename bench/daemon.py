@@ -31,7 +31,7 @@ import tempfile
 import time
 
 sys.dont_write_bytecode = True
-from gateway import (AGAIN, CONNECTED, GONE, HOST, PONG, Client, Failed, Gateway, at_port, connect, expect, frame, free_ports, leave,
+from gateway import (AGAIN, BEGUN, CONNECTED, GONE, HOST, PONG, Client, Failed, Gateway, at_port, connect, expect, frame, free_ports, leave,
                      number, opened, ping, publish, published, register, search, settings_text, subscribe, until, with_the_starter)
 
 # The journal of gateway 1 behind the CONNECT of a client s1: header, seal, and a record (docs/JOURNAL.md).
@@ -63,10 +63,6 @@ class Account:
 
 
 # ---- messages and statuses
-
-
-# What is told where a journal is begun, on a line of its own.
-BEGUN = re.compile(r"^(.*)\.0, \1\.1: no journal is there, one is begun\n", re.M)
 
 
 def run(program: str, arguments: list, folder: str, limit: int = 0) -> tuple:

@@ -14,6 +14,8 @@ import time
 HOST = "127.0.0.1"
 AGAIN = 0.5  # seconds after which a client repeats what was not answered
 FOREVER = 65535  # the longest duration of a sleep, in seconds
+# What is told where a journal is begun, on a line of its own.
+BEGUN = re.compile(r"^(.*)\.0, \1\.1: no journal is there, one is begun\n", re.M)
 
 
 class Failed(Exception):
@@ -198,8 +200,9 @@ class Gateway:
             return text.read()
 
     def told(self) -> str:
+        """What it told on standard error, but for the line that tells that its journal is begun."""
         with open(self.err, encoding="utf-8", errors="replace") as text:
-            return text.read()
+            return BEGUN.sub("", text.read())
 
     def shifts(self) -> list:
         """The shifts that were closed, with their calls."""
