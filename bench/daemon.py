@@ -346,8 +346,9 @@ def puback(client: Client, field: bytes, body: bytes, message: int, flags: int =
 
 
 def try_first_answers(gateway: Gateway) -> None:
+    """With a clean session: what was thrown at the gateway may have given this client another one."""
     with Client(b"s1", gateway) as one:
-        expect(one.ask(bytes.fromhex("08040001003c7331"), b"\x03") == CONNECTED, "CONNECT was answered otherwise")
+        expect(one.ask(bytes.fromhex("08040401003c7331"), b"\x03") == CONNECTED, "CONNECT was answered otherwise")
         got = one.ask(subscribe(b"ab", 1), b"\x08\x13")
         expect(got == bytes.fromhex("0813200001000100"), f"SUBSCRIBE was answered {got.hex()}")
         got = one.ask(register(b"t/b", 2), b"\x07\x0b")
@@ -617,6 +618,32 @@ def says_again(program: str, folder: str) -> str:
         return f"{time.monotonic() - began:.1f} seconds"
 
 
+def answers_end_a_shift(program: str, folder: str) -> str:
+    """Who asks again and again for all that is there does not have the gateway keep every answer: the shift ends."""
+    ports = free_ports(2)
+    with Gateway(program, folder, 9, (ports[0], ports[1])) as gateway:
+        gateway.start()
+        last, before, asked, octets = fill(gateway, 3)[-1], len(gateway.shifts()), 0, 0
+        while len(gateway.shifts()) == before:
+            expect(asked < 10, f"{asked} answers of {octets} octets together were given in one shift")
+            asked, octets = asked + 1, octets + ask_all_of(gateway, last)
+            time.sleep(0.5)
+    return f"{asked} answers of {octets} octets together"
+
+
+def ask_all_of(gateway: Gateway, last: bytes) -> int:
+    """A link asks for all that is there, and hears this body. How many octets it was told."""
+    got = b""
+    with socket.create_connection((HOST, gateway.link), 5) as link:
+        link.settimeout(20)
+        link.sendall(message_of(1, b"\xc8") + message_of(2, b"\x01\x00\x00\x00\x00"))
+        while last not in got[-100_000:]:
+            more = link.recv(65536)
+            expect(more, "the link was closed")
+            got += more
+    return len(got)
+
+
 def with_ring(program: str, folder: str, count: int, trial, **more: str) -> str:
     gateways = ring(program, folder, count, **more)
     try:
@@ -660,6 +687,12 @@ def part_links(account: Account, program: str, folder: str, _) -> None:
         os.mkdir(place)
         return says_again(program, place)
 
+    def asked_in() -> str:
+        place = os.path.join(folder, "asked")
+        os.mkdir(place)
+        return answers_end_a_shift(program, place)
+
+    account.check("answers of more than 16 MiB together end their shift", asked_in)
     account.check("a gateway dials where eight have dialled and say nothing", silent_in)
     account.check("a quiet link hears the gateway's number again", again_in)
     account.check("two gateways that each lack twenty megabytes of the other's", lambda: lack_in(20))
