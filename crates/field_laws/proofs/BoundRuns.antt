@@ -14,17 +14,17 @@ use Rattle.plan_laws.proofs.BoundBehind.{step-up, tick-up, taken-up}
 use Rattle.gw_answer.specs.declared.out.Out.{Out}
 use Rattle.gw_answer.specs.declared.refusal.Refusal.{Refusal}
 use Rattle.gw_answer.specs.declared.refusal.Refusal.TheVariants as refusals
-use Rattle.gw_node.specs.Occasions.{Occasion, Datagram, Clock}
+use Rattle.gw_event.specs.Occasions.{Occasion, Datagram, Clock}
 use Rattle.gw_answer.specs.Answers.{said}
 use Rattle.gw_world.specs.declared.event.Event.{Event}
 use Rattle.gw_world.specs.declared.event.Event.TheVariants.{Frame, Tick, Take, Answer as Asks, WriteFails, Compact, Restart, Show}
 use Rattle.gw_world.specs.declared.event.Answer.{Answer}
 use Rattle.gw_world.specs.declared.event.Answer.TheVariants.{Node, Views, Records, Nothing}
-use Rattle.gw_node.specs.Gateways.{Gateway, new_gateway}
+use Rattle.gw_event.specs.Gateways.{Gateway, new_gateway}
 use Rattle.gw_world.specs.Field.{Field, new_field, IsAt, failing, After, Run}
 use Rattle.gw_world.specs.Steady.{IsKnown}
 use Rattle.gw_world.specs.Steps.{restarted}
-use Rattle.gw_node.specs.Event.{NothingHappens, IsTorn, IsMade, IsPlan, OwnStep, TakeStep, CompactStep}
+use Rattle.gw_event.specs.Event.{NothingHappens, IsTorn, IsMade, IsPlan, OwnStep, TakeStep, CompactStep}
 use Rattle.gw_world.proofs.Consistency.{FlushField, WholeField, steady-is, after-sound, start-whole}
 use Rattle.gw_world.proofs.Failures.{DueField, after-due, start-due}
 use Rattle.gw_world.proofs.Each.{all-at}

@@ -16,7 +16,7 @@ use Rattle.jr_journal.specs.Records.{records}
 use Rattle.sn_local.specs.declared.config.Config.{Config}
 use Rattle.gw_answer.specs.declared.out.Out.{Out}
 use Rattle.gw_answer.specs.declared.refusal.Refusal.{Refusal}
-use Rattle.gw_node.specs.Occasions.{Occasion, Datagram, Clock}
+use Rattle.gw_event.specs.Occasions.{Occasion, Datagram, Clock}
 use Rattle.gw_answer.specs.Answers.{said}
 use Rattle.gw_node.specs.Taking.{IsWhole, StandsFor}
 use Rattle.gw_node.proofs.Between.{within-trans}
@@ -25,16 +25,16 @@ use Rattle.gw_world.specs.declared.event.Event.{Event}
 use Rattle.gw_world.specs.declared.event.Event.TheVariants.{Frame, Tick, Take, Answer as Asks, WriteFails, Compact, Restart, Show}
 use Rattle.gw_world.specs.declared.event.Answer.{Answer}
 use Rattle.gw_world.specs.declared.event.Answer.TheVariants.{Node, Views, Records, Nothing}
-use Rattle.gw_node.specs.Gateways.{Gateway, with_refused}
+use Rattle.gw_event.specs.Gateways.{Gateway, with_refused}
 use Rattle.gw_world.specs.Field.{Field, new_field, IsAt, changed, After, Run, gateway_of}
 use Rattle.gw_world.specs.Events.{made_of}
-use Rattle.gw_node.specs.Event.{OwnStep}
+use Rattle.gw_event.specs.Event.{OwnStep}
 use Rattle.gw_world.specs.Whole.{everything, made_by, MayMake}
-use Rattle.gw_world.proofs.Catching.{Later, run-later, later-now}
+use Rattle.field_laws.proofs.Catching.{Later, run-later, later-now}
 use Rattle.gw_world.proofs.Consistency.{WholeField, after-sound, field-sound, run-sound}
 use Rattle.gw_world.proofs.Failures.{after-due}
 use Rattle.gw_world.proofs.Numbers.{set-there as set-at}
-use Rattle.gw_world.proofs.Settling.{set-there, parts-within}
+use Rattle.field_laws.proofs.Settling.{set-there, parts-within}
 use Rattle.gw_world.proofs.Steadiness.{Still, Stepped, own-moves, own-told}
 use Rattle.gw_world.proofs.Telling.{after-makes}
 

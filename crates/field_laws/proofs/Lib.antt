@@ -3,3 +3,11 @@ pub mod OwnPlans
 pub mod BoundRuns
 pub mod Takes
 pub mod InJournals
+pub mod Settling
+pub mod Rooms
+pub mod Determined
+pub mod Replaying
+pub mod Stops
+pub mod Writing
+pub mod Catching
+pub mod Staying

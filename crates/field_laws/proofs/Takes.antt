@@ -16,11 +16,11 @@ use Rattle.sn_local.specs.declared.config.Config.{Config}
 use Rattle.sn_plan.proofs.Lists.{all-append, all-weaken}
 use Rattle.gw_world.specs.declared.event.Event.{Event}
 use Rattle.gw_world.specs.declared.event.Answer.{Answer}
-use Rattle.gw_node.specs.Gateways.{Gateway, new_gateway}
+use Rattle.gw_event.specs.Gateways.{Gateway, new_gateway}
 use Rattle.gw_world.specs.Field.{Field, new_field, failing, After, Run}
 use Rattle.gw_node.specs.Keeping.{Keeps}
 use Rattle.field_laws.specs.Takes.{IsTakeAtZero}
-use Rattle.gw_node.specs.Occasions.{Datagram, Clock}
+use Rattle.gw_event.specs.Occasions.{Datagram, Clock}
 use Rattle.gw_answer.specs.Answers.{said}
 use Rattle.gw_world.specs.declared.event.Event.TheVariants.{Frame, Tick, Take, Answer as Asks, WriteFails, Compact, Restart, Show}
 use Rattle.gw_world.specs.declared.event.Answer.TheVariants.{Node, Views, Records, Nothing}

@@ -17,11 +17,11 @@ ghost use Rattle.sn_local.specs.Bindings.{client_at};
 ghost use Rattle.sn_plan.specs.Others.{is_up};
 ghost use Rattle.plan_laws.specs.BoundUp.{IsUp};
 ghost use Rattle.plan_laws.specs.KeepsWell.{KeepsWell};
-ghost use Rattle.gw_node.specs.Occasions.{Occasion};
+ghost use Rattle.gw_event.specs.Occasions.{Occasion};
 ghost use Rattle.gw_answer.specs.declared.refusal.Refusal.TheVariants as refusals;
 ghost use Rattle.gw_world.specs.declared.event.Event.{Event};
 ghost use Rattle.gw_world.specs.declared.event.Answer.{Answer};
-ghost use Rattle.gw_node.specs.Gateways.{Gateway, with_refused};
+ghost use Rattle.gw_event.specs.Gateways.{Gateway, with_refused};
 ghost use Rattle.gw_world.specs.Field.{Field, new_field, IsAt, After, Run, gateway_of};
 ghost use Rattle.gw_node.specs.Keeping.{Keeps};
 ghost use Rattle.gw_node.specs.Taking.{StandsFor};
@@ -30,12 +30,13 @@ ghost use Rattle.jr_journal.specs.Records.{records};
 ghost use Rattle.rep_model.specs.Keep.{keep};
 ghost use Rattle.rep_model.specs.Views.{view};
 ghost use Rattle.gw_world.specs.Whole.{made_by};
-ghost use Rattle.gw_node.specs.Event.{IsPlan, IsTooMuch, OwnStep};
+ghost use Rattle.gw_event.specs.Event.{IsPlan, IsTooMuch, OwnStep};
 ghost use Rattle.field_laws.specs.OwnPlans.{AreNumbered, IsTooLong};
 ghost use Rattle.field_laws.specs.Takes.{IsTakeAtZero};
 
-/// In every run, whatever comes to a gateway: it keeps well, and the operations of its plan are well
-/// made, with counter 0 exactly at those that take a session, and no two have a name in common.
+/// In every run, whatever comes to a gateway: it keeps well, and the operations of its plan are
+/// well made, with counter 0 exactly at those that take a session, and no two have a name in
+/// common.
 pub fn own_plans()
     ensures keeps { (configs : List Config) (events : List Event) (answers : List Answer)
         (field : Field) (number i : ℕ) (gateway : Gateway) → AreNumbered configs

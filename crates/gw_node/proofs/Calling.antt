@@ -18,15 +18,16 @@ use Rattle.jr_journal.specs.declared.journal.Journal.{Journal}
 use Rattle.gw_answer.specs.declared.out.Out.{Out}
 use Rattle.gw_answer.specs.declared.refusal.Refusal.{Refusal}
 use Rattle.gw_answer.specs.declared.refusal.Refusal.TheVariants as refusals
-use Rattle.gw_node.specs.Occasions.{Datagram, Clock}
+use Rattle.gw_event.specs.Occasions.{Datagram, Clock}
 use Rattle.gw_node.specs.Parts.{State, is_halted, IsUnchanged}
 use Rattle.gw_answer.specs.Answers.{only_sends}
 use Rattle.gw_node.specs.Writing.{IsWritten}
 use Rattle.gw_node.specs.inner.Writing.{WrittenAs, WrittenIfAny, refusal_of}
-use Rattle.gw_node.specs.Excuses.{excuses}
-use Rattle.gw_node.specs.Plans.{IsMisfit, IsWritable, Makes}
+use Rattle.gw_event.specs.Excuses.{excuses}
+use Rattle.gw_node.specs.Plans.{IsMisfit, Makes}
 use Rattle.gw_node.specs.Calls.{OwnCall, TakeCall, IsNoted}
 use Rattle.gw_node.specs.inner.Handling.{HaveNoDelta, planned_for, ticked, CarriedOut, Answers}
+use Rattle.gw_event.specs.Event.{IsWritable}
 
 module _ {D : Type 0} {G : Ghosts D} where
   -- a delta with operations is written

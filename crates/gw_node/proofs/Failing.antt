@@ -11,7 +11,7 @@ use Rattle.gw_answer.specs.declared.refusal.Refusal.{Refusal}
 use Rattle.gw_answer.specs.declared.refusal.Refusal.TheVariants as refusals
 use Rattle.gw_answer.specs.declared.step.Step.{Step}
 use Rattle.gw_answer.specs.declared.step.Step.TheVariants as steps
-use Rattle.gw_node.specs.Occasions.{Occasion, Datagram, Clock}
+use Rattle.gw_event.specs.Occasions.{Occasion, Datagram, Clock}
 use Rattle.gw_node.specs.Parts.{State, IsUntouched}
 use Rattle.gw_node.specs.Plans.{Makes}
 use Rattle.gw_node.specs.Calls.{OwnCall, TakeCall, ViewCall, DigestCall, AnswerCall, CompactCall, StepCall, IsNoted}

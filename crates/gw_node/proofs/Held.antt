@@ -17,7 +17,7 @@ use Rattle.rep_model.proofs.Fresh.{next_epoch-counts, next_seq-counts}
 use Rattle.rep_model.proofs.Limits.{first_passed-more}
 use Rattle.rep_model.proofs.Readers.{operation_at_keep, put_at_keep}
 use Rattle.sn_local.specs.Seen.{seen_of}
-use Rattle.gw_node.specs.Event.{HaveName, IsConflict, IsTakable}
+use Rattle.gw_event.specs.Event.{HaveName, IsConflict, IsTakable}
 use Rattle.gw_node.specs.Keeping.{Keeps}
 
 -- a step reads the same of what is kept as of what was taken

@@ -33,12 +33,12 @@ use Rattle.gw_answer.specs.declared.refusal.Refusal.{Refusal}
 use Rattle.gw_answer.specs.declared.refusal.Refusal.TheVariants as refusals
 use Rattle.gw_answer.specs.declared.step.Step.{Step}
 use Rattle.gw_answer.specs.declared.step.Step.TheVariants as steps
-use Rattle.gw_node.specs.Calls.{OwnCall, TakeCall, ViewCall, DigestCall, AnswerCall, CompactCall, StepCall, IsDone, AreTooMuch, shows}
-use Rattle.gw_node.specs.Drives.{generation, compacted, torn_base, has_more}
-use Rattle.gw_node.specs.Event.{Event, OwnStep, TakeStep, ViewStep, DigestStep, ReplyStep, CompactStep, ReopenStep, IsPlan, IsMade, IsTooMuch, HasNoDelta, NothingHappens}
-use Rattle.gw_node.specs.Gateways.{Gateway, with_refused, reopened}
+use Rattle.gw_node.specs.Calls.{OwnCall, TakeCall, ViewCall, DigestCall, AnswerCall, CompactCall, StepCall, IsDone, AreTooMuch}
+use Rattle.gw_event.specs.Drives.{generation, compacted, torn_base, has_more}
+use Rattle.gw_event.specs.Event.{Event, OwnStep, TakeStep, ViewStep, DigestStep, ReplyStep, CompactStep, ReopenStep, IsPlan, IsMade, IsTooMuch, HasNoDelta, NothingHappens, shows}
+use Rattle.gw_event.specs.Gateways.{Gateway, with_refused, reopened}
 use Rattle.gw_node.specs.Keeping.{Keeps}
-use Rattle.gw_node.specs.Occasions.{Occasion, Datagram, Clock, IsPlanOf}
+use Rattle.gw_event.specs.Occasions.{Occasion, Datagram, Clock, IsPlanOf}
 use Rattle.gw_node.specs.Opening.{ReopenCall}
 use Rattle.gw_node.specs.Parts.{State, is_halted, IsUnchanged}
 use Rattle.gw_node.specs.Plans.{IsPlanFor, Makes}

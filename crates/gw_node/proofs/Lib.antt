@@ -6,6 +6,7 @@ pub mod Proper
 pub mod Roomy
 pub mod Taken
 pub mod Started
+mod Beginning
 pub mod Reopened
 pub mod Failing
 pub mod Held

@@ -12,7 +12,7 @@ use Rattle.sn_tick.proofs.Idle.{idle_tick, idle_before}
 use Rattle.jr_disk.specs.declared.disk.Disk.{Ghosts}
 use Rattle.gw_answer.specs.declared.out.Out.{Out}
 use Rattle.gw_answer.specs.declared.refusal.Refusal.TheVariants as refusals
-use Rattle.gw_node.specs.Occasions.{Clock}
+use Rattle.gw_event.specs.Occasions.{Clock}
 use Rattle.gw_node.specs.Parts.{State, is_halted, IsUnchanged, IsUntouched}
 use Rattle.gw_answer.specs.Answers.{only_sends}
 use Rattle.gw_node.specs.Plans.{Makes}

@@ -24,8 +24,8 @@ use Rattle.jr_journal.specs.Arranged.{after_append, IsStruck, AppendedAs}
 use Rattle.jr_journal.specs.Journals.{emptied}
 use Rattle.jr_journal.specs.Parts.{disk_of, gateway_of, slot_of}
 use Rattle.jr_journal.specs.Records.{written, records, slot_content}
-use Rattle.gw_node.specs.Drives.{with_record, torn, has_more, left_by}
-use Rattle.gw_node.specs.Gateways.{Gateway, with_refused}
+use Rattle.gw_event.specs.Drives.{with_record, torn, has_more, left_by}
+use Rattle.gw_event.specs.Gateways.{Gateway, with_refused}
 use Rattle.gw_node.specs.Keeping.{Keeps}
 use Rattle.gw_node.specs.Parts.{State, is_halted, IsUntouched, IsUnchanged}
 use Rattle.gw_node.specs.Standing.{IsSynced, Lasts, Stands, IsForeseen, fated, LeadsTo}

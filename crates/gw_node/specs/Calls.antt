@@ -4,7 +4,6 @@ use Rattle.std.specs.Prelude.{◌≡◌, ◌≢◌, ◌⊎◌, ◌<◌, ℕ, tru
 use Rattle.rep_op.specs.declared.op.Op.{Op}
 use Rattle.rep_ops.specs.Deltas.{IsDelta}
 use Rattle.rep_ops.specs.Making.{AreApart, IsDeltaOf}
-use Rattle.rep_model.specs.Views.{view, is_named}
 use Rattle.rep_model.specs.Keep.{IsKeptOf}
 use Rattle.rep_model.specs.Held.{IsHeld}
 use Rattle.rep_model.specs.Taking.{Fits}
@@ -26,11 +25,12 @@ use Rattle.gw_answer.specs.declared.refusal.Refusal.{Refusal}
 use Rattle.gw_answer.specs.declared.refusal.Refusal.TheVariants as refusals
 use Rattle.gw_answer.specs.declared.step.Step.{Step}
 use Rattle.gw_answer.specs.declared.step.Step.TheVariants as steps
-use Rattle.gw_node.specs.Occasions.{Occasion, Datagram, Clock, IsNoFrame}
+use Rattle.gw_event.specs.Occasions.{Occasion, Datagram, Clock, IsNoFrame}
 use Rattle.gw_node.specs.Parts.{State, is_halted, IsUnchanged, IsUntouched}
 use Rattle.gw_answer.specs.Answers.{only_sends}
 use Rattle.gw_node.specs.Writing.{IsWritten, IsFailed, IsRewritten, IsNotRewritten, IsNumbered}
-use Rattle.gw_node.specs.Excuses.{IsExcuse}
+use Rattle.gw_event.specs.Excuses.{IsExcuse}
+use Rattle.gw_event.specs.Event.{shows}
 use Rattle.gw_node.specs.Plans.{IsPlanFor, IsMisfit, MakeNoDelta, Makes}
 use Rattle.gw_node.specs.Opening.{ReopenCall}
 
@@ -147,11 +147,6 @@ TakeCall old delta (Ok out) new =
     (is_halted old ≡ false) × (out ≡ only_sends []) × IsTaken old delta new
 
 -- ---- views
-
--- the client's view, where an operation names it
-abbrev pub shows : List Op → List ℕ → Out
-shows kept client =
-    record (only_sends []) { view = if is_named client kept then Some (view client kept) else None }
 
 -- Somebody asks for a client's view; a halted node answers too.
 abbrev pub ViewCall : {D : Type 0} {G : Ghosts D} → State G → List ℕ → Result Out Refusal → State G

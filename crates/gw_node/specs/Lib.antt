@@ -1,16 +1,11 @@
-pub mod Occasions
 pub mod Parts
 pub mod Writing
-pub mod Excuses
 pub mod Plans
 pub mod Calls
 pub mod Keeping
 pub mod Taking
 pub mod Carrying
 pub mod Opening
-pub mod Drives
-pub mod Gateways
-pub mod Event
 pub mod Standing
 pub mod Failures
 pub mod Arranging

@@ -4,8 +4,6 @@ use Rattle.rep_op.specs.declared.op.Op.{Op}
 use Rattle.rep_op.specs.declared.fault.OpsFault.{OpsFault}
 use Rattle.rep_op.specs.declared.fault.OpsFault.TheVariants as ops_faults
 use Rattle.rep_ops.specs.Making.{IsDeltaOf, IsRefusal}
-use Rattle.rep_ops.specs.Spelling.{IsWithinLimit}
-use Rattle.rep_op.specs.Values.{AreValues}
 use Rattle.rep_model.specs.declared.fault.Limit.{Limit}
 use Rattle.rep_model.specs.declared.fault.TakeFault.TheVariants as take_faults
 use Rattle.rep_model.specs.Keep.{IsKeptOf}
@@ -15,7 +13,8 @@ use Rattle.sn_local.specs.Seen.{seen_of}
 use Rattle.jr_disk.specs.declared.disk.Disk.{Ghosts}
 use Rattle.gw_answer.specs.declared.refusal.Refusal.{Refusal}
 use Rattle.gw_answer.specs.declared.refusal.Refusal.TheVariants as refusals
-use Rattle.gw_node.specs.Occasions.{Occasion, IsPlanOf}
+use Rattle.gw_event.specs.Occasions.{Occasion, IsPlanOf}
+use Rattle.gw_event.specs.Event.{IsWritable}
 use Rattle.gw_node.specs.Parts.{State, IsUntouched}
 use Rattle.gw_node.specs.Writing.{IsWritten}
 
@@ -37,11 +36,6 @@ IsMisfit kept delta (refusals.Journal fault) = ⊥
 -- the operations make no delta
 abbrev pub MakeNoDelta : List Op → Type 0
 MakeNoDelta ops = (fault : OpsFault) × (fault ≢ ops_faults.Memory) × IsRefusal ops fault
-
--- the delta can be written: its numbers fit their octets, and together they are not too many
-pub record IsWritable (delta : List Op) : Type 0 where
-  pub values : AreValues delta
-  pub limit : IsWithinLimit delta
 
 -- the operations, if there are any, became one delta, which is in the journal and taken
 abbrev pub Makes : {D : Type 0} {G : Ghosts D} → List Op → Option (List Op) → State G → State G

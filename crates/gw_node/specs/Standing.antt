@@ -14,12 +14,12 @@ use Rattle.gw_answer.specs.declared.out.Out.{Out}
 use Rattle.gw_answer.specs.declared.refusal.Refusal.{Refusal}
 use Rattle.gw_answer.specs.declared.step.Step.{Step}
 use Rattle.gw_answer.specs.declared.step.Step.TheVariants as steps
-use Rattle.gw_node.specs.Drives.{has_more}
-use Rattle.gw_node.specs.Gateways.{Gateway, with_refused}
-use Rattle.gw_node.specs.Event.{Event, IsPlan}
+use Rattle.gw_event.specs.Drives.{has_more}
+use Rattle.gw_event.specs.Gateways.{Gateway, with_refused}
+use Rattle.gw_event.specs.Event.{Event, IsPlan}
 use Rattle.gw_node.specs.Failures.{failed}
 use Rattle.gw_node.specs.Keeping.{Keeps}
-use Rattle.gw_node.specs.Occasions.{Occasion, Datagram, Clock}
+use Rattle.gw_event.specs.Occasions.{Occasion, Datagram, Clock}
 use Rattle.gw_node.specs.Parts.{State, is_halted}
 use Rattle.gw_node.specs.Taking.{StandsFor}
 

@@ -9,10 +9,11 @@ ghost use Rattle.rep_model.specs.Taking.{Fits};
 ghost use Rattle.rep_model.specs.Keep.{IsKeptOf};
 ghost use Rattle.gw_node.specs.Parts.{state_of, IsUnchanged};
 ghost use Rattle.gw_answer.specs.Answers.{only_sends};
-ghost use Rattle.gw_node.specs.Plans.{IsMisfit, IsWritable};
+ghost use Rattle.gw_node.specs.Plans.{IsMisfit};
 ghost use Rattle.gw_node.specs.inner.Writing.{WrittenAs, WrittenIfMade, WrittenIfAny, refusal_of};
 ghost use Rattle.gw_node.specs.Calls.{TakeCall, IsDone};
 ghost use Rattle.gw_node.specs.inner.Handling.{HaveNoDelta, CarriedOut};
+ghost use Rattle.gw_event.specs.Event.{IsWritable};
 
 use super::node::Node;
 use super::tidy::{keep_owned, note_changes, note_taken};

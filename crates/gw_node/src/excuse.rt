@@ -4,7 +4,7 @@ ghost use Rattle.std.specs.Prelude.{◌≡◌, ◌≤◌, IfOk, IfSome};
 ghost use Rattle.sn_frame.specs.declared.frame.TheConstants.{MAX_FRAME};
 ghost use Rattle.sn_frame.specs.Bodies.{IsMessage};
 ghost use Rattle.sn_frame.specs.Grammar.{total_of};
-ghost use Rattle.gw_node.specs.Excuses as spec;
+ghost use Rattle.gw_event.specs.Excuses as spec;
 
 use octets::{NoMemory, Sequence};
 use sn_frame::{Flags, Frame, Qos};

@@ -4,13 +4,14 @@ ghost use Rattle.std.specs.Prelude.{◌≡◌, Some, [], false, IfOk, IfErr, IsT
 ghost use Rattle.rep_digest.specs.Spelling.{IsWithinLimit};
 ghost use Rattle.sn_frame.specs.Bodies.{IsMessage, IsValue};
 ghost use Rattle.sn_frame.specs.Grammar.{Spells};
-ghost use Rattle.gw_node.specs.Occasions.{Datagram, Clock};
-ghost use Rattle.gw_node.specs.Excuses as spec;
+ghost use Rattle.gw_event.specs.Occasions.{Datagram, Clock};
+ghost use Rattle.gw_event.specs.Excuses as spec;
 ghost use Rattle.gw_node.specs.Parts.{state_of};
 ghost use Rattle.gw_node.specs.Parts as parts;
 ghost use Rattle.gw_answer.specs.Answers.{only_sends};
-ghost use Rattle.gw_node.specs.Calls.{OwnCall, shows, ViewCall, DigestCall, AnswerCall, StepCall};
+ghost use Rattle.gw_node.specs.Calls.{OwnCall, ViewCall, DigestCall, AnswerCall, StepCall};
 ghost use Rattle.gw_node.specs.inner.Handling.{IsNoFrameBy, IsNoPlan, planned_for, ticked, CarriedOut, Answers, IsIdleAt};
+ghost use Rattle.gw_event.specs.Event.{shows};
 
 use super::anew::{handle_compact, handle_reopen};
 use super::carrying::{carry_out, note, take_in};

@@ -1,17 +1,22 @@
 //! What an opening finds that goes on with what was taken.
 
-ghost use Rattle.std.specs.Prelude.{◌≡◌, ℕ, List};
+ghost use Rattle.std.specs.Prelude.{◌≡◌, ℕ, List, [], None};
 ghost use Rattle.rep_op.specs.declared.op.Op.{Op};
+ghost use Rattle.rep_op.specs.Sets.{IsConsistent};
+ghost use Rattle.rep_ops.specs.Splitting.{all_of};
 ghost use Rattle.jr_disk.specs.Disk.{Image};
 ghost use Rattle.jr_journal.specs.Records.{records};
+ghost use Rattle.jr_journal.specs.Faults.{fault_of};
 ghost use Rattle.gw_answer.specs.declared.refusal.Refusal.{Refusal};
 ghost use Rattle.gw_answer.specs.declared.refusal.Refusal.TheVariants as refusals;
 ghost use Rattle.gw_node.specs.Taking.{StandsFor};
-ghost use Rattle.gw_node.specs.Opening.{HasMisfit, IsOpenFault, IsDiskFault};
+ghost use Rattle.gw_node.specs.Opening.{FitInTurn, HasMisfit, IsOpenFault, IsDiskFault};
 
 /// An image that stands for what a gateway had taken is opened again: each of its records fits to
 /// those before it. So where the disk does not fail, only want of memory can refuse the opening.
-/// The function does nothing; its contract is the law.
+/// And an image of which nothing is known but what an opening found, that its records fit, and that
+/// they contradict nothing, stands for these records: what was opened goes on from there. The
+/// function does nothing; its contract is the law.
 pub fn opening_laws()
     ensures room { (gateway : ℕ) (S refused : List Op) (i : Image) → StandsFor gateway S refused i
         → HasMisfit (records gateway i) refusals.Full → ⊥ }
@@ -21,4 +26,7 @@ pub fn opening_laws()
     ensures memory { (gateway : ℕ) (S refused : List Op) (i : Image) (refusal : Refusal)
         → StandsFor gateway S refused i → IsOpenFault gateway i refusal → (IsDiskFault refusal → ⊥)
         → refusal ≡ refusals.Memory }
+    ensures begins { (gateway : ℕ) (i : Image) → fault_of gateway i ≡ None
+        → FitInTurn [] (records gateway i) → IsConsistent (all_of (records gateway i))
+        → StandsFor gateway (all_of (records gateway i)) [] i }
 {}

@@ -20,14 +20,15 @@
 //! A call as a value (`Step`), and what is answered (`Out`, `NodeFault`), are in the crate
 //! `gw_answer`.
 //!
-//! The definitions are in `specs/`: `Occasions` (datagrams, ticks and their plans), `Parts` (what
-//! contracts see of a node), `Plans` (what a plan comes to), `Calls` (what each call may answer),
-//! `Failures` (which answers tell of the disk), `Writing` (what becomes of the journal), `Excuses`,
-//! `Taking` (what a node has taken, and what a crash leaves of it), `Arranging` (a failure is
-//! arranged), `Carrying` (how a call carries that on), `Opening`. What a gateway is to its
-//! operator, and what each call does to it, is in `Gateways`, `Drives` (the disk under it) and
-//! `Event`; and that a node stands for one, before each call and after it, in `Standing`.
-//! `Handling` is for private functions.
+//! What a gateway is to its operator, and what each call does to it, is in the crate `gw_event`
+//! (`Event`); that a node stands for such a gateway, before each call and after it, is in
+//! `Standing` here.
+//!
+//! The other definitions are in `specs/`: `Parts` (what contracts see of a node), `Plans` (what a
+//! plan comes to), `Calls` (what each call may answer), `Failures` (which answers tell of the
+//! disk), `Writing` (what becomes of the journal), `Taking` (what a node has taken, and what a
+//! crash leaves of it), `Arranging` (a failure is arranged), `Carrying` (how a call carries that
+//! on), `Opening`. `Handling` is for private functions.
 #![tactic(auto)]
 
 mod anew;

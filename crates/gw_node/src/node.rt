@@ -49,7 +49,7 @@ impl<R: Replica, D: Disk + Drop> Node<R, D> {
     ghost use Rattle.jr_journal.specs.Crashes.{recovered, LeavesNoMore};
     ghost use Rattle.jr_journal.specs.Arranged.{is_quiet};
     ghost use Rattle.gw_answer.specs.declared.step.Step.TheVariants as steps;
-    ghost use Rattle.gw_node.specs.Occasions.{Datagram, Clock};
+    ghost use Rattle.gw_event.specs.Occasions.{Datagram, Clock};
     ghost use Rattle.gw_node.specs.Parts.{state_of, disk_of, records_of};
     ghost use Rattle.gw_node.specs.Parts as spec;
     ghost use Rattle.gw_answer.specs.Answers.{told, said};
@@ -176,9 +176,9 @@ impl<R: Replica, D: Disk + Drop> Node<R, D> {
     ///
     /// The faults, in the order in which they are looked for: `Halted`, a write of the journal has
     /// failed, or a try to open it again; `Conflict` and `Full`, the delta does not fit to what is
-    /// kept; `Disk`, the disk failed. `Memory` may stand in the place of each. After `Disk` the node
-    /// is halted, what it keeps and knows is as before, and nothing is to be sent. After each other
-    /// fault nothing has changed.
+    /// kept; `Disk`, the disk failed. `Memory` may stand in the place of each. After `Disk` the
+    /// node is halted, what it keeps and knows is as before, and nothing is to be sent. After each
+    /// other fault nothing has changed.
     pub fn take(&mut self, alloc: Global, delta: &Delta) -> Answer
         ensures call { TakeCall (state_of R.kept self.old) delta.now (said result)
             (state_of R.kept self.new) }
@@ -248,8 +248,8 @@ impl<R: Replica, D: Disk + Drop> Node<R, D> {
     /// The faults, in the order in which they are looked for: `Halted`, a write of the journal has
     /// failed, or a try to open it again; `Journal` with `Foreign`, the journal's generation is the
     /// last that a header can hold; `Disk`, the disk failed. `Memory` may stand in the place of
-    /// each. After `Disk` the node is halted, and a crash leaves the records from before, or what is
-    /// kept. After each other fault nothing has changed.
+    /// each. After `Disk` the node is halted, and a crash leaves the records from before, or what
+    /// is kept. After each other fault nothing has changed.
     pub fn compact(&mut self, alloc: Global) -> Answer
         ensures call { CompactCall (state_of R.kept self.old) (said result)
             (state_of R.kept self.new) }

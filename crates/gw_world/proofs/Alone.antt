@@ -17,7 +17,7 @@ use Rattle.rep_model.proofs.Joins.{within-left}
 use Rattle.rep_model.proofs.Readers.{operation_at_both, put_at_both, is_acknowledged_both}
 use Rattle.sn_plan.specs.Own.{IsFresh}
 use Rattle.sn_local.proofs.Entries.{same_client-itself, none_or}
-use Rattle.gw_node.specs.Event.{HaveName}
+use Rattle.gw_event.specs.Event.{HaveName}
 use Rattle.gw_node.proofs.Occurring.{is_there, operation_occurs, put_occurs}
 
 pub some-is : {X : Type 0} (o : Option X) → is_some o ≡ true → (x : X) × (o ≡ Some x)

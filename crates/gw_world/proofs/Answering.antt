@@ -22,9 +22,9 @@ use Rattle.rep_digest.specs.Digests.{digest}
 use Rattle.gw_answer.specs.declared.out.Out.{Out}
 use Rattle.gw_answer.specs.declared.refusal.Refusal.{Refusal}
 use Rattle.gw_answer.specs.declared.refusal.Refusal.TheVariants as refusals
-use Rattle.gw_node.specs.Gateways.{Gateway}
+use Rattle.gw_event.specs.Gateways.{Gateway}
+use Rattle.gw_event.specs.Event.{IsWritable}
 use Rattle.gw_world.specs.Steps.{AnswerStep}
-use Rattle.gw_node.specs.Plans.{IsWritable}
 use Rattle.gw_world.specs.Events.{made_of, answered_of}
 use Rattle.gw_world.proofs.Alone.{delta-stands, stands-contains}
 use Rattle.gw_world.proofs.Each.{flat-all, AllOf}

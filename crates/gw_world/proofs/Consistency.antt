@@ -23,12 +23,11 @@ use Rattle.gw_answer.specs.declared.refusal.Refusal.{Refusal}
 use Rattle.gw_answer.specs.Answers.{said}
 use Rattle.gw_answer.specs.declared.refusal.Refusal.TheVariants as refusals
 use Rattle.gw_answer.specs.declared.fault.NodeFault.TheVariants as faults
-use Rattle.gw_node.specs.Occasions.{Occasion, Datagram, Clock}
-use Rattle.gw_node.specs.Gateways.{Gateway, new_gateway}
+use Rattle.gw_event.specs.Occasions.{Occasion, Datagram, Clock}
+use Rattle.gw_event.specs.Gateways.{Gateway, new_gateway}
 use Rattle.gw_world.specs.Field.{Field, new_field, IsAt, IsDeltaAt, changed, failing, After, Run}
 use Rattle.gw_world.specs.Steps.{AnswerStep, restarted}
-use Rattle.gw_node.specs.Event.{HaveName, IsConflict, OwnStep, TakeStep, CompactStep}
-use Rattle.gw_node.specs.Plans.{IsWritable}
+use Rattle.gw_event.specs.Event.{HaveName, IsConflict, OwnStep, TakeStep, CompactStep, IsWritable}
 use Rattle.gw_world.specs.Steady.{IsKnown, IsSteady}
 use Rattle.gw_world.specs.Whole.{everything, IsHome}
 use Rattle.gw_world.proofs.Alone.{stands-alone, agrees-alone}

@@ -12,17 +12,17 @@ use Rattle.sn_plan.specs.Own.{IsOfDraft}
 use Rattle.gw_answer.specs.declared.out.Out.{Out}
 use Rattle.gw_answer.specs.declared.refusal.Refusal.{Refusal}
 use Rattle.gw_answer.specs.declared.refusal.Refusal.TheVariants as refusals
-use Rattle.gw_node.specs.Occasions.{Occasion, Datagram, Clock}
+use Rattle.gw_event.specs.Occasions.{Occasion, Datagram, Clock}
 use Rattle.gw_answer.specs.Answers.{said}
 use Rattle.gw_world.specs.declared.event.Event.{Event}
 use Rattle.gw_world.specs.declared.event.Event.TheVariants.{Frame, Tick, Take, Answer as Asks, WriteFails, Compact, Restart, Show}
 use Rattle.gw_world.specs.declared.event.Answer.{Answer}
 use Rattle.gw_world.specs.declared.event.Answer.TheVariants.{Node, Views, Records, Nothing}
-use Rattle.gw_node.specs.Gateways.{Gateway, new_gateway}
-use Rattle.gw_node.specs.Drives.{noted}
+use Rattle.gw_event.specs.Gateways.{Gateway, new_gateway}
+use Rattle.gw_event.specs.Drives.{noted}
 use Rattle.gw_world.specs.Field.{Field, new_field, After, failing}
 use Rattle.gw_world.specs.Steps.{restarted}
-use Rattle.gw_node.specs.Event.{NothingHappens, IsTorn, IsMade, OwnStep, TakeStep, CompactStep}
+use Rattle.gw_event.specs.Event.{NothingHappens, IsTorn, IsMade, OwnStep, TakeStep, CompactStep}
 use Rattle.gw_world.specs.Whole.{Arranges}
 use Rattle.gw_world.proofs.Each.{set-cases}
 use Rattle.gw_world.proofs.Steadiness.{plan-drafted}

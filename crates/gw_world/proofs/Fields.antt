@@ -14,9 +14,9 @@ use Rattle.sn_local.specs.declared.config.Config.{Config}
 use Rattle.jr_disk.specs.declared.disk.Disk.{Ghosts}
 use Rattle.gw_answer.specs.declared.out.Out.{Out}
 use Rattle.gw_answer.specs.declared.fault.NodeFault.{NodeFault}
-use Rattle.gw_node.specs.Occasions.{Occasion, Datagram, Clock}
-use Rattle.gw_node.specs.Event.{OwnStep}
-use Rattle.gw_node.specs.Gateways.{Gateway, new_gateway}
+use Rattle.gw_event.specs.Occasions.{Occasion, Datagram, Clock}
+use Rattle.gw_event.specs.Event.{OwnStep}
+use Rattle.gw_event.specs.Gateways.{Gateway, new_gateway}
 use Rattle.gw_node.specs.Parts.{State}
 use Rattle.gw_answer.specs.Answers.{said}
 use Rattle.gw_node.specs.Standing.{OwnAgrees}

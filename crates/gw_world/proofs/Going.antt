@@ -19,11 +19,10 @@ use Rattle.gw_answer.specs.declared.refusal.Refusal.{Refusal}
 use Rattle.gw_answer.specs.declared.refusal.Refusal.TheVariants as refusals
 use Rattle.gw_answer.specs.declared.step.Step.{Step}
 use Rattle.gw_node.specs.Arranging.{Arranges}
-use Rattle.gw_node.specs.Event.{Event, StepOf}
-use Rattle.gw_node.specs.Gateways.{Gateway}
+use Rattle.gw_event.specs.Event.{Event, StepOf, IsWritable}
+use Rattle.gw_event.specs.Gateways.{Gateway}
 use Rattle.gw_node.specs.Keeping.{Keeps}
 use Rattle.gw_node.specs.Parts.{State}
-use Rattle.gw_node.specs.Plans.{IsWritable}
 use Rattle.gw_node.specs.Standing.{fated, CanBeSaid, EventOn}
 use Rattle.gw_world.specs.Events.{answered_of}
 use Rattle.gw_world.specs.Keeping.{IsShown}

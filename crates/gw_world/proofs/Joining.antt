@@ -1,7 +1,7 @@
 -- Deltas join the list, one after the other.
 use Rattle.std.proofs.Common.{◌≡◌, List, [], ◌∷◌, ◌++◌, ap, ◌∙◌, append_assoc}
+use Rattle.gw_event.specs.Event.{IsWritable}
 use Rattle.rep_op.specs.declared.op.Op.{Op}
-use Rattle.gw_node.specs.Plans.{IsWritable}
 use Rattle.gw_world.specs.inner.Events.{Join}
 use Rattle.std.specs.List.{AllByRecursion}
 

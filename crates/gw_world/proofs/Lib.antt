@@ -11,12 +11,5 @@ pub mod Whole
 pub mod Answering
 pub mod Failures
 pub mod Consistency
-pub mod Writing
-pub mod Settling
-pub mod Rooms
-pub mod Determined
-pub mod Replaying
-pub mod Stops
 pub mod Telling
 pub mod Showing
-pub mod Catching

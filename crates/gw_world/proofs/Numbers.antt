@@ -2,7 +2,7 @@
 use Rattle.std.proofs.Common.{◌≡◌, ℕ, zero, suc, ◌+◌, ◌==◌, true, false, ◌⊎◌, if◌then◌else◌, List, [], ◌∷◌, set, slice_get, Some, refl, sym, ap, ◌∙◌, subst, true≢false, inl, inr, arith, eqb-true, eq-eqb}
 use Rattle.std.proofs.lemmas.Option.{none-some, same_Some}
 use Rattle.gw_world.specs.Places.{place_from, place_of}
-use Rattle.gw_node.specs.Gateways.{Gateway}
+use Rattle.gw_event.specs.Gateways.{Gateway}
 
 abbrev pub First : ℕ → List Gateway → ℕ → Type 0
 First n [] j = ⊥

@@ -19,8 +19,8 @@ use Rattle.jr_journal.specs.Parts.{disk_of}
 use Rattle.jr_journal.specs.Records.{records, slot_content}
 use Rattle.gw_answer.specs.declared.refusal.Refusal.{Refusal}
 use Rattle.gw_answer.specs.declared.refusal.Refusal.TheVariants as refusals
-use Rattle.gw_node.specs.Drives.{opened, left_by}
-use Rattle.gw_node.specs.Gateways.{Gateway}
+use Rattle.gw_event.specs.Drives.{opened, left_by}
+use Rattle.gw_event.specs.Gateways.{Gateway}
 use Rattle.gw_node.specs.Keeping.{Keeps}
 use Rattle.gw_node.specs.Opening.{IsStarted, GoesOnIn, IsOpenFault, IsDiskFault}
 use Rattle.gw_node.specs.Parts.{State}

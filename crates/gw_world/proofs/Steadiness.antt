@@ -20,13 +20,12 @@ use Rattle.row_laws.proofs.Flushness.{flush-start, flush-taken}
 use Rattle.gw_answer.specs.declared.out.Out.{Out}
 use Rattle.gw_answer.specs.declared.refusal.Refusal.{Refusal}
 use Rattle.gw_answer.specs.declared.refusal.Refusal.TheVariants as refusals
-use Rattle.gw_node.specs.Occasions.{Occasion, Datagram, Clock}
-use Rattle.gw_node.specs.Gateways.{Gateway, new_gateway, with_refused}
+use Rattle.gw_event.specs.Occasions.{Occasion, Datagram, Clock}
+use Rattle.gw_event.specs.Gateways.{Gateway, new_gateway, with_refused}
 use Rattle.gw_world.specs.Field.{Field, IsAt}
-use Rattle.gw_node.specs.Drives.{left_by, has_more}
+use Rattle.gw_event.specs.Drives.{left_by, has_more}
 use Rattle.gw_world.specs.Steps.{restarted}
-use Rattle.gw_node.specs.Event.{HaveName, NothingHappens, IsTorn, IsMade, IsPlan, OwnStep, TakeStep, CompactStep}
-use Rattle.gw_node.specs.Plans.{IsWritable}
+use Rattle.gw_event.specs.Event.{HaveName, NothingHappens, IsTorn, IsMade, IsPlan, OwnStep, TakeStep, CompactStep, IsWritable}
 use Rattle.gw_world.specs.Events.{made_of}
 use Rattle.gw_world.specs.Steady.{IsKnown, IsSteady}
 use Rattle.gw_world.proofs.Numbers.{First, place_of-first, first-number, first-set}

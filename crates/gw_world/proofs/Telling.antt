@@ -20,11 +20,11 @@ use Rattle.gw_answer.specs.declared.out.Out.{Out}
 use Rattle.gw_answer.specs.declared.refusal.Refusal.{Refusal}
 use Rattle.gw_answer.specs.declared.refusal.Refusal.TheVariants as refusals
 use Rattle.gw_answer.specs.Answers.{said}
-use Rattle.gw_node.specs.Occasions.{Occasion, Datagram, Clock}
-use Rattle.gw_node.specs.Gateways.{Gateway}
+use Rattle.gw_event.specs.Occasions.{Occasion, Datagram, Clock}
+use Rattle.gw_event.specs.Gateways.{Gateway}
 use Rattle.gw_world.specs.Field.{Field, new_field, IsAt, changed, failing, After, Run, peer_of}
 use Rattle.gw_world.specs.Steps.{AnswerStep, restarted}
-use Rattle.gw_node.specs.Event.{OwnStep, TakeStep, CompactStep}
+use Rattle.gw_event.specs.Event.{OwnStep, TakeStep, CompactStep}
 use Rattle.gw_world.specs.Events.{made_of, answered_of}
 use Rattle.gw_world.specs.Whole.{everything, number_of, AreMadeOnce, made_by, MayMake, Arranges, NoneFails, told, brought_by, brought}
 use Rattle.gw_world.proofs.Alone.{delta-place, contains_at}

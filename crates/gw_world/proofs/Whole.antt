@@ -15,9 +15,8 @@ use Rattle.sn_plan.specs.Flush.{AreFlush, stamp_of}
 use Rattle.sn_plan.proofs.Lists.{all-append, all-weaken}
 use Rattle.row_laws.proofs.Names.{plan-own}
 use Rattle.row_laws.proofs.Stepping.{step-new_operation, step-new_put}
-use Rattle.gw_node.specs.Gateways.{Gateway}
-use Rattle.gw_node.specs.Event.{HaveName}
-use Rattle.gw_node.specs.Plans.{IsWritable}
+use Rattle.gw_event.specs.Gateways.{Gateway}
+use Rattle.gw_event.specs.Event.{HaveName, IsWritable}
 use Rattle.gw_world.specs.Steady.{IsKnown}
 use Rattle.gw_world.specs.Whole.{number_of}
 use Rattle.gw_world.proofs.Alone.{turned, some-is, delta-stands, stands-left, stands-right, stands-contains}

@@ -11,12 +11,12 @@ use Rattle.gw_answer.specs.declared.out.Out.{Out}
 use Rattle.gw_answer.specs.declared.refusal.Refusal.{Refusal}
 use Rattle.gw_answer.specs.Answers.{said}
 use Rattle.gw_world.specs.declared.event.Answer.TheVariants.{Node, Views, Records, Nothing}
-use Rattle.gw_node.specs.Occasions.{Occasion, Datagram, Clock}
-use Rattle.gw_node.specs.Drives.{arranged}
+use Rattle.gw_event.specs.Occasions.{Occasion, Datagram, Clock}
+use Rattle.gw_event.specs.Drives.{arranged}
 use Rattle.gw_world.specs.Places.{place_of}
-use Rattle.gw_node.specs.Gateways.{Gateway, new_gateway}
+use Rattle.gw_event.specs.Gateways.{Gateway, new_gateway}
 use Rattle.gw_world.specs.Steps.{AnswerStep, records_left, restarted}
-use Rattle.gw_node.specs.Event.{OwnStep, TakeStep, CompactStep}
+use Rattle.gw_event.specs.Event.{OwnStep, TakeStep, CompactStep}
 
 -- the gateways, and the deltas made or answered, in the order of making
 pub record Field : Type 0 where

@@ -1,6 +1,6 @@
 -- Where a gateway stands among others.
 use Rattle.std.specs.Prelude.{ℕ, ◌+◌, ◌==◌, if◌then◌else◌, List, [], ◌∷◌, Option, Some, None}
-use Rattle.gw_node.specs.Gateways.{Gateway}
+use Rattle.gw_event.specs.Gateways.{Gateway}
 
 abbrev pub place_from : ℕ → ℕ → List Gateway → Option ℕ
 place_from number i [] = None

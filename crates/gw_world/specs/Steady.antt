@@ -4,7 +4,7 @@ use Rattle.std.specs.List.{AllByRecursion}
 use Rattle.rep_op.specs.declared.op.Op.{Op}
 use Rattle.sn_plan.specs.Own.{AddsNone}
 use Rattle.sn_plan.specs.Flush.{AreFlush}
-use Rattle.gw_node.specs.Gateways.{Gateway}
+use Rattle.gw_event.specs.Gateways.{Gateway}
 use Rattle.gw_world.specs.Field.{Field, IsAt}
 
 -- the delta has no session operation under a stamp of the gateway that the gateway has not

@@ -10,10 +10,10 @@ use Rattle.jr_journal.specs.Records.{records}
 use Rattle.gw_answer.specs.declared.out.Out.{Out}
 use Rattle.gw_answer.specs.declared.refusal.Refusal.{Refusal}
 use Rattle.gw_answer.specs.declared.refusal.Refusal.TheVariants as refusals
-use Rattle.gw_node.specs.Drives.{left_by}
-use Rattle.gw_node.specs.Gateways.{Gateway, reopened}
+use Rattle.gw_event.specs.Drives.{left_by}
+use Rattle.gw_event.specs.Gateways.{Gateway, reopened}
 use Rattle.gw_answer.specs.Answers.{only_sends}
-use Rattle.gw_node.specs.Plans.{IsWritable}
+use Rattle.gw_event.specs.Event.{IsWritable}
 
 -- how many records an opening reads where the gateway stopped
 abbrev pub records_left : ℕ → Gateway → ℕ

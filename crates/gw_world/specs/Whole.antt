@@ -8,9 +8,9 @@ use Rattle.gw_world.specs.declared.event.Event.{Event}
 use Rattle.gw_world.specs.declared.event.Event.TheVariants.{Frame, Tick, Take, Answer as Asks, WriteFails, Compact, Restart, Show}
 use Rattle.gw_world.specs.declared.event.Answer.{Answer}
 use Rattle.gw_world.specs.declared.event.Answer.TheVariants.{Node, Views, Records, Nothing}
-use Rattle.gw_node.specs.Gateways.{Gateway}
+use Rattle.gw_event.specs.Gateways.{Gateway}
 use Rattle.gw_world.specs.Field.{Field, IsAt}
-use Rattle.gw_node.specs.Event.{HaveName}
+use Rattle.gw_event.specs.Event.{HaveName}
 use Rattle.gw_world.specs.Events.{made_of, answered_of}
 
 -- all operations of the deltas of the field's list

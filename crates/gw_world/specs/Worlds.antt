@@ -8,7 +8,7 @@ use Rattle.gw_world.specs.declared.event.Answer.{Answer}
 use Rattle.gw_world.specs.declared.world.WorldFault.{WorldFault}
 use Rattle.gw_world.specs.declared.world.WorldFault.TheVariants as stops
 use Rattle.jr_disk.specs.declared.disk.Disk.{Ghosts}
-use Rattle.gw_node.specs.Gateways.{Gateway}
+use Rattle.gw_event.specs.Gateways.{Gateway}
 use Rattle.gw_node.specs.Parts.{State}
 use Rattle.gw_world.specs.Keeping.{AreShown}
 use Rattle.gw_world.specs.Field.{Field, new_field, Run, NamesNoGateway, NamesNoDelta}

@@ -6,7 +6,7 @@
 //! in any write, after any number of bytes. A gateway may write its journal anew, and it may stop
 //! and be opened again from what its disk then has: its set stays, and what it refused when the
 //! disk failed is in it whole, or not at all. What `run` must give is defined over sets of
-//! operations: what a call does to one gateway in `gw_node` (`Event`, `Gateways`, `Drives`), the
+//! operations: what a call does to one gateway in `gw_event` (`Event`, `Gateways`, `Drives`), the
 //! rest here in `specs/`: `Field` (a field, and what events may do to it), `Places`, `Steps` (a
 //! gateway stops and is opened again, a digest goes to a peer), `Worlds` (the result), `Keeping`
 //! (nodes and the gateways that they stand for).
@@ -15,20 +15,16 @@
 //! - `world`: the result of a run (`World`), or why there is none (`WorldFault`).
 //! - `field`: one event at one gateway, or between two.
 //! - `running`: the run.
-//! - `laws`: what holds of every run.
-//! - `again`: nothing but the events fixes a run.
+//!
+//! What holds of every run is said in the crate `field_laws`.
 #![tactic(auto)]
 
-mod again;
 mod event;
 mod field;
-mod laws;
 mod running;
 mod world;
 
-pub use again::one_run;
 pub use event::{Answer, Event};
 pub use gw_node::{NodeFault, Out};
-pub use laws::{answered_field, consistent_field, made_once, settled_field, steady_field};
 pub use running::run;
 pub use world::{World, WorldFault};

@@ -7,9 +7,9 @@ ghost use Rattle.gw_node.specs.Parts.{state_of};
 ghost use Rattle.gw_answer.specs.Answers.{said};
 ghost use Rattle.gw_world.specs.Events.{made_of, answered_of};
 ghost use Rattle.gw_world.specs.inner.Events.{Join, OwnAnswered, StepAnswered, RestartAnswered, FailAnswered, AskAnswered, PeerAnswered, ShowAnswered, IsListed, EventAt, EventPlayed, NoPeer, IsMissing, IsStopped, IsStood, IsLed, Played, StopsRun};
-ghost use Rattle.gw_node.specs.Gateways.{new_gateway};
+ghost use Rattle.gw_event.specs.Gateways.{new_gateway};
+ghost use Rattle.gw_event.specs.Event.{IsWritable};
 ghost use Rattle.gw_world.specs.Keeping.{IsShown, AreShown};
-ghost use Rattle.gw_node.specs.Plans.{IsWritable};
 ghost use Rattle.gw_world.specs.Worlds.{IsWorld, IsStop};
 ghost use Rattle.rep_op.specs.declared.op.Op.{Op};
 

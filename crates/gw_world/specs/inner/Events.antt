@@ -16,11 +16,10 @@ use Rattle.gw_answer.specs.declared.refusal.Refusal.{Refusal}
 use Rattle.gw_answer.specs.declared.refusal.Refusal.TheVariants as refusals
 use Rattle.gw_answer.specs.declared.step.Step.{Step}
 use Rattle.gw_answer.specs.declared.step.Step.TheVariants as steps
-use Rattle.gw_node.specs.Event.{StepOf}
-use Rattle.gw_node.specs.Gateways.{Gateway}
+use Rattle.gw_event.specs.Event.{StepOf, IsWritable}
+use Rattle.gw_event.specs.Gateways.{Gateway}
 use Rattle.gw_node.specs.Parts.{State}
 use Rattle.gw_answer.specs.Answers.{said, only_sends}
-use Rattle.gw_node.specs.Plans.{IsWritable}
 use Rattle.gw_node.specs.Standing.{Agrees}
 use Rattle.gw_world.specs.declared.event.Event.{Event}
 use Rattle.gw_world.specs.declared.event.Event.TheVariants.{Frame, Tick, Take, Answer as Asks, WriteFails, Compact, Restart, Show}

@@ -2,7 +2,7 @@
 use Rattle.std.proofs.Common.{◌≡◌, false, Ok, Err, refl, sym, ap, ◌∙◌, subst, rules}
 use Rattle.std.proofs.lemmas.Result.{err_from_is_err_and}
 use Rattle.gw_answer.specs.declared.refusal.Refusal.TheVariants as refusals
-use Rattle.gw_node.specs.Occasions.{Clock}
+use Rattle.gw_event.specs.Occasions.{Clock}
 use Rattle.gw_node.specs.Parts.{State, state_of, is_halted}
 use Rattle.gw_node.specs.Calls.{OwnCall}
 use Rattle.gw_node.proofs.Resting.{rested, wanting}

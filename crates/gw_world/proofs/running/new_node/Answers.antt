@@ -3,7 +3,7 @@ use Rattle.std.proofs.Common.{Some, sym, ap, ◌∙◌, subst}
 use Rattle.sn_local.specs.declared.config.Config.{Config}
 use Rattle.jr_disk.specs.Disk.{image}
 use Rattle.jr_disk.specs.Memory.{MemoryState}
-use Rattle.gw_node.specs.Gateways.{new_gateway}
+use Rattle.gw_event.specs.Gateways.{new_gateway}
 use Rattle.gw_node.specs.Parts.{state_of}
 use Rattle.gw_answer.specs.Answers.{told}
 use Rattle.gw_world.specs.Keeping.{IsShown}

@@ -1,6 +1,6 @@
 -- The gateways so far.
 use Rattle.std.proofs.Common.{map, take}
-use Rattle.gw_node.specs.Gateways.{new_gateway}
+use Rattle.gw_event.specs.Gateways.{new_gateway}
 use Rattle.gw_node.specs.Parts.{state_of}
 use Rattle.gw_world.specs.Keeping.{AreShown}
 use Rattle.gw_world.proofs.running.new_nodes.Given as goal

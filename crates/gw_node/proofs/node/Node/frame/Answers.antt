@@ -1,4 +1,4 @@
-use Rattle.gw_node.specs.Occasions.{Datagram}
+use Rattle.gw_event.specs.Occasions.{Datagram}
 use Rattle.gw_node.specs.Parts.{state_of}
 use Rattle.gw_node.proofs.Taken.{own_carries_on}
 use Rattle.gw_node.proofs.Leading.{event_on}

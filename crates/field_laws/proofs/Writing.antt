@@ -1,0 +1,137 @@
+-- What an event adds to a field is under the number of the gateway that it is at.
+use Rattle.std.proofs.Common.{◌≡◌, Bool, refl, ℕ, ◌-◌, ◌⊎◌, List, [], ◌∷◌, ◌++◌, set, slice_get, Some, IfSome, Contains, Result, Ok, Err, sym, ap, ◌∙◌, subst, append-nil, inl, inr}
+use Rattle.std.specs.List.{AllByRecursion}
+use Rattle.std.proofs.lemmas.List.Elements.{All-from_recursion, All-contains}
+use Rattle.rep_op.specs.declared.op.Op.{Op}
+use Rattle.rep_model.proofs.Joins.{all-moved}
+use Rattle.sn_plan.proofs.Lists.{all-append}
+use Rattle.gw_world.specs.declared.event.Event.{Event}
+use Rattle.gw_world.specs.declared.event.Event.TheVariants.{Frame, Tick, Take, Answer as Asks, WriteFails, Compact, Restart, Show}
+use Rattle.gw_world.specs.declared.event.Answer.{Answer}
+use Rattle.gw_world.specs.declared.event.Answer.TheVariants.{Node, Views, Records, Nothing}
+use Rattle.gw_answer.specs.declared.out.Out.{Out}
+use Rattle.gw_answer.specs.declared.refusal.Refusal.{Refusal}
+use Rattle.gw_answer.specs.Answers.{said}
+use Rattle.gw_event.specs.Occasions.{Datagram, Clock}
+use Rattle.gw_event.specs.Gateways.{Gateway}
+use Rattle.sn_local.specs.declared.config.Config.{Config}
+use Rattle.gw_world.specs.Field.{Field, new_field, IsAt, changed, failing, After, Run, gateway_of}
+use Rattle.gw_world.specs.Steps.{AnswerStep, restarted}
+use Rattle.gw_event.specs.Event.{TakeStep}
+use Rattle.gw_world.specs.Whole.{everything, number_of}
+use Rattle.gw_world.proofs.Answering.{answered, all-answered}
+use Rattle.gw_world.proofs.Each.{all-at, EachOf, each-weaken, each-grown, each-all, all-each}
+use Rattle.gw_world.proofs.Numbers.{place_of-first, first-number}
+use Rattle.gw_world.proofs.Consistency.{field-sound}
+use Rattle.gw_world.proofs.Failures.{OwnDue, DueAs, DueField}
+use Rattle.gw_world.proofs.Steadiness.{Still, Stepped, Fed, own-moves, take-moves, compact-still, restart-moves}
+use Rattle.gw_world.proofs.Whole.{own-number}
+
+-- it stood in the field before, or it is under the number
+abbrev pub IsBeforeOrOf : Field → ℕ → Op → Type 0
+IsBeforeOrOf field n op = Contains (everything field) op ⊎ IfSome (number_of op) (λ m. m ≡ n)
+
+module _ (field : Field) (n : ℕ) where
+  abbrev pub HasWritten : Field → Type 0
+  HasWritten new = EachOf (IsBeforeOrOf field n) new.gateways new.deltas
+
+  before : HasWritten field
+  before = each-weaken (Contains (everything field)) (IsBeforeOrOf field n) (λ op h. inl h) field.gateways field.deltas
+      (all-each (Contains (everything field)) field (all-moved (Contains (everything field)) (everything field) (λ op h. h)))
+
+  module _ (i : ℕ) (old next : Gateway) (made : List (List Op)) (at : IsAt field n i old) where
+    written-more : (more : List Op) → next.taken ≡ old.taken ++ more → made ≡ [] → AllByRecursion (IsBeforeOrOf field n) more → HasWritten (changed field i next made)
+    written-more more taken none news =
+        subst (λ m. EachOf (IsBeforeOrOf field n) (set field.gateways i next) (field.deltas ++ m)) (sym none)
+        (each-grown (IsBeforeOrOf field n) field.gateways field.deltas i old next more [] at.1 taken news tt before)
+
+    written-still : Still old next made → HasWritten (changed field i next made)
+    written-still u = written-more [] (u.taken ∙ sym (append-nil old.taken)) u.none tt
+
+    written-stepped : Stepped old next made → HasWritten (changed field i next made)
+    written-stepped u =
+        let number : old.config.gateway ≡ n = first-number n i field.gateways old (place_of-first n i field.gateways at.0) at.1 in
+        let news : AllByRecursion (IsBeforeOrOf field n) u.delta = all-moved (IsBeforeOrOf field n) u.delta (λ op h. inr (subst (λ k. IfSome (number_of op) (λ m. m ≡ k)) number (own-number old next made u op h))) in
+        subst (λ m. EachOf (IsBeforeOrOf field n) (set field.gateways i next) (field.deltas ++ m)) (sym u.one)
+        (each-grown (IsBeforeOrOf field n) field.gateways field.deltas i old next u.delta (u.delta ∷ []) at.1 u.taken news (news, tt) before)
+
+    written-moved : Still old next made ⊎ Stepped old next made → HasWritten (changed field i next made)
+    written-moved (inl u) = written-still u
+    written-moved (inr u) = written-stepped u
+
+    written-taken : (k : ℕ) (delta : List Op) → slice_get field.deltas k ≡ Some delta → Still old next made ⊎ Fed old delta next made → HasWritten (changed field i next made)
+    written-taken k delta there (inl u) = written-still u
+    written-taken k delta there (inr u) = written-more delta u.taken u.none (all-at (λ (D : List Op). AllByRecursion (IsBeforeOrOf field n) D) field.deltas k delta before.lists there)
+
+    -- what it had refused of its own is under its number
+    written-own : (d : OwnDue old) → Still old next made ⊎ Fed old old.refused next made → HasWritten (changed field i next made)
+    written-own d (inl u) = written-still u
+    written-own d (inr u) =
+        let stepped : Stepped old next (old.refused ∷ []) = record { plan = d.plan; drafted = d.drafted; delta = old.refused; proper = d.proper; same = d.same; config = u.config; taken = u.taken; one = refl } in
+        let number : old.config.gateway ≡ n = first-number n i field.gateways old (place_of-first n i field.gateways at.0) at.1 in
+        written-more old.refused u.taken u.none
+        (all-moved (IsBeforeOrOf field n) old.refused (λ op h. inr (subst (λ k. IfSome (number_of op) (λ m. m ≡ k)) number (own-number old next (old.refused ∷ []) stepped op h))))
+
+    written-back : DueAs field.deltas old → Still old next made ⊎ Fed old old.refused next made → HasWritten (changed field i next made)
+    written-back (inl none) (inl u) = written-still u
+    written-back (inl none) (inr u) = written-more old.refused u.taken u.none (subst (λ (R : List Op). AllByRecursion (IsBeforeOrOf field n) R) (sym none) tt)
+    written-back (inr (inl d)) u = written-own d u
+    written-back (inr (inr (k, there))) u = written-taken k old.refused there u
+
+  -- what a peer answers stands in its set
+  written-asked : (j : ℕ) (asker peer : Gateway) (answer : Result Out Refusal) (made : List (List Op)) → slice_get field.gateways j ≡ Some peer → AnswerStep asker peer answer made → HasWritten (record field { deltas = field.deltas ++ made })
+  written-asked j asker peer answer made there h = record {
+    sets = before.sets;
+    lists = all-append (λ (D : List Op). AllByRecursion (IsBeforeOrOf field n) D) field.deltas made before.lists
+        (all-answered (IsBeforeOrOf field n) (λ c origin first last. inr tt) peer.taken made (answered asker peer answer made h) (before.sets j peer there));
+  }
+
+after-written : (old new : Field) (event : Event) (answer : Answer) → After old event answer new → DueField old → HasWritten old (gateway_of event) new
+after-written old new (Frame number from bytes now) (Node answer) h d =
+    subst (HasWritten old number) (sym h.6) (written-moved old number h.0 h.1 h.2 h.3 h.4 (own-moves h.1 (Datagram from bytes) now (said answer) h.2 h.3 h.5))
+after-written old new (Tick number now) (Node answer) h d =
+    subst (HasWritten old number) (sym h.6) (written-moved old number h.0 h.1 h.2 h.3 h.4 (own-moves h.1 Clock now (said answer) h.2 h.3 h.5))
+after-written old new (Take number delta) (Node answer) h d =
+    subst (HasWritten old number) (sym h.8) (written-taken old number h.0 h.1 h.2 h.3 h.5 (delta - 1) h.4 h.6.1 (take-moves h.1 h.4 (said answer) h.2 h.3 h.7))
+after-written old new (Asks number peer) (Node answer) h d =
+    subst (HasWritten old number) (sym h.8) (written-asked old number h.1 h.2 h.3 (said answer) h.4 h.6.1 h.7)
+after-written old new (WriteFails number bytes sync) Nothing h d =
+    subst (HasWritten old number) (sym h.3) (written-still old number h.0 h.1 (failing bytes sync h.1) [] h.2 (record { config = refl; taken = refl; none = refl }))
+after-written old new (Compact number) (Node answer) h d =
+    subst (HasWritten old number) (sym h.5) (written-still old number h.0 h.1 h.2 [] h.3 (compact-still h.1 h.2 (said answer) h.4))
+after-written old new (Restart number kept) (Records count) h d =
+    subst (HasWritten old number) (sym h.4) (written-back old number h.0 h.1 (restarted kept h.1) [] h.2 (d h.0 h.1 h.2.1).due (restart-moves kept h.1))
+after-written old new (Show number) (Views views) h d = subst (HasWritten old number) (sym h.4) (before old number)
+after-written old new (Frame number from bytes now) (Views views) h d = absurd h
+after-written old new (Tick number now) (Views views) h d = absurd h
+after-written old new (Take number delta) (Views views) h d = absurd h
+after-written old new (Asks number peer) (Views views) h d = absurd h
+after-written old new (Show number) (Node answer) h d = absurd h
+after-written old new (Compact number) (Views views) h d = absurd h
+after-written old new (Restart number kept) (Views views) h d = absurd h
+after-written old new (Restart number kept) (Node answer) h d = absurd h
+after-written old new (Frame number from bytes now) (Records count) h d = absurd h
+after-written old new (Tick number now) (Records count) h d = absurd h
+after-written old new (Take number delta) (Records count) h d = absurd h
+after-written old new (Asks number peer) (Records count) h d = absurd h
+after-written old new (Compact number) (Records count) h d = absurd h
+after-written old new (Show number) (Records count) h d = absurd h
+after-written old new (WriteFails number bytes sync) (Node answer) h d = absurd h
+after-written old new (WriteFails number bytes sync) (Views views) h d = absurd h
+after-written old new (WriteFails number bytes sync) (Records count) h d = absurd h
+after-written old new (Frame number from bytes now) Nothing h d = absurd h
+after-written old new (Tick number now) Nothing h d = absurd h
+after-written old new (Take number delta) Nothing h d = absurd h
+after-written old new (Asks number peer) Nothing h d = absurd h
+after-written old new (Compact number) Nothing h d = absurd h
+after-written old new (Restart number kept) Nothing h d = absurd h
+after-written old new (Show number) Nothing h d = absurd h
+
+pub after-writes : (old new : Field) (event : Event) (answer : Answer) (op : Op) → DueField old → After old event answer new → Contains (everything new) op → Contains (everything old) op ⊎ IfSome (number_of op) (λ number. number ≡ gateway_of event)
+after-writes old new event answer op d h there =
+    All-contains (IsBeforeOrOf old (gateway_of event)) (everything new) op
+    (All-from_recursion (IsBeforeOrOf old (gateway_of event)) (everything new) (each-all (IsBeforeOrOf old (gateway_of event)) new (after-written old new event answer h d))) there
+
+pub field-writes : (configs : List Config) (events : List Event) (answers : List Answer) (old new : Field) (event : Event) (answer : Answer) (op : Op) → Run (new_field configs) events answers old
+    → After old event answer new → Contains (everything new) op → Contains (everything old) op ⊎ IfSome (number_of op) (λ number. number ≡ gateway_of event)
+field-writes configs events answers old new event answer op run h there = after-writes old new event answer op (field-sound configs events answers old run).due h there

@@ -1,0 +1,197 @@
+//! The laws of a field. Each function does nothing; its contract is a law, proved for all runs.
+
+ghost use Rattle.std.specs.Prelude.{◌≡◌, ℕ, ◌⊎◌, ◌↔◌, true, List, ◌++◌, Some, None, Ok, Err, IfSome, Contains, slice_get};
+ghost use Rattle.rep_op.specs.declared.op.Op.{Op};
+ghost use Rattle.rep_op.specs.declared.op.Put.{Put};
+ghost use Rattle.rep_ops.specs.Deltas.{IsDelta};
+ghost use Rattle.rep_ops.specs.Making.{IsDeltaOf};
+ghost use Rattle.rep_op.specs.Sets.{is_acknowledged, IsConsistent, Within, Same};
+ghost use Rattle.rep_ops.specs.Splitting.{all_of};
+ghost use Rattle.rep_model.specs.Keep.{keep, CountsAs};
+ghost use Rattle.rep_model.specs.Views.{view};
+ghost use Rattle.rep_model.specs.Taking.{AllAgree};
+ghost use Rattle.sn_local.specs.declared.config.Config.{Config};
+ghost use Rattle.sn_plan.specs.declared.plan.Plan.{Plan};
+ghost use Rattle.gw_world.specs.declared.event.Event.{Event};
+ghost use Rattle.gw_world.specs.declared.event.Answer.{Answer};
+ghost use Rattle.gw_world.specs.declared.event.Answer.TheVariants.{Node};
+ghost use Rattle.gw_answer.specs.declared.out.Out.{Out};
+ghost use Rattle.gw_answer.specs.declared.fault.NodeFault.TheVariants as faults;
+ghost use Rattle.gw_answer.specs.declared.refusal.Refusal.TheVariants as refusals;
+ghost use Rattle.gw_event.specs.Occasions.{Occasion};
+ghost use Rattle.gw_event.specs.Gateways.{Gateway};
+ghost use Rattle.gw_world.specs.Field.{Field, new_field, IsAt, IsDeltaAt, After, Run, gateway_of, peer_of, shown};
+ghost use Rattle.gw_world.specs.Steps.{AnswerStep};
+ghost use Rattle.gw_event.specs.Event.{IsPlan, OwnStep, TakeStep, IsWritable};
+ghost use Rattle.gw_world.specs.Steady.{IsSteady};
+ghost use Rattle.gw_world.specs.Whole.{listed, everything, number_of, IsHome, AreMadeOnce, made_by, MayMake, NoneFails, told, brought, HasTakenAll};
+
+/// No message vanishes. A message that waits for a client at a gateway, at any moment of a run,
+/// waits there at every later moment, whatever came and whatever failed in between, or its
+/// acknowledgement is in the set of that gateway; and so it is at each gateway that has taken all
+/// that this one had.
+pub fn nothing_vanishes()
+    ensures stays { (configs : List Config) (events more : List Event)
+        (answers replies : List Answer)
+        (old new : Field) (i : ℕ) (gateway later : Gateway) (c : List ℕ) (put : Put)
+        → Run (new_field configs) events answers old → slice_get old.gateways i ≡ Some gateway
+        → Contains (view c gateway.taken).pending put
+        → Run old more replies new → slice_get new.gateways i ≡ Some later
+        → Contains (view c later.taken).pending put
+        ⊎ (is_acknowledged c later.taken (put.seq, put.origin) ≡ true) }
+    ensures moves { (gateway other : Gateway) (c : List ℕ) (put : Put)
+        → Contains (view c gateway.taken).pending put → Within gateway.taken other.taken
+        → Contains (view c other.taken).pending put
+        ⊎ (is_acknowledged c other.taken (put.seq, put.origin) ≡ true) }
+{}
+
+/// Whatever happens in a field, each gateway stays flush, and what it wrote itself comes back to it
+/// as it wrote it. So the operations that it makes contradict nothing that it has taken, and no
+/// datagram and no tick is ever answered by Conflict.
+pub fn steady_field()
+    ensures steady { (configs : List Config) (events : List Event) (answers : List Answer)
+        (field : Field) → Run (new_field configs) events answers field → IsSteady field }
+    ensures agrees { (field : Field) (number i : ℕ) (gateway : Gateway) (occasion : Occasion)
+        (now : ℕ) (plan : Plan) (delta : List Op) → IsSteady field → IsAt field number i gateway
+        → IsPlan gateway occasion now (Some plan) → IsDeltaOf plan.ops delta
+        → AllAgree gateway.taken delta }
+    ensures no_conflict { (field : Field) (number i : ℕ) (gateway : Gateway) (occasion : Occasion)
+        (now : ℕ) (client : List ℕ) (new : Gateway) (made : List (List Op)) → IsSteady field
+        → IsAt field number i gateway → OwnStep gateway occasion now
+        (Err (refusals.Conflict client)) new made → ⊥ }
+{}
+
+/// A field never contradicts itself, whatever fails in it. In whatever all its gateways have taken
+/// and all deltas of its list hold, no name of a session operation or a message stands for two
+/// operations, and so in each part of it, however it is put together. Each delta of the list is a
+/// delta, with counter 0 exactly at the operations that take a session, and can be written. A delta
+/// of the list agrees with what any gateway has taken, and with what it must keep of that; so no
+/// delivery of it, and no event of a run at all, is answered by Conflict.
+pub fn consistent_field()
+    ensures consistent { (configs : List Config) (events : List Event) (answers : List Answer)
+        (field : Field)
+        → Run (new_field configs) events answers field → IsConsistent (everything field) }
+    ensures parts { (configs : List Config) (events : List Event) (answers : List Answer)
+        (field : Field) (part : List Op) → Run (new_field configs) events answers field
+        → ((op : Op) → Contains part op → Contains (everything field) op) → IsConsistent part }
+    ensures well_made { (configs : List Config) (events : List Event) (answers : List Answer)
+        (field : Field) (delta : List Op) → Run (new_field configs) events answers field
+        → Contains field.deltas delta → IsDelta delta × IsWritable delta }
+    ensures agrees { (configs : List Config) (events : List Event) (answers : List Answer)
+        (field : Field) (gateway : Gateway) (delta : List Op)
+        → Run (new_field configs) events answers field → Contains field.gateways gateway
+        → Contains field.deltas delta → AllAgree gateway.taken delta
+        × AllAgree (keep gateway.taken) delta }
+    ensures no_conflict { (configs : List Config) (events : List Event) (answers : List Answer)
+        (field : Field) (number i k : ℕ) (gateway : Gateway) (delta : List Op) (client : List ℕ)
+        (new : Gateway) (made : List (List Op)) → Run (new_field configs) events answers field
+        → IsAt field number i gateway → IsDeltaAt field k delta
+        → TakeStep gateway delta (Err (refusals.Conflict client)) new made → ⊥ }
+    ensures never { (configs : List Config) (events : List Event) (answers : List Answer)
+        (field : Field) (client : List ℕ) → Run (new_field configs) events answers field
+        → Contains answers (Node (Err (faults.Conflict client))) → ⊥ }
+{}
+
+/// No session operation and no message is made twice. Each that is anywhere in a field stands in
+/// the set of the gateway whose number is in its name. What an event adds to a field is named after
+/// the gateway that the event is at: nobody else writes under that number. In all deltas that
+/// answers tell of as made, a name stands in one place; only answers to datagrams and ticks tell of
+/// any; and where no failure is arranged, whatever has a name was told of. The list is what the
+/// answers bring, in their order: deltas that were made, and deltas that answer a digest, which
+/// repeat what was made before. Where no digest is sent, in the whole list a name stands in one
+/// place.
+pub fn made_once()
+    ensures home { (configs : List Config) (events : List Event) (answers : List Answer)
+        (field : Field) (op : Op) → Run (new_field configs) events answers field
+        → Contains (everything field) op → IsHome field op }
+    ensures writes { (configs : List Config) (events : List Event) (answers : List Answer)
+        (old new : Field) (event : Event) (answer : Answer) (op : Op)
+        → Run (new_field configs) events answers old → After old event answer new
+        → Contains (everything new) op
+        → Contains (everything old) op
+        ⊎ IfSome (number_of op) (λ number. number ≡ gateway_of event) }
+    ensures once { (configs : List Config) (events : List Event) (answers : List Answer)
+        (field : Field)
+        → Run (new_field configs) events answers field → AreMadeOnce (told answers) }
+    ensures makes { (old new : Field) (event : Event) (answer : Answer) (delta : List Op)
+        → After old event answer new → Contains (made_by answer) delta → MayMake event }
+    ensures told { (configs : List Config) (events : List Event) (answers : List Answer)
+        (field : Field) (op : Op) → Run (new_field configs) events answers field → NoneFails events
+        → Contains (everything field) op
+        → IfSome (number_of op) (λ number. Contains (all_of (told answers)) op) }
+    ensures list { (configs : List Config) (events : List Event) (answers : List Answer)
+        (field : Field) → Run (new_field configs) events answers field
+        → field.deltas ≡ brought answers }
+    ensures unasked { (configs : List Config) (events : List Event) (answers : List Answer)
+        (field : Field) → Run (new_field configs) events answers field
+        → ((event : Event) → Contains events event → peer_of event ≡ None)
+        → AreMadeOnce field.deltas }
+{}
+
+/// Gateways that have taken the same have the same. Two gateways that have taken the same
+/// operations, in whatever order and however often, have equal sets. What a gateway has taken,
+/// operation by operation, stands in its set. Two gateways that have, by whatever operations, all
+/// that stands in the field have equal sets. Where no failure is arranged, nothing stands in a
+/// gateway's set that does not stand in the list; so a gateway that every delta of the list has
+/// reached has what the list has, and two of them have equal sets. (A delta that a gateway refused,
+/// and read back when it was opened again, is in no list until the gateway answers a digest.) And
+/// gateways with equal sets show the same.
+pub fn settled_field()
+    ensures listed { (configs : List Config) (events : List Event) (answers : List Answer)
+        (field : Field) (gateway : Gateway) (op : Op) → Run (new_field configs) events answers field
+        → NoneFails events → Contains field.gateways gateway
+        → Contains gateway.taken op → Contains (listed field) op }
+    ensures within { (configs : List Config) (events : List Event) (answers : List Answer)
+        (field : Field) (gateway : Gateway) → Run (new_field configs) events answers field
+        → NoneFails events
+        → Contains field.gateways gateway → Within gateway.taken (listed field) }
+    ensures alike { (configs : List Config) (events : List Event) (answers : List Answer)
+        (field : Field) (one other : Gateway) → Run (new_field configs) events answers field
+        → Contains field.gateways one → Contains field.gateways other
+        → ((op : Op) → Contains one.taken op ↔ Contains other.taken op)
+        → Same one.taken other.taken }
+    ensures reached { (configs : List Config) (events : List Event) (answers : List Answer)
+        (field : Field) (gateway : Gateway) (part : List Op)
+        → Run (new_field configs) events answers field → Contains field.gateways gateway
+        → ((op : Op) → Contains part op → Contains gateway.taken op) → Within part gateway.taken }
+    ensures all { (configs : List Config) (events : List Event) (answers : List Answer)
+        (field : Field) (gateway : Gateway) → Run (new_field configs) events answers field
+        → NoneFails events
+        → Contains field.gateways gateway
+        → HasTakenAll field gateway → Same gateway.taken (listed field) }
+    ensures complete { (configs : List Config) (events : List Event) (answers : List Answer)
+        (field : Field) (one other : Gateway) → Run (new_field configs) events answers field
+        → Contains field.gateways one → Contains field.gateways other
+        → Within (everything field) one.taken → Within (everything field) other.taken
+        → Same one.taken other.taken }
+    ensures settled { (configs : List Config) (events : List Event) (answers : List Answer)
+        (field : Field) (one other : Gateway) → Run (new_field configs) events answers field
+        → NoneFails events → Contains field.gateways one → Contains field.gateways other
+        → HasTakenAll field one → HasTakenAll field other → Same one.taken other.taken }
+    ensures shown { (one other : List Op) → Same one other → shown one ≡ shown other }
+{}
+
+/// The answer to its digest completes a gateway. With the deltas that a peer answers, in whatever
+/// order and however often they come, a gateway keeps what it would keep with the peer's whole set,
+/// whatever it takes later. And in a run: once what was answered has reached the gateway, by these
+/// deltas or by others, the set that the peer had when it answered has nothing to add to what the
+/// gateway keeps.
+pub fn answered_field()
+    ensures completes { (asker peer : Gateway) (out : Out) (made : List (List Op)) (later : List Op)
+        → AnswerStep asker peer (Ok out) made
+        → Same (keep ((asker.taken ++ all_of made) ++ later))
+        (keep ((asker.taken ++ peer.taken) ++ later)) }
+    ensures however { (asker peer : Gateway) (out : Out) (made : List (List Op))
+        (taken later : List Op) → AnswerStep asker peer (Ok out) made
+        → ((op : Op) → Contains taken op ↔ Contains (all_of made) op)
+        → Same (keep ((asker.taken ++ taken) ++ later))
+        (keep ((asker.taken ++ peer.taken) ++ later)) }
+    ensures caught_up { (configs : List Config) (events more : List Event)
+        (answers replies : List Answer) (old new : Field) (number other i j : ℕ)
+        (asker peer later : Gateway) (out : Out) (made : List (List Op))
+        → Run (new_field configs) events answers old
+        → IsAt old number i asker → IsAt old other j peer → AnswerStep asker peer (Ok out) made
+        → Run (record old { deltas = old.deltas ++ made }) more replies new
+        → slice_get new.gateways i ≡ Some later
+        → Within (all_of made) later.taken → CountsAs (later.taken ++ peer.taken) later.taken }
+{}

@@ -1,0 +1,5 @@
+pub mod Occasions
+pub mod Excuses
+pub mod Drives
+pub mod Gateways
+pub mod Event

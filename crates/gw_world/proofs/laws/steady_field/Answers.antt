@@ -1,6 +1,0 @@
-use Rattle.gw_world.proofs.laws.steady_field.Goals as goal
-use Rattle.gw_world.proofs.Consistency.{field-steady}
-use Rattle.gw_world.proofs.Steadiness.{plan-agrees, no-conflict}
-
-pub returns : goal.returns
-returns c = record { steady = field-steady; agrees = plan-agrees; no_conflict = no-conflict }
