@@ -6,7 +6,7 @@
 //!   subscription.
 //!
 //! Each function does nothing; its contract is a law. The definitions are those of `sn_plan`
-//! (`Own`, `Flush`) and `specs/RequestLaws.antt`. A field's laws (`gw_world`) and those of steps
+//! (`Own`, `Flush`) and `specs/RequestLaws.antt`. A field's laws (`field_laws`) and those of steps
 //! (`step_laws`) are proved from these.
 #![tactic(auto)]
 

@@ -1,29 +1,22 @@
 //! From a frame to its octets (MQTT-SN 1.2 sections 5.2 and 5.4).
 
-ghost use Rattle.std.specs.Prelude.{◌≡◌, ◌<◌, ◌+◌, ◌^◌, length, ◌++◌, ◌↔◌, ◌⊎◌, OnOk, OnErr, Err};
+ghost use Rattle.std.specs.Prelude.{◌≡◌, ◌<◌, ◌++◌, ◌↔◌, ◌⊎◌, OnOk, OnErr, Err};
 ghost use Rattle.sn_frame.specs.declared.frame.TheConstants.{MAX_FRAME};
 ghost use Rattle.sn_frame.specs.Bodies.{IsMessage};
 ghost use Rattle.sn_frame.specs.Grammar.{Spells, spelling, total_of};
 
 use crate::fault::EncodeFault;
-use crate::frame::{Frame, MAX_FRAME};
-use crate::msg_type::MsgType;
-use std::alloc::{AllocError, Global};
+use crate::frame::Frame;
+use std::alloc::Global;
 
 mod body;
+mod forms;
 mod parts;
 
-use body::{body_of, is_message, type_of};
-use parts::octets_of;
-
-/// The most octets that a body behind a Length of one octet has.
-const SHORT_BODY: usize = 253;
-
-/// The most octets that a body behind a Length of three octets has.
-const LONG_BODY: usize = MAX_FRAME - 4;
+use body::{append_frame, is_message};
 
 /// Appends the canonical spelling of a frame: Length has one octet wherever the total fits 255.
-pub fn encode(alloc: Global, frame: &Frame, out: &mut Vec<u8>) -> Result<(), EncodeFault>
+pub fn encode(_alloc: Global, frame: &Frame, out: &mut Vec<u8>) -> Result<(), EncodeFault>
     ensures ok { OnOk result (out.new.items ≡ out.old.items ++ spelling frame.now) }
     ensures spelled { OnOk result (Spells (spelling frame.now) frame.now) }
 
@@ -42,27 +35,5 @@ pub fn encode(alloc: Global, frame: &Frame, out: &mut Vec<u8>) -> Result<(), Enc
     if !is_message(frame) {
         return Err(EncodeFault::Body);
     }
-    let octet = type_of(frame).octet();
-    let body = body_of(alloc, frame)?;
-    let size = body.len();
-    if size <= SHORT_BODY {
-        append_both(out, &[size as u8 + 2, octet], body.as_slice())?;
-    } else if size <= LONG_BODY {
-        let [high, low] = octets_of(size as u16 + 4);
-        append_both(out, &[1, high, low, octet], body.as_slice())?;
-    } else {
-        return Err(EncodeFault::TooLong);
-    }
-    Ok(())
-}
-
-/// Appends both, or nothing.
-fn append_both(out: &mut Vec<u8>, head: &[u8], tail: &[u8]) -> Result<(), AllocError>
-    requires { length head.now + length tail.now < 2 ^ 64 }
-    ensures ok { OnOk result (out.new.items ≡ out.old.items ++ (head.now ++ tail.now)) }
-    ensures err { OnErr result (out.new.items ≡ out.old.items) }
-{
-    out.reserve(head.len() + tail.len())?;
-    out.extend_from_slice(head)?;
-    out.extend_from_slice(tail)
+    append_frame(out, frame)
 }

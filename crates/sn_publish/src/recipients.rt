@@ -107,45 +107,6 @@ pub fn puts_for<R: Replica>(
     Ok(puts)
 }
 
-/// The message for a client, where it is a recipient.
-fn put_for<R: Replica>(
-    alloc: Global,
-    replica: &R,
-    topic: &TopicName,
-    qos: QosLevel,
-    body: &Message,
-    client: &ClientId,
-) -> Result<Option<NewPut>, NoMemory>
-    ensures { IfOk result (λ put. put ≡ spec.put_for (seen_of (R.kept replica.now)) topic.now
-        qos body.now client.now) }
-{
-    match replica.view_of(client) {
-        None => Ok(None),
-        Some(view) => put_at(alloc, topic, qos, body, client, view),
-    }
-}
-
-/// A message for each recipient among these clients, in their order.
-fn puts_among<R: Replica>(
-    alloc: Global,
-    replica: &R,
-    clients: Vec<ClientId>,
-    topic: &TopicName,
-    qos: QosLevel,
-    body: &Message,
-) -> Result<Vec<NewPut>, NoMemory>
-    ensures { IfOk result (λ puts. puts.items ≡ spec.puts_among (seen_of (R.kept replica.now))
-        clients.items topic.now qos body.now) }
-{
-    let mut puts = Vec::new(alloc);
-    for client in clients {
-        if let Some(put) = put_for(alloc, replica, topic, qos, body, &client)? {
-            puts.push(put)?;
-        }
-    }
-    Ok(puts)
-}
-
 /// Whether it is another client.
 fn is_another(client: &ClientId, other: &ClientId) -> bool
     ensures { result ≡ spec.is_another client.now other.now }
@@ -153,11 +114,12 @@ fn is_another(client: &ClientId, other: &ClientId) -> bool
     *other != *client
 }
 
-/// Leaves a client out.
-fn leave_out(clients: &mut Vec<ClientId>, client: &ClientId)
-    ensures { clients.new.items ≡ filter (spec.is_another client.now) clients.old.items }
+/// Leaves out what is for a client.
+fn leave_out(puts: &mut Vec<NewPut>, client: &ClientId)
+    ensures { puts.new.items
+        ≡ filter (λ put. spec.is_another client.now put.client) puts.old.items }
 {
-    clients.retain(|other| is_another(client, other));
+    puts.retain(|put| is_another(client, &put.client));
 }
 
 /// A message for each recipient of a will, but not for the client whose will it is.
@@ -170,16 +132,7 @@ pub fn puts_of_will<R: Replica>(
     ensures { IfOk result (λ puts. puts.items ≡ spec.puts_of_will (seen_of (R.kept replica.now))
         client.now will.now) }
 {
-    let Ok(mut clients) = replica.clients(alloc) else {
-        return Err(NoMemory);
-    };
-    leave_out(&mut clients, client);
-    puts_among(
-        alloc,
-        replica,
-        clients,
-        &will.topic,
-        will.qos,
-        &will.message,
-    )
+    let mut puts = puts_for(alloc, replica, &will.topic, will.qos, &will.message)?;
+    leave_out(&mut puts, client);
+    Ok(puts)
 }

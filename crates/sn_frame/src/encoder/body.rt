@@ -1,18 +1,17 @@
 //! The body of each message, and whether its parts have sizes that the message allows.
 
-ghost use Rattle.std.specs.Prelude.{◌≡◌, ◌∷◌, ◌++◌, ◌↔◌, List, [], IfOk, IsTrue};
-ghost use Rattle.byteorder.specs.Endian.{big_bytes};
-ghost use Rattle.sn_frame.specs.Bodies.{IsMessage};
-ghost use Rattle.sn_frame.specs.Bodies as spec;
+ghost use Rattle.std.specs.Prelude.{◌≡◌, ◌≢◌, ◌<◌, ◌++◌, ◌↔◌, OnOk, OnErr, Err, IsTrue};
+ghost use Rattle.sn_frame.specs.declared.frame.TheConstants.{MAX_FRAME};
+ghost use Rattle.sn_frame.specs.Bodies.{IsMessage, body_of, type_of};
+ghost use Rattle.sn_frame.specs.Grammar.{IsFramed, spelling, total_of};
+ghost use Rattle.sn_frame.specs.Types.{octet_of};
 
+use crate::encoder::forms::append_spelling;
 use crate::encoder::parts::{
-    ids_and_code, joined, number_body, octets_of, optional_duration, optional_will, subscription,
+    advertise, connect, ids, ids_and_code, octets_of, publish, sub_ack, subscription,
 };
-use crate::flags::Flags;
+use crate::fault::EncodeFault;
 use crate::frame::{Frame, MAX_CLIENT_ID};
-use crate::msg_type::MsgType;
-use octets::Octets;
-use std::alloc::{AllocError, Global};
 
 /// Whether the frame's parts have sizes that its message allows.
 pub(super) fn is_message(frame: &Frame) -> bool
@@ -28,69 +27,51 @@ pub(super) fn is_message(frame: &Frame) -> bool
     }
 }
 
-/// Which message a frame is.
-pub(super) fn type_of(frame: &Frame) -> MsgType
-    ensures { result ≡ spec.type_of frame.now }
+/// Appends the canonical spelling of a frame, or nothing. The frame's octet string, where it has
+/// one, is lent and copied once.
+pub(super) fn append_frame(out: &mut Vec<u8>, frame: &Frame) -> Result<(), EncodeFault>
+    ensures ok { OnOk result (out.new.items ≡ out.old.items ++ spelling frame.now) }
+    ensures framed { OnOk result (IsFramed (spelling frame.now) (octet_of (type_of frame.now))
+        (body_of frame.now)) }
+    ensures body { result ≢ Err EncodeFault.Body }
+    ensures too_long { (result ≡ Err EncodeFault.TooLong) ↔ (MAX_FRAME < total_of frame.now) }
+    ensures err { OnErr result (out.new.items ≡ out.old.items) }
 {
     match frame {
-        Frame::Advertise { .. } => MsgType::Advertise,
-        Frame::SearchGw { .. } => MsgType::SearchGw,
-        Frame::GwInfo { .. } => MsgType::GwInfo,
-        Frame::Connect { .. } => MsgType::Connect,
-        Frame::ConnAck { .. } => MsgType::ConnAck,
-        Frame::WillTopicReq => MsgType::WillTopicReq,
-        Frame::WillTopic { .. } => MsgType::WillTopic,
-        Frame::WillMsgReq => MsgType::WillMsgReq,
-        Frame::WillMsg { .. } => MsgType::WillMsg,
-        Frame::Register { .. } => MsgType::Register,
-        Frame::RegAck { .. } => MsgType::RegAck,
-        Frame::Publish { .. } => MsgType::Publish,
-        Frame::PubAck { .. } => MsgType::PubAck,
-        Frame::PubComp { .. } => MsgType::PubComp,
-        Frame::PubRec { .. } => MsgType::PubRec,
-        Frame::PubRel { .. } => MsgType::PubRel,
-        Frame::Subscribe { .. } => MsgType::Subscribe,
-        Frame::SubAck { .. } => MsgType::SubAck,
-        Frame::Unsubscribe { .. } => MsgType::Unsubscribe,
-        Frame::UnsubAck { .. } => MsgType::UnsubAck,
-        Frame::PingReq { .. } => MsgType::PingReq,
-        Frame::PingResp => MsgType::PingResp,
-        Frame::Disconnect { .. } => MsgType::Disconnect,
-        Frame::WillTopicUpd { .. } => MsgType::WillTopicUpd,
-        Frame::WillTopicResp { .. } => MsgType::WillTopicResp,
-        Frame::WillMsgUpd { .. } => MsgType::WillMsgUpd,
-        Frame::WillMsgResp { .. } => MsgType::WillMsgResp,
-    }
-}
-
-/// What follows the type.
-pub(super) fn body_of(alloc: Global, frame: &Frame) -> Result<Vec<u8>, AllocError>
-    ensures { IfOk result (λ body. body.items ≡ spec.body_of frame.now) }
-{
-    match frame {
-        Frame::WillTopicReq | Frame::WillMsgReq | Frame::PingResp => Ok(Vec::new(alloc)),
-        Frame::Advertise { gateway, duration } => advertise(alloc, *gateway, *duration),
-        Frame::SearchGw { radius } => Vec::from_slice(alloc, &[*radius]),
-        Frame::GwInfo { gateway, address } => joined(alloc, &[*gateway], address.as_slice()),
+        Frame::WillTopicReq | Frame::WillMsgReq | Frame::PingResp => {
+            append_spelling(out, frame, &[], &[])
+        }
+        Frame::Advertise { gateway, duration } => {
+            append_spelling(out, frame, &advertise(*gateway, *duration), &[])
+        }
+        Frame::SearchGw { radius } => append_spelling(out, frame, &[*radius], &[]),
+        Frame::GwInfo { gateway, address } => {
+            append_spelling(out, frame, &[*gateway], address.as_slice())
+        }
         Frame::Connect {
             flags,
             protocol,
             duration,
             client,
-        } => connect(alloc, *flags, *protocol, *duration, client),
-        Frame::ConnAck { code } | Frame::WillTopicResp { code } | Frame::WillMsgResp { code } => {
-            Vec::from_slice(alloc, &[*code])
+        } => {
+            let front = connect(*flags, *protocol, *duration);
+            append_spelling(out, frame, &front, client.as_slice())
         }
-        Frame::WillTopic { will } | Frame::WillTopicUpd { will } => optional_will(alloc, will),
-        Frame::WillMsg { message } | Frame::WillMsgUpd { message } => Vec::from_slice(
-            alloc,
-            message.as_slice(),
-        ),
+        Frame::ConnAck { code } | Frame::WillTopicResp { code } | Frame::WillMsgResp { code } => {
+            append_spelling(out, frame, &[*code], &[])
+        }
+        Frame::WillTopic { will } | Frame::WillTopicUpd { will } => match will {
+            None => append_spelling(out, frame, &[], &[]),
+            Some(will) => { append_spelling(out, frame, &[will.flags.bits], will.topic.as_slice()) }
+        },
+        Frame::WillMsg { message } | Frame::WillMsgUpd { message } => {
+            append_spelling(out, frame, &[], message.as_slice())
+        }
         Frame::Register {
             topic_id,
             msg_id,
             name,
-        } => register(alloc, *topic_id, *msg_id, name),
+        } => append_spelling(out, frame, &ids(*topic_id, *msg_id), name.as_slice()),
         Frame::RegAck {
             topic_id,
             msg_id,
@@ -100,17 +81,20 @@ pub(super) fn body_of(alloc: Global, frame: &Frame) -> Result<Vec<u8>, AllocErro
             topic_id,
             msg_id,
             code,
-        } => { ids_and_code(alloc, *topic_id, *msg_id, *code) }
+        } => append_spelling(out, frame, &ids_and_code(*topic_id, *msg_id, *code), &[]),
         Frame::Publish {
             flags,
             topic,
             msg_id,
             body,
-        } => publish(alloc, *flags, *topic, *msg_id, body),
+        } => {
+            let front = publish(*flags, *topic, *msg_id);
+            append_spelling(out, frame, &front, body.as_slice())
+        }
         Frame::PubComp { msg_id }
         | Frame::PubRec { msg_id }
         | Frame::PubRel { msg_id }
-        | Frame::UnsubAck { msg_id } => number_body(alloc, *msg_id),
+        | Frame::UnsubAck { msg_id } => append_spelling(out, frame, &octets_of(*msg_id), &[]),
         Frame::Subscribe {
             flags,
             msg_id,
@@ -120,79 +104,20 @@ pub(super) fn body_of(alloc: Global, frame: &Frame) -> Result<Vec<u8>, AllocErro
             flags,
             msg_id,
             topic,
-        } => { subscription(alloc, *flags, *msg_id, topic.as_slice()) }
+        } => append_spelling(out, frame, &subscription(*flags, *msg_id), topic.as_slice()),
         Frame::SubAck {
             flags,
             topic_id,
             msg_id,
             code,
-        } => sub_ack(alloc, *flags, *topic_id, *msg_id, *code),
-        Frame::PingReq { client } => Vec::from_slice(alloc, client.as_slice()),
-        Frame::Disconnect { duration } => optional_duration(alloc, *duration),
+        } => {
+            let front = sub_ack(*flags, *topic_id, *msg_id, *code);
+            append_spelling(out, frame, &front, &[])
+        }
+        Frame::PingReq { client } => append_spelling(out, frame, &[], client.as_slice()),
+        Frame::Disconnect { duration } => match duration {
+            None => append_spelling(out, frame, &[], &[]),
+            Some(duration) => append_spelling(out, frame, &octets_of(*duration), &[]),
+        },
     }
-}
-
-/// The body of ADVERTISE.
-fn advertise(alloc: Global, gateway: u8, duration: u16) -> Result<Vec<u8>, AllocError>
-    ensures { IfOk result (λ body. body.items ≡ gateway ∷ big_bytes 2 duration) }
-{
-    let [high, low] = octets_of(duration);
-    Vec::from_slice(alloc, &[gateway, high, low])
-}
-
-/// The body of CONNECT.
-fn connect(
-    alloc: Global,
-    flags: Flags,
-    protocol: u8,
-    duration: u16,
-    client: &Octets,
-) -> Result<Vec<u8>, AllocError>
-    ensures { IfOk result (λ body. body.items ≡ (flags.bits ∷ protocol ∷ big_bytes 2 duration) ++
-        client.now) }
-{
-    let [high, low] = octets_of(duration);
-    joined(alloc, &[flags.bits, protocol, high, low], client.as_slice())
-}
-
-/// The body of REGISTER.
-fn register(alloc: Global, topic_id: u16, msg_id: u16, name: &Octets) -> Result<Vec<u8>, AllocError>
-    ensures { IfOk result (λ body. body.items ≡ big_bytes 2 topic_id ++ big_bytes 2 msg_id
-        ++ name.now) }
-{
-    let [t1, t0] = octets_of(topic_id);
-    let [m1, m0] = octets_of(msg_id);
-    joined(alloc, &[t1, t0, m1, m0], name.as_slice())
-}
-
-/// The body of PUBLISH.
-fn publish(
-    alloc: Global,
-    flags: Flags,
-    topic: u16,
-    msg_id: u16,
-    message: &Octets,
-) -> Result<Vec<u8>, AllocError>
-    ensures { IfOk result (λ body. body.items ≡ (flags.bits ∷ big_bytes 2 topic) ++ big_bytes 2
-        msg_id ++ message.now) }
-{
-    let [t1, t0] = octets_of(topic);
-    let [m1, m0] = octets_of(msg_id);
-    joined(alloc, &[flags.bits, t1, t0, m1, m0], message.as_slice())
-}
-
-/// The body of SUBACK.
-fn sub_ack(
-    alloc: Global,
-    flags: Flags,
-    topic_id: u16,
-    msg_id: u16,
-    code: u8,
-) -> Result<Vec<u8>, AllocError>
-    ensures { IfOk result (λ body. body.items ≡ (flags.bits ∷ big_bytes 2 topic_id) ++ big_bytes 2
-        msg_id ++ (code ∷ [])) }
-{
-    let [t1, t0] = octets_of(topic_id);
-    let [m1, m0] = octets_of(msg_id);
-    Vec::from_slice(alloc, &[flags.bits, t1, t0, m1, m0, code])
 }

@@ -1,13 +1,10 @@
-//! Bodies, and parts of bodies, that several messages share.
+//! What stands in a body in front of its octet string, and bodies that have none.
 
-ghost use Rattle.std.specs.Prelude.{◌≡◌, ◌∷◌, ◌++◌, List, [], IfOk};
+ghost use Rattle.std.specs.Prelude.{◌≡◌, ◌∷◌, ◌++◌, []};
 ghost use Rattle.byteorder.specs.Endian.{big_bytes};
-ghost use Rattle.sn_frame.specs.Bodies.{will_octets, duration_octets};
 
 use crate::flags::Flags;
-use crate::frame::Will;
 use byteorder::{BigEndian, ByteOrder};
-use std::alloc::{AllocError, Global};
 
 /// A number as two octets.
 pub(super) fn octets_of(n: u16) -> [u8; 2]
@@ -18,67 +15,62 @@ pub(super) fn octets_of(n: u16) -> [u8; 2]
     octets
 }
 
-/// A list of these octets and those.
-pub(super) fn joined(alloc: Global, head: &[u8], tail: &[u8]) -> Result<Vec<u8>, AllocError>
-    ensures { IfOk result (λ all. all.items ≡ head.now ++ tail.now) }
+/// The body of ADVERTISE.
+pub(super) fn advertise(gateway: u8, duration: u16) -> [u8; 3]
+    ensures { result ≡ gateway ∷ big_bytes 2 duration }
 {
-    let mut all = Vec::with_capacity(alloc, head.len().saturating_add(tail.len()))?;
-    all.extend_from_slice(head)?;
-    all.extend_from_slice(tail)?;
-    Ok(all)
+    let [high, low] = octets_of(duration);
+    [gateway, high, low]
 }
 
-/// One number.
-pub(super) fn number_body(alloc: Global, n: u16) -> Result<Vec<u8>, AllocError>
-    ensures { IfOk result (λ body. body.items ≡ big_bytes 2 n) }
+/// Flags, protocol and duration of CONNECT.
+pub(super) fn connect(flags: Flags, protocol: u8, duration: u16) -> [u8; 4]
+    ensures { result ≡ flags.bits ∷ protocol ∷ big_bytes 2 duration }
 {
-    Vec::from_slice(alloc, &octets_of(n))
+    let [high, low] = octets_of(duration);
+    [flags.bits, protocol, high, low]
 }
 
-/// A topic id, a message id and a return code.
-pub(super) fn ids_and_code(
-    alloc: Global,
-    topic_id: u16,
-    msg_id: u16,
-    code: u8,
-) -> Result<Vec<u8>, AllocError>
-    ensures { IfOk result (λ body. body.items ≡ big_bytes 2 topic_id ++ big_bytes 2 msg_id ++
-        (code ∷ [])) }
+/// A topic id and a message id.
+pub(super) fn ids(topic_id: u16, msg_id: u16) -> [u8; 4]
+    ensures { result ≡ big_bytes 2 topic_id ++ big_bytes 2 msg_id }
 {
     let [t1, t0] = octets_of(topic_id);
     let [m1, m0] = octets_of(msg_id);
-    Vec::from_slice(alloc, &[t1, t0, m1, m0, code])
+    [t1, t0, m1, m0]
 }
 
-/// Flags, a message id and a topic.
-pub(super) fn subscription(
-    alloc: Global,
-    flags: Flags,
-    msg_id: u16,
-    topic: &[u8],
-) -> Result<Vec<u8>, AllocError>
-    ensures { IfOk result (λ body. body.items ≡ (flags.bits ∷ big_bytes 2 msg_id) ++ topic.now) }
+/// A topic id, a message id and a return code.
+pub(super) fn ids_and_code(topic_id: u16, msg_id: u16, code: u8) -> [u8; 5]
+    ensures { result ≡ big_bytes 2 topic_id ++ big_bytes 2 msg_id ++ (code ∷ []) }
+{
+    let [t1, t0] = octets_of(topic_id);
+    let [m1, m0] = octets_of(msg_id);
+    [t1, t0, m1, m0, code]
+}
+
+/// Flags, topic and message id of PUBLISH.
+pub(super) fn publish(flags: Flags, topic: u16, msg_id: u16) -> [u8; 5]
+    ensures { result ≡ (flags.bits ∷ big_bytes 2 topic) ++ big_bytes 2 msg_id }
+{
+    let [t1, t0] = octets_of(topic);
+    let [m1, m0] = octets_of(msg_id);
+    [flags.bits, t1, t0, m1, m0]
+}
+
+/// Flags and message id of SUBSCRIBE and UNSUBSCRIBE.
+pub(super) fn subscription(flags: Flags, msg_id: u16) -> [u8; 3]
+    ensures { result ≡ flags.bits ∷ big_bytes 2 msg_id }
 {
     let [high, low] = octets_of(msg_id);
-    joined(alloc, &[flags.bits, high, low], topic)
+    [flags.bits, high, low]
 }
 
-/// A will's flags and topic, or nothing.
-pub(super) fn optional_will(alloc: Global, will: &Option<Will>) -> Result<Vec<u8>, AllocError>
-    ensures { IfOk result (λ body. body.items ≡ will_octets will.now) }
+/// The body of SUBACK.
+pub(super) fn sub_ack(flags: Flags, topic_id: u16, msg_id: u16, code: u8) -> [u8; 6]
+    ensures { result ≡ (flags.bits ∷ big_bytes 2 topic_id) ++ big_bytes 2 msg_id ++ (code ∷ []) }
 {
-    match will {
-        None => Ok(Vec::new(alloc)),
-        Some(will) => joined(alloc, &[will.flags.bits], will.topic.as_slice()),
-    }
-}
-
-/// A duration, or nothing.
-pub(super) fn optional_duration(alloc: Global, duration: Option<u16>) -> Result<Vec<u8>, AllocError>
-    ensures { IfOk result (λ body. body.items ≡ duration_octets duration) }
-{
-    match duration {
-        None => Ok(Vec::new(alloc)),
-        Some(duration) => number_body(alloc, duration),
-    }
+    let [t1, t0] = octets_of(topic_id);
+    let [m1, m0] = octets_of(msg_id);
+    [flags.bits, t1, t0, m1, m0, code]
 }
