@@ -1,11 +1,12 @@
 //! The one reader: it numbers what comes and puts it into the queue.
 
-ghost use Rattle.std.specs.Prelude.{◌≡◌, ◌<◌, ◌≤◌, [], Some, IfOk, IfErr, IfSome};
+ghost use Rattle.std.specs.Prelude.{◌≡◌, ◌<◌, ◌≤◌, ◌+◌, [], Some, None, IfOk, IfErr, IfSome};
 ghost use Rattle.crossbeam_channel.specs.Claims.{view, IsSeatAt};
 ghost use Rattle.crossbeam_channel.specs.Ends.{sends_on};
 ghost use Rattle.gw_serve.specs.Count.{one_to};
 ghost use Rattle.gw_serve.specs.inner.Queue.{hand};
 ghost use Rattle.gw_serve.specs.declared.worker.Cause.TheVariants as causes;
+ghost use Rattle.gw_wire.specs.Arrivals.{came_in};
 
 use crate::bell::Bell;
 use crate::queue::{Datagram, Sender, Sends, Ticket};
@@ -42,6 +43,9 @@ pub fn read_all<R: Wait, W: Wire>(
     ensures channel { IsSeatAt (sends_on sender.now) ticket.new }
     ensures numbers { view ticket.new ≡ hand (view ticket.old).parts (one_to result.count)
         (view ticket.old).taken }
+    ensures datagrams { result.fault ≡ None → (W.drops wire.old ≤ W.drops wire.new)
+        × (W.arrivals wire.old + result.count + W.drops wire.new
+        ≡ W.arrivals wire.new + W.drops wire.old) }
     ensures wire { result.fault ≡ Some causes.Wire → W.failures wire.old < W.failures wire.new }
 {
     let mut count: u64 = 0;
@@ -79,6 +83,8 @@ fn take_in<W: Wire>(
     number: u64,
 ) -> Result<Option<Datagram>, Cause>
     ensures number { IfOk result (λ r. IfSome r (λ d. d.number ≡ number)) }
+    ensures datagrams { IfOk result (λ r. (W.drops wire.new ≡ W.drops wire.old)
+        × (W.arrivals wire.new ≡ W.arrivals wire.old + came_in result)) }
     ensures wire { IfErr result (λ c. c ≡ causes.Wire → W.failures wire.old < W.failures wire.new) }
     ensures more { W.failures wire.old ≤ W.failures wire.new }
 {

@@ -62,8 +62,9 @@ pub struct ServeFault<'a, R: Replica, D: Disk> {
 /// gets the next number, from 1 on; one that finds the queue full is dropped without a number.
 /// Replies are sent behind the lock, also those of a gateway whose disk has just failed.
 ///
-/// Each number is handed back once, in `taken` or in `left`. The passes hold what they held and the
-/// calls of `taken`, pass by pass, and nothing else. The faults: `Wire`, a receive failed;
+/// Each number is handed back once, in `taken` or in `left`. There are as many numbers as datagrams
+/// came over the wire, less those that it was told were dropped. The passes hold what they held and
+/// the calls of `taken`, pass by pass, and nothing else. The faults: `Wire`, a receive failed;
 /// `Memory`; `Behind`, a pass has seen more calls than the shift has. With each of them every pass
 /// comes back too, and has gained nothing but calls of datagrams.
 pub fn serve<'a, T, R, D, W, P, G>(
@@ -85,7 +86,9 @@ where
     P: Post + Sync,
     G: Gate + Sync,
     requires some { 0 < vec_len passes }
-    ensures datagrams { IfOk result (λ s. (n : ℕ)
+    ensures datagrams { IfOk result (λ s. (n : ℕ) × (lost : ℕ)
+        × (W.arrivals wire.new ≡ W.arrivals wire.old + n + lost)
+        × (W.drops wire.new ≡ W.drops wire.old + lost)
         × ((x : ℕ) → times x (map (λ t. t.datagram) s.taken.items ++ s.left.items)
         ≡ times x (one_to n))) }
     ensures passes { IfOk result (λ s. EachGains passes.items (map (λ t. t.step) s.taken.items)
@@ -144,7 +147,9 @@ where
     requires back { (room.back.items ≡ []) × (vec_len passes ≤ vec_capacity room.back) }
     requires channel { receives_on receiver.now ≡ sends_on sender.now }
     requires root { IsSeatAt (sends_on sender.now) root.old × (view root.old ≡ hand whole [] []) }
-    ensures datagrams { IfOk result (λ s. (n : ℕ)
+    ensures datagrams { IfOk result (λ s. (n : ℕ) × (lost : ℕ)
+        × (W.arrivals wire.new ≡ W.arrivals wire.old + n + lost)
+        × (W.drops wire.new ≡ W.drops wire.old + lost)
         × ((x : ℕ) → times x (map (λ t. t.datagram) s.taken.items ++ s.left.items)
         ≡ times x (one_to n))) }
     ensures passes { IfOk result (λ s. EachGains passes.items (map (λ t. t.step) s.taken.items)
@@ -198,7 +203,7 @@ where
 /// The cause of the workers, or else that of the reader, which is the ordinary end of a shift as
 /// well.
 fn first_cause(reader: Option<Cause>, worker: Option<Trouble>) -> Option<Cause>
-    ensures none { result ≡ None → worker ≡ None }
+    ensures none { result ≡ None → (reader ≡ None) × (worker ≡ None) }
     ensures wire { result ≡ Some causes.Wire → reader ≡ Some causes.Wire }
 {
     match worker {
@@ -288,6 +293,9 @@ where
     ensures slots { WorkedFrom (receives_on receiver.now) slots.old slots.new }
     ensures root { IsSeatAt (sends_on sender.now) root.new
         × (view root.new ≡ hand (view root.old).parts (one_to result.count) (view root.old).taken) }
+    ensures datagrams { result.fault ≡ None → (W.drops wire.old ≤ W.drops wire.new)
+        × (W.arrivals wire.old + result.count + W.drops wire.new
+        ≡ W.arrivals wire.new + W.drops wire.old) }
     ensures wire { result.fault ≡ Some causes.Wire → W.failures wire.old < W.failures wire.new }
 {
     let mut working = ||
@@ -300,7 +308,10 @@ where
         ensures { IsSeatAt (sends_on sender.entry.now) root.exit.now
             × (view root.exit.now ≡ hand (view root.entry.now).parts (one_to result.count)
             (view root.entry.now).taken) × (result.fault ≡ Some causes.Wire
-            → W.failures wire.entry.now < W.failures wire.exit.now) }
+            → W.failures wire.entry.now < W.failures wire.exit.now) × (result.fault ≡ None
+            → (W.drops wire.entry.now ≤ W.drops wire.exit.now)
+            × (W.arrivals wire.entry.now + result.count + W.drops wire.exit.now
+            ≡ W.arrivals wire.exit.now + W.drops wire.entry.now)) }
     { read_all(rt, alloc, sender, root, wire, buffer, bell, stop, turns) };
     let ((), read) = thread::join_mut(rt, &mut working, &mut reading);
     read

@@ -1,8 +1,12 @@
 //! What a gateway asks of the outside: where datagrams come from, where replies go, and who is told
 //! of them.
 
+use jr_disk::Failures;
 use sn_local::Addr;
 use thiserror::Error;
+
+/// A number of datagrams that contracts alone see, counted as failures are.
+pub type Tally = Failures;
 
 /// A datagram that came.
 #[derive(Clone, Copy, Debug, PartialEq, Eq)]
@@ -27,21 +31,32 @@ pub struct Unsent;
 
 /// Where datagrams come from. One thread has it.
 pub trait Wire {
-    ghost use Rattle.std.specs.Prelude.{◌≡◌, ◌≤◌, ℕ, length, IfOk, IfSome};
+    ghost use Rattle.std.specs.Prelude.{◌≡◌, ◌≤◌, ◌+◌, ℕ, length, IfOk, IfSome};
     ghost use Rattle.jr_disk.specs.Disk.{HasCause};
+    ghost use Rattle.gw_wire.specs.Arrivals.{came_in};
 
     /// How many receives have failed.
     ghost failures: { Self → ℕ };
+
+    /// How many datagrams came.
+    ghost arrivals: { Self → ℕ };
+
+    /// How many datagrams were dropped.
+    ghost drops: { Self → ℕ };
 
     /// The next datagram, in the front of the buffer, or nothing where none came for a while.
     fn recv(&mut self, buffer: &mut [u8]) -> Result<Option<Arrival>, WireFault>
         ensures cause { HasCause (failures self.old) (failures self.new) result }
         ensures size { IfOk result (λ came. IfSome came (λ arrival. arrival.size
-            ≤ length buffer.new)) };
+            ≤ length buffer.new)) }
+        ensures came { (arrivals self.new ≡ arrivals self.old + came_in result)
+            × (drops self.new ≡ drops self.old) };
 
     /// The last datagram was dropped: more waited than there was room for.
     fn unheard(&mut self)
-        ensures { failures self.new ≡ failures self.old };
+        ensures failures { failures self.new ≡ failures self.old }
+        ensures dropped { (arrivals self.new ≡ arrivals self.old)
+            × (drops self.new ≡ drops self.old + 1) };
 }
 
 /// Where replies go. Threads share it.

@@ -3,15 +3,17 @@
 //! - `ends`: what a gateway asks of the outside (`Wire`, `Post`, `Gate`).
 //! - `udp`: a wire and a post over one UDP socket (`Socket`, with `Ears` and `Mouth`).
 //!
-//! The definitions are in `specs/Addresses`: addresses as the system has them.
+//! The definitions are in `specs/`: `Addresses` (addresses as the system has them) and `Arrivals`
+//! (how many datagrams a receive brought).
 //!
 //! What comes over a socket and whether a datagram arrives is not said by any contract; what is
 //! proved is that a receive that fails raises the wire's count of failures by one, that no other
-//! changes it, and that a datagram lies within the buffer.
+//! changes it, that each datagram that is handed out is counted, and each that is dropped, and that
+//! a datagram lies within the buffer.
 #![tactic(auto)]
 
 mod ends;
 mod udp;
 
-pub use ends::{Arrival, Gate, OpenGate, Post, Unsent, Wire, WireFault};
+pub use ends::{Arrival, Gate, OpenGate, Post, Tally, Unsent, Wire, WireFault};
 pub use udp::{Ears, Mouth, Socket, address, moment};

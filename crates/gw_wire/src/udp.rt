@@ -1,10 +1,10 @@
 //! One UDP socket, from which one thread reads and through which any thread sends.
 
-ghost use Rattle.std.specs.Prelude.{◌≡◌, ◌≤◌, length, IfOk, IfSome};
+ghost use Rattle.std.specs.Prelude.{◌≡◌, ◌≤◌, ◌+◌, length, IfOk, IfSome};
 ghost use Rattle.gw_wire.specs.Addresses.{IsAddress};
 ghost use Rattle.gw_wire.specs.inner.Addresses as spec;
 
-use super::ends::{Arrival, Post, Unsent, Wire, WireFault};
+use super::ends::{Arrival, Post, Tally, Unsent, Wire, WireFault};
 use jr_disk::Failures;
 use mio::net::UdpSocket;
 use mio::{Events, Interest, Poll, Token};
@@ -21,8 +21,8 @@ use std::{io, thread};
 const A_WHILE: u64 = 10;
 
 /// How often a datagram is offered to the system while that has no room for it: some tens of
-/// milliseconds in all. Where it has none in all that time, those behind are offered once each until
-/// one goes out: no thread waits for each of many in turn.
+/// milliseconds in all. Where it has none in all that time, those behind are offered once each
+/// until one goes out: no thread waits for each of many in turn.
 const MOST_OFFERS: u32 = 20_000;
 
 /// A UDP socket with what tells that it is readable.
@@ -47,6 +47,10 @@ pub struct Ears<'a, C: Clock> {
     events: &'a mut Events,
     /// How many receives have failed.
     pub failures: Failures,
+    /// How many datagrams came.
+    pub arrivals: Tally,
+    /// How many datagrams were dropped.
+    pub drops: Tally,
 }
 
 /// The side by which threads send.
@@ -96,9 +100,10 @@ impl Socket {
         })
     }
 
-    /// The two sides. Those who read count failures from here on.
+    /// The two sides. Those who read count from here on.
     pub fn sides<'a, C: Clock>(&'a mut self, clock: &'a C) -> (Ears<'a, C>, Mouth<'a>)
-        ensures { result.0.failures.count ≡ 0 }
+        ensures failures { result.0.failures.count ≡ 0 }
+        ensures datagrams { (result.0.arrivals.count ≡ 0) × (result.0.drops.count ≡ 0) }
     {
         let Socket {
             socket,
@@ -114,6 +119,8 @@ impl Socket {
             poll,
             events,
             failures: Failures::none(),
+            arrivals: Tally::none(),
+            drops: Tally::none(),
         };
         (ears, Mouth { socket, choked })
     }
@@ -135,7 +142,9 @@ impl<'a, C: Clock> Ears<'a, C> {
     /// A datagram that is there, or comes within a while. Each wait follows a look that found
     /// nothing, as edge-triggered readiness wants it.
     fn wait(&mut self, buffer: &mut [u8]) -> io::Result<Option<(usize, Addr)>>
-        ensures { self.new.failures.count ≡ self.old.failures.count }
+        ensures failures { self.new.failures.count ≡ self.old.failures.count }
+        ensures datagrams { (self.new.arrivals.count ≡ self.old.arrivals.count)
+            × (self.new.drops.count ≡ self.old.drops.count) }
     {
         if let Some(found) = self.look(buffer)? {
             return Ok(Some(found));
@@ -181,10 +190,20 @@ pub fn moment<C: Clock>(clock: &C) -> u64 {
 impl<'a, C: Clock> Wire for Ears<'a, C> {
     ghost failures = { λ w. w.failures.count };
 
+    ghost arrivals = { λ w. w.arrivals.count };
+
+    ghost drops = { λ w. w.drops.count };
+
     fn recv(&mut self, buffer: &mut [u8]) -> Result<Option<Arrival>, WireFault> {
         match self.wait(buffer) {
             Ok(None) => Ok(None),
-            Ok(Some((size, from))) => Ok(self.arrived(buffer.len(), size, from)),
+            Ok(Some((size, from))) => match self.arrived(buffer.len(), size, from) {
+                None => Ok(None),
+                Some(arrival) => {
+                    self.arrivals = Tally::next(&self.arrivals);
+                    Ok(Some(arrival))
+                }
+            },
             Err(_) => {
                 self.failures = Failures::next(&self.failures);
                 Err(WireFault)
@@ -192,13 +211,15 @@ impl<'a, C: Clock> Wire for Ears<'a, C> {
         }
     }
 
-    fn unheard(&mut self) {}
+    fn unheard(&mut self) {
+        self.drops = Tally::next(&self.drops);
+    }
 }
 
 impl<'a> Post for Mouth<'a> {
-    /// Where the system has no room, the datagram is offered again while other threads run: a client
-    /// that wakes is sent all that waits at quality of service 0 at once, and nothing sends that
-    /// again.
+    /// Where the system has no room, the datagram is offered again while other threads run: a
+    /// client that wakes is sent all that waits at quality of service 0 at once, and nothing sends
+    /// that again.
     fn send(&self, to: Addr, bytes: &[u8]) -> Result<(), Unsent> {
         let offers = if self.choked.load(Ordering::SeqCst) {
             1

@@ -102,8 +102,8 @@ fn is_empty(disk: &mut FileDisk) -> bool {
     disk.len(Slot::First) == Ok(0) && disk.len(Slot::Second) == Ok(0)
 }
 
-/// The two files of the journal. That none was there is told: where the path is wrong, or nothing is
-/// mounted there, a gateway would give names again that it has given.
+/// The two files of the journal. That none was there is told: where the path is wrong, or nothing
+/// is mounted there, a gateway would give names again that it has given.
 fn disk_at<T: Files<File = File>, E: Write>(
     rt: &T,
     alloc: Global,

@@ -7,7 +7,7 @@ use gw_main::{SettingsFault, settings};
 use std::alloc::Global;
 use std::fs::{File, Files};
 use std::io;
-use std::io::{Read, Write};
+use std::io::{ErrorKind, Read, Write};
 
 /// The largest settings file, in octets.
 const LARGEST: u64 = 1_048_576;
@@ -53,7 +53,7 @@ fn text_at<R: Files<File = File>, E: Write>(
     if let Err(error) = read_into(rt, path, &mut octets) {
         let kind = error.kind();
         let _ = writeln!(err, "{path}: {kind}");
-        return Err(Stop::File);
+        return Err(unread(kind));
     }
     if octets.len() as u64 > LARGEST {
         let _ = writeln!(err, "{path}: more than {LARGEST} octets");
@@ -65,6 +65,14 @@ fn text_at<R: Files<File = File>, E: Write>(
             let _ = writeln!(err, "{path}: not UTF-8");
             Err(Stop::Text)
         }
+    }
+}
+
+/// What it is told as that a file could not be read: want of memory as that of its text.
+fn unread(kind: ErrorKind) -> Stop {
+    match kind {
+        ErrorKind::OutOfMemory => Stop::Text,
+        _ => Stop::File,
     }
 }
 

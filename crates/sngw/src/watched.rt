@@ -1,10 +1,10 @@
 //! The wire, which ends with the shift.
 
-ghost use Rattle.std.specs.Prelude.{◌≡◌};
+ghost use Rattle.std.specs.Prelude.{◌≡◌, ◌+◌};
 
 use crate::late::Late;
 use gw_link::{Phase, Stage};
-use gw_wire::{Arrival, Wire, WireFault};
+use gw_wire::{Arrival, Tally, Wire, WireFault};
 use jr_disk::Failures;
 use std::sync::Wait;
 
@@ -23,6 +23,10 @@ pub struct Watched<'a, T: Wait, W: Wire> {
     is_claimed: bool,
     /// How many receives have failed.
     pub failures: Failures,
+    /// How many datagrams came.
+    pub arrivals: Tally,
+    /// How many datagrams were dropped.
+    pub drops: Tally,
 }
 
 impl<'a, T: Wait, W: Wire> Watched<'a, T, W> {
@@ -41,12 +45,16 @@ impl<'a, T: Wait, W: Wire> Watched<'a, T, W> {
             late,
             is_claimed,
             failures: Failures::none(),
+            arrivals: Tally::none(),
+            drops: Tally::none(),
         }
     }
 
     /// Whether there is a call for the datagram that came late.
     fn has_call(&mut self) -> bool
-        ensures { self.new.failures ≡ self.old.failures }
+        ensures failures { self.new.failures ≡ self.old.failures }
+        ensures datagrams { (self.new.arrivals ≡ self.old.arrivals)
+            × (self.new.drops ≡ self.old.drops) }
     {
         if self.is_claimed {
             self.is_claimed = false;
@@ -59,9 +67,17 @@ impl<'a, T: Wait, W: Wire> Watched<'a, T, W> {
 impl<'a, T: Wait, W: Wire> Wire for Watched<'a, T, W> {
     ghost failures = { λ w. w.failures.count };
 
+    ghost arrivals = { λ w. w.arrivals.count };
+
+    ghost drops = { λ w. w.drops.count };
+
     fn recv(&mut self, buffer: &mut [u8]) -> Result<Option<Arrival>, WireFault> {
         if self.late.is_there() && self.has_call() {
-            return Ok(self.late.give(buffer));
+            let Some(arrival) = self.late.give(buffer) else {
+                return Ok(None);
+            };
+            self.arrivals = Tally::next(&self.arrivals);
+            return Ok(Some(arrival));
         }
         if self.stage.is_full() {
             self.stage.close(self.rt);
@@ -74,6 +90,7 @@ impl<'a, T: Wait, W: Wire> Wire for Watched<'a, T, W> {
             Ok(None) => Ok(None),
             Ok(Some(arrival)) => {
                 if self.stage.claim() {
+                    self.arrivals = Tally::next(&self.arrivals);
                     return Ok(Some(arrival));
                 }
                 self.late.keep(arrival, buffer);
@@ -89,6 +106,7 @@ impl<'a, T: Wait, W: Wire> Wire for Watched<'a, T, W> {
     }
 
     fn unheard(&mut self) {
+        self.drops = Tally::next(&self.drops);
         self.stage.give_back();
     }
 }

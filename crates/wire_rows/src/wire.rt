@@ -1,8 +1,8 @@
 //! A wire that brings what the row says.
 
-ghost use Rattle.std.specs.Prelude.{◌≤◌, length, IfSome};
+ghost use Rattle.std.specs.Prelude.{◌≤◌, ◌+◌, length, IfSome};
 
-use gw_wire::{Arrival, Wire, WireFault};
+use gw_wire::{Arrival, Tally, Wire, WireFault};
 use jr_disk::Failures;
 use sn_local::Addr;
 use std::thread;
@@ -28,6 +28,8 @@ pub(crate) enum Coming {
 pub(crate) struct Told<'a> {
     coming: &'a [Coming],
     failures: Failures,
+    arrivals: Tally,
+    drops: Tally,
 }
 
 impl<'a> Told<'a> {
@@ -36,12 +38,18 @@ impl<'a> Told<'a> {
         Told {
             coming,
             failures: Failures::none(),
+            arrivals: Tally::none(),
+            drops: Tally::none(),
         }
     }
 }
 
 impl<'a> Wire for Told<'a> {
     ghost failures = { λ wire. wire.failures.count };
+
+    ghost arrivals = { λ wire. wire.arrivals.count };
+
+    ghost drops = { λ wire. wire.drops.count };
 
     fn recv(&mut self, buffer: &mut [u8]) -> Result<Option<Arrival>, WireFault> {
         let Some((first, rest)) = self.coming.split_first() else {
@@ -54,7 +62,13 @@ impl<'a> Wire for Told<'a> {
                 host,
                 moment,
                 bytes,
-            } => Ok(arrived(*host, *moment, bytes.as_slice(), buffer)),
+            } => match arrived(*host, *moment, bytes.as_slice(), buffer) {
+                None => Ok(None),
+                Some(arrival) => {
+                    self.arrivals = Tally::next(&self.arrivals);
+                    Ok(Some(arrival))
+                }
+            },
             Coming::Failure => {
                 self.failures = Failures::next(&self.failures);
                 Err(WireFault)
@@ -62,7 +76,9 @@ impl<'a> Wire for Told<'a> {
         }
     }
 
-    fn unheard(&mut self) {}
+    fn unheard(&mut self) {
+        self.drops = Tally::next(&self.drops);
+    }
 }
 
 /// A datagram, put into the front of a buffer. Nothing where it is too long.

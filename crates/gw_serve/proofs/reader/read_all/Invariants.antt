@@ -1,4 +1,4 @@
-use Rattle.std.proofs.Common.{◌≡◌, ◌≤◌, None}
+use Rattle.std.proofs.Common.{◌≡◌, ◌≤◌, ◌+◌, None}
 use Rattle.crossbeam_channel.specs.Claims.{view, IsSeatAt}
 use Rattle.crossbeam_channel.specs.Ends.{sends_on}
 use Rattle.gw_serve.specs.Count.{one_to}
@@ -12,3 +12,5 @@ invariant-loop-turn g l =
     × (l.count ≤ l.turn)
     × (g.W.Wire.failures l.fn.wire ≤ g.W.Wire.failures l.wire)
     × (l.fault ≡ None)
+    × (g.W.Wire.drops l.fn.wire ≤ g.W.Wire.drops l.wire)
+    × (g.W.Wire.arrivals l.fn.wire + l.count + g.W.Wire.drops l.wire ≡ g.W.Wire.arrivals l.wire + g.W.Wire.drops l.fn.wire)

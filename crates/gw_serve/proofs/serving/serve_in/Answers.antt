@@ -1,5 +1,5 @@
 use Rattle.gw_serve.specs.declared.worker.Cause.{Cause}
-use Rattle.std.proofs.Common.{◌==◌, if◌then◌else◌, ℕ, List, All, Some, map, length, ap, ◌∙◌, sym, subst, arith}
+use Rattle.std.proofs.Common.{◌==◌, ◌-◌, if◌then◌else◌, ℕ, List, All, Some, map, length, ap, ◌∙◌, sym, subst, arith}
 use Rattle.std.proofs.lemmas.List.{with_items_is}
 use Rattle.crossbeam_channel.specs.Claims.{view}
 use Rattle.crossbeam_channel.specs.Ends.{sends_on}
@@ -21,7 +21,7 @@ gather-gathered-requires-clause-done g c =
 
 pub returns-clause-datagrams : goal.returns-clause-datagrams
 returns-clause-datagrams g c =
-    let quiet = c.first_trouble.ensures.none (c.first_cause.ensures.none c.in-None.is) in
+    let quiet = c.first_trouble.ensures.none (c.first_cause.ensures.none c.in-None.is).1 in
     let len = c.read_and_work-reading.auto.slots in
     let size = ap length c.as_mut_slice.ensures.value in
     let here = with_items_is c.seated-slots.result c.read_and_work-reading.new.slots (omega (arith, len, size, c.as_mut_slice.ensures.len)) in
@@ -30,11 +30,17 @@ returns-clause-datagrams g c =
     (all_from (sends_on c.args.sender.now) c.as_mut_slice.result.now c.read_and_work-reading.new.slots (omega (arith, len)) (rw tied at c.read_and_work-reading.ensures.slots)) in
     let gathered = c.gather-gathered.ensures.all quiet.0 (map pass_of c.as_mut_slice.result.now) from in
     let sent = c.gather-gathered.ensures.sent ∙ ap (λ (v : Hand). v.sent) c.read_and_work-reading.ensures.root.1 in
-    (c.read_and_work-reading.result.count, λ x. accounted (view c.gather-gathered.new.root) c.read_and_work-reading.result.count c.gather-gathered.result.taken.items c.gather-gathered.result.left.items c.drain-rest.new.left.items sent gathered.numbers (c.drain-rest.ensures.all quiet.1) (λ y. if y == x then 1 else 0))
+    let came = c.read_and_work-reading.ensures.datagrams (c.first_cause.ensures.none c.in-None.is).0 in (
+      c.read_and_work-reading.result.count,
+      g.W.Wire.drops c.read_and_work-reading.new.wire - g.W.Wire.drops c.args.wire.now,
+      omega (arith, came),
+      omega (arith, came),
+      λ x. accounted (view c.gather-gathered.new.root) c.read_and_work-reading.result.count c.gather-gathered.result.taken.items c.gather-gathered.result.left.items c.drain-rest.new.left.items sent gathered.numbers (c.drain-rest.ensures.all quiet.1) (λ y. if y == x then 1 else 0),
+    )
 
 pub returns-clause-passes : goal.returns-clause-passes
 returns-clause-passes g c =
-    let quiet = c.first_trouble.ensures.none (c.first_cause.ensures.none c.in-None.is) in
+    let quiet = c.first_trouble.ensures.none (c.first_cause.ensures.none c.in-None.is).1 in
     let len = c.read_and_work-reading.auto.slots in
     let size = ap length c.as_mut_slice.ensures.value in
     let here = with_items_is c.seated-slots.result c.read_and_work-reading.new.slots (omega (arith, len, size, c.as_mut_slice.ensures.len)) in
