@@ -189,9 +189,7 @@ fn hear<T: Wait, R: Replica, D: Disk + Drop, S: Drop>(
         Ok(Ok(out)) => match say_answer(alloc, link, out.answer.as_slice()) {
             Err(end) => (pass, Err(end)),
             Ok(octets) => {
-                if stage.keep(octets) {
-                    stage.close(rt);
-                }
+                stage.keep(rt, octets);
                 (pass, Ok(()))
             }
         },

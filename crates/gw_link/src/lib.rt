@@ -1,10 +1,10 @@
 //! Links to other gateways, over streams; and what all threads of a shift share that make calls
 //! beside the serving of datagrams.
 //!
-//! A link is a stream of octets, as of a TCP connection. Each end says its number and its digest;
-//! it answers the digest of the other end with what that end lacks; and from then on it tells of
-//! each delta that its gateway makes. A link outlives a shift: what came over it and was not heard
-//! yet waits for the next one.
+//! A link is a stream of octets, as of a TCP connection. Each end says its number and its digest,
+//! and both again from time to time; it answers a digest of the other end with what that end lacks;
+//! and from then on it tells of each delta that its gateway makes. A link outlives a shift: what
+//! came over it and was not heard yet waits for the next one.
 //!
 //! - `stage`: how far a shift is, and how its threads wait (`Stage`, `Phase`).
 //! - `calling`: a call with a pass that comes back (`call`, `End`), and what a refusal of it means

@@ -44,6 +44,8 @@ pub struct Link<S: Drop> {
     pub(crate) other: Option<u8>,
     /// How often a read found nothing: before that, and since this end has last said its number.
     pub(crate) silence: u32,
+    /// How often this end has said its number again since it last said its digest.
+    pub(crate) repeats: u32,
     /// What came behind it is no message.
     pub(crate) failed: bool,
     /// What is to go out, a message each.
@@ -76,6 +78,7 @@ impl<S: Drop> Link<S> {
             answered: false,
             other: None,
             silence: 0,
+            repeats: 0,
             failed: false,
             outgoing: VecDeque::new(alloc),
             answering: 0,

@@ -26,6 +26,11 @@ const AT_ONCE: usize = 64;
 /// behind such a message, and the link is made anew.
 const MOST_QUIET: u32 = 3_000;
 
+/// How often this end says its number again before it says its digest again: some five minutes of
+/// reads that find nothing. That asks for what the other end took from a third gateway meanwhile,
+/// which may be lost for good, and for what this gateway had to refuse.
+const MOST_REPEATS: u32 = 10;
+
 /// Says the number of this gateway.
 fn say_hello<S: Drop>(alloc: Global, link: &mut Link<S>, gateway: u8) -> Result<(), End> {
     if gateway == 0 {
@@ -72,18 +77,28 @@ pub(crate) fn say_answer<S: Drop>(
     Ok(std::mem::replace(&mut link.behind, 0))
 }
 
+/// Whether the digest is to be said: at the begin, and again from time to time, where all that was
+/// said before went out.
+fn is_due<S: Drop>(link: &Link<S>) -> bool {
+    if link.greeted {
+        return link.repeats >= MOST_REPEATS && link.is_told();
+    }
+    true
+}
+
 /// Says the number of this gateway once more, where nothing came for long.
 fn say_again<S: Drop>(alloc: Global, link: &mut Link<S>, gateway: u8) -> Result<(), End> {
     if link.silence < MOST_QUIET || !link.is_told() {
         return Ok(());
     }
     link.silence = 0;
+    link.repeats = link.repeats.saturating_add(1);
     say_hello(alloc, link, gateway)
 }
 
-/// Says the number of this gateway and what it has, once; and its number again where nothing came
-/// for long. A link whose other end has the number of this gateway is at an end: it is this gateway
-/// itself, or one that may not be there.
+/// Says the number of this gateway and what it has, and both again from time to time; and its
+/// number alone where nothing came for long. A link whose other end has the number of this gateway
+/// is at an end: it is this gateway itself, or one that may not be there.
 pub(crate) fn greet<T: Wait, R: Replica, D: Disk + Drop, S: Drop>(
     rt: &T,
     alloc: Global,
@@ -98,39 +113,51 @@ pub(crate) fn greet<T: Wait, R: Replica, D: Disk + Drop, S: Drop>(
     if link.other == Some(gateway) {
         return (pass, Err(End::Lost));
     }
-    if link.greeted {
+    if !is_due(link) {
         return (pass, say_again(alloc, link, gateway));
     }
+    let again = link.greeted;
     let Ok(step) = Arc::new(alloc, Step::Digest) else {
         return (pass, Err(End::Memory));
     };
     let (pass, answered) = call(rt, alloc, shift, pass, step, stage);
     match answered {
         Err(end) => (pass, Err(end)),
-        Ok(Ok(out)) => (pass, say_greeting(alloc, link, gateway, Some(out))),
+        Ok(Ok(out)) => match say_greeting(alloc, link, gateway, Some(out)) {
+            Err(end) => (pass, Err(end)),
+            Ok(octets) => {
+                stage.keep(rt, if again { octets } else { 0 });
+                (pass, Ok(()))
+            }
+        },
         Ok(Err(fault)) => match dropped(&fault) {
-            Ok(()) => (pass, say_greeting(alloc, link, gateway, None)),
+            Ok(()) => match say_greeting(alloc, link, gateway, None) {
+                Err(end) => (pass, Err(end)),
+                Ok(_) => (pass, Ok(())),
+            },
             Err(_) => (pass, Err(End::Memory)),
         },
     }
 }
 
-/// The same once the digest is known; a gateway whose digest would be too large says its number
-/// alone.
+/// The same once the digest is known, and how many octets that has; a gateway whose digest would be
+/// too large says its number alone.
 fn say_greeting<S: Drop>(
     alloc: Global,
     link: &mut Link<S>,
     gateway: u8,
     out: Option<Arc<Out>>,
-) -> Result<(), End> {
+) -> Result<usize, End> {
     link.greeted = true;
+    link.repeats = 0;
     say_hello(alloc, link, gateway)?;
+    let before = link.behind;
     if let Some(out) = out {
         if let Some(digest) = out.digest.as_ref() {
             say_digest(alloc, link, digest)?;
         }
     }
-    Ok(())
+    Ok(link.behind.saturating_sub(before))
 }
 
 /// Tells of each delta that the gateway made in this shift and that was not told of.

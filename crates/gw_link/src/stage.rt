@@ -25,12 +25,13 @@ pub struct Stage {
     steps: u64,
     /// How often one was asked for.
     claims: AtomicU64,
-    /// How many octets of answers to other gateways its history keeps.
+    /// How many octets of answers to other gateways, and of digests that were said again, its
+    /// history keeps.
     kept: AtomicU64,
 }
 
-/// How many octets of answers a shift's history may keep before the shift is to end. A peer whose
-/// disk fails asks for the same again and again.
+/// How many octets of such answers and digests a shift's history may keep before the shift is to
+/// end. A peer whose disk fails asks for the same again and again.
 const MOST_KEPT: u64 = 16_777_216;
 
 impl Stage {
@@ -60,10 +61,13 @@ impl Stage {
         self.claims.load(Ordering::SeqCst) >= self.steps
     }
 
-    /// The history keeps an answer of so many octets. Says whether it keeps more than it should.
-    pub(crate) fn keep(&self, octets: usize) -> bool {
+    /// The history keeps such an answer or digest of so many octets. Where it keeps more of them
+    /// than it should, the shift is to end.
+    pub(crate) fn keep<T: Wait>(&self, rt: &T, octets: usize) {
         let before = self.kept.fetch_add(octets as u64, Ordering::SeqCst);
-        before.saturating_add(octets as u64) > MOST_KEPT
+        if before.saturating_add(octets as u64) > MOST_KEPT {
+            self.close(rt);
+        }
     }
 
     /// How far it is now.
