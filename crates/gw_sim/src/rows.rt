@@ -3,8 +3,8 @@
 //! A text holds scripts, each behind a line `== NAME`. A script is what stands between two such
 //! lines, without the line feed in front of the second: so a script that ends with a line feed has
 //! an empty line behind it. For each script that line is printed, what is printed for the script,
-//! and a line with the exit status. Each is played on the folded replica and on the plain one; where
-//! these do not print the same, what the plain one prints stands below.
+//! and a line with the exit status. Each is played on the folded replica and on the plain one;
+//! where these do not print the same, what the plain one prints stands below.
 //!
 //! A script of the one line `random SEED EVENTS GATEWAYS` stands for scripts that are made from a
 //! seed, of so many events in all: each is played, and what gateways show is compared with what the

@@ -7,17 +7,20 @@ use jr_read::Misfit;
 use rep_model::{Limit, TakeFault};
 use std::alloc::{AllocError, Global};
 
-/// How a fault is called where a gateway tells it.
-pub(crate) fn number(fault: &Fault) -> &'static str {
+/// What a record is told as that is none, at whatever place.
+const NO_RECORD: JournalFault = JournalFault::BadRecord {
+    slot: Slot::First,
+    at: 0,
+};
+
+/// The number by which a gateway tells a fault, behind a `J`. A record that does not fit is told as
+/// one that is none.
+pub(crate) fn number(fault: &Fault) -> u8 {
     match fault {
-        Fault::Journal(JournalFault::Disk) => "J1",
-        Fault::Journal(JournalFault::Foreign) => "J2",
-        Fault::Journal(JournalFault::BadRecord { .. }) => "J3",
-        Fault::Journal(JournalFault::Memory) => "J4",
-        Fault::Journal(JournalFault::Halted) => "J5",
+        Fault::Journal(fault) => fault.number(),
         Fault::Record(misfit) => match &misfit.fault {
-            TakeFault::Conflict { .. } | TakeFault::Full { .. } => "J3",
-            TakeFault::Memory => "J4",
+            TakeFault::Conflict { .. } | TakeFault::Full { .. } => NO_RECORD.number(),
+            TakeFault::Memory => JournalFault::Memory.number(),
         },
     }
 }

@@ -115,7 +115,7 @@ fn torn_end(text: &mut String, torn: &Torn) -> Result<(), AllocError> {
 /// Why an opening refuses.
 fn refusal(alloc: Global, text: &mut String, fault: &Fault) -> Result<(), AllocError> {
     let number = number(fault);
-    write!(text, ",\"fault\":{{\"number\":\"{number}\"")?;
+    write!(text, ",\"fault\":{{\"number\":\"J{number}\"")?;
     match fault {
         Fault::Journal(fault) => bad_place(text, *fault)?,
         Fault::Record(misfit) => bad_record(alloc, text, misfit)?,

@@ -114,6 +114,6 @@ fn refusal(alloc: Global, text: &mut String, fault: &Fault) -> Result<(), AllocE
     let number = number(fault);
     let words = words(alloc, fault)?;
     let advice = advice(fault);
-    writeln!(text, "refused {number}: {words}")?;
+    writeln!(text, "refused J{number}: {words}")?;
     writeln!(text, "advice: {advice}")
 }

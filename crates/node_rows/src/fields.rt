@@ -28,12 +28,20 @@ pub(crate) fn client(alloc: Global, text: &str) -> Result<ClientId, Stop> {
     }
 }
 
-/// The client of this name.
+/// The client of this name: a copy of it, so that a row that names a client runs that call too.
 fn named(alloc: Global, name: &[u8]) -> Result<ClientId, Stop> {
     match ClientId::new(alloc, name) {
-        Ok(client) => Ok(client),
+        Ok(client) => copy_of(alloc, &client),
         Err(OpsFault::Memory) => Err(Stop::Memory),
         Err(_) => Err(Stop::Line),
+    }
+}
+
+/// A copy of a client's name.
+fn copy_of(alloc: Global, client: &ClientId) -> Result<ClientId, Stop> {
+    match client.copy(alloc) {
+        Ok(copy) => Ok(copy),
+        Err(_) => Err(Stop::Memory),
     }
 }
 

@@ -44,15 +44,24 @@ fn closed<R: Replica>(store: &mut Store<R>) -> &mut MemoryDisk {
     &mut store.disk
 }
 
-/// `open GATEWAY` or `open GATEWAY SECONDS PORT`: a gateway is opened.
+/// `open GATEWAY` or `open GATEWAY SECONDS PORT`: a gateway is opened, with a copy of what it is
+/// told, so that each opening runs that call too.
 pub(crate) fn open<R: Replica>(
     alloc: Global,
     text: &mut String,
     store: &mut Store<R>,
     fields: &[&str],
 ) -> Result<(), Stop> {
-    let config = config(alloc, fields)?;
+    let config = copy_of(alloc, &config(alloc, fields)?)?;
     print_opening(text, start(alloc, store, config))
+}
+
+/// A copy of what a gateway is told.
+fn copy_of(alloc: Global, config: &Config) -> Result<Config, Stop> {
+    match config.copy(alloc) {
+        Ok(copy) => Ok(copy),
+        Err(_) => Err(Stop::Memory),
+    }
 }
 
 /// The records of an opening, or the number of its refusal.
