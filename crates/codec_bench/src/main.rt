@@ -3,15 +3,15 @@
 //!
 //! Each line of standard input names a work and how often it is done, as `frames 100`, `deltas 20`,
 //! `records 1000` or `digests 10`. The program makes its own data, the same in each run, and prints
-//! counts and a checksum of what the codec wrote. For these it reads no clock. The folder bench/ has
-//! the stopwatch, and the same work in C.
+//! counts and a checksum of what the codec wrote. For these it reads no clock. The folder bench/
+//! has the stopwatch, and the same work in C.
 //!
 //! A line with two numbers, as `search 2 10`, asks for calls: a work, a number of threads and a
 //! number of rounds of 4,096 calls. The works: `search`, a SEARCHGW, which writes nothing; `sleep`,
 //! a DISCONNECT with a duration, which is a record of the journal each time. With 0 threads the
 //! calls are made directly. The calls are told on standard output, and on standard error the
-//! microseconds that they took, without opening and closing; a shift is closed and compared with its
-//! passes, as always.
+//! microseconds that they took, without opening and closing; a shift is closed and compared with
+//! its passes, as always.
 //!
 //! - `numbers`: a sequence of numbers that is the same in each run (`Numbers`, `checksum`).
 //! - `datagrams`: a mixed stream of datagrams.

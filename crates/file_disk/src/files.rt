@@ -38,8 +38,9 @@ struct Trusts {
 }
 
 impl FileDisk {
-    /// The files at a path with `.0` and `.1` behind it. Where there is no journal yet they are made,
-    /// first the one and then the other, and their names are made durable. No call has failed.
+    /// The files at a path with `.0` and `.1` behind it. Where there is no journal yet they are
+    /// made, first the one and then the other, and their names are made durable. No call has
+    /// failed.
     ///
     /// The faults: `Files`, a file cannot be opened or made; `InUse`, another program has one open
     /// as its journal; `Lost`, one of them is not there any more; `Memory`.

@@ -23,8 +23,8 @@ pub enum FileDiskFault {
     /// Another program has one of them open as its journal.
     #[error("another program has the journal open")]
     InUse,
-    /// One of the two files is not there any more. What it held may be newer than what is left, so a
-    /// gateway that went on without it would forget what it answered for.
+    /// One of the two files is not there any more. What it held may be newer than what is left, so
+    /// a gateway that went on without it would forget what it answered for.
     #[error("one of the two files of the journal is not there any more")]
     Lost,
     /// Memory ran out.

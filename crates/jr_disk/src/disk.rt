@@ -35,8 +35,8 @@ pub enum Plan {
 /// appended since, from the first on.
 ///
 /// On an honest disk each call does what its clauses say. Of any other those hold that have no such
-/// premise: a call that fails raises the count of failures by one, and no other call changes it; only
-/// an append says that memory was refused; and what becomes of a failure that is arranged.
+/// premise: a call that fails raises the count of failures by one, and no other call changes it;
+/// only an append says that memory was refused; and what becomes of a failure that is arranged.
 pub trait Disk {
     ghost use Rattle.std.specs.Prelude.{Bool, Option, Some, None, true, false, ℕ, ◌≡◌, ◌≤◌, ◌+◌, ◌⊎◌, length, take, drop, OnOk, OnErr, IfOk, IfErr, IsErr};
     ghost use Rattle.jr_disk.specs.Disk.{Slots, HasCause, at, replaced, bytes_of, appended, all_synced, cut_to};

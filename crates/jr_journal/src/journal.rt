@@ -344,8 +344,8 @@ impl<D: Disk + Drop> Journal<D> {
         self.disk
     }
 
-    /// Whether a write has failed since the journal was opened, or a try to open it again, or it was
-    /// halted.
+    /// Whether a write has failed since the journal was opened, or a try to open it again, or it
+    /// was halted.
     pub fn is_halted(&self) -> bool
         ensures { result ≡ parts.is_halted self.now }
     {

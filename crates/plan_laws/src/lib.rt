@@ -1,5 +1,5 @@
-//! Laws of plans that stand beside the chain: nothing is built on them but the laws of a field's own
-//! operations (`field_laws`).
+//! Laws of plans that stand beside the chain: nothing is built on them but the laws of a field's
+//! own operations (`field_laws`).
 //!
 //! - `laws`: the operations of a plan are always well made, and no two stand under one name, at a
 //!   gateway that keeps well; a gateway keeps well whatever it does and takes; and a client that is

@@ -45,8 +45,9 @@ abbrev pub planned_of : Option Publication → ℕ → Talk → Talk
 planned_of None topic talk = talk
 planned_of (Some p) topic talk = publishing_of p topic
 
--- How an exchange has ended where one more answer comes: its frame may have been sent again, so what
--- was accepted stays accepted; where nothing accepts, and it was only taken for that, a refusal counts.
+-- How an exchange has ended where one more answer comes: its frame may have been sent again, so
+-- what was accepted stays accepted; where nothing accepts, and it was only taken for that, a
+-- refusal counts.
 abbrev pub ended : Awaited → Option Outcome → Outcome → Outcome
 ended (waits.Refusal id) had outcome = outcome
 ended awaited (Some outcomes.Accepted) outcome = outcomes.Accepted
