@@ -24,11 +24,12 @@ WIDTH = 100
 PARTS = [
     ("A message leaves only by its acknowledgement",
      "What waits for a client in a set waits in every larger set, until the set has the client's acknowledgement. No step of a "
-     "gateway takes a message away but by an acknowledgement that the step itself writes. What waits is what a replica shows of "
-     "the client.",
+     "gateway takes a message away but by an acknowledgement that the step itself writes, and it writes none without a cause: the "
+     "client begins a clean session or answers for the message, or the message is sent at quality of service 0, or no topic id is "
+     "left for it. What waits is what a replica shows of the client.",
      "Nothing here says that a message ever reaches a client: that needs a client that answers, and time.",
      ["rep_model::leaves_only", "rep_model::pending_laws", "rep_model::Replica::kept", "rep_model::Replica::view_of",
-      "row_laws::only_acknowledged", "row_laws::messages_wait", "step_laws::every_step"],
+      "row_laws::only_acknowledged", "row_laws::messages_wait", "step_laws::every_step", "cause_laws::acknowledged_for_cause"],
      []),
     ("Sets join in any order",
      "Gateways that exchange what they have end with equal sets, in whatever order and however often it comes, as long as the sets "
@@ -45,8 +46,8 @@ PARTS = [
      "In these fields a disk fails where an event arranges it, in the next write or in the sync behind that, and nowhere else: not in "
      "an opening. Gateways may be stopped and opened again between any two events. `run` may always stop for want of memory. What one "
      "step does is named here and defined in part 4, and what a datagram spells in part 6.",
-     ["gw_world::run", "gw_world::steady_field", "gw_world::consistent_field", "gw_world::made_once", "gw_world::settled_field",
-      "gw_world::one_run", "gw_world::answered_field", "row_laws::own_names", "row_laws::fresh_names", "field_laws::own_full",
+     ["gw_world::run", "field_laws::nothing_vanishes", "field_laws::steady_field", "field_laws::consistent_field", "field_laws::made_once", "field_laws::settled_field",
+      "field_laws::one_run", "field_laws::answered_field", "row_laws::own_names", "row_laws::fresh_names", "field_laws::own_full",
       "field_laws::takes_at_zero"],
      []),
     ("The step table",
@@ -57,7 +58,7 @@ PARTS = [
      ["sn_deliver::step", "sn_tick::tick", "sn_flow::connect", "sn_flow::disconnect", "sn_flow::will_topic", "sn_flow::will_msg",
       "sn_flow::will_topic_update", "sn_flow::will_msg_update", "sn_subscribe::register", "sn_subscribe::subscribe", "sn_subscribe::unsubscribe",
       "sn_plan::other", "plan_laws::every_plan", "plan_laws::bound_up", "field_laws::bound_clients"],
-     ["sn_deliver/Steps/step", "sn_tick/Ticking/tick", "sn_local/Locals/after_all", "sn_local/Locals/owned"]),
+     ["sn_deliver/Steps/step", "sn_deliver/Steps/row_for", "sn_tick/Ticking/tick", "sn_local/Locals/after_all", "sn_local/Locals/owned"]),
     ("The disk",
      "What a gateway makes or takes is written and synced before it is answered. After every crash its journal gives what counts as "
      "all that was answered for, or that and the one record that was being written; amid a compaction, the old records or all that "
@@ -71,8 +72,8 @@ PARTS = [
       "gw_node::Node::open", "gw_node::opening_laws", "gw_node::Node::frame", "gw_node::Node::take", "gw_node::Node::tick",
       "gw_node::Node::compact", "gw_node::Node::reopen", "field_laws::stored"],
      ["jr_journal/journal/Journal", "jr_disk/memory/MemoryDisk", "jr_disk/memory/impl Model for MemoryDisk",
-      "jr_journal/fault/JournalFault", "gw_node/Standing/Stands", "gw_node/Standing/Lasts", "gw_node/Drives/opened", "gw_node/Drives/new_drive",
-      "gw_node/Drives/with_record", "gw_node/Drives/compacted", "gw_node/Drives/left_by", "gw_world/Steps/records_left",
+      "jr_journal/fault/JournalFault", "gw_node/Standing/Stands", "gw_node/Standing/Lasts", "gw_event/Drives/opened", "gw_event/Drives/new_drive",
+      "gw_event/Drives/with_record", "gw_event/Drives/compacted", "gw_event/Drives/left_by", "gw_world/Steps/records_left",
       "gw_node/Taking/StandsFor", "rep_model/Roomy/IsRoomy"]),
     ("The bytes",
      "Frames, deltas, digests and the messages of a link have one spelling each that is written, and no octets are read as two "
