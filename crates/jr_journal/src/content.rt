@@ -12,8 +12,8 @@ use std::alloc::Global;
 /// The bytes with which a header begins, before the number of the gateway.
 pub(crate) const MAGIC: [u8; 4] = [0x53, 0x4E, 0x4A, 0x31];
 
-/// How many bytes a header has.
-pub(crate) const HEADER: usize = 13;
+/// How many octets the header of a slot has.
+pub const HEADER: usize = 13;
 
 /// What a slot is.
 #[derive(Drop)]

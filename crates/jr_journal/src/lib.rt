@@ -32,9 +32,11 @@ mod opening;
 mod piece;
 mod record;
 
+pub use content::HEADER;
 pub use fault::JournalFault;
 pub use journal::Journal;
 pub use jr_disk::{
     Disk, DiskFault, Failures, MemoryDisk, OnceCall, OnceDisk, Plan, Short, Slot,
     memory_disk_is_honest, once_disk_is_honest,
 };
+pub use piece::SEAL;

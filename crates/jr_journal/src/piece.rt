@@ -12,8 +12,8 @@ use std::alloc::Global;
 /// The tag of a record.
 pub(crate) const RECORD: u8 = 0x44;
 
-/// The tag of the seal.
-pub(crate) const SEAL: u8 = 0x53;
+/// The octet that is a seal.
+pub const SEAL: u8 = 0x53;
 
 /// What stands at a place where a record or the seal should.
 #[derive(Drop)]

@@ -5,15 +5,10 @@ ghost use Rattle.std.specs.Int.{w32, from_be_bytes};
 ghost use Rattle.jr_read.specs.Places.{ArePlaced};
 ghost use Rattle.jr_read.specs.inner.Places.{Holds, after_seal};
 
+use jr_journal::{HEADER, SEAL};
 use octets::read_u32;
 use rep_ops::Delta;
 use std::alloc::{AllocError, Global};
-
-/// How many octets a header has.
-pub(crate) const HEADER: usize = 13;
-
-/// The octet that is a seal.
-const SEAL: u8 = 0x53;
 
 /// Where a record stands in its slot.
 #[derive(Clone, Copy, Debug, PartialEq, Eq)]

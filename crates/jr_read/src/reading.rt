@@ -10,8 +10,8 @@ ghost use Rattle.jr_journal.specs.Crashes.{recovered};
 ghost use Rattle.jr_journal.specs.Opening.{slot_read, generation_read};
 ghost use Rattle.jr_read.specs.Places.{slots_of, octets_in, ArePlaced, IsTold};
 
-use super::places::{HEADER, Place, places_of};
-use jr_journal::{Disk, Journal, JournalFault, MemoryDisk, Slot};
+use super::places::{Place, places_of};
+use jr_journal::{Disk, HEADER, Journal, JournalFault, MemoryDisk, Slot};
 use octets::{NoMemory, read_u64};
 use rep_ops::Delta;
 use std::alloc::Global;

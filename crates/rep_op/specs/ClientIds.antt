@@ -1,6 +1,6 @@
 -- Names of clients (MQTT-SN 1.2 section 5.3.1).
 use Rattle.std.specs.Prelude.{ℕ, ◌≤◌, List, length}
-use Rattle.rep_op.specs.declared.client_id.TheConstants.{MAX_CLIENT_ID}
+use Rattle.octets.specs.declared.client_id.TheConstants.{MAX_CLIENT_ID}
 
 -- 1 to 23 octets
 abbrev pub IsClientId : List ℕ → Type 0

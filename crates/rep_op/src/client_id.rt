@@ -4,13 +4,10 @@ ghost use Rattle.std.specs.Prelude.{◌≡◌, ℕ, ◌⊎◌, List, IfOk, IfErr
 ghost use Rattle.rep_op.specs.ClientIds.{IsClientId};
 
 use super::fault::OpsFault;
-use sn_topic::octets::{NoMemory, Octets};
+use octets::{MAX_CLIENT_ID, NoMemory, Octets};
 use std::alloc::Global;
 use std::cmp::Ordering;
 use std::marker::Model;
-
-/// The most octets of a client's name.
-pub const MAX_CLIENT_ID: usize = 23;
 
 /// The name of a client: 1 to 23 octets (MQTT-SN 1.2 section 5.3.1). Contracts see the list of its
 /// octets.

@@ -4,8 +4,8 @@ ghost use Rattle.std.specs.Prelude.{◌≡◌};
 ghost use Rattle.rep_op.specs.declared.fault.OpsFault.TheVariants.{Memory};
 ghost use Rattle.rep_op.specs.Faults.{fault_of_topic, number_of};
 
+use octets::NoMemory;
 use sn_topic::TopicFault;
-use sn_topic::octets::NoMemory;
 use std::alloc::{AllocError, AllocFailed};
 use thiserror::Error;
 

@@ -26,7 +26,7 @@ mod range;
 mod value;
 mod well_made;
 
-pub use client_id::{ClientId, MAX_CLIENT_ID};
+pub use client_id::ClientId;
 pub use fault::OpsFault;
 pub use op::{MAX_OPERATIONS, Op, Put, Stamp};
 pub use order::{name_order, share_name};

@@ -4,10 +4,10 @@ ghost use Rattle.std.specs.Prelude.{◌≡◌, IfOk};
 ghost use Rattle.rep_op.specs.Orders.{stamp_cmp, client_of};
 
 use super::client_id::ClientId;
+use octets::NoMemory;
 use sn_session::{Message, SessionOp};
 use sn_tables::QosLevel;
 use sn_topic::TopicName;
-use sn_topic::octets::NoMemory;
 use std::alloc::Global;
 use std::cmp::Ordering;
 

@@ -34,6 +34,6 @@ pub use rep_octets::{
     read_client, read_counted_eight, read_counted_octet, read_eight, read_four, read_octet,
     read_two, write_client,
 };
-pub use rep_op::{ClientId, MAX_CLIENT_ID, MAX_OPERATIONS, Op, OpsFault, Put, Stamp};
+pub use rep_op::{ClientId, MAX_OPERATIONS, Op, OpsFault, Put, Stamp};
 pub use size::MAX_OCTETS;
 pub use split::deltas_of;

@@ -6,8 +6,8 @@ mod grammar;
 
 use clap::{ArgMatches, Error};
 use grammar::command_line;
-use octets::read_u16;
-use sn_frame::{MAX_CLIENT_ID, Qos};
+use octets::{MAX_CLIENT_ID, read_u16};
+use sn_frame::Qos;
 use sn_topic::{Filter, TopicFault, TopicName};
 use std::alloc::{AllocError, Global};
 use std::net::SocketAddr;

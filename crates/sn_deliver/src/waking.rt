@@ -4,7 +4,7 @@
 ghost use Rattle.std.specs.Prelude.{◌≡◌, ◌≤◌, length, IfOk, OnOk};
 ghost use Rattle.std.specs.Option.{option_copied};
 ghost use Rattle.rep_model.specs.Views.{view};
-ghost use Rattle.sn_frame.specs.declared.frame.TheConstants.{MAX_CLIENT_ID};
+ghost use Rattle.octets.specs.declared.client_id.TheConstants.{MAX_CLIENT_ID};
 ghost use Rattle.sn_local.specs.Seen.{seen_of};
 ghost use Rattle.sn_plan.specs.declared.row.Follow.TheVariants.{Delivery};
 ghost use Rattle.sn_plan.specs.Rows.{row_of};

@@ -3,9 +3,6 @@
 use crate::flags::Flags;
 use octets::Octets;
 
-/// The most octets of a client's id (MQTT-SN 1.2 section 5.3.1).
-pub const MAX_CLIENT_ID: usize = 23;
-
 /// The most octets of a frame: more cannot be said by Length (section 5.2.1).
 pub const MAX_FRAME: usize = 65_535;
 

@@ -24,6 +24,6 @@ pub use decoder::decode;
 pub use encoder::encode;
 pub use fault::{EncodeFault, FrameFault};
 pub use flags::{Flags, Qos, TopicIdType};
-pub use frame::{Frame, MAX_CLIENT_ID, MAX_FRAME, Will};
+pub use frame::{Frame, MAX_FRAME, Will};
 pub use laws::{one_fault, one_meaning};
 pub use msg_type::MsgType;

@@ -6,8 +6,8 @@ ghost use Rattle.sn_topic.specs.Table as topics;
 ghost use Rattle.rep_octets.specs.Reading.{Gives, octet_at, octets_at, number_at, ranged, client_at, topic_at, body_at};
 ghost use Rattle.rep_octets.specs.Reading as spec;
 
-use octets::{Octets, read_u16, read_u32, read_u64};
-use rep_op::{ClientId, MAX_CLIENT_ID, OpsFault};
+use octets::{MAX_CLIENT_ID, Octets, read_u16, read_u32, read_u64};
+use rep_op::{ClientId, OpsFault};
 use sn_session::{MAX_MESSAGE, Message};
 use sn_topic::{MAX_TOPIC, TopicName, is_topic_id};
 use std::alloc::Global;

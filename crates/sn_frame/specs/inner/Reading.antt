@@ -9,7 +9,7 @@ use Rattle.sn_frame.specs.declared.flags.TopicIdType.TheVariants as kinds
 use Rattle.sn_frame.specs.declared.frame.Frame.{Frame}
 use Rattle.sn_frame.specs.declared.frame.Frame.TheVariants as frames
 use Rattle.sn_frame.specs.declared.frame.Will.{Will}
-use Rattle.sn_frame.specs.declared.frame.TheConstants.{MAX_CLIENT_ID}
+use Rattle.octets.specs.declared.client_id.TheConstants.{MAX_CLIENT_ID}
 use Rattle.sn_frame.specs.declared.msg_type.MsgType.{MsgType}
 use Rattle.sn_frame.specs.declared.msg_type.MsgType.TheVariants as types
 use Rattle.sn_frame.specs.FlagBits.{kind_of}

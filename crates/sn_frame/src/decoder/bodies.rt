@@ -5,8 +5,8 @@ ghost use Rattle.sn_frame.specs.inner.Reading.{Gives, WantsNone, read_advertise,
 use crate::decoder::parts::number;
 use crate::fault::FrameFault;
 use crate::flags::Flags;
-use crate::frame::{Frame, MAX_CLIENT_ID};
-use octets::Octets;
+use crate::frame::Frame;
+use octets::{MAX_CLIENT_ID, Octets};
 use std::alloc::Global;
 
 /// ADVERTISE.

@@ -11,7 +11,8 @@ use crate::encoder::parts::{
     advertise, connect, ids, ids_and_code, octets_of, publish, sub_ack, subscription,
 };
 use crate::fault::EncodeFault;
-use crate::frame::{Frame, MAX_CLIENT_ID};
+use crate::frame::Frame;
+use octets::MAX_CLIENT_ID;
 
 /// Whether the frame's parts have sizes that its message allows.
 pub(super) fn is_message(frame: &Frame) -> bool
