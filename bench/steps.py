@@ -5,8 +5,8 @@ Usage: bench/steps.py PROGRAM [--clients N] [--waiting N] [--past N] [--sleepers
                       [--instructions]
        (gw_sim; 1024, 1024, 100000, 1000, 100000 and 0.3 where nothing is said; WORD is one of idle, waits, past, tick, spread, opening)
 
-A script that builds up is played without and with the events that are measured, in turn, five times; the best times count, and what
-building up takes is taken off. As many events are played as take S seconds, and as long as building up takes, where they change nothing
+A script that builds up is played without and with the events that are measured, in turn, five times, or nine where building up takes far longer than
+what is measured; the best times count, and what building up takes is taken off. As many events are played as take S seconds, and as long as building up takes, where they change nothing
 that they depend on: else a figure would be a small part of the difference of two long runs. Processor time is counted, and not the
 time that passes. A figure has the reading of its line and the printing of its answer in it: what these
 take is about what a SEARCHGW takes, which is told first.
@@ -228,8 +228,8 @@ def bench_idle(bench: Bench, asked: argparse.Namespace) -> None:
     both = [idle(10), idle(asked.clients)]
     told(bench, "PINGREQ", few, many, bench.repeated(both, at(FIRST, 1, PING), ponged(FIRST)), 1.5)
     told(bench, "PUBLISH at 1 that nobody subscribes to", few, many, bench.repeated(both, publish(FIRST, NOBODY, 1, 0), accepted(FIRST)), 1.5)
-    cases = [Case(others(sleepers(9), 10, clients), to_each(9, 100), "delta ") for clients in (10, asked.clients)]
-    told(bench, "PUBLISH at 1 to one sleeper", few, many, bench.fixed(cases), 1.5)
+    cases = [Case(others(sleepers(9), 10, clients), to_each(9, 800), "delta ") for clients in (10, asked.clients)]
+    told(bench, "PUBLISH at 1 to one sleeper", few, many, bench.fixed(cases, 9), 1.5)
 
 
 def bench_waits(bench: Bench, asked: argparse.Namespace) -> None:
@@ -244,15 +244,16 @@ def bench_waits(bench: Bench, asked: argparse.Namespace) -> None:
     forty, more = sleepers(40), 100
     behind = [forty, forty + to_each(40, max(asked.waiting - more, 0))]
     told(bench, "PUBLISH to the client, up to that many", few, many, bench.fixed([Case(setup, to_each(40, more), "delta ") for setup in behind], 7), 2)
-    acks = [puback(FIRST, topic_of(0), message) for message in range(more)]
-    cases = [Case(awake(count), acks, "delta ") for count in (more + 1, asked.waiting)]
-    told(bench, "PUBACK, and the next message is sent", f"up to {more + 1}", many, bench.fixed(cases), 2)
+    ten = 10
+    acks = [puback(FIRST + client, topic_of(client), message) for message in range(more) for client in range(ten)]
+    cases = [Case(awake(ten, count), acks, "delta ") for count in (more + 1, asked.waiting)]
+    told(bench, "PUBACK, and the next message is sent", f"up to {more + 1}", many, bench.fixed(cases, 9), 2)
 
 
-def awake(waiting: int) -> list:
-    """A client that stays connected, with so many messages of another; the first of them is sent when it is heard of again."""
-    one = [connect(0, FIRST), subscribe(FIRST, topic_of(0), 1)] + publisher(1)
-    return one + to_each(1, waiting) + [at(FIRST, 1, PING)]
+def awake(clients: int, waiting: int) -> list:
+    """So many clients that stay connected, each with so many messages of another; the first of them is sent when it is heard of again."""
+    each = [line for client in range(clients) for line in (connect(client, FIRST + client), subscribe(FIRST + client, topic_of(client), 1))]
+    return each + publisher(clients) + to_each(clients, waiting) + [at(FIRST + client, 1, PING) for client in range(clients)]
 
 
 def handed_over(first: int, count: int) -> list:
@@ -270,9 +271,9 @@ def bench_past(bench: Bench, asked: argparse.Namespace) -> None:
     both = [begun, begun + handed_over(0, asked.past) + [puback(FIRST, b"ab", asked.past - 1)]]
     told(bench, "PINGREQ", few, many, bench.repeated(both, at(FIRST, 1, PING), ponged(FIRST)), 1.1)
     told(bench, "PUBLISH at 1 that nobody subscribes to", few, many, bench.repeated(both, publish(FIRST, NOBODY, 1, 0), accepted(FIRST)), 1.1)
-    count = max(asked.past // 4, 1)
+    count = max(asked.past // 2, 1)
     cases = [Case(begun + handed_over(0, first), handed_over(first, count), "delta ") for first in (2, asked.past)]
-    told(bench, "PUBLISH at 1 to oneself, and PUBACK", few, many, bench.fixed(cases), 1.1)
+    told(bench, "PUBLISH at 1 to oneself, and PUBACK", few, many, bench.fixed(cases, 9), 1.1)
 
 
 def bench_tick(bench: Bench, asked: argparse.Namespace) -> None:

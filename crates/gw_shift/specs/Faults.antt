@@ -1,9 +1,15 @@
--- Why a call has no answer, and why a shift is not closed, by number.
+-- Why a shift is not opened, why a call has no answer, and why a shift is not closed, by number.
 use Rattle.std.specs.Prelude.{ℕ}
+use Rattle.gw_shift.specs.declared.fault.ShiftFault.{ShiftFault}
+use Rattle.gw_shift.specs.declared.fault.ShiftFault.TheVariants as opens
 use Rattle.gw_shift.specs.declared.fault.CallFault.{CallFault}
 use Rattle.gw_shift.specs.declared.fault.CallFault.TheVariants as calls
 use Rattle.gw_shift.specs.declared.fault.CloseFault.{CloseFault}
 use Rattle.gw_shift.specs.declared.fault.CloseFault.TheVariants as closes
+
+-- the number of an opening's fault
+abbrev pub open_number : ShiftFault → ℕ
+open_number opens.Memory = 6
 
 -- the number of a call's fault
 abbrev pub call_number : CallFault → ℕ

@@ -1,18 +1,12 @@
 //! What there is to show.
 
 use crate::stop::Stop;
-use jr_journal::{JournalFault, Slot};
+use jr_journal::{HEADER, JournalFault, SEAL, Slot};
 use jr_read::{Misfit, Reading, generation, owner, read, take_all};
 use rep_model::{Replica, TakeFault};
 use rep_ops::Delta;
 use rep_state::Folded;
 use std::alloc::Global;
-
-/// The octets of a journal that was begun and has no record.
-const BEGUN: usize = 14;
-
-/// The octet that is a seal.
-const SEAL: u8 = 0x53;
 
 /// Why an opening would refuse.
 #[derive(Drop)]
@@ -174,7 +168,7 @@ fn find_end(seen: &mut Findings, reading: &Reading) {
         Slot::First => seen.first,
         Slot::Second => seen.second,
     };
-    if seen.second == 0 && seen.first < BEGUN {
+    if seen.second == 0 && seen.first <= HEADER {
         seen.is_fresh = true;
     } else if reading.whole < size {
         seen.torn = Some(Torn {
