@@ -66,6 +66,25 @@ def idle(clients: int) -> list:
     return [connect(client, FIRST + client) for client in range(clients)]
 
 
+def own_topic(client: int) -> tuple:
+    """A short topic name of the client's own, and the flags of a SUBSCRIBE by it."""
+    return bytes([65 + client // 32 % 32, 65 + client % 32]), 0x22
+
+
+def own_level(client: int) -> tuple:
+    """A filter that ends in a wildcard, and the flags of a SUBSCRIBE by it."""
+    return own_topic(client)[0] + b"/#", 0x20
+
+
+def listening(clients: int, filter_of) -> list:
+    """Clients that subscribe at quality of service 1, each to a filter of its own."""
+    lines = idle(clients)
+    for client in range(clients):
+        words, flags = filter_of(client)
+        lines.append(at(FIRST + client, 0, frame(0x12, bytes([flags, 0, 1]) + words)))
+    return lines
+
+
 def sleeper(client: int, topic: bytes) -> list:
     """A client that subscribes at quality of service 1 and falls asleep for good."""
     port = FIRST + client
@@ -184,16 +203,17 @@ def rate(bench: Bench, what: str, figure: float, count: int, unit: str) -> None:
 
 
 def told(bench: Bench, what: str, few: str, many: str, figures: list, goal: float, free: float = 0.0) -> None:
-    """A ratio and its goal; what takes fewer microseconds than `free` meets it, too."""
+    """A ratio and its goal, if there is one; what takes fewer microseconds than `free` meets it, too."""
     free = free if bench.unit == "us" else 0
     one, other = (f"{figure:,.{bench.places}f} {bench.unit}" for figure in figures)
     words = f"  {what}: {few} {one}, {many} {other}"
-    wanted = f"goal {goal}" + (f" or under {free:g} us" if free else "")
+    wanted = (f"goal {goal}" if goal else "no goal") + (f" or under {free:g} us" if free else "")
     if min(figures) <= 0:
         print(f"{words}, {wanted}: {LOST}", flush=True)
         return
     ratio = figures[1] / figures[0]
-    print(f"{words}, ratio {ratio:.2f}, {wanted}: {'met' if ratio <= goal or figures[1] < free else 'MISSED'}", flush=True)
+    judged = "" if not goal else ": met" if ratio <= goal or figures[1] < free else ": MISSED"
+    print(f"{words}, ratio {ratio:.2f}, {wanted}{judged}", flush=True)
 
 
 def sleepers(count: int) -> list:
@@ -230,6 +250,14 @@ def bench_idle(bench: Bench, asked: argparse.Namespace) -> None:
     told(bench, "PUBLISH at 1 that nobody subscribes to", few, many, bench.repeated(both, publish(FIRST, NOBODY, 1, 0), accepted(FIRST)), 1.5)
     cases = [Case(others(sleepers(9), 10, clients), to_each(9, 800), "delta ") for clients in (10, asked.clients)]
     told(bench, "PUBLISH at 1 to one sleeper", few, many, bench.fixed(cases, 9), 1.5)
+    nobody = publish(FIRST, NOBODY, 1, 0)
+    both = [listening(10, own_topic), listening(asked.clients, own_topic)]
+    told(bench, "PUBLISH at 1 that nobody subscribes to, each with a topic of its own", few, many, bench.repeated(both, nobody, accepted(FIRST)), 0)
+    both = [listening(10, own_level), listening(asked.clients, own_level)]
+    told(bench, "the same, each with a filter that has a wildcard", few, many, bench.repeated(both, nobody, accepted(FIRST)), 0)
+    both = [idle(10), idle(asked.clients)]
+    again = [connect(0, FIRST) for _ in range(2000)]
+    told(bench, "CONNECT of a client that is connected", few, many, bench.fixed([Case(setup, again, "delta ") for setup in both]), 0)
 
 
 def bench_waits(bench: Bench, asked: argparse.Namespace) -> None:
@@ -271,7 +299,7 @@ def bench_past(bench: Bench, asked: argparse.Namespace) -> None:
     both = [begun, begun + handed_over(0, asked.past) + [puback(FIRST, b"ab", asked.past - 1)]]
     told(bench, "PINGREQ", few, many, bench.repeated(both, at(FIRST, 1, PING), ponged(FIRST)), 1.1)
     told(bench, "PUBLISH at 1 that nobody subscribes to", few, many, bench.repeated(both, publish(FIRST, NOBODY, 1, 0), accepted(FIRST)), 1.1)
-    count = max(asked.past // 2, 1)
+    count = max(asked.past, 1)
     cases = [Case(begun + handed_over(0, first), handed_over(first, count), "delta ") for first in (2, asked.past)]
     told(bench, "PUBLISH at 1 to oneself, and PUBACK", few, many, bench.fixed(cases, 9), 1.1)
 
@@ -280,6 +308,11 @@ def bench_tick(bench: Bench, asked: argparse.Namespace) -> None:
     both = [idle(10), idle(asked.clients)]
     told(bench, "a tick with nothing due", "at 10 clients", f"at {asked.clients:,}", bench.repeated(both, "tick 1 1", "quiet"), 1.5, 1.0)
     print("  (`tick 1 1` again and again: the first looks ten seconds ahead, at each client; the others are what is remembered of it)", flush=True)
+    turns, pairs = 500, []
+    for setup in both:
+        without = bench.fixed([Case(setup, [at(FIRST, 1, PING)] * turns, ponged(FIRST))])[0]
+        pairs.append(bench.fixed([Case(setup, [at(FIRST, 1, PING), "tick 1 1"] * turns, "quiet")])[0] * 2 - without)
+    told(bench, "a tick behind each PINGREQ, which forgets what was remembered", "at 10 clients", f"at {asked.clients:,}", pairs, 0)
 
 
 def bench_spread(bench: Bench, asked: argparse.Namespace) -> None:
