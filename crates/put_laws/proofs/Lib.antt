@@ -1,2 +1,3 @@
 mod Examples
+pub mod Recipients
 pub mod Putting

@@ -1,11 +1,11 @@
 -- A PUBLISH makes the messages of its recipients, and a message that a step makes waits.
-use Rattle.std.proofs.Common.{◌≡◌, ℕ, Bool, true, false, ◌||◌, cond, not, if◌then◌else◌, List, [], ◌++◌, Option, Some, None, refl, sym, ap, ◌∙◌, subst}
+use Rattle.std.proofs.Common.{◌≡◌, ℕ, Bool, true, false, ◌||◌, cond, not, if◌then◌else◌, List, [], ◌++◌, Option, Some, None, refl, sym, ap, ◌∙◌, subst, inl, inr}
 use Rattle.std.specs.List.{AllByRecursion}
+use Rattle.std.proofs.lemmas.Option.{same_Some}
 use Rattle.sn_topic.specs.Table.{Entries}
 use Rattle.sn_session.specs.declared.session.Session.{Session}
 use Rattle.sn_session.specs.Session.{empty_session}
 use Rattle.sn_tables.specs.Received.{is_received, id_has_no_room}
-use Rattle.sn_frame.specs.declared.flags.Flags.{Flags}
 use Rattle.sn_frame.specs.declared.flags.Qos.{Qos}
 use Rattle.sn_frame.specs.declared.flags.Qos.TheVariants as levels
 use Rattle.sn_frame.specs.declared.frame.Frame.{Frame}
@@ -16,39 +16,38 @@ use Rattle.rep_op.specs.declared.op.Op.TheVariants.{Session as OfSession, Put as
 use Rattle.rep_op.specs.Sets.{put_at, Stands}
 use Rattle.rep_model.proofs.Thin.{pending_at-reads}
 use Rattle.sn_local.specs.declared.config.Addr.{Addr}
-use Rattle.sn_local.specs.declared.local.Timer.{Timer}
-use Rattle.sn_local.specs.declared.local.WillDialog.{WillDialog}
 use Rattle.sn_local.specs.Bindings.{client_at}
 use Rattle.sn_local.specs.Locals.{Local}
 use Rattle.sn_local.specs.Seen.{Seen, seen_of}
 use Rattle.sn_plan.specs.declared.draft.NewPut.{NewPut}
 use Rattle.sn_plan.specs.declared.plan.Plan.{Plan}
-use Rattle.sn_plan.specs.declared.row.Follow.{Follow}
+use Rattle.sn_plan.specs.declared.row.Follow.TheVariants as follows
 use Rattle.sn_plan.specs.declared.row.Row.{Row}
 use Rattle.sn_plan.specs.Bound.{session_of}
-use Rattle.sn_plan.specs.Drafts.{Drafted, nothing}
+use Rattle.sn_plan.specs.Drafts.{Drafted}
 use Rattle.sn_plan.specs.Flush.{AreFlush}
 use Rattle.sn_plan.specs.Numbering.{planned}
 use Rattle.sn_plan.specs.Own.{IsOneEach, IsOfDraft, messages}
-use Rattle.sn_plan.specs.Plans.{plan_of, plan_without}
-use Rattle.sn_plan.specs.Rows.{plan_for}
+use Rattle.sn_plan.specs.Plans.{plan_without}
+use Rattle.sn_plan.specs.Rows.{plan_for, row_of}
 use Rattle.sn_plan.proofs.Lists.{all-weaken}
 use Rattle.sn_plan.proofs.Standing.{fresh-stand}
 use Rattle.sn_publish.specs.declared.meaning.Meant.{Meant}
 use Rattle.sn_publish.specs.declared.meaning.Meant.TheVariants.{Topic, Refused}
 use Rattle.sn_publish.specs.Publishing.{publication_meant, publish_meant, spread_meant}
 use Rattle.sn_publish.specs.Recipients.{puts_for}
-use Rattle.sn_exchange.specs.Following.{peer_at, followed_for, deliver_next}
+use Rattle.sn_exchange.specs.Following.{followed_for, deliver_next}
 use Rattle.sn_deliver.specs.Serving.{publish_of, publish_in_at}
 use Rattle.sn_deliver.specs.Steps.{row_for, step}
-use Rattle.sn_tick.specs.declared.due.Due.TheVariants.{Loss}
+use Rattle.sn_tick.specs.declared.due.Due.{Due}
+use Rattle.sn_tick.specs.declared.due.Due.TheVariants.{Loss, Retry, Delivery}
 use Rattle.sn_tick.specs.Due.{first_due}
-use Rattle.sn_tick.specs.Ticking.{is_old, dialog_ended, dialogs_ended, needs_timer, timer_begun, cleaned, may_advertise, advertised, will_puts, lost, plan_if_due, tick}
+use Rattle.sn_tick.specs.Ticking.{cleaned, may_advertise, advertised, will_puts, lost, retried, plan_due, plan_if_due, tick}
+use Rattle.row_laws.proofs.Drafting.{connect-puts, disconnect-puts, will_topic-puts, will_msg-puts, will_topic_update-puts, will_msg_update-puts, register-puts, subscribe-puts, unsubscribe-puts, other-puts}
 use Rattle.row_laws.proofs.Freshness.{plan-fresh}
 use Rattle.row_laws.proofs.Waiting.{plan-messages}
-use Rattle.step_laws.proofs.Drafting.{followed_by_puts, step-drafted, tick-drafted}
-use Rattle.step_laws.proofs.Keeping.{fold_keeps}
-use Rattle.put_laws.specs.Puts.{puts_meant, puts_new, puts_at, puts_bound, puts_by_level, puts_by, IsKept}
+use Rattle.step_laws.proofs.Drafting.{followed_for_puts, pubrel_of_puts, ack_of_puts, wake_puts, cleaned_puts, step-drafted, tick-drafted}
+use Rattle.put_laws.specs.Puts.{puts_meant, puts_at, puts_bound, puts_by_level, puts_of, puts_lost, puts_due, puts_by_tick, IsOfGateway, IsKept}
 
 -- ---- the row of a PUBLISH
 
@@ -88,6 +87,27 @@ module _ (predefined : Entries) (seen : Seen) (local : Local) (a : Addr) (bits t
   level-puts levels.One = bound-puts (client_at a local.bindings)
   level-puts levels.Two = bound-puts (client_at a local.bindings)
 
+-- ---- every row
+
+pub row-puts : (g : ℕ) (predefined : Entries) (seen : Seen) (local : Local) (a : Addr) (frame : Frame) (now : ℕ) → (row_for g predefined seen local a frame now).draft.puts ≡ puts_of predefined seen local a frame
+row-puts g predefined seen local a (frames.Connect flags protocol duration client) now = connect-puts seen local a flags.bits protocol duration client now
+row-puts g predefined seen local a (frames.WillTopic will) now = will_topic-puts seen a now local will
+row-puts g predefined seen local a (frames.WillMsg message) now = will_msg-puts seen a now local message
+row-puts g predefined seen local a (frames.Disconnect duration) now = disconnect-puts seen local a duration now
+row-puts g predefined seen local a (frames.Register topic_id msg_id name) now = register-puts seen a now local msg_id name
+row-puts g predefined seen local a (frames.Subscribe flags msg_id topic) now = subscribe-puts seen a now predefined local flags.bits msg_id topic
+row-puts g predefined seen local a (frames.Unsubscribe flags msg_id topic) now = unsubscribe-puts seen a now predefined local flags.bits msg_id topic
+row-puts g predefined seen local a (frames.WillTopicUpd will) now = will_topic_update-puts local a will now
+row-puts g predefined seen local a (frames.WillMsgUpd message) now = will_msg_update-puts seen a now local message
+row-puts g predefined seen local a (frames.Publish flags topic msg_id body) now = level-puts predefined seen local a flags.bits topic msg_id body now (qos_of flags.bits)
+row-puts g predefined seen local a (frames.PubRel msg_id) now = pubrel_of_puts seen a (client_at a local.bindings) msg_id now
+row-puts g predefined seen local a (frames.PubAck topic_id msg_id code) now = ack_of_puts predefined seen a (client_at a local.bindings) (frames.PubAck topic_id msg_id code) now
+row-puts g predefined seen local a (frames.PubRec msg_id) now = ack_of_puts predefined seen a (client_at a local.bindings) (frames.PubRec msg_id) now
+row-puts g predefined seen local a (frames.PubComp msg_id) now = ack_of_puts predefined seen a (client_at a local.bindings) (frames.PubComp msg_id) now
+row-puts g predefined seen local a (frames.RegAck topic_id msg_id code) now = ack_of_puts predefined seen a (client_at a local.bindings) (frames.RegAck topic_id msg_id code) now
+row-puts g predefined seen local a (frames.PingReq client) now = wake_puts g seen local a client now
+row-puts g predefined seen local a frame now = other-puts g local a frame now
+
 -- ---- what a plan makes
 
 module _ (g : ℕ) (seen : Seen) where
@@ -96,82 +116,63 @@ module _ (g : ℕ) (seen : Seen) where
   for-messages d None plan is = plan-messages g [] seen (record { changes = []; acks = []; puts = d.puts; sends = d.sends; local = d.local }) plan is
   for-messages d (Some c) plan is = plan-messages g c seen d plan is
 
-  module _ (predefined : Entries) (a : Addr) (now : ℕ) where
-    followed-puts : (d : Drafted) (follow : Follow) (client : Option (List ℕ)) → (followed_for predefined seen a now d follow client).puts ≡ d.puts
-    followed-puts d follow None = refl
-    followed-puts d follow (Some c) = followed_by_puts predefined (peer_at a c now) (session_of seen c) (seen.of c).pending d follow
+  next-messages : (predefined : Entries) (a : Addr) (now : ℕ) (row : Row) (plan : Plan) → deliver_next g predefined seen a now row ≡ Some plan → messages plan.ops ≡ row.draft.puts
+  next-messages predefined a now row plan is =
+      for-messages (followed_for predefined seen a now row.draft row.follow row.client) row.client plan is
+      ∙ followed_for_puts predefined seen a now row.draft row.follow row.client
 
-    next-messages : (row : Row) (plan : Plan) → deliver_next g predefined seen a now row ≡ Some plan → messages plan.ops ≡ row.draft.puts
-    next-messages row plan is =
-        for-messages (followed_for predefined seen a now row.draft row.follow row.client) row.client plan is
-        ∙ followed-puts row.draft row.follow row.client
-
-pub publication-put : (g : ℕ) (predefined : Entries) (seen : Seen) (local : Local) (a : Addr) (flags : Flags) (topic msg_id : ℕ) (body : List ℕ) (now : ℕ) (plan : Plan)
-    → step g predefined seen local a (frames.Publish flags topic msg_id body) now ≡ Some plan → messages plan.ops ≡ puts_by predefined seen local a flags.bits topic msg_id body
+pub step-messages : (g : ℕ) (predefined : Entries) (seen : Seen) (local : Local) (a : Addr) (frame : Frame) (now : ℕ) (plan : Plan)
+    → step g predefined seen local a frame now ≡ Some plan → messages plan.ops ≡ puts_of predefined seen local a frame
 unfolding step
-publication-put g predefined seen local a flags topic msg_id body now plan is =
-    next-messages g seen predefined a now (row_for g predefined seen local a (frames.Publish flags topic msg_id body) now) plan is
-    ∙ level-puts predefined seen local a flags.bits topic msg_id body now (qos_of flags.bits)
+step-messages g predefined seen local a frame now plan is =
+    next-messages g seen predefined a now (row_for g predefined seen local a frame now) plan is
+    ∙ row-puts g predefined seen local a frame now
 
--- ---- a will
+-- ---- a tick
 
-same_either : (b : Bool) (x y d : Drafted) → x.puts ≡ d.puts → y.puts ≡ d.puts → (if b then x else y).puts ≡ d.puts
-same_either true x y d h k = h
-same_either false x y d h k = k
+module _ (g : ℕ) (predefined : Entries) (seen : Seen) (now : ℕ) (plan : Plan) (d : Drafted) (none : d.puts ≡ []) where
+  lost-messages : (c : List ℕ) (due : Due) → plan_due g predefined seen now d c due ≡ Some plan → messages plan.ops ≡ puts_lost seen c due
+  lost-messages c Loss is =
+      plan-messages g c seen (lost seen c (session_of seen c) d) plan is
+      ∙ ap (λ (puts : List NewPut). puts ++ will_puts seen c (session_of seen c).will) none
+  lost-messages c (Retry a) is = next-messages g seen predefined a now (retried now d c) plan is ∙ none
+  lost-messages c (Delivery a) is = next-messages g seen predefined a now (row_of follows.Delivery c d) plan is ∙ none
 
-ended-same : (now : ℕ) (d : Drafted) (dialog : WillDialog) → (dialog_ended now d dialog).puts ≡ d.puts
-ended-same now d dialog = same_either (is_old now dialog) _ d d refl refl
+  due-messages : (found : Option (List ℕ × Due)) → plan_if_due g predefined seen now d found ≡ Some plan → messages plan.ops ≡ puts_due seen found
+  due-messages None is = ap (λ (p : Plan). messages p.ops) (sym (same_Some (plan_without d) plan is))
+  due-messages (Some found) is = lost-messages found.0 found.1 is
 
-begun-same : (g : ℕ) (seen : Seen) (timers : List Timer) (now : ℕ) (d : Drafted) (c : List ℕ) → (timer_begun g seen timers now d c).puts ≡ d.puts
-begun-same g seen timers now d c = same_either (needs_timer g timers c (seen.of c)) _ d d refl refl
+  either-messages : (b : Bool) (told : Drafted) (found : Option (List ℕ × Due)) → (if b then Some (plan_without told) else plan_if_due g predefined seen now d found) ≡ Some plan
+      → messages plan.ops ≡ (if b then [] else puts_due seen found)
+  either-messages true told found is = ap (λ (p : Plan). messages p.ops) (sym (same_Some (plan_without told) plan is))
+  either-messages false told found is = due-messages found is
 
-cleaned-none : (g : ℕ) (seen : Seen) (local : Local) (now : ℕ) → (cleaned g seen local now).puts ≡ []
-cleaned-none g seen local now =
-    fold_keeps (timer_begun g seen local.timers now) (λ d. d.puts) (begun-same g seen local.timers now) seen.all (dialogs_ended now local.dialogs nothing)
-    ∙ fold_keeps (dialog_ended now) (λ d. d.puts) (ended-same now) local.dialogs nothing
-
-pub will-put : (g advertise : ℕ) (field : List Addr) (predefined : Entries) (seen : Seen) (local : Local) (now : ℕ) (plan : Plan) (c : List ℕ)
-    → tick g advertise field predefined seen local now ≡ Some plan → may_advertise advertise field now local.advertised ≡ false → first_due g seen local now seen.all ≡ Some (c, Loss)
-    → messages plan.ops ≡ will_puts seen c (session_of seen c).will
-will-put g advertise field predefined seen local now plan c is quiet due =
+pub tick-messages : (g advertise : ℕ) (field : List Addr) (predefined : Entries) (seen : Seen) (local : Local) (now : ℕ) (plan : Plan)
+    → tick g advertise field predefined seen local now ≡ Some plan → messages plan.ops ≡ puts_by_tick g advertise field seen local now
+tick-messages g advertise field predefined seen local now plan is =
     let d : Drafted = cleaned g seen local now in
-    let told : Option Plan = Some (plan_without (advertised g advertise field now d)) in
-    let gone : Drafted = lost seen c (session_of seen c) d in
-    let lost-is : plan_of g c seen gone ≡ Some plan =
-        sym (ap (λ b. if b then told else plan_if_due g predefined seen now d (first_due g seen local now seen.all)) quiet
-        ∙ ap (λ found. plan_if_due g predefined seen now d found) due)
-        ∙ is in
-    plan-messages g c seen gone plan lost-is
-    ∙ ap (λ (puts : List NewPut). puts ++ will_puts seen c (session_of seen c).will) (cleaned-none g seen local now)
+    either-messages g predefined seen now plan d (cleaned_puts g seen local now) (may_advertise advertise field now local.advertised)
+    (advertised g advertise field now d) (first_due g seen local now seen.all) is
 
 -- ---- every message that is made waits
 
-pub draft-once : (g : ℕ) (seen : Seen) (plan : Plan) → IsOfDraft g seen plan → IsOneEach (messages plan.ops)
-draft-once g seen plan h = subst IsOneEach (sym (plan-messages g h.client seen h.draft plan h.is)) h.one_each
+of-draft : (g : ℕ) (S : List Op) (plan : Plan) → IsOfGateway g S plan → IsOfDraft g (seen_of S) plan
+of-draft g S plan (inl (predefined, local, a, frame, now, is)) = step-drafted g predefined S local a frame now plan is
+of-draft g S plan (inr (advertise, field, predefined, local, now, is)) = tick-drafted g advertise field predefined S local now plan is
+
+pub gateway-once : (g : ℕ) (S : List Op) (plan : Plan) → IsOfGateway g S plan → IsOneEach (messages plan.ops)
+gateway-once g S plan is =
+    let h = of-draft g S plan is in
+    subst IsOneEach (sym (plan-messages g h.client (seen_of S) h.draft plan h.is)) h.one_each
 
 stands-kept : (S : List Op) (op : Op) → Stands S op → IsKept S op
 stands-kept S (OfSession c stamp counter change) h = tt
-stands-kept S (OfPut c put) h = λ open.
-    pending_at-reads c S (put.seq, put.origin) ∙ (ap (λ b. cond (not b) (put_at c S (put.seq, put.origin)) None) open ∙ h)
+stands-kept S (OfPut c put) h = λ free.
+    pending_at-reads c S (put.seq, put.origin) ∙ (ap (λ b. cond (not b) (put_at c S (put.seq, put.origin)) None) free ∙ h)
 stands-kept S (Ack c origin first last) h = tt
 
-pub draft-kept : (g : ℕ) (S : List Op) (plan : Plan) → AreFlush g S → IsOfDraft g (seen_of S) plan → AllByRecursion (IsKept (S ++ plan.ops)) plan.ops
-draft-kept g S plan flush h =
+pub gateway-kept : (g : ℕ) (S : List Op) (plan : Plan) → IsOfGateway g S plan → AreFlush g S → AllByRecursion (IsKept (S ++ plan.ops)) plan.ops
+gateway-kept g S plan is flush =
+    let h = of-draft g S plan is in
     all-weaken (Stands (S ++ plan.ops)) (IsKept (S ++ plan.ops)) (stands-kept (S ++ plan.ops)) plan.ops
     (fresh-stand S plan.ops (plan-fresh g h.client S h.draft plan h.is (flush h.client) h.one_each))
-
-pub step-once : (g : ℕ) (predefined : Entries) (S : List Op) (local : Local) (a : Addr) (frame : Frame) (now : ℕ) (plan : Plan)
-    → step g predefined (seen_of S) local a frame now ≡ Some plan → IsOneEach (messages plan.ops)
-step-once g predefined S local a frame now plan is = draft-once g (seen_of S) plan (step-drafted g predefined S local a frame now plan is)
-
-pub step-kept : (g : ℕ) (predefined : Entries) (S : List Op) (local : Local) (a : Addr) (frame : Frame) (now : ℕ) (plan : Plan) → AreFlush g S
-    → step g predefined (seen_of S) local a frame now ≡ Some plan → AllByRecursion (IsKept (S ++ plan.ops)) plan.ops
-step-kept g predefined S local a frame now plan flush is = draft-kept g S plan flush (step-drafted g predefined S local a frame now plan is)
-
-pub tick-once : (g advertise : ℕ) (field : List Addr) (predefined : Entries) (S : List Op) (local : Local) (now : ℕ) (plan : Plan)
-    → tick g advertise field predefined (seen_of S) local now ≡ Some plan → IsOneEach (messages plan.ops)
-tick-once g advertise field predefined S local now plan is = draft-once g (seen_of S) plan (tick-drafted g advertise field predefined S local now plan is)
-
-pub tick-kept : (g advertise : ℕ) (field : List Addr) (predefined : Entries) (S : List Op) (local : Local) (now : ℕ) (plan : Plan) → AreFlush g S
-    → tick g advertise field predefined (seen_of S) local now ≡ Some plan → AllByRecursion (IsKept (S ++ plan.ops)) plan.ops
-tick-kept g advertise field predefined S local now plan flush is = draft-kept g S plan flush (tick-drafted g advertise field predefined S local now plan is)

@@ -1,11 +1,13 @@
 -- What a gateway puts for a publication (MQTT-SN 1.2 sections 6.6, 6.8 and 6.10).
-use Rattle.std.specs.Prelude.{◌≡◌, ℕ, false, ◌||◌, if◌then◌else◌, List, [], Option, Some, None}
+use Rattle.std.specs.Prelude.{◌≡◌, ℕ, false, ◌||◌, ◌⊎◌, if◌then◌else◌, List, [], Option, Some, None, Contains}
 use Rattle.sn_topic.specs.Table.{Entries}
 use Rattle.sn_session.specs.declared.session.Session.{Session}
 use Rattle.sn_session.specs.Session.{empty_session}
 use Rattle.sn_tables.specs.Received.{is_received, id_has_no_room}
 use Rattle.sn_frame.specs.declared.flags.Qos.{Qos}
 use Rattle.sn_frame.specs.declared.flags.Qos.TheVariants as levels
+use Rattle.sn_frame.specs.declared.frame.Frame.{Frame}
+use Rattle.sn_frame.specs.declared.frame.Frame.TheVariants as frames
 use Rattle.sn_frame.specs.FlagBits.{qos_of}
 use Rattle.rep_op.specs.declared.op.Op.{Op}
 use Rattle.rep_op.specs.declared.op.Op.TheVariants.{Session as OfSession, Put as OfPut, Ack}
@@ -14,13 +16,26 @@ use Rattle.rep_model.specs.Views.{pending_at}
 use Rattle.sn_local.specs.declared.config.Addr.{Addr}
 use Rattle.sn_local.specs.Bindings.{client_at}
 use Rattle.sn_local.specs.Locals.{Local}
-use Rattle.sn_local.specs.Seen.{Seen}
+use Rattle.sn_local.specs.Seen.{Seen, seen_of}
 use Rattle.sn_plan.specs.declared.draft.NewPut.{NewPut}
+use Rattle.sn_plan.specs.declared.plan.Plan.{Plan}
 use Rattle.sn_plan.specs.Bound.{session_of}
+use Rattle.sn_deliver.specs.Steps.{step}
 use Rattle.sn_publish.specs.declared.meaning.Meant.{Meant}
 use Rattle.sn_publish.specs.declared.meaning.Meant.TheVariants.{Topic, Refused}
 use Rattle.sn_publish.specs.Publishing.{publication_meant}
-use Rattle.sn_publish.specs.Recipients.{puts_for}
+use Rattle.sn_publish.specs.Recipients.{qos_for, puts_for}
+use Rattle.sn_tick.specs.declared.due.Due.{Due}
+use Rattle.sn_tick.specs.declared.due.Due.TheVariants.{Loss, Retry, Delivery}
+use Rattle.sn_tick.specs.Due.{first_due}
+use Rattle.sn_tick.specs.Ticking.{may_advertise, will_puts, tick}
+
+-- the message is that of a publication to this topic, at this quality of service and with this body,
+-- for a client that is its recipient
+abbrev pub IsForRecipient : Seen → List ℕ → ℕ → List ℕ → NewPut → Type 0
+IsForRecipient seen topic qos body p =
+    Contains seen.all p.client × (qos_for topic qos (seen.of p.client) ≡ Some p.qos)
+    × (p.topic ≡ topic) × (p.body ≡ body)
 
 -- a message for each recipient, where the publication is about a topic and not too long
 abbrev pub puts_meant : Seen → ℕ → List ℕ → Meant → List NewPut
@@ -64,6 +79,37 @@ puts_by_level predefined seen bound bits topic msg_id body levels.Two =
 abbrev pub puts_by : Entries → Seen → Local → Addr → ℕ → ℕ → ℕ → List ℕ → List NewPut
 puts_by predefined seen local a bits topic msg_id body =
     puts_by_level predefined seen (client_at a local.bindings) bits topic msg_id body (qos_of bits)
+
+-- the messages that a frame makes: a PUBLISH those of its recipients, and no other frame any
+abbrev pub puts_of : Entries → Seen → Local → Addr → Frame → List NewPut
+puts_of predefined seen local a (frames.Publish flags topic msg_id body) =
+    puts_by predefined seen local a flags.bits topic msg_id body
+puts_of predefined seen local a frame = []
+
+-- the messages that a client makes with which this is due: one that is lost those of its will
+abbrev pub puts_lost : Seen → List ℕ → Due → List NewPut
+puts_lost seen c Loss = will_puts seen c (session_of seen c).will
+puts_lost seen c (Retry a) = []
+puts_lost seen c (Delivery a) = []
+
+abbrev pub puts_due : Seen → Option (List ℕ × Due) → List NewPut
+puts_due seen None = []
+puts_due seen (Some found) = puts_lost seen found.0 found.1
+
+-- the messages that a tick makes: none where ADVERTISE goes out, else those of the first client
+-- with which something is due
+abbrev pub puts_by_tick : ℕ → ℕ → List Addr → Seen → Local → ℕ → List NewPut
+puts_by_tick g advertise field seen local now =
+    if may_advertise advertise field now local.advertised then []
+    else puts_due seen (first_due g seen local now seen.all)
+
+-- the plan is that of a frame, or of a tick, of the gateway g that has taken the set
+abbrev pub IsOfGateway : ℕ → List Op → Plan → Type 0
+IsOfGateway g S plan =
+    ((predefined : Entries) × (local : Local) × (a : Addr) × (frame : Frame) × (now : ℕ)
+    × (step g predefined (seen_of S) local a frame now ≡ Some plan))
+    ⊎ ((advertise : ℕ) × (field : List Addr) × (predefined : Entries) × (local : Local)
+    × (now : ℕ) × (tick g advertise field predefined (seen_of S) local now ≡ Some plan))
 
 -- a message of these operations waits for its client in the set, unless it is acknowledged there
 abbrev pub IsKept : List Op → Op → Type 0

@@ -154,7 +154,7 @@ followed_by_puts predefined peer s pending d follows.Nothing = refl
 followed_by_puts predefined peer s pending d follows.Delivery = deliver_if_puts predefined peer (session_after s d) pending d
 followed_by_puts predefined peer s pending d follows.Resend = resend_puts predefined peer (session_after s d) pending (open_exchange (session_after s d) d.acks pending) d
 
-followed_for_puts : (predefined : Entries) (seen : Seen) (a : Addr) (now : ℕ) (d : Drafted) (follow : Follow) (client : Option (List ℕ)) → SamePuts (followed_for predefined seen a now d follow client) d
+pub followed_for_puts : (predefined : Entries) (seen : Seen) (a : Addr) (now : ℕ) (d : Drafted) (follow : Follow) (client : Option (List ℕ)) → SamePuts (followed_for predefined seen a now d follow client) d
 followed_for_puts predefined seen a now d follow None = refl
 followed_for_puts predefined seen a now d follow (Some c) = followed_by_puts predefined (peer_at a c now) (session_of seen c) (seen.of c).pending d follow
 
@@ -330,11 +330,11 @@ acknowledge_puts predefined peer s pending (frames.PubComp msg_id) = pubcomp_put
 acknowledge_puts predefined peer s pending (frames.RegAck topic_id msg_id code) = regack_puts s code (put_awaiting s pending Registering msg_id)
 acknowledge_puts predefined peer s pending frame = refl
 
-pubrel_of_puts : (seen : Seen) (a : Addr) (bound : Option (List ℕ)) (msg_id now : ℕ) → NoPuts (pubrel_of seen a bound msg_id now).draft
+pub pubrel_of_puts : (seen : Seen) (a : Addr) (bound : Option (List ℕ)) (msg_id now : ℕ) → NoPuts (pubrel_of seen a bound msg_id now).draft
 pubrel_of_puts seen a None msg_id now = refl
 pubrel_of_puts seen a (Some c) msg_id now = changed_puts (release (session_of seen c) msg_id) nothing
 
-ack_of_puts : (predefined : Entries) (seen : Seen) (a : Addr) (bound : Option (List ℕ)) (frame : Frame) (now : ℕ) → NoPuts (ack_of predefined seen a bound frame now).draft
+pub ack_of_puts : (predefined : Entries) (seen : Seen) (a : Addr) (bound : Option (List ℕ)) (frame : Frame) (now : ℕ) → NoPuts (ack_of predefined seen a bound frame now).draft
 ack_of_puts predefined seen a None frame now = refl
 ack_of_puts predefined seen a (Some c) frame now = acknowledge_puts predefined (peer_at a c now) (session_of seen c) (seen.of c).pending frame
 
@@ -365,7 +365,7 @@ heard_none : (bound : Option (List ℕ)) (now : ℕ) (row : Row) → NoPuts row.
 heard_none None now row h = h
 heard_none (Some c) now row h = h
 
-wake_puts : (g : ℕ) (seen : Seen) (local : Local) (a : Addr) (c : List ℕ) (now : ℕ) → NoPuts (wake g seen local a c now).draft
+pub wake_puts : (g : ℕ) (seen : Seen) (local : Local) (a : Addr) (c : List ℕ) (now : ℕ) → NoPuts (wake g seen local a c now).draft
 wake_puts g seen local a c now =
     choose_row (length c == 0) _ _ (wake_of_puts g seen a (client_at a local.bindings) now)
     (heard_none (client_at a local.bindings) now (woken g seen a c now) (woken_if_puts g a c (seen.of c) now (seen.of c).session))
@@ -408,7 +408,7 @@ ended_puts now d dialog = choose_same (nat_le 60 (elapsed now dialog.begun)) _ d
 begun_puts : (g : ℕ) (seen : Seen) (timers : List Timer) (now : ℕ) (d : Drafted) (c : List ℕ) → SamePuts (timer_begun g seen timers now d c) d
 begun_puts g seen timers now d c = choose_same (needs_timer g timers c (seen.of c)) _ d d refl refl
 
-cleaned_puts : (g : ℕ) (seen : Seen) (local : Local) (now : ℕ) → NoPuts (cleaned g seen local now)
+pub cleaned_puts : (g : ℕ) (seen : Seen) (local : Local) (now : ℕ) → NoPuts (cleaned g seen local now)
 cleaned_puts g seen local now =
     fold_keeps (timer_begun g seen local.timers now) (λ d. d.puts) (begun_puts g seen local.timers now) seen.all (dialogs_ended now local.dialogs nothing)
     ∙ fold_keeps (dialog_ended now) (λ d. d.puts) (ended_puts now) local.dialogs nothing
