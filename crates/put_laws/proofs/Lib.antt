@@ -1,3 +1,4 @@
 mod Examples
 pub mod Recipients
 pub mod Putting
+pub mod Saying

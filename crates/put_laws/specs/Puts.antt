@@ -1,5 +1,5 @@
 -- What a gateway puts for a publication (MQTT-SN 1.2 sections 6.6, 6.8 and 6.10).
-use Rattle.std.specs.Prelude.{◌≡◌, ℕ, false, ◌||◌, ◌⊎◌, if◌then◌else◌, List, [], Option, Some, None, Contains}
+use Rattle.std.specs.Prelude.{◌≡◌, ℕ, true, false, ◌||◌, ◌⊎◌, if◌then◌else◌, List, [], Option, Some, None, Contains}
 use Rattle.sn_topic.specs.Table.{Entries}
 use Rattle.sn_session.specs.declared.session.Session.{Session}
 use Rattle.sn_session.specs.Session.{empty_session}
@@ -9,11 +9,13 @@ use Rattle.sn_frame.specs.declared.flags.Qos.TheVariants as levels
 use Rattle.sn_frame.specs.declared.frame.Frame.{Frame}
 use Rattle.sn_frame.specs.declared.frame.Frame.TheVariants as frames
 use Rattle.sn_frame.specs.FlagBits.{qos_of}
+use Rattle.sn_frame.specs.Grammar.{spelling}
 use Rattle.rep_op.specs.declared.op.Op.{Op}
 use Rattle.rep_op.specs.declared.op.Op.TheVariants.{Session as OfSession, Put as OfPut, Ack}
 use Rattle.rep_op.specs.Sets.{is_acknowledged}
 use Rattle.rep_model.specs.Views.{pending_at}
 use Rattle.sn_local.specs.declared.config.Addr.{Addr}
+use Rattle.sn_local.specs.declared.config.Send.{Send}
 use Rattle.sn_local.specs.Bindings.{client_at}
 use Rattle.sn_local.specs.Locals.{Local}
 use Rattle.sn_local.specs.Seen.{Seen, seen_of}
@@ -30,8 +32,8 @@ use Rattle.sn_tick.specs.declared.due.Due.TheVariants.{Loss, Retry, Delivery}
 use Rattle.sn_tick.specs.Due.{first_due}
 use Rattle.sn_tick.specs.Ticking.{may_advertise, will_puts, tick}
 
--- the message is that of a publication to this topic, at this quality of service and with this body,
--- for a client that is its recipient
+-- the message is that of a publication to this topic with this body, which comes at this quality of
+-- service, for a client that is its recipient
 abbrev pub IsForRecipient : Seen → List ℕ → ℕ → List ℕ → NewPut → Type 0
 IsForRecipient seen topic qos body p =
     Contains seen.all p.client × (qos_for topic qos (seen.of p.client) ≡ Some p.qos)
@@ -102,6 +104,24 @@ abbrev pub puts_by_tick : ℕ → ℕ → List Addr → Seen → Local → ℕ �
 puts_by_tick g advertise field seen local now =
     if may_advertise advertise field now local.advertised then []
     else puts_due seen (first_due g seen local now seen.all)
+
+-- this frame goes to the address
+abbrev pub IsAnswered : Addr → Frame → List Send → Type 0
+IsAnswered a answer sends = Contains sends (record { to = a; bytes = spelling answer })
+
+-- the client that is bound to the address publishes to a topic, and these are the messages for the
+-- recipients at this quality of service
+abbrev pub IsPublished : Entries → Seen → Local → Addr → ℕ → ℕ → ℕ → List ℕ → List NewPut → Type 0
+IsPublished predefined seen local a bits topic qos body puts =
+    (c : List ℕ) × (name : List ℕ) × (client_at a local.bindings ≡ Some c)
+    × (publication_meant predefined (session_of seen c) bits topic body ≡ Topic name)
+    × (puts ≡ puts_for seen name qos body)
+
+-- the message id of the client that is bound to the address was received, and is not released
+abbrev pub HasReceived : Seen → Local → Addr → ℕ → Type 0
+HasReceived seen local a msg_id =
+    (c : List ℕ) × (client_at a local.bindings ≡ Some c)
+    × (is_received msg_id (session_of seen c).received ≡ true)
 
 -- the plan is that of a frame, or of a tick, of the gateway g that has taken the set
 abbrev pub IsOfGateway : ℕ → List Op → Plan → Type 0

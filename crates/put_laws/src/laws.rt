@@ -1,9 +1,13 @@
 //! What a gateway puts, and for whom. The function does nothing; its contract is a law.
 
-ghost use Rattle.std.specs.Prelude.{◌≡◌, ℕ, ◌++◌, ◌↔◌, List, Some, Contains};
+ghost use Rattle.std.specs.Prelude.{◌≡◌, ℕ, ◌⊎◌, ◌++◌, ◌↔◌, List, Some, Contains};
 ghost use Rattle.std.specs.List.{AllByRecursion};
 ghost use Rattle.sn_topic.specs.Table.{Entries};
+ghost use Rattle.sn_frame.specs.declared.flags.Flags.{Flags};
+ghost use Rattle.sn_frame.specs.declared.flags.Qos.TheVariants.{One, Two};
 ghost use Rattle.sn_frame.specs.declared.frame.Frame.{Frame};
+ghost use Rattle.sn_frame.specs.declared.frame.Frame.TheVariants as frames;
+ghost use Rattle.sn_frame.specs.FlagBits.{qos_of};
 ghost use Rattle.rep_op.specs.declared.op.Op.{Op};
 ghost use Rattle.sn_local.specs.declared.config.Addr.{Addr};
 ghost use Rattle.sn_local.specs.Locals.{Local};
@@ -15,10 +19,11 @@ ghost use Rattle.sn_plan.specs.Own.{IsOneEach, messages};
 ghost use Rattle.sn_publish.specs.Recipients.{puts_for};
 ghost use Rattle.sn_deliver.specs.Steps.{step};
 ghost use Rattle.sn_tick.specs.Ticking.{tick};
-ghost use Rattle.put_laws.specs.Puts.{IsForRecipient, IsKept, IsOfGateway, puts_by_tick, puts_of};
+ghost use Rattle.put_laws.specs.Puts.{HasReceived, IsAnswered, IsForRecipient, IsKept, IsOfGateway, IsPublished, puts_by_tick, puts_of};
 
 /// What a gateway accepts it puts, once for each recipient, and it waits for them; and it puts
-/// nothing else. A PUBLISH makes the messages of its recipients, a client that is taken for lost
+/// nothing else. PUBACK with code 0, at quality of service 1, means that the message was put; so
+/// does PUBREC, at 2, or that its message id was received before and is not released. A PUBLISH makes the messages of its recipients, a client that is taken for lost
 /// those of its will, and no other frame and no other tick makes any. The messages of a publication
 /// are those for its recipients, each of them, and no others. No step makes two messages
 /// for one client, and every message that a step makes waits for its client behind that step,
@@ -33,6 +38,17 @@ pub fn accepted_is_put()
         (local : Local) (now : ℕ) (plan : Plan)
         → tick g advertise field predefined seen local now ≡ Some plan
         → messages plan.ops ≡ puts_by_tick g advertise field seen local now }
+    ensures puback { (g : ℕ) (predefined : Entries) (seen : Seen) (local : Local) (a : Addr)
+        (flags : Flags) (topic msg_id : ℕ) (body : List ℕ) (now : ℕ) (plan : Plan)
+        → step g predefined seen local a (frames.Publish flags topic msg_id body) now ≡ Some plan
+        → qos_of flags.bits ≡ One → IsAnswered a (frames.PubAck topic msg_id 0) plan.sends
+        → IsPublished predefined seen local a flags.bits topic 1 body (messages plan.ops) }
+    ensures pubrec { (g : ℕ) (predefined : Entries) (seen : Seen) (local : Local) (a : Addr)
+        (flags : Flags) (topic msg_id : ℕ) (body : List ℕ) (now : ℕ) (plan : Plan)
+        → step g predefined seen local a (frames.Publish flags topic msg_id body) now ≡ Some plan
+        → qos_of flags.bits ≡ Two → IsAnswered a (frames.PubRec msg_id) plan.sends
+        → IsPublished predefined seen local a flags.bits topic 2 body (messages plan.ops)
+        ⊎ HasReceived seen local a msg_id }
     ensures recipients { (seen : Seen) (topic : List ℕ) (qos : ℕ) (body : List ℕ) (p : NewPut)
         → Contains (puts_for seen topic qos body) p ↔ IsForRecipient seen topic qos body p }
     ensures once { (g : ℕ) (S : List Op) (plan : Plan) → IsOfGateway g S plan
