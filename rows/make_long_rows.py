@@ -1,5 +1,5 @@
 #!/usr/bin/env python3
-"""Writes the rows that are long because a limit is far away: script and expected output. Two of them take minutes to play, and stand in long/.
+"""Writes the rows that are long because a limit is far away: script and expected output.
 
 Each is counted out here line by line, without a model of the gateway: a row is a list of pairs of a line and what it prints.
 """
@@ -128,7 +128,7 @@ def parked_operations():
         "  sub 742f2b 1",
         "  outbound 1.1 85 registering",
     )
-    row.write("long/limit-of-parked-operations")
+    row.write("limit-of-parked-operations")
 
 
 def subscribed(row, gateway, first, last):
@@ -155,7 +155,7 @@ def size_of_a_delta():
     row.made("frame 1 1 2 07140200026162", "to 1 04150002")
     row.made(publish)
     row.line("frame 1 2 3 0216", "to 2 0217", "to 2 01%04x0c0261620000%s" % (9 + 4096, "61" * 4096), "delta %d" % (row.deltas + 1))
-    row.write("long/limit-of-a-delta")
+    row.write("limit-of-a-delta")
 
 
 if __name__ == "__main__":
