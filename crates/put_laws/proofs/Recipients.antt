@@ -1,14 +1,12 @@
 -- The messages of a publication are those for its recipients.
 use Rattle.std.proofs.Common.{◌≡◌, ℕ, ◌⊎◌, List, [], ◌∷◌, Option, Some, None, option_map, Contains, refl, sym, ap, ◌∙◌, subst, inl, inr}
 use Rattle.std.specs.List.{cons_option}
-use Rattle.std.proofs.lemmas.List.Elements.{All-contains, All-nil, Contains-append_left, Contains-append_right, Contains-append_cases, Contains-push, Contains-push_cases}
+use Rattle.std.proofs.lemmas.List.Elements.{Contains-append_left, Contains-append_right, Contains-append_cases, Contains-push, Contains-push_cases}
 use Rattle.sn_local.specs.Seen.{Seen}
 use Rattle.sn_plan.specs.declared.draft.NewPut.{NewPut}
 use Rattle.sn_publish.specs.Recipients.{qos_for, message_for, puts_among, puts_for}
+use Rattle.cause_laws.proofs.Acked.{none-there}
 use Rattle.put_laws.specs.Puts.{IsForRecipient}
-
-none_there : {X : Type 0} (x : X) → Contains [] x → ⊥
-none_there {X} x there = All-contains (λ (y : X). ⊥) [] x (All-nil (λ (y : X). ⊥)) there
 
 head_there : {X : Type 0} (x : X) (xs : List X) → Contains (x ∷ xs) x
 head_there x xs = Contains-append_left (x ∷ []) xs x (Contains-push [] x)
@@ -19,7 +17,7 @@ behind_there y x xs h = Contains-append_right (y ∷ []) xs x h
 head_or : {X : Type 0} (y x : X) (xs : List X) → Contains (y ∷ xs) x → (y ≡ x) ⊎ Contains xs x
 head_or y x xs h =
     elim (Contains-append_cases (y ∷ []) xs x h) [
-      | inl one ↦ elim (Contains-push_cases [] y x one) [ inl none ↦ absurd (none_there x none) | inr same ↦ inl same ]
+      | inl one ↦ elim (Contains-push_cases [] y x one) [ inl none ↦ absurd (none-there x none) | inr same ↦ inl same ]
       | inr more ↦ inr more
     ]
 
@@ -38,7 +36,7 @@ module _ (seen : Seen) (topic : List ℕ) (qos : ℕ) (body : List ℕ) where
       (head_there (message_for topic body c q) (among rest))
 
   among-has : (cs : List (List ℕ)) (c : List ℕ) (q : ℕ) → Contains cs c → qos_for topic qos (seen.of c) ≡ Some q → Contains (among cs) (message_for topic body c q)
-  among-has [] c q h e = absurd (none_there c h)
+  among-has [] c q h e = absurd (none-there c h)
   among-has (d ∷ rest) c q h e =
       elim (head_or d c rest h) [
         | inl same ↦ subst (λ (x : List ℕ). Contains (among (x ∷ rest)) (message_for topic body c q)) (sym same) (among-head c q rest e)
@@ -52,7 +50,7 @@ module _ (seen : Seen) (topic : List ℕ) (qos : ℕ) (body : List ℕ) where
   for-more d rest p h = (behind_there d p.client rest h.0, h.1, h.2, h.3)
 
   among-only : (cs : List (List ℕ)) (p : NewPut) → Contains (among cs) p → IsFor cs p
-  among-only [] p h = absurd (none_there p h)
+  among-only [] p h = absurd (none-there p h)
   among-only (d ∷ rest) p h =
       elim (qos_for topic qos (seen.of d)) as (λ o. qos_for topic qos (seen.of d) ≡ o → Contains (cons_option (option_map (message_for topic body d) o) (among rest)) p → IsFor (d ∷ rest) p) [
         | None ↦ λ e there. for-more d rest p (among-only rest p there)
