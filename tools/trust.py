@@ -26,7 +26,7 @@ PARTS = [
      "What waits for a client in a set waits in every larger set, until the set has the client's acknowledgement. No step of a "
      "gateway takes a message away but by an acknowledgement that the step itself writes, and it writes none without a cause: the "
      "client begins a clean session or answers for the message, or the message is sent at quality of service 0, or no topic id is "
-     "left for it. What a gateway accepts it puts, once for each recipient, and that waits for it. What waits is what a replica shows "
+     "left for it. What a gateway accepts it puts, in that step one message for each recipient, and that waits. What waits is what a replica shows "
      "of the client.",
      "Nothing here says that a message ever reaches a client: that needs a client that answers, and time.",
      ["rep_model::leaves_only", "rep_model::pending_laws", "rep_model::Replica::kept", "rep_model::Replica::view_of",

@@ -1,4 +1,5 @@
 mod Examples
 pub mod Recipients
 pub mod Putting
+pub mod Waiting
 pub mod Saying

@@ -1,6 +1,5 @@
 -- A PUBLISH makes the messages of its recipients, and a message that a step makes waits.
-use Rattle.std.proofs.Common.{◌≡◌, ℕ, Bool, true, false, ◌||◌, cond, not, if◌then◌else◌, List, [], ◌++◌, Option, Some, None, refl, sym, ap, ◌∙◌, subst, inl, inr}
-use Rattle.std.specs.List.{AllByRecursion}
+use Rattle.std.proofs.Common.{◌≡◌, ℕ, Bool, true, false, ◌||◌, if◌then◌else◌, List, [], ◌++◌, Option, Some, None, refl, sym, ap, ◌∙◌, subst, inl, inr}
 use Rattle.std.proofs.lemmas.Option.{same_Some}
 use Rattle.sn_topic.specs.Table.{Entries}
 use Rattle.sn_session.specs.declared.session.Session.{Session}
@@ -12,9 +11,6 @@ use Rattle.sn_frame.specs.declared.frame.Frame.{Frame}
 use Rattle.sn_frame.specs.declared.frame.Frame.TheVariants as frames
 use Rattle.sn_frame.specs.FlagBits.{qos_of}
 use Rattle.rep_op.specs.declared.op.Op.{Op}
-use Rattle.rep_op.specs.declared.op.Op.TheVariants.{Session as OfSession, Put as OfPut, Ack}
-use Rattle.rep_op.specs.Sets.{put_at, Stands}
-use Rattle.rep_model.proofs.Thin.{pending_at-reads}
 use Rattle.sn_local.specs.declared.config.Addr.{Addr}
 use Rattle.sn_local.specs.Bindings.{client_at}
 use Rattle.sn_local.specs.Locals.{Local}
@@ -25,13 +21,10 @@ use Rattle.sn_plan.specs.declared.row.Follow.TheVariants as follows
 use Rattle.sn_plan.specs.declared.row.Row.{Row}
 use Rattle.sn_plan.specs.Bound.{session_of}
 use Rattle.sn_plan.specs.Drafts.{Drafted}
-use Rattle.sn_plan.specs.Flush.{AreFlush}
 use Rattle.sn_plan.specs.Numbering.{planned}
 use Rattle.sn_plan.specs.Own.{IsOneEach, IsOfDraft, messages}
 use Rattle.sn_plan.specs.Plans.{plan_without}
 use Rattle.sn_plan.specs.Rows.{plan_for, row_of}
-use Rattle.sn_plan.proofs.Lists.{all-weaken}
-use Rattle.sn_plan.proofs.Standing.{fresh-stand}
 use Rattle.sn_publish.specs.declared.meaning.Meant.{Meant}
 use Rattle.sn_publish.specs.declared.meaning.Meant.TheVariants.{Topic, Refused}
 use Rattle.sn_publish.specs.Publishing.{publication_meant, publish_meant, spread_meant}
@@ -44,10 +37,9 @@ use Rattle.sn_tick.specs.declared.due.Due.TheVariants.{Loss, Retry, Delivery}
 use Rattle.sn_tick.specs.Due.{first_due}
 use Rattle.sn_tick.specs.Ticking.{cleaned, may_advertise, advertised, will_puts, lost, retried, plan_due, plan_if_due, tick}
 use Rattle.row_laws.proofs.Drafting.{connect-puts, disconnect-puts, will_topic-puts, will_msg-puts, will_topic_update-puts, will_msg_update-puts, register-puts, subscribe-puts, unsubscribe-puts, other-puts}
-use Rattle.row_laws.proofs.Freshness.{plan-fresh}
 use Rattle.row_laws.proofs.Waiting.{plan-messages}
 use Rattle.step_laws.proofs.Drafting.{followed_for_puts, pubrel_of_puts, ack_of_puts, wake_puts, cleaned_puts, step-drafted, tick-drafted}
-use Rattle.put_laws.specs.Puts.{puts_meant, puts_at, puts_bound, puts_by_level, puts_of, puts_lost, puts_due, puts_by_tick, IsOfGateway, IsKept}
+use Rattle.put_laws.specs.Puts.{puts_meant, puts_at, puts_bound, puts_by_level, puts_of, puts_lost, puts_due, puts_by_tick, IsOfGateway}
 
 -- ---- the row of a PUBLISH
 
@@ -156,7 +148,7 @@ tick-messages g advertise field predefined seen local now plan is =
 
 -- ---- every message that is made waits
 
-of-draft : (g : ℕ) (S : List Op) (plan : Plan) → IsOfGateway g S plan → IsOfDraft g (seen_of S) plan
+pub of-draft : (g : ℕ) (S : List Op) (plan : Plan) → IsOfGateway g S plan → IsOfDraft g (seen_of S) plan
 of-draft g S plan (inl (predefined, local, a, frame, now, is)) = step-drafted g predefined S local a frame now plan is
 of-draft g S plan (inr (advertise, field, predefined, local, now, is)) = tick-drafted g advertise field predefined S local now plan is
 
@@ -164,15 +156,3 @@ pub gateway-once : (g : ℕ) (S : List Op) (plan : Plan) → IsOfGateway g S pla
 gateway-once g S plan is =
     let h = of-draft g S plan is in
     subst IsOneEach (sym (plan-messages g h.client (seen_of S) h.draft plan h.is)) h.one_each
-
-stands-kept : (S : List Op) (op : Op) → Stands S op → IsKept S op
-stands-kept S (OfSession c stamp counter change) h = tt
-stands-kept S (OfPut c put) h = λ free.
-    pending_at-reads c S (put.seq, put.origin) ∙ (ap (λ b. cond (not b) (put_at c S (put.seq, put.origin)) None) free ∙ h)
-stands-kept S (Ack c origin first last) h = tt
-
-pub gateway-kept : (g : ℕ) (S : List Op) (plan : Plan) → IsOfGateway g S plan → AreFlush g S → AllByRecursion (IsKept (S ++ plan.ops)) plan.ops
-gateway-kept g S plan is flush =
-    let h = of-draft g S plan is in
-    all-weaken (Stands (S ++ plan.ops)) (IsKept (S ++ plan.ops)) (stands-kept (S ++ plan.ops)) plan.ops
-    (fresh-stand S plan.ops (plan-fresh g h.client S h.draft plan h.is (flush h.client) h.one_each))

@@ -1,12 +1,13 @@
 -- The messages of a publication are those for its recipients.
-use Rattle.std.proofs.Common.{◌≡◌, ℕ, ◌⊎◌, List, [], ◌∷◌, Option, Some, None, option_map, Contains, refl, sym, ap, ◌∙◌, subst, inl, inr}
+use Rattle.std.proofs.Common.{◌≡◌, ℕ, ◌⊎◌, List, [], ◌∷◌, Option, Some, None, option_map, filter, Contains, refl, sym, ap, ◌∙◌, subst, inl, inr}
 use Rattle.std.specs.List.{cons_option}
 use Rattle.std.proofs.lemmas.List.Elements.{Contains-append_left, Contains-append_right, Contains-append_cases, Contains-push, Contains-push_cases}
+use Rattle.sn_session.specs.declared.will.Will.{Will}
 use Rattle.sn_local.specs.Seen.{Seen}
 use Rattle.sn_plan.specs.declared.draft.NewPut.{NewPut}
-use Rattle.sn_publish.specs.Recipients.{qos_for, message_for, puts_among, puts_for}
+use Rattle.sn_publish.specs.Recipients.{qos_for, message_for, puts_among, puts_for, is_another, puts_of_will}
 use Rattle.cause_laws.proofs.Acked.{none-there}
-use Rattle.put_laws.specs.Puts.{IsForRecipient}
+use Rattle.put_laws.specs.Puts.{IsAmong}
 
 head_there : {X : Type 0} (x : X) (xs : List X) → Contains (x ∷ xs) x
 head_there x xs = Contains-append_left (x ∷ []) xs x (Contains-push [] x)
@@ -44,7 +45,7 @@ module _ (seen : Seen) (topic : List ℕ) (qos : ℕ) (body : List ℕ) where
       ]
 
   abbrev IsFor : List (List ℕ) → NewPut → Type 0
-  IsFor cs p = Contains cs p.client × (qos_for topic qos (seen.of p.client) ≡ Some p.qos) × (p.topic ≡ topic) × (p.body ≡ body)
+  IsFor cs p = IsAmong seen cs topic qos body p
 
   for-more : (d : List ℕ) (rest : List (List ℕ)) (p : NewPut) → IsFor rest p → IsFor (d ∷ rest) p
   for-more d rest p h = (behind_there d p.client rest h.0, h.1, h.2, h.3)
@@ -66,8 +67,17 @@ module _ (seen : Seen) (topic : List ℕ) (qos : ℕ) (body : List ℕ) where
       ap (λ (x : List ℕ). message_for x body p.client p.qos) (sym t)
       ∙ ap (λ (x : List ℕ). message_for p.topic x p.client p.qos) (sym b)
 
-  pub for-recipients : (p : NewPut) → (Contains (puts_for seen topic qos body) p → IsForRecipient seen topic qos body p) × (IsForRecipient seen topic qos body p → Contains (puts_for seen topic qos body) p)
-  for-recipients p = (
-    among-only seen.all p,
-    λ h. subst (λ (x : NewPut). Contains (puts_for seen topic qos body) x) (same_message p h.2 h.3) (among-has seen.all p.client p.qos h.0 h.1),
+  pub for-among : (cs : List (List ℕ)) (p : NewPut) → (Contains (among cs) p → IsFor cs p) × (IsFor cs p → Contains (among cs) p)
+  for-among cs p = (
+    among-only cs p,
+    λ h. subst (λ (x : NewPut). Contains (among cs) x) (same_message p h.2 h.3) (among-has cs p.client p.qos h.0 h.1),
   )
+
+pub for-recipients : (seen : Seen) (topic : List ℕ) (qos : ℕ) (body : List ℕ) (p : NewPut)
+    → (Contains (puts_for seen topic qos body) p → IsAmong seen seen.all topic qos body p) × (IsAmong seen seen.all topic qos body p → Contains (puts_for seen topic qos body) p)
+for-recipients seen topic qos body p = for-among seen topic qos body seen.all p
+
+pub for-will : (seen : Seen) (c : List ℕ) (will : Will) (p : NewPut)
+    → (Contains (puts_of_will seen c will) p → IsAmong seen (filter (is_another c) seen.all) will.topic will.qos will.message p)
+    × (IsAmong seen (filter (is_another c) seen.all) will.topic will.qos will.message p → Contains (puts_of_will seen c will) p)
+for-will seen c will p = for-among seen will.topic will.qos will.message (filter (is_another c) seen.all) p

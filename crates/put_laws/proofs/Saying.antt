@@ -162,31 +162,29 @@ one_sent : (x m : Send) → Contains ([] ++ x ∷ []) m → x ≡ m
 one_sent x m there = elim (Contains-push_cases [] x m there) [ inl none ↦ absurd (none-there m none) | inr same ↦ same ]
 
 module _ (seen : Seen) (a : Addr) (s : Session) (topic msg_id : ℕ) (body : List ℕ) where
-  abbrev acked_at : ℕ → Send
-  acked_at code = record { to = a; bytes = spelling (frames.PubAck topic msg_id code) }
+  abbrev acked_at : ℕ → ℕ → ℕ → Send
+  acked_at t m code = record { to = a; bytes = spelling (frames.PubAck t m code) }
 
-  abbrev received_at : Send
-  received_at = record { to = a; bytes = spelling (frames.PubRec msg_id) }
+  abbrev received_at : ℕ → Send
+  received_at m = record { to = a; bytes = spelling (frames.PubRec m) }
 
-  code-same : (code : ℕ) → acked_at code ≡ acked_at 0 → code ≡ 0
-  code-same code e = ap (λ (m : Send). get_or m.bytes 6 1) e
+  acked-once : (t m : ℕ) (meant : Meant) → IsAbove meant → Contains (publish_meant seen a s topic msg_id body levels.One meant).sends (acked_at t m 0) → (name : List ℕ) × (meant ≡ Topic name)
+  acked-once t m (Refused code) above there =
+      absurd (above (ap (λ (x : Send). get_or x.bytes 6 1) (one_sent (acked_at topic msg_id code) (acked_at t m 0) there)))
+  acked-once t m (Topic name) above there = (name, refl)
 
-  acked-once : (meant : Meant) → IsAbove meant → Contains (publish_meant seen a s topic msg_id body levels.One meant).sends (acked_at 0) → (name : List ℕ) × (meant ≡ Topic name)
-  acked-once (Refused code) above there = absurd (above (code-same code (one_sent (acked_at code) (acked_at 0) there)))
-  acked-once (Topic name) above there = (name, refl)
+  no_ack : (m code : ℕ) → acked_at topic msg_id code ≡ received_at m → ⊥
+  no_ack m code e = omega (arith, ap (λ (x : Send). get_or x.bytes 0 1) e)
 
-  no_ack : (code : ℕ) → acked_at code ≡ received_at → ⊥
-  no_ack code e = omega (arith, ap (λ (m : Send). get_or m.bytes 0 1) e)
+  received-either : (m : ℕ) (r f : Bool) (x y : Drafted) → Contains (if r then x else (if f then sent a (frames.PubAck topic msg_id 1) nothing else y)).sends (received_at m) → (r ≡ true) ⊎ (f ≡ false)
+  received-either m true f x y there = inl refl
+  received-either m false true x y there = absurd (no_ack m 1 (one_sent (acked_at topic msg_id 1) (received_at m) there))
+  received-either m false false x y there = inr refl
 
-  received-either : (r f : Bool) (x y : Drafted) → Contains (if r then x else (if f then sent a (frames.PubAck topic msg_id 1) nothing else y)).sends received_at → (r ≡ true) ⊎ (f ≡ false)
-  received-either true f x y there = inl refl
-  received-either false true x y there = absurd (no_ack 1 (one_sent (acked_at 1) received_at there))
-  received-either false false x y there = inr refl
-
-  received-twice : (meant : Meant) → Contains (publish_meant seen a s topic msg_id body levels.Two meant).sends received_at
+  received-twice : (m : ℕ) (meant : Meant) → Contains (publish_meant seen a s topic msg_id body levels.Two meant).sends (received_at m)
       → (name : List ℕ) × (meant ≡ Topic name) × ((is_received msg_id s.received ≡ true) ⊎ (id_has_no_room msg_id s.received ≡ false))
-  received-twice (Refused code) there = absurd (no_ack code (one_sent (acked_at code) received_at there))
-  received-twice (Topic name) there = (name, refl, received-either (is_received msg_id s.received) (id_has_no_room msg_id s.received) _ _ there)
+  received-twice m (Refused code) there = absurd (no_ack m code (one_sent (acked_at topic msg_id code) (received_at m) there))
+  received-twice m (Topic name) there = (name, refl, received-either m (is_received msg_id s.received) (id_has_no_room msg_id s.received) _ _ there)
 
 -- ---- the answer of a step
 
@@ -236,20 +234,20 @@ module _ (g : ℕ) (predefined : Entries) (seen : Seen) (local : Local) (a : Add
       ∙ (ap (λ x. puts_at seen (session_of seen c) msg_id body x (meant c)) q
       ∙ ap (λ x. puts_at seen (session_of seen c) msg_id body qos x) m))))
 
-  pub puback-put : qos_of flags.bits ≡ levels.One → IsAnswered a (frames.PubAck topic msg_id 0) plan.sends → IsPublished predefined seen local a flags.bits topic 1 body (messages plan.ops)
-  puback-put q there =
-      let y : Send = record { to = a; bytes = spelling (frames.PubAck topic msg_id 0) } in
+  pub puback-put : (t m : ℕ) → qos_of flags.bits ≡ levels.One → IsAnswered a (frames.PubAck t m 0) plan.sends → IsPublished predefined seen local a flags.bits topic 1 body (messages plan.ops)
+  puback-put t m q there =
+      let y : Send = record { to = a; bytes = spelling (frames.PubAck t m 0) } in
       let w = from-row g predefined seen a flags.bits topic msg_id body now plan y 7 13 _ refl (λ e. omega (arith, e)) (λ e. omega (arith, e)) (λ e. omega (arith, e)) (λ e. omega (arith, e)) (λ e. omega (arith, e)) bound (by-level levels.One q) there in
       let s : Session = session_of seen w.0 in
-      let o = acked-once seen a s topic msg_id body (meant w.0) (limit-above body _ (topic-above predefined s (kind_of flags.bits) topic)) (subst (λ x. Contains (publish_meant seen a s topic msg_id body x (meant w.0)).sends y) q w.2) in
+      let o = acked-once seen a s topic msg_id body t m (meant w.0) (limit-above body _ (topic-above predefined s (kind_of flags.bits) topic)) (subst (λ x. Contains (publish_meant seen a s topic msg_id body x (meant w.0)).sends y) q w.2) in
       (w.0, o.0, w.1, o.1, at-level levels.One q w.0 o.0 w.1 o.1 refl)
 
-  pub pubrec-put : qos_of flags.bits ≡ levels.Two → IsAnswered a (frames.PubRec msg_id) plan.sends → IsPublished predefined seen local a flags.bits topic 2 body (messages plan.ops) ⊎ HasReceived seen local a msg_id
-  pubrec-put q there =
-      let y : Send = record { to = a; bytes = spelling (frames.PubRec msg_id) } in
+  pub pubrec-put : (m : ℕ) → qos_of flags.bits ≡ levels.Two → IsAnswered a (frames.PubRec m) plan.sends → IsPublished predefined seen local a flags.bits topic 2 body (messages plan.ops) ⊎ HasReceived seen local a msg_id
+  pubrec-put m q there =
+      let y : Send = record { to = a; bytes = spelling (frames.PubRec m) } in
       let w = from-row g predefined seen a flags.bits topic msg_id body now plan y 4 15 _ refl (λ e. omega (arith, e)) (λ e. omega (arith, e)) (λ e. omega (arith, e)) (λ e. omega (arith, e)) (λ e. omega (arith, e)) bound (by-level levels.Two q) there in
       let s : Session = session_of seen w.0 in
-      let o = received-twice seen a s topic msg_id body (meant w.0) (subst (λ x. Contains (publish_meant seen a s topic msg_id body x (meant w.0)).sends y) q w.2) in
+      let o = received-twice seen a s topic msg_id body m (meant w.0) (subst (λ x. Contains (publish_meant seen a s topic msg_id body x (meant w.0)).sends y) q w.2) in
       let made = at-level levels.Two q w.0 o.0 w.1 o.1 refl in
       elim (is_received msg_id s.received) as (λ b. is_received msg_id s.received ≡ b → IsPublished predefined seen local a flags.bits topic 2 body (messages plan.ops) ⊎ HasReceived seen local a msg_id) [
         | true ↦ λ r. inr (w.0, w.1, r)

@@ -1,5 +1,5 @@
 -- What a gateway puts for a publication (MQTT-SN 1.2 sections 6.6, 6.8 and 6.10).
-use Rattle.std.specs.Prelude.{◌≡◌, ℕ, true, false, ◌||◌, ◌⊎◌, if◌then◌else◌, List, [], Option, Some, None, Contains}
+use Rattle.std.specs.Prelude.{◌≡◌, ℕ, true, ◌||◌, ◌⊎◌, if◌then◌else◌, List, [], Option, Some, None, Contains}
 use Rattle.sn_topic.specs.Table.{Entries}
 use Rattle.sn_session.specs.declared.session.Session.{Session}
 use Rattle.sn_session.specs.Session.{empty_session}
@@ -12,7 +12,6 @@ use Rattle.sn_frame.specs.FlagBits.{qos_of}
 use Rattle.sn_frame.specs.Grammar.{spelling}
 use Rattle.rep_op.specs.declared.op.Op.{Op}
 use Rattle.rep_op.specs.declared.op.Op.TheVariants.{Session as OfSession, Put as OfPut, Ack}
-use Rattle.rep_op.specs.Sets.{is_acknowledged}
 use Rattle.rep_model.specs.Views.{pending_at}
 use Rattle.sn_local.specs.declared.config.Addr.{Addr}
 use Rattle.sn_local.specs.declared.config.Send.{Send}
@@ -33,10 +32,10 @@ use Rattle.sn_tick.specs.Due.{first_due}
 use Rattle.sn_tick.specs.Ticking.{may_advertise, will_puts, tick}
 
 -- the message is that of a publication to this topic with this body, which comes at this quality of
--- service, for a client that is its recipient
-abbrev pub IsForRecipient : Seen → List ℕ → ℕ → List ℕ → NewPut → Type 0
-IsForRecipient seen topic qos body p =
-    Contains seen.all p.client × (qos_for topic qos (seen.of p.client) ≡ Some p.qos)
+-- service, for one of these clients that is its recipient, at the one at which that gets it
+abbrev pub IsAmong : Seen → List (List ℕ) → List ℕ → ℕ → List ℕ → NewPut → Type 0
+IsAmong seen clients topic qos body p =
+    Contains clients p.client × (qos_for topic qos (seen.of p.client) ≡ Some p.qos)
     × (p.topic ≡ topic) × (p.body ≡ body)
 
 -- a message for each recipient, where the publication is about a topic and not too long
@@ -57,7 +56,7 @@ puts_at seen s msg_id body levels.Two meant =
     puts_new s msg_id (puts_meant seen 2 body meant)
 puts_at seen s msg_id body levels.MinusOne meant = puts_meant seen 0 body meant
 
--- by the client that is bound; where none is nobody gets it
+-- the messages by the client that is bound; none where nobody is
 abbrev pub puts_bound : Entries → Seen → Option (List ℕ) → ℕ → ℕ → ℕ → List ℕ → List NewPut
 puts_bound predefined seen None bits topic msg_id body = []
 puts_bound predefined seen (Some c) bits topic msg_id body =
@@ -88,7 +87,8 @@ puts_of predefined seen local a (frames.Publish flags topic msg_id body) =
     puts_by predefined seen local a flags.bits topic msg_id body
 puts_of predefined seen local a frame = []
 
--- the messages that a client makes with which this is due: one that is lost those of its will
+-- the messages that are made since this is due with the client: those of its will, where it is
+-- lost, else none
 abbrev pub puts_lost : Seen → List ℕ → Due → List NewPut
 puts_lost seen c Loss = will_puts seen c (session_of seen c).will
 puts_lost seen c (Retry a) = []
@@ -98,8 +98,8 @@ abbrev pub puts_due : Seen → Option (List ℕ × Due) → List NewPut
 puts_due seen None = []
 puts_due seen (Some found) = puts_lost seen found.0 found.1
 
--- the messages that a tick makes: none where ADVERTISE goes out, else those of the first client
--- with which something is due
+-- the messages that a tick makes: none where ADVERTISE goes out; else, where the first client with
+-- which something is due is lost, those of its will
 abbrev pub puts_by_tick : ℕ → ℕ → List Addr → Seen → Local → ℕ → List NewPut
 puts_by_tick g advertise field seen local now =
     if may_advertise advertise field now local.advertised then []
@@ -110,14 +110,15 @@ abbrev pub IsAnswered : Addr → Frame → List Send → Type 0
 IsAnswered a answer sends = Contains sends (record { to = a; bytes = spelling answer })
 
 -- the client that is bound to the address publishes to a topic, and these are the messages for the
--- recipients at this quality of service
+-- recipients of a publication at this quality of service
 abbrev pub IsPublished : Entries → Seen → Local → Addr → ℕ → ℕ → ℕ → List ℕ → List NewPut → Type 0
 IsPublished predefined seen local a bits topic qos body puts =
     (c : List ℕ) × (name : List ℕ) × (client_at a local.bindings ≡ Some c)
     × (publication_meant predefined (session_of seen c) bits topic body ≡ Topic name)
     × (puts ≡ puts_for seen name qos body)
 
--- the message id of the client that is bound to the address was received, and is not released
+-- the session of the client that is bound to the address has this message id as one that was received
+-- and is not released
 abbrev pub HasReceived : Seen → Local → Addr → ℕ → Type 0
 HasReceived seen local a msg_id =
     (c : List ℕ) × (client_at a local.bindings ≡ Some c)
@@ -131,10 +132,8 @@ IsOfGateway g S plan =
     ⊎ ((advertise : ℕ) × (field : List Addr) × (predefined : Entries) × (local : Local)
     × (now : ℕ) × (tick g advertise field predefined (seen_of S) local now ≡ Some plan))
 
--- a message of these operations waits for its client in the set, unless it is acknowledged there
+-- a message of these operations waits for its client in the set
 abbrev pub IsKept : List Op → Op → Type 0
 IsKept S (OfSession c stamp counter change) = Unit {0}
-IsKept S (OfPut c put) =
-    is_acknowledged c S (put.seq, put.origin) ≡ false
-    → pending_at c S (put.seq, put.origin) ≡ Some put
+IsKept S (OfPut c put) = pending_at c S (put.seq, put.origin) ≡ Some put
 IsKept S (Ack c origin first last) = Unit {0}

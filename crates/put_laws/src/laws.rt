@@ -1,8 +1,9 @@
 //! What a gateway puts, and for whom. The function does nothing; its contract is a law.
 
-ghost use Rattle.std.specs.Prelude.{◌≡◌, ℕ, ◌⊎◌, ◌++◌, ◌↔◌, List, Some, Contains};
+ghost use Rattle.std.specs.Prelude.{◌≡◌, ℕ, ◌⊎◌, ◌++◌, ◌↔◌, List, Some, Contains, filter};
 ghost use Rattle.std.specs.List.{AllByRecursion};
 ghost use Rattle.sn_topic.specs.Table.{Entries};
+ghost use Rattle.sn_session.specs.declared.will.Will.{Will};
 ghost use Rattle.sn_frame.specs.declared.flags.Flags.{Flags};
 ghost use Rattle.sn_frame.specs.declared.flags.Qos.TheVariants.{One, Two};
 ghost use Rattle.sn_frame.specs.declared.frame.Frame.{Frame};
@@ -16,19 +17,19 @@ ghost use Rattle.sn_plan.specs.declared.draft.NewPut.{NewPut};
 ghost use Rattle.sn_plan.specs.declared.plan.Plan.{Plan};
 ghost use Rattle.sn_plan.specs.Flush.{AreFlush};
 ghost use Rattle.sn_plan.specs.Own.{IsOneEach, messages};
-ghost use Rattle.sn_publish.specs.Recipients.{puts_for};
+ghost use Rattle.sn_publish.specs.Recipients.{is_another, puts_for, puts_of_will};
 ghost use Rattle.sn_deliver.specs.Steps.{step};
 ghost use Rattle.sn_tick.specs.Ticking.{tick};
-ghost use Rattle.put_laws.specs.Puts.{HasReceived, IsAnswered, IsForRecipient, IsKept, IsOfGateway, IsPublished, puts_by_tick, puts_of};
+ghost use Rattle.put_laws.specs.Puts.{HasReceived, IsAmong, IsAnswered, IsKept, IsOfGateway, IsPublished, puts_by_tick, puts_of};
 
-/// What a gateway accepts it puts, once for each recipient, and it waits for them; and it puts
-/// nothing else. PUBACK with code 0, at quality of service 1, means that the message was put; so
-/// does PUBREC, at 2, or that its message id was received before and is not released. A PUBLISH makes the messages of its recipients, a client that is taken for lost
-/// those of its will, and no other frame and no other tick makes any. The messages of a publication
-/// are those for its recipients, each of them, and no others. No step makes two messages
-/// for one client, and every message that a step makes waits for its client behind that step,
-/// unless the step acknowledges it as well: `cause_laws` says why it may (Delivery sent it at
-/// quality of service 0, or no topic id is left for it).
+/// What a gateway accepts it puts, with that step one message for each recipient, and they wait. A
+/// PUBLISH makes the messages of its recipients, a client that is taken for lost those of its will,
+/// and no other frame and no other tick makes any. The messages of a publication are those for its
+/// recipients, each of them, and no others: who is one, and at which quality of service, is
+/// `qos_for`, which passes over whom 1,024 messages wait for. PUBACK with code 0, at quality of
+/// service 1, means that they were made; so does PUBREC, at 2, or that the message id was received
+/// before and is not released. No step makes two messages for one client, and each that it makes
+/// waits for its client behind that step, at a gateway that is flush, as all stay.
 pub fn accepted_is_put()
     ensures frames { (g : ℕ) (predefined : Entries) (seen : Seen) (local : Local) (a : Addr)
         (frame : Frame) (now : ℕ) (plan : Plan)
@@ -39,18 +40,21 @@ pub fn accepted_is_put()
         → tick g advertise field predefined seen local now ≡ Some plan
         → messages plan.ops ≡ puts_by_tick g advertise field seen local now }
     ensures puback { (g : ℕ) (predefined : Entries) (seen : Seen) (local : Local) (a : Addr)
-        (flags : Flags) (topic msg_id : ℕ) (body : List ℕ) (now : ℕ) (plan : Plan)
+        (flags : Flags) (topic msg_id : ℕ) (body : List ℕ) (now : ℕ) (plan : Plan) (t m : ℕ)
         → step g predefined seen local a (frames.Publish flags topic msg_id body) now ≡ Some plan
-        → qos_of flags.bits ≡ One → IsAnswered a (frames.PubAck topic msg_id 0) plan.sends
+        → qos_of flags.bits ≡ One → IsAnswered a (frames.PubAck t m 0) plan.sends
         → IsPublished predefined seen local a flags.bits topic 1 body (messages plan.ops) }
     ensures pubrec { (g : ℕ) (predefined : Entries) (seen : Seen) (local : Local) (a : Addr)
-        (flags : Flags) (topic msg_id : ℕ) (body : List ℕ) (now : ℕ) (plan : Plan)
+        (flags : Flags) (topic msg_id : ℕ) (body : List ℕ) (now : ℕ) (plan : Plan) (m : ℕ)
         → step g predefined seen local a (frames.Publish flags topic msg_id body) now ≡ Some plan
-        → qos_of flags.bits ≡ Two → IsAnswered a (frames.PubRec msg_id) plan.sends
+        → qos_of flags.bits ≡ Two → IsAnswered a (frames.PubRec m) plan.sends
         → IsPublished predefined seen local a flags.bits topic 2 body (messages plan.ops)
         ⊎ HasReceived seen local a msg_id }
     ensures recipients { (seen : Seen) (topic : List ℕ) (qos : ℕ) (body : List ℕ) (p : NewPut)
-        → Contains (puts_for seen topic qos body) p ↔ IsForRecipient seen topic qos body p }
+        → Contains (puts_for seen topic qos body) p ↔ IsAmong seen seen.all topic qos body p }
+    ensures wills { (seen : Seen) (c : List ℕ) (will : Will) (p : NewPut)
+        → Contains (puts_of_will seen c will) p
+        ↔ IsAmong seen (filter (is_another c) seen.all) will.topic will.qos will.message p }
     ensures once { (g : ℕ) (S : List Op) (plan : Plan) → IsOfGateway g S plan
         → IsOneEach (messages plan.ops) }
     ensures kept { (g : ℕ) (S : List Op) (plan : Plan) → IsOfGateway g S plan → AreFlush g S
