@@ -117,8 +117,8 @@ IsPublished predefined seen local a bits topic qos body puts =
     × (publication_meant predefined (session_of seen c) bits topic body ≡ Topic name)
     × (puts ≡ puts_for seen name qos body)
 
--- the session of the client that is bound to the address has this message id as one that was received
--- and is not released
+-- the session of the client that is bound to the address has this message id as one that was
+-- received and is not released
 abbrev pub HasReceived : Seen → Local → Addr → ℕ → Type 0
 HasReceived seen local a msg_id =
     (c : List ℕ) × (client_at a local.bindings ≡ Some c)
