@@ -5,7 +5,7 @@ Usage: bench/steps.py PROGRAM [--clients N] [--waiting N] [--past N] [--sleepers
                       [--instructions]
        (gw_sim; 1024, 1024, 100000, 1000, 100000 and 0.3 where nothing is said; WORD is one of idle, waits, past, tick, spread, opening)
 
-A script that builds up is played without and with the events that are measured, in turn, five times, or nine where building up takes far longer than
+A script that builds up is played without and with the events that are measured, in turn, five times, or seven or nine where building up takes far longer than
 what is measured; the best times count, and what building up takes is taken off. As many events are played as take S seconds, and as long as building up takes, where they change nothing
 that they depend on: else a figure would be a small part of the difference of two long runs. Processor time is counted, and not the
 time that passes. A figure has the reading of its line and the printing of its answer in it: what these
