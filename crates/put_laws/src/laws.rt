@@ -25,10 +25,10 @@ ghost use Rattle.put_laws.specs.Puts.{HasReceived, IsAmong, IsAnswered, IsKept, 
 /// What a gateway accepts it puts, with that step one message for each recipient, and they wait. A
 /// PUBLISH makes the messages of its recipients, a client that is taken for lost those of its will,
 /// and no other frame and no other tick makes any. The messages of a publication are those for its
-/// recipients, each of them, and no others: who is one, and at which quality of service, is
-/// `qos_for`, which passes over whom 1,024 messages wait for. PUBACK with code 0, at quality of
-/// service 1, means that they were made; so does PUBREC, at 2, or that the message id was received
-/// before and is not released. No step makes two messages for one client, and each that it makes
+/// recipients, each of them, and no others. Who is one, and at which quality of service, is said by
+/// `qos_for`, which passes over a client for which 1,024 messages wait. PUBACK with code 0, at
+/// quality of service 1, means that they were made; so does PUBREC, at 2, or that the message id
+/// was received before and is not released. No step makes two messages for one client, and each that it makes
 /// waits for its client behind that step, at a gateway that is flush, as all stay.
 pub fn accepted_is_put()
     ensures frames { (g : ℕ) (predefined : Entries) (seen : Seen) (local : Local) (a : Addr)
