@@ -28,8 +28,8 @@ ghost use Rattle.put_laws.specs.Puts.{HasReceived, IsAmong, IsAnswered, IsKept, 
 /// recipients, each of them, and no others. Who is one, and at which quality of service, is said by
 /// `qos_for`, which passes over a client for which 1,024 messages wait. PUBACK with code 0, at
 /// quality of service 1, means that they were made; so does PUBREC, at 2, or that the message id
-/// was received before and is not released. No step makes two messages for one client, and each that it makes
-/// waits for its client behind that step, at a gateway that is flush, as all stay.
+/// was received before and is not released. No step makes two messages for one client, and each
+/// that it makes waits for its client behind that step, at a gateway that is flush, as all stay.
 pub fn accepted_is_put()
     ensures frames { (g : ℕ) (predefined : Entries) (seen : Seen) (local : Local) (a : Addr)
         (frame : Frame) (now : ℕ) (plan : Plan)
