@@ -4,13 +4,16 @@ Usage: gate.py LOG CRATES COMMAND..   runs the command, and writes LOG
        gate.py LOG CRATES             prints LOG
 
 A line of LOG is a task: crate, kind (proof, tests or edits), when it began and ended, and its processor seconds.
+The last line, `all whole`, is the whole run, with all that it started.
 """
 import os
+import resource
 import subprocess
 import sys
 import time
 
 KINDS = ("proof", "tests", "edits")
+WHOLE = ("all", "whole")
 TICKS = os.sysconf("SC_CLK_TCK")
 
 
@@ -61,10 +64,12 @@ def run(log, command):
                     tasks.setdefault(task, [now, now])[1] = now
                     spent[task, pid, start] = seconds
             time.sleep(1)
+    end, used = time.monotonic() - began, resource.getrusage(resource.RUSAGE_CHILDREN)
     with open(log, "w") as out:
         for task, (first, last) in tasks.items():
             work = sum(it for (of, _, _), it in spent.items() if of == task)
             print(*task, f"{first:.0f} {last:.0f} {work:.0f}", file=out)
+        print(*WHOLE, f"0 {end:.0f} {used.ru_utime + used.ru_stime:.0f}", file=out)
     return ran.returncode
 
 
