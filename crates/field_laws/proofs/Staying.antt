@@ -18,14 +18,19 @@ use Rattle.field_laws.proofs.Catching.{run-later, later-now}
 abbrev WaitsOrAcknowledged : List ℕ → Put → List Op → Type 0
 WaitsOrAcknowledged c put T = Contains (view c T).pending put ⊎ (is_acknowledged c T (put.seq, put.origin) ≡ true)
 
+-- what a gateway has taken it has taken a run later too
+pub grows : (old new : Field) (more : List Event) (replies : List Answer) (i : ℕ) (gateway later : Gateway)
+    → slice_get old.gateways i ≡ Some gateway → Run old more replies new → slice_get new.gateways i ≡ Some later → Within gateway.taken later.taken
+grows old new more replies i gateway later place after there =
+    let l = run-later old more replies new i gateway.taken after (later-now old.gateways i gateway place) in
+    let is : later.taken ≡ gateway.taken ++ l.more = ap (λ (x : Gateway). x.taken) (same_Some later l.gateway (sym there ∙ l.place)) ∙ l.taken in
+    subst (Within gateway.taken) (sym is) (within-left gateway.taken l.more)
+
 pub stays : (configs : List Config) (events more : List Event) (answers replies : List Answer) (old new : Field) (i : ℕ) (gateway later : Gateway) (c : List ℕ) (put : Put)
     → Run (new_field configs) events answers old → slice_get old.gateways i ≡ Some gateway → Contains (view c gateway.taken).pending put
     → Run old more replies new → slice_get new.gateways i ≡ Some later → WaitsOrAcknowledged c put later.taken
 stays configs events more answers replies old new i gateway later c put before place waits after there =
-    let l = run-later old more replies new i gateway.taken after (later-now old.gateways i gateway place) in
-    let is : later.taken ≡ gateway.taken ++ l.more = ap (λ (x : Gateway). x.taken) (same_Some later l.gateway (sym there ∙ l.place)) ∙ l.taken in
-    subst (WaitsOrAcknowledged c put) (sym is)
-    (pending-stay c gateway.taken (gateway.taken ++ l.more) put (within-left gateway.taken l.more) waits)
+    pending-stay c gateway.taken later.taken put (grows old new more replies i gateway later place after there) waits
 
 pub moves : (gateway other : Gateway) (c : List ℕ) (put : Put) → Contains (view c gateway.taken).pending put → Within gateway.taken other.taken → WaitsOrAcknowledged c put other.taken
 moves gateway other c put waits within = pending-stay c gateway.taken other.taken put within waits

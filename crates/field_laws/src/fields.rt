@@ -26,11 +26,15 @@ ghost use Rattle.gw_event.specs.Event.{IsPlan, OwnStep, TakeStep, IsWritable};
 ghost use Rattle.gw_world.specs.Steady.{IsSteady};
 ghost use Rattle.gw_world.specs.Whole.{listed, everything, number_of, IsHome, AreMadeOnce, made_by, MayMake, NoneFails, told, brought, HasTakenAll};
 
-/// No message vanishes. A message that waits for a client at a gateway, at any moment of a run,
-/// waits there at every later moment, whatever came and whatever failed in between, or its
-/// acknowledgement is in the set of that gateway; and so it is at each gateway that has taken all
-/// that this one had.
+/// No message vanishes. What a gateway has taken it keeps: its set only grows, whatever comes and
+/// whatever fails. So a message that waits for a client at a gateway, at any moment of a run, waits
+/// there at every later moment, or its acknowledgement is in the set of that gateway. The same holds
+/// at each gateway that has taken all that this one had.
 pub fn nothing_vanishes()
+    ensures grows { (old new : Field) (more : List Event) (replies : List Answer) (i : ℕ)
+        (gateway later : Gateway)
+        → slice_get old.gateways i ≡ Some gateway → Run old more replies new
+        → slice_get new.gateways i ≡ Some later → Within gateway.taken later.taken }
     ensures stays { (configs : List Config) (events more : List Event)
         (answers replies : List Answer)
         (old new : Field) (i : ℕ) (gateway later : Gateway) (c : List ℕ) (put : Put)
