@@ -39,7 +39,7 @@ AVOID = [
     (r"\b(of such|of which|in which case)\b", "that, whose"),
     (r"\bby reading\b", "leave it out"),
     (r"\b(lies|stands) (in|at|on|there|beside|below|above)\b", "is"),
-    (r"\bgoal is wanted\b|\bwants? (to|a|an|the)\b", "needs"),
+    (r"\bwants (to|a|an|the)\b", "needs"),
     (r"(?:^|[.:;] )Where [a-z][^?]*$", "If, When"),
     (r"\bbut for\b", "except"),
     (r"\bneither does it\b|\bnone is\b", "say who does what"),
