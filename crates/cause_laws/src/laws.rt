@@ -21,6 +21,10 @@ ghost use Rattle.cause_laws.specs.Causes.{IsForCause, IsTimely};
 /// that Delivery sends at quality of service 0, or has no topic id for. A tick acknowledges none
 /// but such ones of Delivery, to the address of a client that the gateway owns; and one that takes
 /// a client for lost acknowledges nothing, so that all that waits for it goes on waiting.
+///
+/// The law is about the plan of one step, and its frames are those that the plan has. If the write
+/// of that step fails, they are not sent; its acknowledgements may be read back all the same when
+/// the gateway is opened again. The law does not say when a gateway has to acknowledge.
 pub fn acknowledged_for_cause()
     ensures steps { (g : ℕ) (predefined : Entries) (seen : Seen) (local : Local) (a : Addr)
         (frame : Frame) (now : ℕ) (plan : Plan) (c : List ℕ) (name : ℕ × ℕ)

@@ -36,7 +36,8 @@ pub struct Report {
 }
 
 /// Plays random scripts over so many gateways, of so many events in all, and says where one differs
-/// from the definitions.
+/// from the definitions. The contract is about the number of events alone: that they were played,
+/// and what was found, is in no clause.
 pub fn random_run<R: Replica>(
     alloc: Global,
     seed: u64,

@@ -82,6 +82,9 @@ pub trait Disk {
             ≡ take (length buffer.old) (drop from (bytes_of (at (slots self.old) slot)))) };
 
     /// Adds bytes at the end of a slot. On an error the first `written` of them went out.
+    ///
+    /// The first append that finds no memory fails, and changes nothing: the slots and the arranged
+    /// failure stay. A later one goes as arranged, or finds no memory again.
     fn append(&mut self, slot: Slot, bytes: &[u8]) -> Result<(), Short>
         ensures cause { HasCause (failures self.old) (failures self.new) result }
         ensures starved { starved self.old ≡ true → starved self.new ≡ true }

@@ -30,6 +30,10 @@ ghost use Rattle.put_laws.specs.Puts.{HasReceived, IsAmong, IsAnswered, IsKept, 
 /// quality of service 1, means that they were made; so does PUBREC, at 2, or that the message id
 /// was received before and is not released. No step makes two messages for one client, and each
 /// that it makes waits for its client behind that step, at a gateway that is flush, as all stay.
+///
+/// The law is about the plan of one step. That a plan is taken and synced before its frames go out
+/// is said by the calls of `gw_node`, and that a message goes on waiting by `nothing_vanishes` of
+/// `field_laws`. Nothing says here that an accepted PUBLISH is answered at all.
 pub fn accepted_is_put()
     ensures frames { (g : ℕ) (predefined : Entries) (seen : Seen) (local : Local) (a : Addr)
         (frame : Frame) (now : ℕ) (plan : Plan)
