@@ -1,14 +1,19 @@
 """Plants wrong bodies in one crate over libraries that are built already, where `rt plant` would prove all below it first.
 
 Usage: plant.py ROOT CRATE [FLAG ..]      with the flags of `rt plant` (--only WORD, or several with commas between them, --max N, --minutes N,
-                                         --all), and --cured for those bodies alone that the kit's own script cannot write
+                                         --all), and --cured for those bodies alone that the kit's own script cannot write;
+                                         --csv, or --csv=N, writes the crate's row of docs/planted.csv, where somebody read the
+                                         bodies that passed and N of them only say that memory ran out, or cost time
        plant.py count ROOT [CRATE ..]     how many bodies --cured has that give up, before anything is checked
 
 Libraries are looked for as by over.py, whose kept checks it uses. It drives the kit's own script, and so may want a change with a new kit.
 One fault of that script is cured here: it takes the doc comment of a field or of a variant for its name, so that a body that answers
 such a variant does not compile, and a documented field is never set.
 """
+import contextlib
+import csv
 import importlib.machinery
+import io
 import os
 import re
 import subprocess
@@ -90,14 +95,35 @@ def of_any(one, crate, source, symbols, only):
     return [[it for it in source.functions if any(it in chosen[part] for chosen in found)] for part in (0, 1)]
 
 
+def write_row(root, name, printed, harmless):
+    """Writes a crate's row of docs/planted.csv, by the counts in the last line that the kit's script prints."""
+    line = re.findall(r"(?m)^plants crate=.*$", printed)
+    counts = {kind: int(number) for kind, number in re.findall(r"([a-z-]+)=(\d+)", line[-1])} if line else {}
+    if not line or counts["not-run"] or harmless > counts["proves"]:
+        return "no row is written: the run was not whole"
+    refused, passed, same, unjudged = (counts[kind] for kind in ("refused", "proves", "same", "not-judged"))
+    row = [name, refused + passed + same + unjudged, refused, passed - harmless, same + harmless, unjudged, "none"]
+    path = f"{root}/docs/planted.csv"
+    with open(path, encoding="utf-8", newline="") as it:
+        rows = list(csv.reader(it))
+    places = [place for place, old in enumerate(rows) if old[0] == name]
+    rows = [*rows[: places[0]], row, *rows[places[0] + 1 :]] if places else [*rows, row]
+    with open(path, "w", encoding="utf-8", newline="") as it:
+        csv.writer(it, lineterminator="\n").writerows(rows)
+    return 0
+
+
 def main(given):
     if len(given) < 2:
         return __doc__
     if given[0] == "count":
         return count(os.path.abspath(given[1]), *given[2:])
     is_cured = "--cured" in given
-    given = [it for it in given if it != "--cured"]
+    noted = [int(it[6:] or 0) for it in given if re.fullmatch(r"--csv(=\d+)?", it)]
+    given = [it for it in given if it != "--cured" and not it.startswith("--csv")]
     root, name, *flags = given
+    if noted and (is_cured or "--only" in flags):
+        return "--csv is for the bodies of a whole crate"
     root = os.path.abspath(root)
     folder, crates = f"{root}/crates/{name}", over.read_crates(root)
     words = over.words(root, crates, "check", name, "2")[2:]
@@ -132,7 +158,13 @@ def main(given):
     script.chosen = lambda *given: of_any(one, *given)
     os.makedirs(f"{folder}/out/over", exist_ok=True)
     os.chdir(folder)
-    return script.main(*flags)
+    if not noted:
+        return script.main(*flags)
+    printed = io.StringIO()
+    with contextlib.redirect_stdout(printed):
+        status = script.main(*flags)
+    print(printed.getvalue(), end="")
+    return status or write_row(root, name, printed.getvalue(), noted[0])
 
 
 if __name__ == "__main__":
