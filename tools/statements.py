@@ -1,4 +1,4 @@
-"""Compares what public functions said at an earlier commit with what they say now, clause by clause: the counts of docs/CLAUSES.md.
+"""Compares what public functions said at an earlier commit with what they say now, clause by clause.
 
 Usage: statements.py COMMIT [CRATE ..]      a line for each crate of that commit; of these crates also each clause that is not word for word what it was
 
