@@ -1,4 +1,13 @@
 //! One gateway.
+//!
+//! A node remembers two things so that it need not look for them again. Contracts see neither. Each
+//! has a ghost field that says what is so, so the prover refuses a change that does not forget it.
+//!
+//! - `idle`: no tick up to this second has anything to do. What a tick finds depends on the moment
+//!   only by what is long enough ago, so a tick that finds nothing ten seconds ahead answers for
+//!   every moment before (`idle_lasts` of step_laws). Each frame that is carried out and each delta
+//!   clears it. If something is due within those seconds, a tick walks the clients twice.
+//! - `tidy`: the gateway owns the client of each address and of each timer (`tidy.rt`).
 
 ghost use Rattle.std.specs.Prelude.{◌≡◌, true};
 ghost use Rattle.gw_node.specs.inner.Resting.{rests};

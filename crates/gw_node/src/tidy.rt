@@ -1,5 +1,11 @@
-//! Whether each address and each timer is of a client that the gateway owns, so that behind a delta
+//! Whether each address and each timer is of a client that the gateway owns, so that after a delta
 //! nobody need be looked for.
+//!
+//! Only a Take changes who owns a client. So if all was tidy before a delta, only its Takes are
+//! asked: does one of them take away a client that has an address or a timer here? If it does, all
+//! are asked. A step of the gateway's own asks of each change that it notes whether the gateway
+//! owns that client. That this holds in every run is a law (`bound_up` of plan_laws); the node asks
+//! instead, so that it need not be built on the law.
 
 ghost use Rattle.std.specs.Prelude.{◌≡◌, true, length};
 ghost use Rattle.std.specs.List.{list_all};

@@ -1,4 +1,8 @@
 //! What a journal asks of a disk.
+//!
+//! A disk keeps two books, which contracts alone see. `failures` counts: each call that fails adds
+//! one, and no other call does. `starved` excuses: once memory was refused in an append, what is
+//! arranged may stay undone. So no other call may turn it, or a disk could excuse what it did.
 
 /// The slots of a disk. The first is slot 0, the second slot 1.
 #[derive(Clone, Copy, Debug, PartialEq, Eq)]

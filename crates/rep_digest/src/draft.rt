@@ -1,4 +1,8 @@
 //! What is said of a client, worked out of its view and its acknowledgements.
+//!
+//! The origins are gathered in a list that ascends, in which each is found by binary search. Their
+//! definition, `drafted_origins`, goes through the numbers 1 to 255 instead, which is easier to
+//! read. Each step here is proved to lead from one such list to the next.
 
 ghost use Rattle.std.specs.Prelude.{◌≡◌, ◌+◌, ◌==◌, ◌&&◌, nat_le, ◌++◌, ◌∷◌, [], List, IfOk, OnOk};
 ghost use Rattle.rep_op.specs.declared.op.Put.{Put};

@@ -3,6 +3,11 @@
 //! Each topic has one of 64 marks, made of its octets. Of a client those are kept that the topics
 //! may have for which its filters ask; a filter with a wildcard may ask for any. So a publication
 //! passes over most clients that it is not for, and looks at no filter of theirs.
+//!
+//! The mark is the highest six bits of a mix like that of Fowler, Noll and Vo. A client with one
+//! filter is asked without need by one publication in 64. Names that differ in their last digit
+//! alone have few marks, since that octet moves the mark by a quarter for each step: there it is
+//! one in three.
 
 ghost use Rattle.std.specs.Prelude.{◌≡◌, ◌<◌};
 ghost use Rattle.rep_entry.specs.Interests.{AsksWithin, AskWithin, SessionWithin};

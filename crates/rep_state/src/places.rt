@@ -3,6 +3,10 @@
 //!
 //! A walk over all clients in order sorts nothing and looks for nothing, and one for a publication
 //! looks at marks alone.
+//!
+//! The table is a hash map that nobody leaves, so an index stays true. A place without operations
+//! remains if a delta was prepared and never committed. While there is one, a walk counts from the
+//! front at each place, and a publication asks every client.
 
 ghost use Rattle.std.specs.Prelude.{◌≡◌, ◌+◌, ◌<◌, ◌≤◌, ◌∷◌, [], IfOk, IsTrue, MatchOption, length, map, drop, vec_len, vec_capacity};
 ghost use Rattle.std.specs.Map.{keys_of};

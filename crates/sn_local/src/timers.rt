@@ -1,4 +1,5 @@
-//! The list of timers and its changes.
+//! The list of timers and its changes. It ascends by client: a tick asks for the timer of each
+//! client, and finds it by binary search.
 
 ghost use Rattle.std.specs.Prelude.{◌≡◌, ◌+◌, ◌≤◌, vec_len};
 ghost use Rattle.std.specs.Option.{option_copied};
