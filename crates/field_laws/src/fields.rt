@@ -1,4 +1,8 @@
 //! The laws of a field. Each function does nothing; its contract is a law, proved for all runs.
+//!
+//! That gateways stay flush (`steady_field`) and that a field stays consistent (`consistent_field`)
+//! is one induction. An answered delta leaves a gateway flush because of where its names are at
+//! home, and names are at home because gateways are flush.
 
 ghost use Rattle.std.specs.Prelude.{◌≡◌, ℕ, ◌⊎◌, ◌↔◌, true, List, ◌++◌, Some, None, Ok, Err, IfSome, Contains, slice_get};
 ghost use Rattle.rep_op.specs.declared.op.Op.{Op};
