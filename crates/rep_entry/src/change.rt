@@ -2,7 +2,8 @@
 //!
 //! Each change brings room for all that will be there and half as much more, and gives it back if
 //! the list itself has room. Contracts do not see how much room a list has, so the move cannot rely
-//! on the list's own. Entries that come one by one are so moved less than three times each.
+//! on the list's own. Entries that come one by one are so moved less than three times each, on
+//! average.
 
 ghost use Rattle.std.specs.Prelude.{◌≡◌, ◌+◌, ◌≤◌, ◌++◌, [], ℕ, List, T, cond, false, length, vec_capacity};
 ghost use Rattle.std.specs.FinMap.{is_sorted};
