@@ -29,29 +29,31 @@ use Rattle.step_laws.specs.Laws.{IsDoneWith}
 
 -- ---- whom a frame is from
 
--- the client that began the dialog, where that waits for the topic of a will; else the one that is
--- bound
+-- the client that began the dialog, if that waits for the topic of a will; else the bound one
 abbrev pub by_topic : Option (List ℕ) → WillDialog → Awaited → Option (List ℕ)
 by_topic bound dialog Topic = Some dialog.request.client
 by_topic bound dialog (Message topic) = bound
 
+-- the client that a WILLTOPIC speaks for: that of its address's dialog, if that waits for the
+-- topic, else the bound one
 abbrev pub gives_topic : Option (List ℕ) → Option WillDialog → Option (List ℕ)
 gives_topic bound None = bound
 gives_topic bound (Some dialog) = by_topic bound dialog dialog.awaited
 
--- the client that began the dialog, where that waits for the message of a will; else the one that
--- is bound
+-- the client that began the dialog, if that waits for the message of a will; else the bound one
 abbrev pub by_message : Option (List ℕ) → WillDialog → Awaited → Option (List ℕ)
 by_message bound dialog Topic = bound
 by_message bound dialog (Message topic) = Some dialog.request.client
 
+-- the client that a WILLMSG speaks for: that of its address's dialog, if that waits for the
+-- message, else the bound one
 abbrev pub gives_message : Option (List ℕ) → Option WillDialog → Option (List ℕ)
 gives_message bound None = bound
 gives_message bound (Some dialog) = by_message bound dialog dialog.awaited
 
--- The client that a frame is from: a CONNECT has its id, and so has a PINGREQ that is not empty; a
--- will that a dialog of the address waits for is from the client that began it; else it is the
--- client that is bound to the address
+-- The client that a frame is from. CONNECT, and PINGREQ if it is not empty, name it. A will that a
+-- dialog of the address waits for is from the client that began the dialog. Every other frame is
+-- from the client that is bound to the address.
 abbrev pub sender_of : Local → Addr → Frame → Option (List ℕ)
 sender_of local a (frames.Connect flags protocol duration client) = Some client
 sender_of local a (frames.PingReq client) =
@@ -64,7 +66,7 @@ sender_of local a frame = client_at a local.bindings
 
 -- ---- causes
 
--- the client is told that it is accepted: CONNACK 0 is among the frames
+-- the client is accepted: CONNACK 0 to the address is among the frames
 abbrev pub IsWelcome : Addr → List Send → Type 0
 IsWelcome a sends = Contains sends (record { to = a; bytes = spelling (frames.ConnAck 0) })
 
@@ -86,9 +88,9 @@ AnswersFor seen c phase msg_id put =
 abbrev pub IsRefusal : ℕ → Type 0
 IsRefusal code = 2 ≤ code
 
--- The frame is a cause to acknowledge this message of the client c: a CONNECT, or the end of a will
--- dialog, that begins a clean session, if it is accepted; the PUBACK of a message at quality of
--- service 1, or one that refuses it; the PUBREC of a message at 2; a REGACK that refuses its topic.
+-- The frame is a cause to acknowledge this message of the client c. A CONNECT, or the end of a will
+-- dialog, begins a clean session, and is accepted. A PUBACK accepts the message at quality of
+-- service 1, or refuses it. A PUBREC answers the message at 2. A REGACK refuses its topic.
 abbrev pub IsCause : Seen → Local → Addr → Frame → List Send → List ℕ → Put → Type 0
 IsCause seen local a (frames.Connect flags protocol duration client) sends c put =
     (client ≡ c) × (has_bit flags.bits 2 ≡ true) × IsWelcome a sends
@@ -111,16 +113,16 @@ abbrev pub session_behind : ℕ → Entries → Seen → Local → Addr → Fram
 session_behind g predefined seen local a frame now c =
     session_after (session_of seen c) (row_for g predefined seen local a frame now).draft
 
--- Delivery at the address is done with the message of the client, which is Active or Awake: the
--- message is sent at quality of service 0, or no topic id is left for it. That too is wider than
--- the table: one PUBLISH may stand for several equal messages, and where no id is left nothing says
+-- Delivery at the address is done with the message of the client, which is Active or Awake. Either
+-- the message is sent at quality of service 0, or no topic id is left for it. That too is wider
+-- than the table. One PUBLISH may stand for several equal messages. If no id is left, nothing says
 -- that Delivery came as far as this message.
 abbrev pub IsSpent : Entries → Addr → List ℕ → ℕ → Session → Put → List Send → Type 0
 IsSpent predefined a c now s put sends =
     (is_served s.presence ≡ true) × IsDoneWith predefined (peer_at a c now) s put sends
 
--- The name is that of a message that waits for the client c, from which the frame is; and the frame
--- is the cause, or Delivery is done with the message
+-- The name is that of a message that waits for the client c, and the frame is from c. The frame is
+-- the cause, or Delivery is done with the message.
 abbrev pub IsForCause : ℕ → Entries → Seen → Local → Addr → Frame → ℕ → List Send → List ℕ → ℕ × ℕ
     → Type 0
 IsForCause g predefined seen local a frame now sends c name =
@@ -130,7 +132,7 @@ IsForCause g predefined seen local a frame now sends c name =
     ⊎ IsSpent predefined a c now (session_behind g predefined seen local a frame now c) put sends))
 
 -- The name is that of a message that waits for the client c, which is the gateway's and has an
--- address; and Delivery at that address is done with the message
+-- address. Delivery at that address is done with the message.
 abbrev pub IsTimely : ℕ → Entries → Seen → Local → ℕ → List Send → List ℕ → ℕ × ℕ → Type 0
 IsTimely g predefined seen local now sends c name =
     (is_owned g seen c ≡ true) × ((a : Addr) × (address_of c local.bindings ≡ Some a)

@@ -10,7 +10,7 @@ use Rattle.gw_answer.specs.declared.fault.NodeFault.TheVariants as faults
 use Rattle.gw_answer.specs.declared.refusal.Refusal.{Refusal}
 use Rattle.gw_answer.specs.declared.refusal.Refusal.TheVariants as refusals
 
--- the same answer, whoever else has a share of it
+-- a refusal by its value, whoever has a share of it
 abbrev pub told : NodeFault → Refusal
 told (faults.Frame fault) = refusals.Frame fault
 told faults.Halted = refusals.Halted
@@ -21,7 +21,7 @@ told faults.Exhausted = refusals.Exhausted
 told (faults.Journal fault) = refusals.Journal fault
 told faults.Memory = refusals.Memory
 
--- the number by which programs tell a refusal, with an `N` in front of it
+-- the number by which programs print a refusal, with an `N` in front of it
 abbrev pub refusal_number : Refusal → ℕ
 refusal_number (refusals.Frame fault) = 1
 refusal_number refusals.Halted = 2
@@ -32,6 +32,7 @@ refusal_number refusals.Exhausted = 6
 refusal_number refusals.Memory = 7
 refusal_number (refusals.Journal fault) = 8
 
+-- an answer by its value, whoever has a share of it
 abbrev pub said : Result (Arc Out Global) NodeFault → Result Out Refusal
 said (Ok out) = Ok (arc_value out)
 said (Err fault) = Err (told fault)

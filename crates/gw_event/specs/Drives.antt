@@ -11,24 +11,24 @@ use Rattle.jr_journal.specs.Arranged.{after_append}
 use Rattle.jr_journal.specs.Journals.{other, emptied}
 use Rattle.jr_journal.specs.Opening.{slot_read}
 
--- its two slots, the one that the journal writes, whether a write has failed since it was opened,
--- and the failure that is arranged
+-- the disk under a gateway: its two slots, the one that the journal writes, whether a write has
+-- failed since it was opened, and the failure that is arranged
 pub record Drive : Type 0 where
   pub slots : Slots
   pub slot : Slot
   pub halted : Bool
   pub plan : Option Plan
 
--- a journal is opened where this was found; a failure that is arranged stays so
+-- the disk once a journal is opened on this image; a failure that is arranged stays so
 abbrev pub opened : ℕ → Option Plan → Image → Drive
 opened gateway plan i =
     record { slots = recovered gateway i; slot = slot_read gateway i; halted = false; plan = plan }
 
--- on an empty disk
+-- the disk at the start: it has only what an opening of an empty disk begins
 abbrev pub new_drive : ℕ → Drive
 new_drive gateway = opened gateway None (record { first = []; second = [] })
 
--- the delta is one more record, and synced
+-- the disk once the delta is one more record, and synced
 abbrev pub with_record : List Op → Drive → Drive
 with_record delta drive =
     record drive { slots = after_append None drive.slots drive.slot (written delta) }
@@ -38,7 +38,7 @@ abbrev pub GoesOut : List Op → Drive → Type 0
 GoesOut [] drive = Unit {0}
 GoesOut (op ∷ ops) drive = drive.plan ≡ None
 
--- this failure was arranged: it comes as the delta is written, and the journal is halted
+-- the disk if this failure comes as the delta is written: the journal is halted
 abbrev pub torn : Plan → List Op → Drive → Drive
 torn plan delta drive =
     record drive {
@@ -47,17 +47,17 @@ torn plan delta drive =
       plan = None;
     }
 
--- a delta without operations is not written
+-- the disk once the delta is written; one without operations is not
 abbrev pub noted : List Op → Drive → Drive
 noted [] drive = drive
 noted (op ∷ ops) drive = with_record (op ∷ ops) drive
 
--- the generation of the slot that the journal writes, as its header tells
+-- the generation of the slot that the journal writes, as its header says
 abbrev pub generation : ℕ → Drive → ℕ
 generation gateway drive = generation_in (slot_content gateway (at drive.slots drive.slot).synced)
 
--- the journal goes on in the other slot, which gets a header of the next generation, the base and
--- the seal
+-- the disk after a compaction: the journal goes on in the other slot, which has a header of the
+-- next generation, the base and the seal
 abbrev pub compacted : ℕ → List (List Op) → Drive → Drive
 compacted gateway base drive = record drive {
   slots = after_append None (emptied drive.slots (other drive.slot)) (other drive.slot)
@@ -65,7 +65,7 @@ compacted gateway base drive = record drive {
   slot = other drive.slot;
 }
 
--- this failure was arranged: it comes as the base is written, and the journal is halted
+-- the disk if this failure comes as the base of a compaction is written: the journal is halted
 abbrev pub torn_base : Plan → ℕ → List (List Op) → Drive → Drive
 torn_base plan gateway base drive = record drive {
   slots = after_append (Some plan) (emptied drive.slots (other drive.slot)) (other drive.slot)
@@ -74,17 +74,17 @@ torn_base plan gateway base drive = record drive {
   plan = None;
 }
 
--- a failure is arranged, in the place of one that was: the next append stops after so many bytes,
--- or its sync fails
+-- a failure is arranged, instead of one that was: the next append stops after so many bytes, or its
+-- sync fails
 abbrev pub arranged : ℕ → Bool → Drive → Drive
 arranged bytes sync drive = record drive { plan = Some (if sync then KeepBack else Stop bytes) }
 
--- what is left where the gateway stops: of each slot the synced bytes, and the first so many of
--- those that are not
+-- what is left if the gateway stops: of each slot the synced bytes, and the first so many of those
+-- that are not
 abbrev pub left_by : ℕ → Drive → Image
 left_by kept drive = after_crash kept kept drive.slots
 
--- an image has more records than are synced
+-- an image has more records than are synced, so it has that of the delta that was refused
 abbrev pub has_more : ℕ → Drive → Image → Bool
 has_more gateway drive i =
     nat_lt (length (records gateway (left_by 0 drive))) (length (records gateway i))

@@ -1,6 +1,6 @@
 -- What one call may do to a gateway: its answer, the gateway after it, and the delta that it makes,
--- if it makes one. What is made or taken is in the journal then. Where the disk fails the gateway
--- is halted: it refuses everything that would change it, until it is opened again.
+-- if it makes one. What is made or taken is in the journal then. If the disk fails, the gateway is
+-- halted: it refuses everything that would change it, until it is opened again.
 use Rattle.std.specs.Prelude.{◌≡◌, ◌≢◌, ◌⊎◌, ◌<◌, ℕ, true, false, length, if◌then◌else◌, List, [], ◌∷◌, ◌++◌, Option, Some, None, Result, Ok, Err, Contains}
 use Rattle.rep_op.specs.declared.op.Op.{Op}
 use Rattle.rep_op.specs.declared.op.Op.TheVariants.{Session as OfSession, Put as OfPut}
@@ -38,7 +38,7 @@ use Rattle.gw_event.specs.Occasions.{Occasion, Datagram, Clock, IsPlanOf, IsNoFr
 use Rattle.gw_answer.specs.Answers.{only_sends}
 use Rattle.gw_event.specs.Excuses.{IsExcuse}
 
--- two session operations of one name, or two messages of one name; acknowledgements contradict
+-- two operations have one name: session operations, or messages; acknowledgements contradict
 -- nothing
 abbrev pub HaveName : Op → Op → Type 0
 HaveName (OfSession c s i o) (OfSession d t j p) = (c ≡ d) × (s ≡ t) × (i ≡ j)
@@ -56,19 +56,20 @@ pub record IsConflict (taken delta : List Op) (client : List ℕ) : Type 0 where
   pub named : HaveName old new
   pub differs : old ≢ new
 
--- the set has room for the delta, and what must be kept of it does not contradict it
+-- what must be kept of the set does not contradict the delta, and both together pass no limit
 pub record IsTakable (taken delta : List Op) : Type 0 where
   pub agrees : AllAgree (keep taken) delta
   pub room : first_passed (taken ++ delta) ≡ None
 
--- the gateway refuses the delta: for a conflict, or because more would be held than a limit allows
+-- The gateway refuses the delta. Conflict: it contradicts the set. Full: nothing that must be kept
+-- contradicts it, and both together pass a limit.
 abbrev pub IsRefused : List Op → List Op → Refusal → Type 0
 IsRefused taken delta (refusals.Conflict client) = IsConflict taken delta client
 IsRefused taken delta refusals.Full =
     AllAgree (keep taken) delta × ((limit : Limit) × (first_passed (taken ++ delta) ≡ Some limit))
 IsRefused taken delta fault = ⊥
 
--- the delta can be written: its numbers fit their octets, and together they are not too many
+-- the delta can be written: its numbers fit their octets, and its octets are at most 8 MiB
 pub record IsWritable (delta : List Op) : Type 0 where
   pub values : AreValues delta
   pub limit : IsWithinLimit delta
@@ -78,8 +79,8 @@ pub record NothingHappens (old new : Gateway) (made : List (List Op)) : Type 0 w
   pub same : new ≡ old
   pub none : made ≡ []
 
--- The plan was carried out: what it says was sent and noted, and its operations, if there are any,
--- are one delta that the gateway took.
+-- The plan was carried out. What it says was sent and noted. Its operations, if there are any, are
+-- one delta that the gateway took.
 abbrev pub IsMade : List Op → Gateway → Plan → Option (List Op) → Gateway → List (List Op) → Type 0
 IsMade [] old plan (Some delta) new made = ⊥
 IsMade [] old plan None new made =
@@ -101,15 +102,17 @@ IsCarriedOut old plan out new made =
     (out ≡ record (only_sends plan.sends) { made = out.made })
     × IsMade plan.ops old plan out.made new made × AreApart plan.ops
 
--- the plan for the occasion, by what the gateway has taken
+-- the plan for the occasion, by what the gateway has taken; none if it needs a number after the
+-- last
 abbrev pub IsPlan : Gateway → Occasion → ℕ → Option Plan → Type 0
 IsPlan old occasion now plan = IsPlanOf old.config (seen_of old.taken) old.local occasion now plan
 
--- the operations of a plan cannot be taken: they make no delta, or the gateway refuses it
+-- the operations of a plan cannot be taken: they make a delta that the gateway refuses
 abbrev pub IsTooMuch : Gateway → Plan → Refusal → Type 0
 IsTooMuch old plan fault =
     (delta : List Op) × IsDeltaOf plan.ops delta × IsRefused old.taken delta fault
 
+-- the operations of a plan make no delta, and not because memory ran out
 abbrev pub HasNoDelta : Plan → Type 0
 HasNoDelta plan = (fault : OpsFault) × (fault ≢ ops_faults.Memory) × IsRefusal plan.ops fault
 
@@ -123,7 +126,7 @@ pub record IsTorn (old : Gateway) (delta : List Op) (new : Gateway)
   pub halted : new ≡ record old { refused = delta; drive = torn failure delta old.drive }
   pub none : made ≡ []
 
--- The plan was not carried out, for the disk failed; the excuse is sent in the place of what it
+-- The plan was not carried out, because the disk failed; the excuse is sent instead of what it
 -- says.
 pub record IsDropped (old : Gateway) (occasion : Occasion) (plan : Plan) (excuse : Out)
     (new : Gateway) (made : List (List Op)) : Type 0 where
@@ -136,9 +139,9 @@ pub record IsDropped (old : Gateway) (occasion : Occasion) (plan : Plan) (excuse
   pub excused : IsExcuse occasion plan.sends excuse.sends
   pub sends : excuse ≡ only_sends excuse.sends
 
--- A datagram comes, or time goes by. The gateway is halted; or the datagram is no frame; or its
--- step needs a number after the last; or its operations cannot be taken; or they cannot be written;
--- or the plan is carried out.
+-- A datagram comes, or time goes by. Nothing changes if the gateway is halted, or the datagram is
+-- no frame. Nor does it if its step needs a number after the last, or if its operations cannot be
+-- taken. Else its operations cannot be written, as the disk fails; or the plan is carried out.
 abbrev pub OwnStep : Gateway → Occasion → ℕ → Result Out Refusal → Gateway → List (List Op) → Type 0
 OwnStep old occasion now (Ok out) new made =
     (plan : Plan) × IsPlan old occasion now (Some plan) × IsCarriedOut old plan out new made
@@ -163,8 +166,8 @@ OwnStep old occasion now (Err (refusals.Disk excuse)) new made =
 OwnStep old occasion now (Err (refusals.Journal fault)) new made = ⊥
 OwnStep old occasion now (Err refusals.Memory) new made = ⊥
 
--- A delta comes. It is taken, the answer is empty, and clients that another gateway now owns have
--- no address here any more; or it is refused; or it cannot be written; or the gateway is halted.
+-- A delta comes. It is taken and the answer is empty; clients that another gateway now owns no
+-- longer have an address here. Or it is refused; or it cannot be written; or the gateway is halted.
 abbrev pub TakeStep : Gateway → List Op → Result Out Refusal → Gateway → List (List Op) → Type 0
 TakeStep old delta (Ok out) new made =
     (out ≡ only_sends []) × IsTakable old.taken delta × (made ≡ [])
@@ -189,9 +192,9 @@ TakeStep old delta (Err refusals.Exhausted) new made = ⊥
 TakeStep old delta (Err (refusals.Journal fault)) new made = ⊥
 TakeStep old delta (Err refusals.Memory) new made = ⊥
 
--- The gateway writes its journal anew: what must be kept of its set, as deltas. Nothing is sent,
--- and the set stays as it is. It is refused where it is halted, else exactly where the generation
--- is the last that there is, else exactly where a failure was arranged, which comes now.
+-- The gateway writes its journal from the start: what must be kept of its set, as deltas. Nothing
+-- is sent, and the set stays as it is. It refuses if it is halted; else if the generation is the
+-- last; else if a failure was arranged, which comes now; and in no other case.
 abbrev pub CompactStep : Gateway → Result Out Refusal → Gateway → Type 0
 CompactStep old (Ok out) new =
     (generation old.config.gateway old.drive ≢ last_generation) × (out ≡ only_sends [])
@@ -214,7 +217,7 @@ CompactStep old (Err refusals.Full) new = ⊥
 CompactStep old (Err refusals.Exhausted) new = ⊥
 CompactStep old (Err refusals.Memory) new = ⊥
 
--- an answer that shows a client's view, where an operation names the client
+-- an answer that shows a client's view, if an operation names the client
 abbrev pub shows : List Op → List ℕ → Out
 shows S client =
     record (only_sends []) { view = if is_named client S then Some (view client S) else None }
@@ -224,7 +227,7 @@ abbrev pub ViewStep : Gateway → List ℕ → Result Out Refusal → Gateway �
 ViewStep old client (Ok out) new = (out ≡ shows old.taken client) × (new ≡ old)
 ViewStep old client (Err refusal) new = ⊥
 
--- A gateway asks for the digest, which is that of the set. It is refused exactly where it is too
+-- A gateway asks for the digest, which is that of the set. It is refused if and only if it is too
 -- long.
 abbrev pub DigestStep : Gateway → Result Out Refusal → Gateway → Type 0
 DigestStep old (Ok out) new =
@@ -242,7 +245,7 @@ ReplyStep old asked (Ok out) new =
 ReplyStep old asked (Err refusal) new = ⊥
 
 -- The gateway is opened again, halted or not, from what its disk has: see `reopened`. Nothing is
--- sent. What a refused opening leaves is told of nodes alone.
+-- sent. An opening that is refused is no step of a gateway; contracts of nodes say what it leaves.
 abbrev pub ReopenStep : Gateway → Result Out Refusal → Gateway → Type 0
 ReopenStep old (Ok out) new = (out ≡ only_sends []) × (new ≡ reopened (image old.drive.slots) old)
 ReopenStep old (Err refusal) new = ⊥
@@ -250,7 +253,7 @@ ReopenStep old (Err refusal) new = ⊥
 -- ---- every call
 
 -- what a call's step may do: a datagram, a delta, a tick, a view, a digest, an answer to one, a
--- compaction
+-- compaction, a reopening
 abbrev pub StepOf : Gateway → Step → Result Out Refusal → Gateway → List (List Op) → Type 0
 StepOf old (steps.Frame from bytes now) answer new made =
     OwnStep old (Datagram from bytes) now answer new made
@@ -262,7 +265,7 @@ StepOf old (steps.Answer asked) answer new made = ReplyStep old asked answer new
 StepOf old steps.Compact answer new made = CompactStep old answer new × (made ≡ [])
 StepOf old steps.Reopen answer new made = ReopenStep old answer new × (made ≡ [])
 
--- The event: it may do that; or memory ran out, and nothing changed.
+-- an event: the call does what its step may do; or memory ran out, and nothing changed
 abbrev pub Event : Gateway → Step → Result Out Refusal → Gateway → List (List Op) → Type 0
 Event old step answer new made =
     StepOf old step answer new made ⊎ ((answer ≡ Err refusals.Memory) × NothingHappens old new made)

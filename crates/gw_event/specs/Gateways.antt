@@ -1,7 +1,6 @@
--- A gateway as its operator believes it: what it was told, the set of operations that it has made
--- and taken, what else it knows, the disk under it, and the delta that it refused when that disk
--- failed. Nobody was told of that one, but it may be on the disk; there is none as long as the
--- gateway goes on.
+-- A gateway as its operator believes it, with the disk under it. `refused` is the delta that it
+-- refused when that disk failed. No answer reported that delta as made or taken, but it may be on
+-- the disk. There is none as long as the gateway goes on.
 use Rattle.std.specs.Prelude.{Bool, true, false, List, [], ◌++◌}
 use Rattle.rep_op.specs.declared.op.Op.{Op}
 use Rattle.sn_local.specs.declared.config.Config.{Config}
@@ -9,6 +8,8 @@ use Rattle.sn_local.specs.Locals.{Local, no_local}
 use Rattle.jr_disk.specs.Disk.{Image}
 use Rattle.gw_event.specs.Drives.{Drive, new_drive, opened, has_more}
 
+-- a gateway: its settings, the set that it has made and taken, its local state, its disk, and the
+-- delta that it refused when that disk failed
 pub record Gateway : Type 0 where
   pub config : Config
   pub taken : List Op
@@ -16,7 +17,7 @@ pub record Gateway : Type 0 where
   pub drive : Drive
   pub refused : List Op
 
--- at the start it has taken nothing, and its disk is empty but for what an opening begins
+-- a gateway at the start: it has taken nothing, and its disk has only what an opening begins
 abbrev pub new_gateway : Config → Gateway
 new_gateway config =
     record {
@@ -32,9 +33,9 @@ abbrev pub with_refused : Bool → List Op → List Op → List Op
 with_refused true taken refused = taken ++ refused
 with_refused false taken refused = taken
 
--- It is opened again where this image was found. It knows nobody then, and its set is what it was,
--- for the journal stands for that: with the delta that it refused, where the image has all of that
--- delta's record, and else with nothing of it.
+-- The gateway is opened again on this image. Its local state is empty, and its set is what it was,
+-- for the journal stands for that. If the image has the whole record of the delta that was refused,
+-- the set has that delta too; else it has nothing of it.
 abbrev pub reopened : Image → Gateway → Gateway
 reopened i old = record old {
   taken = with_refused (has_more old.config.gateway old.drive i) old.taken old.refused;

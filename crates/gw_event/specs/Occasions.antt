@@ -19,8 +19,8 @@ pub data Occasion : Type 0 where
   Datagram : Addr → List ℕ → Occasion
   Clock : Occasion
 
--- the plan for it at a moment, by what the gateway sees: the step table's for the frame that the
--- bytes spell, or that of a tick; None where a number is needed that was the last
+-- The plan for it at a moment, by what the gateway sees: the step table's for the frame that the
+-- bytes spell, or that of a tick. It is None if it needs a number after the last.
 abbrev pub IsPlanOf : Config → Seen → Local → Occasion → ℕ → Option Plan → Type 0
 IsPlanOf config seen local (Datagram from bytes) now plan =
     (frame : Frame) × IsValue frame × Spells bytes frame
@@ -28,7 +28,8 @@ IsPlanOf config seen local (Datagram from bytes) now plan =
 IsPlanOf config seen local Clock now plan =
     tick config.gateway config.advertise config.field config.predefined seen local now ≡ plan
 
--- the bytes of a datagram are no frame, and this is their first fault; that memory ran out is none
+-- the bytes of a datagram are no frame, and this is their first fault; that memory ran out is no
+-- such fault
 abbrev pub IsNoFrame : Occasion → FrameFault → Type 0
 IsNoFrame (Datagram from bytes) fault = IsFirstFault bytes fault × (fault ≢ frame_faults.Memory)
 IsNoFrame Clock fault = ⊥

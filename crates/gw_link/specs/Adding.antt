@@ -10,7 +10,7 @@ abbrev pub AddsEach : (Held → Type 0) → Holder → Holder → Type 0
 AddsEach IsSuch before after =
     (more : List Held) × (after ≡ with_calls before more) × All IsSuch more
 
--- the same of calls of one kind
+-- the pass holds what it held and then calls of this kind, and nothing else
 abbrev pub Adds : (Step → Bool) → Holder → Holder → Type 0
 Adds is before after = AddsEach (λ (held : Held). is held.step ≡ true) before after
 

@@ -3,7 +3,7 @@ use Rattle.std.specs.Prelude.{ℕ, ◌+◌, ◌*◌, ◌==◌, List, take, drop,
 use Rattle.sn_local.specs.declared.config.Addr.{Addr}
 use Rattle.gw_main.specs.Numbers.{number_of}
 
--- what stands before the first place of an octet, and what stands behind it
+-- what is before the first place of an octet, and what is after it
 abbrev pub cut : ℕ → List ℕ → Option (List ℕ × List ℕ)
 cut mark text =
     option_map (λ at. (take at text, drop (at + 1) text)) (position (λ octet. octet == mark) text)
@@ -16,12 +16,13 @@ host_from a b c d =
     (λ y. option_map (λ z. ((w * 256 + x) * 256 + y) * 256 + z) (number_of 8 d)) (number_of 8 c))
     (number_of 8 b)) (number_of 8 a)
 
--- with dots (46) between them
+-- a host: four numbers with dots (46) between them
 abbrev pub host_of : List ℕ → Option ℕ
 host_of text =
     option_and_then (λ a. option_and_then
     (λ b. option_and_then (λ c. host_from a.0 b.0 c.0 c.1) (cut 46 b.1)) (cut 46 a.1)) (cut 46 text)
 
+-- the address of a host and a port
 abbrev pub addr : ℕ → ℕ → Addr
 addr host port = record { host = host; port = port }
 

@@ -1,4 +1,4 @@
--- What a gateway is told by its settings, and the number by which a refused opening is told.
+-- What a gateway knows from its settings, and the number by which a refused opening is printed.
 use Rattle.std.specs.Prelude.{ℕ}
 use Rattle.sn_local.specs.declared.config.Config.{Config}
 use Rattle.jr_journal.specs.Faults.{fault_number}

@@ -8,6 +8,6 @@ abbrev pub is_number : ℕ → List ℕ → Bool
 is_number bits text =
     nat_lt 0 (length text) && all_ascii_digits text && nat_lt (value_of text) (2 ^ bits)
 
--- the number that the text writes, where so many bits hold it
+-- the number that the text writes, if so many bits hold it
 abbrev pub number_of : ℕ → List ℕ → Option ℕ
 number_of bits text = if is_number bits text then Some (value_of text) else None

@@ -21,14 +21,16 @@ abbrev pub within : ℕ → ℕ → ℤ → Option ℕ
 within low high (pos n) = if nat_le low n && nat_le n high then Some n else None
 within low high (negsuc n) = None
 
--- the number that is found, or another where nothing is
+-- the number that is found, if it is in the range; another if nothing is found
 abbrev pub number_in : ℕ → ℕ → Option ℕ → Option Data → Option ℕ
 number_in low high missing None = missing
 number_in low high missing (Some found) = option_and_then (within low high) (as_integer found)
 
+-- the address that is found as a text `a.b.c.d:port`; none if nothing is found or it is no address
 abbrev pub address_in : Option Data → Option Addr
 address_in found = option_and_then address_of (option_and_then as_str found)
 
+-- the octets of the text that is found; none if nothing is found or it is no text
 abbrev pub text_in : Option Data → Option (List ℕ)
 text_in found = option_and_then as_str found
 
@@ -38,11 +40,12 @@ each read no_items = Some []
 each read (item first rest) =
     option_and_then (λ one. option_map (λ more. one ∷ more) (each read rest)) (read first)
 
--- the same of a list that is found; nothing is an empty list
+-- what the items of a list that is found are read as; an empty list if nothing is found
 abbrev pub list_in : {A : Type 0} → (Data → Option A) → Option Data → Option (List A)
 list_in read None = Some []
 list_in read (Some found) = option_and_then (each read) (as_array found)
 
+-- an item that is the text of an address
 abbrev pub address_item : Data → Option Addr
 address_item found = option_and_then address_of (as_str found)
 
@@ -57,45 +60,57 @@ entry_from members =
     (name_in (get_member (codes "topic") members)))
     (number_in 0 65535 None (get_member (codes "id") members))
 
+-- an item that is a table of an id and a topic's name
 abbrev pub entry_item : Data → Option (ℕ × List ℕ)
 entry_item found = option_and_then entry_from (as_table found)
 
--- entries of which no id is reserved and none stands twice
+-- entries none of whose ids is reserved or occurs twice
 abbrev pub table_from : Entries → Option Entries
 table_from entries = if is_table entries then Some entries else None
 
 -- ---- keys
 
+-- what the document has under a key
 abbrev pub at : Key → Members → Option Data
 at key members = get_member (name_of key) members
 
+-- the gateway's number: 1 to 255, with no default
 abbrev pub gateway_in : Members → Option ℕ
 gateway_in members = number_in 1 255 None (at keys.Gateway members)
 
+-- the address of the UDP socket, with no default
 abbrev pub listen_in : Members → Option Addr
 listen_in members = address_in (at keys.Listen members)
 
+-- the address at which links are accepted, with no default
 abbrev pub link_in : Members → Option Addr
 link_in members = address_in (at keys.Link members)
 
+-- the path of the journal, with no default
 abbrev pub journal_in : Members → Option (List ℕ)
 journal_in members = text_in (at keys.Journal members)
 
+-- how many threads make calls for datagrams: 1 to 8; 2 if it is not said
 abbrev pub workers_in : Members → Option ℕ
 workers_in members = number_in 1 8 (Some 2) (at keys.Workers members)
 
+-- how many calls a shift has: 1 to 4,096; 4,096 if it is not said
 abbrev pub steps_in : Members → Option ℕ
 steps_in members = number_in 1 MAX_STEPS (Some MAX_STEPS) (at keys.Steps members)
 
+-- the seconds between two ADVERTISE; 0, for no ADVERTISE, if it is not said
 abbrev pub advertise_in : Members → Option ℕ
 advertise_in members = number_in 0 65535 (Some 0) (at keys.Advertise members)
 
+-- the addresses to which ADVERTISE goes; none if it is not said
 abbrev pub field_in : Members → Option (List Addr)
 field_in members = list_in address_item (at keys.Field members)
 
+-- the addresses of the gateways to be dialled; none if it is not said
 abbrev pub peers_in : Members → Option (List Addr)
 peers_in members = list_in address_item (at keys.Peers members)
 
+-- the predefined topic ids with their names; none if it is not said
 abbrev pub predefined_in : Members → Option Entries
 predefined_in members = option_and_then table_from (list_in entry_item (at keys.Predefined members))
 
@@ -114,7 +129,7 @@ pub record Says (members : Members) (settings : Settings) : Type 0 where
   pub peers : peers_in members ≡ Some settings.peers.items
   pub predefined : predefined_in members ≡ Some settings.predefined
 
--- the key, where nothing was read, else what is found behind it
+-- the key, if nothing was read, else what is found after it
 abbrev pub or_else : {A : Type 0} → Option A → Key → Option Key → Option Key
 or_else None key behind = Some key
 or_else (Some value) key behind = behind
@@ -139,7 +154,7 @@ abbrev pub IsRead : List ℕ → Settings → Type 0
 IsRead text settings =
     (members : Members) × (parse_document text ≡ Some members) × Says members settings
 
--- why it is refused
+-- why a text is refused: it is no document, or this key is the first bad one, or memory ran out
 abbrev pub IsRefused : List ℕ → SettingsFault → Type 0
 IsRefused text faults.Text = parse_document text ≡ None
 IsRefused text (faults.Key key) =

@@ -14,7 +14,7 @@ use Rattle.gw_node.specs.Taking.{on_disk, HasTaken}
 use Rattle.gw_main.specs.declared.tending.Tended.{Tended}
 use Rattle.gw_main.specs.declared.tending.Tended.TheVariants.{Kept, Reopened}
 
--- its journal is written anew; or stays as it is, since its generation is the last there is, or
+-- the journal is rewritten; or it stays as it is, because its generation is the last there is, or
 -- memory ran out
 abbrev pub CompactsIfMay : {D : Type 0} {G : Ghosts D} → State G → State G → Type 0
 CompactsIfMay old new =
@@ -26,11 +26,11 @@ CompactsIfMay old new =
 abbrev pub CompactsNot : {D : Type 0} {G : Ghosts D} → State G → State G → Type 0
 CompactsNot old new = (excuse : Out) × CompactCall old (Err (refusals.Disk excuse)) new
 
--- it is opened anew from its journal
+-- the gateway is opened again from its journal
 abbrev pub OpensAnew : {D : Type 0} {G : Ghosts D} → State G → State G → Type 0
 OpensAnew old new = (out : Out) × ReopenCall old (Ok out) new
 
--- A gateway that goes on is compacted. Where the disk failed in that, it is opened anew.
+-- A gateway that goes on is compacted. If the disk fails in that, the gateway is opened again.
 abbrev pub EndsAs : {D : Type 0} {G : Ghosts D} → State G → Tended → State G → Type 0
 EndsAs old Kept new = CompactsIfMay old new
 EndsAs {G = G} old Reopened new = (failed : State G) × CompactsNot old failed × OpensAnew failed new
@@ -40,7 +40,7 @@ abbrev pub EndsRefused : {D : Type 0} {G : Ghosts D} → State G → Refusal →
 EndsRefused {G = G} old refusal new = (failed : State G) × CompactsNot old failed
     × ReopenCall failed (Err refusal) new
 
--- A gateway that goes on is compacted; one that is halted is opened anew before.
+-- A gateway that goes on is compacted. One that is halted is opened again first.
 abbrev pub IsTended : {D : Type 0} {G : Ghosts D} → State G → Tended → State G → Type 0
 IsTended old Kept new = (is_halted old ≡ false) × EndsAs old Kept new
 IsTended {G = G} old Reopened new =
@@ -48,7 +48,7 @@ IsTended {G = G} old Reopened new =
     ⊎ ((is_halted old ≡ true)
     × ((opened : State G) × OpensAnew old opened × ((tended : Tended) × EndsAs opened tended new)))
 
--- it could not be opened anew, before that or behind it
+-- it could not be opened again, before the compaction or after it
 abbrev pub IsGivenUp : {D : Type 0} {G : Ghosts D} → State G → Refusal → State G → Type 0
 IsGivenUp {G = G} old refusal new =
     ((is_halted old ≡ false) × EndsRefused old refusal new)
@@ -56,8 +56,8 @@ IsGivenUp {G = G} old refusal new =
     × (ReopenCall old (Err refusal) new
     ⊎ ((opened : State G) × OpensAnew old opened × EndsRefused opened refusal new)))
 
--- Whatever set it had taken, with nothing refused, it has taken still. Where a delta was refused,
--- that is so too; or what its journal held is taken as well, and nothing is refused any more.
+-- Whatever set it had taken, with nothing refused, it still has taken. If a delta was refused, that
+-- is so too; or what its journal held is taken as well, and nothing is refused from then on.
 pub record TakesOn {D : Type 0} {G : Ghosts D} (old new : State G) : Type 0 where
   pub itself : (S : List Op) → HasTaken S [] old → HasTaken S [] new
   pub with_read : (S refused : List Op) → HasTaken S refused old → HasTaken S refused new

@@ -18,7 +18,7 @@ kind_of (Hello gateway) = 1
 kind_of (OfDigest d) = 2
 kind_of (OfDelta d) = 3
 
--- the gateway's number; or the spelling
+-- the body of a message: the gateway's number, or the spelling of the digest or the delta
 abbrev pub body_of : LinkMessage → List ℕ
 body_of (Hello gateway) = gateway ∷ []
 body_of (OfDigest d) = digest_spelling d
@@ -28,13 +28,13 @@ body_of (OfDelta d) = delta_spelling d
 abbrev pub spelling : LinkMessage → List ℕ
 spelling m = kind_of m ∷ (big_bytes 4 (length (body_of m)) ++ body_of m)
 
--- gateways have numbers from 1 to 255
+-- a hello of a gateway 1 to 255; or a digest or a delta, within its limit
 abbrev pub IsMessage : LinkMessage → Type 0
 IsMessage (Hello gateway) = (1 ≤ gateway) × (gateway < 2 ^ 8)
 IsMessage (OfDigest d) = IsDigest d × IsDigestWithinLimit d
 IsMessage (OfDelta d) = IsDelta d × AreValues d × IsDeltaWithinLimit d
 
--- no gateway has the number 0
+-- a hello's gateway is not 0
 abbrev pub IsNumbered : LinkMessage → Type 0
 IsNumbered (Hello gateway) = 1 ≤ gateway
 IsNumbered (OfDigest d) = Unit {0}

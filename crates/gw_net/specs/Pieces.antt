@@ -10,18 +10,21 @@ pub record Pending : Type 0 where
   pub waiting : List ℕ
   pub failed : Bool
 
+-- a link from which nothing has come yet
 abbrev pub nothing : Pending
 nothing = record { waiting = []; failed = false }
 
+-- the octets that came, or none
 abbrev pub octets_of : Option (Vec ℕ) → List ℕ
 octets_of None = []
 octets_of (Some octets) = octets.items
 
+-- whether there is a fault
 abbrev pub has_fault : Option LinkFault → Bool
 has_fault None = false
 has_fault (Some fault) = true
 
--- a piece behind what waits gave the messages and the fault, and the rest waits
+-- a piece after what waits gave the messages and the fault, and the rest waits
 pub record IsFed (before : Pending) (piece : List ℕ) (messages : List LinkMessage)
     (fault : Option LinkFault) (after : Pending) : Type 0 where
   pub unfailed : before.failed ≡ false

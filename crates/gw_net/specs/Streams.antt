@@ -10,11 +10,12 @@ use Rattle.gw_net.specs.declared.fault.LinkFault.TheVariants as faults
 use Rattle.gw_net.specs.declared.message.LinkMessage.{LinkMessage}
 use Rattle.gw_net.specs.Messages.{spelling, IsMessage, message_at}
 
--- the message in front of a stream and the octets behind it; nothing where octets are wanting; or a
+-- the message in front of a stream and the octets after it; nothing if octets are missing; or a
 -- fault
 abbrev pub Front : Type 0
 Front = Result (Option (LinkMessage × List ℕ)) LinkFault
 
+-- the message and the octets after it, or Body if its body says none
 abbrev pub with_body : Option LinkMessage → List ℕ → Front
 with_body None rest = Err faults.Body
 with_body (Some m) rest = Ok (Some (m, rest))
@@ -27,19 +28,19 @@ sized_at kind (Ok read) =
     else (if nat_lt (length read.1) read.0 then Ok None
     else with_body (message_at kind (take read.0 read.1)) (drop read.0 read.1))
 
--- the kind is looked at first
+-- what is in front of a stream; an unknown kind is a fault at once, before the length is there
 unfoldable pub front : List ℕ → Front
 front [] = Ok None
 front (kind ∷ rest) =
     if nat_le 1 kind && nat_le kind 3 then sized_at kind (number_at w32 rest) else Err faults.Kind
 
--- what stands behind the messages: no whole message, or the fault
+-- what comes after the messages: no whole message, or the fault
 abbrev pub Ends : List ℕ → Option LinkFault → Type 0
 Ends rest None = front rest ≡ Ok None
 Ends rest (Some fault) = front rest ≡ Err fault
 
--- the messages are the longest list whose spellings, one after the other, begin the stream; behind
--- them stands the fault, or no whole message
+-- The messages are the longest list whose spellings, one after the other, begin the stream. After
+-- them comes the fault, or no whole message.
 pub record IsRead (stream : List ℕ) (messages : List LinkMessage) (fault : Option LinkFault)
     (rest : List ℕ) : Type 0 where
   pub all : AllByRecursion IsMessage messages

@@ -46,8 +46,8 @@ pub record IsDone {D : Type 0} {G : Ghosts D} (old : State G) (plan : Plan) (out
   pub made : Makes plan.ops out.made old new
   pub answer : out ≡ record (only_sends plan.sends) { made = out.made }
 
--- the journal could not be written: nothing of the plan was done, and its client is told so; its
--- operations make a delta as they do where it is carried out
+-- The journal could not be written. Nothing of the plan was done, and its excuse is the answer. Its
+-- operations make a delta as they do if it is carried out.
 pub record IsGivenUp {D : Type 0} {G : Ghosts D} (old : State G) (plan : Plan) (excuse : Out)
     (new : State G) : Type 0 where
   pub some : plan.ops ≢ []
@@ -69,9 +69,9 @@ AreTooMuch kept ops refusal =
     ((delta : List Op) × IsDeltaOf ops delta × IsMisfit kept delta refusal)
     ⊎ ((refusal ≡ refusals.Full) × MakeNoDelta ops)
 
--- A datagram comes, or time goes by. The node is halted; or the datagram is no frame; or its step
--- needs a number after the last; or its operations cannot be taken; or the journal cannot be
--- written; or the plan is carried out.
+-- A datagram comes, or time goes by. Nothing changes if the node is halted, or the datagram is no
+-- frame. Nor does it if its step needs a number after the last, or if its operations cannot be
+-- taken. Else the journal cannot be written; or the plan is carried out.
 abbrev pub OwnCall : {D : Type 0} {G : Ghosts D} → State G → Occasion → ℕ → Result Out Refusal
     → State G → Type 0
 OwnCall old occasion now (Err refusals.Halted) new = (is_halted old ≡ true) × IsUnchanged old new
@@ -99,12 +99,12 @@ OwnCall old occasion now (Ok out) new =
 
 -- ---- deltas
 
--- a delta without operations is not written
+-- the journal once the delta is written; one without operations is not
 abbrev pub IsNoted : {D : Type 0} {G : Ghosts D} → Journal D G → List Op → Journal D G → Type 0
 IsNoted old [] new = IsUntouched old new
 IsNoted old (op ∷ ops) new = IsWritten old (op ∷ ops) new
 
--- the delta is taken, and clients that another gateway now owns have no address here any more
+-- the delta is taken, and clients that another gateway now owns no longer have an address here
 pub record IsTaken {D : Type 0} {G : Ghosts D} (old : State G) (delta : List Op)
     (new : State G) : Type 0 where
   pub config : new.config ≡ old.config
@@ -115,7 +115,7 @@ pub record IsTaken {D : Type 0} {G : Ghosts D} (old : State G) (delta : List Op)
   pub local : new.local ≡ owned old.config.gateway (seen_of new.kept) old.local
   pub noted : IsNoted old.journal delta new.journal
 
--- it has operations and fits, and the journal could not be written
+-- the delta has operations and fits, and the journal could not be written
 pub record IsLeft {D : Type 0} {G : Ghosts D} (old : State G) (delta : List Op)
     (new : State G) : Type 0 where
   pub some : delta ≢ []
@@ -164,7 +164,7 @@ ViewCall old client (Err (refusals.Journal fault)) new = ⊥
 -- ---- digests and answers
 
 -- A gateway asks for the digest, which is that of what is kept; a halted node answers too. It is
--- refused exactly where it is too long.
+-- refused if and only if it is too long.
 abbrev pub DigestCall : {D : Type 0} {G : Ghosts D} → State G → Result Out Refusal → State G
     → Type 0
 DigestCall old (Ok out) new =
@@ -208,7 +208,7 @@ pub record IsCompacted {D : Type 0} {G : Ghosts D} (old new : State G) : Type 0 
   pub held : IsHeld old.kept base
   pub rewritten : IsRewritten old.journal base new.journal
 
--- the journal could not be written anew, and is halted; else the node is as it was
+-- the journal could not be rewritten, and is halted; else the node is as it was
 pub record IsNotCompacted {D : Type 0} {G : Ghosts D} (old new : State G) : Type 0 where
   pub config : new.config ≡ old.config
   pub records : new.records ≡ old.records
@@ -219,8 +219,8 @@ pub record IsNotCompacted {D : Type 0} {G : Ghosts D} (old new : State G) : Type
   pub failed : IsNotRewritten old.journal base new.journal
 
 -- The journal is to hold what is kept, and nothing else. The node is halted; or the journal's
--- generation is the last there is; or the journal cannot be written; or it is written anew. Nothing
--- is sent.
+-- generation is the last there is; or the journal cannot be written; or it is rewritten. Nothing is
+-- sent.
 abbrev pub CompactCall : {D : Type 0} {G : Ghosts D} → State G → Result Out Refusal → State G
     → Type 0
 CompactCall old (Err refusals.Halted) new = (is_halted old ≡ true) × IsUnchanged old new
@@ -242,6 +242,7 @@ CompactCall old (Ok out) new = (is_halted old ≡ false) × (out ≡ only_sends 
 
 -- ---- steps
 
+-- what a call may be answered, and the node after it, by the kind of the call
 abbrev pub StepCall : {D : Type 0} {G : Ghosts D} → State G → Step → Result Out Refusal → State G
     → Type 0
 StepCall old (steps.Frame from bytes now) answer new =

@@ -16,7 +16,7 @@ use Rattle.gw_node.specs.Parts.{State}
 use Rattle.gw_node.specs.Plans.{IsPlanFor}
 use Rattle.gw_node.specs.Taking.{on_disk, HasTaken}
 
--- the set that was taken before, with the delta, where the delta contradicts nothing of it
+-- the set that was taken before, with the delta, if the delta contradicts nothing of it
 abbrev pub TakesMore : {D : Type 0} {G : Ghosts D} → State G → List Op → State G → Type 0
 TakesMore old delta new =
     (S : List Op) → AllAgree S delta → HasTaken S [] old → HasTaken (S ++ delta) [] new
@@ -30,14 +30,14 @@ TakesNoMore old delta new =
 abbrev pub TakesNothing : {D : Type 0} {G : Ghosts D} → State G → State G → Type 0
 TakesNothing old new = (S refused : List Op) → HasTaken S refused old → HasTaken S refused new
 
--- the set that was taken before, with what was read; where nothing was refused, that is the set
--- itself
+-- the set that was taken before, with what was read; if nothing was refused, that is the set itself
 pub record TakesAgain {D : Type 0} {G : Ghosts D} (old new : State G) : Type 0 where
   pub with_read : G.honest → (S refused : List Op) → HasTaken S refused old
       → HasTaken (S ++ all_of (on_disk old)) [] new
   pub itself : G.honest → (S : List Op) → HasTaken S [] old → HasTaken S [] new
 
--- by a delta
+-- which set a node has taken after a delta: with the delta; or as before, and the delta was
+-- refused; or as before
 abbrev pub CarriesOn : {D : Type 0} {G : Ghosts D} → State G → List Op → Result Out Refusal
     → State G → Type 0
 CarriesOn old delta (Ok out) new = TakesMore old delta new
@@ -50,8 +50,8 @@ CarriesOn old delta (Err refusals.Exhausted) new = TakesNothing old new
 CarriesOn old delta (Err (refusals.Journal fault)) new = TakesNothing old new
 CarriesOn old delta (Err refusals.Memory) new = TakesNothing old new
 
--- by a datagram or a tick: what it made is taken; where the journal could not be written, the delta
--- of the plan was refused
+-- Which set a node has taken after a datagram or a tick: with what it made. If the journal could
+-- not be written, it is as before, and the delta of the plan was refused.
 abbrev pub OwnCarriesOn : {D : Type 0} {G : Ghosts D} → State G → Occasion → ℕ → Result Out Refusal
     → State G → Type 0
 OwnCarriesOn old occasion now (Ok out) new = TakesMore old (unwrap_or out.made []) new
@@ -66,12 +66,14 @@ OwnCarriesOn old occasion now (Err refusals.Exhausted) new = TakesNothing old ne
 OwnCarriesOn old occasion now (Err (refusals.Journal fault)) new = TakesNothing old new
 OwnCarriesOn old occasion now (Err refusals.Memory) new = TakesNothing old new
 
--- by a reopening: what was read is taken; refused, it leaves what was taken
+-- which set a node has taken after a reopening: with what was read; if the reopening was refused,
+-- as before
 abbrev pub ReopenCarriesOn : {D : Type 0} {G : Ghosts D} → State G → Result Out Refusal → State G
     → Type 0
 ReopenCarriesOn old (Ok out) new = TakesAgain old new
 ReopenCarriesOn old (Err refusal) new = TakesNothing old new
 
+-- which set a node has taken after a call, by the kind of the call
 abbrev pub StepCarriesOn : {D : Type 0} {G : Ghosts D} → State G → Step → Result Out Refusal
     → State G → Type 0
 StepCarriesOn old (steps.Frame from bytes now) answer new =

@@ -1,10 +1,10 @@
--- Answers that tell of a failure of the disk.
+-- Answers that report a failure of the disk.
 use Rattle.std.specs.Prelude.{ℕ, Result, Ok, Err}
 use Rattle.gw_answer.specs.declared.out.Out.{Out}
 use Rattle.gw_answer.specs.declared.refusal.Refusal.{Refusal}
 use Rattle.gw_answer.specs.declared.refusal.Refusal.TheVariants as refusals
 
--- one, where the answer is that the disk failed
+-- one, if the answer is that the disk failed
 abbrev pub failed : Result Out Refusal → ℕ
 failed (Ok out) = 0
 failed (Err (refusals.Disk excuse)) = 1

@@ -45,7 +45,7 @@ pub record HasMisfit (deltas : List (List Op)) (refusal : Refusal) : Type 0 wher
   pub misfit : IsMisfit kept delta refusal
 
 -- Why an image is not opened: the journal's fault; or a record that does not fit to those before
--- it. A disk that failed, and want of memory, say nothing of the image.
+-- it. That the disk failed, or that memory ran out, says nothing of the image.
 abbrev pub IsOpenFault : ℕ → Image → Refusal → Type 0
 IsOpenFault gateway i (refusals.Journal fault) = fault_of gateway i ≡ Some fault
 IsOpenFault gateway i (refusals.Conflict client) =
@@ -57,7 +57,7 @@ IsOpenFault gateway i (refusals.Frame fault) = ⊥
 IsOpenFault gateway i refusals.Halted = ⊥
 IsOpenFault gateway i refusals.Exhausted = ⊥
 
--- the disk failed
+-- the refusal is that the disk failed
 abbrev pub IsDiskFault : Refusal → Type 0
 IsDiskFault (refusals.Disk excuse) = Unit {0}
 IsDiskFault refusals.Halted = ⊥
@@ -68,7 +68,7 @@ IsDiskFault refusals.Exhausted = ⊥
 IsDiskFault (refusals.Journal fault) = ⊥
 IsDiskFault refusals.Memory = ⊥
 
--- an opening may be refused so; nothing is sent where the disk failed
+-- an opening may be refused so; nothing is sent if the disk failed
 abbrev pub MayRefuse : Refusal → Type 0
 MayRefuse (refusals.Frame fault) = ⊥
 MayRefuse refusals.Halted = ⊥
@@ -79,10 +79,10 @@ MayRefuse refusals.Full = Unit {0}
 MayRefuse (refusals.Journal fault) = Unit {0}
 MayRefuse refusals.Memory = Unit {0}
 
--- What a refused opening leaves in the slots: where they are no journal of this gateway they are
--- synced and not changed; where a record does not fit they are as an opening leaves them. Where
--- memory ran out they are untouched, or one of these. Of a disk that failed another clause says
--- what a crash leaves.
+-- What a refused opening leaves in the slots. If they are no journal of this gateway, they are
+-- synced and not changed. If a record does not fit, they are as an opening leaves them. If memory
+-- ran out, they are untouched, or one of these. If the disk failed, another clause says what a
+-- crash leaves.
 abbrev pub LeavesSlots : ℕ → Slots → Refusal → Slots → Type 0
 LeavesSlots gateway old (refusals.Journal fault) new = new ≡ synced_slots old
 LeavesSlots gateway old (refusals.Conflict client) new = new ≡ recovered gateway (image old)
@@ -131,8 +131,7 @@ pub record IsReopened {D : Type 0} {G : Ghosts D} (old new : State G) : Type 0 w
       → G.outlook (disk_of new.journal) ≡ G.outlook (disk_of old.journal)
 
 -- The node was not opened again: what it keeps and knows is as before, and no crash leaves what it
--- could not have left before. It is halted; but where memory ran out, it is halted or not as
--- before.
+-- could not have left before. It is halted; only if memory ran out is it halted or not as before.
 pub record IsNotReopened {D : Type 0} {G : Ghosts D} (old : State G) (refusal : Refusal)
     (new : State G) : Type 0 where
   pub config : new.config ≡ old.config

@@ -9,8 +9,8 @@ use Rattle.jr_journal.specs.declared.journal.Journal.{Journal}
 use Rattle.jr_journal.specs.Parts.{disk_of as disk_under, gateway_of, slot_of, generation_of, is_halted as is_stopped}
 use Rattle.gw_node.specs.declared.node.Node.{Node}
 
--- what a node is: what it was told, what its replica keeps, what else it knows, its journal, and
--- how many records it read when it was last opened
+-- what a node is: its settings, what its replica keeps, what else it knows, its journal, and how
+-- many records it read when it was last opened
 pub record State {D : Type 0} (G : Ghosts D) : Type 0 where
   pub config : Config
   pub kept : List Op
@@ -18,6 +18,7 @@ pub record State {D : Type 0} (G : Ghosts D) : Type 0 where
   pub journal : Journal D G
   pub records : ℕ
 
+-- the parts of a node as contracts see them, with what its replica keeps
 abbrev pub state_of : {R Z D : Type 0} {P : Promises R Z} {G : Ghosts D} → (R → List Op)
     → Node R D Z P G → State G
 state_of kept node =
@@ -29,15 +30,16 @@ state_of kept node =
       records = node.records;
     }
 
--- how many records it read when it was last opened
+-- how many records a node read when it was last opened
 abbrev pub records_of : {R Z D : Type 0} {P : Promises R Z} {G : Ghosts D} → Node R D Z P G → ℕ
 records_of node = node.records
 
--- the disk that its journal is on
+-- the disk that a node's journal is on
 abbrev pub disk_of : {R Z D : Type 0} {P : Promises R Z} {G : Ghosts D} → Node R D Z P G → D
 disk_of node = disk_under node.journal
 
--- whether its journal is halted: a write has failed since it was opened, or a try to open it again
+-- whether a node's journal is halted: a write has failed since it was opened, or a try to open it
+-- again
 abbrev pub is_halted : {D : Type 0} {G : Ghosts D} → State G → Bool
 is_halted state = is_stopped state.journal
 
@@ -49,7 +51,7 @@ pub record IsUntouched {D : Type 0} {G : Ghosts D} (old new : Journal D G) : Typ
   pub halted : is_stopped new ≡ is_stopped old
   pub disk : disk_under new ≡ disk_under old
 
--- and so is a node
+-- a node is as it was
 pub record IsUnchanged {D : Type 0} {G : Ghosts D} (old new : State G) : Type 0 where
   pub config : new.config ≡ old.config
   pub kept : new.kept ≡ old.kept

@@ -25,15 +25,14 @@ use Rattle.gw_node.specs.Taking.{StandsFor}
 
 -- ---- what a crash leaves of a gateway
 
--- no byte may be lost
+-- all bytes of both slots are synced, so that no crash loses one
 pub record IsSynced (slots : Slots) : Type 0 where
   pub first : slots.first.unsynced ≡ []
   pub second : slots.second.unsynced ≡ []
 
--- As long as the gateway goes on, all of its disk is synced, and nothing was refused. Whatever a
--- crash leaves of the disk is a journal that stands for the set, or for the set with the whole of
--- what was refused, where it has one record more than are synced; and no opening of that begins a
--- journal.
+-- As long as the gateway goes on, all of its disk is synced, and nothing was refused. Every crash
+-- leaves a journal that stands for the set. If it has one record more than are synced, it stands
+-- for the set with the whole of what was refused. No opening of it begins a new journal.
 pub record Lasts (gateway : Gateway) : Type 0 where
   pub synced : gateway.drive.halted ≡ false → IsSynced gateway.drive.slots
   pub none : gateway.drive.halted ≡ false → gateway.refused ≡ []
@@ -44,9 +43,9 @@ pub record Lasts (gateway : Gateway) : Type 0 where
 
 -- ---- a node
 
--- The node stands for the gateway: it was told the same, its replica keeps what it should of the
--- set, it knows the same besides, its journal is in the same slot and halted or not; and an honest
--- disk has these bytes.
+-- The node stands for the gateway. Both have the same settings and the same local state. The node's
+-- replica keeps what it should of the set. Its journal is in the same slot, and halted or not as
+-- the gateway's. An honest disk has these bytes.
 pub record Stands {D : Type 0} {G : Ghosts D} (gateway : Gateway) (state : State G) : Type 0 where
   pub configured : state.config ≡ gateway.config
   pub numbered : gateway_of state.journal ≡ gateway.config.gateway
@@ -65,14 +64,14 @@ pub record IsForeseen {D : Type 0} {G : Ghosts D} (gateway : Gateway)
 
 -- ---- what a call leads to
 
--- the gateway, where this failure, or none, was arranged
+-- the gateway as if this failure, or none, was arranged
 abbrev pub fated : Option Failure → Gateway → Gateway
 fated fate gateway = record gateway { drive = record gateway.drive { plan = fate } }
 
--- The node stood for the gateway, and stands for the next one, to which what happened leads: as if
--- the failure that came, or none, had been arranged. On an honest disk to which no memory was
--- refused it is the one that was known, if one was, and it is known again. And what the gateway has
--- taken lasts there, if it did before, where what the call took contradicts nothing of it.
+-- The node stood for the gateway, and stands for the next one. What happened leads to that one as
+-- if the failure that came, or none, had been arranged. On an honest disk to which no memory was
+-- refused it is the one that was known, if one was, and it is known again. What the gateway has
+-- taken lasts there, if it did before, and if what the call took contradicts nothing of it.
 pub record LeadsTo {D : Type 0} {G : Ghosts D} (Happens : Gateway → Gateway → List (List Op)
     → Type 0) (Agrees : Type 0) (gateway : Gateway) (old new : State G) : Type 0 where
   pub fate : Option Failure
@@ -90,6 +89,8 @@ OwnAgrees gateway occasion now =
     (plan : Plan) (delta : List Op) → IsPlan gateway occasion now (Some plan)
     → IsDeltaOf plan.ops delta → AllAgree gateway.taken delta
 
+-- what a call takes contradicts nothing that the gateway has taken: a delta, or what a datagram or
+-- a tick makes
 abbrev pub Agrees : Gateway → Step → Type 0
 Agrees gateway (steps.Frame from bytes now) = OwnAgrees gateway (Datagram from bytes) now
 Agrees gateway (steps.Take delta) = AllAgree gateway.taken delta
@@ -100,8 +101,8 @@ Agrees gateway (steps.Answer asked) = Unit {0}
 Agrees gateway steps.Compact = Unit {0}
 Agrees gateway steps.Reopen = Unit {0}
 
--- Of a compaction it can be said on an honest disk; where it failed, only if it is known which
--- failure was arranged, for a disk may fail to cut as well.
+-- Of a compaction it can be said on an honest disk. If it failed, it must be known which failure
+-- was arranged, for a disk may fail to cut as well. Nor may memory have been refused then.
 pub record IsClear {D : Type 0} {G : Ghosts D} (gateway : Gateway) (old : State G)
     (answer : Result Out Refusal) (new : State G) : Type 0 where
   pub honest : G.honest
@@ -112,6 +113,8 @@ abbrev pub WentWell : Type 0 → Gateway → Result Out Refusal → Type 0
 WentWell Honest gateway (Ok out) = Honest × Lasts gateway
 WentWell Honest gateway (Err refusal) = ⊥
 
+-- What must be known of the disk so that the call can be said to be an event of the gateway. For a
+-- compaction that is `IsClear`, for a reopening `WentWell`, for every other call nothing.
 abbrev pub CanBeSaid : {D : Type 0} {G : Ghosts D} → Gateway → State G → Step → Result Out Refusal
     → State G → Type 0
 CanBeSaid gateway old (steps.Frame from bytes now) answer new = Unit {0}

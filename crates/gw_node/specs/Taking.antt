@@ -25,9 +25,9 @@ pub record IsBetween (S refused J : List Op) : Type 0 where
 abbrev pub IsWhole : List Op → List Op → List Op → Type 0
 IsWhole S refused J = CountsAs S J ⊎ CountsAs (S ++ refused) J
 
--- An opening finds no fault in the image, and its records stand for S, but for the refused delta,
--- of which all is there or nothing. They contradict nothing, and no front part of them passes a
--- limit: they can be taken again, one after the other.
+-- An opening finds no fault in the image. Its records stand for S, or for S with the whole refused
+-- delta. They contradict nothing. No front part of them passes a limit: they can be taken again,
+-- one after the other.
 pub record StandsFor (gateway : ℕ) (S refused : List Op) (i : Image) : Type 0 where
   pub sound : fault_of gateway i ≡ None
   pub between : IsBetween S refused (all_of (records gateway i))
@@ -35,9 +35,9 @@ pub record StandsFor (gateway : ℕ) (S refused : List Op) (i : Image) : Type 0 
   pub roomy : IsRoomy (records gateway i)
   pub proper : IsConsistent (all_of (records gateway i))
 
--- The node has taken the set S: its replica counts as S; and whatever a crash leaves of an honest
--- disk stands for S, but for one refused delta, of which there is none as long as the node goes on;
--- and an opening of it begins no journal.
+-- The node has taken the set S. Its replica counts as S. Whatever a crash leaves of an honest disk
+-- stands for S, or for S with the whole refused delta. There is no refused delta as long as the
+-- node goes on. No opening of it begins a new journal.
 pub record HasTaken {D : Type 0} {G : Ghosts D} (S refused : List Op)
     (state : State G) : Type 0 where
   pub counts : CountsAs S state.kept

@@ -25,7 +25,7 @@ pub record IsWritten {D : Type 0} {G : Ghosts D} (old : Journal D G) (delta : Li
       (slot_of old) (written delta)
   pub durable : G.honest → Leaves (gateway_of old) (G.slots (disk_of new))
       (records (gateway_of old) (image (G.slots (disk_of old))) ++ delta ∷ [])
-  -- where it is known which failure is arranged, there was none
+  -- if it is known which failure is arranged, there was none
   pub known : G.honest → G.starved (disk_of new) ≡ false
       → AppendedAs (G.outlook (disk_of old)) (G.slots (disk_of old)) (slot_of old) (written delta)
       (Ok (record {})) (G.slots (disk_of new)) (G.outlook (disk_of new))
@@ -46,21 +46,21 @@ pub record IsFailed {D : Type 0} {G : Ghosts D} (old : Journal D G) (delta : Lis
       (G.slots (disk_of new))
   pub torn : G.honest → LeavesOneMore (gateway_of old) (G.slots (disk_of new))
       (records (gateway_of old) (image (G.slots (disk_of old)))) delta
-  -- where it is known which failure is arranged, it is this one
+  -- if it is known which failure is arranged, it is this one
   pub known : G.honest → G.starved (disk_of new) ≡ false
       → AppendedAs (G.outlook (disk_of old)) (G.slots (disk_of old)) (slot_of old) (written delta)
       (Err faults.Disk) (G.slots (disk_of new)) (G.outlook (disk_of new))
 
 -- ---- a compaction
 
--- on an honest disk the generation is the one that the header of the slot in use tells
+-- on an honest disk the generation is the one that the header of the slot in use has
 abbrev pub IsNumbered : {D : Type 0} {G : Ghosts D} → Journal D G → Type 0
 IsNumbered {G = G} journal =
     G.honest → generation_of journal
     ≡ generation_in (slot_content (gateway_of journal)
     (at (G.slots (disk_of journal)) (slot_of journal)).synced)
 
--- The base is all that the journal holds: it is synced in the other slot, where the journal goes
+-- The base is all that the journal holds. It is synced in the other slot, in which the journal goes
 -- on, and every crash leaves it.
 pub record IsRewritten {D : Type 0} {G : Ghosts D} (old : Journal D G) (base : List (List Op))
     (new : Journal D G) : Type 0 where
@@ -77,7 +77,7 @@ pub record IsRewritten {D : Type 0} {G : Ghosts D} (old : Journal D G) (base : L
       ≡ after_append None (emptied (G.slots (disk_of old)) (other (slot_of old)))
       (other (slot_of old)) (base_bytes (gateway_of old) (generation_of old + 1) base)
   pub durable : G.honest → Leaves (gateway_of old) (G.slots (disk_of new)) base
-  -- where it is known which failure is arranged, there was none
+  -- if it is known which failure is arranged, there was none
   pub known : G.honest → G.starved (disk_of new) ≡ false
       → AppendedAs (G.outlook (disk_of old)) (emptied (G.slots (disk_of old)) (other (slot_of old)))
       (other (slot_of old)) (base_bytes (gateway_of old) (generation_of old + 1) base)
@@ -98,7 +98,7 @@ pub record IsNotRewritten {D : Type 0} {G : Ghosts D} (old : Journal D G) (base 
   pub starved : G.starved (disk_of old) ≡ true → G.starved (disk_of new) ≡ true
   pub torn : G.honest → LeavesEither (gateway_of old) (G.slots (disk_of new))
       (records (gateway_of old) (image (G.slots (disk_of old)))) base
-  -- where it is known which failure is arranged, it is this one
+  -- if it is known which failure is arranged, it is this one
   pub known : G.honest → G.starved (disk_of new) ≡ false
       → AppendedAs (G.outlook (disk_of old)) (emptied (G.slots (disk_of old)) (other (slot_of old)))
       (other (slot_of old)) (base_bytes (gateway_of old) (generation_of old + 1) base)

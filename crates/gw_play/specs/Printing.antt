@@ -28,7 +28,7 @@ send_line send = codes "to " ▹ decimal send.to.port ▹ codes " " ▹ hex_text
 abbrev pub delta_line : ℕ → List ℕ
 delta_line number = codes "delta " ▹ decimal number ▹ line_end
 
--- deltas that joined the list, behind so many others
+-- deltas that joined the list, after so many others
 abbrev pub delta_lines : ℕ → List (List Op) → List ℕ
 delta_lines before [] = []
 delta_lines before (delta ∷ rest) = delta_line (before + 1) ▹ delta_lines (before + 1) rest
@@ -46,7 +46,7 @@ done_text sends before deltas = flat_map send_line sends ▹ delta_lines before 
 abbrev pub out_text : ℕ → Out → List ℕ
 out_text before out = done_text out.sends before (joined out)
 
--- a refusal, by its number; what is sent all the same stands before it
+-- a refusal, by its number; what is sent all the same comes before it
 abbrev pub refusal_text : Refusal → List ℕ
 refusal_text (refusals.Frame fault) = codes "refused N1 F" ▹ decimal (fault_number fault) ▹ line_end
 refusal_text refusals.Halted = codes "refused N2" ▹ line_end
@@ -58,6 +58,7 @@ refusal_text refusals.Exhausted = codes "refused N6" ▹ line_end
 refusal_text refusals.Memory = codes "refused N7" ▹ line_end
 refusal_text (refusals.Journal fault) = codes "refused N8" ▹ line_end
 
+-- the word for what a client is
 abbrev pub presence_word : Presence → List ℕ
 presence_word presences.Active = codes "active"
 presence_word presences.Asleep = codes "asleep"
@@ -74,7 +75,7 @@ kind_word false = codes "kept"
 abbrev pub stamp_text : Stamp → List ℕ
 stamp_text stamp = decimal stamp.epoch ▹ codes "." ▹ decimal stamp.gateway
 
--- what stands in the session itself
+-- what a session itself says: presence, clean or not, duration, next message id
 abbrev pub session_text : Session → List ℕ
 session_text session =
     presence_word session.presence ▹ codes " " ▹ kind_word session.clean ▹ codes " "
@@ -120,22 +121,24 @@ views_text (first ∷ rest) = flat_map client_text (first ∷ rest)
 abbrev pub records_line : ℕ → List ℕ
 records_line count = codes "records " ▹ decimal count ▹ line_end
 
--- what a gateway answered, behind so many deltas
+-- what a gateway answered, if so many deltas were made before it
 abbrev pub said_text : ℕ → Result Out Refusal → List ℕ
 said_text before (Ok out) = out_text before out
 said_text before (Err refusal) = refusal_text refusal
 
+-- what an answer is printed as, if so many deltas were made before it
 abbrev pub answer_text : ℕ → Answer → List ℕ
 answer_text before (answers.Node answer) = said_text before (said answer)
 answer_text before (answers.Views views) = views_text views
 answer_text before (answers.Records count) = records_line count
 answer_text before answers.Nothing = codes "quiet" ▹ line_end
 
--- how many deltas there are behind it
+-- how many deltas there are after it
 abbrev pub deltas_behind : ℕ → Result Out Refusal → ℕ
 deltas_behind before (Ok out) = before + length (joined out)
 deltas_behind before (Err refusal) = before
 
+-- how many deltas there are after an answer, if there were so many before it
 abbrev pub deltas_after : ℕ → Answer → ℕ
 deltas_after before (answers.Node answer) = deltas_behind before (said answer)
 deltas_after before (answers.Views views) = before

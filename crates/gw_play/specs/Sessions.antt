@@ -15,43 +15,46 @@ abbrev pub known_word : Bool → List ℕ
 known_word true = codes "known"
 known_word false = codes "new"
 
--- a topic id and its name
+-- the line of a topic id and its name
 abbrev pub topic_line : TopicEntry → List ℕ
 topic_line entry =
     codes "  topic " ▹ decimal entry.id ▹ codes " " ▹ hex_text entry.name ▹ codes " "
     ▹ known_word entry.known ▹ line_end
 
--- a subscription
+-- the line of a subscription
 abbrev pub subscription_line : Subscription → List ℕ
 subscription_line subscription =
     codes "  sub " ▹ hex_text subscription.filter ▹ codes " " ▹ decimal subscription.qos ▹ line_end
 
--- a will
+-- the line of a will
 abbrev pub will_line : Will → List ℕ
 will_line will =
     codes "  will " ▹ decimal will.qos ▹ codes " " ▹ hex_text will.topic ▹ codes " "
     ▹ hex_text will.message ▹ line_end
 
+-- the line of a will, if there is one
 abbrev pub will_text : Option Will → List ℕ
 will_text None = []
 will_text (Some will) = will_line will
 
--- the id of a message that was received and is not released
+-- the line of the id of a message that was received and is not released
 abbrev pub received_line : ℕ → List ℕ
 received_line id = codes "  received " ▹ decimal id ▹ line_end
 
+-- the word for the phase of an exchange
 abbrev pub phase_word : Phase → List ℕ
 phase_word phases.Registering = codes "registering"
 phase_word phases.Published = codes "published"
 phase_word phases.Released = codes "released"
 
--- the exchange that the gateway has begun
+-- the line of the exchange that the gateway has begun
 abbrev pub outbound_line : Outbound → List ℕ
 outbound_line exchange =
     codes "  outbound " ▹ decimal exchange.origin ▹ codes "." ▹ decimal exchange.seq ▹ codes " "
     ▹ decimal exchange.msg_id
     ▹ codes " " ▹ phase_word exchange.phase ▹ line_end
 
+-- the line of the exchange, if one has begun
 abbrev pub outbound_text : Option Outbound → List ℕ
 outbound_text None = []
 outbound_text (Some exchange) = outbound_line exchange

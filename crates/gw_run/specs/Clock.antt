@@ -32,11 +32,11 @@ abbrev pub FindsHalted : Holder → Holder → Type 0
 FindsHalted before after =
     (moment number : ℕ) × Made before (steps.Tick moment) (Err refusals.Halted) number after
 
--- one more call of the pass: the gateway is to be opened anew, and answers so
+-- one more call of the pass: the gateway is to be opened again, and answers so
 abbrev pub Reopens : Holder → Result Out Refusal → Holder → Type 0
 Reopens before answer after = (number : ℕ) × Made before steps.Reopen answer number after
 
--- How a gateway that was found halted was opened anew. It was, or refused that; or the call could
+-- How a gateway that was found halted was opened again. It was, or refused that; or the call could
 -- not be made.
 abbrev pub OpensAs : Holder → End → Holder → Type 0
 OpensAs before ends.Reopened after = (out : Out) × Reopens before (Ok out) after
@@ -46,16 +46,16 @@ OpensAs before ends.Memory after = after ≡ before
 OpensAs before ends.Behind after = after ≡ before
 OpensAs before ends.Lost after = ⊥
 
--- What stands behind the ticks that did not find the gateway halted, by why the clock ended:
--- nothing; or one that did, and then the call by which the gateway was opened anew.
+-- What comes after the ticks that did not find the gateway halted, by why the clock ended. It is
+-- nothing, or one that did, and then the call by which the gateway was opened again.
 abbrev pub EndsAs : Holder → Option End → Holder → Type 0
 EndsAs before None after = after ≡ before
 EndsAs before (Some end) after =
     (CannotCall end × (after ≡ before))
     ⊎ ((found : Holder) × FindsHalted before found × OpensAs found end after)
 
--- The pass holds what it held and then ticks, none of which found the gateway halted; then it ends
--- so; and it holds nothing else.
+-- The pass holds what it held, and then ticks that did not find the gateway halted. Then it ends
+-- so, and holds nothing else.
 abbrev pub AddsOfClock : Holder → Option End → Holder → Type 0
 AddsOfClock before end after =
     (ticked : Holder) × AddsEach IsLiveTick before ticked × EndsAs ticked end after

@@ -11,11 +11,11 @@ use Rattle.gw_script.specs.declared.command.Word.TheVariants as words
 use Rattle.sn_topic.specs.Topics.{IsName}
 use Rattle.gw_script.specs.Octets.{IsHex}
 
--- what stands between the spaces of a line
+-- what is between the spaces of a line
 abbrev pub fields_of : List ℕ → List (List ℕ)
 fields_of line = slice_split (λ b. b == 32) line
 
--- what stands between the line feeds of a text
+-- what is between the line feeds of a text
 abbrev pub lines_of : List ℕ → List (List ℕ)
 lines_of text = slice_split (λ b. b == 10) text
 
@@ -36,8 +36,7 @@ text_of words.Show = codes "show"
 abbrev pub IsAddress : List ℕ → Addr → Type 0
 IsAddress text address = (address.host ≡ 0) × IsNumber 16 text address.port
 
--- the text says how many unsynced bytes of a slot survive: so many, or all, for which the greatest
--- number stands
+-- the text says how many unsynced bytes of a slot survive: so many, or all, which is 2^64 - 1
 abbrev pub IsSpared : List ℕ → ℕ → Type 0
 IsSpared text keep = ((text ≡ codes "all") × (keep ≡ 2 ^ 64 - 1)) ⊎ IsNumber 64 text keep
 
@@ -46,7 +45,7 @@ abbrev pub IsFailure : List ℕ → ℕ → Bool → Type 0
 IsFailure text bytes true = (text ≡ codes "sync") × (bytes ≡ 0)
 IsFailure text bytes false = IsNumber 64 text bytes
 
--- behind this word, the fields say the command
+-- after this word, the fields say the command
 abbrev pub Says : Word → List (List ℕ) → Command → Type 0
 Says words.Gateway (number ∷ []) (commands.Gateway g) = IsNumber 8 number g
 Says words.Predefine (number ∷ id ∷ octets ∷ []) (commands.Predefine g i name) =

@@ -8,7 +8,7 @@ use Rattle.gw_script.specs.declared.command.Command.TheVariants as commands
 use Rattle.gw_script.specs.declared.script.Script.{Script}
 use Rattle.gw_script.specs.Commands.{Spells}
 
--- a gateway that is told nothing but its number
+-- a gateway whose settings are its number alone
 abbrev pub config_of : ℕ → Config
 config_of number = record { gateway = number; advertise = 0; field = []; predefined = [] }
 
@@ -58,8 +58,8 @@ pub record AreGateways (configs : List Config) : Type 0 where
   pub some : All (λ config. config.gateway ≢ 0) configs
   pub different : AllPairs (λ a b. a.gateway ≢ b.gateway) configs
 
--- The line of this number, from 1, is the first that cannot stand where it stands: the lines before
--- it make up a script, and no script has it next.
+-- The line of this number, from 1, is the first that cannot be where it is. The lines before it
+-- make up a script, and no script has it next.
 pub record IsBadLine (lines : List (List ℕ)) (number : ℕ) : Type 0 where
   pub before : Script
   pub line : List ℕ

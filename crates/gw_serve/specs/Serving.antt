@@ -16,6 +16,7 @@ is_frame (steps.Answer digest) = false
 is_frame steps.Compact = false
 is_frame steps.Reopen = false
 
+-- each of the calls is a datagram's
 abbrev pub AreFrames : List Held → Type 0
 AreFrames calls = All (λ (held : Held). is_frame held.step ≡ true) calls
 

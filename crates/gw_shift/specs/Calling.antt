@@ -9,14 +9,14 @@ use Rattle.gw_shift.specs.Passes.{seen_by, with_call, held_as}
 use Rattle.gw_shift.specs.declared.fault.CallFault.{CallFault}
 use Rattle.gw_shift.specs.declared.fault.CallFault.TheVariants as faults
 
--- The call got a number above all that the pass has seen, and the pass then holds what it held
--- before and the call, and nothing else.
+-- The call got a number above all that the pass has seen. The pass then holds what it held before
+-- and the call, and nothing else.
 pub record Made (old : Holder) (step : Step) (answer : Result Out Refusal) (number : ℕ)
     (new : Holder) : Type 0 where
   pub later : seen_by old < number
   pub holds : new ≡ with_call old (held_as number step answer)
 
--- what a pass holds after a call that was refused: the call with its refusal, where it reached the
+-- what a pass holds after a call that was refused: the call with its refusal, if it reached the
 -- node
 abbrev pub NotMade : Holder → Step → CallFault → Holder → Type 0
 NotMade old step faults.ShiftFull new = new ≡ old
@@ -24,6 +24,7 @@ NotMade old step (faults.Behind held) new = (held < seen_by old) × (new ≡ old
 NotMade old step faults.Memory new = new ≡ old
 NotMade old step (faults.Node number fault) new = Made old step (Err (told fault)) number new
 
+-- why no deltas are handed on: the pass has seen more calls than the history has, or memory ran out
 abbrev pub MayNotTell : Holder → CallFault → Type 0
 MayNotTell pass faults.ShiftFull = ⊥
 MayNotTell pass (faults.Behind held) = held < seen_by pass

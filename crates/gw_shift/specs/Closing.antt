@@ -12,6 +12,7 @@ StandsIn history place held =
     (0 < held.number) × (slice_get history (held.number - 1)
     ≡ Some (record { place = place; step = held.step; answer = held.answer }))
 
+-- whether one of the calls has this number
 abbrev pub has_number : ℕ → List Held → Bool
 has_number number [] = false
 has_number number (held ∷ rest) = (held.number == number) || has_number number rest
@@ -21,13 +22,14 @@ abbrev pub is_held : ℕ → List Holder → Bool
 is_held number [] = false
 is_held number (pass ∷ rest) = has_number number pass.calls || is_held number rest
 
--- the calls stand in the history under that pass, and no other pass holds one of them
+-- the calls are in the history under that pass, and no other pass holds one of them
 abbrev pub AreOwn : List Call → ℕ → List Holder → List Held → Type 0
 AreOwn history place others [] = Unit {0}
 AreOwn history place others (held ∷ rest) =
     StandsIn history place held × (is_held held.number others ≡ false)
     × AreOwn history place others rest
 
+-- each pass holds calls of the history, in its order, and no call is held by two passes
 abbrev pub AreKnown : List Call → List Holder → Type 0
 AreKnown history [] = Unit {0}
 AreKnown history (pass ∷ rest) =
@@ -42,6 +44,8 @@ IsStrangeIn history place others (held ∷ rest) number =
     ⊎ (StandsIn history place held × (is_held held.number others ≡ false)
     × IsStrangeIn history place others rest number)
 
+-- this is the number of the first call, pass by pass, that the history has not so, or that another
+-- pass holds too
 abbrev pub IsStrange : List Call → List Holder → ℕ → Type 0
 IsStrange history [] number = ⊥
 IsStrange history (pass ∷ rest) number =
@@ -63,12 +67,13 @@ abbrev pub times : ℕ → List Held → ℕ
 times number [] = 0
 times number (held ∷ rest) = (if held.number == number then 1 else 0) + times number rest
 
+-- how often the passes hold a call of this number
 abbrev pub times_held : ℕ → List Holder → ℕ
 times_held number [] = 0
 times_held number (pass ∷ rest) = times number pass.calls + times_held number rest
 
--- The passes hold the calls of the history: each of them holds the opening; its calls stand in the
--- history at their numbers, under it, in its order; they are as many as the history has; and each
+-- The passes hold the calls of the history. Each pass holds the opening. Its calls are in the
+-- history at their numbers, under it, in its order. They are as many as the history has, and each
 -- call of the history is held once.
 pub record Accounts (opening : List (List Op)) (history : List Call)
     (passes : List Holder) : Type 0 where

@@ -30,8 +30,8 @@ abbrev pub failed_in : List Call → ℕ
 failed_in [] = 0
 failed_in (call ∷ calls) = failed call.answer + failed_in calls
 
--- A legal history: from some node that held the opening, the calls lead to this state, each
--- answered as the node answers there; and the disk failed as often at least as a call was told so.
+-- A legal history. From some node that held the opening, the calls lead to this state, each
+-- answered as the node answers there. The disk failed at least as often as a call was answered so.
 pub record IsLegal {D : Type 0} {G : Ghosts D} (opening : List (List Op)) (history : List Call)
     (state : State G) : Type 0 where
   pub first : State G

@@ -11,14 +11,16 @@ abbrev pub Ascend : ℕ → List Held → Type 0
 Ascend least [] = Unit {0}
 Ascend least (held ∷ rest) = (least < held.number) × Ascend held.number rest
 
--- the greatest number that was seen, or this one where there is none
+-- the greatest number that was seen, or this one if there is none
 abbrev pub last_of : ℕ → List Held → ℕ
 last_of least [] = least
 last_of least (held ∷ rest) = last_of held.number rest
 
+-- the number of the last call that the pass holds; 0 if it holds none
 abbrev pub seen_by : Holder → ℕ
 seen_by pass = last_of 0 pass.calls
 
+-- a call as a pass holds it
 abbrev pub held_as : ℕ → Step → Result Out Refusal → Held
 held_as number step answer = record { number = number; step = step; answer = answer }
 
@@ -27,7 +29,7 @@ abbrev pub with_call : Holder → Held → Holder
 with_call pass made =
     record { place = pass.place; opening = pass.opening; calls = pass.calls ++ made ∷ [] }
 
--- the pass holds what it held, and these calls behind it
+-- the pass holds what it held, and these calls after it
 abbrev pub with_calls : Holder → List Held → Holder
 with_calls pass more =
     record { place = pass.place; opening = pass.opening; calls = pass.calls ++ more }

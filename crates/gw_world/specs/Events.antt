@@ -5,7 +5,7 @@ use Rattle.rep_op.specs.declared.op.Op.{Op}
 use Rattle.gw_answer.specs.declared.out.Out.{Out}
 use Rattle.gw_answer.specs.declared.refusal.Refusal.{Refusal}
 
--- the delta that an answer tells of
+-- the delta that an answer reports as made
 abbrev pub made_of : Result Out Refusal → List (List Op)
 made_of (Ok out) = option_to_list out.made
 made_of (Err refusal) = []

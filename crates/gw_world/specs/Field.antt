@@ -23,11 +23,11 @@ pub record Field : Type 0 where
   pub gateways : List Gateway
   pub deltas : List (List Op)
 
--- at the start
+-- the field at the start: a new gateway for each of the configs, and no delta
 abbrev pub new_field : List Config → Field
 new_field configs = record { gateways = map new_gateway configs; deltas = [] }
 
--- the gateway that an event at this number is at
+-- the gateway of this number has this place
 abbrev pub IsAt : Field → ℕ → ℕ → Gateway → Type 0
 IsAt field number i gateway =
     (place_of number field.gateways ≡ Some i) × (slice_get field.gateways i ≡ Some gateway)

@@ -6,15 +6,15 @@ use Rattle.gw_event.specs.Gateways.{Gateway}
 use Rattle.gw_node.specs.Parts.{State}
 use Rattle.gw_node.specs.Standing.{Lasts, Stands, IsForeseen}
 
--- The node stands for the gateway, and what that has taken lasts. Of its disk it is known which
--- failure is arranged, and no memory was refused there.
+-- The node stands for the gateway, and what that has taken lasts. It is known which failure is
+-- arranged on its disk, and no memory was refused there.
 pub record IsShown {D : Type 0} {G : Ghosts D} (gateway : Gateway) (state : State G) : Type 0 where
   pub stands : Stands gateway state
   pub foreseen : IsForeseen gateway state
   pub fed : G.starved (disk_of state.journal) ≡ false
   pub lasts : G.honest → Lasts gateway
 
--- and so for each gateway
+-- each node stands for its gateway so
 abbrev pub AreShown : {D : Type 0} {G : Ghosts D} → List Gateway → List (State G) → Type 0
 AreShown [] [] = Unit {0}
 AreShown (gateway ∷ gateways) (state ∷ states) = IsShown gateway state × AreShown gateways states

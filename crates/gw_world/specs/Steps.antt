@@ -15,16 +15,17 @@ use Rattle.gw_event.specs.Gateways.{Gateway, reopened}
 use Rattle.gw_answer.specs.Answers.{only_sends}
 use Rattle.gw_event.specs.Event.{IsWritable}
 
--- how many records an opening reads where the gateway stopped
+-- how many records an opening reads if the gateway stops, and so many unsynced bytes of each slot
+-- are left
 abbrev pub records_left : ℕ → Gateway → ℕ
 records_left kept old = length (records old.config.gateway (left_by kept old.drive))
 
--- the gateway stops, and is opened again where it left its disk
+-- the gateway stops, so many unsynced bytes of each slot are left, and it is opened again on that
 abbrev pub restarted : ℕ → Gateway → Gateway
 restarted kept old = reopened (left_by kept old.drive) old
 
 -- A gateway's digest goes to a peer, which answers with what it must keep and the digest does not
--- cover. Neither changes. A digest that is too long is not made, and nobody answers.
+-- cover. Neither changes. A digest that is too long is not made, and the answer is Full.
 abbrev pub AnswerStep : Gateway → Gateway → Result Out Refusal → List (List Op) → Type 0
 AnswerStep asker peer (Ok out) made =
     IsDigestWithinLimit (digest asker.taken) × IsAnswer (digest asker.taken) peer.taken made

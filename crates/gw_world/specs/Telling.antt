@@ -7,14 +7,15 @@ use Rattle.gw_answer.specs.Answers.{said}
 use Rattle.gw_world.specs.declared.event.Answer.{Answer}
 use Rattle.gw_world.specs.declared.event.Answer.TheVariants.{Node, Views, Records, Nothing}
 
--- what a gateway sends, makes and answers, or why it refuses; or the clients that it knows, with
--- their views; or how many records it read; or nothing
+-- What an answer says: what a gateway sends, makes and answers, or why it refuses. Or it is the
+-- clients that a gateway knows, with their views; or how many records it read; or nothing.
 pub data Told : Type 0 where
   Said : Result Out Refusal → Told
   Shown : List (List ℕ × ClientView) → Told
   Read : ℕ → Told
   Silent : Told
 
+-- an answer by its value, whoever has a share of it
 abbrev pub told : Answer → Told
 told (Node answer) = Said (said answer)
 told (Views views) = Shown views

@@ -1,4 +1,5 @@
--- A whole field: the sets of all its gateways, all deltas of its list, and what answers tell of.
+-- A whole field: the sets of all its gateways, all deltas of its list, and what answers report as
+-- made.
 use Rattle.std.specs.Prelude.{◌≡◌, ℕ, List, [], ◌++◌, flat_map, Option, Some, None, IfSome, slice_get, Contains}
 use Rattle.rep_op.specs.declared.op.Op.{Op}
 use Rattle.rep_op.specs.declared.op.Op.TheVariants.{Session as OfSession, Put as OfPut, Ack}
@@ -21,30 +22,30 @@ listed field = flat_map (λ (delta : List Op). delta) field.deltas
 abbrev pub everything : Field → List Op
 everything field = flat_map (λ (gateway : Gateway). gateway.taken) field.gateways ++ listed field
 
--- the number of the gateway in the operation's name: that of the stamp, or the origin of the
--- message; acknowledgements contradict nothing, and for them it does not matter who writes them
+-- The number of the gateway in the operation's name: that of the stamp, or the origin of the
+-- message. An acknowledgement has none: it contradicts nothing, whoever writes it.
 abbrev pub number_of : Op → Option ℕ
 number_of (OfSession c stamp counter change) = Some stamp.gateway
 number_of (OfPut c put) = Some put.origin
 number_of (Ack c origin first last) = None
 
--- the operation stands in the set of the gateway of this number
+-- the set of the gateway of this number has the operation
 abbrev pub StandsAt : Field → Op → ℕ → Type 0
 StandsAt field op number =
     (i : ℕ) × (gateway : Gateway) × IsAt field number i gateway × Stands gateway.taken op
 
--- a session operation or message stands in the set of the gateway whose number is in its name
+-- a session operation or message is in the set of the gateway whose number is in its name
 abbrev pub IsHome : Field → Op → Type 0
 IsHome field op = IfSome (number_of op) (λ number. StandsAt field op number)
 
--- the name of a session operation or message stands in one place of one delta
+-- the name of a session operation or message occurs at one place of one delta
 abbrev pub AreMadeOnce : List (List Op) → Type 0
 AreMadeOnce deltas =
     (i j k l : ℕ) (one other : List Op) (a b : Op) → slice_get deltas i ≡ Some one
     → slice_get deltas j ≡ Some other
     → slice_get one k ≡ Some a → slice_get other l ≡ Some b → HaveName a b → (i ≡ j) × (k ≡ l)
 
--- the delta that an answer tells of as made
+-- the delta that an answer reports as made
 abbrev pub made_by : Answer → List (List Op)
 made_by (Node answer) = made_of (said answer)
 made_by (Views views) = []
@@ -73,11 +74,11 @@ Arranges (Compact number) = ⊥
 Arranges (Restart number kept) = ⊥
 Arranges (Show number) = ⊥
 
--- none of the events does
+-- no event of the list arranges a failure
 abbrev pub NoneFails : List Event → Type 0
 NoneFails events = (event : Event) → Contains events event → ¬ (Arranges event)
 
--- all deltas that the answers tell of as made, in their order
+-- all deltas that the answers report as made, in their order
 abbrev pub told : List Answer → List (List Op)
 told answers = flat_map made_by answers
 
@@ -93,7 +94,7 @@ brought_by Nothing = []
 abbrev pub brought : List Answer → List (List Op)
 brought answers = flat_map brought_by answers
 
--- every delta of the list has reached the gateway: what they hold stands in its set, by whatever
+-- every delta of the list has reached the gateway: its set has what they hold, by whatever
 -- operations
 abbrev pub HasTakenAll : Field → Gateway → Type 0
 HasTakenAll field gateway = Within (listed field) gateway.taken

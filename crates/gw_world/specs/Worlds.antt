@@ -13,11 +13,11 @@ use Rattle.gw_node.specs.Parts.{State}
 use Rattle.gw_world.specs.Keeping.{AreShown}
 use Rattle.gw_world.specs.Field.{Field, new_field, Run, NamesNoGateway, NamesNoDelta}
 
--- The events led the field, from its start, to these answers and deltas; and there is a node for
--- each of its gateways, in the order of the configs, that stands for it. `held` is what a node is:
--- it has the config, the local state and the disk of its gateway; what its replica keeps counts as
--- what that has made and taken, and so do the records that a crash now leaves of the disk. So each
--- node shows of every client the view of its gateway's set.
+-- The events led the field, from its start, to these answers and deltas. A node stands for each of
+-- its gateways, in the order of the configs. `held` is what a node is: it has the config, the local
+-- state and the disk of its gateway. What its replica keeps counts as what that has made and taken,
+-- and so do the records that a crash now leaves of the disk. So each node shows of every client the
+-- view of its gateway's set.
 pub record IsWorld {N D : Type 0} {G : Ghosts D} (held : N → State G) (configs : List Config)
     (events : List Event) (answers : List Answer) (deltas : List (List Op))
     (nodes : List N) : Type 0 where

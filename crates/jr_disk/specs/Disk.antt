@@ -12,6 +12,7 @@ pub record SlotBytes : Type 0 where
   pub synced : List ℕ
   pub unsynced : List ℕ
 
+-- the two slots of a disk
 pub record Slots : Type 0 where
   pub first : SlotBytes
   pub second : SlotBytes
@@ -26,7 +27,7 @@ abbrev pub at : Slots → Slot → SlotBytes
 at d First = d.first
 at d Second = d.second
 
--- the slots, of which one holds this now
+-- the slots once one of them holds this
 abbrev pub replaced : Slots → Slot → SlotBytes → Slots
 replaced d First s = record { first = s; second = d.second }
 replaced d Second s = record { first = d.first; second = s }
@@ -35,31 +36,34 @@ replaced d Second s = record { first = d.first; second = s }
 abbrev pub bytes_of : SlotBytes → List ℕ
 bytes_of s = s.synced ++ s.unsynced
 
+-- what a read of both slots gives now
 abbrev pub image : Slots → Image
 image d = record { first = bytes_of d.first; second = bytes_of d.second }
 
+-- the slot after an append: the bytes are there, and not synced yet
 abbrev pub appended : SlotBytes → List ℕ → SlotBytes
 appended s bytes = record { synced = s.synced; unsynced = s.unsynced ++ bytes }
 
+-- the slot after a sync: all its bytes are synced
 abbrev pub all_synced : SlotBytes → SlotBytes
 all_synced s = record { synced = bytes_of s; unsynced = [] }
 
+-- the slot cut to its first `len` bytes; those that were synced stay so
 abbrev pub cut_to : SlotBytes → ℕ → SlotBytes
 cut_to s len =
     record { synced = take len s.synced; unsynced = take (len - length s.synced) s.unsynced }
 
 -- ---- crashes
 
--- what a crash leaves of a slot, where this many unsynced bytes survive, or all where there are
--- fewer
+-- what a crash leaves of a slot if this many unsynced bytes survive, or all if there are fewer
 abbrev pub left_of : ℕ → SlotBytes → List ℕ
 left_of kept s = s.synced ++ take kept s.unsynced
 
--- the slot after such a crash
+-- the slot after a crash that leaves this many unsynced bytes
 abbrev pub crashed : ℕ → SlotBytes → SlotBytes
 crashed kept s = record { synced = left_of kept s; unsynced = [] }
 
--- what a crash leaves
+-- what a crash leaves: of each slot the synced bytes, and so many of the others, from the first on
 abbrev pub after_crash : ℕ → ℕ → Slots → Image
 after_crash k l d = record { first = left_of k d.first; second = left_of l d.second }
 
@@ -84,6 +88,8 @@ AppendsAs (Some (Some (Stop k))) n result after =
 AppendsAs (Some (Some KeepBack)) n result after = IsOk result × (after ≡ Some (Some FailSync))
 AppendsAs (Some (Some FailSync)) n result after = IsOk result × (after ≡ Some (Some FailSync))
 
+-- What a sync does by the failure that is arranged. If that is not known, nothing is said. It fails
+-- by `FailSync`, which is over then; else it succeeds.
 abbrev pub SyncsAs : Option (Option Plan) → Result (Unit {0}) DiskFault → Option (Option Plan)
     → Type 0
 SyncsAs None result after = Unit {0}
@@ -92,7 +98,8 @@ SyncsAs (Some (Some (Stop k))) result after = IsOk result × (after ≡ Some (So
 SyncsAs (Some (Some KeepBack)) result after = IsOk result × (after ≡ Some (Some KeepBack))
 SyncsAs (Some (Some FailSync)) result after = IsErr result × (after ≡ Some None)
 
--- any other call: what is arranged is not for it
+-- any other call: the failure that is arranged is not for it, so it succeeds and leaves that
+-- arranged
 abbrev pub GoesAs : {T E : Type 0} → Option (Option Plan) → Result T E → Option (Option Plan)
     → Type 0
 GoesAs None result after = Unit {0}

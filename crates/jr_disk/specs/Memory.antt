@@ -4,6 +4,7 @@ use Rattle.jr_disk.specs.declared.disk.Plan.{Plan}
 use Rattle.jr_disk.specs.declared.disk.Plan.TheVariants.{Stop, KeepBack}
 use Rattle.jr_disk.specs.Disk.{Slots, SlotBytes, crashed}
 
+-- the slots of a disk in memory, the failure that is arranged, and how often calls failed
 pub record MemoryState : Type 0 where
   pub slots : Slots
   -- the failure that is arranged
@@ -13,6 +14,7 @@ pub record MemoryState : Type 0 where
   -- how many calls have failed
   pub failures : ℕ
 
+-- a slot with nothing in it
 abbrev pub no_bytes : SlotBytes
 no_bytes = record { synced = []; unsynced = [] }
 

@@ -1,14 +1,15 @@
--- A disk in memory of which one call fails.
+-- A disk in memory on which one call fails.
 use Rattle.std.specs.Prelude.{Option, Some, None, ℕ}
 use Rattle.jr_disk.specs.declared.disk.Plan.{Plan}
 use Rattle.jr_disk.specs.declared.once.OnceCall.{OnceCall}
 use Rattle.jr_disk.specs.Memory.{MemoryState}
 
+-- the disk in memory, which kind of call is counted, and which of them fails
 pub record OnceState : Type 0 where
   pub disk : MemoryState
   -- calls of this kind are counted
   pub call : OnceCall
-  -- behind so many more of them one fails; none does any more
+  -- after so many more of them one fails; None: none fails from now on
   pub due : Option ℕ
 
 -- nothing is known of what will fail as long as a call is to fail; else the failure that is

@@ -18,12 +18,13 @@ after_append (Some (Stop k)) d slot bytes =
 after_append (Some KeepBack) d slot bytes = replaced d slot (appended (at d slot) bytes)
 after_append (Some FailSync) d slot bytes = replaced d slot (appended (at d slot) bytes)
 
--- where the premise holds, the slots are as this failure of the append leaves them
+-- if the premise holds, the slots are as some failure of the append leaves them
 abbrev pub IsStruck : Type 0 → Slots → Slot → List ℕ → Slots → Type 0
 IsStruck Honest old slot bytes new =
     (failure : Plan) × (Honest → new ≡ after_append (Some failure) old slot bytes)
 
--- it fails exactly where a failure is arranged, and the slots are as that failure leaves them
+-- If it is known what is arranged: it succeeds only if no failure is, and fails as Disk only if one
+-- is. The slots are as that leaves them. Of other faults nothing is said.
 abbrev pub AppendedAs : Option (Option Plan) → Slots → Slot → List ℕ
     → Result (Unit {0}) JournalFault → Slots → Option (Option Plan) → Type 0
 AppendedAs None old slot bytes result new after = Unit {0}
@@ -38,7 +39,7 @@ AppendedAs (Some plan) old slot bytes (Err Halted) new after = Unit {0}
 
 -- ---- an opening
 
--- an opening does not meet it: it appends only where the journal is new
+-- an opening does not meet the failure that is arranged: it appends only if the journal is new
 abbrev pub is_quiet : Option (Option Plan) → Bool → Bool
 is_quiet None fresh = false
 is_quiet (Some None) fresh = true

@@ -23,13 +23,13 @@ abbrev pub LeavesOneMore : ℕ → Slots → List (List Op) → List Op → Type
 LeavesOneMore gateway d deltas delta =
     EachCrash (λ i. Opens gateway deltas i ⊎ Opens gateway (deltas ++ delta ∷ []) i) d
 
--- a crash now leaves a journal of these records, or of the base in their place
+-- a crash now leaves a journal of these records, or of the base instead
 abbrev pub LeavesEither : ℕ → Slots → List (List Op) → List (List Op) → Type 0
 LeavesEither gateway d deltas base =
     EachCrash (λ i. Opens gateway deltas i ⊎ Opens gateway base i) d
 
--- an opening finds the same in both: the same records and the same fault, if any; and where it
--- begins no journal in the second, it begins none in the first
+-- An opening finds the same in both: the same records and the same fault, if any. If it begins no
+-- journal in the second, it begins none in the first.
 abbrev pub OpensAlike : ℕ → Image → Image → Type 0
 OpensAlike gateway i j =
     (records gateway i ≡ records gateway j) × (fault_of gateway i ≡ fault_of gateway j)
@@ -40,12 +40,13 @@ abbrev pub LeavesNoMore : ℕ → Slots → Slots → Type 0
 LeavesNoMore gateway old new =
     (k l : ℕ) → (m : ℕ) × ((n : ℕ) × OpensAlike gateway (after_crash k l new) (after_crash m n old))
 
--- ---- the slots behind an opening
+-- ---- the slots after an opening
 
+-- a slot with these bytes, all of them synced
 abbrev pub synced_bytes : List ℕ → SlotBytes
 synced_bytes bytes = record { synced = bytes; unsynced = [] }
 
--- the first slot is the one that is read
+-- whether the first slot is the one that is read
 abbrev pub reads_first : SlotContent → SlotContent → Bool
 reads_first (Sealed m f) (Sealed n g) = nat_lt n m
 reads_first (Sealed m f) Alien = true
@@ -55,15 +56,15 @@ reads_first Alien other = false
 reads_first Unsealed other = false
 reads_first (Broken at) other = false
 
--- without what stands behind the whole pieces
+-- the bytes of a slot without what comes after its whole pieces
 abbrev pub cut_end : SlotContent → List ℕ → List ℕ
 cut_end (Sealed m f) bytes = take (13 + f.whole) bytes
 cut_end Alien bytes = bytes
 cut_end Unsealed bytes = bytes
 cut_end (Broken at) bytes = bytes
 
--- the slots of an opened journal: a new one where there was none, else the torn end of the slot
--- that is read is cut away
+-- The slots of an opened journal, all synced. If there was no journal, it begins in the first slot.
+-- Else the torn end of the slot that is read is cut away.
 abbrev pub recovered : ℕ → Image → Slots
 recovered gateway i =
     if is_fresh i then record {

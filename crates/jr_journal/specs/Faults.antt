@@ -8,16 +8,18 @@ use Rattle.jr_journal.specs.declared.content.SlotContent.TheVariants.{Alien, Uns
 use Rattle.jr_disk.specs.Disk.{Image}
 use Rattle.jr_journal.specs.Records.{slot_content}
 
+-- whether there are no bytes
 abbrev pub is_nil : List ℕ → Bool
 is_nil [] = true
 is_nil (b ∷ rest) = false
 
--- the second slot is empty, and the first shorter than a header with its seal
+-- the image has no journal yet: the second slot is empty, and the first shorter than a header with
+-- its seal
 abbrev pub is_fresh : Image → Bool
 is_fresh i = is_nil i.second && nat_lt (length i.first) 14
 
--- the fault of two slots: a header of another, the first slot first; a bad piece, the first slot
--- first, in the slot that is not read too; then two seals of one generation, or none
+-- The fault of two slots. First a header of another gateway; then a bad piece, also in the slot
+-- that is not read; of both the first slot first. Then two seals of one generation, or none.
 abbrev pub slots_fault : SlotContent → SlotContent → Bool → Option JournalFault
 slots_fault Alien right fresh = Some Foreign
 slots_fault left Alien fresh = Some Foreign
@@ -33,7 +35,8 @@ abbrev pub fault_of : ℕ → Image → Option JournalFault
 fault_of gateway i =
     slots_fault (slot_content gateway i.first) (slot_content gateway i.second) (is_fresh i)
 
--- it is the fault of the image; want of memory and a disk that failed say nothing of it
+-- It is the fault of the image. That memory ran out, or that the disk failed, says nothing of the
+-- image.
 abbrev pub IsFault : Option JournalFault → JournalFault → Type 0
 IsFault fault Disk = Unit {0}
 IsFault fault Memory = Unit {0}
@@ -41,7 +44,7 @@ IsFault fault Foreign = fault ≡ Some Foreign
 IsFault fault (BadRecord slot at) = fault ≡ Some (BadRecord slot at)
 IsFault fault Halted = fault ≡ Some Halted
 
--- the number by which programs tell a fault, with a `J` in front of it
+-- the number by which programs print a fault, with a `J` in front of it
 abbrev pub fault_number : JournalFault → ℕ
 fault_number Disk = 1
 fault_number Foreign = 2

@@ -1,4 +1,5 @@
--- The slots and the generations of a journal, and which faults an append and a compaction may tell.
+-- The slots and the generations of a journal, and which faults an append and a compaction may
+-- report.
 use Rattle.std.specs.Prelude.{ℕ, ◌-◌, ◌^◌, Result, Ok, Err}
 use Rattle.jr_disk.specs.declared.disk.Slot.{Slot}
 use Rattle.jr_disk.specs.declared.disk.Slot.TheVariants.{First, Second}
@@ -8,22 +9,22 @@ use Rattle.jr_disk.specs.Disk.{Slots, at, replaced, cut_to}
 
 -- ---- slots and generations
 
--- the slot that is not in use
+-- the other of the two slots
 abbrev pub other : Slot → Slot
 other First = Second
 other Second = First
 
--- a slot is cut away
+-- the slots once this one is cut to nothing
 abbrev pub emptied : Slots → Slot → Slots
 emptied d slot = replaced d slot (cut_to (at d slot) 0)
 
--- the last generation that a header can hold
+-- the last generation that a header can hold, 2^64 - 1
 abbrev pub last_generation : ℕ
 last_generation = 2 ^ 64 - 1
 
 -- ---- faults
 
--- a fault that an append may tell
+-- a fault that an append may report: Disk, Memory or Halted
 abbrev pub IsAppendFault : JournalFault → Type 0
 IsAppendFault Disk = Unit {0}
 IsAppendFault Memory = Unit {0}
@@ -31,7 +32,7 @@ IsAppendFault Halted = Unit {0}
 IsAppendFault Foreign = ⊥
 IsAppendFault (BadRecord place from) = ⊥
 
--- a fault that a compaction may tell
+-- a fault that a compaction may report: those of an append, and Foreign
 abbrev pub IsCompactFault : JournalFault → Type 0
 IsCompactFault Disk = Unit {0}
 IsCompactFault Memory = Unit {0}
@@ -48,7 +49,7 @@ IsTried (Err Halted) = ⊥
 IsTried (Err Foreign) = ⊥
 IsTried (Err (BadRecord place from)) = ⊥
 
--- it says nothing of the disk, and nothing was written
+-- a fault that a call reports before it has written anything: Memory, Halted or Foreign
 abbrev pub IsBeforeWriting : JournalFault → Type 0
 IsBeforeWriting Disk = ⊥
 IsBeforeWriting Memory = Unit {0}

@@ -11,7 +11,8 @@ use Rattle.jr_journal.specs.Crashes.{reads_first}
 abbrev pub synced_slots : Slots → Slots
 synced_slots d = record { first = all_synced d.first; second = all_synced d.second }
 
--- the slot that is read; where there is no journal yet it is begun in the first
+-- the slot that is read: of two sealed ones that of the greater generation; a new journal begins in
+-- the first
 abbrev pub slot_read : ℕ → Image → Slot
 slot_read gateway i =
     if is_fresh i then First

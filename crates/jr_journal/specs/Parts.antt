@@ -4,19 +4,19 @@ use Rattle.jr_disk.specs.declared.disk.Disk.{Ghosts}
 use Rattle.jr_disk.specs.declared.disk.Slot.{Slot}
 use Rattle.jr_journal.specs.declared.journal.Journal.{Journal}
 
--- the disk that it is on
+-- the disk that a journal is on
 abbrev pub disk_of : {D : Type 0} {G : Ghosts D} → Journal D G → D
 disk_of journal = journal.disk
 
--- the number of the gateway that it is of
+-- the number of the gateway that a journal is of
 abbrev pub gateway_of : {D : Type 0} {G : Ghosts D} → Journal D G → ℕ
 gateway_of journal = journal.gateway
 
--- the slot that it writes
+-- the slot that a journal writes
 abbrev pub slot_of : {D : Type 0} {G : Ghosts D} → Journal D G → Slot
 slot_of journal = journal.slot
 
--- the generation of that slot
+-- the generation of the slot that a journal writes
 abbrev pub generation_of : {D : Type 0} {G : Ghosts D} → Journal D G → ℕ
 generation_of journal = journal.generation
 

@@ -20,14 +20,15 @@ use Rattle.jr_disk.specs.Disk.{Image}
 unfoldable pub delta_bytes : List Op → List ℕ
 delta_bytes delta = spelling delta
 
--- a record: its tag, its length, the delta's bytes
+-- a record: its tag, 44 in hexadecimal, its length in four bytes, the delta's bytes
 abbrev pub written : List Op → List ℕ
 written delta = 68 ∷ big_bytes 4 (length (delta_bytes delta)) ++ delta_bytes delta
 
--- a header, of which the first five bytes tell the gateway
+-- the first five bytes of a header, which say whose it is
 abbrev pub magic : ℕ → List ℕ
 magic gateway = 83 ∷ 78 ∷ 74 ∷ 49 ∷ gateway ∷ []
 
+-- the first 13 bytes of a slot: five that name the gateway, and the generation in eight
 abbrev pub header : ℕ → ℕ → List ℕ
 header gateway generation = magic gateway ++ big_bytes 8 generation
 
@@ -41,53 +42,60 @@ base_bytes gateway generation base = header gateway generation ++ (flat_map writ
 
 -- ---- reading
 
+-- the piece that a record with so many bytes of delta is: whole if they can be read, else bad
 abbrev pub whole_if : Result (List Op) OpsFault → ℕ → Piece
 whole_if (Ok delta) size = Whole delta size
 whole_if (Err fault) size = Bad
 
--- the delta of so many bytes, or none
+-- the piece that so many bytes of delta make: a whole record if they can be read, else bad
 unfoldable pub delta_piece : ℕ → List ℕ → Piece
 delta_piece size rest = whole_if (reading (take size rest)) size
 
--- so many bytes should be a delta
+-- the piece of a record with so many bytes of delta: bad above 8 MiB, torn if bytes are missing
 abbrev pub body_at : ℕ → List ℕ → Piece
 body_at size rest =
     if nat_lt max_octets size then Bad
     else (if nat_lt (length rest) size then Torn else delta_piece size rest)
 
--- a record, behind its tag
+-- the piece of a record, after its tag: torn if its length is not there
 abbrev pub record_at : List ℕ → Piece
 record_at rest =
     if nat_lt (length rest) 4 then Torn else body_at (from_be_bytes w32 (take 4 rest)) (drop 4 rest)
 
--- the piece that begins with this byte
+-- the piece that begins with this byte: a record, the seal, or bad
 unfoldable pub piece_at : ℕ → List ℕ → Piece
 piece_at tag rest = if tag == 68 then record_at rest else (if tag == 83 then Seal else Bad)
 
+-- the one of four values that belongs to the kind of piece
 abbrev pub match_piece : {A : Type 0} → Piece → (List Op → ℕ → A) → A → A → A → A
 match_piece (Whole delta size) whole seal torn bad = whole delta size
 match_piece Seal whole seal torn bad = seal
 match_piece Torn whole seal torn bad = torn
 match_piece Bad whole seal torn bad = bad
 
+-- what was found: deltas, whether the seal was among them, how many bytes, and whether a bad piece
+-- follows
 abbrev pub made : List (List Op) → Bool → ℕ → Bool → Found
 made deltas sealed whole bad = record { deltas = deltas; sealed = sealed; whole = whole; bad = bad }
 
--- nothing more is there, or what comes next may not stand there
+-- nothing more is there, or what comes next may not be there
 abbrev pub ended : Bool → Bool → Found
 ended sealed bad = made [] sealed 0 bad
 
--- what was found, and then what was found behind it
+-- what was found, and then what was found after it
 abbrev pub joined : Found → Found → Found
 joined r q = made (r.deltas ++ q.deltas) q.sealed (r.whole + q.whole) q.bad
 
+-- what is found in one whole record: its delta, and its bytes with the five in front of the delta
 abbrev pub one_record : List Op → ℕ → Bool → Found
 one_record delta size sealed = made (delta ∷ []) sealed (5 + size) false
 
+-- what is found in the seal: one byte, and no delta
 abbrev pub one_seal : Found
 one_seal = made [] true 1 false
 
--- the whole pieces from a place on, past as many bytes of the one before it
+-- The whole pieces from a place on: deltas, seal, how many bytes they are, and whether what comes
+-- next may not be there. So many bytes are skipped first.
 unfoldable pub found : ℕ → Bool → List ℕ → Found
 found skip sealed [] = ended sealed false
 found (suc skip) sealed (b ∷ rest) = found skip sealed rest
@@ -105,10 +113,12 @@ abbrev pub begins : ℕ → List ℕ → Bool
 begins gateway bytes =
     bytes_eq (take (min (length bytes) 5) bytes) (take (min (length bytes) 5) (magic gateway))
 
+-- what a slot is, by what was found after its header: broken at a byte, sealed, or unsealed
 abbrev pub after_header : ℕ → Found → SlotContent
 after_header generation f =
     if f.bad then Broken (13 + f.whole) else (if f.sealed then Sealed generation f else Unsealed)
 
+-- what a slot is to this gateway: alien, unsealed, sealed, or broken at a byte
 unfoldable pub slot_content : ℕ → List ℕ → SlotContent
 slot_content gateway bytes =
     if begins gateway bytes
@@ -131,6 +141,6 @@ chosen (Sealed m f) right = f.deltas
 chosen left (Sealed n g) = g.deltas
 chosen left right = []
 
--- the records of an image
+-- the records of an image: the deltas of its sealed slot, of two that of the greater generation
 abbrev pub records : ℕ → Image → List (List Op)
 records gateway i = chosen (slot_content gateway i.first) (slot_content gateway i.second)

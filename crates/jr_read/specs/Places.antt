@@ -1,4 +1,4 @@
--- Where records stand in their slot, and what is told of two slots.
+-- The places of records in their slot, and what an opening says of two slots.
 use Rattle.std.specs.Prelude.{◌≡◌, ℕ, ◌+◌, List, [], ◌∷◌, drop, Option, Some}
 use Rattle.rep_op.specs.declared.op.Op.{Op}
 use Rattle.jr_disk.specs.declared.disk.Slot.{Slot}
@@ -20,7 +20,7 @@ abbrev pub octets_in : Image → Slot → List ℕ
 octets_in i First = i.first
 octets_in i Second = i.second
 
--- what an opening tells of them: the fault that there is, or that memory ran out
+-- what an opening says of them: the fault that there is, or that memory ran out
 abbrev pub IsTold : Option JournalFault → JournalFault → Type 0
 IsTold fault Memory = Unit {0}
 IsTold fault Foreign = fault ≡ Some Foreign
@@ -33,12 +33,12 @@ abbrev pub piece_in : List ℕ → Piece
 piece_in [] = Torn
 piece_in (b ∷ rest) = piece_at b rest
 
--- at this place of a slot stands the whole record of this delta, and it ends where the place does
+-- at this place of a slot is the whole record of this delta, and it ends with the place
 abbrev pub IsPlaced : List ℕ → Place → List Op → Type 0
 IsPlaced slot place delta =
     (size : ℕ) × (piece_in (drop place.at slot) ≡ Whole delta size) × (place.octets ≡ 5 + size)
 
--- each record stands at its place
+-- each record is at its place
 abbrev pub ArePlaced : List ℕ → List Place → List (List Op) → Type 0
 ArePlaced slot [] [] = Unit {0}
 ArePlaced slot (place ∷ places) (delta ∷ deltas) =

@@ -13,7 +13,7 @@ use Rattle.sn_local.specs.Seen.{seen_of}
 abbrev pub IsClientUp : ℕ → List Op → List ℕ → Type 0
 IsClientUp g S c = (is_owned g (seen_of S) c ≡ true) × (can_wake (view c S).session ≡ true)
 
--- and so is each client that is bound
+-- each client that is bound is the gateway's, and Active, Asleep or Awake
 abbrev pub IsUp : ℕ → List Op → Local → Type 0
 IsUp g S local =
     AllByRecursion (λ (binding : Binding). IsClientUp g S binding.client) local.bindings

@@ -15,13 +15,13 @@ abbrev pub is_asked : Awaited → Bool
 is_asked Topic = true
 is_asked (Message topic) = is_qos topic.qos
 
--- and so in every dialog
+-- the topic of each will that a dialog was given has a quality of service of 0 to 2
 abbrev pub AreAsked : List WillDialog → Type 0
 AreAsked dialogs =
     AllByRecursion (λ (dialog : WillDialog). IsTrue (is_asked dialog.awaited)) dialogs
 
--- the gateway has a number from 1 on; what it has written itself reads back; what it has taken is
--- well made; and so are the topics of wills that it was given
+-- The gateway has a number from 1 on. What it has written itself reads back. What it has taken is
+-- well made, and so are the topics of wills that it was given.
 pub record KeepsWell (g : ℕ) (S : List Op) (local : Local) : Type 0 where
   pub numbered : 1 ≤ g
   pub flush : AreFlush g S

@@ -31,24 +31,26 @@ use Rattle.sn_tick.specs.declared.due.Due.TheVariants.{Loss, Retry, Delivery}
 use Rattle.sn_tick.specs.Due.{first_due}
 use Rattle.sn_tick.specs.Ticking.{may_advertise, will_puts, tick}
 
--- the message is that of a publication to this topic with this body, which comes at this quality of
--- service, for one of these clients that is its recipient, at the one at which that gets it
+-- The message is for one of these clients, a recipient of a publication to this topic with this
+-- body that comes at this quality of service. It has the quality of service at which that client
+-- gets it.
 abbrev pub IsAmong : Seen → List (List ℕ) → List ℕ → ℕ → List ℕ → NewPut → Type 0
 IsAmong seen clients topic qos body p =
     Contains clients p.client × (qos_for topic qos (seen.of p.client) ≡ Some p.qos)
     × (p.topic ≡ topic) × (p.body ≡ body)
 
--- a message for each recipient, where the publication is about a topic and not too long
+-- a message for each recipient, if the publication is about a topic and not too long
 abbrev pub puts_meant : Seen → ℕ → List ℕ → Meant → List NewPut
 puts_meant seen qos body (Refused code) = []
 puts_meant seen qos body (Topic name) = puts_for seen name qos body
 
--- none where the message id was received and is not released, for the recipients have it; and none
--- where there is no room for the id
+-- no message if the id was received and is not released, for the recipients have it; none if there
+-- is no room for the id
 abbrev pub puts_new : Session → ℕ → List NewPut → List NewPut
 puts_new s msg_id puts =
     if is_received msg_id s.received || id_has_no_room msg_id s.received then [] else puts
 
+-- the messages that a PUBLISH makes, by its quality of service; -1 counts as 0
 abbrev pub puts_at : Seen → Session → ℕ → List ℕ → Qos → Meant → List NewPut
 puts_at seen s msg_id body levels.Zero meant = puts_meant seen 0 body meant
 puts_at seen s msg_id body levels.One meant = puts_meant seen 1 body meant
@@ -56,14 +58,14 @@ puts_at seen s msg_id body levels.Two meant =
     puts_new s msg_id (puts_meant seen 2 body meant)
 puts_at seen s msg_id body levels.MinusOne meant = puts_meant seen 0 body meant
 
--- the messages by the client that is bound; none where nobody is
+-- the messages by the client that is bound; none if there is no such client
 abbrev pub puts_bound : Entries → Seen → Option (List ℕ) → ℕ → ℕ → ℕ → List ℕ → List NewPut
 puts_bound predefined seen None bits topic msg_id body = []
 puts_bound predefined seen (Some c) bits topic msg_id body =
     puts_at seen (session_of seen c) msg_id body (qos_of bits)
     (publication_meant predefined (session_of seen c) bits topic body)
 
--- at quality of service -1 nobody has to be bound
+-- at quality of service -1 no client has to be bound
 abbrev pub puts_by_level : Entries → Seen → Option (List ℕ) → ℕ → ℕ → ℕ → List ℕ → Qos
     → List NewPut
 puts_by_level predefined seen bound bits topic msg_id body levels.MinusOne =
@@ -75,31 +77,33 @@ puts_by_level predefined seen bound bits topic msg_id body levels.One =
 puts_by_level predefined seen bound bits topic msg_id body levels.Two =
     puts_bound predefined seen bound bits topic msg_id body
 
--- the messages that a PUBLISH with these flags, topic field, message id and body makes, which comes
--- from this address
+-- The messages that a PUBLISH from this address makes: one for each recipient. It makes none if its
+-- topic field stands for no topic, or if its body has more than 4,096 octets. It makes none without
+-- a bound client, except at quality of service -1. At 2 it makes those that `puts_new` leaves.
 abbrev pub puts_by : Entries → Seen → Local → Addr → ℕ → ℕ → ℕ → List ℕ → List NewPut
 puts_by predefined seen local a bits topic msg_id body =
     puts_by_level predefined seen (client_at a local.bindings) bits topic msg_id body (qos_of bits)
 
--- the messages that a frame makes: a PUBLISH those of its recipients, and no other frame any
+-- the messages that a frame makes: a PUBLISH those of `puts_by`, and no other frame any
 abbrev pub puts_of : Entries → Seen → Local → Addr → Frame → List NewPut
 puts_of predefined seen local a (frames.Publish flags topic msg_id body) =
     puts_by predefined seen local a flags.bits topic msg_id body
 puts_of predefined seen local a frame = []
 
--- the messages that are made since this is due with the client: those of its will, where it is
--- lost, else none
+-- the messages that are made if this is due with the client: those of its will if it is lost, else
+-- none
 abbrev pub puts_lost : Seen → List ℕ → Due → List NewPut
 puts_lost seen c Loss = will_puts seen c (session_of seen c).will
 puts_lost seen c (Retry a) = []
 puts_lost seen c (Delivery a) = []
 
+-- the messages that are made for what is due: those of `puts_lost`, and none if nothing is due
 abbrev pub puts_due : Seen → Option (List ℕ × Due) → List NewPut
 puts_due seen None = []
 puts_due seen (Some found) = puts_lost seen found.0 found.1
 
--- the messages that a tick makes: none where ADVERTISE goes out; else, where the first client with
--- which something is due is lost, those of its will
+-- The messages that a tick makes: those of the will of the first client with which something is
+-- due, if that client is lost. A tick that sends ADVERTISE makes none.
 abbrev pub puts_by_tick : ℕ → ℕ → List Addr → Seen → Local → ℕ → List NewPut
 puts_by_tick g advertise field seen local now =
     if may_advertise advertise field now local.advertised then []
@@ -110,15 +114,15 @@ abbrev pub IsAnswered : Addr → Frame → List Send → Type 0
 IsAnswered a answer sends = Contains sends (record { to = a; bytes = spelling answer })
 
 -- the client that is bound to the address publishes to a topic, and these are the messages for the
--- recipients of a publication at this quality of service
+-- recipients at this quality of service
 abbrev pub IsPublished : Entries → Seen → Local → Addr → ℕ → ℕ → ℕ → List ℕ → List NewPut → Type 0
 IsPublished predefined seen local a bits topic qos body puts =
     (c : List ℕ) × (name : List ℕ) × (client_at a local.bindings ≡ Some c)
     × (publication_meant predefined (session_of seen c) bits topic body ≡ Topic name)
     × (puts ≡ puts_for seen name qos body)
 
--- the session of the client that is bound to the address has this message id as one that was
--- received and is not released
+-- the session of the client that is bound to the address has received this message id and not
+-- released it
 abbrev pub HasReceived : Seen → Local → Addr → ℕ → Type 0
 HasReceived seen local a msg_id =
     (c : List ℕ) × (client_at a local.bindings ≡ Some c)

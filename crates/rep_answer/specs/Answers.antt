@@ -26,28 +26,31 @@ ranges_in ranges origin None = []
 ranges_in ranges origin (Some entry) =
     ranges_of ranges (find (λ o. origin == o.origin) entry.origins)
 
+-- the sequence numbers of an origin that the client's entry has as acknowledged
 abbrev pub acknowledged_in : ℕ → Option ClientEntry → List (ℕ × ℕ)
 acknowledged_in origin entry = ranges_in (λ o. o.acknowledged) origin entry
 
+-- the sequence numbers of an origin that the client's entry has as waiting
 abbrev pub waiting_in : ℕ → Option ClientEntry → List (ℕ × ℕ)
 waiting_in origin entry = ranges_in (λ o. o.waiting) origin entry
 
--- a session operation is seen below the stamp, and at it without a gap from 0 on
+-- whether an entry sees a session operation: it is below the stamp, or at it without a gap from 0
+-- on
 abbrev pub sees : Option ClientEntry → Stamp × ℕ → Bool
 sees None name = false
 sees (Some entry) name = is_below name.0 entry.stamp || is_in_prefix entry.stamp entry.prefix name
 
--- what a digest covers: session operations that it sees
+-- whether a digest covers a session operation of the client: its entry sees it
 abbrev pub covers_operation : List ClientEntry → List ℕ → Stamp × ℕ → Bool
 covers_operation digest c name = sees (entry_of c digest) name
 
--- messages that wait or are acknowledged
+-- whether a digest covers a message of the client: it waits there, or is acknowledged
 abbrev pub covers_put : List ClientEntry → List ℕ → ℕ × ℕ → Bool
 covers_put digest c name =
     in_ranges name.0 (waiting_in name.1 (entry_of c digest))
     || in_ranges name.0 (acknowledged_in name.1 (entry_of c digest))
 
--- acknowledgements that it has
+-- whether a digest covers the acknowledgement of a message: it has it
 abbrev pub covers_acknowledgement : List ClientEntry → List ℕ → ℕ × ℕ → Bool
 covers_acknowledgement digest c name = in_ranges name.0 (acknowledged_in name.1 (entry_of c digest))
 
@@ -62,6 +65,7 @@ pub record IsRest (digest : List ClientEntry) (S X : List Op) : Type 0 where
       → is_acknowledged c X name
       ≡ (not (covers_acknowledgement digest c name) && is_acknowledged c S name)
 
--- the deltas, one after the other, are what must be kept of S and what the digest does not cover
+-- the deltas, one after the other and as full as they can be, are what must be kept of S and the
+-- digest does not cover
 abbrev pub IsAnswer : List ClientEntry → List Op → List (List Op) → Type 0
 IsAnswer digest S deltas = (X : List Op) × IsRest digest (keep S) X × AreDeltasOf X deltas

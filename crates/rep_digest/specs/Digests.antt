@@ -31,12 +31,12 @@ unfoldable pub numbers_from : ℕ → ℕ → List ℕ
 numbers_from start zero = []
 numbers_from start (suc n) = start ∷ numbers_from (start + 1) n
 
--- the origins 1 to 255 of which messages for the client wait or are acknowledged
+-- the origins 1 to 255 from which messages for the client wait or are acknowledged
 unfoldable pub origin_entries : List ℕ → List Op → List OriginEntry
 origin_entries c S = filter has_ranges (map (origin_entry c S) (numbers_from 1 255))
 
--- what the set says of a client: the visible stamp, how many of its operations are there without a
--- gap, and its messages
+-- what the set says of a client: the visible stamp, the length of its prefix, and each origin whose
+-- messages wait or are acknowledged
 abbrev pub client_entry : List Op → List ℕ → ClientEntry
 client_entry S c =
     record {

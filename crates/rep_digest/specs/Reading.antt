@@ -19,10 +19,11 @@ use Rattle.rep_digest.specs.Digests.{has_ranges}
 unfoldable pub ranges_at : Reader (List (ℕ × ℕ))
 ranges_at = counted_by (number_at w32) range_at
 
+-- the entry of an origin, of its number, what is acknowledged and what waits
 abbrev pub origin_of : ℕ × (List (ℕ × ℕ) × List (ℕ × ℕ)) → OriginEntry
 origin_of x = record { origin = x.0; acknowledged = x.1.0; waiting = x.1.1 }
 
--- an origin of which something is said
+-- an origin with ranges
 unfoldable pub origin_at : Reader OriginEntry
 origin_at =
     ranged has_ranges (made origin_of
@@ -34,18 +35,23 @@ is_seen x =
     if x.0 == 0 then (x.1.0 == 0) && (x.1.1 == 0)
     else nat_le 1 x.1.0 && nat_le 1 x.1.1 && nat_le x.1.1 MAX_OPERATIONS
 
+-- the visible stamp of an epoch and a gateway; none if the epoch is 0
 abbrev pub stamp_of : ℕ × (ℕ × ℕ) → Option Stamp
 stamp_of x = if x.0 == 0 then None else Some (record { epoch = x.0; gateway = x.1.0 })
 
+-- what a client's entry says of its session: epoch, gateway, and the length of the prefix
 unfoldable pub seen_at : Reader (ℕ × (ℕ × ℕ))
 seen_at = ranged is_seen (both (number_at w64) (both octet_at (number_at w16)))
 
+-- a count of two octets, and so many origins
 unfoldable pub origins_at : Reader (List OriginEntry)
 origins_at = counted_by (number_at w16) origin_at
 
+-- a client's entry, of its name, what it says of the session, and its origins
 abbrev pub entry_of : List ℕ × ((ℕ × (ℕ × ℕ)) × List OriginEntry) → ClientEntry
 entry_of x = record { client = x.0; stamp = stamp_of x.1.0; prefix = x.1.0.1.1; origins = x.1.1 }
 
+-- a client's entry: its name, epoch, gateway, prefix, and origins
 unfoldable pub entry_at : Reader ClientEntry
 entry_at = made entry_of (both client_at (both seen_at origins_at))
 
@@ -57,6 +63,7 @@ ranges_apart [] = true
 ranges_apart (r ∷ []) = true
 ranges_apart (r ∷ s ∷ rest) = nat_lt (r.1 + 1) s.0 && ranges_apart (s ∷ rest)
 
+-- what is acknowledged of an origin, and what waits, are ranges that are apart
 abbrev pub are_apart : OriginEntry → Bool
 are_apart o = ranges_apart o.acknowledged && ranges_apart o.waiting
 
@@ -66,16 +73,19 @@ origins_ascend [] = true
 origins_ascend (a ∷ []) = true
 origins_ascend (a ∷ b ∷ rest) = nat_lt a.origin b.origin && origins_ascend (b ∷ rest)
 
+-- the ranges of each origin are apart, and the origins ascend
 abbrev pub is_ordered : ClientEntry → Bool
 is_ordered e = list_all are_apart e.origins && origins_ascend e.origins
 
+-- whether the client of the first entry comes before that of the second
 abbrev pub is_next : ClientEntry → ClientEntry → Bool
 is_next a b = is_lt (client_cmp a.client b.client)
 
--- whether the entry is in order, and may stand behind these
+-- whether the entry is in order, and may follow these
 abbrev pub may_follow : List ClientEntry → ClientEntry → Bool
 may_follow entries e = is_ordered e && follows_last is_next entries e
 
--- what the octets say, or why they are no digest
+-- What the octets say, or the first fault for which they are no digest. The order is checked when
+-- an entry is whole.
 abbrev pub reading : List ℕ → Result (List ClientEntry) OpsFault
 reading = reading_of entry_at may_follow

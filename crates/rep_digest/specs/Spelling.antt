@@ -8,7 +8,7 @@ use Rattle.rep_ops.specs.Spelling.{text_of, max_octets}
 use Rattle.rep_digest.specs.declared.entry.OriginEntry.{OriginEntry}
 use Rattle.rep_digest.specs.declared.entry.ClientEntry.{ClientEntry}
 
--- the first and the last number
+-- a range: its first and its last number
 abbrev pub range_octets : ℕ × ℕ → List ℕ
 range_octets r = big_bytes 8 r.0 ++ big_bytes 8 r.1
 
@@ -24,7 +24,7 @@ origin_octets o = o.origin ∷ ranges_octets o.acknowledged ++ ranges_octets o.w
 abbrev pub origins_octets : List OriginEntry → List ℕ
 origins_octets origins = big_bytes 2 (length origins) ++ flat_map origin_octets origins
 
--- epoch and gateway of the stamp, all 0 where there is none, and the prefix
+-- epoch and gateway of the stamp, and the prefix; all are 0 without a stamp
 abbrev pub seen_octets : Option Stamp → ℕ → List ℕ
 seen_octets None prefix = big_bytes 8 0 ++ 0 ∷ big_bytes 2 prefix
 seen_octets (Some stamp) prefix = big_bytes 8 stamp.epoch ++ stamp.gateway ∷ big_bytes 2 prefix
@@ -34,9 +34,10 @@ abbrev pub entry_octets : ClientEntry → List ℕ
 entry_octets e =
     client_octets e.client ++ (seen_octets e.stamp e.prefix ++ origins_octets e.origins)
 
--- a digest is the text of its entries
+-- a digest is the text of its entries: the version, how many there are, and the entries
 abbrev pub spelling : List ClientEntry → List ℕ
 spelling d = text_of entry_octets d
 
+-- the octets of the digest are at most 8 MiB
 abbrev pub IsWithinLimit : List ClientEntry → Type 0
 IsWithinLimit d = length (spelling d) ≤ max_octets

@@ -17,7 +17,7 @@ pub record IsRange (r : ℕ × ℕ) : Type 0 where
   pub last : r.0 ≤ r.1
   pub wide : r.1 < 2 ^ 64
 
--- an origin 1 to 255 of which something is said, in ranges that are apart
+-- an origin 1 to 255 with ranges, which are apart
 pub record IsOrigin (o : OriginEntry) : Type 0 where
   pub number : 1 ≤ o.origin
   pub octet : o.origin < 2 ^ 8
@@ -25,7 +25,7 @@ pub record IsOrigin (o : OriginEntry) : Type 0 where
   pub acknowledged : AllByRecursion IsRange o.acknowledged × AreApart o.acknowledged
   pub waiting : AllByRecursion IsRange o.waiting × AreApart o.waiting
 
--- no stamp and no prefix; or a stamp of which 1 to 256 operations are there without a gap
+-- no stamp and no prefix; or a stamp, and 1 to 256 of its operations without a gap
 abbrev pub IsSeen : Option Stamp → ℕ → Type 0
 IsSeen None prefix = prefix ≡ 0
 IsSeen (Some s) prefix =
@@ -38,6 +38,8 @@ OriginsAscend [] = Unit {0}
 OriginsAscend (a ∷ []) = Unit {0}
 OriginsAscend (a ∷ b ∷ rest) = (a.origin < b.origin) × OriginsAscend (b ∷ rest)
 
+-- an entry that a digest may have: a client's name, what is visible of its session, and its
+-- origins, ascending
 pub record IsEntry (e : ClientEntry) : Type 0 where
   pub client : IsClientId e.client
   pub seen : IsSeen e.stamp e.prefix

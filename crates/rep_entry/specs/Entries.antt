@@ -32,7 +32,7 @@ AreChanges es =
 abbrev pub AreMade : List Put → Type 0
 AreMade ps = AllByRecursion (λ (p : Put). IsTrue (is_put p)) ps
 
--- each message stands under its name
+-- each message is under its name
 abbrev pub AreUnderNames : List ((ℕ × ℕ) × Put) → Type 0
 AreUnderNames es = AllByRecursion (λ (e : (ℕ × ℕ) × Put). e.0 ≡ name_of e.1) es
 
@@ -41,6 +41,7 @@ abbrev pub NoneCoveredBelow : List Range → List ((ℕ × ℕ) × Put) → Type
 NoneCoveredBelow ranges es =
     AllByRecursion (λ (e : (ℕ × ℕ) × Put). list_any (covers (name_of e.1)) ranges ≡ false) es
 
+-- the messages, without their names
 abbrev pub messages : List ((ℕ × ℕ) × Put) → List Put
 messages es = map (λ e. e.1) es
 
@@ -48,8 +49,8 @@ messages es = map (λ e. e.1) es
 abbrev pub row_of : List ℕ → Entry → List Op
 row_of c entry = kept_ops c entry.known entry.seen.pending (ranges_in entry.acks)
 
--- stamp, prefix and session are those of the operations, of which none is below the stamp; messages
--- ascend, and none is acknowledged; the counts are those of what is kept, and pass no limit
+-- Stamp, prefix and session are those of the operations, none of which is below the stamp. Messages
+-- ascend, and none is acknowledged. The counts are those of what is kept.
 pub record IsEntry (c : List ℕ) (entry : Entry) : Type 0 where
   pub folded : IsFoldedOf entry.seen.stamp entry.seen.prefix entry.seen.session entry.known
   pub ordered : T (is_sorted operation_cmp entry.known)
@@ -61,7 +62,7 @@ pub record IsEntry (c : List ℕ) (entry : Entry) : Type 0 where
   pub parked : entry.parked ≡ length (parked c (row_of c entry))
   pub exceptions : entry.exceptions ≡ capped (exceptions c (row_of c entry))
 
--- the session operations of an entry once a log is in their place, where one is staged
+-- the session operations of an entry once a log, if one is staged, is in their place
 abbrev pub whole_after : Entry → Option Log → Whole
 whole_after entry log = record {
   stamp = stamp_on entry.seen.stamp log;
@@ -78,6 +79,7 @@ pub record Base : Type 0 where
   pub waiting : List Put
   pub ranges : List Range
 
+-- what a change of this entry builds on
 abbrev pub base_of : Entry → Base
 base_of entry =
     record { known = entry.known; waiting = entry.seen.pending; ranges = ranges_in entry.acks }
@@ -95,12 +97,13 @@ row_on c base log news acks =
 
 -- ---- a change, operation by operation
 
+-- the operations that are kept of the client once the change is made
 abbrev pub fresh_row : List ℕ → Entry → Fresh → List Op
 fresh_row c entry fresh = row_on c (base_of entry) fresh.log (messages fresh.news) fresh.acks
 
--- the log is folded; new messages stand under their names, and none of them waits already;
--- acknowledged ranges do not touch, and where none is new they have no message; outside of the span
--- they have none that waits and none that is new
+-- A log that is folded, and messages under their names, none of which waits already. Acknowledged
+-- ranges do not touch. If none of them is new, they have none of the new messages. Outside of the
+-- span they have no message, new or waiting.
 pub record IsFresh (c : List ℕ) (entry : Entry) (fresh : Fresh) : Type 0 where
   pub entry_is : IsEntry c entry
   pub folded : IsFolded (whole_after entry fresh.log)

@@ -1,4 +1,4 @@
--- Which topics a client's filters may ask for, told by a few marks.
+-- Which topics a client's filters may ask for, by a few marks.
 use Rattle.std.specs.Prelude.{◌≡◌, ℕ, ◌+◌, ◌*◌, ◌/◌, ◌%◌, ◌==◌, Bool, true, ⊤, List, fold, Option, Some, None}
 use Rattle.std.specs.Int.{bit_at}
 use Rattle.std.specs.List.{AllByRecursion}
@@ -14,7 +14,7 @@ mixed_with mixed octet = ((mixed + octet) * 16777619) % 4294967296
 unfoldable pub mark_of : List ℕ → ℕ
 mark_of octets = fold mixed_with 2166136261 octets / 67108864
 
--- whether a mark is among those of a number, of which each bit is one
+-- whether a mark is among those of a number, each bit of which is one
 abbrev pub has_mark : ℕ → ℕ → Bool
 has_mark marks mark = bit_at marks mark == 1
 
@@ -23,10 +23,11 @@ abbrev pub AsksWithin : ℕ → List ℕ → Type 0
 AsksWithin marks filter =
     (topic : List ℕ) → is_match filter topic ≡ true → has_mark marks (mark_of topic) ≡ true
 
--- the same of all these subscriptions
+-- each topic that these subscriptions ask for has its mark among these
 abbrev pub AskWithin : ℕ → List Subscription → Type 0
 AskWithin marks subscriptions = AllByRecursion (λ s. AsksWithin marks s.filter) subscriptions
 
+-- each topic that the session asks for has its mark among these; without a session it asks for none
 abbrev pub SessionWithin : ℕ → Option Session → Type 0
 SessionWithin marks None = ⊤
 SessionWithin marks (Some session) = AskWithin marks session.subscriptions

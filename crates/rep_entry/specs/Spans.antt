@@ -1,4 +1,4 @@
--- Where what is acknowledged anew lies.
+-- The span of what is newly acknowledged.
 use Rattle.std.specs.Prelude.{◌≡◌, ℕ, Bool, false, ◌&&◌, nat_le, List}
 use Rattle.std.specs.List.{list_any, AllByRecursion}
 use Rattle.rep_op.specs.declared.op.Put.{Put}
@@ -15,5 +15,6 @@ abbrev pub IsFreeOutside : Span → List Range → Put → Type 0
 IsFreeOutside span ranges p =
     lies_in span p.seq ≡ false → list_any (covers (name_of p)) ranges ≡ false
 
+-- outside of the span none of these messages is acknowledged
 abbrev pub AreFreeOutside : Span → List Range → List Put → Type 0
 AreFreeOutside span ranges ps = AllByRecursion (IsFreeOutside span ranges) ps

@@ -21,10 +21,12 @@ use Rattle.rep_entry.specs.Spans.{AreFreeOutside}
 use Rattle.rep_log.specs.Origins.{AreOrigins, ranges_on}
 use Rattle.rep_entry.specs.Entries.{AreChanges, AreMade, messages, Base, left_on, row_on}
 
+-- the clients' names as lists, each with its change
 abbrev pub staged_of : List (Vec ℕ Global × Change) → List (List ℕ × Change)
 staged_of changes = map (λ g. (g.0.items, g.1)) changes
 
--- what a change has, whatever stands in its place: new messages ascend, and rooms are empty
+-- what holds of a change on whatever it builds: new messages ascend and are well made, and rooms
+-- are empty
 pub record IsChange (change : Change) : Type 0 where
   pub rising : Rising change.news.items
   pub made : AreMade change.news.items
@@ -33,6 +35,7 @@ pub record IsChange (change : Change) : Type 0 where
 
 -- ---- what contracts see of a client: its operations
 
+-- the origin and the range of an acknowledgement; none of any other operation
 abbrev pub range_of : Op → Option Range
 range_of (OfSession c stamp counter change) = None
 range_of (OfPut c put) = None
@@ -51,10 +54,11 @@ base_in c ops =
 abbrev pub planned_row : List ℕ → Base → Change → List Op
 planned_row c base change = row_on c base change.log change.news.items change.acks
 
+-- the operations that are kept of each client that the changes name
 abbrev pub planned : List (List ℕ × List Op) → List (List ℕ × Change) → List (List ℕ × List Op)
 planned rows gs = map (λ g. (g.0, planned_row g.0 (base_in g.0 (own g.0 rows)) g.1)) gs
 
--- where these operations were there, the log is folded, and there is room for all
+-- if these operations were there, the log is folded, and there is room for all
 abbrev pub IsLogFit : List ((Stamp × ℕ) × SessionOp) → Option Log → ℕ → Type 0
 IsLogFit known None room = ⊤
 IsLogFit known (Some log) room =
@@ -63,13 +67,14 @@ IsLogFit known (Some log) room =
     × AreChanges (all_of known log)
     × (log.anew ≡ false → length known + length log.more ≤ room)
 
+-- no acknowledgements are staged, or ranges of origins that ascend
 abbrev pub AreAcksFit : Option (List (ℕ × List (ℕ × ℕ))) → Type 0
 AreAcksFit None = ⊤
 AreAcksFit (Some acks) = AreOrigins acks
 
--- on what it builds, the change is one of messages that do not wait, has room for all, and none is
--- acknowledged where it has no acknowledgement, or outside of its span; the counts are those of
--- what is kept
+-- On what it builds, the change brings messages that do not wait yet, and has room for all. No
+-- message is acknowledged if the change has no acknowledgement, and none outside of its span. The
+-- counts are those of what is kept.
 pub record IsFit (c : List ℕ) (base : Base) (change : Change) : Type 0 where
   pub apart : (name : ℕ × ℕ) → InOne name base.waiting change.news.items
   pub room : (length change.news.items == 0) ≡ false
@@ -82,12 +87,13 @@ pub record IsFit (c : List ℕ) (base : Base) (change : Change) : Type 0 where
   pub parked : change.parked ≡ length (parked c (planned_row c base change))
   pub exceptions : change.exceptions ≡ capped (exceptions c (planned_row c base change))
 
--- the same, and there is a place, where no more wait than may
+-- the change fits, its client has a place, and no more messages wait than may
 pub record IsReady (there : Bool) (c : List ℕ) (base : Base) (change : Change) : Type 0 where
   pub is_there : there ≡ true
   pub fit : IsFit c base change
   pub few : length (left_on base change.news.items change.acks) ≤ MOST_PENDING
 
+-- each client has a place for its change, which is fit and passes no limit of messages that wait
 abbrev pub AreReady : List (List ℕ × List Op) → List (List ℕ × Change) → Type 0
 AreReady rows gs =
     AllByRecursion (λ g. IsReady (is_some (find client_cmp g.0 rows)) g.0

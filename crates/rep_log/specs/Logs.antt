@@ -34,6 +34,7 @@ pub record Whole : Type 0 where
   pub session : Option Session
   pub known : List ((Stamp × ℕ) × SessionOp)
 
+-- stamp, prefix and session are what the operations come to, and none is below the stamp
 abbrev pub IsFolded : Whole → Type 0
 IsFolded whole = IsFoldedOf whole.stamp whole.prefix whole.session whole.known
 
@@ -41,10 +42,11 @@ IsFolded whole = IsFoldedOf whole.stamp whole.prefix whole.session whole.known
 abbrev pub left_of : List ((Stamp × ℕ) × SessionOp) → Log → List ((Stamp × ℕ) × SessionOp)
 left_of known log = cond log.anew [] known
 
--- all operations of a log, where those of a list were there
+-- all operations of a log, if those of a list were there
 abbrev pub all_of : List ((Stamp × ℕ) × SessionOp) → Log → List ((Stamp × ℕ) × SessionOp)
 all_of known log = left_of known log ++ log.more
 
+-- a log with all its operations: those of the list that stay, and those that it adds
 abbrev pub whole_of : List ((Stamp × ℕ) × SessionOp) → Log → Whole
 whole_of known log =
     record {
@@ -54,20 +56,24 @@ whole_of known log =
       known = all_of known log;
     }
 
--- ---- where a log may be staged; none leaves what was there
+-- ---- if a log is staged; without one all stays as it was
 
+-- the visible stamp, by the log if one is staged
 abbrev pub stamp_on : Option Stamp → Option Log → Option Stamp
 stamp_on stamp None = stamp
 stamp_on stamp (Some log) = log.stamp
 
+-- the length of the prefix, by the log if one is staged
 abbrev pub prefix_on : ℕ → Option Log → ℕ
 prefix_on prefix None = prefix
 prefix_on prefix (Some log) = log.prefix
 
+-- the session, by the log if one is staged
 abbrev pub session_on : Option Session → Option Log → Option Session
 session_on session None = session
 session_on session (Some log) = log.session
 
+-- the session operations, by the log if one is staged
 abbrev pub known_on : List ((Stamp × ℕ) × SessionOp) → Option Log → List ((Stamp × ℕ) × SessionOp)
 known_on known None = known
 known_on known (Some log) = all_of known log

@@ -7,6 +7,7 @@ use Rattle.std.specs.Ordering.{is_lt}
 use Rattle.rep_op.specs.declared.op.Put.{Put}
 use Rattle.rep_op.specs.Orders.{name_of, put_cmp}
 
+-- whether the first message is delivered before the second
 abbrev pub goes_before : Put → Put → Bool
 goes_before p q = is_lt (put_cmp (name_of p) (name_of q))
 
@@ -15,6 +16,7 @@ abbrev pub front_before : Put → List Put → List Put
 front_before p [] = []
 front_before p (n ∷ ns) = if goes_before n p then n ∷ front_before p ns else []
 
+-- the others: from the first on that does not go before p
 abbrev pub rest_from : Put → List Put → List Put
 rest_from p [] = []
 rest_from p (n ∷ ns) = if goes_before n p then rest_from p ns else n ∷ ns
@@ -28,9 +30,11 @@ weave (p ∷ ps) ns = front_before p ns ++ p ∷ weave ps (rest_from p ns)
 abbrev pub IsLess : Put → Put → Type 0
 IsLess p q = put_cmp (name_of p) (name_of q) ≡ Less
 
+-- the message is delivered before all of these
 abbrev pub Above : Put → List Put → Type 0
 Above p ns = AllByRecursion (IsLess p) ns
 
+-- the messages are in the order of delivery, and no two have one name
 abbrev pub Rising : List Put → Type 0
 Rising [] = Unit {0}
 Rising (p ∷ ps) = Above p ps × Rising ps
@@ -39,6 +43,7 @@ Rising (p ∷ ps) = Above p ps × Rising ps
 abbrev pub named_puts : List Put → List ((ℕ × ℕ) × Put)
 named_puts ps = map (λ p. (name_of p, p)) ps
 
+-- the message of a name, if there is one
 abbrev pub put_named : ℕ × ℕ → List Put → Option Put
 put_named q ps = find put_cmp q (named_puts ps)
 

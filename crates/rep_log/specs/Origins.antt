@@ -26,6 +26,7 @@ ranges_in (o ∷ origins) = map (λ r. (o.0, r)) o.1 ++ ranges_in origins
 abbrev pub IsOrigin : ℕ → List (ℕ × ℕ) → Type 0
 IsOrigin origin ranges = (1 ≤ origin) × AreApartFrom 1 ranges
 
+-- the acknowledged ranges of origins that ascend
 pub record AreOrigins (origins : List (ℕ × List (ℕ × ℕ))) : Type 0 where
   pub sorted : T (is_sorted nat_cmp origins)
   pub apart : AllByRecursion (λ o. IsOrigin o.0 o.1) origins
@@ -40,7 +41,7 @@ abbrev pub origins_after : List (ℕ × List (ℕ × ℕ)) → Option (List (ℕ
 origins_after origins None = origins
 origins_after origins (Some more) = more
 
--- the same of all ranges
+-- all ranges once others are in their place; none leaves them as they are
 abbrev pub ranges_on : List Range → Option (List (ℕ × List (ℕ × ℕ))) → List Range
 ranges_on ranges None = ranges
 ranges_on ranges (Some origins) = ranges_in origins

@@ -15,8 +15,8 @@ is_subscribed topic v =
 abbrev pub NoneAsks : List ℕ → List Op → List (List ℕ) → Type 0
 NoneAsks topic S cs = AllByRecursion (λ c. is_subscribed topic (view c S) ≡ false) cs
 
--- of the clients from a place on, none asks for the topic before this one, which is followed by
--- those behind it
+-- The client c has this view, and the clients after it begin at `behind`. Of the clients from
+-- `place` on, none of those before c has a filter that asks for the topic.
 pub record IsCandidate (topic : List ℕ) (S : List Op) (place behind : ℕ) (c : List ℕ)
     (seen : ClientView) : Type 0 where
   pub passed : List (List ℕ)

@@ -11,7 +11,7 @@ abbrev pub largest : {A : Type 0} → (A → ℕ) → List A → ℕ
 largest f [] = 0
 largest f (x ∷ xs) = max (f x) (largest f xs)
 
--- one more, where it fits eight octets
+-- one more, if that fits eight octets
 abbrev pub one_more : ℕ → Option ℕ
 one_more n = if nat_lt (n + 1) (2 ^ 64) then Some (n + 1) else None
 
@@ -19,7 +19,8 @@ one_more n = if nat_lt (n + 1) (2 ^ 64) then Some (n + 1) else None
 abbrev pub greatest_epoch : List ℕ → List Op → ℕ
 greatest_epoch c S = largest (λ (name : Stamp × ℕ). name.0.epoch) (names (operations c S))
 
--- the epoch of the client's next Take; none after the last
+-- the epoch of the client's next Take: one more than its greatest in the set, visible or not; none
+-- after the last
 abbrev pub next_epoch : List ℕ → List Op → Option ℕ
 next_epoch c S = one_more (greatest_epoch c S)
 

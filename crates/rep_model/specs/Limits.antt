@@ -24,7 +24,8 @@ is_in_prefix (Some seen) prefix name = is_eq (stamp_cmp name.0 seen) && nat_lt n
 abbrev pub is_parked : Option Stamp → ℕ → (Stamp × ℕ) × SessionOp → Bool
 is_parked seen prefix e = not (is_below e.0.0 seen) && not (is_in_prefix seen prefix e.0)
 
--- the client's session operations that wait for earlier ones
+-- the client's session operations that wait for earlier ones: at or above the visible stamp, and
+-- not in its prefix
 abbrev pub parked : List ℕ → List Op → List ((Stamp × ℕ) × SessionOp)
 parked c S =
     filter (is_parked (visible c S) (length (history c S)))
@@ -45,6 +46,7 @@ with_range r (s ∷ rest) =
     else (if nat_lt (s.1 + 1) r.0 then s ∷ with_range r rest
     else with_range (if nat_le r.0 s.0 then r.0 else s.0, max r.1 s.1) rest)
 
+-- ranges in any order, made ascending ranges that neither overlap nor touch
 abbrev pub joined : List (ℕ × ℕ) → List (ℕ × ℕ)
 joined [] = []
 joined (r ∷ rest) = with_range r (joined rest)
@@ -54,10 +56,11 @@ joined (r ∷ rest) = with_range r (joined rest)
 abbrev pub acknowledged : List ℕ → ℕ → List Op → List (ℕ × ℕ)
 acknowledged c origin S = joined (filter_map (range_of c origin) S)
 
+-- how many sequence numbers a range has
 abbrev pub size_of : ℕ × ℕ → ℕ
 size_of r = (r.1 + 1) - r.0
 
--- how many numbers are in the ranges above one that is in none: all, but for those of a range that
+-- how many numbers of the ranges are above one that is in none: all but those of a range that
 -- begins at 1
 abbrev pub above_a_gap : List (ℕ × ℕ) → ℕ
 above_a_gap [] = 0
@@ -68,12 +71,12 @@ abbrev pub sum_to : (ℕ → ℕ) → ℕ → ℕ
 sum_to f zero = 0
 sum_to f (suc n) = f (suc n) + sum_to f n
 
--- how many acknowledgements of the client stand above a sequence number of their origin, 1 to 255,
+-- how many acknowledgements of the client are above a sequence number of their origin, 1 to 255,
 -- that is not acknowledged
 unfoldable pub exceptions : List ℕ → List Op → ℕ
 exceptions c S = sum_to (λ origin. above_a_gap (acknowledged c origin S)) 255
 
--- whether a client of the set has more than so many
+-- whether a client of the set has more than so many of this count
 abbrev pub any_above : ℕ → (List ℕ → ℕ) → List Op → Bool
 any_above most count S = list_any (λ c. nat_lt most (count c)) (clients S)
 

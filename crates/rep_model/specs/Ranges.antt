@@ -2,11 +2,11 @@
 use Rattle.std.specs.Prelude.{ℕ, ◌+◌, ◌≤◌, Bool, ◌&&◌, nat_le, List, [], ◌∷◌}
 use Rattle.std.specs.List.{list_any}
 
--- whether the number lies in the range
+-- whether the number is in the range
 abbrev pub is_within : ℕ → ℕ × ℕ → Bool
 is_within n r = nat_le r.0 n && nat_le n r.1
 
--- whether the number lies in one of the ranges
+-- whether the number is in one of the ranges
 abbrev pub in_ranges : ℕ → List (ℕ × ℕ) → Bool
 in_ranges n ranges = list_any (is_within n) ranges
 

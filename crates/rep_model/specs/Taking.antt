@@ -17,9 +17,9 @@ pub record Fits (K D : List Op) : Type 0 where
   pub agrees : AllAgree K D
   pub within : first_passed (K ++ D) ≡ None
 
--- why the delta is refused: an operation of the named client contradicts one that is kept; or there
--- is no such operation and both together pass the limit, first of clients, pending, parked and
--- exceptions; or memory ran out
+-- Why the delta is refused. Conflict: an operation of the named client contradicts one that is
+-- kept. Full: none contradicts, and both together pass this limit, the first of clients, pending,
+-- parked and exceptions. Memory: memory ran out.
 abbrev pub IsFaultOf : List Op → List Op → TakeFault → Type 0
 IsFaultOf K D (Conflict c) = (o : Op) × Contains D o × (client_of o ≡ c) × (¬ (Agrees K o))
 IsFaultOf K D (Full limit) = AllAgree K D × (first_passed (K ++ D) ≡ Some limit)

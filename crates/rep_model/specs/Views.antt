@@ -31,27 +31,31 @@ greatest R (x ∷ xs) = greater R x (greatest R xs)
 abbrev pub take_stamp : Stamp × ℕ → Option Stamp
 take_stamp name = if name.1 == 0 then Some name.0 else None
 
+-- the names of entries, without what they are the names of
 abbrev pub names : {K X : Type 0} → List (K × X) → List K
 names entries = map (λ e. e.0) entries
 
--- the visible stamp: the greatest one whose Take is in the set
+-- the visible stamp: the greatest one whose Take, counter 0, is in the set
 abbrev pub visible : List ℕ → List Op → Option Stamp
 visible c S = greatest stamp_cmp (filter_map take_stamp (names (operations c S)))
 
+-- an operation and those after it; nothing if the first one is not there
 abbrev pub then_more : Option SessionOp → List SessionOp → List SessionOp
 then_more None rest = []
 then_more (Some change) rest = change ∷ rest
 
--- what stands at k, k + 1, .. without a gap, at most room of them
+-- what is at k, k + 1, .. without a gap, at most `room` of them
 unfoldable pub gapless : (ℕ → Option SessionOp) → ℕ → ℕ → List SessionOp
 gapless at zero k = []
 gapless at (suc room) k = then_more (at k) (gapless at room (k + 1))
 
+-- the operations 0, 1, 2, .. of the visible stamp without a gap, at most 256; none without a stamp
 abbrev pub history_at : (Stamp × ℕ → Option SessionOp) → Option Stamp → List SessionOp
 history_at at None = []
 history_at at (Some stamp) = gapless (λ k. at (stamp, k)) MAX_OPERATIONS 0
 
--- the operations 0, 1, 2, .. of the visible stamp, without a gap
+-- the operations 0, 1, 2, .. of the visible stamp without a gap, at most 256; their number is the
+-- prefix
 abbrev pub history : List ℕ → List Op → List SessionOp
 history c S = history_at (operation_at c S) (visible c S)
 
@@ -61,7 +65,7 @@ after_change None (Take taken) = Some taken
 after_change None change = None
 after_change (Some session) change = Some (applied session change)
 
--- the session that these operations make, one after the other
+-- the session that these operations make, one after the other, beginning with the Take
 abbrev pub session_of : List SessionOp → Option Session
 session_of done = fold after_change None done
 
@@ -74,15 +78,16 @@ abbrev pub in_order : {K X : Type 0} → (K → K → Ordering) → List (K × X
 in_order R [] = []
 in_order R (e ∷ rest) = put R e.0 e.1 (in_order R rest)
 
--- the messages that wait for the client, by sequence number, then origin
+-- the messages that wait for the client, as they are not acknowledged: by sequence number, then
+-- origin
 abbrev pub pending : List ℕ → List Op → List Put
 pending c S = map (λ e. e.1) (in_order put_cmp (unacknowledged c S))
 
--- the one of them that has this name
+-- the message of this name that waits for the client
 abbrev pub pending_at : List ℕ → List Op → ℕ × ℕ → Option Put
 pending_at c S name = find put_cmp name (unacknowledged c S)
 
--- the view of a client
+-- the view of a client: visible stamp, prefix, session, and the messages that wait
 abbrev pub view : List ℕ → List Op → ClientView
 view c S =
     record {
@@ -92,7 +97,7 @@ view c S =
       pending = pending c S;
     }
 
--- the view of a client that no operation names
+-- the view of a client that no operation names: nothing
 abbrev pub unseen : ClientView
 unseen = record { stamp = None; prefix = 0; session = None; pending = [] }
 
@@ -103,15 +108,16 @@ named (OfSession c stamp counter change) = Some (c, c)
 named (OfPut c put) = Some (c, c)
 named (Ack c origin first last) = if nat_le first last then Some (c, c) else None
 
--- the clients that the set names, in ascending order
+-- the clients that the set names, in ascending order, each once
 abbrev pub clients : List Op → List (List ℕ)
 clients S = names (in_order client_cmp (filter_map named S))
 
+-- whether the operation names the client; an empty range of acknowledgements names none
 abbrev pub names_client : List ℕ → Op → Bool
 names_client c (OfSession d stamp counter change) = same_client c d
 names_client c (OfPut d put) = same_client c d
 names_client c (Ack d origin first last) = same_client c d && nat_le first last
 
--- whether the set names the client
+-- whether the set names the client; an empty range of acknowledgements names none
 abbrev pub is_named : List ℕ → List Op → Bool
 is_named c S = list_any (names_client c) S

@@ -1,7 +1,7 @@
 -- Reading an operation from left to right, up to the first fault. A reader gives a value and the
--- octets behind it.
+-- octets after it.
 --
--- Numbers here are octets; "2 + n" is a size of two octets and so many octets behind it. An
+-- Numbers here are octets; "2 + n" is a size of two octets and so many octets after it. An
 -- operation is its kind, 1, its client, 1 + n, and by its kind:
 --   1 a change     epoch 8, gateway 1, counter 1, tag 1, the fields of that tag
 --   2 a message    origin 1, sequence number 8, topic 2 + n, quality of service 1, message 2 + n
@@ -48,6 +48,7 @@ use Rattle.sn_topic.specs.Table.{is_topic_id}
 
 -- ---- readers
 
+-- reads a value from the front of octets: gives it with the octets after it, or the first fault
 abbrev pub Reader : Type 0 → Type 0
 Reader A = List ℕ → Result (A × List ℕ) OpsFault
 
@@ -57,11 +58,11 @@ abbrev pub ◌>>=◌ : {A B : Type 0} → Result A OpsFault → (A → Result B 
 (Ok x) >>= f = f x
 (Err e) >>= f = Err e
 
--- one value, and behind it another
+-- one value, and after it another
 abbrev pub both : {A B : Type 0} → Reader A → Reader B → Reader (A × B)
 both first second bytes = first bytes >>= λ x. second x.1 >>= λ y. Ok ((x.0, y.0), y.1)
 
--- one value, and behind it another whose form depends on the first
+-- one value, and after it another whose form depends on the first
 abbrev pub by_first : {A B : Type 0} → Reader A → (A → Reader B) → Reader (A × B)
 by_first first second bytes = first bytes >>= λ x. second x.0 x.1 >>= λ y. Ok ((x.0, y.0), y.1)
 
@@ -75,6 +76,7 @@ ranged test read bytes = read bytes >>= λ x. if test x.0 then Ok x else Err fau
 
 -- ---- octets, numbers and texts
 
+-- the first octet; Truncated if there is none
 abbrev pub octet_at : Reader ℕ
 octet_at [] = Err faults.Truncated
 octet_at (octet ∷ rest) = Ok (octet, rest)
@@ -98,22 +100,27 @@ sized_at test size bytes = ranged test size bytes >>= λ x. octets_at x.0 x.1
 abbrev pub is_counted : ℕ → Bool
 is_counted n = nat_le 1 n
 
+-- a client: a size of one octet, 1 to 23, and its octets
 unfoldable pub client_at : Reader (List ℕ)
 client_at = sized_at (λ n. nat_le 1 n && nat_le n MAX_CLIENT_ID) octet_at
 
+-- a topic name: a size of two octets, 1 to 256, and its octets, none of them a wildcard
 unfoldable pub topic_at : Reader (List ℕ)
 topic_at =
     ranged (λ name. not (has_wildcard name))
     (sized_at (λ n. nat_le 1 n && nat_le n MAX_TOPIC) (number_at w16))
 
+-- a message: a size of two octets, at most 4,096, and its octets
 unfoldable pub body_at : Reader (List ℕ)
 body_at = sized_at (λ n. nat_le n MAX_MESSAGE) (number_at w16)
 
 -- ---- sessions
 
+-- a flag: one octet, 0 for no or 1 for yes
 unfoldable pub flag_at : Reader Bool
 flag_at = made (λ n. n == 1) (ranged (λ n. nat_le n 1) octet_at)
 
+-- the presence that an octet stands for: 0 Active, 1 Asleep, 2 Awake, 3 Disconnected, 4 Lost
 abbrev pub presence_of : ℕ → Presence
 presence_of n =
     if n == 0 then presences.Active
@@ -121,6 +128,7 @@ presence_of n =
     else (if n == 2 then presences.Awake
     else (if n == 3 then presences.Disconnected else presences.Lost)))
 
+-- a presence: one octet, 0 to 4
 unfoldable pub presence_at : Reader Presence
 presence_at = made presence_of (ranged (λ n. nat_le n 4) octet_at)
 
@@ -130,7 +138,7 @@ option_at read bytes =
     flag_at bytes >>= λ flag.
     if flag.0 then (read flag.1 >>= λ x. Ok (Some x.0, x.1)) else Ok (None, flag.1)
 
--- so many values, behind those that were read
+-- so many values, after those that were read
 abbrev pub many_at : {A : Type 0} → Reader A → ℕ → List A → Reader (List A)
 many_at read zero front bytes = Ok (front, bytes)
 many_at read (suc n) front bytes = read bytes >>= λ x. many_at read n (front ++ x.0 ∷ []) x.1
@@ -147,68 +155,89 @@ counted_at read = counted_by (ranged (λ n. nat_le n MAX_ENTRIES) (number_at w16
 abbrev pub table_at : {A : Type 0} → (A → A → Ordering) → Reader A → Reader (List A)
 table_at cmp read = ranged (is_ascending cmp) (counted_at read)
 
+-- a topic filter: a size of two octets, 1 to 256, and its octets, with wildcards only as whole
+-- levels
 unfoldable pub filter_at : Reader (List ℕ)
 filter_at =
     ranged (λ name. wildcards_stand_alone (levels name))
     (sized_at (λ n. nat_le 1 n && nat_le n MAX_TOPIC) (number_at w16))
 
+-- a quality of service: one octet, 0 to 2
 unfoldable pub qos_at : Reader ℕ
 qos_at = ranged is_qos octet_at
 
+-- the phase of an exchange that an octet stands for: 0 Registering, 1 Published, 2 Released
 abbrev pub phase_of : ℕ → Phase
 phase_of n =
     if n == 0 then phases.Registering else (if n == 1 then phases.Published else phases.Released)
 
+-- the phase of an exchange: one octet, 0 to 2
 unfoldable pub phase_at : Reader Phase
 phase_at = made phase_of (ranged (λ n. nat_le n 2) octet_at)
 
+-- a topic entry of its id, whether the client knows it, and its name
 abbrev pub entry_of : ℕ × (Bool × List ℕ) → TopicEntry
 entry_of x = record { id = x.0; name = x.1.1; known = x.1.0 }
 
+-- a topic entry: an id of two octets, a flag, a name
 unfoldable pub entry_at : Reader TopicEntry
 entry_at = made entry_of (both (ranged is_topic_id (number_at w16)) (both flag_at topic_at))
 
+-- a subscription of its filter and quality of service
 abbrev pub subscription_of : List ℕ × ℕ → Subscription
 subscription_of x = record { filter = x.0; qos = x.1 }
 
+-- a subscription: a filter, and a quality of service
 unfoldable pub subscription_at : Reader Subscription
 subscription_at = made subscription_of (both filter_at qos_at)
 
+-- the topic of a will, of its quality of service, whether it is retained, and its name
 abbrev pub will_topic_of : ℕ × (Bool × List ℕ) → WillTopic
 will_topic_of x = record { topic = x.1.1; qos = x.0; retain = x.1.0 }
 
+-- the topic of a will: a quality of service, a flag for retained, a name
 unfoldable pub will_topic_at : Reader WillTopic
 will_topic_at = made will_topic_of (both qos_at (both flag_at topic_at))
 
+-- a will of its topic and its message
 abbrev pub will_of : WillTopic × List ℕ → Will
 will_of x = record { topic = x.0.topic; qos = x.0.qos; retain = x.0.retain; message = x.1 }
 
+-- a will: its topic, then its message
 unfoldable pub will_at : Reader Will
 will_at = made will_of (both will_topic_at body_at)
 
+-- an exchange of the message's origin and sequence number, its message id and its phase
 abbrev pub exchange_of : ℕ × (ℕ × (ℕ × Phase)) → Outbound
 exchange_of x = record { origin = x.0; seq = x.1.0; msg_id = x.1.1.0; phase = x.1.1.1 }
 
+-- an exchange: an origin of one octet, a sequence number of eight, a message id of two, a phase
 unfoldable pub exchange_at : Reader Outbound
 exchange_at =
     made exchange_of (both (ranged is_counted octet_at)
     (both (ranged is_counted (number_at w64)) (both (number_at w16) phase_at)))
 
+-- the topic entries of a session, ascending by id
 unfoldable pub topics_at : Reader (List TopicEntry)
 topics_at = table_at topic_cmp entry_at
 
+-- the subscriptions of a session, ascending by filter
 unfoldable pub subscriptions_at : Reader (List Subscription)
 subscriptions_at = table_at subscription_cmp subscription_at
 
+-- the message ids that were received and not yet released: two octets each, ascending
 unfoldable pub received_at : Reader (List ℕ)
 received_at = table_at nat_cmp (number_at w16)
 
+-- a will, if there is one
 unfoldable pub some_will_at : Reader (Option Will)
 some_will_at = option_at will_at
 
+-- the topic of a will, if there is one
 unfoldable pub some_topic_at : Reader (Option WillTopic)
 some_topic_at = option_at will_topic_at
 
+-- an exchange, if there is one
 unfoldable pub some_exchange_at : Reader (Option Outbound)
 some_exchange_at = option_at exchange_at
 
@@ -216,6 +245,8 @@ some_exchange_at = option_at exchange_at
 abbrev pub Head : Type 0
 Head = Presence × (Bool × (ℕ × ℕ))
 
+-- the first part of a session: a presence, a flag, two octets of duration, and two of an id that is
+-- not 0
 unfoldable pub head_at : Reader Head
 head_at = both presence_at (both flag_at (both (number_at w16) (ranged is_counted (number_at w16))))
 
@@ -223,10 +254,12 @@ head_at = both presence_at (both flag_at (both (number_at w16) (ranged is_counte
 abbrev pub Parts : Type 0
 Parts = List TopicEntry × (List Subscription × (Option Will × (List ℕ × Option Outbound)))
 
+-- the tables of a session, its will and its exchange
 unfoldable pub parts_at : Reader Parts
 parts_at =
     both topics_at (both subscriptions_at (both some_will_at (both received_at some_exchange_at)))
 
+-- a session of its two parts
 abbrev pub session_of : Head × Parts → Session
 session_of x = record {
   presence = x.0.0;
@@ -240,12 +273,15 @@ session_of x = record {
   outbound = x.1.1.1.1.1;
 }
 
+-- a session: the values of fixed size, then the tables, the will and the exchange
 unfoldable pub session_at : Reader Session
 session_at = made session_of (both head_at parts_at)
 
+-- the change of a presence: the presence, and a duration of two octets
 unfoldable pub set_presence_at : Reader SessionOp
 set_presence_at = made (λ x. SetPresence x.0 x.1) (both presence_at (number_at w16))
 
+-- the change of an exchange: the next message id, then the exchange, if there is one
 unfoldable pub set_outbound_at : Reader SessionOp
 set_outbound_at =
     made (λ x. SetOutbound x.1 x.0) (both (ranged is_counted (number_at w16)) some_exchange_at)
@@ -266,24 +302,28 @@ fields_at tag bytes =
     if tag == 8 then made (λ id. Released id) (number_at w16) bytes
     else set_outbound_at bytes))))))))
 
--- tag 0, a Take, stands at counter 0 and nowhere else; the others are 1 to 9
+-- a change with counter 0 has tag 0, a Take; every other has a tag of 1 to 9
 abbrev pub is_tag : ℕ → ℕ → Bool
 is_tag counter tag = if counter == 0 then tag == 0 else (nat_le 1 tag && nat_le tag 9)
 
+-- the change of a session operation with this counter: its tag, then the fields of that tag
 unfoldable pub change_at : ℕ → Reader SessionOp
 change_at counter bytes = ranged (is_tag counter) octet_at bytes >>= λ tag. fields_at tag.0 tag.1
 
 -- ---- operations
 
+-- a session operation of its client, epoch, gateway, counter and change
 abbrev pub session_op_of : List ℕ × (ℕ × (ℕ × (ℕ × SessionOp))) → Op
 session_op_of x = OfSession x.0 (record { epoch = x.1.0; gateway = x.1.1.0 }) x.1.1.1.0 x.1.1.1.1
 
+-- a session operation: client, epoch, gateway, counter, change
 unfoldable pub session_op_at : Reader Op
 session_op_at =
     made session_op_of (both client_at
     (both (ranged is_counted (number_at w64))
     (both (ranged is_counted octet_at) (by_first octet_at change_at))))
 
+-- a message of a client, of its origin, sequence number, topic, quality of service and octets
 abbrev pub put_op_of : List ℕ × (ℕ × (ℕ × (List ℕ × (ℕ × List ℕ)))) → Op
 put_op_of x =
     OfPut x.0 (record {
@@ -294,12 +334,14 @@ put_op_of x =
       body = x.1.1.1.1.1;
     })
 
+-- a message: client, origin, sequence number, topic, quality of service, octets
 unfoldable pub put_op_at : Reader Op
 put_op_at =
     made put_op_of (both client_at
     (both (ranged is_counted octet_at)
     (both (ranged is_counted (number_at w64)) (both topic_at (both qos_at body_at)))))
 
+-- a range of acknowledgements of its client, origin, first and last sequence number
 abbrev pub ack_of : List ℕ × (ℕ × (ℕ × ℕ)) → Op
 ack_of x = Ack x.0 x.1.0 x.1.1.0 x.1.1.1
 
@@ -307,6 +349,7 @@ ack_of x = Ack x.0 x.1.0 x.1.1.0 x.1.1.1
 unfoldable pub range_at : Reader (ℕ × ℕ)
 range_at = ranged (λ x. nat_le x.0 x.1) (both (ranged is_counted (number_at w64)) (number_at w64))
 
+-- a range of acknowledgements: client, origin, first and last sequence number
 unfoldable pub ack_at : Reader Op
 ack_at = made ack_of (both client_at (both (ranged is_counted octet_at) range_at))
 
@@ -315,6 +358,7 @@ abbrev pub of_kind_at : ℕ → Reader Op
 of_kind_at kind bytes =
     if kind == 1 then session_op_at bytes else (if kind == 2 then put_op_at bytes else ack_at bytes)
 
+-- an operation: its kind, 1 to 3, then the fields of that kind
 unfoldable pub op_at : Reader Op
 op_at bytes =
     ranged (λ kind. nat_le 1 kind && nat_le kind 3) octet_at bytes >>= λ kind.
@@ -322,12 +366,12 @@ op_at bytes =
 
 -- ---- what a function returned, against reading
 
--- it is the fault that reading gives, unless memory ran out
+-- a result is the fault that reading gives, unless memory ran out
 abbrev pub Fails : {Y : Type 0} → OpsFault → Result Y OpsFault → Type 0
 Fails faults.Memory read = Unit {0}
 Fails fault read = read ≡ Err fault
 
--- it is what reading gives, seen by a view, unless memory ran out
+-- a result is what reading gives, seen by a view, unless memory ran out
 abbrev pub Gives : {X Y : Type 0} → (X → Y) → Result X OpsFault → Result Y OpsFault → Type 0
 Gives view (Ok x) read = read ≡ Ok (view x)
 Gives view (Err fault) read = Fails fault read

@@ -20,10 +20,12 @@ use Rattle.sn_session.specs.declared.change.SessionOp.TheVariants.{Take, Presenc
 abbrev pub text_octets : List ℕ → List ℕ
 text_octets text = big_bytes 2 (length text) ++ text
 
+-- the octet of a flag: 0 for no, 1 for yes
 abbrev pub flag_octet : Bool → ℕ
 flag_octet false = 0
 flag_octet true = 1
 
+-- the octet of a presence
 abbrev pub presence_octet : Presence → ℕ
 presence_octet presences.Active = 0
 presence_octet presences.Asleep = 1
@@ -31,6 +33,7 @@ presence_octet presences.Awake = 2
 presence_octet presences.Disconnected = 3
 presence_octet presences.Lost = 4
 
+-- the octet of an exchange's phase
 abbrev pub phase_octet : Phase → ℕ
 phase_octet phases.Registering = 0
 phase_octet phases.Published = 1
@@ -57,7 +60,7 @@ subscription_octets subscription = text_octets subscription.filter ++ subscripti
 abbrev pub will_topic_octets : WillTopic → List ℕ
 will_topic_octets asked = asked.qos ∷ flag_octet asked.retain ∷ text_octets asked.topic
 
--- the same, and its message
+-- a will's quality of service, retain, topic and message
 abbrev pub will_octets : Will → List ℕ
 will_octets will =
     (will.qos ∷ flag_octet will.retain ∷ text_octets will.topic) ++ text_octets will.message

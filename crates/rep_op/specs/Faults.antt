@@ -5,7 +5,7 @@ use Rattle.sn_topic.specs.declared.fault.TopicFault.TheVariants as topics
 use Rattle.rep_op.specs.declared.fault.OpsFault.{OpsFault}
 use Rattle.rep_op.specs.declared.fault.OpsFault.TheVariants as faults
 
--- want of memory stays what it is, and a topic that is none is a value out of range
+-- octets that are no topic are a value out of range; that memory ran out stays the fault
 abbrev pub fault_of_topic : TopicFault → OpsFault
 fault_of_topic topics.Memory = faults.Memory
 fault_of_topic fault = faults.Kind

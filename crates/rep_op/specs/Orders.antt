@@ -13,19 +13,20 @@ use Rattle.rep_op.specs.declared.op.Op.TheVariants.{Session as OfSession, Put as
 abbrev pub client_cmp : List ℕ → List ℕ → Ordering
 client_cmp c d = slice_cmp nat_cmp c d
 
--- stamps are ordered by epoch, then gateway
+-- stamps are ordered by epoch, then gateway number
 abbrev pub stamp_cmp : Stamp → Stamp → Ordering
 stamp_cmp a b = ordering_then (nat_cmp a.epoch b.epoch) (nat_cmp a.gateway b.gateway)
 
--- a session operation of a client is named by its stamp and its counter
+-- the names of a client's session operations, stamp and counter, are ordered by stamp, then counter
 abbrev pub operation_cmp : Stamp × ℕ → Stamp × ℕ → Ordering
 operation_cmp a b = ordering_then (stamp_cmp a.0 b.0) (nat_cmp a.1 b.1)
 
--- a put of a client is named by its sequence number and its origin
+-- the name of a put among those of its client: its sequence number and its origin
 abbrev pub name_of : Put → ℕ × ℕ
 name_of put = (put.seq, put.origin)
 
--- puts of a client are ordered by these names; this is the order of delivery
+-- the names of a client's puts are ordered by sequence number, then origin; this is the order of
+-- delivery
 abbrev pub put_cmp : ℕ × ℕ → ℕ × ℕ → Ordering
 put_cmp a b = ordering_then (nat_cmp a.0 b.0) (nat_cmp a.1 b.1)
 
@@ -35,8 +36,8 @@ client_of (OfSession client stamp counter change) = client
 client_of (OfPut client put) = client
 client_of (Ack client origin first last) = client
 
--- the order in which operations stand in a delta: session operations, puts, acknowledgements; then
--- by client; then by epoch, gateway and counter, or by origin and sequence number
+-- The order of operations in a delta: session operations, puts, acknowledgements. Then it goes by
+-- client, and then by epoch, gateway and counter, or by origin and sequence number.
 abbrev pub name_cmp : Op → Op → Ordering
 name_cmp (OfSession c s i o) (OfSession d t j p) =
     ordering_then (client_cmp c d) (operation_cmp (s, i) (t, j))
@@ -51,7 +52,7 @@ name_cmp (Ack c r first last) (OfPut d q) = Greater
 name_cmp (Ack c r first last) (Ack d s start end) =
     ordering_then (client_cmp c d) (ordering_then (nat_cmp r s) (nat_cmp first start))
 
--- two operations have a name in common
+-- two operations have a name in common; ranges of acknowledgements do if they overlap
 abbrev pub ShareName : Op → Op → Type 0
 ShareName (OfSession c s i o) (OfSession d t j p) = (c ≡ d) × (s ≡ t) × (i ≡ j)
 ShareName (OfPut c p) (OfPut d q) = (c ≡ d) × (p.origin ≡ q.origin) × (p.seq ≡ q.seq)
@@ -59,7 +60,7 @@ ShareName (Ack c origin first last) (Ack d other start end) =
     (c ≡ d) × (origin ≡ other) × (first ≤ end) × (start ≤ last)
 ShareName a b = ⊥
 
--- two of the operations have a name in common
+-- two of the operations, at different places, have a name in common
 abbrev pub HasTwice : List Op → Type 0
 HasTwice ops =
     (i : ℕ) × (j : ℕ) × (a : Op) × (b : Op) × (i < j) × (slice_get ops i ≡ Some a)

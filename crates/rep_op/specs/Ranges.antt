@@ -18,32 +18,39 @@ use Rattle.sn_session.specs.declared.change.SessionOp.TheVariants.{Take, Presenc
 abbrev pub is_message : List ℕ → Bool
 is_message message = nat_le (length message) MAX_MESSAGE
 
+-- the id of a topic entry is 1 to 65,534 (5.3.11)
 abbrev pub is_topic : TopicEntry → Bool
 is_topic entry = is_topic_id entry.id
 
+-- the quality of service of a subscription is 0 to 2
 abbrev pub is_subscription : Subscription → Bool
 is_subscription subscription = is_qos subscription.qos
 
+-- the quality of service of a will is 0 to 2, its message has at most 4,096 octets; no will is in
+-- range
 abbrev pub is_will : Option Will → Bool
 is_will None = true
 is_will (Some will) = is_qos will.qos && is_message will.message
 
+-- the quality of service of a will's topic is 0 to 2; no topic, which deletes the will, is in range
 abbrev pub is_will_topic : Option WillTopic → Bool
 is_will_topic None = true
 is_will_topic (Some asked) = is_qos asked.qos
 
--- origins and sequence numbers begin at 1
+-- the origin and the sequence number of an exchange begin at 1
 abbrev pub is_exchange : Option Outbound → Bool
 is_exchange None = true
 is_exchange (Some exchange) = nat_le 1 exchange.origin && nat_le 1 exchange.seq
 
--- the next message id is not 0
+-- the values of a session are in range: those of its tables, its will and its exchange; its next
+-- message id is not 0
 abbrev pub is_session : Session → Bool
 is_session session =
     nat_le 1 session.next_id && list_all is_topic session.topics
     && list_all is_subscription session.subscriptions
     && is_will session.will && is_exchange session.outbound
 
+-- the values of a change are in range; its next message id, if it has one, is not 0
 abbrev pub is_change : SessionOp → Bool
 is_change (Take session) = is_session session
 is_change (SetPresence presence duration) = true

@@ -1,8 +1,8 @@
--- Sets of operations. A set is a list of operations, read by three readers: what it has under the
--- name of a session operation, what it has under the name of a put, and whether it acknowledges a
--- put. Where a name stands twice the first operation counts, so a list always gives a name one
--- content; on consistent sets, where no name has two contents, the order and the number of times do
--- not matter.
+-- Sets of operations. A set is a list of operations, and three readers ask it. One gives what it
+-- has under the name of a session operation, one what it has under the name of a put. The third
+-- says whether it acknowledges a put. If a name occurs twice, the first operation counts, so a list
+-- always gives a name one content. On consistent sets no name has two contents; there the order and
+-- the number of times do not matter.
 use Rattle.std.specs.Prelude.{◌≡◌, ℕ, ◌≤◌, ◌==◌, Bool, true, false, ◌&&◌, if◌then◌else◌, nat_le, List, Option, Some, None, IsTrue, IfSome, bytes_eq}
 use Rattle.std.specs.List.{filter_map, list_any, AllByRecursion}
 use Rattle.std.specs.FinMap.{find}
@@ -13,6 +13,7 @@ use Rattle.rep_op.specs.declared.op.Op.{Op}
 use Rattle.rep_op.specs.declared.op.Op.TheVariants.{Session as OfSession, Put as OfPut, Ack}
 use Rattle.rep_op.specs.Orders.{operation_cmp, put_cmp}
 
+-- whether two names of clients are the same octets
 abbrev pub same_client : List ℕ → List ℕ → Bool
 same_client c d = bytes_eq c d
 
@@ -56,7 +57,7 @@ acknowledges c name (Ack d origin first last) =
 abbrev pub is_acknowledged : List ℕ → List Op → ℕ × ℕ → Bool
 is_acknowledged c S name = list_any (acknowledges c name) S
 
--- the operation stands in the set: what the set has at its name is it
+-- the operation stands in the set: what the set has under its name is the operation
 abbrev pub Stands : List Op → Op → Type 0
 Stands S (OfSession c stamp counter change) = operation_at c S (stamp, counter) ≡ Some change
 Stands S (OfPut c put) = put_at c S (put.seq, put.origin) ≡ Some put
@@ -74,7 +75,7 @@ Agrees S (OfSession c stamp counter change) =
 Agrees S (OfPut c put) = IfSome (put_at c S (put.seq, put.origin)) (λ kept. kept ≡ put)
 Agrees S (Ack c origin first last) = Unit {0}
 
--- what stands in A stands in B
+-- what the readers find in A they find in B
 pub record Within (A B : List Op) : Type 0 where
   pub operations_in : (c : List ℕ) (name : Stamp × ℕ) (change : SessionOp)
       → operation_at c A name ≡ Some change → operation_at c B name ≡ Some change

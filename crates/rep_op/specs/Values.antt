@@ -19,28 +19,31 @@ use Rattle.rep_op.specs.ClientIds.{IsClientId}
 use Rattle.rep_op.specs.declared.op.Op.{Op}
 use Rattle.rep_op.specs.declared.op.Op.TheVariants.{Session as OfSession, Put as OfPut, Ack}
 
--- a topic id of 16 bits and a name that is one
+-- a topic entry: an id of 16 bits, and a topic name
 abbrev pub IsEntryValue : TopicEntry → Type 0
 IsEntryValue entry = (entry.id < 2 ^ 16) × IsName entry.name
 
+-- a subscription to a topic filter
 abbrev pub IsSubscriptionValue : Subscription → Type 0
 IsSubscriptionValue subscription = IsFilter subscription.filter
 
+-- no will, or one whose topic is a topic name
 abbrev pub IsWillValue : Option Will → Type 0
 IsWillValue None = Unit {0}
 IsWillValue (Some will) = IsName will.topic
 
+-- no topic of a will, or one that is a topic name
 abbrev pub IsWillTopicValue : Option WillTopic → Type 0
 IsWillTopicValue None = Unit {0}
 IsWillTopicValue (Some asked) = IsName asked.topic
 
--- an origin of 8 bits, a sequence number of 64, a message id of 16
+-- an exchange: an origin of 8 bits, a sequence number of 64, a message id of 16
 abbrev pub IsExchangeValue : Option Outbound → Type 0
 IsExchangeValue None = Unit {0}
 IsExchangeValue (Some exchange) =
     (exchange.origin < 2 ^ 8) × (exchange.seq < 2 ^ 64) × (exchange.msg_id < 2 ^ 16)
 
--- numbers of 16 bits, and tables of values
+-- a session: its numbers have 16 bits, and its tables hold values
 pub record IsSessionValue (session : Session) : Type 0 where
   pub duration : session.duration < 2 ^ 16
   pub next_id : session.next_id < 2 ^ 16
@@ -52,6 +55,7 @@ pub record IsSessionValue (session : Session) : Type 0 where
       × AllByRecursion (λ id. id < 2 ^ 16) session.received
   pub outbound : IsExchangeValue session.outbound
 
+-- the numbers of a change fit their octets, and its topics, filters and session are values
 abbrev pub IsChangeValue : SessionOp → Type 0
 IsChangeValue (Take session) = IsSessionValue session
 IsChangeValue (SetPresence presence duration) = duration < 2 ^ 16
@@ -64,8 +68,8 @@ IsChangeValue (Received id) = id < 2 ^ 16
 IsChangeValue (Released id) = id < 2 ^ 16
 IsChangeValue (SetOutbound exchange next_id) = (next_id < 2 ^ 16) × IsExchangeValue exchange
 
--- clients and topics that are some, gateways and counters of 8 bits, epochs and sequence numbers of
--- 64
+-- an operation of the program: clients and topics are such, gateways and counters have 8 bits,
+-- epochs and sequence numbers 64
 abbrev pub IsValue : Op → Type 0
 IsValue (OfSession client stamp counter change) =
     IsClientId client × (stamp.epoch < 2 ^ 64) × (stamp.gateway < 2 ^ 8) × (counter < 2 ^ 8)
@@ -75,5 +79,6 @@ IsValue (OfPut client put) =
 IsValue (Ack client origin first last) =
     IsClientId client × (origin < 2 ^ 8) × (first < 2 ^ 64) × (last < 2 ^ 64)
 
+-- each operation is a value of the program
 abbrev pub AreValues : List Op → Type 0
 AreValues ops = AllByRecursion IsValue ops

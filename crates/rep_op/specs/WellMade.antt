@@ -13,7 +13,7 @@ use Rattle.rep_op.specs.declared.op.Op.TheVariants.{Session as OfSession, Put as
 abbrev pub is_stamp : Stamp → Bool
 is_stamp stamp = nat_le 1 stamp.epoch && nat_le 1 stamp.gateway
 
--- counter 0 is a Take, and no other counter is
+-- a Take has counter 0, and no other change has
 abbrev pub is_counted : ℕ → SessionOp → Bool
 is_counted counter change = if is_take change then counter == 0 else nat_lt 0 counter
 
@@ -22,6 +22,8 @@ is_counted counter change = if is_take change then counter == 0 else nat_lt 0 co
 abbrev pub is_put : Put → Bool
 is_put put = nat_le 1 put.origin && nat_le 1 put.seq && is_qos put.qos && is_message put.body
 
+-- A delta may hold the operation: its values are in range. Numbers begin at 1, a Take and no other
+-- change has counter 0, and a range is not empty.
 abbrev pub is_well_made : Op → Bool
 is_well_made (OfSession client stamp counter change) =
     is_stamp stamp && is_counted counter change && is_change change

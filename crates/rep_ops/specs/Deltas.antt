@@ -13,11 +13,11 @@ IsApart (Ack c origin first last) (Ack d other start end) =
     c ≡ d → origin ≡ other → last + 1 < start
 IsApart a b = Unit {0}
 
--- one operation may stand right before the other
+-- one operation may be right before the other: its name is less, and their ranges are apart
 abbrev pub IsBefore : Op → Op → Type 0
 IsBefore a b = (name_cmp a b ≡ Less) × IsApart a b
 
--- each operation may stand right before the next
+-- each operation may be right before the next
 abbrev pub IsAscending : List Op → Type 0
 IsAscending [] = Unit {0}
 IsAscending (a ∷ []) = Unit {0}

@@ -4,7 +4,7 @@ use Rattle.rep_op.specs.declared.op.Op.{Op}
 use Rattle.rep_ops.specs.Deltas.{IsDelta}
 use Rattle.rep_ops.specs.Spelling.{spelling, IsWithinLimit}
 
--- the octets spell the delta
+-- the octets are the spelling of this delta, and at most 8 MiB
 pub record IsSpelled (bytes : List ℕ) (d : List Op) : Type 0 where
   pub delta : IsDelta d
   pub limit : IsWithinLimit d

@@ -10,10 +10,11 @@ use Rattle.rep_op.specs.Sets.{Same}
 use Rattle.rep_ops.specs.Spelling.{spelling, max_octets}
 use Rattle.rep_op.specs.WellMade.{is_well_made}
 
+-- each operation is well made: a delta may hold it
 abbrev pub AreWellMade : List Op → Type 0
 AreWellMade ops = AllByRecursion (λ op. IsTrue (is_well_made op)) ops
 
--- well made operations of which no two have a name in common
+-- well made operations, no two of which have a name in common
 pub record AreApart (ops : List Op) : Type 0 where
   pub well_made : AreWellMade ops
   pub once : ¬ (HasTwice ops)
@@ -23,8 +24,8 @@ pub record IsDeltaOf (ops d : List Op) : Type 0 where
   pub delta : IsDelta d
   pub same : Same d ops
 
--- Why the operations make no delta. An operation that is not well made goes before two of one name,
--- and these before the size.
+-- Why the operations make no delta. An operation that is not well made is reported before two of
+-- one name, and these before the size. Memory may run out at any time.
 abbrev pub IsRefusal : List Op → OpsFault → Type 0
 IsRefusal ops faults.Kind = ¬ (AreWellMade ops)
 IsRefusal ops faults.Twice = AreWellMade ops × HasTwice ops

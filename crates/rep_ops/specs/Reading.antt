@@ -1,5 +1,5 @@
 -- Reading a delta from left to right, up to the first fault. A reader gives a value and the octets
--- behind it.
+-- after it.
 use Rattle.std.specs.Prelude.{ℕ, zero, suc, ◌+◌, ◌==◌, Bool, true, ◌&&◌, if◌then◌else◌, nat_lt, List, [], ◌∷◌, ◌++◌, length, slice_index, ◌<◌, Result, Ok, Err}
 use Rattle.std.specs.Int.{w32}
 use Rattle.std.specs.Ordering.{is_lt}
@@ -12,15 +12,15 @@ use Rattle.rep_op.specs.Sets.{same_client}
 use Rattle.rep_octets.specs.Reading.{Reader, ◌>>=◌, octet_at, number_at, op_at}
 use Rattle.rep_ops.specs.Spelling.{max_octets}
 
--- ---- texts: a version, a count, and values of which each may stand behind those before it
+-- ---- texts: a version, a count, and values, each of which may follow those before it
 
--- whether a value may stand behind these: right behind the last of them
+-- whether a value may follow these: it may come right after the last of them
 abbrev pub follows_last : {A : Type 0} → (A → A → Bool) → List A → A → Bool
 follows_last next [] x = true
 follows_last next (a ∷ []) x = next a x
 follows_last next (a ∷ b ∷ more) x = follows_last next (b ∷ more) x
 
--- so many values, behind those that were read
+-- so many values, after those that were read
 unfoldable pub listed_at : {A : Type 0} → Reader A → (List A → A → Bool) → ℕ → List A
     → Reader (List A)
 listed_at read follows zero front bytes = Ok (front, bytes)
@@ -37,11 +37,12 @@ text_at read follows bytes =
     then (number_at w32 version.1 >>= λ count. listed_at read follows count.0 [] count.1)
     else Err faults.Version
 
--- a text, and nothing behind it
+-- a text, and nothing after it
 unfoldable pub whole_at : {A : Type 0} → Reader (List A) → List ℕ → Result (List A) OpsFault
 whole_at read bytes = read bytes >>= λ x. if length x.1 == 0 then Ok x.0 else Err faults.Trailing
 
--- what the octets say, or why they are no such text
+-- what the octets say, or why they are no such text: Limit, then Version, Truncated, Kind and Order
+-- as they come, last Trailing
 abbrev pub reading_of : {A : Type 0} → Reader A → (List A → A → Bool) → List ℕ
     → Result (List A) OpsFault
 reading_of read follows bytes =
@@ -56,15 +57,15 @@ is_apart (Ack c origin first last) (Ack d other start end) =
     if same_client c d && (origin == other) then nat_lt (last + 1) start else true
 is_apart a b = true
 
--- whether the operation may stand right behind the other
+-- whether the second operation may come right after the first
 abbrev pub is_next : Op → Op → Bool
 is_next a b = is_lt (name_cmp a b) && is_apart a b
 
--- whether the operation may stand behind these
+-- whether the operation may follow these
 abbrev pub may_follow : List Op → Op → Bool
 may_follow ops op = follows_last is_next ops op
 
--- what the octets say, or why they are no delta
+-- what the octets say, or the first fault for which they are no delta
 abbrev pub reading : List ℕ → Result (List Op) OpsFault
 reading = reading_of op_at may_follow
 

@@ -18,5 +18,6 @@ spelling ops = text_of op_octets ops
 abbrev pub max_octets : ℕ
 max_octets = MAX_OCTETS
 
+-- the octets of the delta are at most 8 MiB
 abbrev pub IsWithinLimit : List Op → Type 0
 IsWithinLimit ops = length (spelling ops) ≤ max_octets

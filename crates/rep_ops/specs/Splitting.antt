@@ -9,7 +9,7 @@ use Rattle.rep_ops.specs.Spelling.{spelling, max_octets, IsWithinLimit}
 abbrev pub all_of : List (List Op) → List Op
 all_of deltas = flat_map (λ d. d) deltas
 
--- a part has operations, and no more of them than fit
+-- a part has operations, and at most as many as fit
 pub record IsPart (d : List Op) : Type 0 where
   pub some : d ≢ []
   pub within : IsWithinLimit d
@@ -25,12 +25,12 @@ AreFull [] = Unit {0}
 AreFull (d ∷ []) = Unit {0}
 AreFull (d ∷ next ∷ rest) = IsFull d next × AreFull (next ∷ rest)
 
--- a list of operations in parts
+-- a list of operations in parts, each but the last as full as it can be
 pub record IsSplit (ops : List Op) (deltas : List (List Op)) : Type 0 where
   pub whole : all_of deltas ≡ ops
   pub parts : AllByRecursion IsPart deltas
   pub full : AreFull deltas
 
--- one after the other, the deltas are the one delta of the set, but that its size has no limit
+-- the deltas, one after the other, are the one delta of the set, as if its size had no limit
 abbrev pub AreDeltasOf : List Op → List (List Op) → Type 0
 AreDeltasOf S deltas = (whole : List Op) × IsDeltaOf S whole × IsSplit whole deltas

@@ -21,16 +21,17 @@ pub record IsEntry (c : List ℕ) (entry : Entry) : Type 0 where
   pub parked : entry.parked ≤ MOST_PARKED
   pub exceptions : entry.exceptions ≤ MOST_EXCEPTIONS
 
+-- each client has an entry of its own operations that passes no limit
 abbrev pub AreEntries : List (List ℕ × Entry) → Type 0
 AreEntries entries = AllByRecursion (λ e. IsEntry e.0 e.1) entries
 
--- entries in the order of their clients, of which so many have operations
+-- entries in the order of their clients; so many of them have operations
 pub record IsTable (entries : List (List ℕ × Entry)) (count : ℕ) : Type 0 where
   pub sorted : T (is_sorted client_cmp entries)
   pub each : AreEntries entries
   pub counted : count ≡ count_named (rows_of entries)
   pub few : count ≤ MOST_CLIENTS
 
--- each of the fresh clients has a place
+-- each of the fresh clients has a place, so that a commit takes no memory
 abbrev pub HaveRoom : List (List ℕ × List Op) → List (List ℕ × List Op) → Type 0
 HaveRoom rows fresh = AllByRecursion (λ row. IsSome (find client_cmp row.0 rows)) fresh

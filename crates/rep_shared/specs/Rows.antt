@@ -7,7 +7,7 @@ use Rattle.rep_op.specs.Orders.{client_cmp}
 use Rattle.rep_op.specs.WellMade.{is_well_made}
 use Rattle.rep_model.specs.Views.{named}
 
--- all operations, client by client
+-- all operations, client by client: the set that is kept
 abbrev pub flat : List (List ℕ × List Op) → List Op
 flat [] = []
 flat (row ∷ rows) = row.1 ++ flat rows
@@ -21,11 +21,12 @@ or_nothing (Some xs) = xs
 abbrev pub own : List ℕ → List (List ℕ × List Op) → List Op
 own c rows = or_nothing (find client_cmp c rows)
 
--- the rows, with the fresh ones in place of those of the same clients
+-- the rows once a commit has put the fresh ones there, instead of those of the same clients
 abbrev pub moved : List (List ℕ × List Op) → List (List ℕ × List Op) → List (List ℕ × List Op)
 moved rows [] = rows
 moved rows (row ∷ fresh) = put client_cmp row.0 row.1 (moved rows fresh)
 
+-- whether there are operations
 abbrev pub has_any : List Op → Bool
 has_any [] = false
 has_any (op ∷ ops) = true
@@ -38,5 +39,6 @@ count_named rows = length (filter (λ row. has_any row.1) rows)
 abbrev pub IsOwnOp : List ℕ → Op → Type 0
 IsOwnOp c op = (named op ≡ Some (c, c)) × IsTrue (is_well_made op)
 
+-- the operations are well made and name the client
 abbrev pub IsOwn : List ℕ → List Op → Type 0
 IsOwn c ops = AllByRecursion (IsOwnOp c) ops

@@ -7,6 +7,8 @@ use Rattle.rep_entry.specs.declared.entry.Entry.{Entry}
 use Rattle.rep_state.specs.declared.places.Place.{Place}
 use Rattle.rep_entry.specs.Interests.{SessionWithin}
 
+-- the topics that the client asks for have their marks among these; without an entry it asks for
+-- none
 abbrev pub EntryWithin : ℕ → Option Entry → Type 0
 EntryWithin marks None = ⊤
 EntryWithin marks (Some entry) = SessionWithin marks entry.seen.session

@@ -17,6 +17,7 @@ use Rattle.rep_entry.specs.Entries.{row_of, IsEntry}
 abbrev pub plain_of : List (Vec ℕ Global × Entry) → List (List ℕ × Entry)
 plain_of entries = map (λ e. (e.0.items, e.1)) entries
 
+-- the entries in the order of their clients
 abbrev pub by_client : List (Vec ℕ Global × Entry) → List (List ℕ × Entry)
 by_client entries = in_order client_cmp (plain_of entries)
 
@@ -24,6 +25,7 @@ by_client entries = in_order client_cmp (plain_of entries)
 abbrev pub arrivals : List (Vec ℕ Global × Entry) → List (List ℕ)
 arrivals entries = map (λ e. e.0.items) entries
 
+-- the names of the clients at these places
 abbrev pub names_at : List Place → List (List ℕ)
 names_at places = map (λ p. p.name) places
 
@@ -43,10 +45,11 @@ pub record IsKept (c : List ℕ) (entry : Entry) : Type 0 where
   pub parked : entry.parked ≤ MOST_PARKED
   pub exceptions : entry.exceptions ≤ MOST_EXCEPTIONS
 
+-- each client has an entry that passes no limit
 abbrev pub AreKept : List (List ℕ × Entry) → Type 0
 AreKept es = AllByRecursion (λ e. IsKept e.0 e.1) es
 
--- entries in the order of their clients, of which so many have operations
+-- entries in the order of their clients; so many of them have operations
 pub record IsTable (es : List (List ℕ × Entry)) (count : ℕ) : Type 0 where
   pub sorted : T (is_sorted client_cmp es)
   pub each : AreKept es

@@ -14,7 +14,7 @@ abbrev pub all_to : (ℕ → Bool) → ℕ → Bool
 all_to test zero = true
 all_to test (suc n) = test (suc n) && all_to test n
 
--- whether a number passes that stands above one, from 1 on, that does not
+-- whether a number passes, and one below it, from 1 on, does not
 abbrev pub is_above_gap : (ℕ → Bool) → ℕ → Bool
 is_above_gap test n = test n && not (all_to test n)
 

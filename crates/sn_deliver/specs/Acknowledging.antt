@@ -22,6 +22,7 @@ use Rattle.sn_exchange.specs.declared.peer.Peer.{Peer}
 use Rattle.sn_exchange.specs.Forms.{form_again}
 use Rattle.sn_exchange.specs.Exchanges.{put_named, message_of, open_exchange}
 
+-- whether two phases of an exchange are the same
 abbrev pub same_phase : Phase → Phase → Bool
 same_phase Registering Registering = true
 same_phase Registering Published = false
@@ -33,20 +34,22 @@ same_phase Released Registering = false
 same_phase Released Published = false
 same_phase Released Released = true
 
+-- the exchange, if it is in this phase and has this message id
 abbrev pub if_awaits : Phase → ℕ → Option Exchange → Option Exchange
 if_awaits phase msg_id None = None
 if_awaits phase msg_id (Some x) =
     if same_phase x.phase phase && (x.msg_id == msg_id) then Some x else None
 
--- the open exchange, where it is in this phase and has this message id
+-- the open exchange, if it is in this phase and has this message id
 abbrev pub awaiting : Session → List Put → Phase → ℕ → Option Exchange
 awaiting s pending phase msg_id = if_awaits phase msg_id (open_exchange s [] pending)
 
+-- the message of an exchange, if it still waits
 abbrev pub put_of : List Put → Option Exchange → Option Put
 put_of pending None = None
 put_of pending (Some x) = put_named (message_of x) pending
 
--- its message
+-- the message of the open exchange, if that is in this phase and has this message id
 abbrev pub put_awaiting : Session → List Put → Phase → ℕ → Option Put
 put_awaiting s pending phase msg_id = put_of pending (awaiting s pending phase msg_id)
 
@@ -58,16 +61,18 @@ over s d = changed (Outbound None s.next_id) d
 abbrev pub done : Session → Put → Drafted
 done s put = over s (acked (name_of put) nothing)
 
--- the client has this id for the name, or has it no more
+-- the client now knows this id for the name, or no longer does
 abbrev pub told : TopicEntry → Bool → Drafted → Drafted
 told entry known d = changed (Register entry.id entry.name known) d
 
+-- the entry, if its topic is sent by an id of the session
 abbrev pub entry_by_kind : Option TopicEntry → TopicIdType → Option TopicEntry
 entry_by_kind entry kinds.Normal = entry
 entry_by_kind entry kinds.Predefined = None
 entry_by_kind entry kinds.Short = None
 entry_by_kind entry kinds.Reserved = None
 
+-- the entry, if the topic's form is an id of the session
 abbrev pub entry_if_normal : Option TopicEntry → Option Form → Option TopicEntry
 entry_if_normal entry None = None
 entry_if_normal entry (Some form) = entry_by_kind entry form.kind
@@ -83,7 +88,8 @@ abbrev pub forgotten : Session → Put → Option TopicEntry → Drafted
 forgotten s put None = done s put
 forgotten s put (Some entry) = over s (told entry false nothing)
 
--- code 0, accepted; 1, congestion; 2, invalid topic id
+-- PUBACK for this message: code 0 accepts it; 1 is congestion, and it waits; 2, invalid topic id,
+-- forgets the id; other codes refuse it
 abbrev pub puback_put : Entries → Session → ℕ → Put → Drafted
 puback_put predefined s code put =
     if code == 0 then (if put.qos == 1 then done s put else nothing)
@@ -91,11 +97,12 @@ puback_put predefined s code put =
     else (if code == 2 then forgotten s put (entry_published predefined s put.topic)
     else done s put))
 
+-- PUBACK with this code for the message; nothing if nothing waits for it
 abbrev pub puback_of : Entries → Session → ℕ → Option Put → Drafted
 puback_of predefined s code None = nothing
 puback_of predefined s code (Some put) = puback_put predefined s code put
 
--- PUBACK
+-- the draft of PUBACK (6.6 and 6.10)
 abbrev pub puback : Entries → Session → List Put → ℕ → ℕ → Drafted
 puback predefined s pending msg_id code =
     puback_of predefined s code (put_awaiting s pending Published msg_id)
@@ -111,20 +118,23 @@ released s x =
     changed (Outbound (Some (record x { phase = Released })) s.next_id)
     (acked (message_of x) nothing)
 
+-- a message at quality of service 2
 abbrev pub is_at_two : Option Put → Bool
 is_at_two None = false
 is_at_two (Some put) = put.qos == 2
 
--- the exchange of a message at quality of service 2, where it waits for this PUBREC
+-- the exchange of a message at quality of service 2, if it waits for this PUBREC
 abbrev pub awaiting_pubrec : Session → List Put → ℕ → Option Exchange
 awaiting_pubrec s pending msg_id =
     if is_at_two (put_awaiting s pending Published msg_id) then awaiting s pending Published msg_id
     else None
 
+-- PUBREL; only if the exchange waits for this PUBCOMP does it count as a frame sent again
 abbrev pub pubrec_again : Peer → ℕ → Option Exchange → Drafted
 pubrec_again peer msg_id None = sent peer.address (frames.PubRel msg_id) nothing
 pubrec_again peer msg_id (Some x) = pubrel_sent peer msg_id nothing
 
+-- PUBREC: an exchange that waits for it goes on to wait for PUBCOMP; PUBREL is sent in any case
 abbrev pub pubrec_of : Peer → Session → List Put → ℕ → Option Exchange → Drafted
 pubrec_of peer s pending msg_id None = pubrec_again peer msg_id (awaiting s pending Released msg_id)
 pubrec_of peer s pending msg_id (Some x) = pubrel_sent peer msg_id (released s x)
@@ -133,11 +143,12 @@ pubrec_of peer s pending msg_id (Some x) = pubrel_sent peer msg_id (released s x
 abbrev pub pubrec : Peer → Session → List Put → ℕ → Drafted
 pubrec peer s pending msg_id = pubrec_of peer s pending msg_id (awaiting_pubrec s pending msg_id)
 
+-- PUBCOMP: the exchange is over, if one waits for this
 abbrev pub pubcomp_of : Session → Option Exchange → Drafted
 pubcomp_of s None = nothing
 pubcomp_of s (Some x) = over s nothing
 
--- PUBCOMP
+-- the draft of PUBCOMP (6.6 and 6.10)
 abbrev pub pubcomp : Session → List Put → ℕ → Drafted
 pubcomp s pending msg_id = pubcomp_of s (awaiting s pending Released msg_id)
 
@@ -146,12 +157,14 @@ abbrev pub registered : Session → Option TopicEntry → Drafted
 registered s None = nothing
 registered s (Some entry) = over s (told entry true nothing)
 
--- code 0, accepted; 1, congestion
+-- REGACK for this message: code 0 accepts the id; 1 is congestion, and nothing is done; other codes
+-- refuse it
 abbrev pub regack_put : Session → ℕ → Put → Drafted
 regack_put s code put =
     if code == 0 then registered s (topic_named put.topic s.topics)
     else (if code == 1 then nothing else done s put)
 
+-- REGACK with this code for the message; nothing if nothing waits for it
 abbrev pub regack_of : Session → ℕ → Option Put → Drafted
 regack_of s code None = nothing
 regack_of s code (Some put) = regack_put s code put

@@ -48,8 +48,7 @@ row_for g predefined seen local a (frames.RegAck topic_id msg_id code) now =
 row_for g predefined seen local a (frames.PingReq client) now = wake g seen local a client now
 row_for g predefined seen local a frame now = other g local a frame now
 
--- the plan of a frame: its row, and what follows it; none where a number is needed that was the
--- last
+-- the plan of a frame: its row, and what follows it; none if it needs a number after the last
 unfoldable pub step : ℕ → Entries → Seen → Local → Addr → Frame → ℕ → Option Plan
 step g predefined seen local a frame now =
     deliver_next g predefined seen a now (row_for g predefined seen local a frame now)

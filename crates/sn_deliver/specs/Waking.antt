@@ -19,7 +19,7 @@ use Rattle.sn_plan.specs.Bound.{bound_to}
 use Rattle.sn_plan.specs.Rows.{row_of, heard_row, turned_away}
 use Rattle.sn_exchange.specs.Exchanges.{open_exchange}
 
--- the client is claimed: where another gateway owns it, it is taken over with the session as it is
+-- the client is claimed: if another gateway owns it, it is taken over with the session as it is
 abbrev pub claimed : ℕ → ClientView → Session → Drafted
 claimed g v s = if is_stamp_of g v.stamp then nothing else changed (Take s) nothing
 
@@ -27,24 +27,24 @@ claimed g v s = if is_stamp_of g v.stamp then nothing else changed (Take s) noth
 abbrev pub has_nothing : Session → List Put → Bool
 has_nothing s pending = (length pending == 0) && is_none (open_exchange s [] pending)
 
--- PINGRESP
+-- and then PINGRESP
 abbrev pub answered : Addr → Drafted → Drafted
 answered a d = sent a frames.PingResp d
 
--- a client that is Asleep wakes, where there is something for it
+-- a client that is Asleep wakes, if there is something for it
 abbrev pub from_sleep : Addr → List ℕ → Session → Bool → Drafted → Row
 from_sleep a c s idle d =
     if idle then row_of follows.Nothing c (answered a d)
     else row_of follows.Resend c (changed (Presence Awake s.duration) d)
 
--- a client that is Awake goes back to sleep, where there is nothing for it
+-- a client that is Awake goes back to sleep, if there is nothing for it
 abbrev pub from_wake : Addr → List ℕ → Session → Bool → Drafted → Row
 from_wake a c s idle d =
     if idle then row_of follows.Nothing c (answered a (changed (Presence Asleep s.duration) d))
     else row_of follows.Resend c d
 
--- by what the client is: one that is Active gets PINGRESP, and then what waits for it; one that is
--- Disconnected or Lost cannot wake, and is turned away
+-- By what the client is. One that is Active gets PINGRESP, and then what waits for it. One that is
+-- Disconnected or Lost cannot wake, and is turned away.
 abbrev pub woken_by : Addr → List ℕ → Session → Bool → Drafted → State → Row
 woken_by a c s idle d Active = row_of follows.Delivery c (answered a d)
 woken_by a c s idle d Asleep = from_sleep a c s idle d
@@ -52,6 +52,7 @@ woken_by a c s idle d Awake = from_wake a c s idle d
 woken_by a c s idle d Disconnected = turned_away a
 woken_by a c s idle d Lost = turned_away a
 
+-- the client wakes if it has a session; without one the address is turned away
 abbrev pub woken_if : ℕ → Addr → List ℕ → ClientView → ℕ → Option Session → Row
 woken_if g a c v now None = turned_away a
 woken_if g a c v now (Some s) =
@@ -61,6 +62,7 @@ woken_if g a c v now (Some s) =
 abbrev pub woken : ℕ → Seen → Addr → List ℕ → ℕ → Row
 woken g seen a c now = woken_if g a c (seen.of c) now (seen.of c).session
 
+-- PINGREQ without a client id: the bound client wakes; without one the address is turned away
 abbrev pub wake_of : ℕ → Seen → Addr → Option (List ℕ) → ℕ → Row
 wake_of g seen a None now = turned_away a
 wake_of g seen a (Some c) now = heard_row (Some c) now (woken g seen a c now)

@@ -30,7 +30,7 @@ next_after id = if id == 65535 then 1 else id + 1
 abbrev pub Stop : Type 0
 Stop = Bool × Drafted
 
--- a new exchange for the message, with its first frame
+-- a new exchange for the message under the next message id, with its first frame
 abbrev pub begun : Peer → Session → Put → Phase → Frame → Drafted → Drafted
 begun peer s put phase frame d =
     moved (Sent peer.client peer.moment)
@@ -47,16 +47,17 @@ begun peer s put phase frame d =
 abbrev pub fresh_id : List ℕ → ℕ → ToldId
 fresh_id name id = record { id = id; change = Some (Register id name false) }
 
+-- the id of the name's entry, if it has one, else the free id, if there is one
 abbrev pub entry_or_fresh : List ℕ → Option TopicEntry → Option ℕ → Option ToldId
 entry_or_fresh name None free = option_map (fresh_id name) free
 entry_or_fresh name (Some entry) free = Some (record { id = entry.id; change = None })
 
--- the id that the client is told for a name, and the change that the session needs for it: that of
--- its entry, or else the least free one, if there is one
+-- The id by which the client will know a name, and the change that the session needs for it. It is
+-- that of the name's entry, or else the least free one, if there is one.
 abbrev pub id_to_tell : Session → List ℕ → Option ToldId
 id_to_tell s name = entry_or_fresh name (topic_named name s.topics) (free_id s.topics)
 
--- a message whose topic needs registering; where no id is free it is acknowledged unsent
+-- a message whose topic needs registering; if no id is free, it is acknowledged unsent
 abbrev pub register_first : Peer → Session → Put → Option ToldId → Drafted → Stop
 register_first peer s put None d = (false, acked (name_of put) d)
 register_first peer s put (Some told) d = (
@@ -73,11 +74,13 @@ publish_now peer s put form d =
     then (false, acked (name_of put) (sent peer.address (publication false put 0 form) d))
     else (true, begun peer s put Published (publication false put s.next_id form) d)
 
+-- a message by the form of its topic; without a form the topic is registered first
 abbrev pub deliver_by : Peer → Session → Put → Option Form → Drafted → Stop
 deliver_by peer s put None d = register_first peer s put (id_to_tell s put.topic) d
 deliver_by peer s put (Some form) d = publish_now peer s put form d
 
--- one message
+-- One message. It is sent and done with, or an exchange for it begins; if no topic id is free, it
+-- is done with unsent. Only an exchange stops Delivery.
 abbrev pub deliver_one : Entries → Peer → Session → Put → Drafted → Stop
 deliver_one predefined peer s put d = deliver_by peer s put (form_of predefined s put.topic) d
 
@@ -87,20 +90,21 @@ none_left peer s d =
     if is_awake s.presence
     then sent peer.address frames.PingResp (changed (Presence Asleep s.duration) d) else d
 
+-- and then more of the step, unless Delivery has stopped
 abbrev pub and_then : (Drafted → Drafted) → Stop → Drafted
 and_then more stop = if stop.0 then stop.1 else more stop.1
 
--- the first message that is left, and the next, until one of them stops it
+-- the first message that is left, and the next, until one of them stops Delivery
 abbrev pub deliver : Entries → Peer → Session → List Put → Drafted → Drafted
 deliver predefined peer s [] d = none_left peer s d
 deliver predefined peer s (put ∷ rest) d =
     and_then (deliver predefined peer s rest) (deliver_one predefined peer s put d)
 
--- of the messages that wait, those that are left
+-- Delivery of the messages that are left of those that wait
 abbrev pub deliver_left : Entries → Peer → Session → List Put → Drafted → Drafted
 deliver_left predefined peer s pending d = deliver predefined peer s (left d.acks pending) d
 
--- Delivery, where the client is Active or Awake and has no open exchange
+-- Delivery, if the client is Active or Awake and has no open exchange
 abbrev pub deliver_if : Entries → Peer → Session → List Put → Drafted → Drafted
 deliver_if predefined peer s pending d =
     if is_served s.presence && is_none (open_exchange s d.acks pending)

@@ -12,6 +12,7 @@ use Rattle.sn_tables.specs.Topics.{topic_named}
 use Rattle.rep_op.specs.declared.op.Put.{Put}
 use Rattle.rep_op.specs.Orders.{name_of}
 
+-- whether two names of messages are the same sequence number and origin
 abbrev pub same_name : ℕ × ℕ → ℕ × ℕ → Bool
 same_name a b = (a.0 == b.0) && (a.1 == b.1)
 
@@ -19,6 +20,7 @@ same_name a b = (a.0 == b.0) && (a.1 == b.1)
 abbrev pub is_done : List (ℕ × ℕ) → ℕ × ℕ → Bool
 is_done acks name = list_any (λ ack. same_name ack name) acks
 
+-- whether a message is left: it is not acknowledged in this step
 abbrev pub is_left : List (ℕ × ℕ) → Put → Bool
 is_left acks put = not (is_done acks (name_of put))
 
@@ -26,10 +28,11 @@ is_left acks put = not (is_done acks (name_of put))
 abbrev pub left : List (ℕ × ℕ) → List Put → List Put
 left acks pending = filter (is_left acks) pending
 
--- the message of a name, where it is left
+-- the message of a name, if it waits
 abbrev pub put_named : ℕ × ℕ → List Put → Option Put
 put_named name pending = find (λ put. same_name (name_of put) name) pending
 
+-- the message of a name that waits and is not acknowledged in this step, if there is one
 abbrev pub put_left : List (ℕ × ℕ) → List Put → ℕ × ℕ → Option Put
 put_left acks pending name = if is_done acks name then None else put_named name pending
 
@@ -38,8 +41,8 @@ abbrev pub message_of : Outbound → ℕ × ℕ
 message_of x = (x.seq, x.origin)
 
 -- An exchange that waits for PUBCOMP is open. One that waits for REGACK is open while its message
--- is left and its topic has an entry, one that waits for PUBACK or PUBREC while its message is left
--- and asks for an answer.
+-- is left and its topic has an entry. One that waits for PUBACK or PUBREC is open while its message
+-- is left and asks for an answer.
 abbrev pub is_open_in : Session → Phase → Option Put → Bool
 is_open_in s Registering None = false
 is_open_in s Registering (Some put) = is_some (topic_named put.topic s.topics)
@@ -47,6 +50,7 @@ is_open_in s Published None = false
 is_open_in s Published (Some put) = nat_lt 0 put.qos
 is_open_in s Released put = true
 
+-- the exchange if it is open, else none
 abbrev pub if_open : Session → List (ℕ × ℕ) → List Put → Option Outbound → Option Outbound
 if_open s acks pending None = None
 if_open s acks pending (Some x) =
@@ -64,6 +68,7 @@ is_served Awake = true
 is_served Disconnected = false
 is_served Lost = false
 
+-- whether the client is Awake: it sleeps, and takes its messages in between (section 6.14)
 abbrev pub is_awake : Presence → Bool
 is_awake Active = false
 is_awake Asleep = false

@@ -1,6 +1,6 @@
--- What follows a row: Resend or Delivery, by the session as the row has changed it, and the
--- messages that waited before the step and that the row does not acknowledge (MQTT-SN 1.2 sections
--- 6.6, 6.10, 6.13 and 6.14).
+-- What follows a row: Resend or Delivery (MQTT-SN 1.2 sections 6.6, 6.10, 6.13 and 6.14). It sees
+-- the session as the row has changed it. Its messages waited before the step, and the row does not
+-- acknowledge them.
 use Rattle.std.specs.Prelude.{ℕ, List, Option, Some, None}
 use Rattle.sn_topic.specs.Table.{Entries}
 use Rattle.sn_session.specs.declared.session.Session.{Session}
@@ -18,6 +18,7 @@ use Rattle.sn_exchange.specs.declared.peer.Peer.{Peer}
 use Rattle.sn_exchange.specs.Delivery.{then_deliver}
 use Rattle.sn_exchange.specs.Resending.{then_resend}
 
+-- the client that a step is about, with its address and the moment
 abbrev pub peer_at : Addr → List ℕ → ℕ → Peer
 peer_at a c now = record { address = a; client = c; moment = now }
 
@@ -27,6 +28,7 @@ followed_by predefined peer s pending d follows.Nothing = d
 followed_by predefined peer s pending d follows.Delivery = then_deliver predefined peer s pending d
 followed_by predefined peer s pending d follows.Resend = then_resend predefined peer s pending d
 
+-- a draft with what follows it for the client of the row; without one nothing follows
 abbrev pub followed_for : Entries → Seen → Addr → ℕ → Drafted → Follow → Option (List ℕ) → Drafted
 followed_for predefined seen a now d follow None = d
 followed_for predefined seen a now d follow (Some c) =

@@ -17,12 +17,12 @@ use Rattle.sn_exchange.specs.declared.form.Form.{Form}
 abbrev pub by_entry : TopicEntry → Form
 by_entry entry = record { kind = kinds.Normal; topic = entry.id }
 
--- by the id of the entry, where the client knows it
+-- by the id of the entry, if the client knows it
 abbrev pub known_form : Option TopicEntry → Option Form
 known_form None = None
 known_form (Some entry) = if entry.known then Some (by_entry entry) else None
 
--- by the name itself, where it has two octets
+-- by the name itself, if it has two octets
 abbrev pub short_form : List ℕ → Option Form
 short_form (high ∷ low ∷ []) = Some (record { kind = kinds.Short; topic = high * 256 + low })
 short_form name = None
@@ -31,18 +31,19 @@ short_form name = None
 abbrev pub by_predefined : ℕ → Form
 by_predefined id = record { kind = kinds.Predefined; topic = id }
 
--- by the least predefined id of the name, where there is one
+-- by the least predefined id of the name, if there is one
 abbrev pub predefined_form : Entries → List ℕ → Option Form
 predefined_form predefined name = option_map by_predefined (least (ids_of name predefined))
 
--- how the client knows the topic; where it does not, the topic needs registering
+-- How the client knows the topic: by the id of an entry, a short name, or a predefined id, the
+-- first that there is. Without one the topic needs registering.
 abbrev pub form_of : Entries → Session → List ℕ → Option Form
 form_of predefined s name =
     option_or (known_form (topic_named name s.topics))
     (option_or (short_form name) (predefined_form predefined name))
 
--- the same once the PUBLISH was sent: also by the id of an entry that the client may have forgotten
--- since
+-- how the client knows the topic once the PUBLISH was sent: also by the id of an entry that it may
+-- have forgotten since
 abbrev pub form_again : Entries → Session → List ℕ → Option Form
 form_again predefined s name =
     option_or (form_of predefined s name) (option_map by_entry (topic_named name s.topics))
@@ -55,7 +56,7 @@ qos_bits qos = if qos == 0 then 0 else (if qos == 1 then 32 else 64)
 abbrev pub dup_bit : Bool → ℕ
 dup_bit again = if again then 128 else 0
 
--- the PUBLISH of a message; Retain is clear
+-- the PUBLISH of a message, with DUP if it is sent again; Retain is clear
 abbrev pub publication : Bool → Put → ℕ → Form → Frame
 publication again put msg_id form =
     frames.Publish (record { bits = dup_bit again + qos_bits put.qos + kind_bits form.kind })

@@ -25,11 +25,11 @@ will_after AsItIs will = will
 will_after Deleted will = None
 will_after (Replaced given) will = Some given
 
--- the session as seen, in which the client knows none of the topic ids any more
+-- the session as seen, but that the client no longer knows any of the topic ids
 abbrev pub unknowing : Session → Session
 unknowing s = record s { topics = map unknown s.topics }
 
--- the session that goes on; a clean one begins anew
+-- the session that goes on; a clean one begins as an empty one
 abbrev pub going_on : Bool → Option Session → Session
 going_on clean None = empty_session
 going_on true (Some s) = empty_session

@@ -31,8 +31,8 @@ abbrev pub request_of : Addr → ℕ → ℕ → List ℕ → Request
 request_of a flags duration c =
     record { address = a; client = c; clean = has_bit flags 2; duration = duration }
 
--- protocol 1 is the only one; a client beyond the 1,024th has to wait, and so has a will behind
--- those of 1,024 other addresses
+-- Why a CONNECT is refused, if it is. Protocol 1 is the only one. A client that would be the
+-- 1,025th gets congestion, and so does a will if 1,024 other addresses have a dialog.
 abbrev pub refusal_of : Seen → List WillDialog → Addr → List ℕ → ℕ → ℕ → Option ℕ
 refusal_of seen dialogs a c flags protocol =
     if not (protocol == 1) then Some 3
@@ -52,12 +52,13 @@ welcomed request will v now =
     if will then row_of Nothing request.client (ask_topic request now)
     else row_of Resend request.client (accept request AsItIs v now)
 
+-- CONNECT: refused by CONNACK with the code, if there is one, else welcomed
 abbrev pub connect_row : Request → Bool → ClientView → ℕ → Option ℕ → Row
 connect_row request will v now (Some code) =
     row_of Nothing request.client (sent request.address (frames.ConnAck code) nothing)
 connect_row request will v now None = welcomed request will v now
 
--- CONNECT
+-- the row of CONNECT (6.2)
 abbrev pub connect : Seen → Local → Addr → ℕ → ℕ → ℕ → List ℕ → ℕ → Row
 connect seen local a flags protocol duration c now =
     heard_row (client_at a local.bindings) now
@@ -75,17 +76,19 @@ abbrev pub fall_asleep : Addr → ℕ → Drafted
 fall_asleep a duration =
     sent a (frames.Disconnect None) (changed (Presence Asleep duration) nothing)
 
+-- DISCONNECT of a bound client: with a duration above 0 it falls asleep, else it leaves
 abbrev pub disconnect_draft : Addr → List ℕ → Session → Option ℕ → Drafted
 disconnect_draft a c s None = leave a c s
 disconnect_draft a c s (Some duration) =
     if duration == 0 then leave a c s else fall_asleep a duration
 
+-- DISCONNECT from an address; without a bound client there it is turned away
 abbrev pub disconnect_of : Seen → Addr → Option (List ℕ) → Option ℕ → ℕ → Row
 disconnect_of seen a None duration now = turned_away a
 disconnect_of seen a (Some c) duration now =
     heard_row (Some c) now (row_of Nothing c (disconnect_draft a c (session_of seen c) duration))
 
--- DISCONNECT
+-- the row of DISCONNECT (6.12 and 6.14)
 abbrev pub disconnect : Seen → Local → Addr → Option ℕ → ℕ → Row
 disconnect seen local a duration now =
     disconnect_of seen a (client_at a local.bindings) duration now

@@ -13,8 +13,8 @@ use Rattle.sn_plan.specs.Asking.{qos_asked}
 use Rattle.sn_flow.specs.Connection.{has_bit}
 use Rattle.sn_plan.specs.Drafts.{Drafted, nothing, changed, sent}
 
--- a name, a quality of service and the Retain bit make the topic of a will; where one of the two is
--- invalid there is none
+-- a name, a quality of service and the Retain bit make the topic of a will; none if one of the
+-- first two is invalid
 abbrev pub topic_from : Option (List ℕ) → Option ℕ → Bool → Option WillTopic
 topic_from None qos retain = None
 topic_from (Some name) None retain = None
@@ -31,12 +31,12 @@ topic_asked will =
 abbrev pub topic_accepted : Addr → Option WillTopic → Drafted
 topic_accepted a topic = sent a (frames.WillTopicResp 0) (changed (SetTopic topic) nothing)
 
--- code 3, not supported, where there is none
+-- a new topic of a will; code 3, not supported, if there is none
 abbrev pub topic_set : Addr → Option WillTopic → Drafted
 topic_set a None = sent a (frames.WillTopicResp 3) nothing
 topic_set a (Some topic) = topic_accepted a (Some topic)
 
--- WILLTOPICUPD; with nothing in it the will is deleted
+-- the draft of WILLTOPICUPD; with nothing in it the will is deleted (6.4)
 abbrev pub will_topic_update : Addr → Option Will → Drafted
 will_topic_update a None = topic_accepted a None
 will_topic_update a (Some will) = topic_set a (topic_asked will)
@@ -50,7 +50,7 @@ has_no_place s message = is_too_long message || is_none s.will
 abbrev pub message_accepted : Addr → List ℕ → Drafted
 message_accepted a message = sent a (frames.WillMsgResp 0) (changed (WillMsg message) nothing)
 
--- WILLMSGUPD; code 3, not supported, where the will cannot have the message
+-- the draft of WILLMSGUPD; code 3, not supported, if the will cannot have the message (6.4)
 abbrev pub will_msg_update : Addr → Session → List ℕ → Drafted
 will_msg_update a s message =
     if has_no_place s message then sent a (frames.WillMsgResp 3) nothing

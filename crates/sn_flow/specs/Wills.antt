@@ -26,10 +26,11 @@ use Rattle.sn_plan.specs.Rows.{row_of, heard_row, turned_away, stray}
 use Rattle.sn_flow.specs.Accept.{accept, has_no_room}
 use Rattle.sn_flow.specs.WillUpdate.{topic_asked, will_topic_update as topic_update, will_msg_update as message_update}
 
--- return codes of CONNACK (section 5.3.10)
+-- rejected: congestion (section 5.3.10)
 abbrev pub congestion : ℕ
 congestion = 1
 
+-- rejected: not supported (section 5.3.10)
 abbrev pub not_supported : ℕ
 not_supported = 3
 
@@ -52,7 +53,7 @@ ask_message dialog topic =
     (sent dialog.request.address frames.WillMsgReq
     (moved (Ask (record dialog { awaited = Message topic })) nothing))
 
--- code 3, not supported, where the topic is no topic
+-- the topic that a dialog waits for; code 3, not supported, if it is no topic
 abbrev pub topic_given : WillDialog → Option WillTopic → Row
 topic_given dialog None = dismissed dialog.request not_supported
 topic_given dialog (Some topic) = ask_message dialog topic
@@ -67,11 +68,12 @@ abbrev pub topic_in : Seen → Addr → Option (List ℕ) → WillDialog → Opt
 topic_in seen a bound dialog will now Topic = heard_row bound now (topic_row seen dialog will now)
 topic_in seen a bound dialog will now (Message topic) = stray a bound now
 
+-- WILLTOPIC at an address; without a dialog there nothing waits for it
 abbrev pub topic_at : Seen → Addr → Option (List ℕ) → Option WillDialog → Option Will → ℕ → Row
 topic_at seen a bound None will now = stray a bound now
 topic_at seen a bound (Some dialog) will now = topic_in seen a bound dialog will now dialog.awaited
 
--- WILLTOPIC
+-- the row of WILLTOPIC (6.2)
 abbrev pub will_topic : Seen → Local → Addr → Option Will → ℕ → Row
 will_topic seen local a will now =
     topic_at seen a (client_at a local.bindings) (dialog_at a local.dialogs) will now
@@ -81,7 +83,7 @@ abbrev pub will_of : WillTopic → List ℕ → SessionWill
 will_of topic message =
     record { topic = topic.topic; qos = topic.qos; retain = topic.retain; message = message }
 
--- the message that a dialog waits for; code 3, not supported, where it has more than 4,096 octets
+-- the message that a dialog waits for; code 3, not supported, if it has more than 4,096 octets
 abbrev pub message_row : Seen → Request → WillTopic → List ℕ → ℕ → Row
 message_row seen request topic message now =
     if is_too_long message then dismissed request not_supported
@@ -93,31 +95,34 @@ message_in seen a bound request message now Topic = stray a bound now
 message_in seen a bound request message now (Message topic) =
     heard_row bound now (message_row seen request topic message now)
 
+-- WILLMSG at an address; without a dialog there nothing waits for it
 abbrev pub message_at : Seen → Addr → Option (List ℕ) → Option WillDialog → List ℕ → ℕ → Row
 message_at seen a bound None message now = stray a bound now
 message_at seen a bound (Some dialog) message now =
     message_in seen a bound dialog.request message now dialog.awaited
 
--- WILLMSG
+-- the row of WILLMSG (6.2)
 abbrev pub will_msg : Seen → Local → Addr → List ℕ → ℕ → Row
 will_msg seen local a message now =
     message_at seen a (client_at a local.bindings) (dialog_at a local.dialogs) message now
 
+-- WILLTOPICUPD of the bound client; without one the address is turned away
 abbrev pub topic_update_of : Addr → Option (List ℕ) → Option Will → ℕ → Row
 topic_update_of a None will now = turned_away a
 topic_update_of a (Some c) will now =
     heard_row (Some c) now (row_of Delivery c (topic_update a will))
 
--- WILLTOPICUPD
+-- the row of WILLTOPICUPD (6.4)
 abbrev pub will_topic_update : Local → Addr → Option Will → ℕ → Row
 will_topic_update local a will now = topic_update_of a (client_at a local.bindings) will now
 
+-- WILLMSGUPD of the bound client; without one the address is turned away
 abbrev pub message_update_of : Seen → Addr → Option (List ℕ) → List ℕ → ℕ → Row
 message_update_of seen a None message now = turned_away a
 message_update_of seen a (Some c) message now =
     heard_row (Some c) now (row_of Delivery c (message_update a (session_of seen c) message))
 
--- WILLMSGUPD
+-- the row of WILLMSGUPD (6.4)
 abbrev pub will_msg_update : Seen → Local → Addr → List ℕ → ℕ → Row
 will_msg_update seen local a message now =
     message_update_of seen a (client_at a local.bindings) message now

@@ -12,7 +12,7 @@ use Rattle.sn_frame.specs.declared.msg_type.MsgType.{MsgType}
 use Rattle.sn_frame.specs.declared.msg_type.MsgType.TheVariants as types
 use Rattle.sn_frame.specs.FlagBits.{kind_of}
 
--- which message it is
+-- which message a frame is (5.2.2)
 abbrev pub type_of : Frame → MsgType
 type_of (frames.Advertise gateway duration) = types.Advertise
 type_of (frames.SearchGw radius) = types.SearchGw
@@ -52,7 +52,7 @@ abbrev pub duration_octets : Option ℕ → List ℕ
 duration_octets None = []
 duration_octets (Some duration) = big_bytes 2 duration
 
--- what follows the type
+-- the octets of a frame after its type (5.4)
 abbrev pub body_of : Frame → List ℕ
 body_of (frames.Advertise gateway duration) = gateway ∷ big_bytes 2 duration
 body_of (frames.SearchGw radius) = radius ∷ []
@@ -87,8 +87,9 @@ body_of (frames.WillTopicResp code) = code ∷ []
 body_of (frames.WillMsgUpd message) = message
 body_of (frames.WillMsgResp code) = code ∷ []
 
--- whether it has no octet string: no address, client, name, topic field, body, message or will. An
--- empty one counts, and so does an id in the topic field of SUBSCRIBE or UNSUBSCRIBE.
+-- whether a frame has no octet string: no address, client, name, topic field, body, message or
+-- will. An empty one counts, and so does an id in the topic field of SUBSCRIBE or UNSUBSCRIBE. A
+-- light frame is read without memory.
 abbrev pub is_light : Frame → Bool
 is_light (frames.GwInfo gateway address) = false
 is_light (frames.Connect flags protocol duration client) = false
@@ -103,14 +104,17 @@ is_light (frames.WillTopicUpd (Some will)) = false
 is_light (frames.WillMsgUpd message) = false
 is_light f = true
 
--- an id and a short name have two octets, a filter has any number
+-- a topic field by its type: a predefined id and a short name have two octets, a filter has any
+-- number
 abbrev pub IsTopicField : TopicIdType → List ℕ → Type 0
 IsTopicField kinds.Normal topic = Unit {0}
 IsTopicField kinds.Predefined topic = length topic ≡ 2
 IsTopicField kinds.Short topic = length topic ≡ 2
 IsTopicField kinds.Reserved topic = Unit {0}
 
--- its parts have sizes that the message allows
+-- Its parts have sizes that the message allows. A client's id has 1 to 23 octets, in PINGREQ at
+-- most 23. The topic field of SUBSCRIBE and UNSUBSCRIBE has two octets for a predefined id or a
+-- short name.
 abbrev pub IsMessage : Frame → Type 0
 IsMessage (frames.Connect flags protocol duration client) =
     (1 ≤ length client) × (length client ≤ MAX_CLIENT_ID)
@@ -123,7 +127,8 @@ IsMessage f = Unit {0}
 abbrev pub IsNumber : ℕ → Type 0
 IsNumber n = n < 2 ^ 16
 
--- Its numbers of two octets are such: in a clause the number in a frame ranges over all numbers.
+-- The numbers of two octets in a frame have 16 bits. In a clause a number of a frame ranges over
+-- all numbers.
 abbrev pub IsValue : Frame → Type 0
 IsValue (frames.Advertise gateway duration) = IsNumber duration
 IsValue (frames.Connect flags protocol duration client) = IsNumber duration

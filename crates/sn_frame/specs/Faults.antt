@@ -9,11 +9,12 @@ use Rattle.sn_frame.specs.Bodies.{IsValue}
 use Rattle.sn_frame.specs.Grammar.{IsFramed, Spells}
 use Rattle.sn_frame.specs.Types.{octet_of}
 
--- the octet in the place of the type: the second, or the fourth where the first is 1
+-- the octet at the place of the type: the fourth if the first is 1, else the second
 abbrev pub type_place : List ℕ → Option ℕ
 type_place bytes = if slice_index bytes 0 == 1 then slice_get bytes 3 else slice_get bytes 1
 
--- the total that is said: behind a 1 the next two octets if both are there, else the first octet
+-- the total that the frame states: after a 1 the next two octets if both are there, else the first
+-- octet
 abbrev pub said_total : List ℕ → ℕ
 said_total (suc zero ∷ high ∷ low ∷ rest) = high * 256 + low
 said_total bytes = slice_index bytes 0
@@ -31,8 +32,8 @@ IsType kind = (t : MsgType) × (octet_of t ≡ kind)
 abbrev pub IsSpelling : List ℕ → Type 0
 IsSpelling bytes = (f : Frame) × (IsValue f × Spells bytes f)
 
--- The datagram is to be refused so, and for no reason that is looked for earlier. Memory is wanted
--- for a good frame alone.
+-- The datagram is to be refused so, and for no reason that is looked for earlier. Only a good frame
+-- is refused because memory ran out.
 abbrev pub IsFirstFault : List ℕ → FrameFault → Type 0
 IsFirstFault bytes faults.Empty = bytes ≡ []
 IsFirstFault bytes faults.Encapsulated = type_place bytes ≡ Some 0xFE

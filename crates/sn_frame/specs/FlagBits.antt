@@ -5,14 +5,14 @@ use Rattle.sn_frame.specs.declared.flags.Qos.TheVariants as levels
 use Rattle.sn_frame.specs.declared.flags.TopicIdType.{TopicIdType}
 use Rattle.sn_frame.specs.declared.flags.TopicIdType.TheVariants as kinds
 
--- bits 6 and 5
+-- the quality of service in the flags: bits 6 and 5 (5.3.4)
 abbrev pub qos_of : ℕ → Qos
 qos_of bits =
     if bits / 32 % 4 == 0 then levels.Zero
     else (if bits / 32 % 4 == 1 then levels.One
     else (if bits / 32 % 4 == 2 then levels.Two else levels.MinusOne))
 
--- bits 1 and 0
+-- the type of a topic in the flags: bits 1 and 0 (5.3.4)
 abbrev pub kind_of : ℕ → TopicIdType
 kind_of bits =
     if bits % 4 == 0 then kinds.Normal

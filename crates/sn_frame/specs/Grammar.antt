@@ -7,21 +7,23 @@ use Rattle.sn_frame.specs.declared.frame.TheConstants.{MAX_FRAME}
 use Rattle.sn_frame.specs.Bodies.{type_of, body_of, IsMessage}
 use Rattle.sn_frame.specs.Types.{octet_of}
 
--- the total in one octet, the type, the body
+-- the short form: the total in one octet, the type, the body (5.2.1)
 abbrev pub short_form : ℕ → List ℕ → List ℕ
 short_form kind body = (length body + 2) ∷ kind ∷ body
 
--- a 1, the total in two octets, the type, the body
+-- the long form: a 1, the total in two octets, the type, the body (5.2.1)
 abbrev pub long_form : ℕ → List ℕ → List ℕ
 long_form kind body = (1 ∷ big_bytes 2 (length body + 4)) ++ kind ∷ body
 
--- The octets are a type's octet and a body, in one of the forms, and the total fits its place.
+-- The octets are the octet of a type, and a body, in one of the forms, and the total fits its
+-- place.
 abbrev pub IsFramed : List ℕ → ℕ → List ℕ → Type 0
 IsFramed bytes kind body =
     ((length body + 2 ≤ 255) × (bytes ≡ short_form kind body))
     ⊎ ((length body + 4 ≤ MAX_FRAME) × (bytes ≡ long_form kind body))
 
--- The octets spell the frame.
+-- The octets spell the frame: its sizes are allowed, and they are its type and body in one of the
+-- forms.
 pub record Spells (bytes : List ℕ) (f : Frame) : Type 0 where
   pub message : IsMessage f
   pub framed : IsFramed bytes (octet_of (type_of f)) (body_of f)
@@ -31,7 +33,7 @@ abbrev pub framed_of : ℕ → List ℕ → List ℕ
 framed_of kind body =
     if nat_le (length body + 2) 255 then short_form kind body else long_form kind body
 
--- the canonical spelling
+-- the canonical spelling: in the short form if the total is at most 255
 abbrev pub spelling : Frame → List ℕ
 spelling f = framed_of (octet_of (type_of f)) (body_of f)
 

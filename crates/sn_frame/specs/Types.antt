@@ -3,7 +3,7 @@ use Rattle.std.specs.Prelude.{ℕ}
 use Rattle.sn_frame.specs.declared.msg_type.MsgType.{MsgType}
 use Rattle.sn_frame.specs.declared.msg_type.MsgType.TheVariants as types
 
--- the octet in the place of MsgType
+-- the octet of MsgType (5.2.2)
 abbrev pub octet_of : MsgType → ℕ
 octet_of types.Advertise = 0x00
 octet_of types.SearchGw = 0x01

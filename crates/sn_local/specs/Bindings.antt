@@ -12,6 +12,7 @@ use Rattle.sn_local.specs.declared.local.LocalChange.{LocalChange}
 use Rattle.sn_local.specs.declared.local.LocalChange.TheVariants.{Bind, Unbind, Time, Heard, Sent, Resent, Retried, Ask, EndDialog, Advertised}
 use Rattle.sn_local.specs.Seen.{Seen}
 
+-- whether two addresses have the same host and port
 abbrev pub same_address : Addr → Addr → Bool
 same_address a b = (a.host == b.host) && (a.port == b.port)
 
@@ -36,18 +37,20 @@ AreBindings bindings =
 abbrev pub is_apart : Addr → List ℕ → Binding → Bool
 is_apart a c binding = not (same_address binding.address a) && not (same_client binding.client c)
 
--- a new binding, in the place of its address, replaces all others of its address and of its client
+-- a new binding, which replaces all others of its address and of its client
 abbrev pub bound : Addr → List ℕ → List Binding → List Binding
 bound a c bindings =
     with_entry binding_cmp (record { address = a; client = c }) (filter (is_apart a c) bindings)
 
+-- whether a binding is of another client
 abbrev pub is_of_other : List ℕ → Binding → Bool
 is_of_other c binding = not (same_client binding.client c)
 
--- the client has no binding any more
+-- the client no longer has a binding
 abbrev pub unbound : List ℕ → List Binding → List Binding
 unbound c bindings = filter (is_of_other c) bindings
 
+-- the bindings after this change; only `Bind` and `Unbind` change them
 abbrev pub binding_change : List Binding → LocalChange → List Binding
 binding_change bindings (Bind a c) = bound a c bindings
 binding_change bindings (Unbind c) = unbound c bindings
@@ -76,6 +79,7 @@ address_of c [] = None
 address_of c (binding ∷ rest) =
     if same_client binding.client c then Some binding.address else address_of c rest
 
+-- whether there is a stamp, and it is of this gateway
 abbrev pub is_stamp_of : ℕ → Option Stamp → Bool
 is_stamp_of g None = false
 is_stamp_of g (Some stamp) = stamp.gateway == g
@@ -84,6 +88,7 @@ is_stamp_of g (Some stamp) = stamp.gateway == g
 abbrev pub is_owned : ℕ → Seen → List ℕ → Bool
 is_owned g seen c = is_stamp_of g (seen.of c).stamp
 
+-- whether the gateway owns the client of the binding
 abbrev pub has_owned : ℕ → Seen → Binding → Bool
 has_owned g seen binding = is_owned g seen binding.client
 

@@ -14,6 +14,7 @@ pub record Seen : Type 0 where
   pub epoch : List ℕ → Option ℕ
   pub seq : List ℕ → ℕ → Option ℕ
 
+-- what a step reads of this set
 abbrev pub seen_of : List Op → Seen
 seen_of S =
     record {

@@ -19,7 +19,7 @@ timer_cmp a b = client_cmp a.client b.client
 abbrev pub AreTimers : List Timer → Type 0
 AreTimers timers = IsTrue (is_ascending timer_cmp timers)
 
--- a timer at the place of its client, where it replaces any other of its client
+-- the timers with this one, which replaces any other of its client
 abbrev pub timed : Timer → List Timer → List Timer
 timed timer timers = with_entry timer_cmp timer timers
 
@@ -42,7 +42,7 @@ heard_at c now None = started c now
 heard_at c now (Some timer) =
     record { client = c; heard = now; sent = timer.sent; tries = timer.tries }
 
--- the timer of a client whose frame is sent anew at this moment
+-- the timer of a client to which a new frame is sent at this moment
 abbrev pub sent_at : List ℕ → ℕ → Option Timer → Timer
 sent_at c now None = started c now
 sent_at c now (Some timer) = record { client = c; heard = timer.heard; sent = now; tries = 0 }
@@ -71,10 +71,11 @@ sent_anew c now timers = timed (sent_at c now (timer_of c timers)) timers
 abbrev pub sent_again : List ℕ → ℕ → List Timer → List Timer
 sent_again c now timers = timed (resent_at c now (timer_of c timers)) timers
 
--- there was one more try at this moment
+-- there was one more try with the client at this moment
 abbrev pub tried_again : List ℕ → ℕ → List Timer → List Timer
 tried_again c now timers = timed (retried_at c now (timer_of c timers)) timers
 
+-- the timers after this change; bindings, will dialogs and ADVERTISE leave them as they are
 abbrev pub timer_change : List Timer → LocalChange → List Timer
 timer_change timers (Bind a c) = timers
 timer_change timers (Unbind c) = timers
@@ -91,6 +92,7 @@ timer_change timers (Advertised now) = timers
 abbrev pub timers_after : List Timer → List LocalChange → List Timer
 timers_after timers changes = fold timer_change timers changes
 
+-- whether the gateway owns the client of the timer
 abbrev pub times_owned : ℕ → Seen → Timer → Bool
 times_owned g seen timer = is_owned g seen timer.client
 

@@ -8,6 +8,7 @@ use Rattle.sn_local.specs.declared.local.LocalChange.TheVariants.{Bind, Unbind, 
 use Rattle.sn_local.specs.declared.will_dialogs.TheConstants.{MAX_DIALOGS}
 use Rattle.sn_local.specs.Bindings.{same_address}
 
+-- whether a dialog is with another address
 abbrev pub is_elsewhere : Addr → WillDialog → Bool
 is_elsewhere a dialog = not (same_address dialog.request.address a)
 
@@ -15,10 +16,11 @@ is_elsewhere a dialog = not (same_address dialog.request.address a)
 abbrev pub dialogs_elsewhere : Addr → List WillDialog → List WillDialog
 dialogs_elsewhere a dialogs = filter (is_elsewhere a) dialogs
 
--- a dialog replaces any other of its address
+-- the will dialogs with this one, which replaces any other of its address
 abbrev pub asked : WillDialog → List WillDialog → List WillDialog
 asked dialog dialogs = dialogs_elsewhere dialog.request.address dialogs ++ dialog ∷ []
 
+-- the will dialogs after this change; only `Ask` and `EndDialog` change them
 abbrev pub dialog_change : List WillDialog → LocalChange → List WillDialog
 dialog_change dialogs (Bind a c) = dialogs
 dialog_change dialogs (Unbind c) = dialogs

@@ -25,7 +25,7 @@ in_full octets = if is_filter octets then Topics octets else Refused 3
 abbrev pub in_short : List ℕ → Asked
 in_short octets = if is_name octets then in_full octets else Refused 3
 
--- the name of a predefined id; code 2, invalid topic id, where it has none
+-- the name of a predefined id; code 2, invalid topic id, if it has none
 abbrev pub by_id : Option (List ℕ) → Asked
 by_id None = Refused 2
 by_id (Some name) = in_full name

@@ -17,6 +17,6 @@ abbrev pub heard_of : Option (List ℕ) → ℕ → Drafted → Drafted
 heard_of None now d = d
 heard_of (Some c) now d = moved (Heard c now) d
 
--- the session as seen; that of a client of which nothing is known where there is none
+-- the session as seen; if there is none, that of a client of which nothing is known
 abbrev pub session_of : Seen → List ℕ → Session
 session_of seen c = unwrap_or (seen.of c).session empty_session

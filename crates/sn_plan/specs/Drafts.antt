@@ -19,6 +19,7 @@ pub record Drafted : Type 0 where
   pub sends : List Send
   pub local : List LocalChange
 
+-- nothing changes and nothing is sent
 abbrev pub nothing : Drafted
 nothing = record { changes = []; acks = []; puts = []; sends = []; local = [] }
 

@@ -10,18 +10,19 @@ use Rattle.rep_model.specs.declared.view.ClientView.{ClientView}
 use Rattle.rep_model.specs.Views.{visible, history, session_of}
 use Rattle.sn_plan.specs.Numbering.{Written}
 
+-- the stamp of an epoch and a gateway
 abbrev pub stamp_of : ℕ → ℕ → Stamp
 stamp_of epoch g = record { epoch = epoch; gateway = g }
 
--- where the gateway owns the client, there is a session, and nothing stands at the visible stamp
--- behind the prefix
+-- if the gateway owns the client, there is a session, and nothing is at the visible stamp after the
+-- prefix
 pub record IsFlush (g : ℕ) (c : List ℕ) (S : List Op) : Type 0 where
   pub begun : (epoch : ℕ) → visible c S ≡ Some (stamp_of epoch g)
       → is_some (session_of (history c S)) ≡ true
   pub nothing_behind : (epoch k : ℕ) → visible c S ≡ Some (stamp_of epoch g)
       → length (history c S) ≤ k → operation_at c S (stamp_of epoch g, k) ≡ None
 
--- and so for every client
+-- that holds for every client
 abbrev pub AreFlush : ℕ → List Op → Type 0
 AreFlush g S = (c : List ℕ) → IsFlush g c S
 

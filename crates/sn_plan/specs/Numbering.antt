@@ -15,8 +15,8 @@ use Rattle.sn_plan.specs.declared.plan.Plan.{Plan}
 use Rattle.rep_op.specs.declared.op.TheConstants.{MAX_OPERATIONS}
 use Rattle.sn_plan.specs.Drafts.{Drafted}
 
--- where the client's next session operation is written (epoch and counter), the epoch of its next
--- Take, the session so far, and what is written
+-- the place of the client's next session operation (epoch and counter), the epoch of its next Take,
+-- the session so far, and what is written
 pub record Written : Type 0 where
   pub epoch : ℕ
   pub counter : ℕ
@@ -50,8 +50,8 @@ taken_at c g session w e =
 abbrev pub taken : List ℕ → ℕ → Session → Written → Option Written
 taken c g session w = option_map (taken_at c g session w) w.next
 
--- a change that is no Take; where no more operations fit under the stamp, a Take of the session so
--- far goes first
+-- a change that is no Take; if no more operations fit under the stamp, a Take of the session so far
+-- goes first
 abbrev pub counted : List ℕ → ℕ → SessionOp → Written → Option Written
 counted c g change w =
     if nat_lt w.counter MAX_OPERATIONS then Some (another c g change w)
@@ -62,22 +62,23 @@ unfoldable pub write : List ℕ → ℕ → SessionOp → Written → Option Wri
 write c g (Take session) w = taken c g session w
 write c g change w = counted c g change w
 
--- and so on
+-- these session operations, one after the other; none if an epoch is needed and the last is taken
 abbrev pub written : List ℕ → ℕ → List SessionOp → Written → Option Written
 written c g [] w = Some w
 written c g (change ∷ rest) w = option_and_then (written c g rest) (write c g change w)
 
--- the next counter of the visible stamp where that is the gateway's own; else none, so that a Take
--- has to go first
+-- the next counter of the visible stamp, if that is the gateway's own; else 256, so that a Take has
+-- to go first
 abbrev pub own_counter : ℕ → ℕ → Option Stamp → ℕ
 own_counter g prefix None = MAX_OPERATIONS
 own_counter g prefix (Some stamp) = if stamp.gateway == g then prefix else MAX_OPERATIONS
 
+-- the epoch of the visible stamp; 0 if there is none
 abbrev pub epoch_of : Option Stamp → ℕ
 epoch_of None = 0
 epoch_of (Some stamp) = stamp.epoch
 
--- at the start of a step
+-- where the numbering of a step starts, by the client's view and the epoch of its next Take
 abbrev pub start_of : ℕ → ClientView → Option ℕ → Written
 start_of g v next =
     record {
@@ -103,15 +104,18 @@ with_puts g seq (p ∷ rest) ops =
 abbrev pub ack_of : List ℕ → ℕ × ℕ → Op
 ack_of c name = Ack c name.1 name.0 name.0
 
+-- the plan of a draft, with these operations
 abbrev pub plan_with : Drafted → List Op → Plan
 plan_with d ops = record { ops = ops; sends = d.sends; local = d.local }
 
+-- the plan of a draft after its session operations: acknowledgements follow, then messages; none if
+-- a sequence number is needed and the last is taken
 abbrev pub rest_of : ℕ → List ℕ → (List ℕ → Option ℕ) → Drafted → Written → Option Plan
 rest_of g c seq d w =
     option_map (plan_with d) (with_puts g seq d.puts (w.ops ++ map (ack_of c) d.acks))
 
--- the plan of a draft for a client, by its view, its next epoch and the next sequence numbers; none
--- where one of them is needed and was the last
+-- The plan of a draft for a client, by its view, its next epoch and the next sequence numbers.
+-- There is none if it needs a number after the last.
 unfoldable pub planned : ℕ → List ℕ → ClientView → Option ℕ → (List ℕ → Option ℕ) → Drafted
     → Option Plan
 planned g c v epoch seq d =

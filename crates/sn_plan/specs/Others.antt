@@ -12,7 +12,7 @@ use Rattle.sn_local.specs.Bindings.{client_at}
 use Rattle.sn_local.specs.Locals.{Local}
 use Rattle.sn_plan.specs.Rows.{row_of_none, quiet, stray}
 
--- a gateway that is looked for says its number
+-- SEARCHGW: the gateway says its number (6.1)
 abbrev pub searched : ℕ → Addr → Row
 searched g a = row_of_none (sent a (frames.GwInfo g []) nothing)
 
@@ -39,6 +39,7 @@ is_up Awake = true
 is_up Disconnected = false
 is_up Lost = false
 
+-- whether there is a session, and its client is Active, Asleep or Awake
 abbrev pub can_wake : Option Session → Bool
 can_wake None = false
 can_wake (Some s) = is_up s.presence

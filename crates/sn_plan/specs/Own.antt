@@ -38,7 +38,7 @@ IsFresh S (OfSession c stamp counter change) = operation_at c S (stamp, counter)
 IsFresh S (OfPut c put) = put_at c S (put.seq, put.origin) ≡ None
 IsFresh S (Ack c origin first last) = Unit {0}
 
--- each is fresh in the set with the operations before it, so no name stands twice
+-- each is fresh in the set with the operations before it, so no name occurs twice
 abbrev pub AreFresh : List Op → List Op → Type 0
 AreFresh S [] = Unit {0}
 AreFresh S (op ∷ rest) = IsFresh S op × AreFresh (S ++ op ∷ []) rest

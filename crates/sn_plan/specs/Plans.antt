@@ -20,11 +20,11 @@ plan_without d = record { ops = []; sends = d.sends; local = d.local }
 abbrev pub plan_of_puts : ℕ → Seen → Drafted → Option Plan
 plan_of_puts g seen d = option_map (plan_with d) (with_puts g (λ e. seen.seq e g) d.puts [])
 
--- Exhausted exactly where the definition has no plan; want of memory may come anywhere
+-- Exhausted if and only if the definition has no plan; memory may run out at any time
 abbrev pub IsFault : {X : Type 0} → StepFault → Option X → Type 0
 IsFault Exhausted defined = defined ≡ None
 IsFault Memory defined = ⊤
 
--- the result is what the definition says
+-- the result is what the definition says, or a fault of it
 abbrev pub Gives : {X : Type 0} → Result X StepFault → Option X → Type 0
 Gives result defined = MatchResult result (λ x. defined ≡ Some x) (λ fault. IsFault fault defined)

@@ -16,7 +16,7 @@ use Rattle.sn_plan.specs.Bound.{heard_of}
 abbrev pub row_of : Follow → List ℕ → Drafted → Row
 row_of follow c d = record { client = Some c; draft = d; follow = follow }
 
--- a row for nobody
+-- a row for no client
 abbrev pub row_of_none : Drafted → Row
 row_of_none d = record { client = None; draft = d; follow = Nothing }
 
@@ -24,6 +24,7 @@ row_of_none d = record { client = None; draft = d; follow = Nothing }
 abbrev pub heard_row : Option (List ℕ) → ℕ → Row → Row
 heard_row bound now row = record row { draft = heard_of bound now row.draft }
 
+-- the plan of a draft for the client; without one that of its messages, frames and local changes
 abbrev pub plan_for : ℕ → Seen → Drafted → Option (List ℕ) → Option Plan
 plan_for g seen d None = plan_of_puts g seen d
 plan_for g seen d (Some c) = plan_of g c seen d
@@ -36,7 +37,7 @@ plan_of_row g seen row = plan_for g seen row.draft row.client
 abbrev pub quiet : Row
 quiet = row_of_none nothing
 
--- from an address without binding every frame that asks for one is answered by DISCONNECT
+-- a frame that asks for a bound client, from an address without one: DISCONNECT is the answer
 abbrev pub turned_away : Addr → Row
 turned_away a = row_of_none (sent a (frames.Disconnect None) nothing)
 

@@ -24,7 +24,7 @@ use Rattle.sn_publish.specs.declared.meaning.Meant.{Meant}
 use Rattle.sn_publish.specs.declared.meaning.Meant.TheVariants.{Topic, Refused}
 use Rattle.sn_publish.specs.Recipients.{puts_for}
 
--- the topic of this name; code 2, invalid topic id, where there is none
+-- the topic of this name; code 2, invalid topic id, if there is none
 abbrev pub named : Option (List ℕ) → Meant
 named None = Refused 2
 named (Some name) = Topic name
@@ -33,12 +33,13 @@ named (Some name) = Topic name
 abbrev pub short_name : ℕ → List ℕ
 short_name topic = topic / 256 ∷ topic % 256 ∷ []
 
+-- the topic name of an entry
 abbrev pub entry_name : TopicEntry → List ℕ
 entry_name entry = entry.name
 
--- the topic that a topic field of this type stands for: by an id of the session, whether the client
--- was told it or not, by a predefined id, or by a short name; code 3, not supported, where the type
--- has no meaning
+-- The topic that a topic field of this type means. A normal id is one of the session, whether the
+-- client knows it or not. The others are predefined ids and short names. Code 3, not supported, if
+-- the type has no meaning.
 abbrev pub topic_meant : Entries → Session → TopicIdType → ℕ → Meant
 topic_meant predefined s kinds.Normal topic =
     named (option_map entry_name (topic_of topic s.topics))
@@ -46,17 +47,17 @@ topic_meant predefined s kinds.Predefined topic = named (name_of topic predefine
 topic_meant predefined s kinds.Short topic = named (name_asked (short_name topic))
 topic_meant predefined s kinds.Reserved topic = Refused 3
 
--- code 3, not supported, where the message has more than 4,096 octets
+-- the topic of a PUBLISH; code 3, not supported, if the message has more than 4,096 octets
 abbrev pub within_limit : List ℕ → Meant → Meant
 within_limit body (Refused code) = Refused code
 within_limit body (Topic name) = if is_too_long body then Refused 3 else Topic name
 
--- what a PUBLISH is about
+-- the topic that a PUBLISH is about, or the code by which it is refused
 abbrev pub publication_meant : Entries → Session → ℕ → ℕ → List ℕ → Meant
 publication_meant predefined s bits topic body =
     within_limit body (topic_meant predefined s (kind_of bits) topic)
 
--- at most once: the recipients get it
+-- at most once: a message for each recipient, and no answer
 abbrev pub spread : Seen → List ℕ → List ℕ → Drafted
 spread seen name body = put_all (puts_for seen name 0 body) nothing
 
@@ -65,8 +66,8 @@ abbrev pub spread_once : Seen → Addr → ℕ → ℕ → List ℕ → List ℕ
 spread_once seen a topic msg_id body name =
     sent a (frames.PubAck topic msg_id 0) (put_all (puts_for seen name 1 body) nothing)
 
--- exactly once: where the message id was received and not released yet, the recipients have got it;
--- PUBREC says so. Code 1, congestion, where 256 message ids are
+-- Exactly once. If the message id was received and is not released yet, the recipients have the
+-- message, and PUBREC says so. Code 1, congestion, if there are 256 message ids.
 abbrev pub spread_twice : Seen → Addr → Session → ℕ → ℕ → List ℕ → List ℕ → Drafted
 spread_twice seen a s topic msg_id body name =
     if is_received msg_id s.received then sent a (frames.PubRec msg_id) nothing
@@ -74,6 +75,7 @@ spread_twice seen a s topic msg_id body name =
     else sent a (frames.PubRec msg_id)
     (changed (Received msg_id) (put_all (puts_for seen name 2 body) nothing)))
 
+-- a PUBLISH of this topic by its quality of service; -1 counts as 0
 abbrev pub publish_at : Seen → Addr → Session → ℕ → ℕ → List ℕ → List ℕ → Qos → Drafted
 publish_at seen a s topic msg_id body name levels.Zero = spread seen name body
 publish_at seen a s topic msg_id body name levels.One = spread_once seen a topic msg_id body name
@@ -87,12 +89,13 @@ publish_meant seen a s topic msg_id body qos (Refused code) =
 publish_meant seen a s topic msg_id body qos (Topic name) =
     publish_at seen a s topic msg_id body name qos
 
--- PUBLISH of a connected client
+-- the draft of PUBLISH of a connected client (6.6)
 abbrev pub publish : Entries → Seen → Addr → Session → ℕ → ℕ → ℕ → List ℕ → Drafted
 publish predefined seen a s bits topic msg_id body =
     publish_meant seen a s topic msg_id body (qos_of bits)
     (publication_meant predefined s bits topic body)
 
+-- the recipients get it, at most once; nothing is done if the PUBLISH is refused
 abbrev pub spread_meant : Seen → List ℕ → Meant → Drafted
 spread_meant seen body (Refused code) = nothing
 spread_meant seen body (Topic name) = spread seen name body
@@ -103,10 +106,10 @@ abbrev pub publish_unconnected : Entries → Seen → ℕ → ℕ → List ℕ �
 publish_unconnected predefined seen bits topic body =
     spread_meant seen body (publication_meant predefined empty_session bits topic body)
 
--- the change of the session, where the message id was received
+-- the change of the session, if the message id was received
 abbrev pub release : Session → ℕ → Option SessionOp
 release s msg_id = if is_received msg_id s.received then Some (Released msg_id) else None
 
--- PUBREL; PUBCOMP is always the answer
+-- the draft of PUBREL; PUBCOMP is always the answer (6.6)
 abbrev pub pubrel : Addr → Session → ℕ → Drafted
 pubrel a s msg_id = sent a (frames.PubComp msg_id) (changed_if (release s msg_id) nothing)

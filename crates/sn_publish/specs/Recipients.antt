@@ -14,8 +14,8 @@ use Rattle.sn_local.specs.Seen.{Seen}
 use Rattle.sn_plan.specs.Others.{is_up}
 use Rattle.sn_publish.specs.declared.recipients.TheConstants.{MAX_PENDING}
 
--- at this quality of service, where fewer than 1,024 messages wait for the client, and where it is
--- Active, Asleep or Awake or gets the message at least once
+-- This quality of service, if the client is admitted. Fewer than 1,024 messages wait for it; and it
+-- is Active, Asleep or Awake, or gets the message at least once.
 abbrev pub admitted : List Put → Presence → ℕ → Option ℕ
 admitted pending presence qos =
     if nat_lt (length pending) MAX_PENDING && (is_up presence || nat_lt 0 qos) then Some qos
@@ -26,17 +26,20 @@ admitted pending presence qos =
 abbrev pub qos_at : List Put → ℕ → Session → ℕ → Option ℕ
 qos_at pending qos s asked = admitted pending s.presence (min qos asked)
 
+-- the quality of service at which this session gets the publication; none if it does not get it
 abbrev pub qos_in : List Put → List ℕ → ℕ → Session → Option ℕ
 qos_in pending topic qos s =
     option_and_then (qos_at pending qos s) (subscribed_qos topic s.subscriptions)
 
--- the quality of service at which a client gets the publication; none where it is no recipient
+-- the quality of service at which a client gets the publication; none if it is no recipient
 abbrev pub qos_for : List ℕ → ℕ → ClientView → Option ℕ
 qos_for topic qos v = option_and_then (qos_in v.pending topic qos) v.session
 
+-- the message that is made for a client
 abbrev pub message_for : List ℕ → List ℕ → List ℕ → ℕ → NewPut
 message_for topic body c qos = record { client = c; topic = topic; qos = qos; body = body }
 
+-- the message for the client, if it is a recipient
 abbrev pub put_for : Seen → List ℕ → ℕ → List ℕ → List ℕ → Option NewPut
 put_for seen topic qos body c =
     option_map (message_for topic body c) (qos_for topic qos (seen.of c))
@@ -45,10 +48,11 @@ put_for seen topic qos body c =
 abbrev pub puts_among : Seen → List (List ℕ) → List ℕ → ℕ → List ℕ → List NewPut
 puts_among seen clients topic qos body = filter_map (put_for seen topic qos body) clients
 
--- a message for each recipient of the publication
+-- a message for each recipient of the publication, in the order of the clients
 abbrev pub puts_for : Seen → List ℕ → ℕ → List ℕ → List NewPut
 puts_for seen topic qos body = puts_among seen seen.all topic qos body
 
+-- whether d is another client than c
 abbrev pub is_another : List ℕ → List ℕ → Bool
 is_another c d = not (same_client d c)
 

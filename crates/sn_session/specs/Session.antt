@@ -9,7 +9,8 @@ use Rattle.sn_tables.specs.Subscriptions.{with_subscription, without_filter, fil
 use Rattle.sn_tables.specs.Received.{with_received, without_received, id_has_no_room}
 use Rattle.sn_session.specs.Wills.{with_will_topic, with_will_message}
 
--- the session of a client of which nothing is known
+-- the session of a client of which nothing is known: Active, not clean, next message id 1, all else
+-- empty
 abbrev pub empty_session : Session
 empty_session =
     record {

@@ -23,25 +23,27 @@ entry_id name entry =
 abbrev pub new_id : List ℕ → ℕ → NamedId
 new_id name id = record { id = id; change = Some (Register id name true) }
 
+-- the id of the name's entry, if it has one, else the free id, if there is one
 abbrev pub entry_or_free : List ℕ → Option TopicEntry → Option ℕ → Option NamedId
 entry_or_free name None free = option_map (new_id name) free
 entry_or_free name (Some entry) free = Some (entry_id name entry)
 
--- the id of a name, and the change that the session needs for it: that of its entry, or else the
--- least free one, if there is one
+-- The id of a name, and the change that the session needs for it. It is that of the name's entry,
+-- or else the least free one, if there is one.
 abbrev pub id_for : Session → List ℕ → Option NamedId
 id_for s name = entry_or_free name (topic_named name s.topics) (free_id s.topics)
 
--- code 1, congestion, where no id is free
+-- the answer to REGISTER of a topic name; code 1, congestion, if no id is free
 abbrev pub registered : Addr → ℕ → Option NamedId → Drafted
 registered a msg_id None = sent a (frames.RegAck 0 msg_id 1) nothing
 registered a msg_id (Some named) =
     sent a (frames.RegAck named.id msg_id 0) (changed_if named.change nothing)
 
+-- REGISTER of a topic name; code 3, not supported, if the octets are none
 abbrev pub register_name : Addr → Session → ℕ → Option (List ℕ) → Drafted
 register_name a s msg_id None = sent a (frames.RegAck 0 msg_id 3) nothing
 register_name a s msg_id (Some name) = registered a msg_id (id_for s name)
 
--- REGISTER; code 3, not supported, where the octets are no topic name
+-- the draft of REGISTER; code 3, not supported, if the octets are no topic name (6.5)
 abbrev pub register : Addr → Session → ℕ → List ℕ → Drafted
 register a s msg_id name = register_name a s msg_id (name_asked name)

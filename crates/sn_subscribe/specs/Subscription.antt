@@ -37,7 +37,7 @@ abbrev pub id_in_full : Session → Option (List ℕ) → Option NamedId
 id_in_full s None = Some (fixed_id 0)
 id_in_full s (Some name) = id_for s name
 
--- the topic id that answers for a filter: as above where the filter stands there in full, the
+-- the topic id that answers for a filter: as above if the field has the filter in full, the
 -- predefined id, and 0 for a short name
 abbrev pub id_asked : Session → TopicIdType → List ℕ → List ℕ → Option NamedId
 id_asked s kinds.Normal field filter = id_in_full s (name_asked filter)
@@ -45,13 +45,13 @@ id_asked s kinds.Predefined field filter = Some (fixed_id (id_in field))
 id_asked s kinds.Short field filter = Some (fixed_id 0)
 id_asked s kinds.Reserved field filter = Some (fixed_id 0)
 
--- the change of the session, where the filter is new or had another quality of service
+-- the change of the session, if the filter is new or had another quality of service
 abbrev pub subscribe_change : List ℕ → ℕ → Option ℕ → Option SessionOp
 subscribe_change filter qos None = Some (Subscribe filter qos)
 subscribe_change filter qos (Some before) =
     if before == qos then None else Some (Subscribe filter qos)
 
--- code 1, congestion, where no id is free
+-- the answer to SUBSCRIBE by its topic id; code 1, congestion, if no id is free
 abbrev pub subscribed : Addr → Session → ℕ → ℕ → List ℕ → ℕ → Option NamedId → Drafted
 subscribed a s bits msg_id filter qos None = refused a bits msg_id 1
 subscribed a s bits msg_id filter qos (Some named) =
@@ -59,38 +59,41 @@ subscribed a s bits msg_id filter qos (Some named) =
     (changed_if (subscribe_change filter qos (subscribed_at filter s.subscriptions))
     (changed_if named.change nothing))
 
--- code 1, congestion, where the filter would be the 257th
+-- SUBSCRIBE to a filter; code 1, congestion, if it would be the 257th
 abbrev pub subscribe_to : Addr → Session → ℕ → ℕ → List ℕ → List ℕ → ℕ → Drafted
 subscribe_to a s bits msg_id field filter qos =
     if filter_has_no_room filter s.subscriptions then refused a bits msg_id 1
     else subscribed a s bits msg_id filter qos (id_asked s (kind_of bits) field filter)
 
+-- SUBSCRIBE to the filter that its topic field asks for, or refused by the code that the field
+-- gives
 abbrev pub subscribe_asked : Addr → Session → ℕ → ℕ → List ℕ → Asked → ℕ → Drafted
 subscribe_asked a s bits msg_id field (Refused code) qos = refused a bits msg_id code
 subscribe_asked a s bits msg_id field (Topics filter) qos =
     subscribe_to a s bits msg_id field filter qos
 
--- code 3, not supported, where the bits of the quality of service are 11
+-- SUBSCRIBE at a quality of service; code 3, not supported, if its bits are 11
 abbrev pub subscribe_at : Entries → Addr → Session → ℕ → ℕ → List ℕ → Option ℕ → Drafted
 subscribe_at predefined a s bits msg_id field None = refused a bits msg_id 3
 subscribe_at predefined a s bits msg_id field (Some qos) =
     subscribe_asked a s bits msg_id field (topics_asked predefined (kind_of bits) field) qos
 
--- SUBSCRIBE
+-- the draft of SUBSCRIBE (6.9)
 abbrev pub subscribe : Entries → Addr → Session → ℕ → ℕ → List ℕ → Drafted
 subscribe predefined a s bits msg_id field =
     subscribe_at predefined a s bits msg_id field (qos_asked (qos_of bits))
 
--- the change of the session, where it has the filter
+-- the change of the session, if it has the filter
 abbrev pub unsubscribe_change : Session → List ℕ → Option SessionOp
 unsubscribe_change s filter =
     if is_some (subscribed_at filter s.subscriptions) then Some (Unsubscribe filter) else None
 
+-- the change of UNSUBSCRIBE, if its topic field asks for a filter that the session has
 abbrev pub unsubscribe_asked : Session → Asked → Option SessionOp
 unsubscribe_asked s (Refused code) = None
 unsubscribe_asked s (Topics filter) = unsubscribe_change s filter
 
--- UNSUBSCRIBE; it is always acknowledged, and messages that wait go on waiting
+-- the draft of UNSUBSCRIBE; it is always acknowledged, and messages that wait go on waiting (6.9)
 abbrev pub unsubscribe : Entries → Addr → Session → ℕ → ℕ → List ℕ → Drafted
 unsubscribe predefined a s bits msg_id field =
     sent a (frames.UnsubAck msg_id)

@@ -59,6 +59,7 @@ abbrev pub subscription_eq : Subscription → Subscription → Bool
 subscription_eq a b =
     eq_of_both (on (λ s. s.filter) (pointwise nat_eq)) (on (λ s. s.qos) nat_eq) a b
 
+-- the test of equality is an equivalence: reflexive, symmetric and transitive
 pub subscription_equiv : IsEquivalence subscription_eq
 subscription_equiv =
     and_equiv (on_equiv (λ s. s.filter) nat_list_eq_equiv) (on_equiv (λ s. s.qos) nat_eq_equiv)

@@ -11,7 +11,7 @@ is_ascending cmp [] = true
 is_ascending cmp (a ∷ []) = true
 is_ascending cmp (a ∷ b ∷ rest) = is_lt (cmp a b) && is_ascending cmp (b ∷ rest)
 
--- a list that is a table
+-- a list that is a table: in strictly ascending order, with at most 256 entries
 abbrev pub IsTable : {E : Type 0} → (E → E → Ordering) → List E → Type 0
 IsTable cmp entries = IsTrue (is_ascending cmp entries) × (length entries ≤ MAX_ENTRIES)
 
@@ -19,13 +19,13 @@ IsTable cmp entries = IsTrue (is_ascending cmp entries) × (length entries ≤ M
 abbrev pub is_table_full : {E : Type 0} → List E → Bool
 is_table_full entries = nat_le MAX_ENTRIES (length entries)
 
--- the first, second or third, where the first is less than the second, equal or greater
+-- the first, second or third, if the order is less, equal or greater
 abbrev pub by_order : {A : Type 0} → Ordering → A → A → A → A
 by_order Less a b c = a
 by_order Equal a b c = b
 by_order Greater a b c = c
 
--- the entry in its place, in place of one that is equal in the order
+-- the table with the entry, which replaces one that is equal in the order
 abbrev pub with_entry : {E : Type 0} → (E → E → Ordering) → E → List E → List E
 with_entry cmp entry [] = entry ∷ []
 with_entry cmp entry (a ∷ rest) =

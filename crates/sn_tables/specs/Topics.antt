@@ -10,7 +10,7 @@ use Rattle.std.specs.List.{AllByRecursion, find}
 use Rattle.sn_tables.specs.declared.topics.TopicEntry.{TopicEntry}
 use Rattle.sn_tables.specs.Tables.{is_table_full, with_entry}
 
--- the entry, of which the client knows nothing any more
+-- the entry of an id that the client no longer knows
 abbrev pub unknown : TopicEntry → TopicEntry
 unknown entry = record entry { known = false }
 
@@ -65,6 +65,7 @@ topic_eq a b =
     eq_of_both (on (λ e. e.id) nat_eq)
     (eq_of_both (on (λ e. e.name) (pointwise nat_eq)) (on (λ e. e.known) beq)) a b
 
+-- the test of equality is an equivalence: reflexive, symmetric and transitive
 pub topic_equiv : IsEquivalence topic_eq
 topic_equiv =
     and_equiv (on_equiv (λ e. e.id) nat_eq_equiv)

@@ -17,7 +17,7 @@ use Rattle.sn_tick.specs.declared.due.Due.{Due}
 use Rattle.sn_tick.specs.declared.due.Due.TheVariants.{Loss, Retry, Delivery}
 use Rattle.sn_exchange.specs.Exchanges.{open_exchange, is_served, is_awake}
 
--- how long a moment is ago; 0 where the clock went back behind it
+-- how long a moment is ago, in seconds; 0 if the clock went back to before it
 abbrev pub elapsed : ℕ → ℕ → ℕ
 elapsed now since = now - since
 
@@ -25,6 +25,7 @@ elapsed now since = now - since
 abbrev pub patience : ℕ → ℕ
 patience duration = (3 * duration + 1) / 2
 
+-- whether nothing was heard for one and a half times the duration; never so if the duration is 0
 abbrev pub is_silent : ℕ → Session → Timer → Bool
 is_silent now s timer =
     nat_lt 0 s.duration && nat_le (patience s.duration) (elapsed now timer.heard)
@@ -40,15 +41,17 @@ due_again now a timer =
     if nat_le RETRY_AFTER (elapsed now timer.sent)
     then (if nat_le MAX_TRIES timer.tries then Some Loss else Some (Retry a)) else None
 
+-- what is due with an open exchange: its frame again, or the loss of the client
 abbrev pub due_exchange : ℕ → Addr → Option Timer → Option Due
 due_exchange now a None = None
 due_exchange now a (Some timer) = due_again now a timer
 
--- without an open exchange Delivery is due where messages wait, or the client is Awake
+-- without an open exchange Delivery is due if messages wait, or the client is Awake
 abbrev pub due_delivery : Session → List Put → Addr → Option Due
 due_delivery s pending a =
     if is_awake s.presence || nat_lt 0 (length pending) then Some (Delivery a) else None
 
+-- what is due with a client that is Active or Awake, with or without an open exchange
 abbrev pub due_by : ℕ → Session → List Put → Addr → Option Timer → Option Outbound → Option Due
 due_by now s pending a timer None = due_delivery s pending a
 due_by now s pending a timer (Some x) = due_exchange now a timer
@@ -59,21 +62,24 @@ due_at now s pending timer None = None
 due_at now s pending timer (Some a) =
     if is_served s.presence then due_by now s pending a timer (open_exchange s [] pending) else None
 
+-- what is due by the session: its loss, if it is overdue, else what is due at its address
 abbrev pub due_session : ℕ → List Put → Option Timer → Option Addr → Option Session → Option Due
 due_session now pending timer a None = None
 due_session now pending timer a (Some s) =
     if is_overdue now s timer then Some Loss else due_at now s pending timer a
 
+-- what is due with a client by its view; nothing if another gateway owns it
 abbrev pub due_view : ℕ → Local → ℕ → List ℕ → ClientView → Option Due
 due_view g local now c v =
     if is_stamp_of g v.stamp
     then due_session now v.pending (timer_of c local.timers) (address_of c local.bindings) v.session
     else None
 
--- what is due with a client that the gateway owns
+-- what is due with a client that the gateway owns: its loss, one more try, or Delivery
 abbrev pub due_with : ℕ → Seen → Local → ℕ → List ℕ → Option Due
 due_with g seen local now c = due_view g local now c (seen.of c)
 
+-- the client, if something is due with it, else the one that was found after it
 abbrev pub or_later : Option (List ℕ × Due) → List ℕ → Option Due → Option (List ℕ × Due)
 or_later later c None = later
 or_later later c (Some reason) = Some (c, reason)

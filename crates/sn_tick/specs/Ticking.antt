@@ -35,7 +35,7 @@ use Rattle.sn_tick.specs.Due.{elapsed, first_due}
 abbrev pub is_old : ℕ → WillDialog → Bool
 is_old now dialog = nat_le DIALOG_SECONDS (elapsed now dialog.begun)
 
--- and then no dialog at this address, where it is so old
+-- and then no dialog at this address, if it is so old
 abbrev pub dialog_ended : ℕ → Drafted → WillDialog → Drafted
 dialog_ended now d dialog =
     if is_old now dialog then moved (EndDialog dialog.request.address) d else d
@@ -50,6 +50,7 @@ abbrev pub needs_timer : ℕ → List Timer → List ℕ → ClientView → Bool
 needs_timer g timers c v =
     is_stamp_of g v.stamp && can_wake v.session && is_none (timer_of c timers)
 
+-- and then a timer for the client from this moment on, if it needs one
 abbrev pub timer_begun : ℕ → Seen → List Timer → ℕ → Drafted → List ℕ → Drafted
 timer_begun g seen timers now d c =
     if needs_timer g timers c (seen.of c) then moved (Heard c now) d else d
@@ -58,11 +59,12 @@ timer_begun g seen timers now d c =
 abbrev pub timers_begun : ℕ → Seen → List Timer → ℕ → List (List ℕ) → Drafted → Drafted
 timers_begun g seen timers now clients d = fold (timer_begun g seen timers now) d clients
 
--- what every tick does first
+-- what every tick does first: will dialogs of a minute end, and clients without a timer get one
 abbrev pub cleaned : ℕ → Seen → Local → ℕ → Drafted
 cleaned g seen local now =
     timers_begun g seen local.timers now seen.all (dialogs_ended now local.dialogs nothing)
 
+-- whether the last ADVERTISE is at least `advertise` seconds ago, or there was none
 abbrev pub is_long_ago : ℕ → ℕ → Option ℕ → Bool
 is_long_ago advertise now None = true
 is_long_ago advertise now (Some last) = nat_le advertise (elapsed now last)
@@ -72,6 +74,7 @@ abbrev pub may_advertise : ℕ → List Addr → ℕ → Option ℕ → Bool
 may_advertise advertise field now last =
     nat_lt 0 advertise && nat_lt 0 (length field) && is_long_ago advertise now last
 
+-- and then ADVERTISE to the address: the gateway's number and the seconds between two (6.1)
 abbrev pub advertised_to : ℕ → ℕ → Drafted → Addr → Drafted
 advertised_to g advertise d a = sent a (frames.Advertise g advertise) d
 
@@ -85,12 +88,12 @@ abbrev pub will_puts : Seen → List ℕ → Option Will → List NewPut
 will_puts seen c None = []
 will_puts seen c (Some will) = puts_of_will seen c will
 
--- and then the client is lost: its will is published, and it has no address any more
+-- and then the client is lost: its will is published, and it no longer has an address
 abbrev pub lost : Seen → List ℕ → Session → Drafted → Drafted
 lost seen c s d =
     moved (Unbind c) (changed (Presence Lost s.duration) (put_all (will_puts seen c s.will) d))
 
--- one try more: Resend, where an exchange is open, else Delivery
+-- one try more: Resend, if an exchange is open, else Delivery
 abbrev pub retried : ℕ → Drafted → List ℕ → Row
 retried now d c = row_of follows.Resend c (moved (Retried c now) d)
 
@@ -103,6 +106,7 @@ plan_due g predefined seen now d c (Retry a) =
 plan_due g predefined seen now d c (Delivery a) =
     deliver_next g predefined seen a now (row_of follows.Delivery c d)
 
+-- the plan of what is due with the client that was found; without one, of what every tick does
 abbrev pub plan_if_due : ℕ → Entries → Seen → ℕ → Drafted → Option (List ℕ × Due) → Option Plan
 plan_if_due g predefined seen now d None = Some (plan_without d)
 plan_if_due g predefined seen now d (Some found) = plan_due g predefined seen now d found.0 found.1
@@ -114,7 +118,7 @@ one_thing g advertise field predefined seen local now d =
     then Some (plan_without (advertised g advertise field now d))
     else plan_if_due g predefined seen now d (first_due g seen local now seen.all)
 
--- a tick
+-- the plan of a tick: what every tick does, and one thing
 abbrev pub tick : ℕ → ℕ → List Addr → Entries → Seen → Local → ℕ → Option Plan
 tick g advertise field predefined seen local now =
     one_thing g advertise field predefined seen local now (cleaned g seen local now)

@@ -6,7 +6,7 @@ use Rattle.std.specs.List.{list_any, slice_split}
 abbrev pub is_wildcard : ℕ → Bool
 is_wildcard octet = (octet == 43) || (octet == 35)
 
--- whether a wildcard stands among the octets
+-- whether there is a wildcard among the octets
 abbrev pub has_wildcard : List ℕ → Bool
 has_wildcard octets = list_any is_wildcard octets
 
@@ -15,7 +15,7 @@ abbrev pub begins_with_wildcard : List ℕ → Bool
 begins_with_wildcard [] = false
 begins_with_wildcard (octet ∷ more) = is_wildcard octet
 
--- whether a level is this one octet and no more
+-- whether a level is just this one octet
 abbrev pub is_only : ℕ → List ℕ → Bool
 is_only wanted [] = false
 is_only wanted (octet ∷ []) = octet == wanted
@@ -29,7 +29,8 @@ is_plus level = is_only 43 level
 abbrev pub is_hash : List ℕ → Bool
 is_hash level = is_only 35 level
 
--- the levels of a topic: what stands before, between and behind its slashes (47)
+-- the levels of a topic: what is before, between and after its slashes (47); an empty level is one
+-- too
 abbrev pub levels : List ℕ → List (List ℕ)
 levels octets = slice_split (λ octet. octet == 47) octets
 
@@ -37,7 +38,7 @@ levels octets = slice_split (λ octet. octet == 47) octets
 abbrev pub asks_for_one : List ℕ → Bool
 asks_for_one level = not (has_wildcard level) || is_plus level
 
--- each wildcard stands alone in its level, and `#` in the last level only
+-- each wildcard is alone in its level, and `#` is in the last level only
 abbrev pub wildcards_stand_alone : List (List ℕ) → Bool
 wildcards_stand_alone [] = true
 wildcards_stand_alone (level ∷ []) = asks_for_one level || is_hash level

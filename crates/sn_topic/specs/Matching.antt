@@ -7,7 +7,7 @@ use Rattle.sn_topic.specs.Levels.{begins_with_wildcard, is_plus, is_hash, levels
 abbrev pub Agrees : List ℕ → List ℕ → Type 0
 Agrees asked given = (asked ≡ 43 ∷ []) ⊎ (asked ≡ given)
 
--- the levels are as many on both sides, and agree one by one
+-- the levels are as many on both sides, and agree one by one: each is `+`, or the same
 abbrev pub AgreeOneByOne : List (List ℕ) → List (List ℕ) → Type 0
 AgreeOneByOne [] [] = ⊤
 AgreeOneByOne [] (given ∷ others) = ⊥

@@ -9,15 +9,15 @@ use Rattle.sn_topic.specs.declared.predefined.TheConstants.{MAX_TOPIC_ID}
 abbrev pub Entries : Type 0
 Entries = List (ℕ × List ℕ)
 
--- 0 and 65,535 are reserved
+-- an id that is not reserved: 0 and 65,535 are (5.3.11)
 abbrev pub is_topic_id : ℕ → Bool
 is_topic_id id = nat_le 1 id && nat_le id MAX_TOPIC_ID
 
--- whether an id stands in the table
+-- whether an id is in the table
 abbrev pub has_id : ℕ → Entries → Bool
 has_id id entries = list_any (λ entry. entry.0 == id) entries
 
--- no id is reserved, and none stands twice
+-- no id is reserved, 0 or 65,535, and none occurs twice (5.3.11, 6.7)
 abbrev pub is_table : Entries → Bool
 is_table [] = true
 is_table (entry ∷ later) = is_topic_id entry.0 && not (has_id entry.0 later) && is_table later

@@ -11,7 +11,7 @@ IsTopicSize octets = (0 < length octets) × (length octets ≤ MAX_TOPIC)
 abbrev pub IsName : List ℕ → Type 0
 IsName octets = IsTopicSize octets × IsFalse (has_wildcard octets)
 
--- a filter has wildcards only where they may stand
+-- a filter has wildcards only as `wildcards_stand_alone` allows
 abbrev pub IsFilter : List ℕ → Type 0
 IsFilter octets = IsTopicSize octets × IsTrue (wildcards_stand_alone (levels octets))
 

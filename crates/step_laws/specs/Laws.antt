@@ -52,13 +52,14 @@ IsDoneWith predefined peer s put sends =
     ((put.qos ≡ 0) × IsSentAtZero predefined peer s put sends)
     ⊎ ((form_of predefined s put.topic ≡ None) × (id_to_tell s put.topic ≡ None))
 
--- the name of such a message among these
+-- the name of a message among these that Delivery is done with
 abbrev pub IsOfOneDone : Entries → Peer → Session → List Put → List Send → ℕ × ℕ → Type 0
 IsOfOneDone predefined peer s pending sends name =
     (put : Put) × Contains pending put × (name ≡ name_of put)
     × IsDoneWith predefined peer s put sends
 
--- Delivery acknowledges no other message
+-- Delivery adds acknowledgements only of messages that it sends at quality of service 0, and of
+-- those for whose topic no id is left
 abbrev pub DeliveryKeeps : Type 0
 DeliveryKeeps =
     (predefined : Entries) (peer : Peer) (s : Session) (pending : List Put) (d : Drafted)
@@ -74,9 +75,9 @@ ends_received id (Take taken) = true
 ends_received id (Released other) = other == id
 ends_received id change = false
 
--- Exactly once: the first publication at quality of service 2 records its message id; no change but
--- a Take and the release of the id ends that; and while it lasts a publication of the id makes no
--- message
+-- Exactly once. The first publication at quality of service 2 records its message id. No change but
+-- a Take and the release of the id ends that. While it lasts, a publication of the id makes no
+-- message.
 pub record PutsOnce : Type 0 where
   pub recorded : (seen : Seen) (a : Addr) (s : Session) (topic msg_id : ℕ) (body name : List ℕ)
       → is_received msg_id s.received ≡ false → id_has_no_room msg_id s.received ≡ false
@@ -94,8 +95,8 @@ EndsFirst before next_id after =
     (after ≡ before)
     ⊎ ((more : List SessionOp) × (after ≡ before ++ OutboundSet None next_id ∷ more))
 
--- One exchange at a time: while one is open, Delivery makes nothing and sends nothing; and whatever
--- follows a row changes nothing of the session, or first ends that exchange: no other is begun
+-- One exchange at a time. While one is open, Delivery makes nothing and sends nothing. What follows
+-- a row changes nothing of the session, or first ends that exchange, so that no other is begun
 -- beside it.
 pub record OneExchange : Type 0 where
   pub delivered : (predefined : Entries) (peer : Peer) (s : Session) (pending : List Put)
@@ -140,15 +141,16 @@ AreApart (put ∷ rest) =
     AllByRecursion (λ (other : Put). same_name (name_of put) (name_of other) ≡ false) rest
     × AreApart rest
 
--- what is due with a client once a draft is carried out, where its address is then a: by the
--- session and the timer that the draft leaves it, and the messages that it leaves waiting
+-- What is due with a client once a draft is carried out, if its address is then a. It goes by the
+-- session and the timer that the draft leaves the client, and by the messages that it leaves
+-- waiting.
 abbrev pub due_after : ℕ → List ℕ → Session → List Put → List Timer → Option Addr → Drafted
     → Option Due
 due_after now c s pending timers a d =
     due_session now (left d.acks pending) (timer_of c (timers_after timers d.local)) a
     (Some (session_after s d))
 
--- what a tick does with a client behind what it did first
+-- what a tick does with a client after what it did first
 abbrev pub due_draft : Entries → Seen → ℕ → List ℕ → Drafted → Due → Drafted
 due_draft predefined seen now c d Loss = lost seen c (session_of seen c) d
 due_draft predefined seen now c d (Retry a) =
@@ -156,8 +158,8 @@ due_draft predefined seen now c d (Retry a) =
 due_draft predefined seen now c d (Delivery a) =
     (followed predefined seen a now (row_of follows.Delivery c d)).draft
 
--- What is due with a client is settled when a tick has done it: nothing is due with the client any
--- more at this moment, whatever its address is then.
+-- What is due with a client is settled when a tick has done it. After that nothing is due with the
+-- client at this moment, whatever its address is then.
 abbrev pub TickSettles : Type 0
 TickSettles =
     (predefined : Entries) (seen : Seen) (now : ℕ) (c : List ℕ) (timers : List Timer)

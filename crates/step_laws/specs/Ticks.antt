@@ -21,8 +21,8 @@ pub record Ticked : Type 0 where
   pub plan : Plan
   pub delta : List Op
 
--- these are ticks of the moment now, one after the other, by a gateway with this set and this local
--- state: each is the tick of what the ones before it left. Ticks that are refused change nothing
+-- These are ticks of the moment now, one after the other, by a gateway with this set and this local
+-- state. Each is the tick of what the ones before it left. Ticks that are refused change nothing
 -- and are not among them.
 abbrev pub AreTicks : ℕ → ℕ → List Addr → Entries → ℕ → List Op → Local → List Ticked → Type 0
 AreTicks g advertise field predefined now S local [] = Unit {0}
@@ -38,12 +38,12 @@ busy g advertise field now S local (t ∷ rest) =
     (if does_something g advertise field (seen_of S) local now then 1 else 0)
     + busy g advertise field now (S ++ t.delta) (after_all local t.plan.local) rest
 
--- the set behind these ticks
+-- the set after these ticks
 abbrev pub set_behind : List Op → List Ticked → List Op
 set_behind S [] = S
 set_behind S (t ∷ rest) = set_behind (S ++ t.delta) rest
 
--- the local state behind these ticks
+-- the local state after these ticks
 abbrev pub local_behind : Local → List Ticked → Local
 local_behind local [] = local
 local_behind local (t ∷ rest) = local_behind (after_all local t.plan.local) rest

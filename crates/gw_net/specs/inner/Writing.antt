@@ -4,8 +4,8 @@ use Rattle.std.specs.Io.KnownBytes.{Appends}
 use Rattle.gw_net.specs.declared.fault.LinkOutFault.{LinkOutFault}
 use Rattle.gw_net.specs.declared.fault.LinkOutFault.TheVariants.{Write, Memory}
 
--- behind so many octets of a message that went out, exactly the first of these went out, and not
--- all of them
+-- after so many octets that went out before it, exactly the first of a message went out, and not
+-- all
 abbrev pub IsCutBehind : ℕ → Option (List ℕ) → Option (List ℕ) → List ℕ → LinkOutFault → Type 0
 IsCutBehind before old new text (Write written) =
     (n : ℕ) × (written ≡ before + n) × (n < length text) × Appends old new (take n text)

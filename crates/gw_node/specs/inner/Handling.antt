@@ -26,7 +26,7 @@ use Rattle.gw_node.specs.Keeping.{Keeps}
 use Rattle.gw_node.specs.Opening.{FitInTurn}
 use Rattle.gw_node.specs.inner.Opening.{DoNotFit}
 
--- the bytes are no frame; want of memory says nothing of them
+-- the bytes are no frame; that memory ran out says nothing of them
 abbrev pub IsNoFrameBy : List ℕ → Refusal → Type 0
 IsNoFrameBy bytes (refusals.Frame fault) = IsFirstFault bytes fault × (fault ≢ frame_faults.Memory)
 IsNoFrameBy bytes refusals.Memory = Unit {0}
@@ -37,11 +37,12 @@ IsNoFrameBy bytes refusals.Full = ⊥
 IsNoFrameBy bytes refusals.Exhausted = ⊥
 IsNoFrameBy bytes (refusals.Journal fault) = ⊥
 
--- the plan for a frame, and that of a tick
+-- the plan for a frame, by what is kept
 abbrev pub planned_for : {D : Type 0} {G : Ghosts D} → State G → Addr → Frame → ℕ → Option Plan
 planned_for old from frame now =
     step old.config.gateway old.config.predefined (seen_of old.kept) old.local from frame now
 
+-- the plan for a tick at this second, by what is kept
 abbrev pub ticked : {D : Type 0} {G : Ghosts D} → State G → ℕ → Option Plan
 ticked old now =
     tick old.config.gateway old.config.advertise old.config.field old.config.predefined
@@ -53,7 +54,7 @@ IsIdleAt old now =
     is_idle old.config.gateway old.config.advertise old.config.field (seen_of old.kept) old.local
     now ≡ true
 
--- there is none
+-- there is no plan, or memory ran out
 abbrev pub IsNoPlan : Option Plan → Refusal → Type 0
 IsNoPlan planned refusals.Exhausted = planned ≡ None
 IsNoPlan planned refusals.Memory = Unit {0}
@@ -75,8 +76,8 @@ HaveNoDelta ops (refusals.Conflict client) = ⊥
 HaveNoDelta ops refusals.Exhausted = ⊥
 HaveNoDelta ops (refusals.Journal fault) = ⊥
 
--- a plan was carried out, or why it was not; `excuse` is what is answered where the journal cannot
--- be written
+-- a plan was carried out, or why it was not; `excuse` is the answer if the journal cannot be
+-- written
 abbrev pub CarriedOut : {D : Type 0} {G : Ghosts D} → State G → Plan → Out → Result Out Refusal
     → State G → Type 0
 CarriedOut old plan excuse (Ok out) new = IsDone old plan out new
@@ -102,7 +103,7 @@ Answers old planned excuse answer new =
     (plan : Plan) × (planned ≡ Some plan) × CarriedOut old plan (only_sends (excuse plan.sends))
     answer new
 
--- ---- what was read anew
+-- ---- what was read again
 
 -- the node has taken these deltas, and knows nothing else; its journal is as it was
 pub record IsRefilled {D : Type 0} {G : Ghosts D} (old : State G) (deltas : List (List Op))
@@ -115,8 +116,8 @@ pub record IsRefilled {D : Type 0} {G : Ghosts D} (old : State G) (deltas : List
   pub none : deltas ≡ [] → new.kept ≡ []
   pub fits : FitInTurn [] deltas
 
--- One of them does not fit, or memory ran out: the node is as it was, but halted; where memory ran
--- out it is halted only if it had been halted before its journal was read.
+-- One of them does not fit, or memory ran out. The node is as it was, but halted. If memory ran
+-- out, it is halted only if it had been halted before its journal was read.
 pub record IsGivenBack {D : Type 0} {G : Ghosts D} (old : State G) (deltas : List (List Op))
     (halted : Bool) (refusal : Refusal) (new : State G) : Type 0 where
   pub config : new.config ≡ old.config
@@ -129,6 +130,7 @@ pub record IsGivenBack {D : Type 0} {G : Ghosts D} (old : State G) (deltas : Lis
   pub wanting : refusal ≡ refusals.Memory → is_halted new ≡ (if halted then true else is_halted old)
   pub why : DoNotFit deltas refusal
 
+-- the node has taken the deltas that were read, or it has given them back for this reason
 abbrev pub RefilledAs : {D : Type 0} {G : Ghosts D} → State G → List (List Op) → Bool
     → Result (Unit {0}) Refusal → State G → Type 0
 RefilledAs old deltas halted (Ok done) new = IsRefilled old deltas new

@@ -6,7 +6,7 @@ use Rattle.sn_local.specs.Seen.{seen_of}
 use Rattle.sn_local.specs.Locals.{Local}
 use Rattle.sn_tick.specs.Rest.{is_idle}
 
--- where a moment is remembered, a tick of that moment has nothing to do
+-- if a moment is remembered, a tick of that moment has nothing to do
 abbrev pub rests : Option ℕ → Config → List Op → Local → Bool
 rests None config kept local = true
 rests (Some until) config kept local =

@@ -16,13 +16,14 @@ abbrev pub are_owned : ℕ → Seen → Local → Bool
 are_owned g seen local =
     list_all (has_owned g seen) local.bindings && list_all (times_owned g seen) local.timers
 
--- the same before these operations, of which `kept` is what must be kept behind them
+-- before these operations the gateway owned each client with an address or a timer; `kept` is what
+-- must be kept after them
 pub record WereOwned (g : ℕ) (kept ops : List Op) (local : Local) : Type 0 where
   pub before : List Op
   pub taken : IsKeptOf (before ++ ops) kept
   pub owned : are_owned g (seen_of before) local ≡ true
 
--- the same, where it is known
+-- whether the gateway owns each client with an address or a timer, if that is known
 abbrev pub tidied : Bool → ℕ → List Op → Local → Bool
 tidied known g kept local = not known || are_owned g (seen_of kept) local
 
@@ -34,8 +35,8 @@ is_stranger c local = is_none (address_of c local.bindings) && is_none (timer_of
 abbrev pub is_left : ℕ → Seen → Local → List ℕ → Bool
 is_left g seen local c = is_owned g seen c || is_stranger c local
 
--- whether the operation leaves the gateway all clients of which it knows an address or a timer: it
--- is no Take, or one of a client that the gateway owns, or of a stranger
+-- Whether the operation leaves the gateway each client whose address or timer it knows. So does all
+-- but a Take, and a Take of a client that the gateway owns, or of a stranger.
 abbrev pub leaves_all : ℕ → Seen → Local → Op → Bool
 leaves_all g seen local (OfSession c stamp counter change) =
     not (counter == 0) || is_left g seen local c

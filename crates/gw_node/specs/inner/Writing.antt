@@ -14,6 +14,7 @@ use Rattle.gw_answer.specs.declared.refusal.Refusal.TheVariants as refusals
 use Rattle.gw_node.specs.Parts.{IsUntouched}
 use Rattle.gw_node.specs.Writing.{IsWritten, IsFailed, IsNumbered, IsRewritten, IsNotRewritten}
 
+-- what became of the journal, by the answer of the write; it is never Foreign or BadRecord
 abbrev pub WrittenAs : {D : Type 0} {G : Ghosts D} → Journal D G → List Op
     → Result (Unit {0}) JournalFault → Journal D G → Type 0
 WrittenAs old delta (Ok done) new = IsWritten old delta new
@@ -23,21 +24,21 @@ WrittenAs old delta (Err faults.Memory) new = IsUntouched old new
 WrittenAs old delta (Err faults.Foreign) new = ⊥
 WrittenAs old delta (Err (faults.BadRecord slot at)) new = ⊥
 
--- a delta is written where there is one
+-- a delta is written, if there is one
 abbrev pub WrittenIfMade : {D : Type 0} {G : Ghosts D} → Journal D G → Option (List Op)
     → Result (Unit {0}) JournalFault → Journal D G → Type 0
 WrittenIfMade old None (Ok done) new = IsUntouched old new
 WrittenIfMade old None (Err fault) new = ⊥
 WrittenIfMade old (Some delta) result new = WrittenAs old delta result new
 
--- where it has operations
+-- a delta is written, if it has operations
 abbrev pub WrittenIfAny : {D : Type 0} {G : Ghosts D} → Journal D G → List Op
     → Result (Unit {0}) JournalFault → Journal D G → Type 0
 WrittenIfAny old [] (Ok done) new = IsUntouched old new
 WrittenIfAny old [] (Err fault) new = ⊥
 WrittenIfAny old (op ∷ ops) result new = WrittenAs old (op ∷ ops) result new
 
--- what became of a journal that was to be written anew
+-- what became of a journal that was to be rewritten
 abbrev pub RewrittenAs : {D : Type 0} {G : Ghosts D} → Journal D G → List (List Op)
     → Result (Unit {0}) JournalFault → Journal D G → Type 0
 RewrittenAs old base (Ok done) new = IsRewritten old base new

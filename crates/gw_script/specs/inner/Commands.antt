@@ -4,7 +4,8 @@ use Rattle.gw_script.specs.declared.command.Command.{Command}
 use Rattle.gw_script.specs.declared.fault.LineFault.{LineFault}
 use Rattle.gw_script.specs.declared.fault.LineFault.TheVariants as faults
 
--- The answer of a reader: a command for which the fact holds. Where it is refused there is none.
+-- The answer of a reader: a command that is as the fact says. If the reader refuses, there is no
+-- such command.
 abbrev pub Reads : (Command → Type 0) → Result Command LineFault → Type 0
 Reads IsSaid (Ok command) = IsSaid command
 Reads IsSaid (Err faults.NotACommand) = (command : Command) → IsSaid command → ⊥

@@ -13,11 +13,13 @@ IsHandled before (Stepped number) after = Gains before (number ∷ []) after
 IsHandled before Refused after = Gains before [] after
 IsHandled before (Failed cause) after = (numbers : List ℕ) × Gains before numbers after
 
+-- the worker of the datagram must end
 abbrev pub IsFailed : Handled → Type 0
 IsFailed (Stepped number) = ⊥
 IsFailed Refused = ⊥
 IsFailed (Failed cause) = Unit {0}
 
+-- the datagram became the call of this number, or its worker must end
 abbrev pub IsStepOr : ℕ → Handled → Type 0
 IsStepOr number (Stepped n) = n ≡ number
 IsStepOr number Refused = ⊥

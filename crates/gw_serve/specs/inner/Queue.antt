@@ -7,6 +7,7 @@ use Rattle.gw_serve.specs.declared.queue.Hand.{Hand}
 use Rattle.gw_serve.specs.declared.queue.Datagram.{Datagram}
 use Rattle.gw_serve.specs.Count.{weigh}
 
+-- what a ticket of the queue knows: its parts, and the numbers that it sent and took
 abbrev pub hand : ℕ → List ℕ → List ℕ → Hand
 hand parts sent taken = record { parts = parts; sent = sent; taken = taken }
 
@@ -15,6 +16,7 @@ abbrev pub total : (Hand → ℕ) → List Hand → ℕ
 total f [] = 0
 total f (v ∷ vs) = f v + total f vs
 
+-- the numbers of the datagrams
 abbrev pub numbers : List Datagram → List ℕ
 numbers ds = map (λ d. d.number) ds
 

@@ -26,7 +26,7 @@ NotEntered steps before pass (faults.Behind held) after =
 NotEntered steps before pass faults.Memory after = ⊥
 NotEntered steps before pass (faults.Node number fault) after = ⊥
 
--- why no deltas are told: the pass has seen more calls than there are; or memory ran out
+-- why no deltas are handed on: the pass has seen more calls than there are; or memory ran out
 abbrev pub IsNotTold : List Call → Holder → CallFault → Type 0
 IsNotTold history pass faults.ShiftFull = ⊥
 IsNotTold history pass (faults.Behind held) = (held ≡ length history) × (held < seen_by pass)

@@ -4,12 +4,12 @@ use Rattle.gw_shift.specs.Calls.{Call, Held, Holder}
 use Rattle.gw_shift.specs.Passes.{Ascend}
 use Rattle.gw_shift.specs.Closing.{StandsIn}
 
--- the calls stand in the history under that pass
+-- the calls are in the history under that pass
 abbrev pub AllStand : List Call → ℕ → List Held → Type 0
 AllStand history place [] = Unit {0}
 AllStand history place (held ∷ rest) = StandsIn history place held × AllStand history place rest
 
--- the calls of each pass stand there, in the history's order
+-- the calls of each pass are in the history, in its order
 abbrev pub EachStands : List Call → List Holder → Type 0
 EachStands history [] = Unit {0}
 EachStands history (pass ∷ rest) =

@@ -9,10 +9,12 @@ use Rattle.gw_answer.specs.declared.out.Out.{Out}
 use Rattle.gw_answer.specs.declared.refusal.Refusal.{Refusal}
 use Rattle.gw_shift.specs.Calls.{Call}
 
+-- the delta that a call made, if it made one
 abbrev pub made_of : Result Out Refusal → Option (List Op)
 made_of (Ok out) = out.made
 made_of (Err refusal) = None
 
+-- the delta under its number, in front of the others; without one they stay as they are
 abbrev pub noted : ℕ → Option (List Op) → List (ℕ × List Op) → List (ℕ × List Op)
 noted number None rest = rest
 noted number (Some delta) rest = (number, delta) ∷ rest
@@ -23,10 +25,11 @@ made_after before [] = []
 made_after before (call ∷ calls) =
     noted (before + 1) (made_of call.answer) (made_after (before + 1) calls)
 
+-- a call as a history holds it
 abbrev pub call : ℕ → Step → Result Out Refusal → Call
 call place step answer = record { place = place; step = step; answer = answer }
 
--- the deltas that shares of answers tell of, with their numbers
+-- the deltas that shares of answers hold, with their numbers
 abbrev pub told_by : List (ℕ × Arc Out Global) → List (ℕ × List Op)
 told_by [] = []
 told_by (share ∷ rest) = noted share.0 (arc_value share.1).made (told_by rest)

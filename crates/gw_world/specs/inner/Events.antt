@@ -54,18 +54,18 @@ GoesOn old step answer new =
     → (next : Gateway) × (made : List (List Op)) × StepOf gateway step answer next made
     × IsShown next new
 
--- it stops and is opened again: so many records are read then
+-- the node stops and is opened again: so many records are read then
 abbrev pub StartsAgain : {D : Type 0} {G : Ghosts D} → State G → ℕ → ℕ → State G → Type 0
 StartsAgain old kept count new =
     (gateway : Gateway) → IsShown gateway old → IsShown (restarted kept gateway) new
     × (count ≡ records_left kept gateway)
 
--- its next write is to fail
+-- the next write of the node is to fail
 abbrev pub FailsNext : {D : Type 0} {G : Ghosts D} → State G → ℕ → Bool → State G → Type 0
 FailsNext old bytes sync new =
     (gateway : Gateway) → IsShown gateway old → IsShown (failing bytes sync gateway) new
 
--- it stands for some gateway
+-- the node stands for some gateway
 abbrev pub IsStood : {D : Type 0} {G : Ghosts D} → State G → Type 0
 IsStood state = (gateway : Gateway) × IsShown gateway state
 
@@ -101,7 +101,7 @@ AskKept kept other (Err refusals.Memory) = ⊥
 
 -- ---- nodes in their places
 
--- the place of the node of this number; the first, where two have it
+-- the place of the node of this number; the first, if two have it
 abbrev pub place_in : {D : Type 0} {G : Ghosts D} → ℕ → ℕ → List (State G) → Option ℕ
 place_in number i [] = None
 place_in number i (state ∷ rest) =
@@ -116,6 +116,7 @@ pub record Moves {D : Type 0} {G : Ghosts D} (olds : List (State G)) (i : ℕ) (
   pub goes : Goes old new
   pub moved : news ≡ slice_set olds i new
 
+-- the i-th node answers this call so, and no other node changes
 abbrev pub StepsAt : {D : Type 0} {G : Ghosts D} → List (State G) → ℕ → Step → Result Out Refusal
     → List (State G) → Type 0
 StepsAt olds i step answer news = Moves olds i (λ old new. GoesOn old step answer new) news
@@ -127,7 +128,7 @@ AskAt {G = G} olds i j answer =
     (asker : State G) × (peer : State G) × (slice_get olds i ≡ Some asker)
     × (slice_get olds j ≡ Some peer) × AskKept asker.kept peer.kept answer
 
--- these deltas, each of which can be written, joined the list
+-- these deltas, which can all be written, are added to the list
 abbrev pub Join : List (List Op) → List (List Op) → List (List Op) → Type 0
 Join deltas more next = AllByRecursion IsWritable more × (next ≡ deltas ++ more)
 
@@ -159,7 +160,7 @@ RestartAnswered olds i kept news (Node answer) = ⊥
 RestartAnswered olds i kept news (Views views) = ⊥
 RestartAnswered olds i kept news Nothing = ⊥
 
--- the answer where a failure is arranged
+-- the answer if a failure is arranged
 abbrev pub FailAnswered : {D : Type 0} {G : Ghosts D} → List (State G) → ℕ → ℕ → Bool
     → List (State G) → Answer → Type 0
 FailAnswered olds i bytes sync news Nothing =
@@ -177,7 +178,8 @@ AskAnswered olds deltas i j next (Views views) = ⊥
 AskAnswered olds deltas i j next (Records count) = ⊥
 AskAnswered olds deltas i j next Nothing = ⊥
 
--- the same, of the peer of a number
+-- the answer of the peer of this number to the digest of the i-th node, and the list of deltas
+-- after it
 abbrev pub PeerAnswered : {D : Type 0} {G : Ghosts D} → List (State G) → List (List Op) → ℕ → ℕ
     → List (List Op) → Answer → Type 0
 PeerAnswered olds deltas i peer next answer =
@@ -216,6 +218,7 @@ EventAt olds deltas i (Restart number kept) news next answer =
 EventAt olds deltas i (Show number) news next answer =
     ShowAnswered olds i answer × (news ≡ olds) × (next ≡ deltas)
 
+-- the event at the node that it names, its answer, and the nodes after it
 abbrev pub EventPlayed : {D : Type 0} {G : Ghosts D} → List (State G) → List (List Op) → Event
     → List (State G) → List (List Op) → Answer → Type 0
 EventPlayed olds deltas event news next answer =
@@ -224,19 +227,20 @@ EventPlayed olds deltas event news next answer =
 
 -- ---- events without an answer
 
--- why the event at a node has none: its peer is not there; it names no delta of the list; or memory
--- ran out
+-- why a digest has no answer: its peer is not there, or memory ran out
 abbrev pub NoPeer : {D : Type 0} {G : Ghosts D} → List (State G) → ℕ → ℕ → WorldFault → Type 0
 NoPeer olds peer number (stops.NoGateway n) = (n ≡ number) × (place_in peer 0 olds ≡ None)
 NoPeer olds peer number (stops.NoDelta n) = ⊥
 NoPeer olds peer number stops.Memory = Unit {0}
 
+-- why a delta cannot be taken: the list has none of this number, or memory ran out
 abbrev pub NoDelta : List (List Op) → ℕ → ℕ → WorldFault → Type 0
 NoDelta deltas delta number (stops.NoGateway n) = ⊥
 NoDelta deltas delta number (stops.NoDelta n) =
     (n ≡ number) × ((ops : List Op) → IsListed deltas delta ops → ⊥)
 NoDelta deltas delta number stops.Memory = Unit {0}
 
+-- why an event at a node that is there has no answer
 abbrev pub IsMissing : {D : Type 0} {G : Ghosts D} → List (State G) → List (List Op) → Event → ℕ
     → WorldFault → Type 0
 IsMissing olds deltas (Asks gateway peer) number fault = NoPeer olds peer number fault
@@ -279,6 +283,7 @@ RunOn olds deltas events answers news next =
     → (new : Field) × Run field events answers new × AreShown new.gateways news
     × (new.deltas ≡ next)
 
+-- the same as `RunOn`, with the answers of the program's list
 abbrev pub Played : {D : Type 0} {G : Ghosts D} → List (State G) → List (List Op) → List Event
     → List (State G) → List (List Op) → Vec Answer Global → Type 0
 Played olds deltas events news next answers = RunOn olds deltas events answers.items news next

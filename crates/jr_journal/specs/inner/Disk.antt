@@ -4,7 +4,7 @@ use Rattle.jr_disk.specs.declared.disk.Plan.{Plan}
 use Rattle.jr_disk.specs.declared.disk.Plan.TheVariants.{Stop, KeepBack, FailSync}
 use Rattle.jr_disk.specs.Disk.{Slots, Image}
 
--- what of it is synced
+-- what of the slots is synced
 abbrev pub synced_part : Slots → Image
 synced_part d = record { first = d.first.synced; second = d.second.synced }
 

@@ -2,7 +2,7 @@
 use Rattle.std.specs.Prelude.{Option, Some, None, Bool, true, false}
 use Rattle.jr_journal.specs.declared.fault.JournalFault.{JournalFault}
 
--- there is none
+-- whether there is no fault
 abbrev pub is_none : Option JournalFault → Bool
 is_none None = true
 is_none (Some fault) = false

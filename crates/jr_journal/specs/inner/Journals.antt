@@ -10,7 +10,7 @@ use Rattle.jr_journal.specs.Faults.{is_nil, fault_of}
 use Rattle.jr_journal.specs.inner.Faults.{is_none}
 use Rattle.jr_journal.specs.Journals.{other}
 
--- a slot of which nothing is read beside a sealed one of this generation
+-- nothing is read of the slot beside a sealed one of this generation
 abbrev pub is_below : SlotContent → ℕ → Bool
 is_below (Sealed n g) generation = nat_lt n generation
 is_below Unsealed generation = true
@@ -33,7 +33,7 @@ is_settled gateway slot d =
     (slot_content gateway (at d (other slot)).synced)
     && is_none (fault_of gateway (synced_part d))
 
--- it is settled, and this is the generation of the slot in use
+-- the journal is settled, and this is the generation of the slot in use
 abbrev pub is_in_use : ℕ → Slot → ℕ → Slots → Bool
 is_in_use gateway slot generation d =
     is_settled gateway slot d

@@ -12,10 +12,11 @@ use Rattle.jr_journal.specs.Records.{new_journal, slot_content}
 use Rattle.jr_journal.specs.Faults.{fault_of}
 use Rattle.jr_journal.specs.Crashes.{synced_bytes, reads_first}
 
+-- the slots with what the image has, all of it synced
 abbrev pub synced_image : Image → Slots
 synced_image i = record { first = synced_bytes i.first; second = synced_bytes i.second }
 
--- a slot of so many bytes is gone on in, where it is sealed
+-- the journal goes on in a slot of so many bytes, if it is sealed
 abbrev pub held_of : Slot → SlotContent → ℕ → Opening
 held_of slot (Sealed m f) size = Held slot m f size
 held_of slot Alien size = New
@@ -27,14 +28,17 @@ abbrev pub opening_of : SlotContent → ℕ → SlotContent → ℕ → Opening
 opening_of a size b beside =
     if reads_first a b then held_of First a size else held_of Second b beside
 
+-- the deltas that an opening gives; none if it begins a new journal
 abbrev pub deltas_of : Opening → List (List Op)
 deltas_of New = []
 deltas_of (Held slot m f size) = f.deltas
 
+-- the slot that the journal goes on in; the first if it is new
 abbrev pub place_of : Opening → Slot
 place_of New = First
 place_of (Held slot m f size) = slot
 
+-- the generation that the journal goes on in; 1 if it is new
 abbrev pub number_of : Opening → ℕ
 number_of New = 1
 number_of (Held slot m f size) = m
@@ -46,16 +50,17 @@ IsOpening gateway i opening =
     × (opening ≡ opening_of (slot_content gateway i.first) (length i.first)
     (slot_content gateway i.second) (length i.second))
 
--- it speaks of the bytes of its slot
+-- the size in an opening is that of the bytes of its slot
 abbrev pub IsSized : Opening → Slots → Type 0
 IsSized New d = Unit {0}
 IsSized (Held slot m f size) d = size ≡ length (bytes_of (at d slot))
 
--- it is done
+-- the slots once what an opening has to do is done
 abbrev pub settled : ℕ → Opening → Slots → Slots
 settled gateway New d = replaced d First (synced_bytes (new_journal gateway))
 settled gateway (Held slot m f size) d = replaced d slot (cut_to (at d slot) (13 + f.whole))
 
+-- whether the opening begins a new journal
 abbrev pub is_new : Opening → Bool
 is_new New = true
 is_new (Held slot m f size) = false

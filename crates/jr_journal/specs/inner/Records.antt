@@ -14,7 +14,7 @@ pub record IsReadable (delta : List Op) : Type 0 where
   pub read : reading (delta_bytes delta) ≡ Ok delta
   pub limit : length (delta_bytes delta) ≤ max_octets
 
--- what a delta that is refused stands for: want of memory says nothing of it
+-- what a delta that is refused stands for; nothing if memory ran out
 abbrev pub refusal : OpsFault → Option Piece
 refusal faults.Memory = None
 refusal fault = Some Bad

@@ -31,7 +31,7 @@ reaches r s = nat_le s.0 r.1 && nat_le r.0 s.1
 abbrev pub before : ℕ × ℕ → ℕ × ℕ → List (ℕ × ℕ)
 before r s = if nat_lt r.0 s.0 && reaches r s then (r.0, s.0 - 1) ∷ [] else []
 
--- what of a range is behind another: all of it where that one does not reach into it
+-- what of a range comes after another: all of it if that one does not reach into it
 abbrev pub behind : ℕ × ℕ → ℕ × ℕ → Option (ℕ × ℕ)
 behind r s = if reaches r s then (if nat_lt s.1 r.1 then Some (s.1 + 1, r.1) else None) else Some r
 
@@ -45,6 +45,7 @@ outside_from (Some r) (s ∷ rest) = before r s ++ outside_from (behind r s) res
 abbrev pub outside : ℕ × ℕ → List (ℕ × ℕ) → List (ℕ × ℕ)
 outside r ranges = outside_from (Some r) ranges
 
+-- a range of a client and an origin, as an operation that acknowledges it
 abbrev pub ack_of : List ℕ → ℕ → ℕ × ℕ → Op
 ack_of c origin r = Ack c origin r.0 r.1
 

@@ -8,10 +8,11 @@ use Rattle.rep_digest.specs.declared.entry.ClientEntry.{ClientEntry}
 abbrev pub AreFew : OriginEntry → Type 0
 AreFew o = (length o.acknowledged < 2 ^ 32) × (length o.waiting < 2 ^ 32)
 
+-- the counts of an entry fit the octets that they are written in
 pub record IsWritable (e : ClientEntry) : Type 0 where
   pub origins : length e.origins < 2 ^ 16
   pub ranges : AllByRecursion AreFew e.origins
 
--- what is left of a number of octets behind so many: nothing where they do not fit
+-- what is left of a number of octets after so many; nothing if they do not fit
 abbrev pub Leaves : ℕ → ℕ → Option ℕ → Type 0
 Leaves octets room result = MatchOption result (room < octets) (λ rest. rest + octets ≡ room)

@@ -20,30 +20,35 @@ acknowledged_by c (OfPut d put) = None
 acknowledged_by c (Ack d origin first last) =
     if same_client c d then Some (record { origin = origin; first = first; last = last }) else None
 
+-- the client's acknowledgements in these operations
 abbrev pub group : List Op → List ℕ → List Acknowledged
 group W c = filter_map (acknowledged_by c) W
 
+-- the acknowledgements of each of these clients, in their order
 abbrev pub groups : List (List ℕ) → List Op → List (List Acknowledged)
 groups clients W = map (group W) clients
 
 -- ---- the entry of an origin
 
--- the numbers of an origin
+-- the range of an acknowledgement, if it is of this origin
 abbrev pub numbers_of : ℕ → Acknowledged → Option (ℕ × ℕ)
 numbers_of origin a = if origin == a.origin then Some (a.first, a.last) else None
 
+-- the sequence number of a message of this origin; none of another's
 abbrev pub seq_of : ℕ → Put → Option ℕ
 seq_of origin put = if origin == put.origin then Some put.seq else None
 
--- a number behind the others, in the last range where it touches it
+-- a number after the others; it joins the last range if it touches it
 abbrev pub with_number : List (ℕ × ℕ) → ℕ → List (ℕ × ℕ)
 with_number [] n = (n, n) ∷ []
 with_number (r ∷ []) n = if r.1 + 1 == n then (r.0, n) ∷ [] else r ∷ (n, n) ∷ []
 with_number (r ∷ s ∷ rest) n = r ∷ with_number (s ∷ rest) n
 
+-- ascending numbers as ranges, as few as there can be
 abbrev pub in_ranges_of : List ℕ → List (ℕ × ℕ)
 in_ranges_of ns = fold with_number [] ns
 
+-- the entry of an origin: what these acknowledgements and waiting messages say of it
 abbrev pub drafted : List Acknowledged → List Put → ℕ → OriginEntry
 drafted acks pending origin = record {
   origin = origin;
@@ -51,15 +56,16 @@ drafted acks pending origin = record {
   waiting = in_ranges_of (filter_map (seq_of origin) pending);
 }
 
--- the origins 1 to 255 of which something is said
+-- the origins 1 to 255 that have ranges
 abbrev pub drafted_origins : List Acknowledged → List Put → List OriginEntry
 drafted_origins acks pending = filter has_ranges (map (drafted acks pending) (numbers_from 1 255))
 
--- what some acknowledgements and messages say
+-- origins that some acknowledgements and messages make
 abbrev pub AreDrafted : List OriginEntry → Type 0
 AreDrafted origins =
     (acks : List Acknowledged) × (pending : List Put) × (origins ≡ drafted_origins acks pending)
 
+-- the entry of a client, of its view and its acknowledgements
 abbrev pub drafted_entry : List ℕ → ClientView → List Acknowledged → ClientEntry
 drafted_entry c view acks = record {
   client = c;

@@ -9,7 +9,7 @@ use Rattle.rep_entry.specs.declared.entry.Entry.{Entry}
 use Rattle.rep_log.specs.Logs.{all_of, stamp_on, prefix_on, session_on, known_on}
 use Rattle.rep_log.specs.Origins.{above_gaps}
 
--- the entry with the log, where one is staged
+-- the entry with the log, if one is staged
 abbrev pub with_log : Entry → Option Log → Entry
 with_log entry log = record {
   seen = record {
@@ -24,18 +24,18 @@ with_log entry log = record {
   exceptions = entry.exceptions;
 }
 
--- how many session operations wait for earlier ones, and how many acknowledgements stand above a
--- gap, where a log is staged or acknowledgements are; none leaves the counts as they are
+-- how many session operations wait for earlier ones; the count stays if no log is staged
 abbrev pub parked_on : Entry → Option Log → ℕ
 parked_on entry None = entry.parked
 parked_on entry (Some log) =
     count_by (waits log.stamp log.prefix) (keys_of (all_of entry.known log))
 
+-- how many acknowledgements are above a gap; the count stays if none are staged
 abbrev pub exceptions_on : Entry → Option (List (ℕ × List (ℕ × ℕ))) → ℕ
 exceptions_on entry None = entry.exceptions
 exceptions_on entry (Some acks) = capped (above_gaps acks 255)
 
--- there is room for the operations behind those that are there
+-- there is room for the operations after those that are there
 abbrev pub HasLogRoom : List ((Stamp × ℕ) × SessionOp) → Option Log → ℕ → Type 0
 HasLogRoom known None room = ⊤
 HasLogRoom known (Some log) room = log.anew ≡ false → length known + length log.more ≤ room

@@ -4,11 +4,12 @@ use Rattle.rep_op.specs.declared.op.Put.{Put}
 use Rattle.rep_entry.specs.declared.span.Span.{Span}
 use Rattle.rep_log.specs.Mail.{goes_before, Range, is_left}
 
+-- whether the first of the messages is delivered before p
 abbrev pub begins_before : Put → List Put → Bool
 begins_before p [] = false
 begins_before p (n ∷ ns) = goes_before n p
 
--- none of them, or the first of them, comes behind p
+-- there is none, or the first of them is delivered after p
 abbrev pub are_behind : Put → List Put → Bool
 are_behind p [] = true
 are_behind p (n ∷ ns) = goes_before p n

@@ -3,6 +3,7 @@ use Rattle.std.specs.Prelude.{ℕ, ◌==◌, if◌then◌else◌}
 use Rattle.rep_op.specs.declared.op.Stamp.{Stamp}
 use Rattle.rep_op.specs.declared.op.Put.{Put}
 
+-- the epoch in the name of a session operation
 abbrev pub epoch_of : Stamp × ℕ → ℕ
 epoch_of name = name.0.epoch
 

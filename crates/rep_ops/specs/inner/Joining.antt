@@ -7,7 +7,7 @@ use Rattle.rep_op.specs.declared.op.Op.TheVariants.{Ack}
 use Rattle.rep_op.specs.Orders.{name_cmp}
 
 -- the second operation has the name of the first, or is a range of its client and origin that
--- begins within it or right behind
+-- begins within it or right after
 abbrev pub joins : Op → Op → Bool
 joins (Ack c origin first last) (Ack d other start end) =
     bytes_eq c d && (origin == other) && nat_le start (last + 1)
@@ -24,6 +24,7 @@ united_from a [] = a ∷ []
 united_from a (b ∷ rest) =
     if joins a b then united_from (united a b) rest else a ∷ united_from b rest
 
+-- the operations with those of one name made one, and ranges that overlap or touch joined
 abbrev pub joined : List Op → List Op
 joined [] = []
 joined (a ∷ rest) = united_from a rest

@@ -12,7 +12,7 @@ abbrev pub kept_rows : List (List ℕ × List Op) → List Op
 kept_rows [] = []
 kept_rows (row ∷ rows) = keep row.1 ++ kept_rows rows
 
--- a client's row with the operations of a list behind it, where the list has any of the client
+-- a client's row with the operations of a list after it, if the list has any of the client
 abbrev pub grown : List ℕ → List (List ℕ × List Op) → List Op → Option (List Op)
 grown c rows D = if has_any (of_client c D) then Some (own c rows ++ of_client c D) else None
 

@@ -14,7 +14,7 @@ use Rattle.rep_plain.specs.declared.entry.Entry.{Entry}
 use Rattle.rep_shared.specs.Rows.{flat}
 use Rattle.rep_plain.specs.Tables.{rows_of, AreEntries, IsTable}
 
--- the operations of each client, where there is nothing else yet
+-- the operations of each client, if there is nothing else yet
 abbrev pub groups_of : List (List ℕ × Vec Op Global) → List (List ℕ × List Op)
 groups_of groups = map (λ e. (e.0, e.1.items)) groups
 
@@ -31,7 +31,7 @@ pub record AreMovable (entries fresh : List (List ℕ × Entry)) : Type 0 where
   pub each : AreEntries entries
   pub fresh_each : AreEntries fresh
 
--- whether the range of acknowledgements lies within the operation
+-- whether the range of acknowledgements is within the operation
 abbrev pub has_range : List ℕ → ℕ → ℕ → ℕ → Op → Bool
 has_range c origin first last (OfSession d stamp counter change) = false
 has_range c origin first last (OfPut d put) = false
@@ -44,12 +44,15 @@ is_known S (OfSession c stamp counter change) = is_some (operation_at c S (stamp
 is_known S (OfPut c put) = is_some (put_at c S (put.seq, put.origin))
 is_known S (Ack c origin first last) = list_any (has_range c origin first last) S
 
+-- whether more than 16,384 messages wait for the client
 abbrev pub too_many_pending : List ℕ × Entry → Bool
 too_many_pending e = nat_lt MOST_PENDING (length e.1.seen.pending)
 
+-- whether more than 4,096 session operations of the client wait for earlier ones
 abbrev pub too_many_parked : List ℕ × Entry → Bool
 too_many_parked e = nat_lt MOST_PARKED e.1.parked
 
+-- whether more than 16,384 acknowledgements of the client are above a gap
 abbrev pub too_many_exceptions : List ℕ × Entry → Bool
 too_many_exceptions e = nat_lt MOST_EXCEPTIONS e.1.exceptions
 
@@ -59,6 +62,6 @@ passed_by count fresh =
     passed_of count (list_any too_many_pending fresh) (list_any too_many_parked fresh)
     (list_any too_many_exceptions fresh)
 
--- the operation, where its name is new
+-- the operation, if its name is new
 abbrev pub one_new : List Op → Op → List Op
 one_new S op = if not (is_known S op) then op ∷ [] else []

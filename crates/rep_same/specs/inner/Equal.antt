@@ -2,7 +2,7 @@
 use Rattle.std.specs.Prelude.{◌≡◌}
 use Rattle.sn_session.specs.declared.session.Session.{Session}
 
--- what stands in the sessions themselves is equal
+-- presence, clean, duration and next message id are equal
 pub record HasSameNumbers (a b : Session) : Type 0 where
   pub presence : a.presence ≡ b.presence
   pub clean : a.clean ≡ b.clean

@@ -13,6 +13,7 @@ use Rattle.rep_entry.specs.Entries.{row_of, IsFresh, fresh_row, Base, base_of}
 use Rattle.rep_state.specs.Tables.{rows_of}
 use Rattle.rep_entry.specs.Applied.{nothing_held}
 
+-- the entry, or one that holds nothing
 abbrev pub or_nothing_held : Option Entry → Entry
 or_nothing_held None = nothing_held
 or_nothing_held (Some entry) = entry
@@ -21,6 +22,7 @@ or_nothing_held (Some entry) = entry
 abbrev pub held_of : List ℕ → List (List ℕ × Entry) → Entry
 held_of c es = or_nothing_held (find client_cmp c es)
 
+-- what a change of the client builds on
 abbrev pub base_at : List ℕ → List (List ℕ × Entry) → Base
 base_at c es = base_of (held_of c es)
 
@@ -40,6 +42,7 @@ pub record IsGroup (c : List ℕ) (es : List (List ℕ × Entry)) (D : List Op)
   pub taken : IsTaken c es D (fresh_row c (held_of c es) fresh)
   pub any : has_any (of_client c D) ≡ true
 
+-- the client has its group; it has none if the list has no operation of it
 abbrev pub IsGroupOf : List ℕ → List (List ℕ × Entry) → List Op → Option Fresh → Type 0
 IsGroupOf c es D None = of_client c D ≡ []
 IsGroupOf c es D (Some fresh) = IsGroup c es D fresh
@@ -52,6 +55,7 @@ AreGroups es D groups = (c : List ℕ) → IsGroupOf c es D (find client_cmp c g
 abbrev pub fresh_rows : List (List ℕ × Entry) → List (List ℕ × Fresh) → List (List ℕ × List Op)
 fresh_rows es groups = map (λ g. (g.0, fresh_row g.0 (held_of g.0 es) g.1)) groups
 
+-- the client has its row; it has none if the list has no operation of it
 abbrev pub IsRowOf : List ℕ → List (List ℕ × Entry) → List Op → Option (List Op) → Type 0
 IsRowOf c es D None = of_client c D ≡ []
 IsRowOf c es D (Some ops) = IsTaken c es D ops × (has_any (of_client c D) ≡ true)

@@ -19,7 +19,7 @@ future es gs = map (λ g. (g.0, applied (held_of g.0 es) g.1)) gs
 abbrev pub HaveRoom : List (List ℕ × Entry) → List (List ℕ × Change) → Type 0
 HaveRoom es gs = AllByRecursion (λ g. IsSome (find client_cmp g.0 (rows_of es))) gs
 
--- the same of entries
+-- each client has an entry on which its change is ready
 abbrev pub AreMovable : List (List ℕ × Entry) → List (List ℕ × Change) → Type 0
 AreMovable es gs =
     AllByRecursion (λ g. IsReady (is_some (find client_cmp g.0 es)) g.0 (base_at g.0 es) g.1) gs
@@ -30,5 +30,6 @@ pub record IsWorkedOut (c : List ℕ) (base : Base) (change : Change) : Type 0 w
   pub fit : IsFit c base change
   pub counted : change.pending ≡ length (left_on base change.news.items change.acks)
 
+-- each client has its change worked out, whether it passes a limit or not
 abbrev pub AreWorkedOut : List (List ℕ × Entry) → List (List ℕ × Change) → Type 0
 AreWorkedOut es gs = AllByRecursion (λ g. IsWorkedOut g.0 (base_at g.0 es) g.1) gs

@@ -34,12 +34,15 @@ pub record IsRoomier (old new : List (List ℕ × Entry)) : Type 0 where
   pub found : (c : List ℕ) → IsSome (find client_cmp c (rows_of old))
       → IsSome (find client_cmp c (rows_of new))
 
+-- whether more than 16,384 messages wait for the client
 abbrev pub too_many_pending : List ℕ × Entry → Bool
 too_many_pending e = nat_lt MOST_PENDING (length e.1.seen.pending)
 
+-- whether more than 4,096 session operations of the client wait for earlier ones
 abbrev pub too_many_parked : List ℕ × Entry → Bool
 too_many_parked e = nat_lt MOST_PARKED e.1.parked
 
+-- whether more than 16,384 acknowledgements of the client are above a gap
 abbrev pub too_many_exceptions : List ℕ × Entry → Bool
 too_many_exceptions e = nat_lt MOST_EXCEPTIONS e.1.exceptions
 

@@ -13,7 +13,7 @@ qos_bits levels.One = 32
 qos_bits levels.Two = 64
 qos_bits levels.MinusOne = 96
 
--- bit 4
+-- the Retain bit of the flags, bit 4
 abbrev pub retain_bit : Bool → ℕ
 retain_bit retain = if retain then 16 else 0
 
@@ -21,7 +21,7 @@ retain_bit retain = if retain then 16 else 0
 abbrev pub flags_of : Qos → Bool → TopicIdType → Flags
 flags_of qos retain kind = record { bits = qos_bits qos + retain_bit retain + kind_bits kind }
 
--- the flags of a CONNECT: whether the session begins anew, and whether there is a will
+-- the flags of a CONNECT: whether it is for a clean session, and whether there is a will
 abbrev pub connect_flags : Bool → Bool → Flags
 connect_flags clean will = record { bits = (if clean then 4 else 0) + (if will then 8 else 0) }
 

@@ -17,7 +17,7 @@ abbrev pub beginning : Option Frame → Awaited → Talk
 beginning frame awaited =
     record { awaited = awaited; pending = frame; planned = None; outcome = None }
 
--- a publication behind the registration of its topic's name
+-- a publication after the registration of its topic's name
 abbrev pub registering : Publication → List ℕ → ℕ → Talk
 registering p name id =
     record {
@@ -40,20 +40,20 @@ publishing_of p topic = record {
   outcome = outcome_at p.qos;
 }
 
--- what is planned is published, where something is
+-- what is planned is published, if something is
 abbrev pub planned_of : Option Publication → ℕ → Talk → Talk
 planned_of None topic talk = talk
 planned_of (Some p) topic talk = publishing_of p topic
 
--- How an exchange has ended where one more answer comes: its frame may have been sent again, so
--- what was accepted stays accepted; where nothing accepts, and it was only taken for that, a
--- refusal counts.
+-- How an exchange has ended if one more answer comes. Its frame may have been sent again, so what
+-- was accepted stays accepted. If nothing accepts, and it was only taken for accepted, a refusal
+-- counts.
 abbrev pub ended : Awaited → Option Outcome → Outcome → Outcome
 ended (waits.Refusal id) had outcome = outcome
 ended awaited (Some outcomes.Accepted) outcome = outcomes.Accepted
 ended awaited had outcome = outcome
 
--- the exchange behind a turn
+-- the exchange after a turn
 abbrev pub turned : Turn → Talk → Talk
 turned turns.Stay talk = talk
 turned (turns.Publish topic) talk = planned_of talk.planned topic talk
@@ -62,11 +62,12 @@ turned (turns.Release id) talk =
 turned (turns.End outcome) talk =
     record talk { outcome = Some (ended talk.awaited talk.outcome outcome) }
 
--- how a run ends where nothing has ended the exchange
+-- how a run ends if nothing has ended the exchange
 abbrev pub outcome_of_silence : Awaited → Bool → Outcome
 outcome_of_silence waits.Anything came = if came then outcomes.Accepted else outcomes.Unanswered
 outcome_of_silence awaited came = outcomes.Unanswered
 
+-- how a run ends: as the exchange did, else by silence
 abbrev pub outcome_of : Option Outcome → Awaited → Bool → Outcome
 outcome_of None awaited came = outcome_of_silence awaited came
 outcome_of (Some outcome) awaited came = outcome

@@ -36,11 +36,11 @@ turn_under id came turn = if came == id then turn else turns.Stay
 abbrev pub turn_by_code : ℕ → Turn
 turn_by_code code = if code == 0 then turns.End outcomes.Accepted else turns.End outcomes.Refused
 
--- what it says where only a refusal ends the exchange
+-- what a return code means if only a refusal ends the exchange
 abbrev pub turn_by_refusal : ℕ → Turn
 turn_by_refusal code = if code == 0 then turns.Stay else turns.End outcomes.Refused
 
--- a REGACK
+-- what a REGACK means: the publication by this id, or the end
 abbrev pub turn_by_reg_ack : ℕ → ℕ → Turn
 turn_by_reg_ack topic code = if code == 0 then turns.Publish topic else turns.End outcomes.Refused
 
@@ -69,7 +69,7 @@ turn_of waits.Farewell (frames.Disconnect duration) = turns.End outcomes.Accepte
 turn_of awaited (frames.Disconnect duration) = turns.End outcomes.Refused
 turn_of awaited f = turns.Stay
 
--- the message id of a frame; 0 where it has none
+-- the message id of a frame; 0 if it has none
 abbrev pub msg_id_of : Frame → ℕ
 msg_id_of (frames.Register topic id name) = id
 msg_id_of (frames.RegAck topic id code) = id
@@ -84,7 +84,7 @@ msg_id_of (frames.Unsubscribe flags id topic) = id
 msg_id_of (frames.UnsubAck id) = id
 msg_id_of f = 0
 
--- the message id of what is awaited; 0 where it has none
+-- the message id of what is awaited; 0 if it has none
 abbrev pub id_awaited : Awaited → ℕ
 id_awaited (waits.Registration id) = id
 id_awaited (waits.Subscription id) = id
@@ -108,19 +108,20 @@ OnProgress (turns.End outcomes.Unanswered) P = Unit {0}
 abbrev pub repeated_bits : ℕ → ℕ
 repeated_bits bits = if bits / 128 == 0 then bits + 128 else bits
 
+-- a frame as it is sent again: a PUBLISH has DUP, others stay as they are
 abbrev pub repeated : Frame → Frame
 repeated (frames.Publish flags topic id body) =
     frames.Publish (record { bits = repeated_bits flags.bits }) topic id body
 repeated f = f
 
--- what is awaited behind a publication, sections 6.6 and 6.8
+-- what is awaited after a publication, sections 6.6 and 6.8
 abbrev pub awaited_at : Qos → ℕ → Awaited
 awaited_at levels.One id = waits.Publication id
 awaited_at levels.Two id = waits.Receipt id
 awaited_at levels.Zero id = waits.Refusal id
 awaited_at levels.MinusOne id = waits.Refusal id
 
--- how a publication has ended when it is sent: where nothing answers it, it is taken for accepted
+-- how a publication has ended when it is sent: if nothing answers it, it counts as accepted
 abbrev pub outcome_at : Qos → Option Outcome
 outcome_at levels.One = None
 outcome_at levels.Two = None

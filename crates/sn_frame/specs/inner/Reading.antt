@@ -14,19 +14,19 @@ use Rattle.sn_frame.specs.declared.msg_type.MsgType.{MsgType}
 use Rattle.sn_frame.specs.declared.msg_type.MsgType.TheVariants as types
 use Rattle.sn_frame.specs.FlagBits.{kind_of}
 
--- what a reader may answer, where this is what there is to read: memory is wanted only where there
--- is something
+-- what a reader may answer, if this is what there is to read; only if there is something can it
+-- need memory
 abbrev pub Gives : {A : Type 0} → Option A → Result A FrameFault → Type 0
 Gives there (Ok x) = there ≡ Some x
 Gives there (Err faults.Memory) = there ≢ None
 Gives there (Err faults.Body) = there ≡ None
 Gives there (Err fault) = ⊥
 
--- the answer is not that memory is wanted
+-- the answer is not that memory ran out
 abbrev pub WantsNone : {A : Type 0} → Result A FrameFault → Type 0
 WantsNone answer = IfErr answer (λ e. e ≢ faults.Memory)
 
--- memory is wanted only where octets are copied
+-- memory is needed only if octets are copied
 abbrev pub WantsFor : {A : Type 0} → Bool → Result A FrameFault → Type 0
 WantsFor true answer = Unit {0}
 WantsFor false answer = WantsNone answer
@@ -55,12 +55,12 @@ copies msg_type body = false
 abbrev pub number : ℕ → ℕ → ℕ
 number high low = high * 256 + low
 
--- the frame, where there is no body
+-- the frame, if there is no body
 abbrev pub read_bare : List ℕ → Frame → Option Frame
 read_bare [] f = Some f
 read_bare body f = None
 
--- one octet
+-- the octet of a body that is one octet
 abbrev pub read_octet : List ℕ → Option ℕ
 read_octet (octet ∷ []) = Some octet
 read_octet body = None

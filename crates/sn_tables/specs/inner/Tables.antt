@@ -8,19 +8,19 @@ use Rattle.std.specs.List.{AllByRecursion}
 abbrev pub AllAbove : {E : Type 0} → (E → Ordering) → List E → Type 0
 AllAbove sought entries = AllByRecursion (λ a. sought a ≡ Greater) entries
 
--- what is sought stands at this place
+-- what is sought is at this place
 abbrev pub IsAt : {E : Type 0} → (E → Ordering) → List E → ℕ → Type 0
 IsAt sought [] i = ⊥
 IsAt sought (a ∷ rest) zero = (sought a ≡ Equal) × AllAbove sought rest
 IsAt sought (a ∷ rest) (suc i) = (sought a ≡ Less) × IsAt sought rest i
 
--- what is sought does not stand there and would go to this place
+-- what is sought is not there, and would go to this place
 abbrev pub IsGap : {E : Type 0} → (E → Ordering) → List E → ℕ → Type 0
 IsGap sought entries zero = AllAbove sought entries
 IsGap sought [] (suc i) = ⊥
 IsGap sought (a ∷ rest) (suc i) = (sought a ≡ Less) × IsGap sought rest i
 
--- what a search for it answers: the place where it stands, or else the one where it would go
+-- what a search for it answers: the place that it has, or else the place to which it would go
 abbrev pub IsPlace : {E : Type 0} → (E → Ordering) → List E → Result ℕ ℕ → Type 0
 IsPlace sought entries result =
     MatchResult result (λ at. (at < length entries) × IsAt sought entries at)

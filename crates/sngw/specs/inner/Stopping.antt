@@ -3,7 +3,8 @@ use Rattle.std.specs.Prelude.{ℕ}
 use Rattle.sngw.specs.declared.stop.Stop.{Stop}
 use Rattle.sngw.specs.declared.stop.Stop.TheVariants as stops
 
--- 1: what it was told is not good; 2: its journal is not; 3 to 5: what it stands on failed
+-- 1: its arguments or settings are not good; 2: its journal is not; 3 to 5: socket, memory or
+-- history failed
 abbrev pub status_of : Stop → ℕ
 status_of stops.Arguments = 1
 status_of stops.File = 1
