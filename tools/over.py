@@ -3,7 +3,7 @@
 Usage: over.py libs ROOT [CRATE ..]      builds the libraries of a clone that are not there, lowest first, four at a time
        over.py build ROOT CRATE ..        builds these libraries anew, one after the other, by all lanes
        over.py check ROOT CRATE [FLAG ..] checks a crate; what it proved is kept, and a second check is quick
-       over.py edit ROOT CRATE [EDIT ..]  tries edits that must fail, those named or all of must-fail/, over a copy of what was kept
+       over.py edit ROOT CRATE [EDIT ..]  tries edits that must fail, those named or all of must-fail/ and edits/, over a copy of what was kept
        over.py program ROOT CRATE ..      proves and builds programs, as out/NAME, and tests, as out/NAME_tests, and runs them as the gate would
 
 A library is looked for in ROOT/crates/NAME/out/rlib, and then in the clones that the variable OVER names (paths, `:` between
@@ -194,13 +194,13 @@ def edited(folder, path):
 def edit(root, name, names):
     """Tries edits; each is to be refused by the prover."""
     folder = f"{root}/crates/{name}"
-    found = sorted(os.listdir(f"{folder}/must-fail"))
+    found = sorted((it, part) for part in ("must-fail", "edits") if os.path.isdir(f"{folder}/{part}") for it in os.listdir(f"{folder}/{part}"))
     let_through = 0
-    for it in [one for one in found if not names or os.path.splitext(one)[0] in names]:
+    for it, part in [one for one in found if not names or os.path.splitext(one[0])[0] in names]:
         with tempfile.TemporaryDirectory() as top:
             copy = f"{top}/{name}"
-            shutil.copytree(folder, copy, ignore=shutil.ignore_patterns("rlib", "must-fail"))
-            why = edited(copy, f"{folder}/must-fail/{it}")
+            shutil.copytree(folder, copy, ignore=shutil.ignore_patterns("rlib", "must-fail", "edits"))
+            why = edited(copy, f"{folder}/{part}/{it}")
             if why:
                 print(f"{it}: BAD EDIT: {why}", flush=True)
                 let_through += 1

@@ -6,7 +6,7 @@
 A definition goes on in a new line behind its `=`; what is still too wide, and a clause, is broken where the fewest brackets are open,
 before the operator that binds least, and as far to the right as fits. A paragraph of comments with a line that is too wide is filled
 anew. Imports, attributes, tables and lines with a text in quotes are left as they are. Run `rt fmt` behind it, which lays the new lines
-out, and look at what an edit of must-fail/ names: its line may be two lines now.
+out, and look at what an edit of must-fail/ or edits/ names: its line may be two lines now.
 """
 import pathlib
 import re
