@@ -59,10 +59,10 @@ crates/sngw/out/sngw: $(SOURCES)
 	$(call build,sngw,half an hour)
 
 daemon: crates/sngw/out/sngw
-	@python3 bench/daemon.py crates/sngw/out/sngw
+	@python3 trials/daemon.py crates/sngw/out/sngw
 
 field: crates/sngw/out/sngw
-	@python3 bench/field.py crates/sngw/out/sngw
+	@python3 trials/field.py crates/sngw/out/sngw
 
 crates/sn_client/out/sn_client: $(SOURCES)
 	$(call build,sn_client,some minutes)

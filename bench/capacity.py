@@ -17,6 +17,7 @@ import tempfile
 import time
 
 sys.dont_write_bytecode = True
+sys.path.insert(0, os.path.join(os.path.dirname(os.path.dirname(os.path.abspath(__file__))), "trials"))
 from compaction import HEADER, SEAL, put, record, take
 from gateway import (CONNECTED, FOREVER, GONE, Client, Gateway, connect, frame, leave, publish, published, register, search, subscribe)
 

@@ -16,6 +16,7 @@ import tempfile
 import time
 
 sys.dont_write_bytecode = True
+sys.path.insert(0, os.path.join(os.path.dirname(os.path.dirname(os.path.abspath(__file__))), "trials"))
 from gateway import Client, Gateway, expect, frame, search, until
 
 HEADER = bytes.fromhex("534e4a31 01 0000000000000001")

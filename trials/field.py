@@ -1,7 +1,7 @@
 #!/usr/bin/env python3
 """Plays a take-over at three linked gateways, and tells it line by line: a gateway is killed, and no message is lost.
 
-Usage: bench/field.py PROGRAM [FOLDER]
+Usage: trials/field.py PROGRAM [FOLDER]
 
 The settings are those of examples/field; their ports must be free. The journals lie in FOLDER, which is made and must not be there before, or
 else in a folder that is gone afterwards. Status 0 only where each message came, and within a minute.

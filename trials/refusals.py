@@ -1,7 +1,7 @@
 #!/usr/bin/env python3
 """Refuses memory: plays the rows of gw_sim with one growth refused in each, and looks whether that is told and nothing else is printed.
 
-Usage: bench/refusals.py [--growth N] [--most M] [--times T] [--seed S] [--rows WORD]
+Usage: trials/refusals.py [--growth N] [--most M] [--times T] [--seed S] [--rows WORD]
        (600, 60, 4 and 1 where nothing is said; rows with WORD in their names)
 
 The simulator is built by `rt try`, not proved, with the Nth growth of the program refused. Where that falls depends on what stands in front:

@@ -1,7 +1,7 @@
 #!/usr/bin/env python3
 """Tries docs/field.html in a browser without a screen: needs chromium.
 
-Usage: bench/field_page.py [--shots FOLDER]
+Usage: trials/field_page.py [--shots FOLDER]
 
 The stories in the page must be those of examples/, word for word, with the output that the rows of crates/gw_sim have for these scripts.
 Then a copy of the page plays both stories to their end by its own buttons, steps back and on by keys, opens a transcript of a reader's,

@@ -1,9 +1,9 @@
 #!/usr/bin/env python3
 """Throws hostile datagrams and link streams at a daemon, and looks at what it answers, at its memory, and at how it opens again.
 
-Usage: bench/hostile.py PROGRAM TOOL [--datagrams N] [--streams N] [--fill N] [--growth MIB] [--seed N]
+Usage: trials/hostile.py PROGRAM TOOL [--datagrams N] [--streams N] [--fill N] [--growth MIB] [--seed N]
 
-TOOL is bench/hostile.c, built. Datagrams and streams come in two halves each. What the gateway may rightly hold is bounded: 16 client names,
+TOOL is trials/hostile.c, built. Datagrams and streams come in two halves each. What the gateway may rightly hold is bounded: 16 client names,
 each with at most 1,024 messages of at most 64 octets; of the streams, one message or session more for each delta that is well-formed. So
 VmRSS may grow in the first half, and by at most MIB (64) in the second.
 

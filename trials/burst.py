@@ -1,7 +1,7 @@
 #!/usr/bin/env python3
 """What a client that wakes is sent at once, over a slow wire: does all that waits at quality of service 0 come?
 
-Usage: bench/burst.py PROGRAM [--messages N] [--octets N] [--rate RATE]
+Usage: trials/burst.py PROGRAM [--messages N] [--octets N] [--rate RATE]
 
 At quality of service 0 a gateway sends all that waits for a client in one step, and nothing is sent again (MQTT-SN 1.2 section 6.14). The wire
 takes RATE (10mbit), so the system has no room for most of that at first. A gateway runs in one network namespace and its clients in another, with a
@@ -113,7 +113,7 @@ def tried(given) -> int:
 
 
 def main() -> int:
-    reader = argparse.ArgumentParser(usage="bench/burst.py PROGRAM [--messages N] [--octets N] [--rate RATE]")
+    reader = argparse.ArgumentParser(usage="trials/burst.py PROGRAM [--messages N] [--octets N] [--rate RATE]")
     reader.add_argument("program")
     reader.add_argument("--messages", type=int, default=300)
     reader.add_argument("--octets", type=int, default=1000)

@@ -416,6 +416,6 @@ int main(int count, char **words)
     for (int turn = 0; turn < 10; turn++) next();
     if (!strcmp(what, "datagrams") && count == 6 && n[3] > 0 && n[5] > 0) datagrams(n[2], n[3], n[5]);
     else if (!strcmp(what, "streams") && count == 5 && n[3] > 0) streams(n[2], n[3]);
-    else stop("usage: hostile datagrams|streams .. (the head of bench/hostile.c says what of)");
+    else stop("usage: hostile datagrams|streams .. (the head of trials/hostile.c says what of)");
     return 0;
 }

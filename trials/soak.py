@@ -1,7 +1,7 @@
 #!/usr/bin/env python3
 """Tries a field of linked daemons for a long time: random clients, links that are cut, gateways that are killed, disks that are full.
 
-Usage: bench/soak.py PROGRAM MINUTES [--seed N] [--gateways N] [--look PROGRAM] [--steps N] [--patience N] [--keep FOLDER] [--older]
+Usage: trials/soak.py PROGRAM MINUTES [--seed N] [--gateways N] [--look PROGRAM] [--steps N] [--patience N] [--keep FOLDER] [--older]
 
 Each pair of gateways has a link, by way of a proxy that can be cut. In rounds of 20 to 100 seconds clients connect, sleep, wake at other
 gateways and publish at every quality of service, while links are cut, gateways are killed by `kill -9` and started again on their

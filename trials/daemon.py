@@ -1,7 +1,7 @@
 #!/usr/bin/env python3
 """Tries the daemon: what it tells and its statuses, clients over UDP, linked gateways, kills, the turn of shifts, hostile octets.
 
-Usage: bench/daemon.py PROGRAM [PART..] [--kills N] [--datagrams N] [--streams N] [--requests N] [--growth MIB] [--seed N] [--seconds N]
+Usage: trials/daemon.py PROGRAM [PART..] [--kills N] [--datagrams N] [--streams N] [--requests N] [--growth MIB] [--seed N] [--seconds N]
 
 The parts, all where none is named:
 
