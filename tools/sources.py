@@ -22,7 +22,7 @@ class Item:
         self.kind, self.crate, self.path, self.line = kind, crate, path, line
         self.name, self.comment, self.text = name, comment, text
         self.public, self.module, self.model, self.constructors = False, (), None, []
-        self.scans, self._cites = [], None
+        self.clauses, self.others, self.value, self.scans, self._cites = [], [], None, [], None
 
     def cites(self):
         """The items that it names itself, and the words of the toolchain, each once."""
@@ -31,8 +31,32 @@ class Item:
             self._cites = [word for word in found if isinstance(word, Item)], [word for word in found if isinstance(word, str)]
         return self._cites
 
+    def part(self, names):
+        """This contract with the clauses of these names alone; a clause without a name goes by an empty one."""
+        made = Item(self.kind, self.crate, self.path, self.line, self.name, self.comment, [])
+        begins = [i for i, line in enumerate(self.text) if CLAUSE.match(line)]
+        made.text = self.text[:begins[0]] if begins else self.text[:]
+        while made.text and made.text[-1].lstrip().startswith("//"):
+            made.text.pop()
+        for name, begin, end, scan in zip(self.clauses, begins, begins[1:] + [len(self.text)], self.scans):
+            if name in names:
+                made.clauses.append(name)
+                made.text += [line for line in self.text[begin:end] if not line.lstrip().startswith("//")]
+                made.scans.append(scan)
+        return made
+
     def place(self):
         return "/".join(self.path.relative_to(TOP / "crates").parts)
+
+
+def cone(item):
+    """All definitions that an item stands on."""
+    found, todo = {}, [item]
+    while todo:
+        more = [other for other in todo.pop().cites()[0] if other not in found]
+        found.update(dict.fromkeys(more))
+        todo += more
+    return [other for other in found if other.kind == "definition"]
 
 
 # ---- words of a text
@@ -121,6 +145,18 @@ class Scope:
                 self.book.unknown.add((word, text.strip().split("\n")[0][:70]))
 
 
+def renamed(item):
+    """The words of an item that a use line brings in under another name than their own, each with where it is from and that name."""
+    for text, scope, _ in item.scans:
+        words = {token.split(".")[0] for token in tokens_of(text)}
+        while isinstance(scope, Scope):
+            for word in words & scope.names.keys():
+                base, name = scope.names[word]
+                if word != (name or base[-1]):
+                    yield word, (base, name)
+            scope = scope.around
+
+
 class RustScope:
     """What words mean in Rust: types, and type parameters with their traits' ghosts."""
 
@@ -207,7 +243,7 @@ def read_specs(book, crate, path):
 
 RUST_ITEM = re.compile(r"(pub(?:\([a-z ]+\))?\s+)?(ghost\s+use|ghost|use|mod|fn|struct|enum|trait|impl|const|static|type)\b")
 GHOST_FIELD = re.compile(r"\bghost\s+\w+\s*:\s*\{([^\n]*)\}")
-CLAUSE = re.compile(r"\s*(?:ensures|requires|decreases)\b\s*\w*\s*(?=\{)")
+CLAUSE = re.compile(r"\s*(?:ensures|requires|decreases)\b\s*(\w*)\s*(?=\{)")
 
 
 def masked(text):
@@ -247,9 +283,9 @@ class RustItem:
             self.signature = mask[self.begin:clause.start() if clause else self.head]
             self.head = clause.start() if clause else self.head
             while CLAUSE.match(mask, self.head):
-                brace = CLAUSE.match(mask, self.head).end()
-                self.head = closing(mask, brace)
-                self.clauses.append(mask[brace + 1:self.head - 1])
+                found = CLAUSE.match(mask, self.head)
+                self.head = closing(mask, found.end())
+                self.clauses.append((found[1], mask[found.end() + 1:self.head - 1]))
         body = until(mask, self.head, "{;")
         self.end = self.head if self.word in ("use", "ghost use", "ghost", "const", "static", "type") else (
             closing(mask, body) if mask[body:body + 1] == "{" else body + 1)
@@ -340,7 +376,8 @@ class Source:
         name = owner + re.compile(r"fn\s+(\w+)").search(self.mask, item.begin)[1]
         made = self.make("contract", item.begin, item.head, name)
         bound = re.findall(r"(\w+)\s*:", item.signature) + ["self", "result"]
-        made.scans = [(clause, scope, bound) for clause in item.clauses]
+        made.clauses = [name for name, _ in item.clauses]
+        made.scans = [(clause, scope, bound) for _, clause in item.clauses]
         made.scans.append((item.signature + " " + title, RustScope(self.book, self, {}, True), []))
         made.public = public
         self.book.contracts.setdefault((self.crate, name), []).append(made)
@@ -393,6 +430,7 @@ class Source:
         made.scans.append((owner.scans[0][0], RustScope(self.book, self, {}, True), []))
         if value:
             owner.scans = value
+            owner.value = value[0][0].strip()
             owner.comment.append(f"Clauses see it as `{value[0][0]}`.")
 
     def find_type(self, name):

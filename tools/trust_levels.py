@@ -1,0 +1,148 @@
+"""What docs/TRUST.md says in words, which clauses each level shows, and which words it names and does not enter."""
+
+# How the page begins: the title, then prose.
+HEAD = (["# What has to be believed", ""], [
+    "You doubt that a proof says what its project claims. This page is for you, and for one evening. It begins with the promise in "
+    "five sentences, and each names the clauses that say it exactly. Then come these clauses, and the definitions that they are "
+    "written in. The prover shows that the programs meet the clauses. Whether the clauses say what you need is yours to judge.", "",
+    "Read from the top, and stop after any level. Each level uses words of the levels after it. At the end of a level is a list of its "
+    "words, with links to where they are."])
+
+# What comes between level 1 and the code.
+READING = (["## How to read the code", ""], [
+    "A law is a function that does nothing. Each of its `ensures` clauses is a type, and the proof of the clause is a value of that "
+    "type. Read `(x : A) → B` as *for all*, `(x : A) × B` as *there is*, `A → B` as *if*, `×` as *and*, `⊎` as *or*, `⊥` as *never*, "
+    "`Unit {0}` as *always*. `AllByRecursion P list` says `P` of each element of a list, `slice_get list i ≡ Some x` that it has `x` "
+    "in place `i`. `IfOk` and `IfSome` speak of a result only if there is one. `find` gives the first entry of a name. In clauses of "
+    "a program `x.now` is a "
+    "value that is only read, and `x.old` and `x.new` are one that changes. A word that the page neither defines nor names is the "
+    "toolchain's.", "",
+    "What the clauses assume is in [PROVED](PROVED.md), and what you trust beside them in [README](../README.md#trust-and-licence). "
+    "`make trust` writes this page from the sources, and `make test` compares it with them. It also writes the long form into "
+    "`out/trust/`: six files that follow every word to its end, with the step table, the bytes and the disk."], [
+    "Clauses see values of these types as plain lists and numbers:"])
+
+# Level 1: for each sentence its title, what it says, the clauses that say so, its words, and what it does not say.
+SENTENCES = [
+    ("Sets only grow.",
+     "Take any run of a field, and two moments of it. What a gateway has made and taken by the first moment, it has at the second, "
+     "whatever came and whatever failed in between.",
+     ["field_laws::nothing_vanishes.grows"],
+     "A *run* is a list of events, with the answer to each and the field after them: `Run`, [level 3]. Events are datagrams, ticks, "
+     "deltas, digests that go to a peer, writes that fail, compactions and restarts. `taken` is the set of a gateway, and `Within` "
+     "compares two sets: [level 2].",
+     "That two gateways ever exchange what they have. If memory runs out, a run ends there, and nothing is said of what follows. No "
+     "event alters a delta on its way, and none takes a gateway's disk away."),
+    ("What waits in a set waits in every larger set, or is acknowledged there.",
+     "A message that waits for a client in a set waits for it in each set that contains this one, unless the larger set has its "
+     "acknowledgement. So a message that waits at a gateway waits there at every later moment of the run, or that gateway's set has "
+     "its acknowledgement.",
+     ["rep_model::pending_laws.leaves", "field_laws::nothing_vanishes.stays"],
+     "`view c S` is what the set says about a client. Its `pending` are the messages that wait: those of the set that the set does not "
+     "acknowledge. Both are in [level 2].",
+     "That the message ever reaches the client. That needs a client that answers, and time."),
+    ("A gateway acknowledges only for a cause.",
+     "A step for a frame acknowledges only messages that wait for the client that the frame is from, and each for one of four causes. "
+     "The client begins a clean session and is accepted. It answers for the message, or refuses it. The step sends the message at "
+     "quality of service 0. No topic id is left for the message. A tick acknowledges only for the last two.",
+     ["cause_laws::acknowledged_for_cause.steps", "cause_laws::acknowledged_for_cause.ticks"],
+     "A *step* is what the step table plans for a frame: operations for the set, `plan.ops`, and datagrams, `plan.sends`. "
+     "`IsForCause` and `IsTimely` list the causes: [level 4].",
+     "Anything about runs: the law is about one step. If the write of a step's operations fails, its datagrams are not sent, but the "
+     "operations may be on the disk, and a restart reads them back (`reopened`, [level 3]). So a message at quality of service 0 may "
+     "leave although it was never sent. A message that a clean CONNECT ends may leave although that CONNECT was refused. No clause "
+     "leads from an acknowledgement in a set back to its step. In two places the law allows more than the step table does: "
+     "`IsRefusal` and `IsSpent`. Whoever sends from a client's address counts as that client."),
+    ("PUBACK means put.",
+     "If a step answers a PUBLISH at quality of service 1 with PUBACK, code 0, then it makes one message for each recipient. Once the "
+     "operations of the step are in the gateway's set, each of these messages waits there for its client.",
+     ["put_laws::accepted_is_put.puback", "put_laws::accepted_is_put.recipients", "put_laws::accepted_is_put.once",
+      "put_laws::accepted_is_put.kept"],
+     "A *recipient* is a client whose view has a session with a filter that matches, and fewer than 1,024 messages that wait. If it "
+     "gets the message at quality of service 0, it must also be Active, Asleep or Awake: `qos_for`, [level 4]. `kept` has a premise, "
+     "`AreFlush`. Each gateway that the events of a run reach meets it (`field_laws::steady_field.steady`).",
+     "Anything about runs: this law too is about one step. `OwnStep`, [level 3], sends the datagrams of a plan only with its "
+     "operations in the journal and in the set, and the second sentence says that the messages then stay. No clause joins the three. "
+     "The recipients are those that *this* gateway's set shows: a subscription at another gateway counts once its operations have "
+     "come."),
+    ("A crash keeps the set.",
+     "After any run, whatever a crash leaves of a gateway's disk is a journal that opens, and its records count as the gateway's set. "
+     "If the gateway's last write failed, they may instead count as that set with the whole of the delta that was being written.",
+     ["gw_world::run.ok"],
+     "`run` is a program that plays a run, restarts included, and `IsWorld` is its result. `Lasts` says what a crash leaves of one "
+     "gateway's disk. All are in [level 3]. To *count as* a set is to keep what must be kept of it: `CountsAs`, and `keep` in "
+     "[level 2].",
+     "Anything about your disk. The disks of `run` are in memory, and they are proved to be honest "
+     "(`jr_disk::memory_disk_is_honest`): a crash keeps the synced bytes and a front part of the rest. No clause says that real files "
+     "are honest. A gateway on any honest disk has the clauses `event`, [level 3], for one call each. In a run only appends fail, and "
+     "the syncs after them, and never an opening."),
+]
+
+# Levels 2 to 4: title, introduction, and the clauses, function by function. An empty list means the one without a name.
+LEVELS = [
+    ("a set", [
+        "A set is a list of operations: changes of a session, messages, and acknowledgements. Three readers look into it: "
+        "`operation_at`, `put_at` and `is_acknowledged`. Two sets are compared by what these find. So order and repeats do not matter, "
+        "as long as no name has two contents.", "",
+        "`leaves` says that a join loses no message. The clauses of `join_laws` say that order, groups and repeats of joins make no "
+        "difference. Those of `keep_laws` say that what `keep` forgets makes none either, now or after later joins. What a change "
+        "makes of a session is named and not entered: `applied`."], [
+        ("rep_model::pending_laws", "leaves"),
+        ("rep_model::join_laws", "idempotent commutative associative equal"),
+        ("rep_model::keep_laws", "joined seen")]),
+    ("a field", [
+        "A field is a list of gateways, and of the deltas that they made or answered. `After` says what one event may do to it: "
+        "`OwnStep` a datagram or a tick, `TakeStep` a delta that comes, `restarted` a stop and a new start. `run` plays events with the "
+        "gateway's own code on disks in memory, and `run.ok` ties this whole level to that code. The clauses `event` do so for single "
+        "calls, on any disk; `CanBeSaid` has the exceptions. (These calls have two more clauses, `call` and `taken`, about the same "
+        "event: see part 5 of the long form.) "
+        "The step table and the bytes of frames, deltas and journals are named and not entered.", "",
+        "`consistent` and `never` say that no name has two contents in the whole field, and that no event is answered by Conflict. "
+        "`alike` and `shown` say that two gateways that have taken the same operations have equal sets and show the same.", "",
+        "Not said: that `run` ever succeeds. It may always report that memory ran out, and tests show that it does not. An event that "
+        "names no gateway or no delta also stops it."], [
+        ("field_laws::nothing_vanishes", "grows stays"),
+        ("field_laws::consistent_field", "consistent never"),
+        ("field_laws::settled_field", "alike shown"),
+        ("gw_world::run", "ok"),
+        ("gw_node::Node::frame", "event"),
+        ("gw_node::Node::take", "event"),
+        ("gw_node::Node::tick", "event"),
+        ("gw_node::Node::compact", "event"),
+        ("gw_node::Node::reopen", "event")]),
+    ("what a gateway puts, and why it acknowledges", [
+        "These laws are about one step, which `IsPlan` of [level 3] gives to the gateway. `step` is the step table for a frame, and "
+        "`tick` what is due as time goes by: both are named and not entered. `seen` is what they read of the set, `local` what else the "
+        "gateway knows, and `a` the address that the frame is from. `pubrec` says of PUBREC, at quality of service 2, what `puback` says "
+        "of PUBACK, unless the message id was received before."], [
+        ("cause_laws::acknowledged_for_cause", "steps ticks"),
+        ("put_laws::accepted_is_put", "puback pubrec recipients once kept")]),
+]
+
+# Words that are named and not entered: CRATE/FILE/NAME. Faults and members of traits need no entry: none is entered.
+NAMED = set("""
+    sn_frame/Bodies/IsValue sn_frame/Grammar/Spells sn_frame/Grammar/spelling sn_frame/flags/Flags sn_frame/flags/Qos
+    sn_frame/frame/Frame sn_tables/Subscriptions/subscribed_qos sn_session/Session/applied sn_session/Session/empty_session
+    sn_session/change/SessionOp sn_session/outbound/Outbound sn_session/outbound/Phase sn_session/presence/Presence
+    sn_session/session/Session rep_ops/Making/AreApart rep_ops/Making/IsDeltaOf rep_ops/Spelling/IsWithinLimit
+    rep_model/Fresh/next_epoch rep_model/Fresh/next_seq rep_model/Limits/first_passed rep_model/Roomy/IsRoomy
+    rep_model/Views/is_named rep_model/Views/named rep_model/fault/Limit jr_disk/disk/Plan jr_disk/disk/Slot
+    jr_journal/Faults/fault_of jr_journal/Faults/is_fresh jr_journal/Parts/disk_of jr_journal/Parts/gateway_of
+    jr_journal/Parts/slot_of jr_journal/Records/records jr_journal/journal/Journal sn_local/Locals/after_all
+    sn_local/Locals/owned sn_local/config/Addr sn_local/config/Config sn_local/local/Binding sn_local/local/LocalChange
+    sn_local/local/Timer sn_local/local/WillDialog gw_answer/Answers/only_sends gw_answer/Answers/said gw_answer/out/Out
+    gw_answer/refusal/Refusal gw_answer/step/Step sn_plan/Drafts/session_after sn_exchange/Delivery/id_to_tell
+    sn_exchange/Exchanges/open_exchange sn_exchange/Following/peer_at sn_exchange/Forms/form_of sn_exchange/Forms/publication
+    sn_exchange/form/Form sn_exchange/peer/Peer sn_publish/Publishing/publication_meant sn_publish/meaning/Meant
+    sn_deliver/Steps/row_for sn_deliver/Steps/step sn_tick/Ticking/tick cause_laws/Causes/gives_message
+    cause_laws/Causes/gives_topic gw_event/Drives/has_more gw_event/Drives/left_by gw_event/Drives/opened
+    gw_event/Drives/torn gw_event/Drives/with_record gw_event/Event/CompactStep gw_event/Event/DigestStep
+    gw_event/Event/HasNoDelta gw_event/Event/IsConflict gw_event/Event/IsWritable gw_event/Event/ReplyStep
+    gw_event/Event/ViewStep gw_event/Excuses/IsExcuse gw_event/Occasions/IsNoFrame gw_node/Failures/failed
+    gw_node/Parts/is_halted gw_node/Parts/state_of gw_node/Standing/Agrees gw_node/Standing/IsForeseen
+    gw_world/Places/place_of gw_world/Steps/AnswerStep
+""".split())
+
+# What comes before the words that are named.
+ENDING = (["## Words that are named", ""], [
+    "The levels use these words and do not enter them. Each has its comment here, and a link to its file."])
