@@ -1,8 +1,8 @@
-"""Writes the man pages, out of docs/: no text of theirs stands anywhere else.
+"""Writes the man pages from docs/, which has all of their text.
 
 Usage: man.py FOLDER
 
-Status 1 where a section that a page is made of is not there.
+Status 1 if a section is missing of which a page is made.
 """
 import os
 import re
@@ -10,19 +10,23 @@ import sys
 
 TOP = os.path.dirname(os.path.dirname(os.path.abspath(__file__)))
 
-# Each page: its section, what it is in a line, and its parts: a document, and the headings that are taken from it, or all of it.
+# Each page: its section, what it is in a line, and its parts. A part is a document, with the
+# headings that are taken from it; None takes all of it.
 PAGES = {
     "sngw": (8, "a gateway of MQTT-SN 1.2 that is also the broker", [
-        ("OPERATE.md", ["Command line", "Settings", "What it prints", "When something is wrong", "Stopping it", "Disks",
-                        "A number is used once", "When a disk fails", "What is not protected", "Reporting a fault"])]),
+        ("OPERATE.md", [
+            "Command line", "Settings", "What it prints", "When something is wrong", "Shifts",
+            "Stopping it", "Disks", "When a disk fails", "Links", "A number is used once",
+            "What is not protected", "Reporting a fault"])]),
     "sn_client": (1, "a client of MQTT-SN 1.2 for a person at a terminal", [("TRY.md", None)]),
     "gw_sim": (1, "plays scripts at simulated MQTT-SN gateways", [("SIMULATOR.md", None)]),
-    "jr_look": (8, "shows what a start would read of a gateway's journal", [("OPERATE.md", ["Reading a journal"])]),
+    "jr_look": (8, "shows what a start would read of a gateway's journal", [
+        ("OPERATE.md", ["Reading a journal"])]),
 }
 
 
 def sections(text):
-    """The sections of a document: heading and lines; what stands in front of the first has the heading Description."""
+    """The sections of a document: heading and lines. Text before the first is "Description"."""
     found, lines, is_code = [], [], False
     heading = "Description"
     for line in text.splitlines():
@@ -42,20 +46,30 @@ def plain(text):
 
 
 def inline(text):
-    """Code and what is bold in bold; of a link its text."""
+    """Code and bold text in bold. Of a link its text, or nothing if it has brackets of its own."""
+    text = re.sub(r" ?\(\[[^\]]*\]\([^)]*\)\)", "", text)
     text = re.sub(r"\[([^\]]*)\]\([^)]*\)", r"\1", text)
     parts = re.split(r"(`[^`]*`|\*\*[^*]+\*\*|\*[^*]+\*)", text)
     made = ""
     for part in parts:
-        if len(part) > 2 and part[0] == part[-1] and part[0] in "`*":
-            made += ("\\fI" if re.fullmatch(r"\*[^*]+\*", part) else "\\fB") + plain(part.strip("`*")).removeprefix("\\&") + "\\fR"
+        if len(part) > 2 and part[0] == part[-1] == "`":
+            made += f"\\fB{inner(part[1:-1])}\\fR"
+        elif len(part) > 2 and part[0] == part[-1] == "*":
+            font = "B" if part.startswith("**") else "I"
+            made += f"\\f{font}{inner(part.strip('*').replace('`', ''))}\\fR"
         else:
-            made += plain(part).removeprefix("\\&") if made else plain(part)
+            made += inner(part) if made else plain(part)
     return made
 
 
+def inner(text):
+    """A text that roff takes as it is, within a line."""
+    return plain(text).removeprefix("\\&")
+
+
 def cells(line):
-    return [cell.strip().replace("\\|", "|") for cell in re.split(r"(?<!\\)\|", line.strip().strip("|"))]
+    found = re.split(r"(?<!\\)\|", line.strip().strip("|"))
+    return [cell.strip().replace("\\|", "|") for cell in found]
 
 
 def joined(parts):
@@ -71,7 +85,8 @@ def table(lines):
     heads, made = cells(lines[0]), []
     for line in lines[2:]:
         row = cells(line)
-        rest = [f"{head}: {cell}" if len(row) > 2 and head else cell for head, cell in zip(heads[1:], row[1:]) if cell]
+        named = [(head, cell) for head, cell in zip(heads[1:], row[1:]) if cell]
+        rest = [f"{head}: {cell}" if len(row) > 2 and head else cell for head, cell in named]
         made += [".TP", inline(row[0]), inline(joined(rest)) or "\\&"]
     return made
 
@@ -98,7 +113,8 @@ def block(lines, first):
         return table(lines[first:last]), last
     if line.startswith("#"):
         return [f".SS {inline(line.lstrip('#').strip())}"], last
-    while last < len(lines) and not is_new(lines[last].removeprefix("  ") if line.startswith("- ") else lines[last]):
+    indent = "  " if line.startswith("- ") else ""
+    while last < len(lines) and not is_new(lines[last].removeprefix(indent)):
         last += 1
     text = inline(" ".join(it.strip() for it in lines[first:last]).removeprefix("- "))
     return ([".IP \\(bu 2", text] if line.startswith("- ") else [".PP", text]), last
