@@ -4,8 +4,8 @@
 //! (addresses, timers, will dialogs), the disk under it, octet by octet, and the delta that it
 //! refused when that disk failed. What a call does to it is one relation, `Event`, with all cases:
 //! datagrams, ticks, deltas, views, digests, answers, compactions, reopenings; a gateway that is
-//! halted, a write that fails, and want of memory. A node meets it call by call (`gw_node`), a
-//! field is a list of such gateways (`gw_world`), and each call in the history of a gateway that
+//! halted, a write that fails, and memory that runs out. A node meets it call by call (`gw_node`).
+//! A field is a list of such gateways (`gw_world`), and each call in the history of a gateway that
 //! many threads call is such an event (`gw_shift`).
 //!
 //! The definitions are in `specs/`, to be read in this order:
@@ -14,6 +14,6 @@
 //!   the failure that is arranged.
 //! - `Gateways`: a gateway, a new one, and one that is opened again.
 //! - `Occasions`: a datagram or a tick, and the plan for it by the step table.
-//! - `Excuses`: what a client is told where the disk failed.
+//! - `Excuses`: what a client is answered if the disk failed.
 //! - `Event`: what each call may do, and answer.
 #![tactic(auto)]

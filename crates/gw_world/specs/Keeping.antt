@@ -14,7 +14,7 @@ pub record IsShown {D : Type 0} {G : Ghosts D} (gateway : Gateway) (state : Stat
   pub fed : G.starved (disk_of state.journal) ≡ false
   pub lasts : G.honest → Lasts gateway
 
--- each node stands for its gateway so
+-- each node of the world stands for its gateway of the field, one by one
 abbrev pub AreShown : {D : Type 0} {G : Ghosts D} → List Gateway → List (State G) → Type 0
 AreShown [] [] = Unit {0}
 AreShown (gateway ∷ gateways) (state ∷ states) = IsShown gateway state × AreShown gateways states

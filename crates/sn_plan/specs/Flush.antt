@@ -22,7 +22,8 @@ pub record IsFlush (g : ℕ) (c : List ℕ) (S : List Op) : Type 0 where
   pub nothing_behind : (epoch k : ℕ) → visible c S ≡ Some (stamp_of epoch g)
       → length (history c S) ≤ k → operation_at c S (stamp_of epoch g, k) ≡ None
 
--- that holds for every client
+-- the set is flush for gateway g: each client that g owns has a session, and no operation after
+-- a gap
 abbrev pub AreFlush : ℕ → List Op → Type 0
 AreFlush g S = (c : List ℕ) → IsFlush g c S
 

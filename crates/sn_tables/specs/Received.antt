@@ -12,7 +12,7 @@ with_received id ids = with_entry nat_cmp id ids
 abbrev pub without_received : ℕ → List ℕ → List ℕ
 without_received id ids = filter (λ n. not (n == id)) ids
 
--- whether an id is there
+-- whether a message id was received at quality of service 2 and is not released
 abbrev pub is_received : ℕ → List ℕ → Bool
 is_received id ids = list_any (λ n. n == id) ids
 

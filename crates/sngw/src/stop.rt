@@ -30,7 +30,7 @@ pub enum Stop {
     /// The journal cannot be opened. That was printed.
     #[error("journal")]
     Opening,
-    /// The journal cannot be opened anew behind a shift, for the fault of this number.
+    /// The journal cannot be opened again after a shift, for the fault of this number.
     #[error("journal J{0}")]
     Reopening(u8),
     /// A socket cannot be had, or a receive failed.
