@@ -13,7 +13,9 @@ import sys
 import time
 
 KINDS = ("proof", "tests", "edits")
+# The line of the whole run, and the task whose processor seconds are the unit of the measure.
 WHOLE = ("all", "whole")
+UNIT = ("sn_frame", "proof")
 TICKS = os.sysconf("SC_CLK_TCK")
 
 
@@ -129,11 +131,30 @@ def table(crates, tasks):
     print(f"{'all':16} {minutes(end):>14} {'':8} {'':8}   {minutes(whole[0]):>16} {minutes(whole[1]):>8} {minutes(whole[2]):>8}")
 
 
+def dearest(tasks, most=10):
+    """Prints the tasks that took most of the processor."""
+    print(f"\nthe {most} dearest tasks (minutes of a processor):")
+    for crate, kind in sorted(tasks, key=lambda it: -tasks[it][2])[:most]:
+        print(f"  {crate:16} {kind:6} {minutes(tasks[crate, kind][2])}")
+
+
+def measure(tasks, whole):
+    """Prints the measure: what the whole run took, in proofs of sn_frame. It depends little on the machine."""
+    unit = tasks.get(UNIT, (0, 0, 0))[2]
+    if not whole or not unit:
+        print("\nno measure: the log lacks the whole run, or the proof of sn_frame")
+        return
+    _, end, work = whole
+    print(f"\nthe whole run: {end / 60:.1f} minutes, {work / 60:.1f} of a processor; the proof of sn_frame: {unit / 60:.1f}")
+    print(f"measure of the gate, in proofs of sn_frame: {work / unit:.1f}")
+
+
 def main(words):
     log, path, *command = words
     if command:
         return run(log, command)
     crates, tasks = read_crates(path), read_tasks(log)
+    whole = tasks.pop(WHOLE, None)
     if not tasks:
         print("no task was seen")
         return 1
@@ -142,6 +163,8 @@ def main(words):
     for crate, kind in chain(crates, tasks):
         first, last, _ = tasks[crate, kind]
         print(f"  {crate:16} {kind:6} {minutes(first)} to {minutes(last)}")
+    dearest(tasks)
+    measure(tasks, whole)
     return 0
 
 

@@ -1,5 +1,6 @@
 #!/bin/sh
-# The minutes of the gate: of each crate's proof, tests and edits, and the chain that nothing could have shortened but itself.
+# The minutes of the gate: of each crate's proof, tests and edits, the chain that ended last, the dearest tasks, and the
+# measure of the gate: the processor seconds of the whole run divided by those of the proof of sn_frame in the same run.
 #
 # Usage: bench/gate.sh        runs `make test`, prints its minutes, and leaves them in gate.log
 #        bench/gate.sh LOG    prints the minutes of an earlier run
