@@ -1,35 +1,24 @@
 #!/usr/bin/env python3
-"""Writes the rows that are long because a limit is far away: script and expected output.
+"""The rows that are long because a limit is far away. `join_rows.py` asks for them; `join_rows.py --show NAME` prints one.
 
 Each is counted out here line by line, without a model of the gateway: a row is a list of pairs of a line and what it prints.
 """
 
-import os
-
-FOLDER = os.path.dirname(os.path.abspath(__file__))
-
 
 class Row:
-    """A row in the making: lines of the script, lines of the output, and how many deltas were made."""
+    """A row in the making: pairs of a line and what it prints, and how many deltas were made."""
 
     def __init__(self, *gateways):
-        self.script = ["gateway %d" % gateway for gateway in gateways]
-        self.printed = []
+        self.lines = [("gateway %d" % gateway, []) for gateway in gateways]
         self.deltas = 0
 
     def line(self, line, *printed):
-        self.script.append(line)
-        self.printed += printed or ["quiet"]
+        self.lines.append((line, printed or ["quiet"]))
 
     def made(self, line, *printed):
         """A line by which a delta is made as well."""
         self.deltas += 1
         self.line(line, *printed, "delta %d" % self.deltas)
-
-    def write(self, name):
-        for ending, lines in (("script", self.script), ("stdout", self.printed)):
-            with open(os.path.join(FOLDER, "%s.%s" % (name, ending)), "w") as file:
-                file.write("".join(line + "\n" for line in lines))
 
 
 def connect(client, flags):
@@ -61,7 +50,7 @@ def clients():
     row.made("frame 1 9 2 " + connect("x1", 4), "to 9 030500")
     row.line("frame 1 8 2 " + connect("x3", 4), "to 8 030501")
     row.line("frame 1 8 2 0216", "to 8 0217")
-    row.write("limit-of-clients")
+    return row.lines
 
 
 def will_dialogs():
@@ -83,7 +72,7 @@ def will_dialogs():
     row.line("tick 1 60")
     row.line("frame 1 2001 60 " + connect("s2", 12), "to 2001 0206")
     row.line("show 1", "client 7331 stamp 2.1 prefix 1 active clean 0 next 1")
-    row.write("limit-of-will-dialogs")
+    return row.lines
 
 
 def parked_operations():
@@ -128,7 +117,7 @@ def parked_operations():
         "  sub 742f2b 1",
         "  outbound 1.1 85 registering",
     )
-    row.write("limit-of-parked-operations")
+    return row.lines
 
 
 def subscribed(row, gateway, first, last):
@@ -155,11 +144,12 @@ def size_of_a_delta():
     row.made("frame 1 1 2 07140200026162", "to 1 04150002")
     row.made(publish)
     row.line("frame 1 2 3 0216", "to 2 0217", "to 2 01%04x0c0261620000%s" % (9 + 4096, "61" * 4096), "delta %d" % (row.deltas + 1))
-    row.write("limit-of-a-delta")
+    return row.lines
 
 
-if __name__ == "__main__":
-    clients()
-    will_dialogs()
-    parked_operations()
-    size_of_a_delta()
+ROWS = {
+    "limit-of-a-delta": size_of_a_delta,
+    "limit-of-clients": clients,
+    "limit-of-parked-operations": parked_operations,
+    "limit-of-will-dialogs": will_dialogs,
+}

@@ -10,7 +10,6 @@ memory. What is printed must be what the row prints without a refusal, behind th
 else `E3` and nothing else, with status 1. Told is how many ended each way, and which ended otherwise; then the status is 1.
 """
 import argparse
-import glob
 import os
 import random
 import re
@@ -19,6 +18,10 @@ import sys
 import tempfile
 
 TOP = os.path.dirname(os.path.dirname(os.path.abspath(__file__)))
+sys.dont_write_bytecode = True
+sys.path.insert(0, f"{TOP}/rows")
+import join_rows
+
 SEARCH, ANSWER = "frame 1 65000 0 030100", "to 65000 030201"
 HEAD = ("gateway ", "predefine ")
 REFUSED = "E3"
@@ -34,12 +37,11 @@ def behind(script: str, count: int) -> str:
 def rows(word: str) -> list:
     """Name, script and output of each row in which a gateway 1 stands and nothing is refused as a whole."""
     found = []
-    for path in sorted(glob.glob(f"{TOP}/rows/*{word}*.script")):
-        with open(path, encoding="utf-8", errors="surrogateescape") as script, open(path[:-len("script")] + "stdout", encoding="utf-8") as out:
-            script, out = script.read(), out.read()
-        if script.startswith("gateway 1\n") and not re.match(r"line \d|event \d|bad|E\d", out):
-            found.append((os.path.basename(path)[:-len(".script")], script, out))
-    return found
+    for row in join_rows.all_rows()[0]:
+        script, out = row.script.decode("utf-8", "surrogateescape"), row.output.decode("utf-8")
+        if word in row.name and script.startswith("gateway 1\n") and not re.match(r"line \d|event \d|bad|E\d", out):
+            found.append((row.name, script, out))
+    return sorted(found)
 
 
 def played(growth: int, folder: str) -> dict:
