@@ -6,15 +6,17 @@
 #   make trust  writes docs/TRUST.md: the contracts that carry the promise, and what they stand on
 #   make edits  tries more edits that must fail, which make test leaves out for the sake of its time; CRATES=NAME those of a crate
 #   make daemon proves and builds the daemon, and tries it over sockets on this machine
-#   make field  plays a story with three daemons on this machine
+#   make field  plays a story with three daemons on this machine, unproved ones if no proved one is built
+#   make trial  builds all programs without a proof, for a first look, into out/trial
 #   make client proves and builds sn_client, a client for a person at a terminal
 #   make look   proves and builds jr_look, which shows what is in a journal
 #   make install PREFIX=/usr/local
 #               installs the programs that are built, man pages, a systemd unit and examples; DESTDIR is honoured; make uninstall
+#   make deb    packs the programs that are proved and built, man pages, the unit and examples as a Debian package, into out
 #   make bench  times the simulator, single steps beside their goals, digests and answers, the lock, and the two codecs beside plain C,
 #               and tells what a gateway keeps in memory
 #
-# All but make install and trust need the Rattle kit's command `rt`; make test, trust, daemon, field, bench and install need python3, make bench gcc too.
+# All but make install, deb and trust need the Rattle kit's command `rt`; make test, trust, daemon, field, bench, install and deb need python3, make bench gcc too.
 
 PREFIX ?= /usr/local
 DESTDIR ?=
@@ -25,7 +27,9 @@ SHARE = $(DESTDIR)$(PREFIX)/share
 # All that a program is made of. One that is older than any of it is built anew.
 SOURCES := $(shell find crates.txt crates -path '*/out' -prune -o \( -name '*.rt' -o -name '*.antt' -o -name crates.txt \) -print)
 
-.PHONY: run prove test edits bench trust daemon field client look install uninstall clean
+TRIALS = $(PROGRAMS:%=out/trial/%)
+
+.PHONY: run prove test edits bench trust daemon field trial client look install deb uninstall clean
 
 run:
 	@sh examples/show.sh
@@ -61,14 +65,23 @@ crates/sngw/out/sngw: $(SOURCES)
 daemon: crates/sngw/out/sngw
 	@python3 trials/daemon.py crates/sngw/out/sngw
 
-field: crates/sngw/out/sngw
-	@python3 trials/field.py crates/sngw/out/sngw
+field:
+	@sh tools/field.sh
+
+# Two at a time: each build uses one processor.
+trial:
+	@sh tools/trial.sh
+	@$(MAKE) -s -j 2 $(TRIALS)
+	@echo "NOT PROVED: the programs in out/trial were built without a proof, for a first look."
+
+$(TRIALS): out/trial/%: $(SOURCES)
+	@sh tools/trial.sh $*
 
 crates/sn_client/out/sn_client: $(SOURCES)
 	$(call build,sn_client,some minutes)
 
 client: crates/sn_client/out/sn_client
-	@echo "crates/sn_client/out/sn_client is built; docs/TRY.md tells what to do with it"
+	@echo "crates/sn_client/out/sn_client is built; docs/TRY.md says what to do with it"
 
 crates/jr_look/out/jr_look: $(SOURCES)
 	$(call build,jr_look,some twenty minutes)
@@ -78,6 +91,9 @@ look: crates/jr_look/out/jr_look
 
 install:
 	@sh tools/install.sh "$(DESTDIR)" "$(PREFIX)"
+
+deb:
+	@sh tools/deb.sh
 
 uninstall:
 	for name in $(PROGRAMS); do rm -f "$(DESTDIR)$(PREFIX)/bin/$$name"; done
@@ -92,4 +108,4 @@ bench:
 	@sh bench/shift.sh
 
 clean:
-	rm -rf crates/*/out
+	rm -rf crates/*/out out

@@ -3,36 +3,24 @@
 #
 # Usage: install.sh DESTDIR PREFIX        from the top of the repository; DESTDIR may be empty
 #
-# A program that is older than a source is not installed: it is not the one that this text describes. The status is 1 where one is, or none is built.
+# A program that is older than a source is not installed: it is not the one that this text
+# describes. The status is 1 if there is such a program, or if none is built.
 set -eu
 root=$1$2
 prefix=$2
-
-# How a program is built.
-target() {
-    case $1 in
-    sngw) echo daemon ;;
-    sn_client) echo client ;;
-    gw_sim) echo prove ;;
-    jr_look) echo look ;;
-    esac
-}
-
-# Whether a source is younger than a program.
-is_old() {
-    [ -n "$(find crates.txt crates/*/src crates/*/specs -newer "$1" -print 2>/dev/null | head -n 1)" ]
-}
+. tools/programs.sh
 
 installed=0
 old=0
 for name in sngw sn_client gw_sim jr_look; do
-    if [ -x "crates/$name/out/$name" ] && is_old "crates/$name/out/$name"; then
-        old=$((old + 1))
-        echo "old       $name: sources changed since it was built; 'make $(target "$name")' proves and builds it"
-    elif [ -x "crates/$name/out/$name" ]; then
-        install -D -m 755 "crates/$name/out/$name" "$root/bin/$name"
+    program=crates/$name/out/$name
+    if is_current "$program"; then
+        install -D -m 755 "$program" "$root/bin/$name"
         installed=$((installed + 1))
         echo "installed $root/bin/$name"
+    elif [ -x "$program" ]; then
+        old=$((old + 1))
+        echo "old       $name: sources changed since it was built; 'make $(target "$name")' proves and builds it"
     else
         echo "missing   $name: it is not built; 'make $(target "$name")' proves and builds it"
     fi

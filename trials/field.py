@@ -1,25 +1,33 @@
 #!/usr/bin/env python3
-"""Plays a take-over at three linked gateways, and tells it line by line: a gateway is killed, and no message is lost.
+"""Plays a take-over at three linked gateways, line by line: one is killed, and no message is lost.
 
 Usage: trials/field.py PROGRAM [FOLDER]
+       trials/field.py --ports       only looks whether the ports are free
 
-The settings are those of examples/field; their ports must be free. The journals lie in FOLDER, which is made and must not be there before, or
-else in a folder that is gone afterwards. Status 0 only where each message came, and within a minute.
+The settings are those of examples/field; their ports must be free. The journals are in FOLDER,
+which is made and must not be there before. Without FOLDER they are in a folder that is gone
+afterwards. The status is 0 only if each message came, within a minute.
 """
 import contextlib
 import os
 import signal
+import socket
 import sys
 import tempfile
 import time
-import tomllib
+
+try:
+    import tomllib
+except ModuleNotFoundError:
+    sys.exit("the story needs python3 in version 3.11 or newer, which reads TOML")
 
 sys.dont_write_bytecode = True
-from gateway import Client, Failed, Gateway, expect, publish, published, register, subscribe
+from gateway import HOST, Client, Failed, Gateway, expect, publish, published, register, subscribe
 
 TOP = os.path.dirname(os.path.dirname(os.path.abspath(__file__)))
 MINUTE = 60
 TOPIC = b"field/door"
+NAMES = ("one", "two", "three")
 began = time.monotonic()
 
 
@@ -36,6 +44,28 @@ def gateway_of(program: str, folder: str, name: str) -> Gateway:
     made = Gateway(program, folder, values["gateway"], ports)
     made.settings, made.journal = path, os.path.join(folder, values["journal"])
     return made
+
+
+def taken(kind: int, port: int) -> bool:
+    """Whether another socket of this machine has the port."""
+    with socket.socket(socket.AF_INET, kind) as tried:
+        if kind == socket.SOCK_STREAM:
+            tried.setsockopt(socket.SOL_SOCKET, socket.SO_REUSEADDR, 1)
+        try:
+            tried.bind((HOST, port))
+            if kind == socket.SOCK_STREAM:
+                tried.listen()
+        except OSError:
+            return True
+    return False
+
+
+def expect_free_ports(gateways: list) -> None:
+    """Looks for each port of the settings, before a gateway wants it."""
+    ports = [(name, kind, port) for it in gateways
+             for name, kind, port in (("UDP", socket.SOCK_DGRAM, it.port), ("TCP", socket.SOCK_STREAM, it.link))]
+    held = [f"{name} port {port}" for name, kind, port in ports if taken(kind, port)]
+    expect(not held, f"another program has {', '.join(held)} of {HOST}, which the gateways of examples/field need")
 
 
 def put(publisher: Client, body: bytes) -> None:
@@ -96,24 +126,35 @@ def folder_of(named: list):
             yield folder
 
 
-def main() -> int:
-    if len(sys.argv) not in (2, 3) or not os.access(sys.argv[1], os.X_OK) or any(map(os.path.exists, sys.argv[2:])):
-        print(__doc__, file=sys.stderr)
-        return 1
-    signal.signal(signal.SIGTERM, stop)
-    signal.signal(signal.SIGALRM, late)
-    signal.alarm(MINUTE)
-    Client.again = 5.0
-    with folder_of(sys.argv[2:]) as folder:
-        gateways = [gateway_of(os.path.abspath(sys.argv[1]), folder, name) for name in ("one", "two", "three")]
+def play(program: str, named: list) -> None:
+    with folder_of(named) as folder:
+        gateways = [gateway_of(program, folder, name) for name in NAMES]
         try:
             story(*gateways)
-        except (Failed, OSError) as why:
-            tell(f"FAILED: {why}")
-            return 1
         finally:
             for gateway in gateways:
                 gateway.kill()
+
+
+def main() -> int:
+    words = sys.argv[1:]
+    only_ports = words == ["--ports"]
+    if not only_ports and (len(words) not in (1, 2) or not os.access(words[0], os.X_OK) or any(map(os.path.exists, words[1:]))):
+        print(__doc__, file=sys.stderr)
+        return 1
+    for number in (signal.SIGHUP, signal.SIGINT, signal.SIGTERM):
+        signal.signal(number, stop)
+    signal.signal(signal.SIGALRM, late)
+    signal.alarm(MINUTE)
+    Client.again = 5.0
+    try:
+        expect_free_ports([gateway_of("", "", name) for name in NAMES])
+        if only_ports:
+            return 0
+        play(os.path.abspath(words[0]), words[1:])
+    except (Failed, OSError) as why:
+        tell(f"FAILED: {why}")
+        return 1
     tell("every message came")
     return 0
 
