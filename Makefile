@@ -3,7 +3,7 @@
 #   make run    plays the scripts of examples/ and shows script and output side by side
 #   make prove  proves the simulator and all that it stands on, and builds it; make run plays it from then on
 #   make test   proves every crate from nothing, tries the edits that must fail, runs every test and program
-#   make trust  writes docs/TRUST.md: the contracts that carry the promise, and what they stand on
+#   make trust  writes docs/TRUST.md, and its long form into out/trust: the contracts that carry the promise, and what they need
 #   make edits  tries more edits that must fail, which make test leaves out for the sake of its time; CRATES=NAME those of a crate
 #   make daemon proves and builds the daemon, and tries it over sockets on this machine
 #   make field  plays a story with three daemons on this machine, unproved ones if no proved one is built
@@ -39,7 +39,11 @@ prove:
 	@cd crates/gw_sim && rt run <../../examples/takeover.script >/dev/null
 
 test:
+	python3 rows/join_rows.py --check
+	python3 tools/layers.py --check
 	python3 tools/trust.py --check
+	python3 tools/voice.py
+	python3 tools/links.py
 	sh tools/ci.sh
 
 trust:
