@@ -12,11 +12,13 @@ HEAD = (["# What has to be believed", ""], [
 READING = (["## How to read the code", ""], [
     "A law is a function that does nothing. Each of its `ensures` clauses is a type, and the proof of the clause is a value of that "
     "type. Read `(x : A) → B` as *for all*, `(x : A) × B` as *there is*, `A → B` as *if*, `×` as *and*, `⊎` as *or*, `⊥` as *never*, "
-    "`Unit {0}` as *always*. `AllByRecursion P list` says `P` of each element of a list, `slice_get list i ≡ Some x` that it has `x` "
-    "in place `i`. `IfOk` and `IfSome` speak of a result only if there is one. `find` gives the first entry of a name. In clauses of "
-    "a program `x.now` is a "
-    "value that is only read, and `x.old` and `x.new` are one that changes. A word that the page neither defines nor names is the "
-    "toolchain's.", "",
+    "`Unit {0}` as *always*, `≡` as *equals*. `x ∷ list` is a list with `x` in front, `++` joins two lists, `λ x. e` is the function "
+    "that takes `x` to `e`, and `p.0` and `p.1` are the parts of a pair. `AllByRecursion P list` says `P` of each element of a list, "
+    "`slice_get list i ≡ Some x` that it has `x` in place `i`. `IfOk` and `IfSome` speak of a result only if there is one. `find` gives "
+    "the first entry of a name. In clauses of a program `x.now` is a value that is only read, and `x.old` and `x.new` are one that "
+    "changes. In their heads `Delta` is a list of operations, `MemoryDisk` a disk in memory, `World` what `run` gives, and `WorldFault` "
+    "why it gives nothing; `Ghosts` are the members of the trait `Disk`. A word of code that the page neither defines nor names is the "
+    "toolchain's, and [GLOSSARY](GLOSSARY.md) has the words of the prose.", "",
     "What the clauses assume is in [PROVED](PROVED.md), and what you trust beside them in [README](../README.md#trust-and-licence). "
     "`make trust` writes this page from the sources, and `make test` compares it with them. It also writes the long form into "
     "`out/trust/`: six files that follow every word to its end, with the step table, the bytes and the disk."], [
@@ -28,11 +30,14 @@ SENTENCES = [
      "Take any run of a field, and two moments of it. What a gateway has made and taken by the first moment, it has at the second, "
      "whatever came and whatever failed in between.",
      ["field_laws::nothing_vanishes.grows"],
-     "A *run* is a list of events, with the answer to each and the field after them: `Run`, [level 3]. Events are datagrams, ticks, "
-     "deltas, digests that go to a peer, writes that fail, compactions and restarts. `taken` is the set of a gateway, and `Within` "
-     "compares two sets: [level 2].",
-     "That two gateways ever exchange what they have. If memory runs out, a run ends there, and nothing is said of what follows. No "
-     "event alters a delta on its way, and none takes a gateway's disk away."),
+     "A *field* is a list of gateways, and of the *deltas* (lists of operations) that they made or answered. A *run* is a list of "
+     "events, with the answer to each and the field after them: `Run`, [level 3]. Events are datagrams, ticks, deltas that come to a "
+     "gateway, digests (what a gateway has, in short) that go to a peer, writes that fail, compactions (a journal is written again) "
+     "and restarts. `taken` is the set of a gateway, and `Within` compares two sets: [level 2].",
+     "Anything about programs. `After`, [level 3], only ever adds to `taken`, at a restart too; that programs do as `After` says is "
+     "sentence 5. A program holds of `taken` at least what `keep` leaves, and may forget the rest. Nothing says that two gateways ever "
+     "exchange what they have. If memory runs out, a run ends there, and nothing is said of what follows. No event alters a delta on "
+     "its way, and none takes a gateway's disk away."),
     ("What waits in a set waits in every larger set, or is acknowledged there.",
      "A message that waits for a client in a set waits for it in each set that contains this one, unless the larger set has its "
      "acknowledgement. So a message that waits at a gateway waits there at every later moment of the run, or that gateway's set has "
@@ -40,11 +45,12 @@ SENTENCES = [
      ["rep_model::pending_laws.leaves", "field_laws::nothing_vanishes.stays"],
      "`view c S` is what the set says about a client. Its `pending` are the messages that wait: those of the set that the set does not "
      "acknowledge. Both are in [level 2].",
-     "That the message ever reaches the client. That needs a client that answers, and time."),
+     "That the message ever reaches the client: that needs a client that answers, and time. Nor why the acknowledgement is there."),
     ("A gateway acknowledges only for a cause.",
      "A step for a frame acknowledges only messages that wait for the client that the frame is from, and each for one of four causes. "
-     "The client begins a clean session and is accepted. It answers for the message, or refuses it. The step sends the message at "
-     "quality of service 0. No topic id is left for the message. A tick acknowledges only for the last two.",
+     "The client begins a clean session and is accepted. It accepts or refuses, by message id, the message that is being handed over "
+     "to it. The step sends the message at quality of service 0. No topic id is left for the message. A tick acknowledges only for "
+     "the last two.",
      ["cause_laws::acknowledged_for_cause.steps", "cause_laws::acknowledged_for_cause.ticks"],
      "A *step* is what the step table plans for a frame: operations for the set, `plan.ops`, and datagrams, `plan.sends`. "
      "`IsForCause` and `IsTimely` list the causes: [level 4].",
@@ -52,7 +58,8 @@ SENTENCES = [
      "operations may be on the disk, and a restart reads them back (`reopened`, [level 3]). So a message at quality of service 0 may "
      "leave although it was never sent. A message that a clean CONNECT ends may leave although that CONNECT was refused. No clause "
      "leads from an acknowledgement in a set back to its step. In two places the law allows more than the step table does: "
-     "`IsRefusal` and `IsSpent`. Whoever sends from a client's address counts as that client."),
+     "`IsRefusal` and `IsSpent`. An answer counts by its message id alone, so a late one can count for another message. Whoever sends "
+     "from a client's address, or names the client in CONNECT or PINGREQ, counts as that client."),
     ("PUBACK means put.",
      "If a step answers a PUBLISH at quality of service 1 with PUBACK, code 0, then it makes one message for each recipient. Once the "
      "operations of the step are in the gateway's set, each of these messages waits there for its client.",
@@ -61,21 +68,23 @@ SENTENCES = [
      "A *recipient* is a client whose view has a session with a filter that matches, and fewer than 1,024 messages that wait. If it "
      "gets the message at quality of service 0, it must also be Active, Asleep or Awake: `qos_for`, [level 4]. `kept` has a premise, "
      "`AreFlush`. Each gateway that the events of a run reach meets it (`field_laws::steady_field.steady`).",
-     "Anything about runs: this law too is about one step. `OwnStep`, [level 3], sends the datagrams of a plan only with its "
-     "operations in the journal and in the set, and the second sentence says that the messages then stay. No clause joins the three. "
-     "The recipients are those that *this* gateway's set shows: a subscription at another gateway counts once its operations have "
-     "come."),
+     "Anything about runs: this law too is about one step. `OwnStep`, [level 3], answers with the datagrams of a plan only with its "
+     "operations in the journal and in the set, and the second sentence says that the messages then stay. No clause joins the three, "
+     "and none says that a PUBLISH is answered. The messages are at *this* gateway, and the recipients are those that its set shows: "
+     "a subscription at another gateway counts once its operations have come."),
     ("A crash keeps the set.",
-     "After any run, whatever a crash leaves of a gateway's disk is a journal that opens, and its records count as the gateway's set. "
-     "If the gateway's last write failed, they may instead count as that set with the whole of the delta that was being written.",
-     ["gw_world::run.ok"],
-     "`run` is a program that plays a run, restarts included, and `IsWorld` is its result. `Lasts` says what a crash leaves of one "
-     "gateway's disk. All are in [level 3]. To *count as* a set is to keep what must be kept of it: `CountsAs`, and `keep` in "
-     "[level 2].",
-     "Anything about your disk. The disks of `run` are in memory, and they are proved to be honest "
-     "(`jr_disk::memory_disk_is_honest`): a crash keeps the synced bytes and a front part of the rest. No clause says that real files "
-     "are honest. A gateway on any honest disk has the clauses `event`, [level 3], for one call each. In a run only appends fail, and "
-     "the syncs after them, and never an opening."),
+     "After any run that the program `run` plays to its end, whatever a crash leaves of a gateway's disk is a journal that opens, and "
+     "its records count as the gateway's set. If the gateway's last write failed, they may instead count as that set with the whole of "
+     "the delta that was being written.",
+     ["gw_world::run.ok", "jr_disk::memory_disk_is_honest"],
+     "A *journal* holds the deltas that a gateway made or took, one record each. `run` plays events with the gateway's own code, "
+     "restarts included, and `IsWorld` is its result. `Lasts` says what a crash leaves of one gateway's disk. All are in [level 3]. To "
+     "*count as* a set is to keep what must be kept of it: `CountsAs`, and `keep` in [level 2].",
+     "Anything about your disk. The disks of `run` are in memory. They are honest, as the trait `Disk` has it: calls do what they say, "
+     "and a crash keeps the synced bytes and a front part of the rest. The disk of the daemon, `FileDisk`, declares that it is not (its "
+     "`honest` is `⊥`), so clauses with that premise say nothing about it. What they say is true of the same code on any honest disk: "
+     "see the clauses `event`, [level 3], for one call each. In a run only appends fail, and the syncs after them, and never an "
+     "opening."),
 ]
 
 # Levels 2 to 4: title, introduction, and the clauses, function by function. An empty list means the one without a name.
@@ -84,9 +93,9 @@ LEVELS = [
         "A set is a list of operations: changes of a session, messages, and acknowledgements. Three readers look into it: "
         "`operation_at`, `put_at` and `is_acknowledged`. Two sets are compared by what these find. So order and repeats do not matter, "
         "as long as no name has two contents.", "",
-        "`leaves` says that a join loses no message. The clauses of `join_laws` say that order, groups and repeats of joins make no "
-        "difference. Those of `keep_laws` say that what `keep` forgets makes none either, now or after later joins. What a change "
-        "makes of a session is named and not entered: `applied`."], [
+        "`leaves` says that a join drops a message only if it has its acknowledgement. The clauses of `join_laws` say that order, groups "
+        "and repeats of joins make no difference. Those of `keep_laws` say that what `keep` forgets makes none either, now or after "
+        "later joins. What a change makes of a session is named and not entered: `applied`."], [
         ("rep_model::pending_laws", "leaves"),
         ("rep_model::join_laws", "idempotent commutative associative equal"),
         ("rep_model::keep_laws", "joined seen")]),
@@ -94,9 +103,9 @@ LEVELS = [
         "A field is a list of gateways, and of the deltas that they made or answered. `After` says what one event may do to it: "
         "`OwnStep` a datagram or a tick, `TakeStep` a delta that comes, `restarted` a stop and a new start. `run` plays events with the "
         "gateway's own code on disks in memory, and `run.ok` ties this whole level to that code. The clauses `event` do so for single "
-        "calls, on any disk; `CanBeSaid` has the exceptions. (These calls have two more clauses, `call` and `taken`, about the same "
-        "event: see part 5 of the long form.) "
-        "The step table and the bytes of frames, deltas and journals are named and not entered.", "",
+        "calls, on any disk; `CanBeSaid` has the exceptions, which on the daemon's own disk are all compactions and reopenings. (These "
+        "calls have two more clauses, `call` and `taken`, about the same event: see part 5 of the long form.) The step table and the "
+        "bytes of frames, deltas and journals are named and not entered.", "",
         "`consistent` and `never` say that no name has two contents in the whole field, and that no event is answered by Conflict. "
         "`alike` and `shown` say that two gateways that have taken the same operations have equal sets and show the same.", "",
         "Not said: that `run` ever succeeds. It may always report that memory ran out, and tests show that it does not. An event that "
@@ -105,6 +114,7 @@ LEVELS = [
         ("field_laws::consistent_field", "consistent never"),
         ("field_laws::settled_field", "alike shown"),
         ("gw_world::run", "ok"),
+        ("jr_disk::memory_disk_is_honest", ""),
         ("gw_node::Node::frame", "event"),
         ("gw_node::Node::take", "event"),
         ("gw_node::Node::tick", "event"),
