@@ -14,12 +14,12 @@ ghost use Rattle.sn_tick.specs.Due.{first_due};
 ghost use Rattle.sn_tick.specs.Ticking.{tick};
 ghost use Rattle.cause_laws.specs.Causes.{IsForCause, IsTimely};
 
-/// A gateway acknowledges a message for a cause that the client gave, or because Delivery is done
-/// with it. By a frame only messages are acknowledged that wait for the client that it is from: all
-/// of them where it begins a clean session, and is told that it is accepted; the one of its open
-/// exchange, where the frame is the answer to that; and, while the client is Active or Awake, those
-/// that Delivery sends at quality of service 0, or has no topic id for. A tick acknowledges none
-/// but such ones of Delivery, to the address of a client that the gateway owns; and one that takes
+/// A step acknowledges a message for a cause that the client gave, or because Delivery is done with
+/// it. By a frame only messages are acknowledged that wait for the client that it is from: all of
+/// them if it begins a clean session, and is answered that it is accepted; the one of its open
+/// exchange, if the frame answers that by its message id; and, while the client is Active or Awake,
+/// those that Delivery sends at quality of service 0, or has no topic id for. A tick acknowledges
+/// none but such ones of Delivery, to the address of a client that the gateway owns. One that takes
 /// a client for lost acknowledges nothing, so that all that waits for it goes on waiting.
 ///
 /// The law is about the plan of one step, and its frames are those that the plan has. If the write

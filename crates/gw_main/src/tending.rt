@@ -28,7 +28,7 @@ pub enum Tended {
 /// opened anew from what the disk holds.
 ///
 /// A gateway that was tended is not halted. The fault is that of an opening, want of memory too,
-/// and the gateway is halted then. Whatever it had taken it has taken still.
+/// and the gateway is halted then. On an honest disk it has still taken all that it had taken.
 pub fn tend<R: Replica, D: Disk + Drop>(
     alloc: Global,
     node: &mut Node<R, D>,

@@ -132,6 +132,7 @@ impl<R: Replica, D: Disk + Drop> Shift<R, D> {
 
     /// The deltas that the calls above a number made, with the numbers of the calls: the first of
     /// them, at most so many. Shares of them are taken under the lock, and copies are made outside.
+    /// The contract says only that the numbers ascend, and how many there are at most.
     ///
     /// The faults: `Behind`, the pass has seen more calls than this history has; or `Memory`.
     #[tactic(auto, using(crate::proofs::Handing::taken_climbs, crate::proofs::Handing::taken_few))]

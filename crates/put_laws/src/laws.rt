@@ -29,7 +29,8 @@ ghost use Rattle.put_laws.specs.Puts.{HasReceived, IsAmong, IsAnswered, IsKept, 
 /// `qos_for`, which passes over a client for which 1,024 messages wait. PUBACK with code 0, at
 /// quality of service 1, means that they were made; so does PUBREC, at 2, or that the message id
 /// was received before and is not released. No step makes two messages for one client, and each
-/// that it makes waits for its client behind that step, at a gateway that is flush, as all stay.
+/// that it makes waits for its client after that step, at a gateway that is flush. Each gateway that
+/// the events of a run reach is.
 ///
 /// The law is about the plan of one step. That a plan is taken and synced before its frames go out
 /// is said by the calls of `gw_node`, and that a message goes on waiting by `nothing_vanishes` of

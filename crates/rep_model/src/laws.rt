@@ -42,7 +42,7 @@ pub fn join_laws()
 {}
 
 /// No message is lost by a join: what waits for a client in a part of a set waits in the whole set,
-/// or the client has acknowledged it.
+/// or the whole set has an acknowledgement of it.
 pub fn leaves_only()
     ensures { (S W : List Op) → Within S W → (c : List ℕ) (name : ℕ × ℕ) (put : Put)
         → pending_at c S name ≡ Some put → (pending_at c W name ≡ Some put)
@@ -50,8 +50,8 @@ pub fn leaves_only()
 {}
 
 /// Two consistent sets are consistent together exactly if the operations of one agree with the
-/// other, so a gateway that compares what it takes with what it keeps finds every contradiction,
-/// and no other.
+/// other. So a gateway that compares what it takes with what it keeps finds each contradiction with
+/// that, and no other.
 pub fn consistency()
     ensures together { (K D : List Op) → IsConsistent K → IsConsistent D
         → AllByRecursion (Agrees K) D → IsConsistent (K ++ D) }

@@ -21,15 +21,15 @@ ghost use Rattle.sn_tick.specs.Ticking.{tick};
 ghost use Rattle.step_laws.specs.Ticks.{Ticked, AreTicks, busy, does_something, set_behind, local_behind};
 ghost use Rattle.step_laws.specs.Laws.{DeliveryKeeps, OneExchange, PutsOnce, ResentWithDup, TickIsQuiet, TickSettles};
 
-/// Delivery loses no message: it acknowledges none but those that it sends at quality of service 0,
-/// and those for whose topic no id is left. The PUBLISH of each of the first is among its frames.
+/// Delivery acknowledges no message but those that it sends at quality of service 0, and those for
+/// whose topic no id is left. The PUBLISH of each of the first is among its frames.
 pub fn delivery_keeps()
     ensures { DeliveryKeeps }
 {}
 
-/// Exactly once: the first publication of a message id at quality of service 2 records the id;
-/// nothing but its release and a session that is taken over as a whole ends that; and until then a
-/// publication of the id makes no message.
+/// Exactly once: the first publication of a message id at quality of service 2 records the id, if
+/// the session has room for it. Nothing but its release, and a session that is taken over as a
+/// whole, ends that. Until then a publication of the id makes no message.
 pub fn puts_once()
     ensures { PutsOnce }
 {}
