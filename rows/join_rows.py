@@ -1,24 +1,26 @@
 #!/usr/bin/env python3
-r"""Joins the rows of this folder to what the simulator plays: `stdin` and `stdout` of `crates/gw_sim`.
+r"""Joins the rows of this folder to what the simulator plays: `stdin`, `stdout` of `crates/gw_sim`.
 
-Usage: join_rows.py                       writes both files, and prints how many rows there are
-       join_rows.py --check               compares both files; status 1 and one line if a row differs
-       join_rows.py --show NAME           prints a row as it is in its file, a long one written out
-       join_rows.py --script NAME         prints the script of a row
-       join_rows.py --output NAME         prints what the script of a row must print
-       join_rows.py --split NAME SCRIPT PROGRAM
-                                          plays a script by a simulator, and prints it as a row
+Usage:
+
+    join_rows.py                  writes both files, and prints how many rows there are
+    join_rows.py --check          compares both files; status 1 and one line if a row differs
+    join_rows.py --show NAME      prints a row as it is in its file, a long one written out
+    join_rows.py --script NAME    prints the script of a row
+    join_rows.py --output NAME    prints what the script of a row must print
+    join_rows.py --split NAME SCRIPT PROGRAM
+                                  plays a script by a simulator, and prints it as a row
 
 A row is a script for the simulator with the whole output that it must give (docs/SIMULATOR.md). Work
-out that output from the step table (docs/STEPS.md) and the byte formats, apart from the program, and
-only then play the script. A contract lets a call answer Memory instead of almost anything; a row does
-not. So each branch of the step table, each fault and each limit has a row. The comments at the head
-of a file say which rows run which branch. A new branch gets a row and a line there.
+out that output from the step table (docs/STEPS.md) and the byte formats, apart from the program.
+Only then play the script. A contract lets a call answer Memory instead of almost anything; a row
+does not. So each branch of the step table, each fault and each limit has a row. The comments at the
+head of a file say which rows run which branch. A new branch gets a row and a line there.
 
-To add a row: write it by hand into the file of its topic, run this program without arguments, and
-let the simulator play `crates/gw_sim/stdin` with `--rows`. It must print `crates/gw_sim/stdout`.
-`--split` helps with a long script: it puts each line of output below its command. What stands there
-then is what the program says. Compare each line with the rules before you keep it.
+To add a row, write it by hand into the file of its topic, and run this program without arguments.
+Then let the simulator play `crates/gw_sim/stdin` with `--rows`: it must print
+`crates/gw_sim/stdout`. `--split` helps with a long script: it puts each line of output below its
+command. Those lines are what the program says. Compare each with the rules before you keep it.
 
 The files are `TOPIC.rows`, in the order of their names. In a file:
 
@@ -36,8 +38,8 @@ In a line of a script these stand for what a reader would not see, or would take
     \e              nothing: it makes an empty line, or guards the begin or the end of one
     \ at the end    no line feed follows: the script ends here
 
-The status of a script is 1 if its output begins with `line ` or `event `, and else 0. A script of a
-line `random ..` has no status.
+The status of a script is 1 if its output begins with `line ` or `event `, and else 0. A script of
+one line `random ..` has no status.
 """
 
 import os

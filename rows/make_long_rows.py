@@ -79,7 +79,7 @@ def parked_operations():
     """A client refuses a topic id and takes it again, three operations of its session each time.
 
     The other gateway takes none of the deltas in which a Take stands: all that it takes of the session waits behind gaps,
-    4,096 operations, and no more are taken.
+    4,096 operations, and no others are taken.
     """
     row = Row(1, 2)
     row.made("frame 1 7 0 " + connect("s1", 4), "to 7 030500")
