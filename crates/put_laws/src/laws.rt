@@ -29,7 +29,7 @@ ghost use Rattle.put_laws.specs.Puts.{HasReceived, IsAmong, IsAnswered, IsKept, 
 /// `qos_for`, which passes over a client for which 1,024 messages wait. PUBACK with code 0, at
 /// quality of service 1, means that they were made; so does PUBREC, at 2, or that the message id
 /// was received before and is not released. No step makes two messages for one client, and each
-/// that it makes waits for its client after that step, at a gateway that is flush. Each gateway that
+/// that it makes waits for its client after that step, at a gateway that is flush: each one that
 /// the events of a run reach is.
 ///
 /// The law is about the plan of one step. That a plan is taken and synced before its frames go out
