@@ -136,6 +136,7 @@ export SOURCE_DATE_EPOCH
 fill
 write_control
 package=nimhazel_${version}_amd64.deb
-dpkg-deb --build --root-owner-group "$root" "$work/$package" >"$work/packed" 2>&1 || stop "$(tail -n 1 "$work/packed")"
+dpkg-deb --build --root-owner-group "$root" "$work/$package" >"$work/packed" 2>&1 ||
+    stop "nothing is packed: $(tail -n 1 "$work/packed")"
 mv "$work/$package" "out/$package"
 echo "packed out/$package"

@@ -8,7 +8,7 @@ cd "$(dirname "$0")/.."
 
 story=trials/field.py
 need python3 "it plays the story"
-python3 "$story" --ports
+python3 "$story" --check
 program=crates/sngw/out/sngw
 if is_current "$program"; then
     echo "The gateways run the proved program $program."

@@ -21,7 +21,8 @@ target() {
     esac
 }
 
-# Whether a program is there, and no source is newer. A newer source may make another program of it, so the whole repository counts.
+# Whether a program is there, and no source is newer. Every source of the repository counts, also one
+# that the program does not use.
 is_current() {
     [ -x "$1" ] && [ -z "$(find crates.txt crates -path '*/out' -prune -o \
         \( -name '*.rt' -o -name '*.antt' -o -name crates.txt \) -newer "$1" -print -quit)" ]

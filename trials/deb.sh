@@ -38,7 +38,8 @@ package=$(sed -n 's/^packed //p' "$work/said")
 echo "ok: packed $package"
 
 if command -v lintian >/dev/null; then
-    lintian --allow-root --fail-on error "$package" >"$work/said" 2>&1 || stop "FAILED: $(grep '^E' "$work/said")"
+    lintian --allow-root --fail-on error "$package" >"$work/said" 2>&1 ||
+        stop "FAILED: $(grep '^E' "$work/said")"
     echo "ok: lintian reports no error"
 else
     echo "not tried: lintian is not here"
@@ -59,7 +60,8 @@ echo "ok: installed $(left | wc -l) files and folders; the programs are the prov
 "$root/usr/bin/sngw" --help >"$work/said" 2>&1 || true
 [ "$(cat "$work/said")" = "sngw: arguments" ] || stop "FAILED: sngw --help: $(cat "$work/said")"
 settings=$root/usr/share/doc/nimhazel/examples/field/one.toml
-(cd "$work" && "$root/usr/bin/sngw" --config "$settings" --shifts 0 >"$work/said" 2>/dev/null) || stop "FAILED: sngw"
+(cd "$work" && "$root/usr/bin/sngw" --config "$settings" --shifts 0 >"$work/said" 2>/dev/null) ||
+    stop "FAILED: sngw"
 [ "$(cat "$work/said")" = "gateway 1 records 0 clients 0" ] || stop "FAILED: sngw: $(cat "$work/said")"
 (cd "$work" && "$root/usr/bin/jr_look" one >"$work/said") || stop "FAILED: jr_look"
 echo "ok: gw_sim, sn_client, sngw and jr_look run from there"

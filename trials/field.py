@@ -2,7 +2,7 @@
 """Plays a take-over at three linked gateways, line by line: one is killed, and no message is lost.
 
 Usage: trials/field.py PROGRAM [FOLDER]
-       trials/field.py --ports       only looks whether the ports are free
+       trials/field.py --check       only looks whether ports and disk are free
 
 The settings are those of examples/field; their ports must be free. The journals are in FOLDER,
 which is made and must not be there before. Without FOLDER they are in a folder that is gone
@@ -10,6 +10,7 @@ afterwards. The status is 0 only if each message came, within a minute.
 """
 import contextlib
 import os
+import shutil
 import signal
 import socket
 import sys
@@ -26,6 +27,7 @@ from gateway import HOST, Client, Failed, Gateway, expect, publish, published, r
 
 TOP = os.path.dirname(os.path.dirname(os.path.abspath(__file__)))
 MINUTE = 60
+ROOM = 4 << 20  # octets that the journals and what the gateways print may need
 TOPIC = b"field/door"
 NAMES = ("one", "two", "three")
 began = time.monotonic()
@@ -66,6 +68,12 @@ def expect_free_ports(gateways: list) -> None:
              for name, kind, port in (("UDP", socket.SOCK_DGRAM, it.port), ("TCP", socket.SOCK_STREAM, it.link))]
     held = [f"{name} port {port}" for name, kind, port in ports if taken(kind, port)]
     expect(not held, f"another program has {', '.join(held)} of {HOST}, which the gateways of examples/field need")
+
+
+def expect_room(folder: str) -> None:
+    """Looks for room for the journals."""
+    free = shutil.disk_usage(folder).free
+    expect(free >= ROOM, f"{folder} has {free >> 10} KiB free, and the journals need {ROOM >> 10} KiB")
 
 
 def put(publisher: Client, body: bytes) -> None:
@@ -138,8 +146,8 @@ def play(program: str, named: list) -> None:
 
 def main() -> int:
     words = sys.argv[1:]
-    only_ports = words == ["--ports"]
-    if not only_ports and (len(words) not in (1, 2) or not os.access(words[0], os.X_OK) or any(map(os.path.exists, words[1:]))):
+    is_check = words == ["--check"]
+    if not is_check and (len(words) not in (1, 2) or not os.access(words[0], os.X_OK) or any(map(os.path.exists, words[1:]))):
         print(__doc__, file=sys.stderr)
         return 1
     for number in (signal.SIGHUP, signal.SIGINT, signal.SIGTERM):
@@ -149,7 +157,8 @@ def main() -> int:
     Client.again = 5.0
     try:
         expect_free_ports([gateway_of("", "", name) for name in NAMES])
-        if only_ports:
+        expect_room(os.path.dirname(os.path.abspath(words[1])) if words[1:] else tempfile.gettempdir())
+        if is_check:
             return 0
         play(os.path.abspath(words[0]), words[1:])
     except (Failed, OSError) as why:

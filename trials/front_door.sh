@@ -9,7 +9,7 @@
 # It works on a copy of the files that git knows. One line for each thing that was tried; the
 # status is 1 if one failed. It takes some three minutes, for one trial build and a half.
 set -u
-cd "$(dirname "$0")/.."
+cd "$(dirname "$0")/.." || exit 1
 . tools/programs.sh
 
 need git "it lists the files"
@@ -158,12 +158,14 @@ pretend() {
 for target in trial field run; do
     refuses "make $target without rt" "rt is not on PATH" env PATH="$(path_without rt)" make $target
     rm -rf "$work/without-rt"
-    refuses "make $target without python3" "python3 is not on PATH" env PATH="$(path_without python3)" make $target
+    refuses "make $target without python3" "python3 is not on PATH" \
+        env PATH="$(path_without python3)" make $target
     rm -rf "$work/without-python3"
 done
 mkdir -p "$copy/out"
 refuses_on_disk "make trial on a full disk" "KiB free" trial 1000 "$copy/out"
 refuses_on_disk "make field on a full disk" "KiB free" field 1000 "$copy/out"
+refuses_on_disk "make field with a full temporary folder" "the journals need" field 1000 "$TMPDIR"
 
 refuses "make deb without programs" "sngw is missing ('make daemon'" make deb
 pretend 2001-01-01
