@@ -18,7 +18,7 @@ PAGES = {
             "Command line", "Settings", "What it prints", "When something is wrong", "Shifts",
             "Stopping it", "Disks", "When a disk fails", "Links", "A number is used once",
             "What is not protected", "Reporting a fault"])]),
-    "sn_client": (1, "a client of MQTT-SN 1.2 for a person at a terminal", [("TRY.md", None)]),
+    "sn_client": (1, "a client of MQTT-SN 1.2 for a person at a terminal", [("TRY.md", ["Commands and options", "What it prints", "Exit status"])]),
     "gw_sim": (1, "plays scripts at simulated MQTT-SN gateways", [("SIMULATOR.md", None)]),
     "jr_look": (8, "shows what a start would read of a gateway's journal", [
         ("OPERATE.md", ["Reading a journal"])]),
