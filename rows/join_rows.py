@@ -18,9 +18,14 @@ does not. So each branch of the step table, each fault and each limit has a row.
 head of a file say which rows run which branch. A new branch gets a row and a line there.
 
 To add a row, write it by hand into the file of its topic, and run this program without arguments.
-Then let the simulator play `crates/gw_sim/stdin` with `--rows`: it must print
-`crates/gw_sim/stdout`. `--split` helps with a long script: it puts each line of output below its
-command. Those lines are what the program says. Compare each with the rules before you keep it.
+Then play the row by a simulator. `make trial` builds this one, which is not proved:
+
+    python3 rows/join_rows.py --output NAME >/tmp/must
+    python3 rows/join_rows.py --script NAME | out/trial/gw_sim | diff /tmp/must -
+
+`--split` helps with a long script: it puts each line of output below its command. Those lines are
+what the program says. Compare each with the rules before you keep it. `make test` plays all rows by
+the proved simulator: with `--rows` it must print `crates/gw_sim/stdout` for `stdin`.
 
 The files are `TOPIC.rows`, in the order of their names. In a file:
 

@@ -153,7 +153,7 @@ def page(name):
 
 
 def main():
-    if len(sys.argv) != 2:
+    if len(sys.argv) != 2 or sys.argv[1].startswith("-"):
         sys.exit(__doc__)
     for name in PAGES:
         number, text = page(name)

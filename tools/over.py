@@ -1,3 +1,4 @@
+#!/usr/bin/env python3
 """Checks one crate over libraries that are built already, in seconds to minutes, where `rt check` would prove all below it first.
 
 Usage: over.py libs ROOT [CRATE ..]      builds the libraries of a clone that are not there, lowest first, four at a time
@@ -21,6 +22,7 @@ import time
 
 KIT = "/opt/rattle"
 LANES = int(os.environ.get("LANES", "4"))
+CLONES = [os.path.abspath(it) for it in os.environ.get("OVER", "").split(":") if it]
 
 
 def read_crates(root):
@@ -47,9 +49,9 @@ def below(crates, name):
 
 def library(root, name):
     """Where a crate's library is, or nothing."""
-    for top in [root, *os.environ.get("OVER", "").split(":")]:
+    for top in [root, *CLONES]:
         path = f"{top}/crates/{name}/out/rlib/{name}.rlib"
-        if top and os.path.exists(f"{path}/format"):
+        if os.path.exists(f"{path}/format"):
             return path
     return None
 
@@ -195,6 +197,9 @@ def edit(root, name, names):
     """Tries edits; each is to be refused by the prover."""
     folder = f"{root}/crates/{name}"
     found = sorted((it, part) for part in ("must-fail", "edits") if os.path.isdir(f"{folder}/{part}") for it in os.listdir(f"{folder}/{part}"))
+    unknown = set(names) - {os.path.splitext(it)[0] for it, _ in found}
+    if unknown or not found:
+        return f"{name} has no edit {' '.join(sorted(unknown))}".rstrip()
     let_through = 0
     for it, part in [one for one in found if not names or os.path.splitext(one[0])[0] in names]:
         with tempfile.TemporaryDirectory() as top:
@@ -231,6 +236,8 @@ def main(given):
         return programs(root, rest)
     if not rest:
         return __doc__
+    if rest[0] not in read_crates(root):
+        return f"crates.txt has no crate {rest[0]}"
     return check(root, rest[0], rest[1:]) if what == "check" else edit(root, rest[0], rest[1:])
 
 

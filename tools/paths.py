@@ -1,3 +1,4 @@
+#!/usr/bin/env python3
 """Counts the ways through crates.txt, each of which `rt ci` pays for: it sums up a library's files, those of all that its line names, and so on.
 
 Usage: paths.py [CRATES]      crates.txt where nothing is said

@@ -1,3 +1,4 @@
+#!/usr/bin/env python3
 """Plants wrong bodies in one crate over libraries that are built already, where `rt plant` would prove all below it first.
 
 Usage: plant.py ROOT CRATE [FLAG ..]      with the flags of `rt plant` (--only WORD, or several with commas between them, --max N, --minutes N,

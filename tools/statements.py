@@ -1,3 +1,4 @@
+#!/usr/bin/env python3
 """Compares what public functions said at an earlier commit with what they say now, clause by clause.
 
 Usage: statements.py COMMIT [CRATE ..]      a line for each crate of that commit; of these crates also each clause that is not word for word what it was
@@ -146,4 +147,4 @@ def main(words):
 
 
 if __name__ == "__main__":
-    sys.exit(main(sys.argv[1:]) if sys.argv[1:] else __doc__)
+    sys.exit(main(sys.argv[1:]) if sys.argv[1:] and not sys.argv[1].startswith("-") else __doc__)

@@ -5,7 +5,8 @@ Usage: trials/daemon.py PROGRAM [PART..] [--kills N] [--datagrams N] [--streams 
 
 The parts, all where none is named:
 
-  messages  every message and status of the program that can be provoked
+  messages  every message and status of the program that can be provoked; a program of `make trial`
+            fails at `memory`, as what checks its accesses needs more than the process may have there
   loopback  a client sleeps and wakes at one gateway, also where the daemon is killed in between
   links     two and three gateways, linked in a ring; one is killed, another hands the messages over
   kills     the daemon is killed N times (100) amid publications; what was acknowledged is there in the end
