@@ -143,7 +143,7 @@ held[1].listen()
 print("held", flush=True)
 signal.pause()' >"$work/held" &
     holder=$!
-    until grep -q held "$work/held"; do sleep 0.1; done
+    until grep -q held "$work/held" 2>/dev/null; do sleep 0.1; done
 }
 
 # Puts a program that proves nothing where each proved program would be.
