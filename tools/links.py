@@ -1,5 +1,6 @@
 #!/usr/bin/env python3
-"""Checks that every link of the documents leads somewhere: a file or folder of the repository, and a heading of it.
+"""Checks that every link of the documents leads somewhere: a file or folder of the repository, and a heading of it;
+and that no document has what a merge left.
 
     python3 tools/links.py      prints each link that leads nowhere; exits 1 if there is one
 
@@ -59,11 +60,19 @@ def broken(path, known):
                 yield link
 
 
+def unmerged(path):
+    """The lines of a document that a merge left."""
+    return re.findall(r"(?m)^(?:<<<<<<<|>>>>>>>|=======$).*", path.read_text(encoding="utf-8"))
+
+
 def main():
     known, count, found = {}, 0, documents()
     for path in found:
         for link in broken(path, known):
             print(f"{path.relative_to(TOP)}: {link} leads nowhere")
+            count += 1
+        for line in unmerged(path):
+            print(f"{path.relative_to(TOP)}: {line} is left of a merge")
             count += 1
     print(f"{len(found)} documents, {count} links that lead nowhere")
     return 1 if count else 0
