@@ -6,6 +6,7 @@ and that no document has what a merge left.
 
 Links to other sites are not looked at: the gate has no network.
 """
+import collections
 import pathlib
 import re
 import subprocess
@@ -32,13 +33,12 @@ def anchors(path):
     """The places of a document that a link may name: its headings as GitHub spells them, and its anchors."""
     text = path.read_text(encoding="utf-8")
     found = set(re.findall(r"""(?:id|name)=["']([^"']+)["']""", text))
+    seen = collections.Counter()
     for head in re.findall(r"(?m)^#+\s+(.*?)\s*$", re.sub(r"(?ms)^(```|~~~).*?^\1", "", text)):
         plain = re.sub(r"\[([^\]]*)\]\([^)]*\)", r"\1", head).replace("`", "").replace("*", "")
         slug = re.sub(r"[^\w\- ]", "", plain.lower()).replace(" ", "-")
-        number = 0
-        while f"{slug}-{number}" in found if number else slug in found:
-            number += 1
-        found.add(f"{slug}-{number}" if number else slug)
+        found.add(f"{slug}-{seen[slug]}" if seen[slug] else slug)
+        seen[slug] += 1
     return found
 
 
