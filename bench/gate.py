@@ -1,12 +1,15 @@
 """Reads the tasks of a gate's run off its processes, and prints the minutes of each.
 
-Usage: gate.py LOG CRATES COMMAND..   runs the command, and writes LOG
-       gate.py LOG CRATES             prints LOG
+Usage: gate.py LOG CRATES COMMAND..     runs the command, and writes LOG
+       gate.py LOG[,LOG..] CRATES       prints the logs together: of a task that several have, the last one's
+       gate.py --budget LOG CRATES      prints one line: how far the run is from the budget of CONTRIBUTING.md
 
 A line of LOG is a task: crate, kind (proof, tests or edits), when it began and ended, and its processor seconds.
 The last line, `all whole`, is the whole run, with all that it started.
 """
 import os
+import pathlib
+import re
 import resource
 import subprocess
 import sys
@@ -17,6 +20,9 @@ KINDS = ("proof", "tests", "edits")
 WHOLE = ("all", "whole")
 UNIT = ("sn_frame", "proof")
 TICKS = os.sysconf("SC_CLK_TCK")
+# The page that has the budget, and the sentence that says it.
+PAGE = pathlib.Path(__file__).resolve().parent.parent / "CONTRIBUTING.md"
+SAYS = re.compile(r"at most\s+([0-9]+\.[0-9])\s+proofs\s+of\s+`sn_frame`")
 
 
 def below(root):
@@ -85,6 +91,21 @@ def read_tasks(log):
     return tasks
 
 
+def read_together(logs, crates):
+    """The tasks of several logs, and the whole run if there is one log. A crate's tasks are those of the last log that has its proof."""
+    if len(logs) == 1:
+        tasks = read_tasks(logs[0])
+        whole = tasks.pop(WHOLE, None)
+        return tasks, whole
+    tasks = {}
+    for log in logs:
+        of_log = read_tasks(log)
+        proved = {crate for crate, kind in of_log if kind == "proof"}
+        tasks = {task: it for task, it in tasks.items() if task[0] not in proved}
+        tasks.update({task: it for task, it in of_log.items() if task[0] in proved or task not in tasks and task != WHOLE})
+    return {task: it for task, it in tasks.items() if task[0] in crates}, None
+
+
 def read_crates(path):
     """What each crate stands on, lowest first."""
     crates = {}
@@ -114,6 +135,25 @@ def chain(crates, tasks):
         found.append(max(before, key=lambda it: tasks[it][1]))
 
 
+def reckon(crates, tasks, lanes):
+    """The seconds that the tasks would take on so many lanes that are always busy: the longest chain of work first."""
+    ahead = {}
+    for task in sorted(tasks, key=lambda it: (list(crates).index(it[0]), KINDS.index(it[1])), reverse=True):
+        after = [ahead[it] for it in ahead if task in waits(crates, it)]
+        ahead[task] = tasks[task][2] + max(after, default=0)
+    ended, running, now = {}, [], 0
+    left = set(tasks)
+    while left or running:
+        ready = [it for it in left if all(up in ended or up not in tasks for up in waits(crates, it))]
+        for task in sorted(ready, key=lambda it: -ahead[it])[: lanes - len(running)]:
+            left.discard(task)
+            running.append((now + tasks[task][2], task))
+        running.sort()
+        now, task = running.pop(0)
+        ended[task] = now
+    return now
+
+
 def minutes(seconds):
     return f"{seconds / 60:7.1f}"
 
@@ -138,33 +178,65 @@ def dearest(tasks, most=10):
         print(f"  {crate:16} {kind:6} {minutes(tasks[crate, kind][2])}")
 
 
-def measure(tasks, whole):
+def lacking(crates, tasks):
+    """The crates whose proof is not in the log, since an earlier run had kept it."""
+    return [it for it in crates if (it, "proof") not in tasks]
+
+
+def measure(crates, tasks, whole):
     """Prints the measure: what the whole run took, in proofs of sn_frame. It depends little on the machine."""
     unit = tasks.get(UNIT, (0, 0, 0))[2]
-    if not whole or not unit:
-        print("\nno measure: the log lacks the whole run, or the proof of sn_frame")
+    kept = lacking(crates, tasks)
+    if kept or not unit:
+        print(f"\nno measure: the log lacks the proofs of {len(kept)} of {len(crates)} crates")
         return
-    _, end, work = whole
-    print(f"\nthe whole run: {end / 60:.1f} minutes, {work / 60:.1f} of a processor; the proof of sn_frame: {unit / 60:.1f}")
+    work = whole[2] if whole else sum(it for _, _, it in tasks.values())
+    if whole:
+        print(f"\nthe whole run: {whole[1] / 60:.1f} minutes, {work / 60:.1f} of a processor; the proof of sn_frame: {unit / 60:.1f}")
+    else:
+        print(f"\nthe tasks together: {work / 60:.1f} minutes of a processor; the proof of sn_frame: {unit / 60:.1f}")
+    for lanes in (4, 2):
+        print(f"reckoned for {lanes} lanes that are always busy: {reckon(crates, tasks, lanes) / 60:.0f} minutes")
     print(f"measure of the gate, in proofs of sn_frame: {work / unit:.1f}")
 
 
+def budget(log, path):
+    """Prints how far a run is from the budget. A run that took proofs of earlier runs has no measure."""
+    crates, tasks = read_crates(path), read_tasks(log)
+    whole, unit = tasks.pop(WHOLE, None), tasks.get(UNIT, (0, 0, 0))[2]
+    found = SAYS.search(PAGE.read_text())
+    if not found:
+        print("gate: CONTRIBUTING.md does not say its budget")
+        return 1
+    most, kept = float(found[1]), lacking(crates, tasks)
+    if kept or not whole or not unit:
+        print(f"gate: {len(crates) - len(kept)} of {len(crates)} crates were proved in this run, so it has no measure; the budget is {most:.1f} proofs of sn_frame")
+        return 0
+    taken = whole[2] / unit
+    over = taken > most
+    print(f"gate: {taken:.1f} proofs of sn_frame, {abs(most - taken):.1f} {'OVER' if over else 'below'} the budget of {most:.1f}; {whole[1] / 60:.0f} minutes, {whole[2] / 60:.0f} of a processor")
+    return 0
+
+
 def main(words):
+    if words[0] == "--budget":
+        return budget(*words[1:])
     log, path, *command = words
     if command:
         return run(log, command)
-    crates, tasks = read_crates(path), read_tasks(log)
-    whole = tasks.pop(WHOLE, None)
+    crates = read_crates(path)
+    tasks, whole = read_together(log.split(","), crates)
     if not tasks:
         print("no task was seen")
         return 1
     table(crates, tasks)
-    print("\nthe chain that ended last (minutes from the start):")
-    for crate, kind in chain(crates, tasks):
-        first, last, _ = tasks[crate, kind]
-        print(f"  {crate:16} {kind:6} {minutes(first)} to {minutes(last)}")
+    if whole:
+        print("\nthe chain that ended last (minutes from the start):")
+        for crate, kind in chain(crates, tasks):
+            first, last, _ = tasks[crate, kind]
+            print(f"  {crate:16} {kind:6} {minutes(first)} to {minutes(last)}")
     dearest(tasks)
-    measure(tasks, whole)
+    measure(crates, tasks, whole)
     return 0
 
 

@@ -1,10 +1,9 @@
 #!/bin/sh
-# The gate of the kit: every proof, edit, test and program.
+# The gate of the kit: every proof, edit, test and program. At its end it says how far the run is from the gate's budget.
 #
-# Without RT_JOBS the kit lets fewer tasks run side by side than there are processors where it reckons with too little memory for them: kit 13b
-# reckons with about twice of what tasks take here (3.1 GB is the most that was seen), kit 13f reckons more for a program that reaches
-# all than it takes too (about three of four lanes were busy behind the chain). So where there are 4 GiB for each there is a lane for each processor and one more:
-# `rt ci` itself sums up files in between, in which a lane stands still. Where there are not, the kit decides. Whoever sets RT_JOBS has set it.
+# Without RT_JOBS the kit reckons with more memory for a task than it takes (3.1 GB is the most that was seen), so lanes
+# stay empty. If there are 4 GiB for each, there is a lane for each processor and one more: `rt ci` itself sums up files in
+# between, and a lane stands still. If there are not, the kit decides. RT_JOBS is taken as it is set.
 set -eu
 if [ -z "${RT_JOBS:-}" ]; then
     lanes=$(($(nproc) + 1))
@@ -14,4 +13,8 @@ if [ -z "${RT_JOBS:-}" ]; then
         export RT_JOBS
     fi
 fi
-exec rt ci
+mkdir -p out
+status=0
+python3 bench/gate.py out/gate.log crates.txt rt ci || status=$?
+python3 bench/gate.py --budget out/gate.log crates.txt
+exit $status
