@@ -11,3 +11,4 @@ pub mod Stops
 pub mod Writing
 pub mod Catching
 pub mod Staying
+pub mod Remaining

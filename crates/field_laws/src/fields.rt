@@ -29,12 +29,16 @@ ghost use Rattle.gw_world.specs.Steps.{AnswerStep};
 ghost use Rattle.gw_event.specs.Event.{IsPlan, OwnStep, TakeStep, IsWritable};
 ghost use Rattle.gw_world.specs.Steady.{IsSteady};
 ghost use Rattle.gw_world.specs.Whole.{listed, everything, number_of, IsHome, AreMadeOnce, made_by, MayMake, NoneFails, told, brought, HasTakenAll};
+ghost use Rattle.field_laws.specs.Settings.{settings};
 
 /// No message vanishes. What a gateway has taken it keeps: its set only grows, whatever comes and
 /// whatever fails. So a message that waits for a client at a gateway, at any moment of a run, waits
 /// there at every later moment, or its acknowledgement is in the set of that gateway. The same holds
-/// at each gateway that has taken all that this one had.
+/// at each gateway that has taken all that this one had. No gateway leaves the field, and each keeps
+/// its place, its number and its other settings.
 pub fn nothing_vanishes()
+    ensures places { (old new : Field) (more : List Event) (replies : List Answer)
+        → Run old more replies new → settings new ≡ settings old }
     ensures grows { (old new : Field) (more : List Event) (replies : List Answer) (i : ℕ)
         (gateway later : Gateway)
         → slice_get old.gateways i ≡ Some gateway → Run old more replies new

@@ -1,0 +1,78 @@
+-- No gateway leaves a field, and none takes another's place: a run keeps the settings of each place.
+use Rattle.std.proofs.Common.{◌≡◌, ℕ, zero, suc, ◌⊎◌, List, [], ◌∷◌, map, set, slice_get, Some, refl, sym, ap, ◌∙◌, inl, inr}
+use Rattle.std.proofs.lemmas.Option.{none-some, same_Some}
+use Rattle.rep_op.specs.declared.op.Op.{Op}
+use Rattle.sn_local.specs.declared.config.Config.{Config}
+use Rattle.gw_world.specs.declared.event.Event.{Event}
+use Rattle.gw_world.specs.declared.event.Event.TheVariants.{Frame, Tick, Take, Answer as Asks, WriteFails, Compact, Restart, Show}
+use Rattle.gw_world.specs.declared.event.Answer.{Answer}
+use Rattle.gw_world.specs.declared.event.Answer.TheVariants.{Node, Views, Records, Nothing}
+use Rattle.gw_answer.specs.Answers.{said}
+use Rattle.gw_event.specs.Occasions.{Datagram, Clock}
+use Rattle.gw_event.specs.Gateways.{Gateway}
+use Rattle.gw_world.specs.Field.{Field, failing, After, Run}
+use Rattle.gw_world.specs.Steps.{restarted}
+use Rattle.gw_world.proofs.Steadiness.{Still, Stepped, Fed, own-moves, take-moves, compact-still, restart-moves}
+use Rattle.field_laws.specs.Settings.{settings}
+
+abbrev config_of : Gateway → Config
+config_of g = g.config
+
+-- the gateway of one place became one with the same settings
+set-same : (gs : List Gateway) (i : ℕ) (old next : Gateway) → slice_get gs i ≡ Some old → next.config ≡ old.config → map config_of (set gs i next) ≡ map config_of gs
+set-same [] i old next is same = absurd (none-some old is)
+set-same (g ∷ gs) zero old next is same = ap (λ c. c ∷ map config_of gs) (same ∙ ap config_of (sym (same_Some g old is)))
+set-same (g ∷ gs) (suc i) old next is same = ap (λ cs. g.config ∷ cs) (set-same gs i old next is same)
+
+still-or-stepped : (old next : Gateway) (made : List (List Op)) → Still old next made ⊎ Stepped old next made → next.config ≡ old.config
+still-or-stepped old next made (inl u) = u.config
+still-or-stepped old next made (inr u) = u.config
+
+still-or-fed : (old next : Gateway) (delta : List Op) (made : List (List Op)) → Still old next made ⊎ Fed old delta next made → next.config ≡ old.config
+still-or-fed old next delta made (inl u) = u.config
+still-or-fed old next delta made (inr u) = u.config
+
+after-same : (old : Field) (event : Event) (answer : Answer) (new : Field) → After old event answer new → settings new ≡ settings old
+after-same old (Frame number from bytes now) (Node answer) new h =
+    ap settings h.6 ∙ set-same old.gateways h.0 h.1 h.2 h.4.1 (still-or-stepped h.1 h.2 h.3 (own-moves h.1 (Datagram from bytes) now (said answer) h.2 h.3 h.5))
+after-same old (Tick number now) (Node answer) new h =
+    ap settings h.6 ∙ set-same old.gateways h.0 h.1 h.2 h.4.1 (still-or-stepped h.1 h.2 h.3 (own-moves h.1 Clock now (said answer) h.2 h.3 h.5))
+after-same old (Take number delta) (Node answer) new h =
+    ap settings h.8 ∙ set-same old.gateways h.0 h.1 h.2 h.5.1 (still-or-fed h.1 h.2 h.4 h.3 (take-moves h.1 h.4 (said answer) h.2 h.3 h.7))
+after-same old (Asks number peer) (Node answer) new h = ap settings h.8
+after-same old (WriteFails number bytes sync) Nothing new h = ap settings h.3 ∙ set-same old.gateways h.0 h.1 (failing bytes sync h.1) h.2.1 refl
+after-same old (Compact number) (Node answer) new h =
+    ap settings h.5 ∙ set-same old.gateways h.0 h.1 h.2 h.3.1 (compact-still h.1 h.2 (said answer) h.4).config
+after-same old (Restart number kept) (Records count) new h =
+    ap settings h.4 ∙ set-same old.gateways h.0 h.1 (restarted kept h.1) h.2.1 (still-or-fed h.1 (restarted kept h.1) h.1.refused [] (restart-moves kept h.1))
+after-same old (Show number) (Views views) new h = ap settings h.4
+after-same old (Frame number from bytes now) (Views views) new h = absurd h
+after-same old (Tick number now) (Views views) new h = absurd h
+after-same old (Take number delta) (Views views) new h = absurd h
+after-same old (Asks number peer) (Views views) new h = absurd h
+after-same old (Show number) (Node answer) new h = absurd h
+after-same old (Compact number) (Views views) new h = absurd h
+after-same old (Restart number kept) (Views views) new h = absurd h
+after-same old (Restart number kept) (Node answer) new h = absurd h
+after-same old (Frame number from bytes now) (Records count) new h = absurd h
+after-same old (Tick number now) (Records count) new h = absurd h
+after-same old (Take number delta) (Records count) new h = absurd h
+after-same old (Asks number peer) (Records count) new h = absurd h
+after-same old (Compact number) (Records count) new h = absurd h
+after-same old (Show number) (Records count) new h = absurd h
+after-same old (WriteFails number bytes sync) (Node answer) new h = absurd h
+after-same old (WriteFails number bytes sync) (Views views) new h = absurd h
+after-same old (WriteFails number bytes sync) (Records count) new h = absurd h
+after-same old (Frame number from bytes now) Nothing new h = absurd h
+after-same old (Tick number now) Nothing new h = absurd h
+after-same old (Take number delta) Nothing new h = absurd h
+after-same old (Asks number peer) Nothing new h = absurd h
+after-same old (Compact number) Nothing new h = absurd h
+after-same old (Restart number kept) Nothing new h = absurd h
+after-same old (Show number) Nothing new h = absurd h
+
+pub places : (old new : Field) (more : List Event) (replies : List Answer) → Run old more replies new → settings new ≡ settings old
+places old new [] [] h = ap settings h
+places old new (event ∷ events) (answer ∷ answers) h = places h.0 new events answers h.2 ∙ after-same old event answer h.0 h.1
+places old new [] (answer ∷ answers) h = absurd h
+places old new (event ∷ events) [] h = absurd h
