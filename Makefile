@@ -44,6 +44,7 @@ test:
 	python3 tools/trust.py --check
 	python3 tools/voice.py
 	python3 tools/links.py
+	python3 tools/edits.py --check
 	sh tools/ci.sh
 
 trust:
