@@ -6,7 +6,6 @@ use Rattle.std.proofs.lemmas.List.Concat.{flat_map-append}
 use Rattle.std.proofs.lemmas.Option.{none-some, same_Some, slice_get-map, slice_get_read}
 use Rattle.rep_op.specs.declared.op.Op.{Op}
 use Rattle.rep_op.specs.Sets.{is_acknowledged}
-use Rattle.rep_ops.specs.Making.{IsDeltaOf}
 use Rattle.rep_ops.specs.Splitting.{all_of}
 use Rattle.rep_model.proofs.Readers.{is_acknowledged_both}
 use Rattle.sn_local.specs.declared.config.Addr.{Addr}
@@ -28,12 +27,12 @@ use Rattle.gw_world.specs.declared.event.Event.{Event}
 use Rattle.gw_world.specs.declared.event.Event.TheVariants.{Frame, Tick, Take, Answer as Asks, WriteFails, Compact, Restart, Show}
 use Rattle.gw_world.specs.declared.event.Answer.{Answer}
 use Rattle.gw_world.specs.declared.event.Answer.TheVariants.{Node, Views, Records, Nothing}
-use Rattle.gw_world.specs.Field.{Field, new_field, IsAt, IsDeltaAt, changed, failing, After, Run}
+use Rattle.gw_world.specs.Field.{Field, new_field, IsAt, changed, failing, After, Run}
 use Rattle.gw_world.specs.Steps.{AnswerStep, restarted}
 use Rattle.gw_world.specs.Whole.{listed}
 use Rattle.gw_world.proofs.Answering.{answered}
 use Rattle.gw_world.proofs.Each.{set-cases}
-use Rattle.promise_laws.specs.Acknowledged.{IsAcknowledgedIn, IsOccasion, HasCause, EndsWith, Acknowledges, IsWrittenBy}
+use Rattle.promise_laws.specs.Acknowledged.{IsAcknowledgedIn, HasCause, EndsWith, Acknowledges, IsWrittenBy}
 
 or_cases : (a b : Bool) → (a || b) ≡ true → (a ≡ true) ⊎ (b ≡ true)
 or_cases true b e = inl refl

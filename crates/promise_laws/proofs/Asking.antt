@@ -1,5 +1,5 @@
 -- Who asks for a publication and can get it is a recipient, and the topic is the one that the field means.
-use Rattle.std.proofs.Common.{◌≡◌, ℕ, ◌≤◌, ◌<◌, ◌==◌, Bool, true, false, cond, ◌&&◌, ◌||◌, nat_lt, min, max, ◌⊎◌, List, [], ◌∷◌, map, filter, find, fold, length, if◌then◌else◌, Option, Some, None, option_map, option_and_then, Contains, refl, sym, ap, ◌∙◌, subst, inl, inr, arith, eqb-true, true≢false}
+use Rattle.std.proofs.Common.{◌≡◌, ℕ, ◌≤◌, ◌<◌, ◌==◌, Bool, true, false, cond, ◌&&◌, ◌||◌, nat_lt, min, max, ◌⊎◌, List, [], ◌∷◌, map, filter, fold, length, if◌then◌else◌, Option, Some, None, option_map, option_and_then, Contains, refl, sym, ap, ◌∙◌, subst, inl, inr, arith, eqb-true, true≢false}
 use Rattle.std.proofs.lemmas.Bool.{lt-ltb, ltb-false}
 use Rattle.std.proofs.lemmas.List.Elements.{All-contains}
 use Rattle.std.proofs.lemmas.Option.{none-some, same_Some}
@@ -9,7 +9,7 @@ use Rattle.sn_topic.specs.Topics.{is_name, name_asked}
 use Rattle.sn_topic.proofs.Rule.{is_match-Matches}
 use Rattle.sn_tables.specs.declared.subscriptions.Subscription.{Subscription}
 use Rattle.sn_tables.specs.declared.topics.TopicEntry.{TopicEntry}
-use Rattle.sn_tables.specs.Subscriptions.{or_greater, asked_qos, subscribed_qos}
+use Rattle.sn_tables.specs.Subscriptions.{or_greater, asked_qos}
 use Rattle.sn_tables.specs.Topics.{topic_of}
 use Rattle.sn_tables.proofs.Greatest.{greatest_is}
 use Rattle.sn_session.specs.declared.presence.Presence.{Presence}
@@ -18,7 +18,6 @@ use Rattle.sn_session.specs.Messages.{is_too_long}
 use Rattle.sn_frame.specs.declared.flags.TopicIdType.{TopicIdType}
 use Rattle.sn_frame.specs.declared.flags.TopicIdType.TheVariants as kinds
 use Rattle.sn_frame.specs.FlagBits.{kind_of}
-use Rattle.rep_op.specs.declared.op.Put.{Put}
 use Rattle.rep_model.specs.declared.view.ClientView.{ClientView}
 use Rattle.sn_plan.specs.Others.{is_up}
 use Rattle.sn_publish.specs.declared.meaning.Meant.{Meant}
@@ -98,11 +97,11 @@ asks-gets name qos v asks =
 -- ---- the topic
 
 -- the name of a topic that is meant
-name_or : Meant → List ℕ → List ℕ
+abbrev name_or : Meant → List ℕ → List ℕ
 name_or (Refused code) other = other
 name_or (Topic name) other = name
 
-is-refused : Meant → Bool
+abbrev is-refused : Meant → Bool
 is-refused (Refused code) = true
 is-refused (Topic name) = false
 

@@ -1,5 +1,5 @@
 -- What a gateway took, or was answered, it has; and two that took each other's answers have the same.
-use Rattle.std.proofs.Common.{◌≡◌, ℕ, ◌-◌, ◌⊎◌, List, [], ◌∷◌, ◌++◌, map, slice_get, Some, Contains, Result, Ok, refl, sym, ap, ◌∙◌, subst, inl, inr}
+use Rattle.std.proofs.Common.{◌≡◌, ℕ, ◌-◌, ◌⊎◌, List, ◌∷◌, ◌++◌, map, slice_get, Some, Contains, Result, Ok, sym, ap, ◌∙◌, subst, inl, inr}
 use Rattle.std.specs.declared.sync.Arc.{Arc}
 use Rattle.std.specs.declared.alloc.Global.{Global}
 use Rattle.std.proofs.lemmas.Option.{same_Some}
@@ -105,8 +105,8 @@ field-took configs events more answers replies old mid new number i k gateway la
     below-within delta later.taken
     (parts-within new whole later.taken delta (at-field new i later place)
     (λ op inside.
-        run-contains mid new more replies i h.2 later (subst (λ (n : ℕ). slice_get mid.gateways n ≡ Some h.2) e here) goes_on place op
-        (subst (λ (S : List Op). Contains S op) (sym taken) (Contains-append_right h.1.taken h.4 op (subst (λ (D : List Op). Contains D op) (sym same) inside)))))
+    run-contains mid new more replies i h.2 later (subst (λ (n : ℕ). slice_get mid.gateways n ≡ Some h.2) e here) goes_on place op
+    (subst (λ (S : List Op). Contains S op) (sym taken) (Contains-append_right h.1.taken h.4 op (subst (λ (D : List Op). Contains D op) (sym same) inside)))))
 
 -- a gateway and a peer, and what that answered
 record HasAsked (old mid : Field) (asker peer : Gateway) (out : Out) : Type 0 where

@@ -1,5 +1,5 @@
 -- A field that has an acknowledgement has, or had, the message: some gateway has taken it.
-use Rattle.std.proofs.Common.{◌≡◌, ℕ, Bool, true, false, cond, not, ◌⊎◌, List, [], ◌∷◌, ◌++◌, flat_map, slice_get, Option, Some, None, Contains, refl, sym, ap, ◌∙◌, subst, inl, inr}
+use Rattle.std.proofs.Common.{◌≡◌, ℕ, Bool, true, false, cond, not, List, [], ◌∷◌, slice_get, Option, Some, None, Contains, refl, sym, ◌∙◌, subst, inl, inr}
 use Rattle.std.proofs.lemmas.Option.{none-some}
 use Rattle.std.proofs.lemmas.List.Elements.{Contains-append_left}
 use Rattle.rep_op.specs.declared.op.Op.{Op}
@@ -10,6 +10,7 @@ use Rattle.rep_model.specs.Views.{pending}
 use Rattle.rep_model.proofs.Pending.{pending-listed}
 use Rattle.rep_model.proofs.Thin.{pending_at-reads}
 use Rattle.sn_local.specs.declared.config.Config.{Config}
+use Rattle.sn_local.specs.declared.config.Send.{Send}
 use Rattle.gw_event.specs.Occasions.{Occasion, Datagram, Clock}
 use Rattle.gw_event.specs.Gateways.{Gateway}
 use Rattle.gw_node.proofs.Occurring.{put_occurs}
@@ -17,7 +18,6 @@ use Rattle.gw_world.specs.declared.event.Event.{Event}
 use Rattle.gw_world.specs.declared.event.Answer.{Answer}
 use Rattle.gw_world.specs.Field.{Field, new_field, After, Run}
 use Rattle.field_laws.proofs.Catching.{run-later, later-now}
-use Rattle.cause_laws.specs.Causes.{IsForCause}
 use Rattle.promise_laws.specs.Acknowledged.{IsAcknowledgedIn, HasCause, Acknowledges}
 use Rattle.promise_laws.proofs.Acking.{after-acked, start-acked}
 
@@ -57,7 +57,7 @@ module _ (c : List ℕ) (name : ℕ × ℕ) where
   abbrev Waiting : Gateway → Type 0
   Waiting gateway = (m : Put) × Contains (pending c gateway.taken) m × (name ≡ (m.seq, m.origin))
 
-  cause-waits : (gateway : Gateway) (occasion : Occasion) (now : ℕ) (sends : _) → HasCause gateway occasion now sends c name → Waiting gateway
+  cause-waits : (gateway : Gateway) (occasion : Occasion) (now : ℕ) (sends : List Send) → HasCause gateway occasion now sends c name → Waiting gateway
   cause-waits gateway (Datagram from bytes) now sends h = (h.3.1.0, h.3.1.1, h.3.1.2)
   cause-waits gateway Clock now sends h = (h.1.2.0, h.1.2.1, h.1.2.2)
 

@@ -1,6 +1,5 @@
 -- A message of a step's plan stands in the delta that the step makes, and waits.
-use Rattle.std.proofs.Common.{◌≡◌, ℕ, Bool, true, false, cond, not, ◌⊎◌, List, [], ◌∷◌, ◌++◌, Option, Some, None, is_some, Contains, Result, Ok, refl, sym, ap, ◌∙◌, subst, true≢false, inl, inr}
-use Rattle.std.specs.List.{AllByRecursion}
+use Rattle.std.proofs.Common.{◌≡◌, ℕ, Bool, true, false, cond, not, ◌⊎◌, List, [], ◌∷◌, ◌++◌, Option, Some, None, Contains, refl, sym, ap, ◌∙◌, subst, inl, inr}
 use Rattle.std.proofs.lemmas.Option.{none-some}
 use Rattle.std.proofs.lemmas.List.Elements.{All-from_recursion, All-contains, Contains-append_left, Contains-append_right, Contains-append_cases, Contains-push, Contains-push_cases}
 use Rattle.rep_op.specs.declared.op.Op.{Op}
@@ -18,7 +17,7 @@ use Rattle.sn_local.specs.Seen.{seen_of}
 use Rattle.sn_plan.specs.declared.draft.NewPut.{NewPut}
 use Rattle.sn_plan.specs.declared.plan.Plan.{Plan}
 use Rattle.sn_plan.specs.Flush.{AreFlush}
-use Rattle.sn_plan.specs.Own.{IsOwn, IsOfDraft, message_of, messages}
+use Rattle.sn_plan.specs.Own.{IsOwn, IsOfDraft, messages}
 use Rattle.row_laws.proofs.Known.{same-behind}
 use Rattle.row_laws.proofs.Names.{plan-own}
 use Rattle.row_laws.proofs.Stepping.{step-new_put}
@@ -26,10 +25,9 @@ use Rattle.cause_laws.proofs.Acked.{none-there}
 use Rattle.put_laws.specs.Puts.{IsOfGateway, IsKept}
 use Rattle.put_laws.proofs.Putting.{of-draft}
 use Rattle.put_laws.proofs.Waiting.{gateway-kept}
-use Rattle.gw_answer.specs.declared.out.Out.{Out}
 use Rattle.gw_event.specs.Occasions.{Occasion, Datagram, Clock}
 use Rattle.gw_event.specs.Gateways.{Gateway}
-use Rattle.gw_event.specs.Event.{IsMade, IsPlan, OwnStep}
+use Rattle.gw_event.specs.Event.{IsMade, IsPlan}
 use Rattle.gw_node.proofs.Occurring.{put_occurs, is_there}
 use Rattle.gw_world.proofs.Alone.{delta-stands}
 use Rattle.promise_laws.specs.Accepted.{IsNewIn}
@@ -50,7 +48,7 @@ head_or y x xs h =
     ]
 
 -- the operations have a message for this client, with this topic, quality of service and body
-record HasMessage (ops : List Op) (p : NewPut) : Type 0 where
+pub record HasMessage (ops : List Op) (p : NewPut) : Type 0 where
   pub message : Put
   pub among : Contains ops (OfPut p.client message)
   pub says : (message.topic ≡ p.topic) × (message.qos ≡ p.qos) × (message.body ≡ p.body)

@@ -1,27 +1,25 @@
 -- A message that stands in a set waits in each set that has all of it that counts, or is acknowledged there.
-use Rattle.std.proofs.Common.{◌≡◌, ℕ, Bool, true, false, cond, not, ◌⊎◌, List, [], ◌++◌, slice_get, Option, Some, None, Contains, refl, sym, ap, ◌∙◌, subst, inl, inr}
+use Rattle.std.proofs.Common.{◌≡◌, ℕ, Bool, true, false, cond, not, List, ◌++◌, slice_get, Option, Some, None, Contains, refl, sym, ap, ◌∙◌, subst, inl, inr}
 use Rattle.std.proofs.lemmas.Option.{same_Some}
 use Rattle.rep_op.specs.declared.op.Op.{Op}
 use Rattle.rep_op.specs.declared.op.Put.{Put}
-use Rattle.rep_op.specs.Sets.{put_at, is_acknowledged, Within, Same}
+use Rattle.rep_op.specs.Sets.{put_at, is_acknowledged, Within}
 use Rattle.rep_ops.specs.Splitting.{all_of}
 use Rattle.rep_model.specs.declared.view.ClientView.{ClientView}
-use Rattle.rep_model.specs.Keep.{keep, CountsAs, Below}
+use Rattle.rep_model.specs.Keep.{CountsAs, Below}
 use Rattle.rep_model.proofs.Joins.{same_sym, view-counts, within-left}
 use Rattle.rep_model.proofs.Lookup.{or_else}
 use Rattle.rep_model.proofs.Pending.{pending-listed, pending-stay}
 use Rattle.rep_model.proofs.Readers.{put_at_both, is_acknowledged_keep}
 use Rattle.rep_model.proofs.Thin.{pending_at-reads}
-use Rattle.jr_disk.specs.Disk.{Image}
 use Rattle.jr_journal.specs.Records.{records}
 use Rattle.gw_event.specs.Gateways.{Gateway, with_refused}
-use Rattle.gw_node.specs.Taking.{StandsFor}
 use Rattle.gw_node.proofs.Taken.{as_taken}
 use Rattle.gw_world.specs.declared.event.Event.{Event}
 use Rattle.gw_world.specs.declared.event.Answer.{Answer}
 use Rattle.gw_world.specs.Field.{Field, Run}
 use Rattle.field_laws.proofs.Catching.{run-later, later-now}
-use Rattle.promise_laws.specs.Accepted.{WaitsOrAcknowledged, IsWithGateway, IsLeftOf, HasCome, IsKeptFrom}
+use Rattle.promise_laws.specs.Accepted.{WaitsOrAcknowledged, IsWithGateway, IsKeptFrom}
 use Rattle.promise_laws.proofs.Serving.{IsPut}
 
 -- a set stands in itself, and in itself with what was refused

@@ -1,5 +1,5 @@
 -- Who gets a publication, and what it is about, in words that the step table does not use.
-use Rattle.std.specs.Prelude.{◌≡◌, ◌⊎◌, ◌<◌, ◌≤◌, ℕ, ◌/◌, ◌%◌, true, min, List, [], ◌∷◌, length, Some, Contains}
+use Rattle.std.specs.Prelude.{◌≡◌, ◌⊎◌, ◌<◌, ◌≤◌, ℕ, ◌/◌, ◌%◌, min, List, [], ◌∷◌, length, Some, Contains}
 use Rattle.sn_topic.specs.Matching.{Matches}
 use Rattle.sn_topic.specs.Table.{Entries, name_of}
 use Rattle.sn_tables.specs.declared.subscriptions.Subscription.{Subscription}

@@ -1,6 +1,6 @@
 //! What comes of deltas and of digests: which gateway has what.
 
-ghost use Rattle.std.specs.Prelude.{◌≡◌, ◌⊎◌, ◌×◌, ℕ, List, Some, Contains, Result, Ok, slice_get};
+ghost use Rattle.std.specs.Prelude.{◌≡◌, ◌⊎◌, ℕ, List, Some, Contains, Result, Ok, slice_get};
 ghost use Rattle.std.specs.declared.sync.Arc.{Arc};
 ghost use Rattle.std.specs.declared.alloc.Global.{Global};
 ghost use Rattle.rep_op.specs.declared.op.Op.{Op};

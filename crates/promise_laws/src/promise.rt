@@ -1,6 +1,6 @@
 //! The promise, in one law.
 
-ghost use Rattle.std.specs.Prelude.{◌≡◌, ◌⊎◌, ◌×◌, ℕ, List, Some, Contains};
+ghost use Rattle.std.specs.Prelude.{◌≡◌, ◌⊎◌, ℕ, List, Some, Contains};
 ghost use Rattle.sn_frame.specs.declared.flags.Flags.{Flags};
 ghost use Rattle.sn_frame.specs.declared.flags.Qos.TheVariants.{One, Two};
 ghost use Rattle.sn_frame.specs.declared.frame.Frame.TheVariants as frames;

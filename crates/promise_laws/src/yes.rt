@@ -1,6 +1,6 @@
 //! What a gateway accepted is made, and stays.
 
-ghost use Rattle.std.specs.Prelude.{◌≡◌, ◌⊎◌, ◌×◌, ◌≤◌, ℕ, min, List, Some, Contains};
+ghost use Rattle.std.specs.Prelude.{◌≡◌, ◌⊎◌, ◌≤◌, ℕ, min, List, Some, Contains};
 ghost use Rattle.sn_topic.specs.Table.{Entries};
 ghost use Rattle.sn_session.specs.declared.session.Session.{Session};
 ghost use Rattle.sn_frame.specs.declared.flags.Flags.{Flags};
