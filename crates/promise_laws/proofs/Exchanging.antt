@@ -1,5 +1,5 @@
 -- What a gateway took, or was answered, it has; and two that took each other's answers have the same.
-use Rattle.std.proofs.Common.{◌≡◌, ℕ, ◌-◌, ◌⊎◌, List, ◌∷◌, ◌++◌, map, slice_get, Some, Contains, Result, Ok, sym, ap, ◌∙◌, subst, inl, inr}
+use Rattle.std.proofs.Common.{◌≡◌, ℕ, ◌⊎◌, List, ◌∷◌, ◌++◌, map, slice_get, Some, Contains, Result, Ok, sym, ap, ◌∙◌, subst, inl, inr}
 use Rattle.std.specs.declared.sync.Arc.{Arc}
 use Rattle.std.specs.declared.alloc.Global.{Global}
 use Rattle.std.proofs.lemmas.Option.{same_Some}
