@@ -143,7 +143,7 @@ NAMED = set("""
     sn_session/change/SessionOp sn_session/outbound/Outbound sn_session/outbound/Phase sn_session/presence/Presence
     sn_session/session/Session rep_ops/Making/AreApart rep_ops/Making/IsDeltaOf rep_ops/Spelling/IsWithinLimit
     rep_model/Fresh/next_epoch rep_model/Fresh/next_seq rep_model/Limits/first_passed rep_model/Roomy/IsRoomy
-    rep_model/Views/is_named rep_model/Views/named rep_model/fault/Limit jr_disk/disk/Plan jr_disk/disk/Slot
+    rep_model/Views/is_named rep_model/Views/named jr_disk/disk/Plan jr_disk/disk/Slot
     jr_journal/Faults/fault_of jr_journal/Faults/is_fresh jr_journal/Parts/disk_of jr_journal/Parts/gateway_of
     jr_journal/Parts/slot_of jr_journal/Records/records jr_journal/journal/Journal sn_local/Locals/after_all
     sn_local/Locals/owned sn_local/config/Addr sn_local/config/Config sn_local/local/Binding sn_local/local/LocalChange
@@ -154,8 +154,8 @@ NAMED = set("""
     sn_deliver/Steps/row_for sn_deliver/Steps/step sn_tick/Ticking/tick cause_laws/Causes/gives_message
     cause_laws/Causes/gives_topic gw_event/Drives/has_more gw_event/Drives/left_by gw_event/Drives/opened
     gw_event/Drives/torn gw_event/Drives/with_record gw_event/Event/CompactStep gw_event/Event/DigestStep
-    gw_event/Event/HasNoDelta gw_event/Event/IsConflict gw_event/Event/IsWritable gw_event/Event/ReplyStep
-    gw_event/Event/ViewStep gw_event/Excuses/IsExcuse gw_event/Occasions/IsNoFrame gw_node/Failures/failed
+    gw_event/Event/HasNoDelta gw_event/Event/IsWritable gw_event/Event/ReplyStep
+    gw_event/Event/ViewStep gw_event/Excuses/IsExcuse gw_event/Occasions/IsNoFrame
     gw_node/Parts/is_halted gw_node/Parts/state_of gw_node/Standing/Agrees gw_node/Standing/IsForeseen
     gw_world/Places/place_of gw_world/Steps/AnswerStep sn_local/Bindings/address_of sn_local/Bindings/client_at
     sn_local/Bindings/is_owned sn_local/WillDialogs/dialog_at sn_flow/Connection/has_bit sn_exchange/Exchanges/is_served

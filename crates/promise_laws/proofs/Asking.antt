@@ -1,6 +1,6 @@
 -- Who asks for a publication and can get it is a recipient, and the topic is the one that the field means.
 use Rattle.std.proofs.Common.{◌≡◌, ℕ, ◌≤◌, ◌<◌, ◌==◌, Bool, true, false, cond, ◌&&◌, ◌||◌, nat_lt, min, max, ◌⊎◌, List, [], ◌∷◌, map, filter, fold, length, if◌then◌else◌, Option, Some, None, option_map, option_and_then, Contains, refl, sym, ap, ◌∙◌, subst, inl, inr, arith, eqb-true, true≢false}
-use Rattle.std.proofs.lemmas.Bool.{lt-ltb, ltb-false}
+use Rattle.std.proofs.lemmas.Bool.{and_parts, lt-ltb, ltb-false, ltb-true}
 use Rattle.std.proofs.lemmas.List.Elements.{All-contains}
 use Rattle.std.proofs.lemmas.Option.{none-some, same_Some}
 use Rattle.sn_topic.specs.Matching.{is_match}
@@ -9,10 +9,11 @@ use Rattle.sn_topic.specs.Topics.{is_name, name_asked}
 use Rattle.sn_topic.proofs.Rule.{is_match-Matches}
 use Rattle.sn_tables.specs.declared.subscriptions.Subscription.{Subscription}
 use Rattle.sn_tables.specs.declared.topics.TopicEntry.{TopicEntry}
-use Rattle.sn_tables.specs.Subscriptions.{or_greater, asked_qos}
+use Rattle.sn_tables.specs.Subscriptions.{or_greater, asked_qos, subscribed_qos}
 use Rattle.sn_tables.specs.Topics.{topic_of}
 use Rattle.sn_tables.proofs.Greatest.{greatest_is}
 use Rattle.sn_session.specs.declared.presence.Presence.{Presence}
+use Rattle.sn_session.specs.declared.presence.Presence.TheVariants.{Active, Asleep, Awake, Disconnected, Lost}
 use Rattle.sn_session.specs.declared.session.Session.{Session}
 use Rattle.sn_session.specs.Messages.{is_too_long}
 use Rattle.sn_frame.specs.declared.flags.TopicIdType.{TopicIdType}
@@ -23,7 +24,7 @@ use Rattle.sn_plan.specs.Others.{is_up}
 use Rattle.sn_publish.specs.declared.meaning.Meant.{Meant}
 use Rattle.sn_publish.specs.declared.meaning.Meant.TheVariants.{Topic, Refused}
 use Rattle.sn_publish.specs.Publishing.{named, short_name, entry_name, topic_meant, within_limit, publication_meant}
-use Rattle.sn_publish.specs.Recipients.{qos_in, qos_for}
+use Rattle.sn_publish.specs.Recipients.{qos_at, qos_in, qos_for}
 use Rattle.cause_laws.proofs.Acked.{none-there}
 use Rattle.promise_laws.specs.Asked.{IsThere, AsksFor, IsNameFor, IsAbout}
 use Rattle.promise_laws.proofs.Serving.{head_there, behind_there, head_or}
@@ -93,6 +94,70 @@ asks-gets name qos v asks =
       omega (arith),
       omega (arith, best.2),
     )
+
+-- ---- who is a recipient asks for it
+
+asked-only : (name : List ℕ) (subscriptions : List Subscription) (q : ℕ) → Contains (asked_qos name subscriptions) q → (s : Subscription) × Contains subscriptions s × (is_match s.filter name ≡ true) × (s.qos ≡ q)
+asked-only name [] q h = absurd (none-there q h)
+asked-only name (x ∷ rest) q h =
+    let others : List Subscription = filter (λ (y : Subscription). is_match y.filter name) rest in
+    elim (is_match x.filter name) as (λ b. is_match x.filter name ≡ b → Contains (map (λ (y : Subscription). y.qos) (cond b (x ∷ others) others)) q
+    → (s : Subscription) × Contains (x ∷ rest) s × (is_match s.filter name ≡ true) × (s.qos ≡ q)) [
+      | true ↦ λ match there.
+          elim (head_or x.qos q (map (λ (y : Subscription). y.qos) others) there) [
+            | inl same ↦ (x, head_there x rest, match, same)
+            | inr more ↦ let w = asked-only name rest q more in (w.0, behind_there x w.0 rest w.1, w.2, w.3)
+          ]
+      | false ↦ λ match there. let w = asked-only name rest q there in (w.0, behind_there x w.0 rest w.1, w.2, w.3)
+    ] refl h
+
+up-there : (presence : Presence) → is_up presence ≡ true → IsThere presence
+up-there Active e = inl refl
+up-there Asleep e = inr (inl refl)
+up-there Awake e = inr (inr refl)
+up-there Disconnected e = absurd (true≢false (sym e))
+up-there Lost e = absurd (true≢false (sym e))
+
+if-some : (b : Bool) (q r : ℕ) → (if b then Some q else None) ≡ Some r → b ≡ true
+if-some true q r e = refl
+if-some false q r e = absurd (none-some r e)
+
+-- it is there, or gets the message at least once
+there-or : (presence : Presence) (q : ℕ) → (is_up presence || nat_lt 0 q) ≡ true → IsThere presence ⊎ (0 < q)
+there-or presence q e =
+    elim (is_up presence) as (λ b. is_up presence ≡ b → (b || nat_lt 0 q) ≡ true → IsThere presence ⊎ (0 < q)) [
+      | true ↦ λ up _. inl (up-there presence up)
+      | false ↦ λ up above. inr (ltb-true 0 q above)
+    ] refl e
+
+module _ (name : List ℕ) (qos : ℕ) (v : ClientView) (q : ℕ) where
+  of-greatest : (s : Session) → v.session ≡ Some s → (m : ℕ) → subscribed_qos name s.subscriptions ≡ Some m → qos_at v.pending qos s m ≡ Some q → AsksFor name qos v
+  of-greatest s is m greatest e =
+      let test = and_parts (nat_lt (length v.pending) 1024) (is_up s.presence || nat_lt 0 (min qos m)) (if-some (nat_lt (length v.pending) 1024 && (is_up s.presence || nat_lt 0 (min qos m))) (min qos m) q e) in
+      let w = asked-only name s.subscriptions m (greatest_is (asked_qos name s.subscriptions) (Some m) (sym greatest)).among in
+      record {
+        session = s;
+        has_session = is;
+        subscription = w.0;
+        among = w.1;
+        matches = (is_match-Matches w.0.filter name).0 w.2;
+        room = ltb-true (length v.pending) 1024 test.0;
+        there = subst (λ (n : ℕ). IsThere s.presence ⊎ (0 < min qos n)) (sym w.3) (there-or s.presence (min qos m) test.1);
+      }
+
+  of-session : (s : Session) → v.session ≡ Some s → qos_in v.pending name qos s ≡ Some q → AsksFor name qos v
+  of-session s is e =
+      elim (subscribed_qos name s.subscriptions) as (λ o. subscribed_qos name s.subscriptions ≡ o → option_and_then (qos_at v.pending qos s) o ≡ Some q → AsksFor name qos v) [
+        | None ↦ λ _ none. absurd (none-some q none)
+        | Some m ↦ λ greatest gets. of-greatest s is m greatest gets
+      ] refl e
+
+  pub gets-asks : qos_for name qos v ≡ Some q → AsksFor name qos v
+  gets-asks e =
+      elim v.session as (λ o. v.session ≡ o → option_and_then (qos_in v.pending name qos) o ≡ Some q → AsksFor name qos v) [
+        | None ↦ λ _ none. absurd (none-some q none)
+        | Some s ↦ λ is gets. of-session s is gets
+      ] refl e
 
 -- ---- the topic
 

@@ -74,14 +74,16 @@ pub fn accepted_stays()
         → IsNewIn gateway delta c put × IsKeptFrom new i delta c put }
 {}
 
-/// The step table passes over nobody. A client that asks for a publication and can get it is a
-/// recipient, at a quality of service that is at most that of the publication, and at least the
-/// smaller one of this and of any filter of it that matches. And the topic is the one that the
-/// PUBLISH is about.
+/// The step table passes over nobody. The recipients of a publication are the clients that ask for
+/// it and can get it, and no others. Each gets it at a quality of service that is at most that of
+/// the publication, and at least the smaller one of this and of any filter of it that matches. And
+/// the topic is the one that the PUBLISH is about.
 pub fn asked_is_served()
     ensures recipients { (name : List ℕ) (qos : ℕ) (v : ClientView) (asks : AsksFor name qos v)
         → (q : ℕ) × (qos_for name qos v ≡ Some q) × (q ≤ qos)
         × (min qos asks.subscription.qos ≤ q) }
+    ensures only { (name : List ℕ) (qos : ℕ) (v : ClientView) (q : ℕ)
+        → qos_for name qos v ≡ Some q → AsksFor name qos v }
     ensures about { (predefined : Entries) (s : Session) (bits topic : ℕ) (body name : List ℕ)
         → publication_meant predefined s bits topic body ≡ Topic name
         → IsAbout predefined s bits topic body name }
