@@ -30,8 +30,8 @@ SENTENCES = [
      "A gateway answers a PUBLISH at quality of service 1 with PUBACK, code 0. Then each recipient has a message of its own, new with "
      "this step, and it waits there. However the run goes on, it waits for its client, at this gateway and at each that has the delta "
      "with it, until a step after this answer acknowledges it, for a cause. The same is so of PUBREC at quality of service 2, if its id "
-     "was not received before, and of the records on the disk of each of these gateways. A client with a filter that matches is a "
-     "recipient, if fewer than 1,024 messages wait for it.",
+     "was not received before, and of the records on the disk of each of these gateways. A client is a recipient if a filter of its "
+     "session matches, and fewer than 1,024 messages wait for it.",
      ["promise_laws::nothing_accepted_vanishes.puback", "promise_laws::nothing_accepted_vanishes.pubrec",
       "promise_laws::nothing_accepted_vanishes.only", "promise_laws::asked_is_served.recipients"],
      "A *delta* is a list of operations, here those of one step. `IsAccepted` and `WaitsUntilAnswered` are in [level 4], as are the "
@@ -129,9 +129,9 @@ LEVELS = [
         "the step table reads of the set, `local` what else the gateway knows, and `a` the address that the frame is from.", "",
         "`made` says of each message in a delta that an answer tells of what `puback` says of those of a PUBLISH: of wills too, and at "
         "quality of service 0 and -1. `only` says that no acknowledgement of it is anywhere in the field without such a cause. "
-        "`recipients` says, in words that the step table does not use, who is one (`qos_for`)."], [
+        "`recipients` and `only` say, in words that the step table does not use, who is one (`qos_for`)."], [
         ("promise_laws::nothing_accepted_vanishes", "puback pubrec made only"),
-        ("promise_laws::asked_is_served", "recipients"),
+        ("promise_laws::asked_is_served", "recipients only"),
         ("promise_laws::acknowledged_in_a_run", "written")]),
 ]
 
