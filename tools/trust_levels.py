@@ -127,7 +127,7 @@ LEVELS = [
     ("what a gateway accepts, and why it acknowledges", [
         "All four laws are about runs. A cause is one of a step, whose plan `IsPlan` of [level 3] gives to the gateway: `seen` is what "
         "the step table reads of the set, `local` what else the gateway knows, and `a` the address that the frame is from.", "",
-        "`made` says of each message in a delta that an answer tells of what `puback` says of those of a PUBLISH: of wills too, and at "
+        "`made` says of each message of a delta that an answer reports what `puback` says of those of a PUBLISH: of wills too, and at "
         "quality of service 0 and -1. `only` says that no acknowledgement of it is anywhere in the field without such a cause. "
         "`recipients` and `only` say, in words that the step table does not use, who is one (`qos_for`)."], [
         ("promise_laws::nothing_accepted_vanishes", "puback pubrec made only"),

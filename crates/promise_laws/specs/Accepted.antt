@@ -48,8 +48,8 @@ pub record IsWithGateway (c : List ℕ) (put : Put) (gateway : Gateway) : Type 0
   pub on_disk : (image : Image) → IsLeftOf gateway image
       → WaitsOrAcknowledged c put (all_of (records gateway.config.gateway image))
 
--- The gateway in place j has the delta, of which that in place i made it: it is that gateway, or
--- with the delta its set would have nothing more that counts.
+-- The gateway in place j has the delta that the one in place i made: it is that gateway, or with
+-- the delta its set would have nothing more that counts.
 abbrev pub HasCome : ℕ → ℕ → List Op → Gateway → Type 0
 HasCome i j delta gateway = (j ≡ i) ⊎ Below delta gateway.taken
 
@@ -81,7 +81,7 @@ pub record IsNewIn (gateway : Gateway) (delta : List Op) (c : List ℕ) (message
   pub fresh : put_at c gateway.taken (message.seq, message.origin) ≡ None
   pub waits : Contains (view c (gateway.taken ++ delta)).pending message
 
--- The gateway's answer tells of a delta, and with that it made a message for the client, with this
+-- The gateway's answer reports a delta, and with that it made a message for the client, with this
 -- topic, quality of service and body. `Holds` says what is true of the message from then on.
 pub record IsServed (gateway : Gateway) (out : Out) (c topic : List ℕ) (qos : ℕ) (body : List ℕ)
     (Holds : List Op → List ℕ → Put → Type 0) : Type 0 where

@@ -17,8 +17,8 @@ abbrev pub IsThere : Presence → Type 0
 IsThere presence = (presence ≡ Active) ⊎ ((presence ≡ Asleep) ⊎ (presence ≡ Awake))
 
 -- The client asks for a publication to this topic that comes at this quality of service: a filter
--- of its session matches the topic. It can get it: fewer than 1,024 messages wait for it. And it is
--- there, or gets the message at least once.
+-- of its session matches the topic. It can get it: fewer than 1,024 messages wait for it. And it
+-- is there, or gets the message at least once.
 pub record AsksFor (name : List ℕ) (qos : ℕ) (v : ClientView) : Type 0 where
   pub session : Session
   pub has_session : v.session ≡ Some session
@@ -37,8 +37,8 @@ IsNameFor predefined s kinds.Predefined topic name = name_of topic predefined �
 IsNameFor predefined s kinds.Short topic name = name ≡ topic / 256 ∷ topic % 256 ∷ []
 IsNameFor predefined s kinds.Reserved topic name = ⊥
 
--- A PUBLISH with these flags, topic field and body is about this topic: the field means it, and the
--- body has at most 4,096 octets.
+-- A PUBLISH with these flags, topic field and body is about this topic: the field means it, and
+-- the body has at most 4,096 octets.
 abbrev pub IsAbout : Entries → Session → ℕ → ℕ → List ℕ → List ℕ → Type 0
 IsAbout predefined s bits topic body name =
     IsNameFor predefined s (kind_of bits) topic name × (length body ≤ 4096)

@@ -14,8 +14,8 @@ use Rattle.gw_world.specs.Field.{Field, Run}
 use Rattle.promise_laws.specs.Accepted.{IsLeftOf, HasCome}
 use Rattle.promise_laws.specs.Acknowledged.{IsWrittenBy}
 
--- The message waits for its client in the set. Or the set has its acknowledgement, and one of these
--- events is a step that wrote it, for a cause.
+-- The message waits for its client in the set. Or the set has its acknowledgement, and one of
+-- these events is a step that wrote it, for a cause.
 abbrev pub WaitsOrAnswered : Field → List Event → List Answer → List ℕ → Put → List Op → Type 0
 WaitsOrAnswered field more replies c put S =
     Contains (view c S).pending put

@@ -19,9 +19,9 @@ ghost use Rattle.gw_world.specs.declared.event.Answer.TheVariants.{Node};
 ghost use Rattle.gw_world.specs.Field.{Field, new_field, IsAt, IsDeltaAt, After, Run, shown};
 
 /// What came to a gateway it has, from then on. A gateway that took a delta has it. One that took
-/// the answer of a peer to its digest has all that the peer had when it answered, and so each delta
-/// that the peer had. And two gateways that took each other's answers count as one set and show the
-/// same: if what one of them took after its own answer, the other has too.
+/// the answer of a peer to its digest has all that the peer had when it answered, and so each
+/// delta that the peer had. And two gateways that took each other's answers count as one set and
+/// show the same: if what one of them took after its own answer, the other has too.
 pub fn exchanged_field()
     ensures took { (configs : List Config) (events more : List Event)
         (answers replies : List Answer) (old mid new : Field) (number i k : ℕ)

@@ -24,14 +24,15 @@ ghost use Rattle.promise_laws.specs.Accepted.{HasAnswered, IsAccepted};
 ghost use Rattle.promise_laws.specs.Acknowledged.{IsAcknowledgedIn, IsWrittenBy};
 ghost use Rattle.promise_laws.specs.Promised.{WaitsUntilAnswered};
 
-/// The promise: nothing that a gateway accepted vanishes. If it answers a PUBLISH at quality of
-/// service 1 with PUBACK 0, or one at 2 with PUBREC, the id of which it had not received, each
-/// recipient has a message of its own, made with this step. The message waits for its client, at
-/// this gateway and at each that has the delta with it, however a run goes on: with lost, repeated
-/// and reordered deltas, failed writes, crashes and restarts. It waits until a step after this
-/// answer acknowledges it, for a cause that `cause_laws` names. So it is on the disks of these
-/// gateways, and with each message that an answer tells of (`made`), whatever its quality of
-/// service. Nowhere in the field is an acknowledgement of it that has no such cause (`only`).
+/// The promise: nothing that a gateway accepted vanishes. A gateway accepts a PUBLISH at quality
+/// of service 1 with PUBACK 0, and one at 2 with PUBREC, if it had not received the id. Then each
+/// recipient has a message of its own, made with this step. However a run goes on, the message
+/// waits for its client, at this gateway and at each that has the delta with it. Deltas may be
+/// lost, repeated and reordered, writes may fail, and gateways may stop and start again. The
+/// message waits until a step after this answer acknowledges it, for a cause that `cause_laws`
+/// names. So it is on the disks of these gateways too. The same is so of each message of a delta
+/// that an answer reports, at any quality of service (`made`). No acknowledgement of it is
+/// anywhere in the field without such a step (`only`).
 pub fn nothing_accepted_vanishes()
     ensures puback { (configs : List Config) (old new : Field) (number i : ℕ) (gateway : Gateway)
         (a : Addr) (octets : List ℕ) (now : ℕ) (out : Out) (flags : Flags)

@@ -9,11 +9,12 @@ ghost use Rattle.gw_world.specs.declared.event.Answer.{Answer};
 ghost use Rattle.gw_world.specs.Field.{Field, new_field, Run};
 ghost use Rattle.promise_laws.specs.Acknowledged.{IsAcknowledgedIn, IsWrittenBy};
 
-/// Each acknowledgement has a cause, in a run too. One that is anywhere in a field was written by an
-/// event of the run: a datagram or a tick at a gateway where the message waited, for a cause. That
-/// event was answered with the datagrams of its step. Or the disk failed in it, and an excuse went
-/// out instead; when the gateway was opened again, it read back the delta that it had refused. So a
-/// message can leave although its client was not sent it, and although a CONNECT was refused.
+/// Each acknowledgement has a cause, in a run too. Each that is anywhere in a field was written
+/// by an event of the run: a datagram or a tick at a gateway at which the message waited, for a
+/// cause. That event was answered with the datagrams of its step. Or the disk failed in it, and
+/// an excuse went out instead; when the gateway was opened again, it read back the delta that it
+/// had refused. So a message can leave although its client was not sent it, and although a
+/// CONNECT was refused.
 pub fn acknowledged_in_a_run()
     ensures written { (configs : List Config) (events : List Event) (answers : List Answer)
         (field : Field) (c : List ℕ) (name : ℕ × ℕ)

@@ -30,13 +30,13 @@ ghost use Rattle.gw_world.specs.Field.{Field};
 ghost use Rattle.promise_laws.specs.Accepted.{HasAnswered, IsAccepted, IsKeptFrom, IsNewIn, IsServed};
 ghost use Rattle.promise_laws.specs.Asked.{AsksFor, IsAbout};
 
-/// What a gateway accepted stays. If it answers a PUBLISH at quality of service 1 with PUBACK 0, or
-/// one at 2 with PUBREC, the id of which it had not received, each recipient has a message of its
-/// own in the delta that this answer tells of. From then on, whatever comes and whatever fails, the
-/// message waits or is acknowledged: in the gateway's set and in what a crash leaves of its disk,
-/// and in those of each gateway that has the delta. The same holds of the messages at quality of
-/// service 0 and -1 and of wills (`frames`, `ticks`), and of each message in a delta that an answer
-/// tells of (`made`). They have no answer to the client.
+/// What a gateway accepted stays. If it answers a PUBLISH at quality of service 1 with PUBACK 0,
+/// each recipient has a message of its own in the delta that this answer reports. The same is so
+/// of PUBREC at 2, if the gateway had not received the id. From then on, whatever comes and
+/// whatever fails, the message waits or is acknowledged: in the gateway's set, in what a crash
+/// leaves of its disk, and in those of each gateway that has the delta. So it is with the
+/// messages at quality of service 0 and -1 and those of wills, which have no answer to the client
+/// (`frames`, `ticks`), and with each message of a delta that an answer reports (`made`).
 pub fn accepted_stays()
     ensures puback { (configs : List Config) (old new : Field) (number i : ℕ) (gateway : Gateway)
         (a : Addr) (octets : List ℕ) (now : ℕ) (out : Out) (flags : Flags)
