@@ -26,6 +26,21 @@ READING = (["## How to read the code", ""], [
 
 # Level 1: for each sentence its title, what it says, the clauses that say so, its words, and what it does not say.
 SENTENCES = [
+    ("Nothing that a gateway accepted vanishes.",
+     "A gateway answers a PUBLISH at quality of service 1 with PUBACK, code 0. Then each recipient has a message of its own, new with "
+     "this step, and it waits there. However the run goes on, it waits for its client, at this gateway and at each that has the delta "
+     "with it, until a step after this answer acknowledges it, for a cause. The same is so of PUBREC at quality of service 2, if its id "
+     "was not received before, and of the records on the disk of each of these gateways. A client is a recipient if a filter of its "
+     "session matches, and fewer than 1,024 messages wait for it.",
+     ["promise_laws::nothing_accepted_vanishes.puback", "promise_laws::nothing_accepted_vanishes.pubrec",
+      "promise_laws::nothing_accepted_vanishes.only", "promise_laws::asked_is_served.recipients"],
+     "A *delta* is a list of operations, here those of one step. `IsAccepted` and `WaitsUntilAnswered` are in [level 4], as are the "
+     "causes; so is `AsksFor`, who a recipient is. A gateway *has* a delta if it made it, or if the delta would add nothing that counts "
+     "to its set: `HasCome`. `promise_laws::exchanged_field` says that it has each delta that it took, and all that a peer had whose "
+     "answer it took.",
+     "That a PUBLISH is answered. Recipients are those that this gateway's set shows: a subscription made at another gateway counts once "
+     "its operations have come. If a client is neither Active, Asleep nor Awake, it is a recipient only at quality of service 1 and 2. "
+     "At 2 an id that is used again soon counts as received."),
     ("Sets only grow.",
      "Take any run of a field, and two moments of it. What a gateway has made and taken by the first moment, it has at the second, "
      "whatever came and whatever failed in between.",
@@ -46,33 +61,21 @@ SENTENCES = [
      ["rep_model::pending_laws.leaves", "field_laws::nothing_vanishes.stays"],
      "`view c S` is what the set says about a client. Its `pending` are the messages that wait: those of the set that the set does not "
      "acknowledge. Both are in [level 2].",
-     "That the message ever reaches the client: that needs a client that answers, and time. Nor why the acknowledgement is there."),
+     "That the message ever reaches the client: that needs a client that answers, and time."),
     ("A gateway acknowledges only for a cause.",
-     "A step for a frame acknowledges only messages that wait for the client that the frame is from, and each for one of four causes. "
-     "The client begins a clean session and is accepted. It accepts or refuses, by message id, the message that is being handed over "
-     "to it. The step sends the message at quality of service 0. No topic id is left for the message. A tick acknowledges only for "
-     "the last two.",
-     ["cause_laws::acknowledged_for_cause.steps", "cause_laws::acknowledged_for_cause.ticks"],
+     "Each acknowledgement that is anywhere in a field was written by a step of the run. A step for a frame acknowledges only messages "
+     "that wait for the client that the frame is from, and each for one of four causes. The client begins a clean session and is accepted. It accepts or refuses, by message id, "
+     "the message that is being handed over to it. The step sends the message at quality of service 0. No topic id is left for the "
+     "message. A tick acknowledges only for the last two.",
+     ["promise_laws::acknowledged_in_a_run.written"],
      "A *step* is what the step table plans for a frame: operations for the set, `plan.ops`, and datagrams, `plan.sends`. "
-     "`IsForCause` and `IsTimely` list the causes: [level 4].",
-     "Anything about runs: the law is about one step. If the write of a step's operations fails, its datagrams are not sent, but the "
-     "operations may be on the disk, and a restart reads them back (`reopened`, [level 3]). So a message at quality of service 0 may "
-     "leave although it was never sent. A message that a clean CONNECT ends may leave although that CONNECT was refused. No clause "
-     "leads from an acknowledgement in a set back to its step. In two places the law allows more than the step table does: "
-     "`IsRefusal` and `IsSpent`. An answer counts by its message id alone, so a late one can count for another message. Whoever sends "
-     "from a client's address, or names the client in CONNECT or PINGREQ, counts as that client."),
-    ("PUBACK means put.",
-     "If a step answers a PUBLISH at quality of service 1 with PUBACK, code 0, then it makes one message for each recipient. Once the "
-     "operations of the step are in the gateway's set, each of these messages waits there for its client.",
-     ["put_laws::accepted_is_put.puback", "put_laws::accepted_is_put.recipients", "put_laws::accepted_is_put.once",
-      "put_laws::accepted_is_put.kept"],
-     "A *recipient* is a client whose view has a session with a filter that matches, and fewer than 1,024 messages that wait. If it "
-     "gets the message at quality of service 0, it must also be Active, Asleep or Awake: `qos_for`, [level 4]. `kept` has a premise, "
-     "`AreFlush`. Each gateway that the events of a run reach meets it (`field_laws::steady_field.steady`).",
-     "Anything about runs: this law too is about one step. `OwnStep`, [level 3], answers with the datagrams of a plan only with its "
-     "operations in the journal and in the set, and the second sentence says that the messages then stay. No clause joins the three, "
-     "and none says that a PUBLISH is answered. The messages are at *this* gateway, and the recipients are those that its set shows: "
-     "a subscription at another gateway counts once its operations have come."),
+     "`IsForCause` and `IsTimely` list the causes, and `IsWrittenBy` is the step in its run: [level 4].",
+     "That the client was sent what the step sends. If the write of a step's operations fails, an excuse goes out instead of its "
+     "datagrams (`EndsWith`), but the operations may be on the disk, and a restart reads them back (`reopened`, [level 3]). So a message "
+     "at quality of service 0 may leave although it was never sent. A message that a clean CONNECT ends may leave although that CONNECT "
+     "was refused. In two places the law allows more than the step table does: `IsRefusal` and `IsSpent`. An answer counts by its "
+     "message id alone, so a late one can count for another message. Whoever sends from a client's address, or names the client in "
+     "CONNECT or PINGREQ, counts as that client."),
     ("A crash keeps the set.",
      "After any run that the program `run` plays to its end, whatever a crash leaves of a gateway's disk is a journal that opens, and "
      "its records count as the gateway's set. If the gateway's last write failed, they may instead count as that set with the whole of "
@@ -121,37 +124,42 @@ LEVELS = [
         ("gw_node::Node::tick", "event"),
         ("gw_node::Node::compact", "event"),
         ("gw_node::Node::reopen", "event")]),
-    ("what a gateway puts, and why it acknowledges", [
-        "These laws are about one step, which `IsPlan` of [level 3] gives to the gateway. `step` is the step table for a frame, and "
-        "`tick` what is due as time goes by: both are named and not entered. `seen` is what they read of the set, `local` what else the "
-        "gateway knows, and `a` the address that the frame is from. `pubrec` says of PUBREC, at quality of service 2, what `puback` says "
-        "of PUBACK, unless the message id was received before."], [
-        ("cause_laws::acknowledged_for_cause", "steps ticks"),
-        ("put_laws::accepted_is_put", "puback pubrec recipients once kept")]),
+    ("what a gateway accepts, and why it acknowledges", [
+        "All four laws are about runs. A cause is one of a step, whose plan `IsPlan` of [level 3] gives to the gateway: `seen` is what "
+        "the step table reads of the set, `local` what else the gateway knows, and `a` the address that the frame is from.", "",
+        "`made` says of each message of a delta that an answer reports what `puback` says of those of a PUBLISH: of wills too, and at "
+        "quality of service 0 and -1. `only` says that no acknowledgement of it is anywhere in the field without such a cause. "
+        "`recipients` and `only` say, in words that the step table does not use, who is one (`qos_for`)."], [
+        ("promise_laws::nothing_accepted_vanishes", "puback pubrec made only"),
+        ("promise_laws::asked_is_served", "recipients only"),
+        ("promise_laws::acknowledged_in_a_run", "written")]),
 ]
 
 # Words that are named and not entered: CRATE/FILE/NAME. Faults and members of traits need no entry: none is entered.
 NAMED = set("""
     sn_frame/Bodies/IsValue sn_frame/Grammar/Spells sn_frame/Grammar/spelling sn_frame/flags/Flags sn_frame/flags/Qos
-    sn_frame/frame/Frame sn_tables/Subscriptions/subscribed_qos sn_session/Session/applied sn_session/Session/empty_session
+    sn_frame/FlagBits/qos_of sn_frame/frame/Frame sn_topic/Matching/Matches sn_tables/Received/is_received
+    sn_tables/subscriptions/Subscription sn_session/Session/applied sn_session/Session/empty_session
     sn_session/change/SessionOp sn_session/outbound/Outbound sn_session/outbound/Phase sn_session/presence/Presence
     sn_session/session/Session rep_ops/Making/AreApart rep_ops/Making/IsDeltaOf rep_ops/Spelling/IsWithinLimit
     rep_model/Fresh/next_epoch rep_model/Fresh/next_seq rep_model/Limits/first_passed rep_model/Roomy/IsRoomy
-    rep_model/Views/is_named rep_model/Views/named rep_model/fault/Limit jr_disk/disk/Plan jr_disk/disk/Slot
+    rep_model/Views/is_named rep_model/Views/named jr_disk/disk/Plan jr_disk/disk/Slot
     jr_journal/Faults/fault_of jr_journal/Faults/is_fresh jr_journal/Parts/disk_of jr_journal/Parts/gateway_of
     jr_journal/Parts/slot_of jr_journal/Records/records jr_journal/journal/Journal sn_local/Locals/after_all
     sn_local/Locals/owned sn_local/config/Addr sn_local/config/Config sn_local/local/Binding sn_local/local/LocalChange
     sn_local/local/Timer sn_local/local/WillDialog gw_answer/Answers/only_sends gw_answer/Answers/said gw_answer/out/Out
     gw_answer/refusal/Refusal gw_answer/step/Step sn_plan/Drafts/session_after sn_exchange/Delivery/id_to_tell
     sn_exchange/Exchanges/open_exchange sn_exchange/Following/peer_at sn_exchange/Forms/form_of sn_exchange/Forms/publication
-    sn_exchange/form/Form sn_exchange/peer/Peer sn_publish/Publishing/publication_meant sn_publish/meaning/Meant
+    sn_exchange/form/Form sn_exchange/peer/Peer sn_publish/Publishing/publication_meant sn_publish/Recipients/qos_for sn_publish/meaning/Meant
     sn_deliver/Steps/row_for sn_deliver/Steps/step sn_tick/Ticking/tick cause_laws/Causes/gives_message
     cause_laws/Causes/gives_topic gw_event/Drives/has_more gw_event/Drives/left_by gw_event/Drives/opened
     gw_event/Drives/torn gw_event/Drives/with_record gw_event/Event/CompactStep gw_event/Event/DigestStep
-    gw_event/Event/HasNoDelta gw_event/Event/IsConflict gw_event/Event/IsWritable gw_event/Event/ReplyStep
-    gw_event/Event/ViewStep gw_event/Excuses/IsExcuse gw_event/Occasions/IsNoFrame gw_node/Failures/failed
+    gw_event/Event/HasNoDelta gw_event/Event/IsWritable gw_event/Event/ReplyStep
+    gw_event/Event/ViewStep gw_event/Excuses/IsExcuse gw_event/Occasions/IsNoFrame
     gw_node/Parts/is_halted gw_node/Parts/state_of gw_node/Standing/Agrees gw_node/Standing/IsForeseen
-    gw_world/Places/place_of gw_world/Steps/AnswerStep
+    gw_world/Places/place_of gw_world/Steps/AnswerStep sn_local/Bindings/address_of sn_local/Bindings/client_at
+    sn_local/Bindings/is_owned sn_local/WillDialogs/dialog_at sn_flow/Connection/has_bit sn_exchange/Exchanges/is_served
+    gw_node/Standing/IsClear gw_node/Standing/WentWell gw_event/Event/IsRefused gw_event/Event/IsTooMuch
 """.split())
 
 # What comes before the words that are named.

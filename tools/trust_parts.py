@@ -34,13 +34,15 @@ PARTS = [
     ("A field never contradicts itself",
      "A field is a list of gateways, and of the deltas that they made. Events happen to it one after the other, and `run` gives "
      "what they give. Whatever the events are, no name of a session operation or a message ever stands for two things, none of "
-     "them is made twice, and gateways that have taken the same show the same.",
+     "them is made twice, and gateways that have taken the same show the same. What a gateway accepted waits until a step acknowledges "
+     "it for a cause.",
      "In these fields a disk fails only if an event arranges it, in the next write or in the sync after that, and never in an opening. "
      "Gateways may be stopped and opened again between any two events. `run` may always report that memory ran out. What one step "
      "does is in part 4, and what a datagram spells in part 6.",
      ["gw_world::run", "field_laws::nothing_vanishes", "field_laws::steady_field", "field_laws::consistent_field", "field_laws::made_once", "field_laws::settled_field",
       "field_laws::one_run", "field_laws::answered_field", "row_laws::own_names", "row_laws::fresh_names", "field_laws::own_full",
-      "field_laws::takes_at_zero"],
+      "field_laws::takes_at_zero", "promise_laws::nothing_accepted_vanishes", "promise_laws::accepted_stays", "promise_laws::asked_is_served",
+      "promise_laws::acknowledged_in_a_run", "promise_laws::exchanged_field"],
      []),
     ("The step table",
      "What a gateway does with each frame of MQTT-SN 1.2, and when time goes by: what it sends, what it writes and what it notes. "

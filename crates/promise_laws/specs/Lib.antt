@@ -1,0 +1,4 @@
+pub mod Accepted
+pub mod Asked
+pub mod Acknowledged
+pub mod Promised
