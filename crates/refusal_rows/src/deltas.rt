@@ -41,7 +41,7 @@ pub(crate) fn play(alloc: Global, said: &mut Said, call: &str) -> Result<(), Sto
 fn write(alloc: Global, said: &mut Said) -> Result<(), Stop> {
     let delta = delta(alloc, &FIRST)?;
     let mut out = vec![in alloc; 1u8, 2]?;
-    again!(
+    let _done = again!(
         said,
         OpsFault::Memory,
         delta.encode(alloc, &mut out),

@@ -66,7 +66,7 @@ pub(crate) fn play_octets(alloc: Global, said: &mut Said, call: &str) -> Result<
 /// Writes a digest after two octets.
 fn write(alloc: Global, said: &mut Said, digest: &Digest) -> Result<(), Stop> {
     let mut out = vec![in alloc; 1u8, 2]?;
-    again!(
+    let _done = again!(
         said,
         OpsFault::Memory,
         digest.encode(alloc, &mut out),

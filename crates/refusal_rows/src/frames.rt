@@ -50,7 +50,7 @@ fn write(alloc: Global, said: &mut Said, size: usize) -> Result<(), Stop> {
         body: Octets::new(vec![in alloc; 0x61u8; size]?)?,
     };
     let mut out = vec![in alloc; 1u8, 2]?;
-    again!(
+    let _done = again!(
         said,
         EncodeFault::Memory,
         encode(alloc, &frame, &mut out),

@@ -156,7 +156,7 @@ fn new<R: Replica>(alloc: Global) -> Result<Gateway<R>, Stop> {
 pub(crate) fn connected<R: Replica>(alloc: Global) -> Result<Gateway<R>, Stop> {
     let mut node = new(alloc)?;
     let step = frame(alloc, CONNECT)?;
-    beside!(called(alloc, &mut node, &step));
+    let _done = beside!(called(alloc, &mut node, &step));
     Ok(node)
 }
 

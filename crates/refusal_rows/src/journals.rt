@@ -31,7 +31,7 @@ fn begun(alloc: Global) -> Result<Journal<MemoryDisk>, Stop> {
 fn recorded(alloc: Global) -> Result<Journal<MemoryDisk>, Stop> {
     let mut journal = begun(alloc)?;
     let delta = delta(alloc, &FIRST)?;
-    beside!(journal.append(alloc, &delta));
+    let _done = beside!(journal.append(alloc, &delta));
     Ok(journal)
 }
 
@@ -160,7 +160,7 @@ fn look(
         JournalFault::Disk => {
             said.starve(journal.starved());
             said.keep(journal.is_halted());
-            beside!(journal.reopen(alloc));
+            let _done = beside!(journal.reopen(alloc));
             Ok(())
         }
         _ => Err(Stop::Other),

@@ -69,7 +69,7 @@ fn send(alloc: Global, said: &mut Said, message: &LinkMessage) -> Result<(), Sto
     requires { IsNumbered message.now }
 {
     let mut page = Page::new();
-    again!(
+    let _done = again!(
         said,
         LinkOutFault::Memory,
         link_out(alloc, &mut page, message),

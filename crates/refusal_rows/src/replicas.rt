@@ -27,7 +27,7 @@ const NEXT: [&str; 9] = [
 pub(crate) fn play<R: Replica>(alloc: Global, said: &mut Said, call: &str) -> Result<(), Stop> {
     match call {
         "empty" => {
-            let replica: R = again!(said, TakeFault::Memory, R::empty(alloc));
+            let replica: R = empty(alloc, said)?;
             said.octets(kept(alloc, &replica)?.as_slice());
         }
         "prepare" => {
@@ -50,6 +50,18 @@ pub(crate) fn play<R: Replica>(alloc: Global, said: &mut Said, call: &str) -> Re
         _ => return Err(Stop::Row),
     }
     Ok(())
+}
+
+/// Makes an empty replica.
+fn empty<R: Replica>(alloc: Global, said: &mut Said) -> Result<R, Stop> {
+    for _ in 0..2 {
+        match R::empty(alloc) {
+            Ok(replica) => return Ok(replica),
+            Err(TakeFault::Memory) => said.refuse(),
+            Err(_) => return Err(Stop::Other),
+        }
+    }
+    Err(Stop::Other)
 }
 
 /// An empty replica.

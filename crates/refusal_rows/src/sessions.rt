@@ -45,7 +45,7 @@ fn changed(alloc: Global, said: &mut Said, changes: &Delta) -> Result<Session, S
     for op in changes.ops() {
         if let Op::Session { change, .. } = op {
             let before = beside!(session.copied(alloc));
-            again!(
+            let _done = again!(
                 said,
                 SessionFault::Memory,
                 session.apply(alloc, change),

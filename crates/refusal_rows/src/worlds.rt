@@ -1,13 +1,12 @@
 //! Fields of gateways, and scripts.
 
-use crate::again::again;
 use crate::deltas::octets_of;
-use crate::gateways::{CONNECT, SUBSCRIBE, kept};
+use crate::gateways::{CONNECT, Gateway, SUBSCRIBE, kept};
 use crate::locals::{HERE, config};
 use crate::page::Page;
 use crate::said::{Said, Stop};
 use gw_play::{Counted, play};
-use gw_world::{Event, WorldFault, run};
+use gw_world::{Event, World, WorldFault, run};
 use octets::Octets;
 use rep_model::Replica;
 use sn_local::Config;
@@ -24,11 +23,22 @@ pub(crate) fn play_run<R: Replica>(alloc: Global, said: &mut Said, call: &str) -
     }
     let configs = configs(alloc)?;
     let events = events(alloc)?;
-    let world = again!(
-        said,
-        WorldFault::Memory,
-        run::<R>(alloc, configs.as_slice(), events.as_slice())
-    );
+    for _ in 0..2 {
+        match run::<R>(alloc, configs.as_slice(), events.as_slice()) {
+            Ok(world) => return show(alloc, said, &world),
+            Err(WorldFault::Memory) => said.refuse(),
+            Err(_) => return Err(Stop::Other),
+        }
+    }
+    Err(Stop::Other)
+}
+
+/// Prints how much a run gave, and what each gateway keeps.
+fn show<R: Replica>(
+    alloc: Global,
+    said: &mut Said,
+    world: &World<Gateway<R>>,
+) -> Result<(), Stop> {
     said.number("answers", world.answers.len());
     said.number("deltas", world.deltas.len());
     for node in world.gateways.as_slice() {
