@@ -34,11 +34,7 @@ pub(crate) fn play_run<R: Replica>(alloc: Global, said: &mut Said, call: &str) -
 }
 
 /// Prints how much a run gave, and what each gateway keeps.
-fn show<R: Replica>(
-    alloc: Global,
-    said: &mut Said,
-    world: &World<Gateway<R>>,
-) -> Result<(), Stop> {
+fn show<R: Replica>(alloc: Global, said: &mut Said, world: &World<Gateway<R>>) -> Result<(), Stop> {
     said.number("answers", world.answers.len());
     said.number("deltas", world.deltas.len());
     for node in world.gateways.as_slice() {

@@ -202,12 +202,7 @@ pub(crate) fn take_ops(
 }
 
 /// Adds that the client of a number is taken.
-fn add_take(
-    alloc: Global,
-    session: &Session,
-    ops: &mut Vec<Op>,
-    number: u16,
-) -> Result<(), Stop> {
+fn add_take(alloc: Global, session: &Session, ops: &mut Vec<Op>, number: u16) -> Result<(), Stop> {
     let client = numbered(alloc, number)?;
     let change = SessionOp::Take(session.copied(alloc)?);
     Ok(ops.push(Op::Session {

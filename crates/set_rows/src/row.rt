@@ -3,9 +3,7 @@
 use crate::attempts::{appends, compactions, openings};
 use crate::journals::Store;
 use crate::names::Names;
-use crate::operations::{
-    ack_op, ack_ops, put_op, put_ops, session_op, session_ops, take_ops,
-};
+use crate::operations::{ack_op, ack_ops, put_op, put_ops, session_op, session_ops, take_ops};
 use crate::retries::retries;
 use crate::stop::Stop;
 use crate::{deltas, journals, names, replicas, sessions};
