@@ -32,7 +32,7 @@ say when each comes; and the clauses that say what stands after it.
 `tools/refusals.py` shows the rest: it refuses each growth of memory in the row of that name, in
 both builds of `refusal_rows`. With ample memory no row answers `Memory`. With one growth refused
 the call says so in its own type, or its disk fails and says that it was starved. What the row looks
-at is then as before, and the same call succeeds at once. [MEASURED](MEASURED.md) has the counts.
+at is then as before, and the same call succeeds at once.
 """
 
 # Faults | clauses that say when | clauses that say what stands.
