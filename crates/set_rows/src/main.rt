@@ -37,6 +37,7 @@
 //! - `ack CLIENT ORIGIN FIRST LAST`: a client has these messages.
 //! - `acks COUNT`: message 1 of gateway 1 for so many clients, whose names are 0, 1 and so on in
 //!   two octets.
+//! - `takes COUNT`: the row's session under stamp 1.1 for so many clients of these names.
 //!
 //! A CHANGE is `take` (the row's session), `presence WHERE SECONDS`, `register ID NAME known` or
 //! `new`, `subscribe FILTER QOS`, `unsubscribe FILTER`, `will none`, `will TOPIC QOS retained` or

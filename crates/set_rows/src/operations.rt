@@ -6,7 +6,7 @@ use crate::fields::{
 };
 use crate::stop::Stop;
 use rep_ops::{ClientId, Op, OpsFault, Put, Stamp};
-use sn_session::Session;
+use sn_session::{Session, SessionOp};
 use sn_tables::QosLevel;
 use std::alloc::Global;
 
@@ -180,6 +180,39 @@ fn add_ack(alloc: Global, ops: &mut Vec<Op>, number: u16) -> Result<(), Stop> {
         origin: 1,
         first: 1,
         last: 1,
+    })?)
+}
+
+/// `takes COUNT`: so many clients are taken by gateway 1 with the row's session, in epoch 1. Their
+/// names are those of `acks`.
+pub(crate) fn take_ops(
+    alloc: Global,
+    session: &Session,
+    ops: &mut Vec<Op>,
+    fields: &[&str],
+) -> Result<(), Stop> {
+    let [clients] = fields else {
+        return Err(Stop::Line);
+    };
+    let clients = small_number(clients)?;
+    for client in 0..clients {
+        add_take(alloc, session, ops, client)?;
+    }
+    Ok(())
+}
+
+/// Adds that the client of a number is taken.
+fn add_take(alloc: Global, session: &Session, ops: &mut Vec<Op>, number: u16) -> Result<(), Stop> {
+    let client = numbered(alloc, number)?;
+    let change = SessionOp::Take(session.copied(alloc)?);
+    Ok(ops.push(Op::Session {
+        client,
+        stamp: Stamp {
+            epoch: 1,
+            gateway: 1,
+        },
+        counter: 0,
+        change,
     })?)
 }
 

@@ -3,7 +3,7 @@
 use crate::attempts::{appends, compactions, openings};
 use crate::journals::Store;
 use crate::names::Names;
-use crate::operations::{ack_op, ack_ops, put_op, put_ops, session_op, session_ops};
+use crate::operations::{ack_op, ack_ops, put_op, put_ops, session_op, session_ops, take_ops};
 use crate::retries::retries;
 use crate::stop::Stop;
 use crate::{deltas, journals, names, replicas, sessions};
@@ -55,7 +55,7 @@ pub(crate) fn play<R: Replica>(
         "tell" | "sizes" | "id" | "topic" | "filter" | "asked" | "heard" => {
             ask_session(alloc, text, &row.session, first, rest)
         }
-        "op" | "ops" | "put" | "puts" | "ack" | "acks" => {
+        "op" | "ops" | "put" | "puts" | "ack" | "acks" | "takes" => {
             play_operation(alloc, &row.session, &mut row.ops, first, rest)
         }
         "delta" | "copy" | "spell" | "written" | "join" => {
@@ -128,6 +128,7 @@ fn play_operation(
         "ops" => session_ops(alloc, session, ops, rest),
         "puts" => put_ops(alloc, ops, rest),
         "acks" => ack_ops(alloc, ops, rest),
+        "takes" => take_ops(alloc, session, ops, rest),
         _ => {
             let op = operation(alloc, session, first, rest)?;
             Ok(ops.push(op)?)
