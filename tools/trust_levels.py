@@ -51,7 +51,7 @@ SENTENCES = [
      "and restarts. `taken` is the set of a gateway, and `Within` compares two sets: [level 2]. A gateway is meant by its place in the "
      "field's list.",
      "Anything about programs. `After`, [level 3], only ever adds to `taken`, at a restart too; that programs do as `After` says is "
-     "sentence 5. That a place keeps its gateway is so by `changed`, and no clause says it. A program holds of `taken` at least what `keep` leaves, and may forget the rest. Nothing says that two gateways ever "
+     "sentence 5. (That each place keeps its gateway, with its number, is the clause `places` of the same law.) A program holds of `taken` at least what `keep` leaves, and may forget the rest. Nothing says that two gateways ever "
      "exchange what they have. If memory runs out, a run ends there, and nothing is said of what follows. No event alters a delta on "
      "its way, and none takes a gateway's disk away."),
     ("What waits in a set waits in every larger set, or is acknowledged there.",
