@@ -1,2 +1,3 @@
 pub mod OwnPlans
 pub mod Takes
+pub mod Stored
