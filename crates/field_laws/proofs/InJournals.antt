@@ -1,19 +1,22 @@
--- What a gateway made is in its own journal.
+-- What a gateway made is in its own journal, and so is what it answered.
 use Rattle.std.specs.List.{AllByRecursion}
+use Rattle.std.specs.declared.alloc.Global.{Global}
+use Rattle.std.specs.declared.sync.Arc.{Arc}
 use Rattle.std.proofs.Common.{◌≡◌, ◌⊎◌, ℕ, Bool, true, false, ◌||◌, List, [], ◌∷◌, ◌++◌, slice_get, set, append-nil, Option, Some, None, Contains, Result, Ok, Err, refl, sym, ap, ◌∙◌, subst, inl, inr}
 use Rattle.rep_ops.specs.Splitting.{all_of}
 use Rattle.rep_model.proofs.Lookup.{or_else}
 use Rattle.std.proofs.lemmas.List.Elements.{All-from_recursion, All-contains, Contains-append_left, Contains-append_right}
 use Rattle.std.proofs.lemmas.Option.{none-some, same_Some, slice_get_within, get_or_from_slice_get}
 use Rattle.rep_op.specs.declared.op.Op.{Op}
-use Rattle.rep_op.specs.Sets.{operation_at, put_at, is_acknowledged, Within, Same}
+use Rattle.rep_op.specs.Sets.{operation_at, put_at, is_acknowledged, Stands, Within, Same}
 use Rattle.rep_model.specs.Keep.{keep, CountsAs}
-use Rattle.rep_model.proofs.Joins.{counts-more, within-left, same_sym, same_trans}
+use Rattle.rep_model.proofs.Joins.{counts-more, within-left, within-standing, same_sym, same_trans}
 use Rattle.rep_model.proofs.Readers.{operation_at_both, put_at_both, is_acknowledged_both}
 use Rattle.rep_model.proofs.Thin.{same_kept, thin-same}
 use Rattle.jr_disk.specs.Disk.{Image}
 use Rattle.jr_journal.specs.Records.{records}
 use Rattle.sn_local.specs.declared.config.Config.{Config}
+use Rattle.gw_answer.specs.declared.fault.NodeFault.{NodeFault}
 use Rattle.gw_answer.specs.declared.out.Out.{Out}
 use Rattle.gw_answer.specs.declared.refusal.Refusal.{Refusal}
 use Rattle.gw_event.specs.Occasions.{Occasion, Datagram, Clock}
@@ -27,11 +30,15 @@ use Rattle.gw_world.specs.declared.event.Answer.{Answer}
 use Rattle.gw_world.specs.declared.event.Answer.TheVariants.{Node, Views, Records, Nothing}
 use Rattle.gw_event.specs.Gateways.{Gateway, with_refused}
 use Rattle.gw_world.specs.Field.{Field, new_field, IsAt, changed, After, Run, gateway_of}
-use Rattle.gw_world.specs.Events.{made_of}
+use Rattle.gw_world.specs.Events.{made_of, answered_of}
+use Rattle.gw_world.specs.Steps.{AnswerStep}
 use Rattle.gw_event.specs.Event.{OwnStep}
 use Rattle.gw_world.specs.Whole.{everything, made_by, MayMake}
+use Rattle.field_laws.specs.Stored.{HasStored}
 use Rattle.field_laws.proofs.Catching.{Later, run-later, later-now}
+use Rattle.gw_world.proofs.Answering.{answered, answer-told}
 use Rattle.gw_world.proofs.Consistency.{WholeField, after-sound, field-sound, run-sound}
+use Rattle.gw_world.proofs.Each.{flat-all}
 use Rattle.gw_world.proofs.Failures.{after-due}
 use Rattle.gw_world.proofs.Numbers.{set-there as set-at}
 use Rattle.field_laws.proofs.Settling.{set-there, parts-within}
@@ -118,12 +125,29 @@ made-later old mid (Show number) answer delta i maker h there may at = absurd ma
 contains-place : (gs : List Gateway) (i : ℕ) (gateway : Gateway) → slice_get gs i ≡ Some gateway → Contains gs gateway
 contains-place gs i gateway e = (i, slice_get_within gs i gateway e, get_or_from_slice_get gs i gateway gateway e)
 
+-- ---- what it answered
+
+-- a delta of an answer stands in the set of the gateway that answered
+answer-within : (asker peer : Gateway) (answer : Result Out Refusal) (made : List (List Op)) (delta : List Op) → AnswerStep asker peer answer made → Contains (answered_of answer) delta → Within delta peer.taken
+answer-within asker peer answer made delta step there =
+    let a = answered asker peer answer made step in
+    let listed : Contains made delta = subst (λ (ds : List (List Op)). Contains ds delta) (sym (answer-told asker peer answer made step).1) there in
+    let P : List Op → Type 0 = λ D. AllByRecursion (Stands (all_of made)) D in
+    let each : AllByRecursion P made = flat-all (Stands (all_of made)) (λ (D : List Op). D) made a.consistent in
+    let stands : P delta = All-contains P made delta (All-from_recursion P made each) listed in
+    within-trans delta (all_of made) peer.taken (within-standing (all_of made) delta stands) a.within
+
+-- whoever has this place in the field has answered
+same-gateway : (field : Field) (number i j : ℕ) (one other : Gateway) → IsAt field number i one → IsAt field number j other → one ≡ other
+same-gateway field number i j one other h k =
+    same_Some one other (sym h.1 ∙ (ap (λ (n : ℕ). slice_get field.gateways n) (same-place field number i j one other h k) ∙ k.1))
+
 -- ---- the law
 
 pub field-stored : (configs : List Config) (events more : List Event) (answers replies : List Answer) (old mid new : Field) (event : Event) (answer : Answer) (delta : List Op) (i : ℕ) (maker later : Gateway) (b : Bool) (image : Image)
     → Run (new_field configs) events answers old → After old event answer mid → Contains (made_by answer) delta → IsAt old (gateway_of event) i maker
     → Run mid more replies new → slice_get new.gateways i ≡ Some later → StandsFor later.config.gateway (with_refused b later.taken later.refused) [] image
-    → Same (keep (all_of (records later.config.gateway image) ++ delta)) (keep (all_of (records later.config.gateway image)))
+    → HasStored later.config.gateway image delta
 field-stored configs events more answers replies old mid new event answer delta i maker later b image run after there at goes_on place stands =
     let first = field-sound configs events answers old run in
     let one = after-sound old event answer mid after first.flush first.whole first.due in
@@ -138,3 +162,18 @@ field-stored configs events more answers replies old mid new event answer delta 
     let S = with_refused b later.taken later.refused in
     let J = all_of (records later.config.gateway image) in
     adds-nothing S J delta (within-back b delta later.taken later.refused within) (as_taken S J stands.whole)
+
+pub answer-stored : (more : List Event) (replies : List Answer) (old mid new : Field) (number other : ℕ) (answer : Result (Arc Out Global) NodeFault) (delta : List Op) (i : ℕ) (peer later : Gateway) (b : Bool) (image : Image)
+    → After old (Asks number other) (Node answer) mid → Contains (answered_of (said answer)) delta → IsAt old other i peer
+    → Run mid more replies new → slice_get new.gateways i ≡ Some later → StandsFor later.config.gateway (with_refused b later.taken later.refused) [] image
+    → HasStored later.config.gateway image delta
+answer-stored more replies old mid new number other answer delta i peer later b image after there at goes_on place stands =
+    let is : after.3 ≡ peer = same-gateway old other after.1 i after.3 peer after.6 at in
+    let within : Within delta peer.taken = subst (λ (g : Gateway). Within delta g.taken) is (answer-within after.2 after.3 (said answer) after.4 delta after.7 there) in
+    let start : Later mid.gateways i peer.taken = subst (λ (f : Field). Later f.gateways i peer.taken) (sym after.8) (later-now old.gateways i peer at.1) in
+    let now = run-later mid more replies new i peer.taken goes_on start in
+    let grown : later.taken ≡ peer.taken ++ now.more = ap (λ (x : Gateway). x.taken) (same_Some later now.gateway (sym place ∙ now.place)) ∙ now.taken in
+    let still : Within delta later.taken = subst (λ (T : List Op). Within delta T) (sym grown) (within-trans delta peer.taken (peer.taken ++ now.more) within (within-left peer.taken now.more)) in
+    let S = with_refused b later.taken later.refused in
+    let J = all_of (records later.config.gateway image) in
+    adds-nothing S J delta (within-back b delta later.taken later.refused still) (as_taken S J stands.whole)

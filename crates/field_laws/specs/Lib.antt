@@ -1,3 +1,4 @@
 pub mod OwnPlans
 pub mod Takes
+pub mod Stored
 pub mod Settings

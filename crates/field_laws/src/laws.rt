@@ -1,15 +1,16 @@
 //! The laws. Each function does nothing; its contract is a law, proved for all runs.
 
-ghost use Rattle.std.specs.Prelude.{◌≡◌, ◌⊎◌, [], ◌++◌, ℕ, Bool, true, List, slice_get, Some, Err, Contains};
+ghost use Rattle.std.specs.Prelude.{◌≡◌, ◌⊎◌, [], ◌++◌, ℕ, Bool, true, List, slice_get, Some, Result, Err, Contains};
 ghost use Rattle.std.specs.List.{AllByRecursion};
+ghost use Rattle.std.specs.declared.alloc.Global.{Global};
+ghost use Rattle.std.specs.declared.sync.Arc.{Arc};
 ghost use Rattle.sn_session.specs.declared.session.Session.{Session};
 ghost use Rattle.sn_session.specs.declared.change.SessionOp.{SessionOp};
 ghost use Rattle.rep_op.specs.declared.op.Stamp.{Stamp};
 ghost use Rattle.rep_op.specs.declared.op.Op.{Op};
 ghost use Rattle.rep_op.specs.declared.op.Op.TheVariants.{Session as OfSession};
 ghost use Rattle.rep_ops.specs.Making.{AreApart};
-ghost use Rattle.rep_op.specs.Sets.{operation_at, Same};
-ghost use Rattle.rep_ops.specs.Splitting.{all_of};
+ghost use Rattle.rep_op.specs.Sets.{operation_at};
 ghost use Rattle.sn_local.specs.declared.config.Addr.{Addr};
 ghost use Rattle.sn_local.specs.declared.config.Config.{Config};
 ghost use Rattle.sn_plan.specs.declared.plan.Plan.{Plan};
@@ -18,20 +19,25 @@ ghost use Rattle.sn_plan.specs.Others.{is_up};
 ghost use Rattle.plan_laws.specs.BoundUp.{IsUp};
 ghost use Rattle.plan_laws.specs.KeepsWell.{KeepsWell};
 ghost use Rattle.gw_event.specs.Occasions.{Occasion};
+ghost use Rattle.gw_answer.specs.declared.fault.NodeFault.{NodeFault};
+ghost use Rattle.gw_answer.specs.declared.out.Out.{Out};
 ghost use Rattle.gw_answer.specs.declared.refusal.Refusal.TheVariants as refusals;
+ghost use Rattle.gw_answer.specs.Answers.{said};
 ghost use Rattle.gw_world.specs.declared.event.Event.{Event};
+ghost use Rattle.gw_world.specs.declared.event.Event.TheVariants.{Answer as Asks};
 ghost use Rattle.gw_world.specs.declared.event.Answer.{Answer};
+ghost use Rattle.gw_world.specs.declared.event.Answer.TheVariants.{Node};
+ghost use Rattle.gw_world.specs.Events.{answered_of};
 ghost use Rattle.gw_event.specs.Gateways.{Gateway, with_refused};
 ghost use Rattle.gw_world.specs.Field.{Field, new_field, IsAt, After, Run, gateway_of};
 ghost use Rattle.gw_node.specs.Keeping.{Keeps};
 ghost use Rattle.gw_node.specs.Taking.{StandsFor};
 ghost use Rattle.jr_disk.specs.Disk.{Image};
-ghost use Rattle.jr_journal.specs.Records.{records};
-ghost use Rattle.rep_model.specs.Keep.{keep};
 ghost use Rattle.rep_model.specs.Views.{view};
 ghost use Rattle.gw_world.specs.Whole.{made_by};
 ghost use Rattle.gw_event.specs.Event.{IsPlan, IsTooMuch, OwnStep};
 ghost use Rattle.field_laws.specs.OwnPlans.{AreNumbered, IsTooLong};
+ghost use Rattle.field_laws.specs.Stored.{HasStored};
 ghost use Rattle.field_laws.specs.Takes.{IsTakeAtZero};
 
 /// In every run, whatever comes to a gateway: it keeps well, and the operations of its plan are
@@ -94,18 +100,26 @@ pub fn takes_at_zero()
         → IsTakeAtZero (OfSession c stamp counter change) }
 {}
 
-/// What a gateway made is in its own journal. At any moment behind the event that made a delta,
-/// whatever failed, stopped or was compacted since: what a crash leaves of the disk of the gateway
-/// that made it (a journal that stands for that gateway's set, as the contract of `run` says of
-/// each) has the delta, up to what must be kept.
+/// What a gateway made is in its own journal, and so is what it answered to a digest. At any moment
+/// after the event that made or answered a delta, whatever failed, stopped or was compacted since:
+/// what a crash leaves of the disk of the gateway that made it, or that answered, has the delta, up
+/// to what must be kept. That disk holds a journal that stands for the gateway's set, as the
+/// contract of `run` says of each. So every delta of the list is in a journal.
 pub fn stored()
-    ensures { (configs : List Config) (events more : List Event) (answers replies : List Answer)
-        (old mid new : Field) (event : Event) (answer : Answer) (delta : List Op) (i : ℕ)
-        (maker later : Gateway) (b : Bool) (image : Image)
+    ensures made { (configs : List Config) (events more : List Event)
+        (answers replies : List Answer) (old mid new : Field) (event : Event) (answer : Answer)
+        (delta : List Op) (i : ℕ) (maker later : Gateway) (b : Bool) (image : Image)
         → Run (new_field configs) events answers old → After old event answer mid
         → Contains (made_by answer) delta → IsAt old (gateway_of event) i maker
         → Run mid more replies new → slice_get new.gateways i ≡ Some later
         → StandsFor later.config.gateway (with_refused b later.taken later.refused) [] image
-        → Same (keep (all_of (records later.config.gateway image) ++ delta))
-        (keep (all_of (records later.config.gateway image))) }
+        → HasStored later.config.gateway image delta }
+    ensures answered { (more : List Event) (replies : List Answer) (old mid new : Field)
+        (number other : ℕ) (answer : Result (Arc Out Global) NodeFault) (delta : List Op) (i : ℕ)
+        (peer later : Gateway) (b : Bool) (image : Image)
+        → After old (Asks number other) (Node answer) mid
+        → Contains (answered_of (said answer)) delta → IsAt old other i peer
+        → Run mid more replies new → slice_get new.gateways i ≡ Some later
+        → StandsFor later.config.gateway (with_refused b later.taken later.refused) [] image
+        → HasStored later.config.gateway image delta }
 {}

@@ -25,7 +25,7 @@ use Rattle.gw_net.proofs.Fronts.{all_both}
 
 -- ---- a message in front is read
 
-abbrev failing : LinkFault → Front
+abbrev pub failing : LinkFault → Front
 failing f = Err f
 
 message_again : (m : LinkMessage) → IsMessage m → message_at (kind_of m) (body_of m) ≡ Some m
@@ -34,12 +34,12 @@ message_again (Hello g) h = ap (λ b. if b then Some (Hello g) else None) (le-le
 message_again (OfDigest d) h = ap (read_or_none (λ x. OfDigest x)) (digest_again d h.0 h.1)
 message_again (OfDelta d) h = ap (read_or_none (λ x. OfDelta x)) (delta_again d h.0 h.1 h.2)
 
-short_body : (m : LinkMessage) → IsMessage m → length (body_of m) ≤ max_octets
+pub short_body : (m : LinkMessage) → IsMessage m → length (body_of m) ≤ max_octets
 short_body (Hello g) h = omega arith
 short_body (OfDigest d) h = h.1
 short_body (OfDelta d) h = h.2
 
-known_kind : (m : LinkMessage) → (nat_le 1 (kind_of m) && nat_le (kind_of m) 3) ≡ true
+pub known_kind : (m : LinkMessage) → (nat_le 1 (kind_of m) && nat_le (kind_of m) 3) ≡ true
 known_kind (Hello g) = refl
 known_kind (OfDigest d) = refl
 known_kind (OfDelta d) = refl
@@ -71,13 +71,13 @@ joined stream piece rest after messages more fault r s = record {
 
 -- ---- one reading
 
-abbrev given : LinkMessage × List ℕ → Front
+abbrev pub given : LinkMessage × List ℕ → Front
 given x = Ok (Some x)
 
 abbrev waiting : Front
 waiting = Ok None
 
-given_is : (x y : LinkMessage × List ℕ) → given x ≡ given y → x ≡ y
+pub given_is : (x y : LinkMessage × List ℕ) → given x ≡ given y → x ≡ y
 given_is x y e = cc
 
 failing_is : (f g : LinkFault) → failing f ≡ failing g → f ≡ g

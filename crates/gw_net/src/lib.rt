@@ -8,7 +8,8 @@
 //! - `front`: the message in front of a stream.
 //! - `stream`: the end of a link at which pieces come in (`LinkIn`).
 //! - `outgoing`: the end at which messages go out (`link_out`).
-//! - `laws`: that a stream says one thing, however it is cut.
+//! - `laws`: that a stream says one thing, however it is cut, and that no message or digest begins
+//!   another.
 //!
 //! The definitions are in `specs/`: `Messages` (messages and their octets), `Streams` (what a
 //! stream says), `Pieces` (what pieces of it give), `Writing` (what goes out).
@@ -22,7 +23,7 @@ mod outgoing;
 mod stream;
 
 pub use fault::{LinkFault, LinkOutFault};
-pub use laws::one_stream;
+pub use laws::{no_digest_begins_another, no_message_begins_another, one_stream};
 pub use message::LinkMessage;
 pub use outgoing::link_out;
 pub use stream::{Fed, LinkIn};

@@ -7,6 +7,7 @@ use Rattle.sn_local.specs.declared.config.Config.{Config}
 use Rattle.sn_local.specs.Locals.{no_local}
 use Rattle.jr_disk.specs.declared.disk.Disk.{Ghosts}
 use Rattle.jr_disk.specs.Disk.{Slots, Image, image}
+use Rattle.jr_journal.specs.declared.fault.JournalFault.TheVariants as journal_faults
 use Rattle.jr_journal.specs.Records.{records}
 use Rattle.jr_journal.specs.Faults.{is_fresh, fault_of}
 use Rattle.jr_journal.specs.Crashes.{Leaves, recovered, LeavesNoMore}
@@ -68,7 +69,8 @@ IsDiskFault refusals.Exhausted = ⊥
 IsDiskFault (refusals.Journal fault) = ⊥
 IsDiskFault refusals.Memory = ⊥
 
--- an opening may be refused so; nothing is sent if the disk failed
+-- An opening may be refused so. Nothing is sent if the disk failed. The journal's own faults are
+-- those of what is in the slots: a failure of the disk is never one of them.
 abbrev pub MayRefuse : Refusal → Type 0
 MayRefuse (refusals.Frame fault) = ⊥
 MayRefuse refusals.Halted = ⊥
@@ -76,7 +78,11 @@ MayRefuse refusals.Exhausted = ⊥
 MayRefuse (refusals.Disk excuse) = excuse ≡ only_sends []
 MayRefuse (refusals.Conflict client) = Unit {0}
 MayRefuse refusals.Full = Unit {0}
-MayRefuse (refusals.Journal fault) = Unit {0}
+MayRefuse (refusals.Journal journal_faults.Foreign) = Unit {0}
+MayRefuse (refusals.Journal (journal_faults.BadRecord slot at)) = Unit {0}
+MayRefuse (refusals.Journal journal_faults.Disk) = ⊥
+MayRefuse (refusals.Journal journal_faults.Halted) = ⊥
+MayRefuse (refusals.Journal journal_faults.Memory) = ⊥
 MayRefuse refusals.Memory = Unit {0}
 
 -- What a refused opening leaves in the slots. If they are no journal of this gateway, they are

@@ -1,9 +1,9 @@
 -- What serving adds to the passes of a shift.
-use Rattle.std.specs.Prelude.{◌≡◌, ℕ, Bool, true, false, List, [], ◌∷◌, ◌++◌, All, map}
+use Rattle.std.specs.Prelude.{◌≡◌, ◌⊎◌, ◌<◌, ℕ, Bool, true, false, List, [], ◌∷◌, ◌++◌, All, map}
 use Rattle.gw_answer.specs.declared.step.Step.{Step}
 use Rattle.gw_answer.specs.declared.step.Step.TheVariants as steps
 use Rattle.gw_shift.specs.Calls.{Held, Holder}
-use Rattle.gw_shift.specs.Passes.{with_calls}
+use Rattle.gw_shift.specs.Passes.{seen_by, with_calls}
 
 -- the call is a datagram's
 abbrev pub is_frame : Step → Bool
@@ -35,3 +35,8 @@ EachGains (p ∷ ps) numbers (q ∷ qs) =
     × EachGains ps rest qs
 EachGains [] numbers (q ∷ qs) = ⊥
 EachGains (p ∷ ps) numbers [] = ⊥
+
+-- one of the passes has seen a number
+abbrev pub HaveSeen : List Holder → Type 0
+HaveSeen [] = ⊥
+HaveSeen (pass ∷ rest) = (0 < seen_by pass) ⊎ HaveSeen rest

@@ -1,6 +1,6 @@
 //! The one reader: it numbers what comes and puts it into the queue.
 
-ghost use Rattle.std.specs.Prelude.{◌≡◌, ◌<◌, ◌≤◌, ◌+◌, [], Some, None, IfOk, IfErr, IfSome};
+ghost use Rattle.std.specs.Prelude.{◌≡◌, ◌≢◌, ◌<◌, ◌≤◌, ◌+◌, [], Some, None, IfOk, IfErr, IfSome};
 ghost use Rattle.crossbeam_channel.specs.Claims.{view, IsSeatAt};
 ghost use Rattle.crossbeam_channel.specs.Ends.{sends_on};
 ghost use Rattle.gw_serve.specs.Count.{one_to};
@@ -47,6 +47,7 @@ pub fn read_all<R: Wait, W: Wire>(
         × (W.arrivals wire.old + result.count + W.drops wire.new
         ≡ W.arrivals wire.new + W.drops wire.old) }
     ensures wire { result.fault ≡ Some causes.Wire → W.failures wire.old < W.failures wire.new }
+    ensures behind { result.fault ≢ Some causes.Behind }
 {
     let mut count: u64 = 0;
     let mut fault = None;
@@ -87,6 +88,7 @@ fn take_in<W: Wire>(
         × (W.arrivals wire.new ≡ W.arrivals wire.old + came_in result)) }
     ensures wire { IfErr result (λ c. c ≡ causes.Wire → W.failures wire.old < W.failures wire.new) }
     ensures more { W.failures wire.old ≤ W.failures wire.new }
+    ensures behind { IfErr result (λ c. c ≢ causes.Behind) }
 {
     match wire.recv(buffer) {
         Err(_) => Err(Cause::Wire),

@@ -1,14 +1,15 @@
 //! Serving: one reader, a worker for each pass, and the account of all numbers at the end.
 
-ghost use Rattle.std.specs.Prelude.{◌≡◌, ◌≤◌, ◌<◌, ◌+◌, ◌-◌, ◌^◌, ◌++◌, ℕ, Some, None, List, [], ◌∷◌, length, map, vec_len, vec_capacity, IfOk, IfErr, All};
+ghost use Rattle.std.specs.Prelude.{◌≡◌, ◌≢◌, ◌⊎◌, ◌≤◌, ◌<◌, ◌+◌, ◌-◌, ◌^◌, ◌++◌, ℕ, Some, None, List, [], ◌∷◌, length, map, vec_len, vec_capacity, IfOk, IfErr, IfSome, All};
 ghost use Rattle.crossbeam_channel.specs.Claims.{view, IsSeatAt};
 ghost use Rattle.crossbeam_channel.specs.Ends.{sends_on, receives_on};
 ghost use Rattle.gw_serve.specs.Count.{weigh, times, one_to};
 ghost use Rattle.gw_serve.specs.inner.Queue.{hand, whole};
-ghost use Rattle.gw_serve.specs.Serving.{EachGains};
+ghost use Rattle.gw_serve.specs.Serving.{EachGains, HaveSeen};
 ghost use Rattle.gw_serve.specs.inner.Work.{IsFreshSlot, IsDone, IsWorked, IsWorkedSlot, WorkedFrom, DoneFrom, IsGathered, pass_of};
 ghost use Rattle.gw_shift.specs.Calls.{Holder};
 ghost use Rattle.gw_serve.specs.declared.worker.Cause.TheVariants as causes;
+ghost use Rattle.gw_serve.specs.declared.worker.Trouble.TheVariants as troubles;
 
 use crate::bell::Bell;
 use crate::queue::{Cut, Datagram, Drains, Fair, Hand, Receiver, Sender, Ticket};
@@ -66,7 +67,8 @@ pub struct ServeFault<'a, R: Replica, D: Disk> {
 /// came over the wire, less those that it was told were dropped. The passes hold what they held and
 /// the calls of `taken`, pass by pass, and nothing else. The faults: `Wire`, a receive failed;
 /// `Memory`; `Behind`, a pass has seen more calls than the shift has. With each of them every pass
-/// comes back too, and has gained nothing but calls of datagrams.
+/// comes back too, and has gained nothing but calls of datagrams. After `Behind` one of them has
+/// seen a number, so passes that have made no call are never behind at their first.
 pub fn serve<'a, T, R, D, W, P, G>(
     rt: &T,
     alloc: Global,
@@ -97,6 +99,7 @@ where
         → W.failures wire.old < W.failures wire.new) }
     ensures back { IfErr result (λ f. (numbers : List ℕ)
         × EachGains passes.items numbers f.passes.items) }
+    ensures behind { IfErr result (λ f. f.cause ≡ causes.Behind → HaveSeen f.passes.items) }
 {
     let Ok(room) = Room::new(alloc, passes.len()) else {
         return Err(ServeFault {
@@ -158,6 +161,7 @@ where
         → W.failures wire.old < W.failures wire.new) }
     ensures back { IfErr result (λ f. (numbers : List ℕ)
         × EachGains passes.items numbers f.passes.items) }
+    ensures behind { IfErr result (λ f. f.cause ≡ causes.Behind → HaveSeen f.passes.items) }
 {
     let Room {
         slots,
@@ -205,6 +209,8 @@ where
 fn first_cause(reader: Option<Cause>, worker: Option<Trouble>) -> Option<Cause>
     ensures none { result ≡ None → (reader ≡ None) × (worker ≡ None) }
     ensures wire { result ≡ Some causes.Wire → reader ≡ Some causes.Wire }
+    ensures behind { result ≡ Some causes.Behind
+        → (reader ≡ Some causes.Behind) ⊎ (worker ≡ Some troubles.Behind) }
 {
     match worker {
         Some(Trouble::Memory) => Some(Cause::Memory),
@@ -297,6 +303,7 @@ where
         × (W.arrivals wire.old + result.count + W.drops wire.new
         ≡ W.arrivals wire.new + W.drops wire.old) }
     ensures wire { result.fault ≡ Some causes.Wire → W.failures wire.old < W.failures wire.new }
+    ensures behind { result.fault ≢ Some causes.Behind }
 {
     let mut working = ||
         requires { All (IsFreshSlot (receives_on receiver.now)) slots.now }
@@ -307,7 +314,8 @@ where
             × ((view root.now).sent ≡ []) }
         ensures { IsSeatAt (sends_on sender.entry.now) root.exit.now
             × (view root.exit.now ≡ hand (view root.entry.now).parts (one_to result.count)
-            (view root.entry.now).taken) × (result.fault ≡ Some causes.Wire
+            (view root.entry.now).taken) × (result.fault ≢ Some causes.Behind)
+            × (result.fault ≡ Some causes.Wire
             → W.failures wire.entry.now < W.failures wire.exit.now) × (result.fault ≡ None
             → (W.drops wire.entry.now ≤ W.drops wire.exit.now)
             × (W.arrivals wire.entry.now + result.count + W.drops wire.exit.now
@@ -402,6 +410,7 @@ fn gather(
         → DoneFrom (sends_on sender.now) before slots.items
         → IsGathered before (view root.new) result.taken.items result.left.items
         result.passes.items }
+    ensures behind { result.fault ≡ Some troubles.Behind → HaveSeen result.passes.items }
 {
     let mut taken = Vec::new(alloc);
     let mut left = Vec::new(alloc);
@@ -446,6 +455,8 @@ fn join_seat(
         → IsGathered done (view root.old) taken.old.items left.old.items back.old.items
         → IsGathered (done ++ before ∷ []) (view root.new) taken.new.items left.new.items
         back.new.items }
+    ensures behind { result ≡ Some troubles.Behind → HaveSeen back.new.items }
+    ensures seen { HaveSeen back.old.items → HaveSeen back.new.items }
 {
     let Seat {
         pass,
@@ -477,6 +488,7 @@ fn drain<T: Wait>(
     ensures all { result ≡ None → (h : ℕ → ℕ)
         → weigh h (view root.old).sent + weigh h left.old.items ≡ weigh h (view root.old).taken +
         weigh h left.new.items }
+    ensures memory { IfSome result (λ trouble. trouble ≡ troubles.Memory) }
 {
     for _ in rt.forever() {
         if left.reserve(1).is_err() {
@@ -493,6 +505,7 @@ fn drain<T: Wait>(
 /// The first that there is.
 fn first_trouble(a: Option<Trouble>, b: Option<Trouble>) -> Option<Trouble>
     ensures none { result ≡ None → (a ≡ None) × (b ≡ None) }
+    ensures some { (result ≡ a) ⊎ (result ≡ b) }
 {
     match a {
         Some(_) => a,

@@ -1,5 +1,6 @@
 //! A disk that fails once: what the calls of a shift are answered until the gateway is opened
-//! again, and that the shift is closed.
+//! again, and that the shift is closed. Opening a shift writes nothing: the failure that was
+//! arranged before it meets the first call, which is refused as `Disk` and not as `Halted`.
 
 use super::closings::closed;
 use super::gateways::{CONNECT, Gateway, Shared, alone, answered, frame, gateway, shift_of_one};

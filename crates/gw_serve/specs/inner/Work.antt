@@ -6,10 +6,12 @@ use Rattle.crossbeam_channel.specs.declared.flavors.array.Key.{Key}
 use Rattle.crossbeam_channel.specs.declared.flavors.array.Doing.{Doing}
 use Rattle.crossbeam_channel.specs.Claims.{view, IsSeatAt}
 use Rattle.gw_shift.specs.Calls.{Holder}
+use Rattle.gw_shift.specs.Passes.{seen_by}
 use Rattle.gw_serve.specs.declared.queue.Datagram.{Datagram}
 use Rattle.gw_serve.specs.declared.queue.Hand.{Hand}
 use Rattle.gw_serve.specs.declared.worker.Seat.{Seat}
 use Rattle.gw_serve.specs.declared.worker.Taken.{Taken}
+use Rattle.gw_serve.specs.declared.worker.Trouble.TheVariants as troubles
 use Rattle.gw_serve.specs.Count.{weigh}
 use Rattle.gw_serve.specs.inner.Queue.{hand}
 use Rattle.gw_serve.specs.Serving.{Gains, EachGains}
@@ -30,8 +32,8 @@ module _ {Q M L A : Type 0}
   IsFresh seat = IsSeatAt c seat.ticket × (view seat.ticket ≡ hand 1 [] [])
       × (seat.taken.items ≡ []) × (seat.left.items ≡ []) × (seat.fault ≡ None)
 
-  -- its pass gained steps of frames. With no fault they are those of `taken`, and each number that
-  -- was taken is in `taken` or in `left`
+  -- Its pass gained steps of frames. With no fault they are those of `taken`, and each number that
+  -- was taken is in `taken` or in `left`. If its pass was behind, that has seen a number.
   pub record IsWorked (before : Holder) (seat : Seat) : Type 0 where
     pub channel : IsSeatAt c seat.ticket
     pub part : (view seat.ticket).parts ≡ 1
@@ -39,6 +41,7 @@ module _ {Q M L A : Type 0}
     pub gains : (steps : List ℕ) × Gains before steps seat.pass
     pub working : seat.fault ≡ None → IsWorking before (view seat.ticket) seat.taken.items
         seat.left.items seat.pass
+    pub behind : seat.fault ≡ Some troubles.Behind → 0 < seen_by seat.pass
 
   abbrev pub IsFreshSlot : Option Seat → Type 0
   IsFreshSlot (Some seat) = IsFresh seat

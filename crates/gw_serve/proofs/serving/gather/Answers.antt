@@ -1,4 +1,4 @@
-use Rattle.std.proofs.Common.{◌∷◌, ◌++◌, [], List, Option, length, All, suc, ap, ◌∙◌, sym, subst, arith, append_assoc}
+use Rattle.std.proofs.Common.{inl, inr, ◌∷◌, ◌++◌, [], List, Option, length, All, suc, ap, ◌∙◌, sym, subst, arith, append_assoc}
 use Rattle.crossbeam_channel.specs.Claims.{view}
 use Rattle.gw_shift.specs.Calls.{Holder}
 use Rattle.gw_serve.specs.declared.worker.Seat.{Seat}
@@ -34,6 +34,10 @@ loop-slot-preserved-in-Some-slot c =
             c.join_seat-trouble.ensures.gains d.0 d.3 w.0 w.4.0 w.4.1,
             λ none. let n = c.first_trouble-fault.ensures.none none in c.join_seat-trouble.ensures.gathered n.1 d.0 d.3 w.0 (w.5 n.0),
           ),
+      λ behind. elim c.first_trouble-fault.ensures.some [
+        | inl before ↦ c.join_seat-trouble.ensures.seen (inv.8 (sym before ∙ behind))
+        | inr now ↦ c.join_seat-trouble.ensures.behind (sym now ∙ behind)
+      ],
     )
 
 pub returns-clause-back : goal.returns-clause-back

@@ -1,9 +1,10 @@
-use Rattle.std.proofs.Common.{◌≡◌, ◌+◌, ◌<◌, ◌≤◌, ◌++◌, ℕ, None, List, length, vec_len, vec_capacity, All}
+use Rattle.std.proofs.Common.{◌≡◌, ◌+◌, ◌<◌, ◌≤◌, ◌++◌, ℕ, Some, None, List, length, vec_len, vec_capacity, All}
 use Rattle.std.specs.Vec.Iter.{into_iter_items}
 use Rattle.crossbeam_channel.specs.Claims.{view, IsSeatAt}
 use Rattle.crossbeam_channel.specs.Ends.{sends_on}
 use Rattle.gw_serve.specs.inner.Queue.{whole}
-use Rattle.gw_serve.specs.Serving.{EachGains}
+use Rattle.gw_serve.specs.declared.worker.Trouble.TheVariants as troubles
+use Rattle.gw_serve.specs.Serving.{EachGains, HaveSeen}
 use Rattle.gw_serve.specs.inner.Work.{IsDone, DoneFrom, IsGathered}
 use Rattle.gw_shift.specs.Calls.{Holder}
 use Rattle.gw_serve.proofs.serving.gather.Given as goal
@@ -21,3 +22,4 @@ invariant-loop-slot l =
     → ((done : List Holder) × (rest : List Holder) × (before ≡ done ++ rest) × DoneFrom (sends_on l.sender) rest (into_iter_items l.slot-iterator)
     × ((steps : List ℕ) × EachGains done steps l.back.items)
     × (l.fault ≡ None → IsGathered done (view l.root) l.taken.items l.left.items l.back.items)))
+    × (l.fault ≡ Some troubles.Behind → HaveSeen l.back.items)

@@ -1,5 +1,5 @@
 use Rattle.gw_serve.specs.declared.worker.Cause.{Cause}
-use Rattle.std.proofs.Common.{◌==◌, ◌-◌, if◌then◌else◌, ℕ, List, All, Some, map, length, ap, ◌∙◌, sym, subst, arith}
+use Rattle.std.proofs.Common.{inl, inr, ◌==◌, ◌-◌, if◌then◌else◌, ℕ, List, All, Some, map, length, ap, ◌∙◌, sym, subst, arith}
 use Rattle.std.proofs.lemmas.List.{with_items_is}
 use Rattle.crossbeam_channel.specs.Claims.{view}
 use Rattle.crossbeam_channel.specs.Ends.{sends_on}
@@ -7,6 +7,7 @@ use Rattle.gw_shift.specs.Calls.{Holder}
 use Rattle.gw_serve.specs.declared.queue.Hand.{Hand}
 use Rattle.gw_serve.specs.Serving.{EachGains}
 use Rattle.gw_serve.specs.inner.Work.{IsDone, DoneFrom, pass_of}
+use Rattle.gw_serve.proofs.Gaining.{only_memory}
 use Rattle.gw_serve.proofs.Gathering.{all_done, all_from, accounted}
 use Rattle.gw_serve.proofs.serving.serve_in.Goals as goal
 
@@ -64,3 +65,13 @@ returns-in-Some-clause-back g c =
 
 pub returns-in-Some-clause-wire : goal.returns-in-Some-clause-wire
 returns-in-Some-clause-wire g c e = c.read_and_work-reading.ensures.wire (c.first_cause.ensures.wire (c.in-Some.is ∙ ap (λ (x : Cause). Some x) e))
+
+pub returns-in-Some-clause-behind : goal.returns-in-Some-clause-behind
+returns-in-Some-clause-behind g c e =
+    elim (c.first_cause.ensures.behind (c.in-Some.is ∙ ap (λ (x : Cause). Some x) e)) [
+      | inl reader ↦ absurd (c.read_and_work-reading.ensures.behind reader)
+      | inr worker ↦ elim c.first_trouble.ensures.some [
+        | inl seats ↦ c.gather-gathered.ensures.behind (sym seats ∙ worker)
+        | inr rest ↦ absurd (only_memory c.drain-rest.result c.drain-rest.ensures.memory (sym rest ∙ worker))
+      ]
+    ]

@@ -1,6 +1,6 @@
 use Rattle.std.proofs.Common.{arith, refl}
 use Rattle.gw_serve.proofs.Balance.{takes, learns_nothing}
-use Rattle.gw_serve.proofs.Gaining.{fresh, kept, stepped, leaves, worked, failed}
+use Rattle.gw_serve.proofs.Gaining.{fresh, kept, stepped, leaves, worked, failed, none_behind, memory_behind}
 use Rattle.gw_serve.proofs.worker.take_all.Goals as goal
 
 pub try_recv_as-requires-clause-rule : goal.try_recv_as-requires-clause-rule
@@ -13,7 +13,7 @@ loop-init g c = (c.requires.0, fresh _ _ _ _ _ c.requires.1 refl c.requires.2 c.
 
 pub returns-then-not-has_room : goal.returns-then-not-has_room
 returns-then-not-has_room g c =
-    rw c.seat_of.ensures (worked _ _ _ c.loop.invariant.0 (kept _ _ _ _ _ _ _ _ refl c.has_room.ensures.same.0 c.has_room.ensures.same.1 c.loop.invariant.1))
+    rw c.seat_of.ensures (worked _ _ _ c.loop.invariant.0 (kept _ _ _ _ _ _ _ _ refl c.has_room.ensures.same.0 c.has_room.ensures.same.1 c.loop.invariant.1) memory_behind)
 
 pub loop-preserved-in-Stepped : goal.loop-preserved-in-Stepped
 loop-preserved-in-Stepped g c = (
@@ -35,4 +35,4 @@ returns-in-Failed g c =
 
 pub returns-then-heard : goal.returns-then-heard
 returns-then-heard g c =
-    rw c.seat_of-then-heard.ensures (worked _ _ _ c.try_recv_as.ensures.channel.0 (kept _ _ _ _ _ _ _ _ c.in-Err.ensures.rule.0 c.has_room.ensures.same.0 c.has_room.ensures.same.1 c.loop.invariant.1))
+    rw c.seat_of-then-heard.ensures (worked _ _ _ c.try_recv_as.ensures.channel.0 (kept _ _ _ _ _ _ _ _ c.in-Err.ensures.rule.0 c.has_room.ensures.same.0 c.has_room.ensures.same.1 c.loop.invariant.1) none_behind)
