@@ -85,9 +85,10 @@ SENTENCES = [
      "restarts included, and `IsWorld` is its result. `Lasts` says what a crash leaves of one gateway's disk. All are in [level 3]. To "
      "*count as* a set is to keep what must be kept of it: `CountsAs`, and `keep` in [level 2].",
      "Anything about your disk. The disks of `run` are in memory. They are honest, as the trait `Disk` has it: calls do what they say, "
-     "and a crash keeps the synced bytes and a front part of the rest. The disk of the daemon, `FileDisk`, declares that it is not (its "
-     "`honest` is `⊥`), so clauses with that premise say nothing about it. What they say is true of the same code on any honest disk: "
-     "see the clauses `event`, [level 3], for one call each. In a run only appends fail, and the syncs after them, and never an "
+     "and a crash keeps the synced bytes and a front part of the rest. The daemon's disk, `FileDisk`, is honest if its two files are; "
+     "the system's files declare that they are not (`honest` is `⊥`), so clauses with that premise say nothing about them. What they "
+     "say is true of the same code on any honest disk: see the clauses `event`, [level 3], for one call each. In a run only appends "
+     "fail, and the syncs after them, and never an "
      "opening."),
 ]
 

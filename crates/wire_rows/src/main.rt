@@ -1,4 +1,4 @@
-//! Worked rows of serving, of a socket, of settings and of files: what no clause says.
+//! Worked rows of serving, of a socket, of settings, of files and of a link: what no clause says.
 //!
 //! Standard input holds rows, each behind a line `== NAME`; empty lines and those that begin with
 //! `#` are skipped. The program prints each name, and below it what the lines of the row give; of a
@@ -40,6 +40,21 @@
 //! the history (where serving ended early, the history); how many calls the closed shift has; and
 //! the clients that the gateway knows. None of that depends on which thread was first.
 //!
+//! What happens when two gateways, 1 and 2, meet on empty disks, with a link that 1 dialled:
+//!
+//! - `ask GATEWAY HOST OCTETS`: a datagram comes to a gateway, from port 1 of a host.
+//! - `talk GATEWAY`: its end of the link talks until nothing comes, and to the end of the shift.
+//! - `last GATEWAY`: its end talks at the end of the shift, and reads nothing.
+//! - `sit GATEWAY`: the same as `talk`, at a seat; and then all links of the gateway are closed.
+//! - `turn GATEWAY`: its shift is closed, and the next one begins.
+//! - `takes GATEWAY COUNT`: its stream takes so many octets at once, and at 0 no more.
+//! - `idle GATEWAY COUNT`: so many reads find nothing before the one that ends its next `talk`.
+//! - `come GATEWAY OCTETS`: octets come to its end that the other one has not said.
+//! - `meet`: plays these, in their order, in one thread.
+//!
+//! Printed are answers, each message that has gone out whole, why an end stopped before the shift's
+//! end, whether 1 may dial again, and of a closed shift the number of calls and the clients.
+//!
 //! - `row`: what the lines of a row have brought about (`Row`), and the play of one more.
 //! - `fields`: numbers and octets of a line.
 //! - `options`: settings, and gateways that are opened.
@@ -48,13 +63,17 @@
 //! - `serving`: a shift is opened, served and closed.
 //! - `loopback`: the same over sockets.
 //! - `printing`: what is printed of that.
+//! - `meeting`: two gateways that meet.
+//! - `pipe`: the stream between them.
 //! - `stop`: why a line is not played.
 #![tactic(auto)]
 
 mod fields;
 mod loopback;
+mod meeting;
 mod options;
 mod outside;
+mod pipe;
 mod printing;
 mod row;
 mod serving;

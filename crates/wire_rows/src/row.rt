@@ -2,6 +2,7 @@
 
 use crate::fields::{digits, host, number};
 use crate::loopback::{Questions, over_sockets};
+use crate::meeting::{Deed, meet, read_deed};
 use crate::options::{begin_on, files, show};
 use crate::outside::{Hold, Note, Outside};
 use crate::printing::{print_calls, print_count, print_notes, print_outcome, print_over};
@@ -39,6 +40,8 @@ struct Plan {
     fails: bool,
     hold: Option<Hold>,
     coming: Vec<Coming>,
+    /// What happens when two gateways meet.
+    deeds: Vec<Deed>,
 }
 
 /// A row without a line.
@@ -59,6 +62,7 @@ fn default_plan(alloc: Global) -> Plan {
         fails: false,
         hold: None,
         coming: Vec::new(alloc),
+        deeds: Vec::new(alloc),
     }
 }
 
@@ -81,6 +85,7 @@ where
         ["files", octets] => play_files(rt, alloc, text, row.toml.as_str(), octets),
         ["lose", name] => lose(rt, name),
         ["serve"] => play_serve(rt, alloc, text, row),
+        ["meet"] => play_meet(rt, alloc, text, row),
         ["loopback", first, second] => play_loopback(rt, alloc, text, row, first, second),
         _ => play_plan(alloc, &mut row.plan, words),
     }
@@ -129,7 +134,8 @@ fn play_plan(alloc: Global, plan: &mut Plan, words: &[&str]) -> Result<(), Stop>
         ["turns", count] => plan.turns = number(count)?,
         ["post", "fails"] => plan.fails = true,
         ["hold", first, second] => plan.hold = Some(hold(first, second)?),
-        _ => return play_coming(alloc, &mut plan.coming, words),
+        ["failure"] | ["datagram", ..] => return play_coming(alloc, &mut plan.coming, words),
+        _ => return play_deed(alloc, &mut plan.deeds, words),
     }
     Ok(())
 }
@@ -144,6 +150,23 @@ fn play_coming(alloc: Global, coming: &mut Vec<Coming>, words: &[&str]) -> Resul
         }
         _ => Err(Stop::Line),
     }
+}
+
+/// Lines that say what happens when two gateways meet.
+fn play_deed(alloc: Global, deeds: &mut Vec<Deed>, words: &[&str]) -> Result<(), Stop> {
+    let next = read_deed(alloc, words)?;
+    Ok(deeds.push(next)?)
+}
+
+/// `meet`: two gateways meet.
+fn play_meet<T: Wait + Clock>(
+    rt: &T,
+    alloc: Global,
+    text: &mut String,
+    row: &mut Row,
+) -> Result<(), Stop> {
+    let plan = mem::replace(&mut row.plan, default_plan(alloc));
+    meet(rt, alloc, text, plan.deeds.as_slice())
 }
 
 /// Which replies are held.

@@ -1,0 +1,127 @@
+//! A stream in memory between two gateways.
+
+use gw_link::{Phase, Stage};
+use std::alloc::{AllocError, Global};
+use std::collections::VecDeque;
+use std::io::{self, ErrorKind, Read, Write};
+use std::mem;
+use std::sync::atomic::{AtomicU64, Ordering};
+use std::sync::{Mutex, Wait};
+
+/// One end of a link: how far its shift is, what has come to it, and what it has said.
+#[derive(Drop)]
+pub(crate) struct Place {
+    pub(crate) stage: Stage,
+    /// What came and was not read yet, a write each.
+    coming: Mutex<VecDeque<Vec<u8>>>,
+    /// What it has said, and nobody was told.
+    said: Mutex<Vec<u8>>,
+    /// How many reads that find nothing come before the one that ends the shift.
+    idle: AtomicU64,
+    /// How many octets its stream takes at once. At 0 it takes no more.
+    takes: AtomicU64,
+}
+
+impl Place {
+    /// An end of which nothing has come and nothing was said, in a shift of 4,096 calls.
+    pub(crate) fn new(alloc: Global) -> Place {
+        Place {
+            stage: Stage::new(4_096, 0),
+            coming: Mutex::new(VecDeque::new(alloc)),
+            said: Mutex::new(Vec::new(alloc)),
+            idle: AtomicU64::new(0),
+            takes: AtomicU64::new(65_536),
+        }
+    }
+
+    /// So many reads that find nothing come before the one that ends the next shift.
+    pub(crate) fn set_idle(&self, count: u64) {
+        self.idle.store(count, Ordering::SeqCst);
+    }
+
+    /// The stream takes so many octets at once.
+    pub(crate) fn set_takes(&self, count: u64) {
+        self.takes.store(count, Ordering::SeqCst);
+    }
+
+    /// What it has said and nobody was told, in whose place is this.
+    pub(crate) fn take_said<T: Wait>(&self, rt: &T, left: Vec<u8>) -> Vec<u8> {
+        mem::replace(&mut self.said.lock(rt), left)
+    }
+
+    /// Octets come to it.
+    pub(crate) fn come<T: Wait>(&self, rt: &T, octets: Vec<u8>) -> Result<(), AllocError> {
+        match self.coming.lock(rt).push_back(octets) {
+            Ok(()) => Ok(()),
+            Err(_) => Err(AllocError),
+        }
+    }
+
+    /// A read found nothing. The last one ends the shift.
+    fn rest<T: Wait>(&self, rt: &T) {
+        let idle = self.idle.load(Ordering::SeqCst);
+        if idle == 0 {
+            self.stage.go_to(rt, Phase::Quiet);
+        }
+        self.idle.store(idle.saturating_sub(1), Ordering::SeqCst);
+    }
+}
+
+/// The stream of an end.
+#[derive(Drop)]
+pub(crate) struct Pipe<'a, T: Wait> {
+    rt: &'a T,
+    alloc: Global,
+    here: &'a Place,
+    there: &'a Place,
+}
+
+impl<'a, T: Wait> Pipe<'a, T> {
+    /// The stream of one end to the other.
+    pub(crate) fn new(rt: &'a T, alloc: Global, here: &'a Place, there: &'a Place) -> Pipe<'a, T> {
+        Pipe {
+            rt,
+            alloc,
+            here,
+            there,
+        }
+    }
+
+    /// Octets go out.
+    fn say(&self, octets: &[u8]) -> Result<(), AllocError> {
+        let come = Vec::from_slice(self.alloc, octets)?;
+        self.here.said.lock(self.rt).extend_from_slice(octets)?;
+        self.there.come(self.rt, come)
+    }
+}
+
+impl<'a, T: Wait> Read for Pipe<'a, T> {
+    fn read(&mut self, buf: &mut [u8]) -> io::Result<usize> {
+        let come = self.here.coming.lock(self.rt).pop_front();
+        match come {
+            Some(octets) if octets.len() <= buf.len() => {
+                buf[..octets.len()].copy_from_slice(octets.as_slice());
+                Ok(octets.len())
+            }
+            _ => {
+                self.here.rest(self.rt);
+                Err(io::Error::from(ErrorKind::WouldBlock))
+            }
+        }
+    }
+}
+
+impl<'a, T: Wait> Write for Pipe<'a, T> {
+    fn write(&mut self, buf: &[u8]) -> io::Result<usize> {
+        let most = self.here.takes.load(Ordering::SeqCst) as usize;
+        let size = buf.len().min(most);
+        match self.say(&buf[..size]) {
+            Ok(()) => Ok(size),
+            Err(_) => Err(io::Error::from(ErrorKind::Other)),
+        }
+    }
+
+    fn flush(&mut self) -> io::Result<()> {
+        Ok(())
+    }
+}
