@@ -1,6 +1,7 @@
 //! Opening a gateway as its settings say.
 
-ghost use Rattle.std.specs.Prelude.{◌≡◌, IfOk, IfErr, length};
+ghost use Rattle.std.specs.Prelude.{◌≡◌, List, [], ◌++◌, IfOk, IfErr, length};
+ghost use Rattle.rep_op.specs.declared.op.Op.{Op};
 ghost use Rattle.rep_ops.specs.Splitting.{all_of};
 ghost use Rattle.rep_model.specs.Views as views;
 ghost use Rattle.jr_disk.specs.Disk.{image};
@@ -8,6 +9,7 @@ ghost use Rattle.jr_journal.specs.Records.{records};
 ghost use Rattle.gw_node.specs.Parts.{state_of, records_of};
 ghost use Rattle.gw_answer.specs.Answers.{told};
 ghost use Rattle.gw_node.specs.Keeping.{Keeps};
+ghost use Rattle.gw_node.specs.Taking.{StandsFor, HasTaken};
 ghost use Rattle.gw_node.specs.Opening.{IsStarted, MayRefuse};
 ghost use Rattle.gw_main.specs.Beginning as spec;
 ghost use Rattle.gw_answer.specs.declared.fault.NodeFault.TheVariants as faults;
@@ -25,7 +27,8 @@ use std::io::Write;
 pub const NO_JOURNAL: u8 = 2;
 
 /// Opens the gateway of these settings on a disk, and prints how it stands: its number, how many
-/// records its journal has, and of how many clients it knows.
+/// records its journal has, and of how many clients it knows. On an honest disk it then has taken
+/// all that it had taken before it stopped.
 ///
 /// Where it cannot be opened the line names the journal's fault by its number, and the answer is
 /// the program's status, 2: J1 the disk failed; J2 the slots are no journal of this gateway; J3 a
@@ -45,6 +48,15 @@ pub fn begin<R: Replica, D: Disk + Drop, O: Write, E: Write>(
     ensures keeps { D.honest → IfOk result (λ node.
         Keeps (all_of (records settings.now.gateway (image (D.slots disk))))
         (state_of R.kept node).kept) }
+    // Whatever set the gateway had taken before it stopped, it has taken again,
+    ensures restarts { D.honest → IfOk result (λ node. (S refused : List Op)
+        → StandsFor settings.now.gateway S refused (image (D.slots disk))
+        → HasTaken (S ++ all_of (records settings.now.gateway (image (D.slots disk)))) []
+        (state_of R.kept node)) }
+    // and nothing beside it if nothing was refused.
+    ensures durable { D.honest → IfOk result (λ node. (S : List Op)
+        → StandsFor settings.now.gateway S [] (image (D.slots disk))
+        → HasTaken S [] (state_of R.kept node)) }
     ensures status { IfErr result (λ status. status ≡ 2) }
 {
     match open(alloc, settings, disk) {
@@ -78,6 +90,13 @@ fn open<R: Replica, D: Disk + Drop>(
     ensures keeps { D.honest → IfOk result (λ opened.
         Keeps (all_of (records settings.now.gateway (image (D.slots disk))))
         (state_of R.kept opened.0).kept) }
+    ensures restarts { D.honest → IfOk result (λ opened. (S refused : List Op)
+        → StandsFor settings.now.gateway S refused (image (D.slots disk))
+        → HasTaken (S ++ all_of (records settings.now.gateway (image (D.slots disk)))) []
+        (state_of R.kept opened.0)) }
+    ensures durable { D.honest → IfOk result (λ opened. (S : List Op)
+        → StandsFor settings.now.gateway S [] (image (D.slots disk))
+        → HasTaken S [] (state_of R.kept opened.0)) }
     ensures clients { IfOk result (λ opened. opened.1
         ≡ length (views.clients (state_of R.kept opened.0).kept)) }
     ensures may { IfErr result (λ fault. MayRefuse (told fault)) }
