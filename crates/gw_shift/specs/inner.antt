@@ -1,5 +1,4 @@
 -- What proofs stand on and no public clause cites.
 pub mod Calling
 pub mod Closing
-pub mod Legal
 pub mod Passes
