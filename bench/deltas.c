@@ -1,5 +1,6 @@
-/* The work `deltas` of crates/codec_bench in plain C: the same operations, written as a delta, and read
-   again into operations that own their octets. */
+/* The work of the line `rounds` of crates/set_rows in plain C: the operations of a delta of about 8 MiB, written, and read
+   again into operations that own their octets. Of `lines` it prints the delta as a line of a row; of `deltas ROUNDS` it does the
+   work. */
 #include "plain.h"
 
 enum { CLIENTS = 100, CHANGES = 3, PUTS = 20, RANGES = 5, BODY = 4096, MOST = 8388608 };
@@ -264,10 +265,16 @@ static struct ops decode(const uint8_t *at, size_t len)
 
 int main(void)
 {
-    unsigned rounds;
-    if (scanf("deltas %u", &rounds) != 1) stop("a line is a work and a number");
+    unsigned rounds = 0;
+    char word[8];
+    if (scanf("%7s %u", word, &rounds) < 1) stop("a line is `lines`, or `deltas` and a number");
     struct ops ops = operations();
     struct buffer bytes = { 0 };
+    if (strcmp(word, "lines") == 0) {
+        encode(&ops, &bytes);
+        print_line("octets", bytes.at, bytes.len);
+        return 0;
+    }
     uint64_t count = 0;
     for (unsigned r = 0; r < rounds; r++) {
         bytes.len = 0;

@@ -1,5 +1,6 @@
-/* The work `frames` of crates/codec_bench in plain C: the same datagrams, decoded into messages that own
-   their octets, and encoded again. */
+/* The work of the lines `stream` and `rounds` of datagrams in crates/set_rows in plain C: a mixed stream of datagrams, decoded into
+   messages that own their octets, and encoded again. Of `lines` it prints the stream as such lines; of `frames ROUNDS` it does
+   the work. */
 #include "plain.h"
 
 enum { COUNT = 10000 };
@@ -198,13 +199,18 @@ static int encode(const struct frame *f, struct buffer *out)
 
 int main(void)
 {
-    unsigned rounds;
-    if (scanf("frames %u", &rounds) != 1) stop("a line is a work and a number");
+    unsigned rounds = 0;
+    char word[8];
+    if (scanf("%7s %u", word, &rounds) < 1) stop("a line is `lines`, or `frames` and a number");
     struct buffer *datagrams = room(COUNT * sizeof *datagrams);
     uint32_t state = 1;
     for (int i = 0; i < COUNT; i++) {
         const uint8_t *shape = SHAPES[next_number(&state) % 32];
         datagrams[i] = datagram(&state, shape);
+    }
+    if (strcmp(word, "lines") == 0) {
+        for (int i = 0; i < COUNT; i++) print_line("stream", datagrams[i].at, datagrams[i].len);
+        return 0;
     }
     struct buffer out = { 0 };
     uint64_t count = 0;

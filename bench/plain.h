@@ -1,4 +1,4 @@
-/* What the plain programs share: numbers to make data of, an octet buffer that grows, and a checksum. */
+/* What the plain programs share: numbers to make data of, an octet buffer that grows, a checksum, and lines of rows. */
 #ifndef PLAIN_H
 #define PLAIN_H
 #include <stdint.h>
@@ -104,5 +104,13 @@ static inline uint64_t checksum(const uint8_t *at, size_t len)
     uint64_t sum = 0xcbf29ce484222325u;
     for (size_t i = 0; i < len; i++) sum = (sum ^ at[i]) * 0x100000001b3u;
     return sum;
+}
+
+/* Prints a line of a row: a word and octets. */
+static inline void print_line(const char *word, const uint8_t *at, size_t len)
+{
+    printf("%s ", word);
+    for (size_t i = 0; i < len; i++) printf("%02x", at[i]);
+    printf("\n");
 }
 #endif

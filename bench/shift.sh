@@ -12,23 +12,27 @@ rounds=${1:-20}
 work=$(mktemp -d)
 trap 'rm -rf "$work"' EXIT
 . "$top/bench/built.sh"
-program=$(built codec_bench "$top/crates/codec_bench/stdin")
+program=$(built node_rows "$top/crates/node_rows/stdin")
+search='frame 7 0 030100'
+sleep='frame 7 0 0418012c'
 echo "load $(cut -d ' ' -f 1-3 /proc/loadavg 2>/dev/null || echo unknown), $(nproc) processors"
-for name in "search $rounds" "sleep 1"; do
+# call NAME ROUNDS CALL: the lines of a call, and what the program says of them on standard error: of the folded replica first, then of the plain
+# one, which counts. A line of that is how many threads, calls and microseconds.
+call() {
     for threads in 0 1 2 4 8; do
         for _ in 1 2 3; do
-            echo "${name% *} $threads ${name#* }"
+            echo "rounds $threads $2 $3"
         done
-    done
-done | "$program" 2>&1 >/dev/null | awk '{
-    key = $1 " " $2
-    rate = $4 * 1000000 / ($5 + 1)
-    if (rate > best[key]) best[key] = rate
-    if (!(key in seen)) { seen[key] = 1; order[++n] = key }
-} END {
-    for (i = 1; i <= n; i++) {
-        split(order[i], part, " ")
-        if (part[2] == 0) { direct = best[order[i]]; printf "%s: directly %.0f calls per second\n", part[1], direct }
-        else printf "  %d threads %.0f calls per second, %.2f of direct\n", part[2], best[order[i]], best[order[i]] / direct
-    }
-}'
+    done | "$program" 2>&1 >/dev/null | tail -n 15 | awk -v name="$1" '{
+        rate = $2 * 1000000 / ($3 + 1)
+        if (rate > best[$1]) best[$1] = rate
+        if (!($1 in seen)) { seen[$1] = 1; order[++n] = $1 }
+    } END {
+        printf "%s: directly %.0f calls per second\n", name, best[0]
+        for (i = 2; i <= n; i++)
+            printf "  %d threads %.0f calls per second, %.2f of direct\n", order[i], best[order[i]], best[order[i]] / best[0]
+    }'
+}
+
+call search "$rounds" "$search"
+call sleep 1 "$sleep"

@@ -1,5 +1,5 @@
-//! Worked rows of gateways with their journals, of deliveries and of links: what no clause says, as
-//! that calls succeed, and octets written out by hand.
+//! Worked rows of gateways with their journals, of shifts, of deliveries and of links: what no clause
+//! says, as that calls succeed, and octets written out by hand.
 //!
 //! A contract lets a call answer want of memory in place of almost anything; a row does not.
 //! Standard input holds rows, each behind a line `== NAME`; empty lines and those that begin with
@@ -41,6 +41,25 @@
 //! stamp, the duration of the session and how many messages wait. A refusal is printed by its
 //! number, as `N3`, with the answer that it brings.
 //!
+//! A shift of the gateway, which is not open meanwhile. PLACE is where a pass sits, from 0 on, in the
+//! order in which passes sat down in this row; those of an earlier shift stay in their places:
+//!
+//! - `shift PASSES STEPS`: a shift of the gateway for 1 to 8 passes, which sit down behind the
+//!   others, and for 1 to 4,096 calls.
+//! - `pass PLACE CALL`: the pass at this place makes a call: its number and its answer. A refusal by
+//!   the shift itself is printed by its number, as `K1`.
+//! - `often PLACE COUNT CALL`: the pass makes the call so many times.
+//! - `together PLACE COUNT CALL`: the passes from this place on make the call so many times each,
+//!   each pass in a thread of its own and all at once.
+//! - `after PLACE NUMBER MOST`: the pass asks for the deltas of the calls above a number, at most so
+//!   many: the number of each call, and how many operations it made.
+//! - `end`: the shift is over.
+//! - `close PLACE ..`: it is closed with the passes at these places: how many calls it has, and the
+//!   gateway is open again. If it is refused, the passes sit down behind the others.
+//! - `rounds THREADS COUNT CALL`: so many rounds of 4,096 calls, each round of a gateway of its own in
+//!   which s1 is connected. With 0 threads its owner makes them, else as many passes of a shift. The
+//!   calls are printed; on standard error also their microseconds without opening and closing.
+//!
 //! Deliveries to a client, of which the gateway has a session, at port 7 of host 0 and moment 3;
 //! what is drafted is not carried out:
 //!
@@ -67,7 +86,8 @@
 //!
 //! - `row`: what the lines of a row have brought about (`Row`), and the play of one more.
 //! - `fields`, `names`: lines that are read.
-//! - `gateways`, `calls`, `deliveries`, `links`: lines that are played.
+//! - `gateways`, `calls`, `shifts`, `rounds`, `deliveries`, `links`: lines that are played.
+//! - `seats`: passes in their seats, and calls by threads.
 //! - `printing`: what is printed.
 //! - `stop`: why a line is not played.
 #![tactic(auto)]
@@ -79,7 +99,10 @@ mod gateways;
 mod links;
 mod names;
 mod printing;
+mod rounds;
 mod row;
+mod seats;
+mod shifts;
 mod stop;
 
 use crate::names::Names;
@@ -91,26 +114,22 @@ use rep_plain::Plain;
 use rep_state::Folded;
 use std::alloc::{AllocError, Global};
 use std::io::{self, Write};
+use std::sync::Wait;
+use std::thread::Threads;
+use std::time::Clock;
 
 fn main(rt: HostRuntime) -> Result<()> {
+    let mut lines = Vec::new(rt.alloc());
     let mut printed = String::new(rt.alloc());
-    play_input(&rt, &mut printed)?;
+    read_lines(&rt, &mut lines)?;
+    print_both(&rt, &mut printed, lines.as_slice())?;
     io::writer(&rt).write_all(printed.as_bytes())?;
     Ok(())
 }
 
-/// Plays all lines of standard input.
-fn play_input(rt: &HostRuntime, text: &mut String) -> Result<()> {
-    let alloc = rt.alloc();
-    let mut lines = Vec::new(alloc);
-    read_lines(rt, alloc, &mut lines)?;
-    print_both(alloc, text, lines.as_slice())?;
-    Ok(())
-}
-
 /// The lines of standard input.
-fn read_lines(rt: &HostRuntime, alloc: Global, lines: &mut Vec<String>) -> Result<()> {
-    for line in rt.lines(alloc) {
+fn read_lines(rt: &HostRuntime, lines: &mut Vec<String>) -> Result<()> {
+    for line in rt.lines(rt.alloc()) {
         lines.push(line?)?;
     }
     Ok(())
@@ -118,10 +137,13 @@ fn read_lines(rt: &HostRuntime, alloc: Global, lines: &mut Vec<String>) -> Resul
 
 /// What both replicas print, which is the same, and a line that says so; where it is not, what each
 /// prints.
-fn print_both(alloc: Global, text: &mut String, lines: &[String]) -> Result<(), Stop> {
-    let mut plain = String::new(alloc);
-    play_all::<Folded>(alloc, text, lines)?;
-    play_all::<Plain>(alloc, &mut plain, lines)?;
+fn print_both<T>(rt: &T, text: &mut String, lines: &[String]) -> Result<(), Stop>
+where
+    T: Threads + Wait + Sync + Clock + Eprint + AllocGlobal,
+{
+    let mut plain = String::new(rt.alloc());
+    play_all::<T, Folded>(rt, text, lines)?;
+    play_all::<T, Plain>(rt, &mut plain, lines)?;
     Ok(print_difference(text, plain.as_str())?)
 }
 
@@ -135,40 +157,55 @@ fn print_difference(text: &mut String, plain: &str) -> Result<(), AllocError> {
 }
 
 /// Plays all lines on a replica.
-fn play_all<R: Replica>(alloc: Global, text: &mut String, lines: &[String]) -> Result<(), Stop> {
-    let mut row: Row<R> = begin(alloc);
-    let mut names = names::none(alloc);
-    play_lines(alloc, text, &mut row, &mut names, lines)
+fn play_all<T, R>(rt: &T, text: &mut String, lines: &[String]) -> Result<(), Stop>
+where
+    T: Threads + Wait + Sync + Clock + Eprint + AllocGlobal,
+    R: Replica + Send,
+    R::Staged: Send,
+{
+    let mut row: Row<R> = begin(rt.alloc());
+    let mut names = names::none(rt.alloc());
+    play_lines(rt, text, &mut row, &mut names, lines)
 }
 
 /// Plays lines, one after the other.
-fn play_lines<R: Replica>(
-    alloc: Global,
+fn play_lines<T, R>(
+    rt: &T,
     text: &mut String,
     row: &mut Row<R>,
     names: &mut Names,
     lines: &[String],
-) -> Result<(), Stop> {
+) -> Result<(), Stop>
+where
+    T: Threads + Wait + Sync + Clock + Eprint + AllocGlobal,
+    R: Replica + Send,
+    R::Staged: Send,
+{
     for line in lines {
-        answer(alloc, text, row, names, line.as_str())?;
+        answer(rt, text, row, names, line.as_str())?;
     }
     Ok(())
 }
 
 /// Plays a line; one that is none of the language is told.
-fn answer<R: Replica>(
-    alloc: Global,
+fn answer<T, R>(
+    rt: &T,
     text: &mut String,
     row: &mut Row<R>,
     names: &mut Names,
     line: &str,
-) -> Result<(), Stop> {
+) -> Result<(), Stop>
+where
+    T: Threads + Wait + Sync + Clock + Eprint + AllocGlobal,
+    R: Replica + Send,
+    R::Staged: Send,
+{
     if line.is_empty() || line.starts_with('#') {
         return Ok(());
     }
     match line.strip_prefix("== ") {
-        Some(name) => begin_row(alloc, text, row, name),
-        None => play_or_tell(alloc, text, row, names, line),
+        Some(name) => begin_row(rt.alloc(), text, row, name),
+        None => play_or_tell(rt, text, row, names, line),
     }
 }
 
@@ -184,31 +221,41 @@ fn begin_row<R: Replica>(
 }
 
 /// Plays a line of words, or tells it.
-fn play_or_tell<R: Replica>(
-    alloc: Global,
+fn play_or_tell<T, R>(
+    rt: &T,
     text: &mut String,
     row: &mut Row<R>,
     names: &mut Names,
     line: &str,
-) -> Result<(), Stop> {
-    match play_line(alloc, text, row, names, line) {
+) -> Result<(), Stop>
+where
+    T: Threads + Wait + Sync + Clock + Eprint + AllocGlobal,
+    R: Replica + Send,
+    R::Staged: Send,
+{
+    match play_line(rt, text, row, names, line) {
         Err(Stop::Line) => Ok(writeln!(text, "no such line: {line}")?),
         played => played,
     }
 }
 
 /// Plays a line that is about names, or a row's.
-fn play_line<R: Replica>(
-    alloc: Global,
+fn play_line<T, R>(
+    rt: &T,
     text: &mut String,
     row: &mut Row<R>,
     names: &mut Names,
     line: &str,
-) -> Result<(), Stop> {
-    let words: Vec<&str> = line.split(' ').collect(alloc)?;
+) -> Result<(), Stop>
+where
+    T: Threads + Wait + Sync + Clock + Eprint + AllocGlobal,
+    R: Replica + Send,
+    R::Staged: Send,
+{
+    let words: Vec<&str> = line.split(' ').collect(rt.alloc())?;
     match words.as_slice() {
-        ["name", rest @ ..] => names::add(alloc, names, rest),
-        ["repeat", rest @ ..] => names::repeat(alloc, names, rest),
-        words => play(alloc, text, row, names, words),
+        ["name", rest @ ..] => names::add(rt.alloc(), names, rest),
+        ["repeat", rest @ ..] => names::repeat(rt.alloc(), names, rest),
+        words => play(rt, text, row, names, words),
     }
 }

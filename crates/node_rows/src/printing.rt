@@ -3,6 +3,7 @@
 use crate::stop::Stop;
 use gw_net::{LinkFault, LinkMessage};
 use gw_node::{Answer, NodeFault, Out};
+use gw_shift::{CallFault, CloseFault};
 use jr_journal::{Disk, MemoryDisk, Slot};
 use rep_digest::Digest;
 use rep_model::ClientView;
@@ -10,6 +11,7 @@ use rep_ops::Delta;
 use sn_local::Send as Sending;
 use sn_plan::{Draft, plan_without};
 use std::alloc::{AllocError, Global};
+use std::sync::Arc;
 
 /// Octets in hexadecimal digits, `-` for none.
 fn shown(alloc: Global, octets: &[u8]) -> Result<String, AllocError> {
@@ -78,6 +80,69 @@ fn print_refusal(alloc: Global, text: &mut String, fault: &NodeFault) -> Result<
         NodeFault::Disk { out } => print_out(alloc, text, out),
         _ => Ok(()),
     }
+}
+
+/// What a call of a pass was answered, with its number, or why it has no answer.
+pub(crate) type Called = Result<(Arc<Out>, u64), CallFault>;
+
+/// What a call of a pass was answered.
+pub(crate) fn print_called(
+    alloc: Global,
+    text: &mut String,
+    called: &Called,
+) -> Result<(), AllocError> {
+    match called {
+        Ok((out, number)) => {
+            write!(text, "call {number}: answer")?;
+            print_out(alloc, text, out)?;
+        }
+        Err(CallFault::Node { number, fault }) => {
+            write!(text, "call {number}: ")?;
+            print_refusal(alloc, text, fault)?;
+        }
+        Err(fault) => print_unmade(text, fault)?,
+    }
+    text.push('\n')
+}
+
+/// Why a shift makes no call.
+fn print_unmade(text: &mut String, fault: &CallFault) -> Result<(), AllocError> {
+    let number = fault.number();
+    write!(text, "refused K{number}: {fault}")
+}
+
+/// The deltas that calls made, or why there are none.
+pub(crate) fn print_made(
+    text: &mut String,
+    made: &Result<Vec<(u64, Delta)>, CallFault>,
+) -> Result<(), AllocError> {
+    match made {
+        Ok(deltas) => print_deltas(text, deltas.as_slice())?,
+        Err(fault) => print_unmade(text, fault)?,
+    }
+    text.push('\n')
+}
+
+/// How many deltas there are, and which call made how many operations.
+fn print_deltas(text: &mut String, deltas: &[(u64, Delta)]) -> Result<(), AllocError> {
+    let count = deltas.len();
+    write!(text, "deltas {count}")?;
+    for (number, delta) in deltas {
+        let ops = delta.ops().len();
+        write!(text, ", call {number} made {ops}")?;
+    }
+    Ok(())
+}
+
+/// Why a shift is not closed.
+pub(crate) fn print_unclosed(text: &mut String, fault: &CloseFault) -> Result<(), AllocError> {
+    let number = fault.number();
+    writeln!(text, "refused K{number}: {fault}")
+}
+
+/// How many calls a closed shift has.
+pub(crate) fn print_closed(text: &mut String, calls: usize) -> Result<(), AllocError> {
+    writeln!(text, "closed, calls {calls}")
 }
 
 /// The parts of an answer.

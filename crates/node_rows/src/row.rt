@@ -1,21 +1,27 @@
 //! A row: what its lines have brought about so far, and the play of one more.
 
 use crate::calls::{call_once, call_thrice};
-use crate::deliveries;
 use crate::gateways::{Store, empty, fail, open, opened, slots, state};
 use crate::links::{beginnings, digest, feed, say, within};
 use crate::names::Names;
+use crate::rounds::rounds;
+use crate::shifts::Shifts;
 use crate::stop::Stop;
+use crate::{deliveries, shifts};
 use gw_net::LinkIn;
 use gw_node::Node;
 use jr_journal::MemoryDisk;
 use rep_model::Replica;
 use std::alloc::Global;
+use std::sync::Wait;
+use std::thread::Threads;
+use std::time::Clock;
 
 /// What the lines of a row have brought about.
 #[derive(Drop)]
 pub(crate) struct Row<R: Replica> {
     store: Store<R>,
+    shifts: Shifts<R>,
     /// The end of the link at which pieces come in.
     link: LinkIn,
     /// What went out.
@@ -26,23 +32,40 @@ pub(crate) struct Row<R: Replica> {
 pub(crate) fn begin<R: Replica>(alloc: Global) -> Row<R> {
     Row {
         store: empty(alloc),
+        shifts: shifts::none(alloc),
         link: LinkIn::new(),
         said: Vec::new(alloc),
     }
 }
 
 /// Plays a line.
-pub(crate) fn play<R: Replica>(
-    alloc: Global,
+pub(crate) fn play<T, R>(
+    rt: &T,
     text: &mut String,
     row: &mut Row<R>,
     names: &Names,
     words: &[&str],
-) -> Result<(), Stop> {
+) -> Result<(), Stop>
+where
+    T: Threads + Wait + Sync + Clock + Eprint + AllocGlobal,
+    R: Replica + Send,
+    R::Staged: Send,
+{
     let Some((first, rest)) = words.split_first() else {
         return Err(Stop::Line);
     };
+    let alloc = rt.alloc();
     match *first {
+        "shift" | "pass" | "often" | "together" | "after" | "end" | "close" => shifts::play(
+            rt,
+            text,
+            names,
+            &mut row.store,
+            &mut row.shifts,
+            first,
+            rest,
+        ),
+        "rounds" => rounds::<T, R>(rt, text, names, rest),
         "open" | "fail" | "slots" => play_store(alloc, text, &mut row.store, first, rest),
         "digest" | "beginnings" => play_digest(alloc, text, names, first, rest),
         "say" => say(alloc, text, names, &mut row.said, rest),

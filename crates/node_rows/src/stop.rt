@@ -13,6 +13,9 @@ pub(crate) enum Stop {
     /// Memory ran out.
     #[error("out of memory")]
     Memory,
+    /// The clock failed.
+    #[error("the clock failed")]
+    Clock,
 }
 
 impl From<AllocError> for Stop {

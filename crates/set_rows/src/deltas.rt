@@ -10,7 +10,7 @@ use rep_ops::{ClientId, Delta, Op, OpsFault};
 use std::alloc::{AllocError, Global};
 
 /// Says why operations or octets are refused.
-fn refused(text: &mut String, fault: OpsFault) -> Result<(), Stop> {
+pub(crate) fn refused(text: &mut String, fault: OpsFault) -> Result<(), Stop> {
     let why = ops_fault(fault);
     Ok(writeln!(text, "refused {why}")?)
 }

@@ -5,7 +5,7 @@ use octets::Octets;
 use rep_ops::{ClientId, OpsFault, Stamp};
 use sn_session::Message;
 use sn_tables::QosLevel;
-use sn_topic::{Filter, TopicFault, TopicName};
+use sn_topic::{Filter, TopicName};
 use std::alloc::Global;
 
 /// The fields between spaces.
@@ -82,35 +82,26 @@ pub(crate) fn word(text: &str) -> &[u8] {
 
 /// A client.
 pub(crate) fn client(alloc: Global, text: &str) -> Result<ClientId, Stop> {
-    match ClientId::new(alloc, word(text)) {
+    named(alloc, word(text))
+}
+
+/// The client of this name.
+pub(crate) fn named(alloc: Global, name: &[u8]) -> Result<ClientId, Stop> {
+    match ClientId::new(alloc, name) {
         Ok(client) => Ok(client),
         Err(OpsFault::Memory) => Err(Stop::Memory),
         Err(_) => Err(Stop::Line),
     }
 }
 
-/// Why a topic is none.
-fn topic_stop(fault: TopicFault) -> Stop {
-    match fault {
-        TopicFault::Memory => Stop::Memory,
-        _ => Stop::Line,
-    }
-}
-
 /// The name of a topic.
 pub(crate) fn topic(alloc: Global, text: &str) -> Result<TopicName, Stop> {
-    match TopicName::new(alloc, word(text)) {
-        Ok(topic) => Ok(topic),
-        Err(fault) => Err(topic_stop(fault)),
-    }
+    Ok(TopicName::new(alloc, word(text))?)
 }
 
 /// A filter.
 pub(crate) fn filter(alloc: Global, text: &str) -> Result<Filter, Stop> {
-    match Filter::new(alloc, word(text)) {
-        Ok(filter) => Ok(filter),
-        Err(fault) => Err(topic_stop(fault)),
-    }
+    Ok(Filter::new(alloc, word(text))?)
 }
 
 /// What a message says.

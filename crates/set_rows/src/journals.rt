@@ -35,7 +35,7 @@ fn closed(store: &mut Store) -> Result<&mut MemoryDisk, Stop> {
 }
 
 /// The journal, which is to be open.
-fn opened(store: &mut Store) -> Result<&mut Journal<MemoryDisk>, Stop> {
+pub(crate) fn opened(store: &mut Store) -> Result<&mut Journal<MemoryDisk>, Stop> {
     match &mut store.journal {
         None => Err(Stop::Line),
         Some(journal) => Ok(journal),

@@ -4,11 +4,14 @@ use crate::attempts::{appends, compactions, openings};
 use crate::journals::Store;
 use crate::names::Names;
 use crate::operations::{ack_op, ack_ops, put_op, put_ops, session_op, session_ops};
+use crate::pairs::play_pair;
 use crate::retries::retries;
+use crate::rounds::{answers, digest, records, rounds};
 use crate::stop::Stop;
 use crate::{deltas, journals, names, replicas, sessions};
 use rep_model::Replica;
 use rep_ops::Op;
+use rep_state::Folded;
 use sn_session::Session;
 use std::alloc::Global;
 use std::mem;
@@ -22,17 +25,21 @@ pub(crate) struct Row<R: Replica> {
     ops: Vec<Op>,
     octets: Vec<u8>,
     replica: R,
+    /// A replica that folds, whichever the rows are played on.
+    folded: Folded,
     store: Store,
 }
 
 /// A row without a line.
 pub(crate) fn begin<R: Replica>(alloc: Global) -> Result<Row<R>, Stop> {
     let replica = replicas::empty(alloc)?;
+    let folded = replicas::empty(alloc)?;
     Ok(Row {
         session: Session::empty(alloc),
         ops: Vec::new(alloc),
         octets: Vec::new(alloc),
         replica,
+        folded,
         store: journals::empty(alloc),
     })
 }
@@ -58,11 +65,11 @@ pub(crate) fn play<R: Replica>(
         "op" | "ops" | "put" | "puts" | "ack" | "acks" => {
             play_operation(alloc, &row.session, &mut row.ops, first, rest)
         }
-        "delta" | "copy" | "spell" | "written" | "join" => {
+        "delta" | "copy" | "spell" | "written" | "join" | "fold" => {
             let ops = mem::replace(&mut row.ops, Vec::new(alloc));
             play_use(alloc, text, row, ops, first)
         }
-        "append" | "appends" | "compact" | "compactions" | "retries" => {
+        "append" | "appends" | "records" | "compact" | "compactions" | "retries" => {
             let ops = mem::replace(&mut row.ops, Vec::new(alloc));
             play_writing(alloc, text, &mut row.store, ops, first, rest)
         }
@@ -72,6 +79,11 @@ pub(crate) fn play<R: Replica>(
         "none" | "client" | "print" | "size" | "read" | "count" | "altered" | "beginnings" => {
             play_reading(alloc, text, &row.octets, first, rest)
         }
+        "folded" => replicas::next(alloc, text, &row.folded, rest),
+        "pair" => play_pair(alloc, text, rest),
+        "rounds" => rounds(alloc, text, &row.octets, rest),
+        "digest" => digest(alloc, text, &row.replica, &mut row.octets),
+        "answers" => answers(alloc, text, &row.replica, &row.octets, rest),
         "view" | "copied" | "waiting" | "next" | "clients" | "held" | "parts" => {
             play_replica(alloc, text, &row.replica, first, rest)
         }
@@ -157,7 +169,8 @@ fn play_use<R: Replica>(
         "copy" => deltas::copied(alloc, text, ops),
         "spell" => deltas::spelled(alloc, text, ops, &mut row.octets),
         "written" => deltas::written(alloc, text, ops, &mut row.octets),
-        _ => replicas::join(alloc, text, &mut row.replica, ops),
+        "join" => replicas::join(alloc, text, &mut row.replica, ops),
+        _ => replicas::join(alloc, text, &mut row.folded, ops),
     }
 }
 
@@ -173,6 +186,7 @@ fn play_writing(
     match first {
         "append" => journals::append(alloc, text, store, ops),
         "appends" => appends(alloc, text, store, ops, rest),
+        "records" => records(alloc, text, journals::opened(store)?, ops, rest),
         "compact" => journals::compact(alloc, text, store, ops),
         "retries" => retries(alloc, text, store, ops, rest),
         _ => compactions(alloc, text, store, ops, rest),

@@ -1,9 +1,10 @@
 //! Lines about datagrams.
 
-use crate::fields::{field_octets, octets};
-use crate::shown::Digits;
-use crate::stop::{Stop, not_written, refused_frame};
-use crate::words::{Told, message_name};
+use crate::datagrams::fields::{field_octets, octets};
+use crate::datagrams::refusals::{not_written, refused_frame};
+use crate::datagrams::shown::Digits;
+use crate::datagrams::words::{Told, message_name};
+use crate::stop::Stop;
 use octets::Octets;
 use sn_frame::{Frame, FrameFault, Will, decode, encode};
 use std::alloc::Global;
