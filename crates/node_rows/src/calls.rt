@@ -97,8 +97,17 @@ pub(crate) fn call_thrice<R: Replica>(
     words: &[&str],
 ) -> Result<(), Stop> {
     let step = step(alloc, names, words)?;
-    let answers = node.step(alloc, &step);
+    let answers = thrice(alloc, node, &step);
     Ok(print_answers(alloc, text, &answers)?)
+}
+
+/// A call as a value, with its answer three times.
+pub(crate) fn thrice<R: Replica>(
+    alloc: Global,
+    node: &mut Node<R, MemoryDisk>,
+    step: &Step,
+) -> (Answer, Answer, Answer) {
+    node.step(alloc, step)
 }
 
 /// What a gateway answered, three times.

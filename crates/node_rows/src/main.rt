@@ -108,29 +108,43 @@ mod stop;
 use crate::names::Names;
 use crate::row::{Row, begin, play};
 use crate::stop::Stop;
-use anyhow::Result;
 use rep_model::Replica;
 use rep_plain::Plain;
 use rep_state::Folded;
 use std::alloc::{AllocError, Global};
-use std::io::{self, Write};
+use std::io::{self, Input, Write};
+use std::process::ExitCode;
 use std::sync::Wait;
 use std::thread::Threads;
 use std::time::Clock;
 
-fn main(rt: HostRuntime) -> Result<()> {
+fn main(rt: HostRuntime) -> ExitCode {
+    match play_input(&rt) {
+        Ok(()) => ExitCode::SUCCESS,
+        Err(stop) => {
+            let _ = eprintln!(rt; "node_rows: {stop}");
+            ExitCode::FAILURE
+        }
+    }
+}
+
+/// Plays standard input on both replicas, and writes what that prints.
+fn play_input<T>(rt: &T) -> Result<(), Stop>
+where
+    T: Threads + Wait + Sync + Clock + Input + Print + Eprint + AllocGlobal,
+{
     let mut lines = Vec::new(rt.alloc());
+    read_lines(rt, &mut lines)?;
     let mut printed = String::new(rt.alloc());
-    read_lines(&rt, &mut lines)?;
-    print_both(&rt, &mut printed, lines.as_slice())?;
-    io::writer(&rt).write_all(printed.as_bytes())?;
-    Ok(())
+    print_both(rt, &mut printed, lines.as_slice())?;
+    Ok(io::writer(rt).write_all(printed.as_bytes())?)
 }
 
 /// The lines of standard input.
-fn read_lines(rt: &HostRuntime, lines: &mut Vec<String>) -> Result<()> {
+fn read_lines<T: Input + AllocGlobal>(rt: &T, lines: &mut Vec<String>) -> Result<(), Stop> {
     for line in rt.lines(rt.alloc()) {
-        lines.push(line?)?;
+        let line = line?;
+        lines.push(line)?;
     }
     Ok(())
 }

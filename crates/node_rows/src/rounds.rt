@@ -1,10 +1,11 @@
 //! A line that makes many calls of gateways of their own, for the benchmarks in `bench/`.
 
+use crate::calls::thrice;
 use crate::fields::number;
-use crate::gateways::told;
+use crate::gateways::{node_on, told};
 use crate::names::Names;
 use crate::seats::{seat_all, sit_all};
-use crate::shifts::{shared, shift_of};
+use crate::shifts::{close_by, shared, shift_of};
 use crate::stop::Stop;
 use gw_node::{Node, Step};
 use gw_shift::Pass;
@@ -83,7 +84,7 @@ where
 /// Gateway 1 on an empty disk, with the client s1.
 fn connected<R: Replica>(alloc: Global) -> Result<Node<R, MemoryDisk>, Stop> {
     let config = told(alloc, 1, 0, Sequence::empty(alloc))?;
-    match Node::open(alloc, config, MemoryDisk::new(alloc)) {
+    match node_on(alloc, config, MemoryDisk::new(alloc)) {
         Ok(node) => greeted(alloc, node),
         Err(_) => Err(Stop::Memory),
     }
@@ -126,7 +127,7 @@ fn direct<T: Clock + AllocGlobal, R: Replica>(
     let mut node = node;
     let start = moment(rt)?;
     for _ in 0..CALLS {
-        let (_first, _second, _third) = node.step(rt.alloc(), step);
+        let (_first, _second, _third) = thrice(rt.alloc(), &mut node, step);
     }
     micros(rt, &start)
 }
@@ -150,7 +151,8 @@ where
     let start = moment(rt)?;
     sit_all(rt, rt.alloc(), &shift, seats.as_mut_slice(), step, each);
     let taken = micros(rt, &start)?;
-    match shift.end().close(up(rt.alloc(), seats)?) {
+    let passes = up(rt.alloc(), seats)?;
+    match close_by(shift.end(), passes) {
         Ok(_) => Ok(taken),
         Err(_) => Err(Stop::Line),
     }

@@ -1,19 +1,17 @@
 //! Passes in their seats, and calls that they make: one pass, or several at the same time.
 
+use crate::stop::Stop;
 use gw_node::Step;
 use gw_shift::{Pass, Shift};
 use jr_journal::Disk;
 use rep_model::Replica;
-use std::alloc::{AllocFailed, Global};
+use std::alloc::Global;
 use std::sync::{Arc, Barrier, Wait};
 use std::thread;
 use std::thread::Threads;
 
 /// Seats passes behind those that are seated.
-pub(crate) fn seat_all(
-    seats: &mut Vec<Option<Pass>>,
-    passes: Vec<Pass>,
-) -> Result<(), AllocFailed<Option<Pass>>> {
+pub(crate) fn seat_all(seats: &mut Vec<Option<Pass>>, passes: Vec<Pass>) -> Result<(), Stop> {
     for pass in passes {
         seats.push(Some(pass))?;
     }

@@ -10,7 +10,7 @@ use crate::printing::{Called, print_called, print_closed, print_made, print_uncl
 use crate::seats::{seat_all, sit, sit_all};
 use crate::stop::Stop;
 use gw_node::{Node, Step};
-use gw_shift::{Closed, Ended, Pass, Shift};
+use gw_shift::{CloseFault, Closed, Ended, Pass, Shift};
 use jr_journal::MemoryDisk;
 use rep_model::Replica;
 use std::alloc::Global;
@@ -77,7 +77,7 @@ fn begin<R: Replica>(
     let (passes, steps) = (number(passes)?, number(steps)?);
     let (shift, passes) = shift_of(alloc, taken(store)?, passes, steps)?;
     shifts.open = Some(shift);
-    Ok(seat_all(&mut shifts.seats, passes)?)
+    seat_all(&mut shifts.seats, passes)
 }
 
 /// A shift of a gateway for 1 to 8 passes and 1 to 4,096 calls.
@@ -151,7 +151,7 @@ fn called_by<T: Wait + AllocGlobal, R: Replica>(
     step: Arc<Step>,
 ) -> Result<Called, Stop> {
     let shift = opened(&shifts.open)?;
-    match shifts.seats.get_mut(at) {
+    match shifts.seats.as_mut_slice().get_mut(at) {
         Some(seat) => call_from(rt, shift, seat, step),
         None => Err(Stop::Line),
     }
@@ -198,8 +198,11 @@ fn call_often<T: Wait + AllocGlobal, R: Replica>(
     let (at, count) = (place(at)?, place(count)?);
     let step = shared(rt.alloc(), names, words)?;
     let shift = opened(&shifts.open)?;
-    match shifts.seats.get_mut(at) {
-        Some(seat) => Ok(sit(rt, rt.alloc(), shift, seat, &step, count)),
+    match shifts.seats.as_mut_slice().get_mut(at) {
+        Some(seat) => {
+            sit(rt, rt.alloc(), shift, seat, &step, count);
+            Ok(())
+        }
         None => Err(Stop::Line),
     }
 }
@@ -226,8 +229,9 @@ where
     if at > shifts.seats.len() {
         return Err(Stop::Line);
     }
-    let (_others, seats) = shifts.seats.split_at_mut(at);
-    Ok(sit_all(rt, rt.alloc(), shift, seats, &step, count))
+    let (_others, seats) = shifts.seats.as_mut_slice().split_at_mut(at);
+    sit_all(rt, rt.alloc(), shift, seats, &step, count);
+    Ok(())
 }
 
 /// `after PLACE NUMBER MOST`: the pass at this place asks for the deltas of the calls above a
@@ -243,7 +247,7 @@ fn ask_after<T: Wait + AllocGlobal, R: Replica>(
     };
     let (at, above, most) = (place(at)?, number(above)?, place(most)?);
     let shift = opened(&shifts.open)?;
-    let Some(Some(pass)) = shifts.seats.get(at) else {
+    let Some(Some(pass)) = shifts.seats.as_slice().get(at) else {
         return Err(Stop::Line);
     };
     let made = shift.after(rt, rt.alloc(), pass, u64::from(above), most);
@@ -267,18 +271,39 @@ fn close<R: Replica>(
     shifts: &mut Shifts<R>,
     fields: &[&str],
 ) -> Result<(), Stop> {
-    let passes = risen(alloc, &mut shifts.seats, fields)?;
+    if shifts.over.is_none() {
+        return Err(Stop::Line);
+    }
+    let passes = risen(alloc, shifts.seats.as_mut_slice(), fields)?;
+    close_with(text, store, shifts, passes)
+}
+
+/// The shift is closed with these passes.
+fn close_with<R: Replica>(
+    text: &mut String,
+    store: &mut Store<R>,
+    shifts: &mut Shifts<R>,
+    passes: Vec<Pass>,
+) -> Result<(), Stop> {
     let Some(over) = shifts.over.take() else {
         return Err(Stop::Line);
     };
-    match over.close(passes) {
+    match close_by(over, passes) {
         Ok(closed) => go_on(text, store, closed),
         Err((over, passes, fault)) => {
             shifts.over = Some(over);
             print_unclosed(text, &fault)?;
-            Ok(seat_all(&mut shifts.seats, passes)?)
+            seat_all(&mut shifts.seats, passes)
         }
     }
+}
+
+/// A shift is closed with passes, or comes back with them.
+pub(crate) fn close_by<R: Replica>(
+    over: Ended<R, MemoryDisk>,
+    passes: Vec<Pass>,
+) -> Result<Closed<R, MemoryDisk>, (Ended<R, MemoryDisk>, Vec<Pass>, CloseFault)> {
+    over.close(passes)
 }
 
 /// The gateway of a closed shift is the row's.

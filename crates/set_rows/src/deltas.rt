@@ -1,5 +1,6 @@
 //! Lines about deltas and their octets.
 
+use crate::calls;
 use crate::fields::{count, digits, word};
 use crate::names::{Names, octets};
 use crate::printing::print_delta;
@@ -17,7 +18,7 @@ pub(crate) fn refused(text: &mut String, fault: OpsFault) -> Result<(), Stop> {
 
 /// The delta of operations; says why there is none.
 pub(crate) fn made(alloc: Global, text: &mut String, ops: Vec<Op>) -> Result<Option<Delta>, Stop> {
-    match Delta::from_ops(alloc, ops) {
+    match calls::delta_of(alloc, ops) {
         Ok(delta) => Ok(Some(delta)),
         Err(fault) => {
             refused(text, fault)?;
@@ -70,7 +71,7 @@ pub(crate) fn spelled(
 
 /// Puts the octets of a delta behind those that are there.
 fn spell(alloc: Global, text: &mut String, delta: &Delta, out: &mut Vec<u8>) -> Result<(), Stop> {
-    match delta.encode(alloc, out) {
+    match calls::write_delta(alloc, delta, out) {
         Ok(()) => Ok(()),
         Err(fault) => refused(text, fault),
     }
@@ -99,7 +100,7 @@ fn print_written(
 ) -> Result<(), Stop> {
     print_delta(alloc, text, delta)?;
     out.clear();
-    match delta.encode(alloc, out) {
+    match calls::write_delta(alloc, delta, out) {
         Ok(()) => print(alloc, text, out),
         Err(fault) => refused(text, fault),
     }
@@ -130,7 +131,7 @@ pub(crate) fn size(text: &mut String, bytes: &[u8]) -> Result<(), Stop> {
 
 /// `read`: the delta that the octets spell.
 pub(crate) fn read(alloc: Global, text: &mut String, bytes: &[u8]) -> Result<(), Stop> {
-    print_read(alloc, text, Delta::decode(alloc, bytes))
+    print_read(alloc, text, calls::read_delta(alloc, bytes))
 }
 
 /// `count`: how many operations the delta has that the octets spell.
@@ -141,7 +142,7 @@ pub(crate) fn counted(alloc: Global, text: &mut String, bytes: &[u8]) -> Result<
 
 /// How many operations octets spell, or why none.
 fn answer(alloc: Global, bytes: &[u8]) -> Result<String, AllocError> {
-    match Delta::decode(alloc, bytes) {
+    match calls::read_delta(alloc, bytes) {
         Ok(delta) => count_text(alloc, delta.ops().len()),
         Err(fault) => fault_text(alloc, fault),
     }

@@ -23,17 +23,17 @@ pub(crate) fn number(text: &str) -> Result<u64, Stop> {
 
 /// A number below 65,536.
 pub(crate) fn small_number(text: &str) -> Result<u16, Stop> {
-    match text.parse::<u16>() {
-        Ok(number) => Ok(number),
-        Err(_) => Err(Stop::Line),
+    match number(text)? {
+        number if number < 65_536 => Ok(number as u16),
+        _ => Err(Stop::Line),
     }
 }
 
 /// A number below 256.
 pub(crate) fn octet(text: &str) -> Result<u8, Stop> {
-    match text.parse::<u8>() {
-        Ok(number) => Ok(number),
-        Err(_) => Err(Stop::Line),
+    match number(text)? {
+        number if number < 256 => Ok(number as u8),
+        _ => Err(Stop::Line),
     }
 }
 
@@ -47,10 +47,7 @@ pub(crate) fn level(text: &str) -> Result<QosLevel, Stop> {
 
 /// How many, or a place.
 pub(crate) fn count(text: &str) -> Result<usize, Stop> {
-    match text.parse::<usize>() {
-        Ok(number) => Ok(number),
-        Err(_) => Err(Stop::Line),
-    }
+    Ok(number(text)? as usize)
 }
 
 /// An epoch and a gateway with a dot between them.

@@ -1,5 +1,6 @@
 //! Lines about a journal and its disk.
 
+use crate::calls;
 use crate::deltas::made;
 use crate::fields::{count, octet};
 use crate::printing::print_delta;
@@ -134,7 +135,7 @@ pub(crate) fn open(
     };
     let gateway = octet(gateway)?;
     let disk = mem::replace(closed(store)?, MemoryDisk::new(alloc));
-    match Journal::open(alloc, disk, gateway) {
+    match calls::open(alloc, disk, gateway) {
         Ok((journal, deltas)) => {
             store.journal = Some(journal);
             print_records(alloc, text, deltas.as_slice())
@@ -166,7 +167,7 @@ fn append_delta(
     journal: &mut Journal<MemoryDisk>,
     delta: &Delta,
 ) -> Result<(), Stop> {
-    match journal.append(alloc, delta) {
+    match calls::append(alloc, journal, delta) {
         Ok(()) => Ok(text.push_str("appended\n")?),
         Err(fault) => refused(alloc, text, fault),
     }
@@ -238,7 +239,7 @@ fn compact_to(
     journal: &mut Journal<MemoryDisk>,
     base: &[Delta],
 ) -> Result<(), Stop> {
-    match journal.compact(alloc, base) {
+    match calls::compact(alloc, journal, base) {
         Ok(()) => Ok(text.push_str("compacted\n")?),
         Err(fault) => refused(alloc, text, fault),
     }
@@ -246,7 +247,7 @@ fn compact_to(
 
 /// `reopen`: the journal is opened once more as it stands.
 pub(crate) fn reopen(alloc: Global, text: &mut String, store: &mut Store) -> Result<(), Stop> {
-    match opened(store)?.reopen(alloc) {
+    match calls::reopen(alloc, opened(store)?) {
         Ok(deltas) => print_records(alloc, text, deltas.as_slice()),
         Err(fault) => refused(alloc, text, fault),
     }

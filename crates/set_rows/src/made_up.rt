@@ -1,6 +1,7 @@
 //! Operations that are made up of a number. What stands under a name follows from the name, so that
 //! no two contradict each other.
 
+use crate::calls;
 use crate::fields::{message, named};
 use crate::stop::Stop;
 use rep_ops::{ClientId, Delta, Op, Put, Stamp};
@@ -90,7 +91,7 @@ pub(crate) fn delta(alloc: Global, seed: u64, size: u64) -> Result<Option<Delta>
         number = next(number);
         ops.push(made_up(alloc, number / 65536)?)?;
     }
-    match Delta::from_ops(alloc, ops) {
+    match calls::delta_of(alloc, ops) {
         Ok(delta) => Ok(Some(delta)),
         Err(_) => Ok(None),
     }

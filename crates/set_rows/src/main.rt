@@ -122,11 +122,13 @@
 //!   played.
 //! - `made_up`: operations that are made up of a number.
 //! - `rounds`: lines that do a work many times.
+//! - `calls`: calls of the libraries.
 //! - `words`, `printing`, `runs`: what is printed.
 //! - `stop`: why a line is not played.
 #![tactic(auto)]
 
 mod attempts;
+mod calls;
 mod changes;
 mod datagrams;
 mod deltas;

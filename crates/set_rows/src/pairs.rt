@@ -1,5 +1,6 @@
 //! A line that plays made-up deltas on both replicas, and compares after each what these say.
 
+use crate::calls;
 use crate::fields::number;
 use crate::made_up::{client, delta, next};
 use crate::replicas::empty;
@@ -163,7 +164,7 @@ fn held<R: Replica>(alloc: Global, replica: &R) -> Result<Vec<u8>, Stop> {
 /// Puts the octets of deltas behind those that are there.
 fn add_deltas(alloc: Global, octets: &mut Vec<u8>, deltas: &[Delta]) -> Result<(), Stop> {
     for delta in deltas {
-        if delta.encode(alloc, octets).is_err() {
+        if calls::write_delta(alloc, delta, octets).is_err() {
             return Err(Stop::Memory);
         }
     }

@@ -1,5 +1,6 @@
 //! Lines about a replica.
 
+use crate::calls;
 use crate::deltas::made;
 use crate::fields::{client, octet};
 use crate::printing::{print_delta, print_view, print_waiting};
@@ -46,11 +47,8 @@ fn join_delta<R: Replica>(
     replica: &mut R,
     delta: &Delta,
 ) -> Result<(), Stop> {
-    match replica.prepare(alloc, delta) {
-        Ok(staged) => {
-            replica.commit(staged);
-            Ok(text.push_str("joined\n")?)
-        }
+    match calls::take(alloc, replica, delta) {
+        Ok(()) => Ok(text.push_str("joined\n")?),
         Err(fault) => refused(alloc, text, &fault),
     }
 }

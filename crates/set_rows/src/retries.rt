@@ -1,6 +1,7 @@
 //! A line that tries a journal on disks of which one call fails.
 
 use crate::attempts::{Trial, opening, tried};
+use crate::calls;
 use crate::fields::{count, octet};
 use crate::journals::{Store, base_of};
 use crate::stop::Stop;
@@ -115,7 +116,7 @@ fn open(
     gateway: u8,
 ) -> Result<Journal<OnceDisk>, Stop> {
     said.push_str("open")?;
-    match Journal::open(alloc, disk, gateway) {
+    match calls::open(alloc, disk, gateway) {
         Ok((journal, deltas)) => {
             read(said, deltas.as_slice())?;
             Ok(journal)
@@ -134,7 +135,7 @@ fn open_again(
     disk: OnceDisk,
     gateway: u8,
 ) -> Result<Journal<OnceDisk>, Stop> {
-    match Journal::open(alloc, disk, gateway) {
+    match calls::open(alloc, disk, gateway) {
         Ok((journal, deltas)) => {
             read(said, deltas.as_slice())?;
             Ok(journal)
@@ -150,7 +151,7 @@ fn reopens(
     journal: &mut Journal<OnceDisk>,
 ) -> Result<bool, Stop> {
     said.push_str("; reopen")?;
-    match journal.reopen(alloc) {
+    match calls::reopen(alloc, journal) {
         Ok(deltas) => {
             read(said, deltas.as_slice())?;
             Ok(true)
@@ -170,7 +171,7 @@ fn compacts(
     base: &[Delta],
 ) -> Result<bool, Stop> {
     said.push_str("; compact")?;
-    match journal.compact(alloc, base) {
+    match calls::compact(alloc, journal, base) {
         Ok(()) => Ok(true),
         Err(fault) => {
             refused(alloc, said, fault)?;

@@ -2,8 +2,8 @@
 
 use crate::deltas::{made, refused};
 use crate::fields::count;
-use crate::journals;
 use crate::stop::Stop;
+use crate::{calls, journals};
 use jr_journal::{Journal, MemoryDisk};
 use rep_answer::answer;
 use rep_digest::{Digest, digest_of};
@@ -41,10 +41,10 @@ pub(crate) fn rounds(
 
 /// Reads a delta and writes it: how many operations it has.
 fn again(alloc: Global, bytes: &[u8], out: &mut Vec<u8>) -> Result<u64, Stop> {
-    let Ok(delta) = Delta::decode(alloc, bytes) else {
+    let Ok(delta) = calls::read_delta(alloc, bytes) else {
         return Err(Stop::Line);
     };
-    match delta.encode(alloc, out) {
+    match calls::write_delta(alloc, &delta, out) {
         Ok(()) => Ok(delta.ops().len() as u64),
         Err(_) => Err(Stop::Line),
     }
@@ -92,7 +92,7 @@ fn append_all(
     times: usize,
 ) -> Result<(), Stop> {
     for _ in 0..times {
-        if let Err(fault) = journal.append(alloc, delta) {
+        if let Err(fault) = calls::append(alloc, journal, delta) {
             return journals::refused(alloc, text, fault);
         }
     }
@@ -177,7 +177,7 @@ fn sizes(alloc: Global, deltas: &[Delta]) -> Result<Sizes, OpsFault> {
     let mut bytes = Vec::new(alloc);
     let mut ops = 0_u64;
     for delta in deltas {
-        delta.encode(alloc, &mut bytes)?;
+        calls::write_delta(alloc, delta, &mut bytes)?;
         ops = ops.wrapping_add(delta.ops().len() as u64);
     }
     Ok((ops, bytes.len() as u64))

@@ -1,10 +1,10 @@
 //! Lines that read and write a stream of datagrams many times, for the benchmarks in `bench/`.
 
+use crate::calls::{read_frame, write_frame};
 use crate::datagrams::fields::octets;
 use crate::fields::count;
 use crate::rounds::checksum;
 use crate::stop::Stop;
-use sn_frame::{decode, encode};
 use std::alloc::Global;
 
 /// `stream OCTETS ..`: one more datagram of the row's stream.
@@ -51,10 +51,10 @@ fn round(alloc: Global, stream: &[Vec<u8>], out: &mut Vec<u8>) -> Result<(), Sto
 
 /// Reads a datagram, and writes what it says.
 fn again(alloc: Global, datagram: &[u8], out: &mut Vec<u8>) -> Result<(), Stop> {
-    let Ok(frame) = decode(alloc, datagram) else {
+    let Ok(frame) = read_frame(alloc, datagram) else {
         return Err(Stop::Line);
     };
-    match encode(alloc, &frame, out) {
+    match write_frame(alloc, &frame, out) {
         Ok(()) => Ok(()),
         Err(_) => Err(Stop::Line),
     }
