@@ -248,7 +248,7 @@ impl Run {
             return Ok(());
         };
         let octets = &buffer[..size];
-        match decode(rt.alloc(), octets) {
+        match frame_of(rt.alloc(), octets) {
             Ok(frame) => {
                 tell(rt, "<-", &frame, octets, self.hex)?;
                 self.answer(rt, command, &frame, moment)
@@ -319,6 +319,11 @@ fn say<R: Print + AllocGlobal>(
     let octets = written(rt.alloc(), frame)?;
     tell(rt, "->", frame, octets.as_slice(), hex)?;
     Ok(wire.send(octets.as_slice())?)
+}
+
+/// The frame that a datagram spells. Nothing is said of it, so that who asks carries no clause on.
+fn frame_of(alloc: Global, octets: &[u8]) -> Result<Frame, FrameFault> {
+    decode(alloc, octets)
 }
 
 /// The octets of a frame.
