@@ -159,6 +159,9 @@ use std::alloc::{AllocError, Global};
 use std::io::{self, Write};
 use std::process::ExitCode;
 
+/// What stands in front of a row's name.
+const MARK: &str = "== ";
+
 /// What the lines have brought about.
 #[derive(Drop)]
 struct Page<R: Replica> {
@@ -251,8 +254,23 @@ fn answer<R: Replica>(
     if line.is_empty() || line.starts_with('#') {
         return Ok(());
     }
-    if line.starts_with("==") {
-        return turn(alloc, text, page, line);
+    match line {
+        "=== datagrams" => page.is_of_datagrams = true,
+        "=== sets" => page.is_of_datagrams = false,
+        _ => return play_or_begin(alloc, text, page, line),
+    }
+    Ok(())
+}
+
+/// Plays a line of a row, or begins one.
+fn play_or_begin<R: Replica>(
+    alloc: Global,
+    text: &mut String,
+    page: &mut Page<R>,
+    line: &str,
+) -> Result<(), Stop> {
+    if line.starts_with(MARK) {
+        return begin_row(alloc, text, page, line);
     }
     match play_line(alloc, text, page, line) {
         Ok(()) => Ok(()),
@@ -260,23 +278,16 @@ fn answer<R: Replica>(
     }
 }
 
-/// Lines that begin rows, or say what they are of.
-fn turn<R: Replica>(
+/// Begins a row, and prints its name.
+fn begin_row<R: Replica>(
     alloc: Global,
     text: &mut String,
     page: &mut Page<R>,
     line: &str,
 ) -> Result<(), Stop> {
-    match line {
-        "=== datagrams" => page.is_of_datagrams = true,
-        "=== sets" => page.is_of_datagrams = false,
-        _ => {
-            page.datagrams = datagrams::begin(alloc)?;
-            page.row = begin(alloc)?;
-            writeln!(text, "{line}")?;
-        }
-    }
-    Ok(())
+    page.datagrams = datagrams::begin(alloc)?;
+    page.row = begin(alloc)?;
+    Ok(writeln!(text, "{line}")?)
 }
 
 /// Tells a line that is none of the language.

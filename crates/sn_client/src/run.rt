@@ -11,10 +11,9 @@ use crate::words::{Command, Settings};
 use octets::NoMemory;
 use sn_frame::{EncodeFault, Frame, FrameFault, decode, encode};
 use std::alloc::{AllocError, Global};
-use std::io;
 use std::net::Net;
 use std::time::{Clock, Duration, Instant, SystemTime};
-use thiserror::Error;
+use std::{fmt, io};
 
 /// The most octets of a datagram.
 const DATAGRAM: usize = 65_535;
@@ -27,20 +26,30 @@ const CONNECT: Command<'static> = Command::Connect {
 };
 
 /// Why a run failed.
-#[derive(Debug, Drop, Error)]
+#[derive(Drop)]
 pub(crate) enum Fault {
     /// The socket, the clock or the output failed.
-    #[error("{0}")]
     Io(io::Error),
     /// The client's port cannot be had.
-    #[error("port {port}: {error}; one run of a client at a time, or another --port")]
     Port { port: u16, error: io::Error },
     /// What was asked for fits no frame.
-    #[error("{0}")]
     Frame(EncodeFault),
     /// Memory ran out.
-    #[error("out of memory")]
     Memory,
+}
+
+impl fmt::Display for Fault {
+    fn fmt<W: fmt::Write>(&self, f: &mut fmt::Formatter<W>) -> fmt::Result {
+        match self {
+            Fault::Io(error) => write!(f, "{error}"),
+            Fault::Port { port, error } => write!(
+                f,
+                "port {port}: {error}; one run of a client at a time, or another --port"
+            ),
+            Fault::Frame(fault) => write!(f, "{fault}"),
+            Fault::Memory => f.write_str("out of memory"),
+        }
+    }
 }
 
 impl From<io::Error> for Fault {
