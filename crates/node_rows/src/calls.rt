@@ -71,7 +71,7 @@ pub(crate) fn call_once<R: Replica>(
 ) -> Result<(), Stop> {
     let step = step(alloc, names, words)?;
     let answer = call(alloc, node, &step);
-    Ok(print_answer(alloc, text, &answer)?)
+    Ok(print_answer(text, &answer)?)
 }
 
 /// The call of the method that a call as a value stands for.
@@ -98,7 +98,7 @@ pub(crate) fn call_thrice<R: Replica>(
 ) -> Result<(), Stop> {
     let step = step(alloc, names, words)?;
     let answers = thrice(alloc, node, &step);
-    Ok(print_answers(alloc, text, &answers)?)
+    Ok(print_answers(text, &answers)?)
 }
 
 /// A call as a value, with its answer three times.
@@ -111,13 +111,9 @@ pub(crate) fn thrice<R: Replica>(
 }
 
 /// What a gateway answered, three times.
-fn print_answers(
-    alloc: Global,
-    text: &mut String,
-    answers: &(Answer, Answer, Answer),
-) -> Result<(), AllocError> {
+fn print_answers(text: &mut String, answers: &(Answer, Answer, Answer)) -> Result<(), AllocError> {
     let (first, second, third) = answers;
-    print_answer(alloc, text, first)?;
-    print_answer(alloc, text, second)?;
-    print_answer(alloc, text, third)
+    print_answer(text, first)?;
+    print_answer(text, second)?;
+    print_answer(text, third)
 }

@@ -167,7 +167,7 @@ fn meaning(alloc: Global, text: &mut String, session: &Session, bytes: &[u8]) ->
     let flags = Flags { bits: *bits };
     let topic = u16::from(*high) * 256 + u16::from(*low);
     let meant = meaning_of(alloc, session, flags, topic)?;
-    print_meant(alloc, text, &meant)
+    print_meant(text, &meant)
 }
 
 /// The topic of these flags and this topic field.
@@ -177,9 +177,9 @@ fn meaning_of(alloc: Global, session: &Session, flags: Flags, topic: u16) -> Res
 }
 
 /// What a publication is about.
-fn print_meant(alloc: Global, text: &mut String, meant: &Meant) -> Result<(), Stop> {
+fn print_meant(text: &mut String, meant: &Meant) -> Result<(), Stop> {
     match meant {
-        Meant::Topic(name) => Ok(print_octets(alloc, text, "topic", name.bytes())?),
+        Meant::Topic(name) => Ok(print_octets(text, "topic", name.bytes())?),
         Meant::Refused(code) => print_code(text, *code),
     }
 }

@@ -98,7 +98,8 @@ fn start<R: Replica>(alloc: Global, store: &mut Store<R>, config: Config) -> Res
     }
 }
 
-/// A gateway is opened. Of the call nothing is said here, so that who makes it carries no clause on.
+/// A gateway is opened. Of the call nothing is said here, so that who makes it carries no clause
+/// on.
 pub(crate) fn node_on<R: Replica>(
     alloc: Global,
     config: Config,

@@ -132,19 +132,18 @@ pub(crate) fn say(
 ) -> Result<(), Stop> {
     let message = message(alloc, names, fields)?;
     let gone = go_out(alloc, said, &message);
-    print_said(alloc, text, said, gone)
+    print_said(text, said, gone)
 }
 
 /// All that went out, if the latest message did.
 fn print_said(
-    alloc: Global,
     text: &mut String,
     said: &[u8],
     gone: Option<Result<(), LinkOutFault>>,
 ) -> Result<(), Stop> {
     match gone {
         None => Err(Stop::Line),
-        Some(Ok(())) => Ok(print_octets(alloc, text, "went out", said)?),
+        Some(Ok(())) => Ok(print_octets(text, "went out", said)?),
         Some(Err(_)) => Err(Stop::Memory),
     }
 }

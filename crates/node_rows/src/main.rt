@@ -1,5 +1,5 @@
-//! Worked rows of gateways with their journals, of shifts, of deliveries and of links: what no clause
-//! says, as that calls succeed, and octets written out by hand.
+//! Worked rows of gateways with their journals, of shifts, of deliveries and of links: what no
+//! clause says, as that calls succeed, and octets written out by hand.
 //!
 //! A contract lets a call answer want of memory in place of almost anything; a row does not.
 //! Standard input holds rows, each behind a line `== NAME`; empty lines and those that begin with
@@ -41,24 +41,24 @@
 //! stamp, the duration of the session and how many messages wait. A refusal is printed by its
 //! number, as `N3`, with the answer that it brings.
 //!
-//! A shift of the gateway, which is not open meanwhile. PLACE is where a pass sits, from 0 on, in the
-//! order in which passes sat down in this row; those of an earlier shift stay in their places:
+//! A shift of the gateway, which is not open meanwhile. PLACE is where a pass sits, from 0 on, in
+//! the order in which passes sat down in this row; those of an earlier shift stay in their places:
 //!
 //! - `shift PASSES STEPS`: a shift of the gateway for 1 to 8 passes, which sit down behind the
 //!   others, and for 1 to 4,096 calls.
-//! - `pass PLACE CALL`: the pass at this place makes a call: its number and its answer. A refusal by
-//!   the shift itself is printed by its number, as `K1`.
+//! - `pass PLACE CALL`: the pass at this place makes a call: its number and its answer. A refusal
+//!   by the shift itself is printed by its number, as `K1`.
 //! - `often PLACE COUNT CALL`: the pass makes the call so many times.
 //! - `together PLACE COUNT CALL`: the passes from this place on make the call so many times each,
 //!   each pass in a thread of its own and all at once.
-//! - `after PLACE NUMBER MOST`: the pass asks for the deltas of the calls above a number, at most so
-//!   many: the number of each call, and how many operations it made.
+//! - `after PLACE NUMBER MOST`: the pass asks for the deltas of the calls above a number, at most
+//!   so many: the number of each call, and how many operations it made.
 //! - `end`: the shift is over.
 //! - `close PLACE ..`: it is closed with the passes at these places: how many calls it has, and the
 //!   gateway is open again. If it is refused, the passes sit down behind the others.
-//! - `rounds THREADS COUNT CALL`: so many rounds of 4,096 calls, each round of a gateway of its own in
-//!   which s1 is connected. With 0 threads its owner makes them, else as many passes of a shift. The
-//!   calls are printed; on standard error also their microseconds without opening and closing.
+//! - `rounds THREADS COUNT CALL`: so many rounds of 4,096 calls, each round of a gateway of its own
+//!   in which s1 is connected. With 0 threads its owner makes them, else as many passes of a shift.
+//!   The calls are printed; on standard error also their microseconds without opening and closing.
 //!
 //! Deliveries to a client, of which the gateway has a session, at port 7 of host 0 and moment 3;
 //! what is drafted is not carried out:

@@ -24,8 +24,8 @@ const CALLS: u16 = 4_096;
 /// CONNECT of the client s1.
 const CONNECT: [u8; 8] = [8, 4, 4, 1, 0, 60, 0x73, 0x31];
 
-/// `rounds THREADS COUNT CALL`: so many rounds of 4,096 calls, each of a gateway of its own in which
-/// s1 is connected; made directly, or by so many threads in a shift.
+/// `rounds THREADS COUNT CALL`: so many rounds of 4,096 calls, each of a gateway of its own in
+/// which s1 is connected; made directly, or by so many threads in a shift.
 pub(crate) fn rounds<T, R>(
     rt: &T,
     text: &mut String,

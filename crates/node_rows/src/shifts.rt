@@ -140,7 +140,7 @@ fn call_by<T: Wait + AllocGlobal, R: Replica>(
     let at = place(at)?;
     let step = shared(rt.alloc(), names, words)?;
     let called = called_by(rt, shifts, at, step)?;
-    Ok(print_called(rt.alloc(), text, &called)?)
+    Ok(print_called(text, &called)?)
 }
 
 /// What the pass at a place is answered.

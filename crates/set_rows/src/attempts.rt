@@ -7,7 +7,7 @@ use crate::journals::{Held, Store, base_of, both, octets_of, put, slot};
 use crate::retries::all_calls;
 use crate::runs::{Run, add, finish};
 use crate::stop::Stop;
-use crate::words::{journal_fault, shown_octets, slot_word};
+use crate::words::{Digits, NotWritten, slot_word};
 use jr_journal::{JournalFault, MemoryDisk, OnceCall, OnceDisk, Slot};
 use rep_ops::{Delta, Op};
 use std::alloc::{AllocError, Global};
@@ -52,7 +52,7 @@ fn count_text(alloc: Global, count: usize, slot: Slot) -> Result<String, AllocEr
 
 /// The words of a refusal.
 fn fault_text(alloc: Global, fault: JournalFault) -> Result<String, AllocError> {
-    let why = journal_fault(alloc, fault)?;
+    let why = NotWritten(fault);
     format!(in alloc; "refused {why}")
 }
 
@@ -81,7 +81,7 @@ fn slot_text(
 /// The words of a number of records, their slot and its octets.
 fn read_text(alloc: Global, count: usize, slot: Slot, octets: &[u8]) -> Result<String, AllocError> {
     let slot = slot_word(slot);
-    let octets = shown_octets(alloc, octets)?;
+    let octets = Digits(octets);
     format!(in alloc; "records {count} in {slot}, {octets}")
 }
 
@@ -278,6 +278,6 @@ fn refused_and_found(
     fault: JournalFault,
     found: &str,
 ) -> Result<String, AllocError> {
-    let why = journal_fault(alloc, fault)?;
+    let why = NotWritten(fault);
     format!(in alloc; "refused {why}, {found}")
 }

@@ -1,5 +1,5 @@
-//! Calls of the libraries. These functions say nothing of them: what a library promises would stay in
-//! view at each exit behind the call, and no row needs it.
+//! Calls of the libraries. These functions say nothing of them: what a library promises would stay
+//! in view at each exit behind the call, and no row needs it.
 
 use jr_journal::{Disk, Journal, JournalFault};
 use rep_model::{Replica, TakeFault};

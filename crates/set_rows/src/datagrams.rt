@@ -1,8 +1,9 @@
-//! A row of datagrams and topics: what its lines have brought about so far, and the play of one more.
+//! A row of datagrams and topics: what its lines have brought about so far, and the play of one
+//! more.
 //!
-//! OCTETS are words of hexadecimal digits, in as many as is pleasant; `COUNTxDIGITS` are the octets of the digits, so
-//! often; a word behind an apostrophe, as `'t/a`, is the octets of its text, and `-` is no octet. A
-//! KIND, a FILTER and a NAME are one such word.
+//! OCTETS are words of hexadecimal digits, in as many as is pleasant; `COUNTxDIGITS` are the octets
+//! of the digits, so often; a word behind an apostrophe, as `'t/a`, is the octets of its text, and
+//! `-` is no octet. A KIND, a FILTER and a NAME are one such word.
 //!
 //! Datagrams:
 //!
@@ -22,8 +23,9 @@
 //! A stream, for the benchmarks in `bench/`:
 //!
 //! - `stream OCTETS ..`: one more datagram of the row's stream.
-//! - `rounds COUNT`: each datagram of the stream is read, and what it says is written, so many times:
-//!   how many that were, and how many octets the last round wrote, with their FNV-1a checksum.
+//! - `rounds COUNT`: each datagram of the stream is read, and what it says is written, so many
+//!   times: how many that were, and how many octets the last round wrote, with their FNV-1a
+//!   checksum.
 //!
 //! Topics (sections 5.3.11, 5.3.12 and 6.7):
 //!

@@ -5,7 +5,7 @@ use crate::deltas::made;
 use crate::fields::{count, octet};
 use crate::printing::print_delta;
 use crate::stop::Stop;
-use crate::words::{journal_fault, shown_octets, slot_word};
+use crate::words::{Digits, NotWritten, slot_word};
 use jr_journal::{Disk, Journal, JournalFault, MemoryDisk, Slot};
 use rep_ops::{Delta, Op};
 use std::alloc::Global;
@@ -104,21 +104,17 @@ pub(crate) fn crash(store: &mut Store, fields: &[&str]) -> Result<(), Stop> {
 }
 
 /// Says why a journal refuses.
-pub(crate) fn refused(alloc: Global, text: &mut String, fault: JournalFault) -> Result<(), Stop> {
-    let why = journal_fault(alloc, fault)?;
+pub(crate) fn refused(text: &mut String, fault: JournalFault) -> Result<(), Stop> {
+    let why = NotWritten(fault);
     Ok(writeln!(text, "refused {why}")?)
 }
 
 /// The records that an opening read.
-pub(crate) fn print_records(
-    alloc: Global,
-    text: &mut String,
-    deltas: &[Delta],
-) -> Result<(), Stop> {
+pub(crate) fn print_records(text: &mut String, deltas: &[Delta]) -> Result<(), Stop> {
     let count = deltas.len();
     writeln!(text, "records {count}")?;
     for delta in deltas {
-        print_delta(alloc, text, delta)?;
+        print_delta(text, delta)?;
     }
     Ok(())
 }
@@ -138,11 +134,11 @@ pub(crate) fn open(
     match calls::open(alloc, disk, gateway) {
         Ok((journal, deltas)) => {
             store.journal = Some(journal);
-            print_records(alloc, text, deltas.as_slice())
+            print_records(text, deltas.as_slice())
         }
         Err((disk, fault)) => {
             store.disk = disk;
-            refused(alloc, text, fault)
+            refused(text, fault)
         }
     }
 }
@@ -169,7 +165,7 @@ fn append_delta(
 ) -> Result<(), Stop> {
     match calls::append(alloc, journal, delta) {
         Ok(()) => Ok(text.push_str("appended\n")?),
-        Err(fault) => refused(alloc, text, fault),
+        Err(fault) => refused(text, fault),
     }
 }
 
@@ -241,15 +237,15 @@ fn compact_to(
 ) -> Result<(), Stop> {
     match calls::compact(alloc, journal, base) {
         Ok(()) => Ok(text.push_str("compacted\n")?),
-        Err(fault) => refused(alloc, text, fault),
+        Err(fault) => refused(text, fault),
     }
 }
 
 /// `reopen`: the journal is opened once more as it stands.
 pub(crate) fn reopen(alloc: Global, text: &mut String, store: &mut Store) -> Result<(), Stop> {
     match calls::reopen(alloc, opened(store)?) {
-        Ok(deltas) => print_records(alloc, text, deltas.as_slice()),
-        Err(fault) => refused(alloc, text, fault),
+        Ok(deltas) => print_records(text, deltas.as_slice()),
+        Err(fault) => refused(text, fault),
     }
 }
 
@@ -301,7 +297,7 @@ fn print_slot(
 ) -> Result<(), Stop> {
     let octets = octets_of(alloc, disk, slot)?;
     let name = slot_word(slot);
-    let digits = shown_octets(alloc, &octets)?;
+    let digits = Digits(&octets);
     Ok(writeln!(text, "{name} {digits}")?)
 }
 

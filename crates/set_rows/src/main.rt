@@ -8,8 +8,9 @@
 //! `#` are skipped. Each row begins with nothing: no operation, no octets, the empty session, an
 //! empty replica, an empty disk, no frame and no predefined id. The program prints each name, and
 //! below it what the lines of the row give; of a line that is none of these, `no such line` and the
-//! line. After a line `=== datagrams` rows are of datagrams and topics; the head of `datagrams.rt` has
-//! their words. After a line `=== sets`, and in front of the first of both, they are as follows.
+//! line. After a line `=== datagrams` rows are of datagrams and topics; the head of `datagrams.rt`
+//! has their words. After a line `=== sets`, and in front of the first of both, they are as
+//! follows.
 //!
 //! A line is words with one space between them. Numbers are decimal. Octets are words of
 //! hexadecimal digits, in as many as is pleasant; after a line `name NAME OCTETS ..`, which may
@@ -63,8 +64,8 @@
 //! - `altered AT HEX`: how many operations it has where an octet is another; the octets stay.
 //! - `beginnings`: the same of each beginning of them but the whole; neighbours that give the same
 //!   share a line.
-//! - `rounds COUNT`: the delta that they spell is read and written so many times: how many operations
-//!   were read, and how many octets the last round wrote, with their FNV-1a checksum.
+//! - `rounds COUNT`: the delta that they spell is read and written so many times: how many
+//!   operations were read, and how many octets the last round wrote, with their FNV-1a checksum.
 //!
 //! The replica:
 //!
@@ -76,13 +77,14 @@
 //!   next message for it.
 //! - `clients`: how many clients it knows.
 //! - `held`, `parts`: the deltas of what must be kept; how many operations each has.
-//! - `fold`, `folded CLIENT GATEWAY`: as `join` and `next`, of a replica that folds; also if the rows
-//!   are played on one that keeps all.
-//! - `pair SEED TIMES SIZE LEAST`: so many times both replicas take so many operations that are made
-//!   up of a number, if they are a delta: whether the two say the same after each, of LEAST or more.
+//! - `fold`, `folded CLIENT GATEWAY`: as `join` and `next`, of a replica that folds; also if the
+//!   rows are played on one that keeps all.
+//! - `pair SEED TIMES SIZE LEAST`: so many times both replicas take so many operations that are
+//!   made up of a number, if they are a delta: whether the two say the same after each, of LEAST or
+//!   more.
 //! - `digest`: the octets are those of the digest of what it has.
-//! - `answers COUNT`: it makes its digest, and answers the one that the octets spell, so many times:
-//!   how large that digest, the last answer and all that must be kept are.
+//! - `answers COUNT`: it makes its digest, and answers the one that the octets spell, so many
+//!   times: how large that digest, the last answer and all that must be kept are.
 //!
 //! The disk, and the journal on it; SLOT is `first` or `second`:
 //!

@@ -25,8 +25,8 @@ struct Counts {
     same: u64,
 }
 
-/// `pair SEED TIMES SIZE LEAST`: so many times both replicas take so many made-up operations, if they
-/// are a delta; which so many are at least.
+/// `pair SEED TIMES SIZE LEAST`: so many times both replicas take so many made-up operations, if
+/// they are a delta; which so many are at least.
 pub(crate) fn play_pair(alloc: Global, text: &mut String, fields: &[&str]) -> Result<(), Stop> {
     let [seed, times, size, least] = fields else {
         return Err(Stop::Line);

@@ -5,7 +5,7 @@ use crate::calls;
 use crate::fields::{count, octet};
 use crate::journals::{Store, base_of};
 use crate::stop::Stop;
-use crate::words::journal_fault;
+use crate::words::NotWritten;
 use jr_journal::{Journal, JournalFault, OnceCall, OnceDisk};
 use rep_ops::{Delta, Op};
 use std::alloc::Global;
@@ -103,8 +103,8 @@ fn read(said: &mut String, deltas: &[Delta]) -> Result<(), Stop> {
 }
 
 /// Why a call was refused.
-fn refused(alloc: Global, said: &mut String, fault: JournalFault) -> Result<(), Stop> {
-    let why = journal_fault(alloc, fault)?;
+fn refused(said: &mut String, fault: JournalFault) -> Result<(), Stop> {
+    let why = NotWritten(fault);
     Ok(write!(said, " {why}")?)
 }
 
@@ -122,7 +122,7 @@ fn open(
             Ok(journal)
         }
         Err((disk, fault)) => {
-            refused(alloc, said, fault)?;
+            refused(said, fault)?;
             open_again(alloc, said, disk, gateway)
         }
     }
@@ -157,7 +157,7 @@ fn reopens(
             Ok(true)
         }
         Err(fault) => {
-            refused(alloc, said, fault)?;
+            refused(said, fault)?;
             Ok(false)
         }
     }
@@ -174,7 +174,7 @@ fn compacts(
     match calls::compact(alloc, journal, base) {
         Ok(()) => Ok(true),
         Err(fault) => {
-            refused(alloc, said, fault)?;
+            refused(said, fault)?;
             Ok(false)
         }
     }

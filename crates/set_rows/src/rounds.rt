@@ -93,7 +93,7 @@ fn append_all(
 ) -> Result<(), Stop> {
     for _ in 0..times {
         if let Err(fault) = calls::append(alloc, journal, delta) {
-            return journals::refused(alloc, text, fault);
+            return journals::refused(text, fault);
         }
     }
     Ok(writeln!(text, "records: {times} appended, each synced")?)

@@ -49,8 +49,8 @@ fn used<R: Replica>(alloc: Global, row: &mut Row<R>) -> Vec<Op> {
     mem::replace(&mut row.ops, Vec::new(alloc))
 }
 
-/// Plays a line. Each of the functions below knows the words of some lines, and leaves all others to
-/// the next.
+/// Plays a line. Each of the functions below knows the words of some lines, and leaves all others
+/// to the next.
 pub(crate) fn play<R: Replica>(
     alloc: Global,
     text: &mut String,
@@ -94,10 +94,10 @@ fn ask_session<R: Replica>(
     rest: &[&str],
 ) -> Result<(), Stop> {
     match first {
-        "tell" => sessions::tell(alloc, text, &row.session),
+        "tell" => sessions::tell(text, &row.session),
         "sizes" => sessions::sizes(text, &row.session),
         "id" => sessions::id(alloc, text, &row.session, rest),
-        "topic" => sessions::topic_of(alloc, text, &row.session, rest),
+        "topic" => sessions::topic_of(text, &row.session, rest),
         "filter" => sessions::qos_of(alloc, text, &row.session, rest),
         "asked" => sessions::asked_qos(alloc, text, &row.session, rest),
         "heard" => sessions::heard(text, &row.session, rest),
@@ -232,7 +232,7 @@ fn play_reading<R: Replica>(
     match first {
         "none" => deltas::none(alloc, text),
         "client" => deltas::named(alloc, text, rest),
-        "print" => deltas::print(alloc, text, &row.octets),
+        "print" => deltas::print(text, &row.octets),
         "size" => deltas::size(text, &row.octets),
         "read" => deltas::read(alloc, text, &row.octets),
         "count" => deltas::counted(alloc, text, &row.octets),
