@@ -1,6 +1,6 @@
 //! Lines about a shift of the gateway, the passes that call it, and its end.
 
-ghost use Rattle.std.specs.Prelude.{◌<◌, ◌≤◌, ◌×◌};
+ghost use Rattle.std.specs.Prelude.{◌<◌, ◌≤◌};
 
 use crate::calls::step;
 use crate::fields::number;
@@ -97,14 +97,14 @@ pub(crate) fn shift_of<R: Replica>(
 fn passes_of(passes: u16) -> usize
     ensures { 0 < result }
 {
-    usize::from(passes.clamp(1, 8))
+    usize::from(passes).clamp(1, 8)
 }
 
 /// How many calls a shift has.
 fn steps_of(steps: u16) -> u64
     ensures { (0 < result) × (result ≤ 4096) }
 {
-    u64::from(steps.clamp(1, 4_096))
+    u64::from(steps).clamp(1, 4_096)
 }
 
 /// The shift that is open.
@@ -247,11 +247,19 @@ fn ask_after<T: Wait + AllocGlobal, R: Replica>(
     };
     let (at, above, most) = (place(at)?, number(above)?, place(most)?);
     let shift = opened(&shifts.open)?;
-    let Some(Some(pass)) = shifts.seats.as_slice().get(at) else {
+    let Some(pass) = seated(shifts.seats.as_slice(), at) else {
         return Err(Stop::Line);
     };
     let made = shift.after(rt, rt.alloc(), pass, u64::from(above), most);
     Ok(print_made(text, &made)?)
+}
+
+/// The pass that sits at a place.
+fn seated(seats: &[Option<Pass>], at: usize) -> Option<&Pass> {
+    match seats.get(at) {
+        Some(seat) => seat.as_ref(),
+        None => None,
+    }
 }
 
 /// `end`: the shift is over.
