@@ -15,7 +15,7 @@ trap 'rm -rf "$work"' EXIT
 program=$(built node_rows "$top/crates/node_rows/stdin")
 search='frame 7 0 030100'
 sleep='frame 7 0 0418012c'
-echo "load $(cut -d ' ' -f 1-3 /proc/loadavg 2>/dev/null || echo unknown), $(nproc) processors"
+
 # call NAME ROUNDS CALL: the lines of a call, and what the program says of them on standard error: of the folded replica first, then of the plain
 # one, which counts. A line of that is how many threads, calls and microseconds.
 call() {
@@ -34,5 +34,6 @@ call() {
     }'
 }
 
+echo "load $(cut -d ' ' -f 1-3 /proc/loadavg 2>/dev/null || echo unknown), $(nproc) processors"
 call search "$rounds" "$search"
 call sleep 1 "$sleep"
