@@ -44,12 +44,8 @@ pub(super) fn command_line<'a>(alloc: Global) -> Result<Command<'a>, AllocError>
 
 /// A command with these arguments. It says nothing of them, so that who calls it carries on no more
 /// than a command.
-fn with<'a, const N: usize>(
-    alloc: Global,
-    command: Command<'a>,
-    args: [Arg<'a>; N],
-) -> Result<Command<'a>, AllocError> {
-    command.args(Vec::from_array(alloc, args)?)
+fn with<'a>(command: Command<'a>, args: Vec<Arg<'a>>) -> Result<Command<'a>, AllocError> {
+    command.args(args)
 }
 
 /// A command with one more below it, of which it says nothing either.
@@ -90,15 +86,15 @@ fn with_messages<'a>(alloc: Global, command: Command<'a>) -> Result<Command<'a>,
 
 /// The options of every command: who speaks, with whom, and how.
 fn with_options<'a>(alloc: Global, command: Command<'a>) -> Result<Command<'a>, AllocError> {
-    let options = [
+    let options = vec![in alloc;
         gateway(alloc),
         id(alloc),
         port(alloc),
         connect_first(alloc),
         wait(alloc),
         hex(alloc),
-    ];
-    with(alloc, command, options)
+    ]?;
+    with(command, options)
 }
 
 /// The option `--gateway`.
@@ -230,24 +226,20 @@ fn will_topic<'a>(alloc: Global) -> Arg<'a> {
 
 /// The command `connect`.
 fn connect<'a>(alloc: Global) -> Result<Command<'a>, AllocError> {
-    let options = [
+    let options = vec![in alloc;
         flag(alloc, "clean", "Begin with an empty session"),
         keep_alive(alloc),
         will_topic(alloc),
         text(alloc, "will-message", "TEXT", "What the will says"),
         qos(alloc, OF_OTHERS.as_slice(), "The will's quality of service"),
         flag(alloc, "retain", "Set the will's retain flag"),
-    ];
-    with(
-        alloc,
-        plain(alloc, "connect", "Set up a connection"),
-        options,
-    )
+    ]?;
+    with(plain(alloc, "connect", "Set up a connection"), options)
 }
 
 /// The command `subscribe`.
 fn subscribe<'a>(alloc: Global) -> Result<Command<'a>, AllocError> {
-    let options = [
+    let options = vec![in alloc;
         word(
             alloc,
             "filter",
@@ -256,17 +248,13 @@ fn subscribe<'a>(alloc: Global) -> Result<Command<'a>, AllocError> {
         ),
         qos(alloc, OF_OTHERS.as_slice(), QOS),
         predefined(alloc),
-    ];
-    with(
-        alloc,
-        plain(alloc, "subscribe", "Subscribe to topics"),
-        options,
-    )
+    ]?;
+    with(plain(alloc, "subscribe", "Subscribe to topics"), options)
 }
 
 /// The command `unsubscribe`.
 fn unsubscribe<'a>(alloc: Global) -> Result<Command<'a>, AllocError> {
-    let options = [
+    let options = vec![in alloc;
         word(
             alloc,
             "filter",
@@ -274,24 +262,20 @@ fn unsubscribe<'a>(alloc: Global) -> Result<Command<'a>, AllocError> {
             "The filter as it was subscribed to",
         ),
         predefined(alloc),
-    ];
-    with(
-        alloc,
-        plain(alloc, "unsubscribe", "End a subscription"),
-        options,
-    )
+    ]?;
+    with(plain(alloc, "unsubscribe", "End a subscription"), options)
 }
 
 /// The command `publish`.
 fn publish<'a>(alloc: Global) -> Result<Command<'a>, AllocError> {
-    let options = [
+    let options = vec![in alloc;
         topic(alloc),
         message(alloc),
         qos(alloc, OF_PUBLISH.as_slice(), QOS),
         flag(alloc, "retain", "Set the retain flag"),
         predefined(alloc),
-    ];
-    with(alloc, plain(alloc, "publish", "Publish a text"), options)
+    ]?;
+    with(plain(alloc, "publish", "Publish a text"), options)
 }
 
 /// The topic of a publication.
@@ -317,7 +301,7 @@ fn seconds<'a>(alloc: Global) -> Arg<'a> {
 /// The command `sleep`.
 fn sleep<'a>(alloc: Global) -> Result<Command<'a>, AllocError> {
     let command = plain(alloc, "sleep", "Fall asleep: messages are kept meanwhile");
-    with(alloc, command, [seconds(alloc)])
+    with(command, vec![in alloc; seconds(alloc)]?)
 }
 
 /// How long a client listens.
@@ -331,9 +315,5 @@ fn length<'a>(alloc: Global) -> Arg<'a> {
 
 /// The command `listen`.
 fn listen<'a>(alloc: Global) -> Result<Command<'a>, AllocError> {
-    with(
-        alloc,
-        plain(alloc, "listen", "Take what comes"),
-        [length(alloc)],
-    )
+    with(plain(alloc, "listen", "Take what comes"), [length(alloc)])
 }
