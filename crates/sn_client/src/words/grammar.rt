@@ -301,7 +301,8 @@ fn seconds<'a>(alloc: Global) -> Arg<'a> {
 /// The command `sleep`.
 fn sleep<'a>(alloc: Global) -> Result<Command<'a>, AllocError> {
     let command = plain(alloc, "sleep", "Fall asleep: messages are kept meanwhile");
-    with(command, vec![in alloc; seconds(alloc)]?)
+    let options = vec![in alloc; seconds(alloc)]?;
+    with(command, options)
 }
 
 /// How long a client listens.
@@ -315,5 +316,6 @@ fn length<'a>(alloc: Global) -> Arg<'a> {
 
 /// The command `listen`.
 fn listen<'a>(alloc: Global) -> Result<Command<'a>, AllocError> {
-    with(plain(alloc, "listen", "Take what comes"), [length(alloc)])
+    let options = vec![in alloc; length(alloc)]?;
+    with(plain(alloc, "listen", "Take what comes"), options)
 }
