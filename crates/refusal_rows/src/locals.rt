@@ -57,12 +57,16 @@ fn prepare(alloc: Global, said: &mut Said) -> Result<(), Stop> {
     let changes = changes(alloc)?;
     let mut dialogs = Dialogs::empty(alloc);
     for _ in 0..2 {
-        if dialogs.prepare(changes.as_slice()).is_ok() {
-            dialogs.commit(changes);
-            return show(said, &dialogs);
+        match dialogs.prepare(changes.as_slice()) {
+            Ok(()) => {
+                dialogs.commit(changes);
+                return show(said, &dialogs);
+            }
+            Err(_) => {
+                said.refuse();
+                said.keep(dialogs.client_at(HERE).is_none());
+            }
         }
-        said.refuse();
-        said.keep(dialogs.client_at(HERE).is_none());
     }
     Err(Stop::Other)
 }

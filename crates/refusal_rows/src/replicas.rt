@@ -4,7 +4,7 @@ use crate::again::{again, beside};
 use crate::deltas::{FIRST, client, delta, show_all};
 use crate::said::{Said, Stop};
 use rep_model::{Replica, TakeFault};
-use rep_ops::{Delta, OpsFault};
+use rep_ops::{ClientId, Delta, OpsFault};
 use rep_state::Folded;
 use std::alloc::Global;
 
@@ -37,14 +37,14 @@ pub(crate) fn play<R: Replica>(alloc: Global, said: &mut Said, call: &str) -> Re
         }
         "clients" => {
             let replica: R = filled(alloc)?;
-            let clients = again!(said, TakeFault::Memory, replica.clients(alloc));
+            let clients = clients(alloc, said, &replica)?;
             for client in clients.as_slice() {
                 said.octets(client.bytes());
             }
         }
         "held" => {
             let replica: R = filled(alloc)?;
-            let deltas = again!(said, TakeFault::Memory, replica.held(alloc));
+            let deltas = held(alloc, said, &replica)?;
             show_all(alloc, said, deltas.as_slice())?;
         }
         _ => return Err(Stop::Row),
@@ -57,6 +57,30 @@ fn empty<R: Replica>(alloc: Global, said: &mut Said) -> Result<R, Stop> {
     for _ in 0..2 {
         match R::empty(alloc) {
             Ok(replica) => return Ok(replica),
+            Err(TakeFault::Memory) => said.refuse(),
+            Err(_) => return Err(Stop::Other),
+        }
+    }
+    Err(Stop::Other)
+}
+
+/// Asks for the clients of a replica.
+fn clients<R: Replica>(alloc: Global, said: &mut Said, replica: &R) -> Result<Vec<ClientId>, Stop> {
+    for _ in 0..2 {
+        match replica.clients(alloc) {
+            Ok(clients) => return Ok(clients),
+            Err(TakeFault::Memory) => said.refuse(),
+            Err(_) => return Err(Stop::Other),
+        }
+    }
+    Err(Stop::Other)
+}
+
+/// Asks for what a replica must keep.
+fn held<R: Replica>(alloc: Global, said: &mut Said, replica: &R) -> Result<Vec<Delta>, Stop> {
+    for _ in 0..2 {
+        match replica.held(alloc) {
+            Ok(deltas) => return Ok(deltas),
             Err(TakeFault::Memory) => said.refuse(),
             Err(_) => return Err(Stop::Other),
         }

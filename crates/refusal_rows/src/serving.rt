@@ -1,5 +1,7 @@
 //! Serving.
 
+ghost use Rattle.std.specs.Prelude.{◌≤◌, ◌+◌, length, IfSome};
+
 use crate::again::beside;
 use crate::gateways::{Gateway, connected};
 use crate::said::{Said, Stop};
@@ -42,23 +44,39 @@ impl Wire for Brief {
     ghost drops = { λ wire. wire.drops.count };
 
     fn recv(&mut self, buffer: &mut [u8]) -> Result<Option<Arrival>, WireFault> {
-        if !self.is_left || buffer.len() < 3 {
+        if !self.is_left {
             thread::yield_now();
             return Ok(None);
         }
         self.is_left = false;
-        buffer[..3].copy_from_slice(b"\x03\x01\x00");
-        self.arrivals = Tally::next(&self.arrivals);
-        Ok(Some(Arrival {
-            from: Addr { host: 0, port: 9 },
-            size: 3,
-            moment: 0,
-        }))
+        match arrived(b"\x03\x01\x00", buffer) {
+            None => Ok(None),
+            Some(arrival) => {
+                self.arrivals = Tally::next(&self.arrivals);
+                Ok(Some(arrival))
+            }
+        }
     }
 
     fn unheard(&mut self) {
         self.drops = Tally::next(&self.drops);
     }
+}
+
+/// A datagram, put into the front of a buffer. Nothing where it is too long.
+fn arrived(bytes: &[u8], buffer: &mut [u8]) -> Option<Arrival>
+    ensures { IfSome result (λ arrival. arrival.size ≤ length buffer.new) }
+{
+    let size = bytes.len();
+    if size > buffer.len() {
+        return None;
+    }
+    buffer[..size].copy_from_slice(bytes);
+    Some(Arrival {
+        from: Addr { host: 0, port: 9 },
+        size,
+        moment: 0,
+    })
 }
 
 /// A post that sends nothing.

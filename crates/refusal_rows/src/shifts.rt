@@ -1,6 +1,6 @@
 //! Shifts.
 
-use crate::again::{again, beside};
+use crate::again::beside;
 use crate::gateways::{Gateway, NOT_SUBSCRIBED, SUBSCRIBE, connected, frame, is_excuse, show_out};
 use crate::said::{Said, Stop};
 use gw_node::{NodeFault, Step};
@@ -156,7 +156,26 @@ fn after<W: Wait>(rt: &W, alloc: Global, said: &mut Said) -> Result<(), Stop> {
     let Work { shift, pass, .. } = begun(alloc)?;
     let step = Arc::new(alloc, frame(alloc, SUBSCRIBE)?)?;
     let (pass, _, _) = beside!(shift.call(rt, alloc, pass, step));
-    let made = again!(said, CallFault::Memory, shift.after(rt, alloc, &pass, 0, 9));
-    said.number("deltas", made.len());
-    Ok(())
+    ask(rt, alloc, said, &shift, &pass)
+}
+
+/// Asks again if that is refused memory.
+fn ask<W: Wait>(
+    rt: &W,
+    alloc: Global,
+    said: &mut Said,
+    shift: &Shared,
+    pass: &Pass,
+) -> Result<(), Stop> {
+    for _ in 0..2 {
+        match shift.after(rt, alloc, pass, 0, 9) {
+            Ok(made) => {
+                said.number("deltas", made.len());
+                return Ok(());
+            }
+            Err(CallFault::Memory) => said.refuse(),
+            Err(_) => return Err(Stop::Other),
+        }
+    }
+    Err(Stop::Other)
 }

@@ -128,11 +128,13 @@ fn planned<R: Replica>(alloc: Global, table: &Table<R>, word: &str) -> Result<Pl
 
 /// Changes what the gateway knows beside operations.
 fn change(dialogs: &mut Dialogs, changes: Sequence<LocalChange>) -> Result<(), Stop> {
-    if dialogs.prepare(changes.as_slice()).is_err() {
-        return Err(Stop::Memory);
+    match dialogs.prepare(changes.as_slice()) {
+        Ok(()) => {
+            dialogs.commit(changes);
+            Ok(())
+        }
+        Err(_) => Err(Stop::Memory),
     }
-    dialogs.commit(changes);
-    Ok(())
 }
 
 /// Prints what a plan sends, and its operations.
