@@ -6,3 +6,4 @@ pub mod Strangers
 pub mod Apart
 pub mod Unused
 pub mod Gained
+pub mod Crossing
