@@ -6,4 +6,3 @@ pub mod Strangers
 pub mod Apart
 pub mod Unused
 pub mod Gained
-pub mod Crossing

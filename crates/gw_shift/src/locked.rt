@@ -9,6 +9,7 @@ ghost use Rattle.gw_shift.specs.inner.Legal.{IsLegalFrom};
 use super::ended::Ended;
 use super::entry::Entry;
 use super::fault::CallFault;
+use super::first::First;
 use super::gathering::shares;
 use super::pass::Pass;
 use gw_node::{Answer, Node, Out, Step};
@@ -16,7 +17,6 @@ use jr_journal::Disk;
 use rep_model::Replica;
 use rep_ops::Delta;
 use std::alloc::Global;
-use std::snapshot::Snapshot;
 use std::sync::Arc;
 
 /// A node, with what it held when the shift was opened, and the history of its calls since, for
@@ -27,7 +27,7 @@ use std::sync::Arc;
 #[derive(Drop)]
 pub struct Locked<R: Replica, D: Disk> {
     pub(crate) node: Node<R, D>,
-    pub(crate) first: Snapshot<Node<R, D>>,
+    pub(crate) first: First<Node<R, D>>,
     pub(crate) opening: Arc<Vec<Delta>>,
     pub(crate) history: Vec<Entry>,
     pub(crate) steps: u64,

@@ -14,6 +14,7 @@ ghost use Rattle.gw_shift.specs.declared.fault.ShiftFault.TheVariants as refusal
 use super::ended::Ended;
 use super::entry::{Entry, HeldCall};
 use super::fault::{CallFault, ShiftFault};
+use super::first::First;
 use super::gathering::copies;
 use super::locked::Locked;
 use super::pass::{Pass, passes_of};
@@ -22,7 +23,6 @@ use jr_journal::Disk;
 use rep_model::Replica;
 use rep_ops::Delta;
 use std::alloc::Global;
-use std::snapshot::Snapshot;
 use std::sync::{Arc, Mutex, Wait};
 
 /// The most calls of one shift.
@@ -37,7 +37,7 @@ pub struct Shift<R: Replica, D: Disk> {
 /// A locked node with no history yet. It is the node of `first`, which the shift was given.
 fn begun<R: Replica, D: Disk>(
     node: Node<R, D>,
-    first: Snapshot<Node<R, D>>,
+    first: First<Node<R, D>>,
     opening: Arc<Vec<Delta>>,
     history: Vec<Entry>,
     steps: u64,
@@ -75,7 +75,7 @@ impl<R: Replica, D: Disk + Drop> Shift<R, D> {
             × IsHeld (state_of R.kept node).kept opening × (r.1.items ≡ fresh opening passes)) }
         ensures err { IfErr result (λ refused. (refused.0 ≡ node) × (refused.1 ≡ refusals.Memory)) }
     {
-        let first = Snapshot::of(&node);
+        let first = First::of(&node);
         let Ok(held) = node.held(alloc) else {
             return Err((node, ShiftFault::Memory));
         };
