@@ -1,4 +1,5 @@
 -- What proofs stand on and no public clause cites.
 pub mod Calling
 pub mod Closing
+pub mod Legal
 pub mod Passes

@@ -13,6 +13,7 @@
 //! - `ended`: the shift is over (`Ended`), and is closed with its passes (`Closed`).
 //! - `entry`: a call as the history and as a pass have it.
 //! - `locked`: what is under the lock.
+//! - `first`: what it was when the shift was opened, for contracts alone (`First`).
 //! - `gathering`: the deltas that calls made: shares of them are taken under the lock, copies
 //!   outside.
 //! - `closing`: whether passes hold the calls of a history.
@@ -31,6 +32,7 @@ mod closing;
 mod ended;
 mod entry;
 mod fault;
+mod first;
 mod gathering;
 mod laws;
 mod locked;

@@ -4,11 +4,12 @@ ghost use Rattle.std.specs.Prelude.{◌≡◌, ◌≤◌, vec_len, vec_capacity}
 ghost use Rattle.std.specs.Arc.{arc_value};
 ghost use Rattle.gw_node.specs.Parts.{state_of};
 ghost use Rattle.gw_shift.specs.declared.shift.TheConstants.{MAX_STEPS};
-ghost use Rattle.gw_shift.specs.Legal.{IsLegal};
+ghost use Rattle.gw_shift.specs.inner.Legal.{IsLegalFrom};
 
 use super::ended::Ended;
 use super::entry::Entry;
 use super::fault::CallFault;
+use super::first::First;
 use super::gathering::shares;
 use super::pass::Pass;
 use gw_node::{Answer, Node, Out, Step};
@@ -20,17 +21,21 @@ use std::sync::Arc;
 
 /// A node, with what it held when the shift was opened, and the history of its calls since, for
 /// which all room was made then.
+///
+/// `first` is the node as it was when the shift was opened, its disk included. It takes no room.
+/// Nothing but the calls of the history was done to the node since: `legal` says so.
 #[derive(Drop)]
 pub struct Locked<R: Replica, D: Disk> {
     pub(crate) node: Node<R, D>,
+    pub(crate) first: First<Node<R, D>>,
     pub(crate) opening: Arc<Vec<Delta>>,
     pub(crate) history: Vec<Entry>,
     pub(crate) steps: u64,
     pub ghost most: { vec_len history ≤ steps },
     pub ghost room: { steps ≤ vec_capacity history },
     pub ghost few: { steps ≤ MAX_STEPS },
-    pub ghost legal: { ∥ IsLegal (arc_value opening).items history.items
-        (state_of R.kept node) ∥₁ },
+    pub ghost legal: { ∥ IsLegalFrom (state_of R.kept first.value) (arc_value opening).items
+        history.items (state_of R.kept node) ∥₁ },
 }
 
 impl<R: Replica, D: Disk + Drop> Locked<R, D> {
@@ -46,6 +51,7 @@ impl<R: Replica, D: Disk + Drop> Locked<R, D> {
         ensures history { self.new.history.items ≡ self.old.history.items ++ call place
             (arc_value step) (said result.0) ∷ [] }
         ensures second { said result.1 ≡ said result.0 }
+        ensures first { self.new.first.value ≡ self.old.first.value }
         ensures opening { arc_value self.new.opening ≡ arc_value self.old.opening }
         ensures steps { self.new.steps ≡ self.old.steps }
     {
@@ -70,6 +76,7 @@ impl<R: Replica, D: Disk + Drop> Locked<R, D> {
         ensures second { IfOk result (λ r. said r.1 ≡ said r.0) }
         ensures err { IfErr result (λ fault. NotEntered self.old.steps self.old.history.items
             pass.now fault self.new.history.items) }
+        ensures first { self.new.first.value ≡ self.old.first.value }
         ensures opening { arc_value self.new.opening ≡ arc_value self.old.opening }
         ensures steps { self.new.steps ≡ self.old.steps }
     {
@@ -117,6 +124,7 @@ impl<R: Replica, D: Disk + Drop> Locked<R, D> {
     {
         let Locked {
             node,
+            first: _,
             opening,
             history,
             steps: _,

@@ -14,6 +14,7 @@ ghost use Rattle.gw_shift.specs.declared.fault.ShiftFault.TheVariants as refusal
 use super::ended::Ended;
 use super::entry::{Entry, HeldCall};
 use super::fault::{CallFault, ShiftFault};
+use super::first::First;
 use super::gathering::copies;
 use super::locked::Locked;
 use super::pass::{Pass, passes_of};
@@ -33,20 +34,24 @@ pub struct Shift<R: Replica, D: Disk> {
     locked: Mutex<Locked<R, D>>,
 }
 
-/// A locked node with no history yet.
+/// A locked node with no history yet. It is the node of `first`, which the shift was given.
 fn begun<R: Replica, D: Disk>(
     node: Node<R, D>,
+    first: First<Node<R, D>>,
     opening: Arc<Vec<Delta>>,
     history: Vec<Entry>,
     steps: u64,
 ) -> Locked<R, D>
+    requires given { first.value ≡ node }
     requires held { IsHeld (state_of R.kept node).kept (arc_value opening).items }
     requires empty { history.items ≡ [] }
     requires room { steps ≤ vec_capacity history }
     requires few { steps ≤ MAX_STEPS }
+    ensures first { (result.first.value ≡ node) × (result.node ≡ node) }
 {
     Locked {
         node,
+        first,
         opening,
         history,
         steps,
@@ -70,6 +75,7 @@ impl<R: Replica, D: Disk + Drop> Shift<R, D> {
             × IsHeld (state_of R.kept node).kept opening × (r.1.items ≡ fresh opening passes)) }
         ensures err { IfErr result (λ refused. (refused.0 ≡ node) × (refused.1 ≡ refusals.Memory)) }
     {
+        let first = First::of(&node);
         let Ok(held) = node.held(alloc) else {
             return Err((node, ShiftFault::Memory));
         };
@@ -83,7 +89,7 @@ impl<R: Replica, D: Disk + Drop> Shift<R, D> {
             return Err((node, ShiftFault::Memory));
         };
         let shift = Shift {
-            locked: Mutex::new(begun(node, opening, history, steps)),
+            locked: Mutex::new(begun(node, first, opening, history, steps)),
         };
         Ok((shift, all))
     }

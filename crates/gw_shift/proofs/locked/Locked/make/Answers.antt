@@ -16,6 +16,7 @@ invariant_of-self-clause-legal g c =
     _
     _
     _
+    _
     (call c.args.place (arc_value c.args.step) (said first.result.2))
     _
     (does_so
