@@ -1,15 +1,13 @@
 -- A step that brings an id makes a message for each recipient, and answers PUBREC.
-use Rattle.std.proofs.Common.{◌≡◌, ℕ, Bool, true, false, ◌||◌, ◌⊎◌, if◌then◌else◌, List, [], ◌∷◌, ◌++◌, Option, Some, None, Contains, refl, sym, ap, ◌∙◌, subst, true≢false, inl, inr}
+use Rattle.std.proofs.Common.{◌≡◌, ℕ, Bool, true, false, ◌||◌, if◌then◌else◌, List, [], Option, Some, Contains, sym, ap, ◌∙◌, subst, true≢false}
 use Rattle.std.proofs.lemmas.List.Elements.{Contains-push}
 use Rattle.sn_topic.specs.Table.{Entries}
 use Rattle.sn_session.specs.declared.session.Session.{Session}
 use Rattle.sn_session.specs.declared.change.SessionOp.TheVariants.{Received}
 use Rattle.sn_tables.specs.Received.{is_received, id_has_no_room}
-use Rattle.sn_frame.specs.declared.flags.Qos.{Qos}
 use Rattle.sn_frame.specs.declared.flags.Qos.TheVariants as levels
 use Rattle.sn_frame.specs.declared.frame.Frame.{Frame}
 use Rattle.sn_frame.specs.declared.frame.Frame.TheVariants as frames
-use Rattle.sn_frame.specs.FlagBits.{qos_of}
 use Rattle.sn_frame.specs.Grammar.{spelling}
 use Rattle.sn_local.specs.declared.config.Addr.{Addr}
 use Rattle.sn_local.specs.declared.config.Send.{Send}
@@ -23,7 +21,6 @@ use Rattle.sn_plan.specs.Bound.{session_of}
 use Rattle.sn_plan.specs.Drafts.{Drafted, nothing, changed, put_all, sent, moved}
 use Rattle.sn_plan.specs.Own.{messages}
 use Rattle.sn_publish.specs.declared.meaning.Meant.{Meant}
-use Rattle.sn_publish.specs.declared.meaning.Meant.TheVariants.{Topic, Refused}
 use Rattle.sn_publish.specs.Publishing.{publication_meant, publish_meant, publish}
 use Rattle.sn_publish.specs.Recipients.{puts_for}
 use Rattle.sn_exchange.specs.Following.{peer_at, followed_by, deliver_next}
@@ -49,16 +46,20 @@ module _ (g : ℕ) (predefined : Entries) (seen : Seen) (local : Local) (a : Add
   -- the messages of the step are those for the recipients
   pub new-published : IsPublished predefined seen local a new.flags.bits new.topic 2 new.body (messages plan.ops)
   new-published =
-      let puts = puts_for seen new.name 2 new.body in
-      (c, new.name, new.bound, new.about,
-      step-messages g predefined seen local a frame now plan is
-      ∙ (ap (puts_of predefined seen local a) new.is
-      ∙ (ap (λ x. puts_by_level predefined seen bound new.flags.bits new.topic id new.body x) new.at_two
-      ∙ (ap (λ x. puts_bound predefined seen x new.flags.bits new.topic id new.body) new.bound
-      ∙ (ap (λ x. puts_at seen s id new.body x meant) new.at_two
-      ∙ (ap (λ x. puts_at seen s id new.body levels.Two x) new.about
-      ∙ (ap (λ b. if b || id_has_no_room id s.received then [] else puts) new.fresh
-      ∙ ap (λ b. if b then [] else puts) new.room)))))))
+      let puts = puts_for seen new.name 2 new.body in (
+        c,
+        new.name,
+        new.bound,
+        new.about,
+        step-messages g predefined seen local a frame now plan is
+            ∙ (ap (puts_of predefined seen local a) new.is
+            ∙ (ap (λ x. puts_by_level predefined seen bound new.flags.bits new.topic id new.body x) new.at_two
+            ∙ (ap (λ x. puts_bound predefined seen x new.flags.bits new.topic id new.body) new.bound
+            ∙ (ap (λ x. puts_at seen s id new.body x meant) new.at_two
+            ∙ (ap (λ x. puts_at seen s id new.body levels.Two x) new.about
+            ∙ (ap (λ b. if b || id_has_no_room id s.received then [] else puts) new.fresh
+            ∙ ap (λ b. if b then [] else puts) new.room)))))),
+      )
 
   abbrev answer : Send
   answer = record { to = a; bytes = spelling (frames.PubRec id) }

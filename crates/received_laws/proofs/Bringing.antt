@@ -11,7 +11,7 @@ use Rattle.rep_op.specs.declared.op.Stamp.{Stamp}
 use Rattle.rep_op.specs.declared.op.Op.{Op}
 use Rattle.rep_op.specs.declared.op.Op.TheVariants.{Session as OfSession}
 use Rattle.rep_op.specs.Sets.{operation_at}
-use Rattle.rep_model.specs.Views.{visible, gapless, then_more, history_at, history, after_change, session_of, view}
+use Rattle.rep_model.specs.Views.{visible, gapless, then_more, history_at, history, after_change, view}
 use Rattle.sn_local.specs.Seen.{seen_of}
 use Rattle.sn_plan.specs.Bound.{session_of as session_seen}
 use Rattle.gw_node.proofs.Occurring.{operation_occurs}

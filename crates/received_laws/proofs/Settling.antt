@@ -1,5 +1,5 @@
 -- Each operation of a step's plan carries over what the session has received, or the step accepts a PUBLISH with the id.
-use Rattle.std.proofs.Common.{◌≡◌, ℕ, Bool, true, false, ◌⊎◌, nat_le, nat_lt, if◌then◌else◌, List, [], ◌∷◌, ◌++◌, map, fold, Option, Some, None, option_map, Contains, refl, sym, ap, ◌∙◌, subst, inl, inr}
+use Rattle.std.proofs.Common.{◌≡◌, ℕ, Bool, true, false, ◌⊎◌, nat_lt, if◌then◌else◌, List, [], ◌∷◌, ◌++◌, map, Option, Some, None, option_map, refl, sym, ◌∙◌, subst, inl, inr}
 use Rattle.std.specs.List.{AllByRecursion}
 use Rattle.std.proofs.lemmas.Option.{same_Some}
 use Rattle.std.proofs.lemmas.List.Elements.{All-from_recursion, All-contains}
@@ -20,7 +20,7 @@ use Rattle.sn_plan.specs.declared.plan.Plan.{Plan}
 use Rattle.sn_plan.specs.declared.row.Row.{Row}
 use Rattle.sn_plan.specs.declared.row.Follow.TheVariants as follows
 use Rattle.sn_plan.specs.Bound.{session_of}
-use Rattle.sn_plan.specs.Drafts.{Drafted, nothing, changed, put_all, sent, moved}
+use Rattle.sn_plan.specs.Drafts.{Drafted, nothing, put_all, moved}
 use Rattle.sn_plan.specs.Numbering.{Written, another, taken_at, taken, counted, write, written, start_of, ack_of, planned}
 use Rattle.sn_plan.specs.Plans.{plan_of, plan_of_puts, plan_without}
 use Rattle.sn_plan.specs.Rows.{row_of, plan_for}
@@ -33,7 +33,7 @@ use Rattle.sn_tick.specs.Due.{first_due}
 use Rattle.sn_tick.specs.Ticking.{is_old, dialog_ended, dialogs_ended, needs_timer, timer_begun, cleaned, may_advertise, advertised, will_puts, lost, retried, plan_due, plan_if_due, tick}
 use Rattle.row_laws.proofs.Planned.{IsNumbered, puts-behind, planned-parts}
 use Rattle.step_laws.proofs.Keeping.{fold_keeps}
-use Rattle.received_laws.proofs.Bringing.{Brings, HasOne, applied-brings}
+use Rattle.received_laws.proofs.Bringing.{HasOne, applied-brings}
 use Rattle.received_laws.proofs.Carrying.{IsNewPublish, IsCarried, Carried, CarriedFor, CarriedRow, carried-more, row-carried}
 use Rattle.received_laws.proofs.Following.{for-carried}
 
