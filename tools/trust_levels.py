@@ -109,10 +109,12 @@ LEVELS = [
         "`OwnStep` a datagram or a tick, `TakeStep` a delta that comes, `restarted` a stop and a new start. `run` plays events with the "
         "gateway's own code on disks in memory, and `run.ok` ties this whole level to that code. The clauses `event` do so for single "
         "calls, on any disk; `CanBeSaid` has the exceptions, which on the daemon's own disk are all compactions and reopenings. (These "
-        "calls have two more clauses, `call` and `taken`, about the same event: see part 5 of the long form.) The step table and the "
+        "calls have two more clauses, `call` and `taken`: see part 5 of the long form.) The step table and the "
         "bytes of frames, deltas and journals are named and not entered.", "",
         "`consistent` and `never` say that no name has two contents in the whole field, and that no event is answered by Conflict. "
-        "`alike` and `shown` say that two gateways that have taken the same operations have equal sets and show the same.", "",
+        "`alike` and `shown` say that two gateways that have taken the same operations have equal sets and show the same. "
+        "`promise_laws::exchanged_field` says of two that took each other's answers, and nothing since that the other lacks, that they show "
+        "the same.", "",
         "Not said: that `run` ever succeeds. It may always report that memory ran out, and tests show that it does not. An event that "
         "names no gateway or no delta also stops it."], [
         ("field_laws::nothing_vanishes", "grows stays"),
@@ -126,10 +128,12 @@ LEVELS = [
         ("gw_node::Node::compact", "event"),
         ("gw_node::Node::reopen", "event")]),
     ("what a gateway accepts, and why it acknowledges", [
-        "All four laws are about runs. A cause is one of a step, whose plan `IsPlan` of [level 3] gives to the gateway: `seen` is what "
-        "the step table reads of the set, `local` what else the gateway knows, and `a` the address that the frame is from.", "",
+        "`asked_is_served` is about one view, the others are about runs. A cause is one of a step, whose plan `IsPlan` of [level 3] gives to "
+        "the gateway: `seen` is what the step table reads of the set, `local` what else the gateway knows, and `a` the address that the "
+        "frame is from.", "",
         "`made` says of each message of a delta that an answer reports what `puback` says of those of a PUBLISH: of wills too, and at "
-        "quality of service 0 and -1. `only` says that no acknowledgement of it is anywhere in the field without such a cause. "
+        "quality of service 0 and -1. `promise_laws::accepted_stays` says which these are. `only` says that nothing in the field "
+        "acknowledges it without such a cause. "
         "`recipients` and `only` say, in words that the step table does not use, who is one (`qos_for`)."], [
         ("promise_laws::nothing_accepted_vanishes", "puback pubrec made only"),
         ("promise_laws::asked_is_served", "recipients only"),

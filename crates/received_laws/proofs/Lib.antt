@@ -1,0 +1,6 @@
+mod Bringing
+mod Carrying
+mod Following
+mod Settling
+mod Accepting
+mod Tracing

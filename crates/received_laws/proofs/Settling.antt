@@ -1,0 +1,173 @@
+-- Each operation of a step's plan carries over what the session has received, or the step accepts a PUBLISH with the id.
+use Rattle.std.proofs.Common.{◌≡◌, ℕ, Bool, true, false, ◌⊎◌, nat_lt, if◌then◌else◌, List, [], ◌∷◌, ◌++◌, map, Option, Some, None, option_map, refl, sym, ◌∙◌, subst, inl, inr}
+use Rattle.std.specs.List.{AllByRecursion}
+use Rattle.std.proofs.lemmas.Option.{same_Some}
+use Rattle.std.proofs.lemmas.List.Elements.{All-from_recursion, All-contains}
+use Rattle.sn_topic.specs.Table.{Entries}
+use Rattle.sn_session.specs.declared.presence.Presence.TheVariants.{Lost}
+use Rattle.sn_session.specs.declared.session.Session.{Session}
+use Rattle.sn_session.specs.declared.change.SessionOp.{SessionOp}
+use Rattle.sn_session.specs.declared.change.SessionOp.TheVariants.{Take, Presence}
+use Rattle.sn_tables.specs.Received.{is_received}
+use Rattle.sn_frame.specs.declared.frame.Frame.{Frame}
+use Rattle.rep_op.specs.declared.op.Op.{Op}
+use Rattle.rep_op.specs.declared.op.Op.TheVariants.{Session as OfSession, Put as OfPut, Ack}
+use Rattle.sn_local.specs.declared.config.Addr.{Addr}
+use Rattle.sn_local.specs.declared.local.LocalChange.TheVariants.{Heard, EndDialog}
+use Rattle.sn_local.specs.Locals.{Local}
+use Rattle.sn_local.specs.Seen.{Seen}
+use Rattle.sn_plan.specs.declared.plan.Plan.{Plan}
+use Rattle.sn_plan.specs.declared.row.Row.{Row}
+use Rattle.sn_plan.specs.declared.row.Follow.TheVariants as follows
+use Rattle.sn_plan.specs.Bound.{session_of}
+use Rattle.sn_plan.specs.Drafts.{Drafted, nothing, put_all, moved}
+use Rattle.sn_plan.specs.Numbering.{Written, another, taken_at, taken, counted, write, written, start_of, ack_of, planned}
+use Rattle.sn_plan.specs.Plans.{plan_of, plan_of_puts, plan_without}
+use Rattle.sn_plan.specs.Rows.{row_of, plan_for}
+use Rattle.sn_plan.proofs.Lists.{and_then-some, map-some, all-append, all-weaken, all-map}
+use Rattle.sn_exchange.specs.Following.{followed_for, deliver_next}
+use Rattle.sn_deliver.specs.Steps.{row_for, step}
+use Rattle.sn_tick.specs.declared.due.Due.{Due}
+use Rattle.sn_tick.specs.declared.due.Due.TheVariants as dues
+use Rattle.sn_tick.specs.Due.{first_due}
+use Rattle.sn_tick.specs.Ticking.{is_old, dialog_ended, dialogs_ended, needs_timer, timer_begun, cleaned, may_advertise, advertised, will_puts, lost, retried, plan_due, plan_if_due, tick}
+use Rattle.row_laws.proofs.Planned.{IsNumbered, puts-behind, planned-parts}
+use Rattle.step_laws.proofs.Keeping.{fold_keeps}
+use Rattle.received_laws.proofs.Bringing.{HasOne, applied-brings}
+use Rattle.received_laws.proofs.Carrying.{IsNewPublish, IsCarried, Carried, CarriedFor, CarriedRow, carried-more, row-carried}
+use Rattle.received_laws.proofs.Following.{for-carried}
+
+module _ (seen : Seen) (A : List ℕ → ℕ → Type 0) where
+  -- a session operation brings no other id than those that were received, or are accepted
+  abbrev pub IsSettled : Op → Type 0
+  IsSettled (OfSession c stamp counter change) = IsCarried seen A c change
+  IsSettled (OfPut c p) = Unit {0}
+  IsSettled (Ack c origin first last) = Unit {0}
+
+  abbrev pub AreSettled : List Op → Type 0
+  AreSettled ops = AllByRecursion IsSettled ops
+
+  module _ (g : ℕ) (c : List ℕ) where
+    -- the session so far has received no others, and so it is with what is written
+    record Ready (w : Written) : Type 0 where
+      session : IsCarried seen A c (Take w.session)
+      ops : AreSettled w.ops
+
+    another-ready : (change : SessionOp) (w : Written) → IsCarried seen A c change → Ready w → Ready (another c g change w)
+    another-ready change w h r = record {
+      session = λ id e. elim (applied-brings w.session change id e) [ inl new ↦ h id new | inr old ↦ r.session id old ];
+      ops = all-append IsSettled w.ops _ r.ops (h, tt);
+    }
+
+    taken-gives : (session : Session) (w x : Written) → IsCarried seen A c (Take session) → Ready w → taken c g session w ≡ Some x → Ready x
+    taken-gives session w x h r e =
+        let m = map-some (taken_at c g session w) w.next x e in
+        subst Ready m.2 (record { session = h; ops = all-append IsSettled w.ops _ r.ops (h, tt) })
+
+    counted-gives : (change : SessionOp) (w x : Written) → IsCarried seen A c change → Ready w → counted c g change w ≡ Some x → Ready x
+    counted-gives change w x h r e =
+        elim (nat_lt w.counter 256) as (λ b. (if b then Some (another c g change w) else option_map (another c g change) (taken c g w.session w)) ≡ Some x → Ready x) [
+          | true ↦ λ is. subst Ready (same_Some (another c g change w) x is) (another-ready change w h r)
+          | false ↦ λ is.
+              let m = map-some (another c g change) (taken c g w.session w) x is in
+              subst Ready m.2 (another-ready change m.0 h (taken-gives w.session w m.0 r.session r m.1))
+        ] e
+
+    write-gives : (change : SessionOp) (w x : Written) → IsCarried seen A c change → Ready w → write c g change w ≡ Some x → Ready x
+    unfolding write
+    write-gives (Take session) w x h r e = taken-gives session w x h r e
+    write-gives change w x h r e = counted-gives change w x h r e
+
+    written-ready : (changes : List SessionOp) (w x : Written) → AllByRecursion (IsCarried seen A c) changes → Ready w → written c g changes w ≡ Some x → Ready x
+    written-ready [] w x all r e = subst Ready (same_Some w x e) r
+    written-ready (change ∷ rest) w x all r e =
+        let m = and_then-some (written c g rest) (write c g change w) x e in
+        written-ready rest m.0 x all.1 (write-gives change w m.0 all.0 r m.1) m.2
+
+  numbered-settled : (g : ℕ) (seq : List ℕ → Option ℕ) (op : Op) → IsNumbered g seq op → IsSettled op
+  numbered-settled g seq (OfSession c stamp counter change) h = absurd h
+  numbered-settled g seq (OfPut c p) h = tt
+  numbered-settled g seq (Ack c origin first last) h = tt
+
+  module _ (g : ℕ) (plan : Plan) where
+    of-settled : (c : List ℕ) (d : Drafted) → Carried seen A c d → plan_of g c seen d ≡ Some plan → AreSettled plan.ops
+    of-settled c d h e =
+        let parts = planned-parts g c (seen.of c) (seen.epoch c) (λ e. seen.seq e g) d plan e in
+        let before : List Op = parts.w.ops ++ map (ack_of c) d.acks in
+        let b = puts-behind g (λ e. seen.seq e g) d.puts before plan.ops parts.is_numbered in
+        let ready = written-ready g c d.changes (start_of g (seen.of c) (seen.epoch c)) parts.w h (record { session = λ id is. inl is; ops = tt }) parts.is_written in
+        subst AreSettled (sym b.1)
+        (all-append IsSettled before b.0
+        (all-append IsSettled parts.w.ops (map (ack_of c) d.acks) ready.ops (all-map IsSettled (ack_of c) (λ name. tt) d.acks))
+        (all-weaken (IsNumbered g (λ e. seen.seq e g)) IsSettled (numbered-settled g (λ e. seen.seq e g)) b.0 b.2))
+
+    puts-settled : (d : Drafted) → plan_of_puts g seen d ≡ Some plan → AreSettled plan.ops
+    unfolding planned
+    puts-settled d e = of-settled [] (record { changes = []; acks = []; puts = d.puts; sends = d.sends; local = d.local }) tt e
+
+    for-settled : (d : Drafted) (client : Option (List ℕ)) → CarriedFor seen A client d → plan_for g seen d client ≡ Some plan → AreSettled plan.ops
+    for-settled d None h e = puts-settled d e
+    for-settled d (Some c) h e = of-settled c d h e
+
+    next-settled : (predefined : Entries) (a : Addr) (now : ℕ) (row : Row) → CarriedRow seen A row → deliver_next g predefined seen a now row ≡ Some plan → AreSettled plan.ops
+    next-settled predefined a now row h e =
+        for-settled (followed_for predefined seen a now row.draft row.follow row.client) row.client (for-carried seen A predefined a now row.draft row.follow row.client h) e
+
+  -- where the operations have one that brings an id
+  one-settled : (c : List ℕ) (id : ℕ) (ops : List Op) → AreSettled ops → HasOne c id ops → (is_received id (session_of seen c).received ≡ true) ⊎ A c id
+  one-settled c id ops all (stamp, counter, change, there, brings) =
+      All-contains IsSettled ops (OfSession c stamp counter change) (All-from_recursion IsSettled ops all) there id brings
+
+-- ---- a frame
+
+pub step-brings : (g : ℕ) (predefined : Entries) (seen : Seen) (local : Local) (a : Addr) (frame : Frame) (now : ℕ) (plan : Plan) → step g predefined seen local a frame now ≡ Some plan
+    → (c : List ℕ) (id : ℕ) → HasOne c id plan.ops → (is_received id (session_of seen c).received ≡ true) ⊎ IsNewPublish predefined seen local a frame c id
+unfolding step
+step-brings g predefined seen local a frame now plan e c id h =
+    one-settled seen (IsNewPublish predefined seen local a frame) c id plan.ops
+    (next-settled seen (IsNewPublish predefined seen local a frame) g plan predefined a now (row_for g predefined seen local a frame now) (row-carried g predefined seen local a frame now) e) h
+
+-- ---- a tick
+
+-- it accepts no PUBLISH
+abbrev Nobody : List ℕ → ℕ → Type 0
+Nobody c id = ⊥
+
+choose-changes : (b : Bool) (x d : Drafted) → x.changes ≡ d.changes → (if b then x else d).changes ≡ d.changes
+choose-changes true x d e = e
+choose-changes false x d e = refl
+
+cleaned-changes : (g : ℕ) (seen : Seen) (local : Local) (now : ℕ) → (cleaned g seen local now).changes ≡ []
+cleaned-changes g seen local now =
+    fold_keeps (timer_begun g seen local.timers now) (λ (d : Drafted). d.changes) (λ d c. choose-changes (needs_timer g local.timers c (seen.of c)) (moved (Heard c now) d) d refl) seen.all (dialogs_ended now local.dialogs nothing)
+    ∙ fold_keeps (dialog_ended now) (λ (d : Drafted). d.changes) (λ d dialog. choose-changes (is_old now dialog) (moved (EndDialog dialog.request.address) d) d refl) local.dialogs nothing
+
+module _ (g : ℕ) (predefined : Entries) (seen : Seen) (now : ℕ) (plan : Plan) (d : Drafted) (none : d.changes ≡ []) where
+  base : (c : List ℕ) → Carried seen Nobody c d
+  base c = subst (λ (changes : List SessionOp). AllByRecursion (IsCarried seen Nobody c) changes) (sym none) tt
+
+  due-settled : (c : List ℕ) (due : Due) → plan_due g predefined seen now d c due ≡ Some plan → AreSettled seen Nobody plan.ops
+  due-settled c dues.Loss e =
+      of-settled seen Nobody g plan c (lost seen c (session_of seen c) d)
+      (carried-more seen Nobody c (Presence Lost (session_of seen c).duration) (put_all (will_puts seen c (session_of seen c).will) d) (λ id b. absurd b) (base c)) e
+  due-settled c (dues.Retry a) e = next-settled seen Nobody g plan predefined a now (retried now d c) (base c) e
+  due-settled c (dues.Delivery a) e = next-settled seen Nobody g plan predefined a now (row_of follows.Delivery c d) (base c) e
+
+  without-settled : (e : Drafted) → Some (plan_without e) ≡ Some plan → AreSettled seen Nobody plan.ops
+  without-settled e is = subst (λ (p : Plan). AreSettled seen Nobody p.ops) (same_Some (plan_without e) plan is) tt
+
+  if_due-settled : (found : Option (List ℕ × Due)) → plan_if_due g predefined seen now d found ≡ Some plan → AreSettled seen Nobody plan.ops
+  if_due-settled None e = without-settled d e
+  if_due-settled (Some found) e = due-settled found.0 found.1 e
+
+  either-settled : (b : Bool) (told : Drafted) (found : Option (List ℕ × Due)) → (if b then Some (plan_without told) else plan_if_due g predefined seen now d found) ≡ Some plan → AreSettled seen Nobody plan.ops
+  either-settled true told found e = without-settled told e
+  either-settled false told found e = if_due-settled found e
+
+pub tick-brings : (g advertise : ℕ) (field : List Addr) (predefined : Entries) (seen : Seen) (local : Local) (now : ℕ) (plan : Plan) → tick g advertise field predefined seen local now ≡ Some plan
+    → (c : List ℕ) (id : ℕ) → HasOne c id plan.ops → is_received id (session_of seen c).received ≡ true
+tick-brings g advertise field predefined seen local now plan e c id h =
+    let d : Drafted = cleaned g seen local now in
+    let settled = either-settled g predefined seen now plan d (cleaned-changes g seen local now) (may_advertise advertise field now local.advertised)
+    (advertised g advertise field now d) (first_due g seen local now seen.all) e in
+    elim (one-settled seen Nobody c id plan.ops settled h) [ inl had ↦ had | inr none ↦ absurd none ]
