@@ -92,7 +92,8 @@ fn run_beside<T, R, D>(
     over: &Stage,
 ) -> Result<(), Stop>
 where
-    T: Threads + Wait + Sync + Clock + Print + Net<Listener = TcpListener, Stream = TcpStream>,
+    T: Threads + Wait + Sync + Clock + Print + Eprint,
+    T: Net<Listener = TcpListener, Stream = TcpStream>,
     R: Replica + Send,
     R::Staged: Send,
     D: Disk + Drop + Send,
