@@ -636,7 +636,7 @@ def ask_all_of(gateway: Gateway, last: bytes) -> int:
     """A link asks for all that is there, and hears this body. How many octets it was told."""
     got = b""
     with socket.create_connection((HOST, gateway.link), 5) as link:
-        link.settimeout(20)
+        link.settimeout(60)
         link.sendall(message_of(1, b"\xc8") + message_of(2, b"\x01\x00\x00\x00\x00"))
         while last not in got[-100_000:]:
             more = link.recv(65536)
