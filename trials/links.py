@@ -13,6 +13,7 @@ The parts, all where none is named:
   mute    a connection that says no number is told a number alone, and no digest
   pieces  the answer to a digest, of some 400,000 octets, comes in deltas of 65,536 octets at most
   lines   two gateways of one number, a contradiction and a ninth peer are told by a line of standard error each
+  numbers of two gateways that dial the one is linked that the settings name, and a line tells of the other
   asks    a peer that asks each half second for all that is there is answered four times in 35 seconds at most
 
 All but the first goes on at 127.0.0.1, at ports that the system gives, in a folder that is gone afterwards. Status 0 only where nothing failed.
@@ -267,7 +268,24 @@ def lines(program: str, folder: str) -> str:
     return "three lines"
 
 
-PARTS = {"far": far, "places": places, "gone": gone, "busy": busy, "knock": knock, "mute": mute, "pieces": pieces, "lines": lines,
+def numbers(program: str, folder: str) -> str:
+    """A gateway links with those alone that its settings name."""
+    ports = free_ports(6)
+    with Gateway(program, folder, 1, (ports[0], ports[1]), numbers="[2]") as here, \
+            Gateway(program, folder, 2, (ports[2], ports[3]), peers=f"[{at_port(ports[1])}]") as friend, \
+            Gateway(program, folder, 3, (ports[4], ports[5]), peers=f"[{at_port(ports[1])}]") as stranger:
+        for gateway in (here, friend, stranger):
+            gateway.start()
+        sleeps_at(here, b"s-here")
+        friend.await_octets(b"s-here", 10)
+        time.sleep(3)
+        expect(b"s-here" not in stranger.held(), "a gateway was linked that is not among numbers")
+        told = here.told()
+    expect(told.startswith("link: gateway 3 is not among numbers, and is not linked: 1 times\n"), f"told {told!r}")
+    return "one of two"
+
+
+PARTS = {"far": far, "places": places, "gone": gone, "busy": busy, "knock": knock, "mute": mute, "pieces": pieces, "lines": lines, "numbers": numbers,
          "asks": asks}
 
 

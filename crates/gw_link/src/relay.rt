@@ -2,7 +2,7 @@
 
 use crate::calling::End;
 use crate::trouble::{Report, Tally, Trouble, count_one, report_of};
-use gw_relay::{Name, brings_news, brings_unnoted, may_answer, name_of, replaces};
+use gw_relay::{Name, brings_news, brings_unnoted, may_answer, may_link, name_of, replaces};
 use gw_shift::gw_node::{Out, Step};
 use octets::NoMemory;
 use rep_ops::{Delta, Op};
@@ -52,6 +52,8 @@ struct Answered {
 
 #[derive(Drop)]
 struct Board {
+    /// The gateways that may be linked: all, where none is named.
+    numbers: Vec<u8>,
     /// What the gateway had when its digest was last worked out.
     known: Option<Arc<Out>>,
     /// What it made and took since.
@@ -80,10 +82,12 @@ pub struct Relay {
 }
 
 impl Relay {
-    /// No link is open, and nothing is known.
-    pub fn new(alloc: Global) -> Relay {
+    /// No link is open, and nothing is known. These gateways may be linked: all, where none is
+    /// named.
+    pub fn new(alloc: Global, numbers: Vec<u8>) -> Relay {
         Relay {
             board: Mutex::new(Board {
+                numbers,
                 known: None,
                 notes: Vec::new(alloc),
                 made: 0,
@@ -103,6 +107,12 @@ impl Relay {
     pub fn begin_shift<T: Wait>(&self, rt: &T) {
         let mut board = self.board.lock(rt);
         board.made = 0;
+    }
+
+    /// Whether a gateway may be linked.
+    pub(crate) fn may_link<T: Wait>(&self, rt: &T, number: u8) -> bool {
+        let board = self.board.lock(rt);
+        may_link(board.numbers.as_slice(), number)
     }
 
     /// The other end of a link has said its number: from now on what is handed on goes there too.

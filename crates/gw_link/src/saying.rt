@@ -224,6 +224,10 @@ fn introduce<T: Wait + Clock, S: Drop>(
     let Some(other) = link.other else {
         return Ok(false);
     };
+    if !relay.may_link(rt, other) {
+        relay.note_trouble(rt, Trouble::Stranger, other);
+        return Err(End::Lost);
+    }
     let place = take_place(rt, link, other, relay)?;
     let Some(changes) = relay.changes(rt, place) else {
         return Err(End::Lost);

@@ -13,6 +13,8 @@ use gw_shift::gw_node::NodeFault;
 pub enum Trouble {
     /// The other end of a link has the number of this gateway.
     SameNumber,
+    /// The other end of a link has a number that may not be linked.
+    Stranger,
     /// A gateway told what contradicts what is kept.
     Conflict,
     /// A gateway told more than may be kept.

@@ -1,5 +1,5 @@
 -- To whom a delta goes on.
-use Rattle.std.specs.Prelude.{ℕ, ◌==◌, Bool, ◌&&◌, not, List}
+use Rattle.std.specs.Prelude.{ℕ, ◌==◌, Bool, ◌&&◌, ◌||◌, not, List, length}
 use Rattle.std.specs.List.{list_any}
 
 -- whether a gateway is among others
@@ -10,3 +10,7 @@ is_among gateway others = list_any (λ other. other == gateway) others
 -- and has no link with the first
 abbrev pub goes_on : ℕ → ℕ → List ℕ → Bool
 goes_on giver other linked = not (giver == other) && not (is_among giver linked)
+
+-- whether a gateway may be linked, where these may: all, if none is named
+abbrev pub may_link : List ℕ → ℕ → Bool
+may_link numbers number = (length numbers == 0) || is_among number numbers

@@ -10,3 +10,10 @@ pub fn goes_on(giver: u8, other: u8, linked: &[u8]) -> bool
 {
     giver != other && !linked.contains(&giver)
 }
+
+/// Whether a gateway may be linked, where these may: all, if none is named.
+pub fn may_link(numbers: &[u8], number: u8) -> bool
+    ensures { result ≡ spec.may_link numbers.now number }
+{
+    numbers.is_empty() || numbers.contains(&number)
+}

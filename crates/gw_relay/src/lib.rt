@@ -5,7 +5,7 @@
 //!
 //! - `name`: the name of an operation, without what it says (`Name`).
 //! - `news`: whether a delta has an operation that is not known yet (`brings_news`).
-//! - `going`: to which link it goes on (`goes_on`).
+//! - `going`: to which link it goes on (`goes_on`), and who may be linked (`may_link`).
 //! - `pausing`: how long is waited: for an answer to a digest (`may_answer`), for a word
 //!   (`is_quiet`, `is_gone`), for a dial (`next_pause`), for a line (`is_to_tell`); and which link
 //!   ends another (`replaces`).
@@ -24,7 +24,7 @@ mod news;
 mod pausing;
 mod sizes;
 
-pub use going::goes_on;
+pub use going::{goes_on, may_link};
 pub use laws::reaches_all;
 pub use name::{Name, name_of};
 pub use news::{brings_news, brings_unnoted, is_covered, is_known, is_noted};

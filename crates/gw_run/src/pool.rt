@@ -33,8 +33,13 @@ pub struct Pool<S: Drop> {
 }
 
 impl<S: Drop> Pool<S> {
-    /// No link is open. `None` where memory ran out.
-    pub fn new(alloc: Global, peers: usize) -> Option<Pool<S>> {
+    /// No link is open. These gateways may be linked: all, where none is named. `None` where memory
+    /// ran out.
+    pub fn new(alloc: Global, peers: usize, numbers: &[u8]) -> Option<Pool<S>> {
+        let mut allowed = Vec::new(alloc);
+        if allowed.extend_from_slice(numbers).is_err() {
+            return None;
+        }
         let mut dialled = Vec::new(alloc);
         let mut spoken = Vec::new(alloc);
         for _ in 0..peers {
@@ -50,7 +55,7 @@ impl<S: Drop> Pool<S> {
                 spoken,
                 accepted: 0,
             }),
-            relay: Relay::new(alloc),
+            relay: Relay::new(alloc, allowed),
             ticked: AtomicU64::new(0),
         })
     }

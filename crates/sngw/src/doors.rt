@@ -195,6 +195,9 @@ fn tell<T: Eprint>(rt: &T, report: Report) {
         Trouble::SameNumber => eprintln!(rt;
             "link: another gateway has the number {number} of this one, and is not linked: {count} times"
         ),
+        Trouble::Stranger => eprintln!(rt;
+            "link: gateway {number} is not among numbers, and is not linked: {count} times"
+        ),
         Trouble::Conflict => eprintln!(rt;
             "link: gateway {number} told what contradicts what is kept, and was refused: {count} times"
         ),

@@ -46,7 +46,7 @@ where
     if listener.set_nonblocking(true).is_err() {
         return Err(Stop::Socket);
     }
-    let Some(pool) = Pool::new(alloc, settings.peers.len()) else {
+    let Some(pool) = Pool::new(alloc, settings.peers.len(), settings.numbers.as_slice()) else {
         return Err(Stop::Memory);
     };
     let Some(mut doors) = doors_of(alloc, settings) else {
