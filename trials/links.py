@@ -15,6 +15,7 @@ The parts, all where none is named:
   lines   two gateways of one number, a contradiction and a ninth peer are told by a line of standard error each
   numbers of two gateways that dial the one is linked that the settings name, and a line tells of the other
   asks    a peer that asks each half second for all that is there is answered four times in 35 seconds at most
+  memory  memory is refused for an answer of some 20 MB: that link is closed, clients are served, and once there is memory all is answered
 
 All but the first goes on at 127.0.0.1, at ports that the system gives, in a folder that is gone afterwards. Status 0 only where nothing failed.
 """
@@ -245,6 +246,53 @@ def pieces(program: str, folder: str) -> str:
     return f"{len(sizes)} deltas of up to {max(sizes)} octets"
 
 
+def heard(gateway: Gateway, count: int, seconds: float) -> tuple:
+    """How many messages a link hears that asks for all, up to so many; and whether it was closed before."""
+    with socket.create_connection((HOST, gateway.link), 5) as link:
+        link.sendall(HELLO + ASK_ALL)
+        found, rest, end = 0, b"", time.monotonic() + seconds
+        while found < count and time.monotonic() < end:
+            if select.select([link], [], [], 0.2)[0]:
+                try:
+                    more = link.recv(65536)
+                except ConnectionError:
+                    more = b""
+                if not more:
+                    return found, True
+                rest += more
+                found += rest.count(b"<much")
+                rest = rest[-4:]
+    return found, False
+
+
+def memory(program: str, folder: str) -> str:
+    """Bodies are shared in memory, and written out for each client in an answer: 100 clients, each with 100 messages of 2,000 octets."""
+    ports, bodies = free_ports(2), [(b"<much %06d>" % place).ljust(2000, b".") for place in range(100)]
+    with Gateway(program, folder, 7, (ports[0], ports[1])) as gateway:
+        gateway.start()
+        for place in range(100):
+            sleeps_at(gateway, b"s-%d" % place)
+        with Client(b"p-much", gateway) as publisher:
+            publisher.connect(clean=True)
+            for place, body in enumerate(bodies):
+                publisher.ask(publish(b"ow", body, place + 1), published(b"ow", place + 1))
+        gateway.kill()
+        gateway.start()
+        gateway.limit_memory(12_582_912)
+        found, closed = heard(gateway, 10_000, 30)
+        time.sleep(0.5)
+        gateway.alive()
+        expect(found == 0 and closed, f"{found} messages came, and the link was {'' if closed else 'not '}closed: was memory refused?")
+        with Client(b"s-0", gateway) as sleeper:
+            got = sleeper.wake(60)
+        expect(len(set(got)) == len(bodies), f"a sleeper got {len(set(got))} messages of {len(bodies)}")
+        gateway.free_memory()
+        time.sleep(10)
+        found, closed = heard(gateway, 9_900, 60)
+    expect(found == 9_900, f"{found} messages were answered of 9,900")
+    return "closed, and then all answered"
+
+
 def lines(program: str, folder: str) -> str:
     """Delta: a Take of client s1 under stamp 1.200, and the same with another duration."""
     ports, take = free_ports(2), "0100000001 01 027331 0000000000000001 c8 00 0000 01 %s 0001 0000000000000000"
@@ -286,7 +334,7 @@ def numbers(program: str, folder: str) -> str:
 
 
 PARTS = {"far": far, "places": places, "gone": gone, "busy": busy, "knock": knock, "mute": mute, "pieces": pieces, "lines": lines, "numbers": numbers,
-         "asks": asks}
+         "asks": asks, "memory": memory}
 
 
 def main() -> int:

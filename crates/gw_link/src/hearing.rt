@@ -203,14 +203,24 @@ pub(crate) fn answer<T: Wait + Clock, R: Replica, D: Disk + Drop, S: Drop>(
         return (pass, Err(End::Lost));
     };
     let (pass, heard) = hear(rt, alloc, shift, pass, link, step, stage, relay);
-    if heard.is_ok() {
-        link.asked = None;
-        relay.note_answer(rt, link.other.unwrap_or(0), second);
-    }
     match heard {
-        Ok(()) => (pass, Ok(())),
-        Err(end) => (pass, Err(alone(end))),
+        Err(End::Full) => (pass, Err(End::Full)),
+        Ok(()) => {
+            note_tried(rt, link, relay, second);
+            (pass, Ok(()))
+        }
+        Err(end) => {
+            note_tried(rt, link, relay, second);
+            (pass, Err(alone(end)))
+        }
     }
+}
+
+/// The digest that came was answered in this second, or could not be: who asks again at once waits
+/// in either case.
+fn note_tried<T: Wait, S: Drop>(rt: &T, link: &mut Link<S>, relay: &Relay, second: u64) {
+    link.asked = None;
+    relay.note_answer(rt, link.other.unwrap_or(0), second);
 }
 
 /// The second of the clock that nobody sets.
