@@ -12,6 +12,7 @@ The parts, all where none is named:
   knock   for a minute a peer takes calls and closes them: the gateway dials it less than ten times, and its memory hardly grows
   mute    a connection that says no number is told a number alone, and no digest
   pieces  the answer to a digest, of some 400,000 octets, comes in deltas of 65,536 octets at most
+  breaks  a link that breaks each 1.5 MB brings an answer of 6 MB all the same, within 90 seconds, and nothing twice but what broke off
   lines   two gateways of one number, a contradiction and a ninth peer are told by a line of standard error each
   numbers of two gateways that dial the one is linked that the settings name, and a line tells of the other
   asks    a peer that asks each half second for all that is there is answered four times in 35 seconds at most
@@ -32,7 +33,7 @@ import threading
 import time
 
 sys.dont_write_bytecode = True
-from gateway import HOST, Client, Failed, Gateway, at_port, expect, free_ports, publish, published, subscribe
+from gateway import HOST, Client, Failed, Gateway, at_port, expect, free_ports, publish, published, subscribe, until
 
 NEAR, FAR, DEVICE = "10.78.0.1", "10.78.0.2", "nimhazel-far"
 
@@ -70,6 +71,45 @@ class Distance:
         self.over = True
         time.sleep(0.5)
         os.close(self.device)
+
+
+class Cut:
+    """A way to an address that breaks as soon as so many octets came back over it."""
+
+    def __init__(self, port: int, most: int):
+        self.port, self.most, self.calls, self.octets = port, most, 0, 0
+        self.listener = socket.create_server((HOST, 0))
+        self.at = self.listener.getsockname()[1]
+        threading.Thread(target=self.accept, daemon=True).start()
+
+    def accept(self) -> None:
+        while True:
+            try:
+                here, _ = self.listener.accept()
+                there = socket.create_connection((HOST, self.port), 5)
+            except OSError:
+                return
+            self.calls += 1
+            self.carry(here, there)
+
+    def carry(self, here: socket.socket, there: socket.socket) -> None:
+        left = self.most
+        with here, there:
+            try:
+                while left > 0:
+                    for one in select.select([here, there], [], [])[0]:
+                        octets = one.recv(min(65536, left))
+                        if not octets:
+                            return
+                        (there if one is here else here).sendall(octets)
+                        if one is there:
+                            left -= len(octets)
+                            self.octets += len(octets)
+            except OSError:
+                return
+
+    def close(self) -> None:
+        self.listener.close()
 
 
 def sleeps_at(gateway: Gateway, name: bytes) -> None:
@@ -265,19 +305,25 @@ def heard(gateway: Gateway, count: int, seconds: float) -> tuple:
     return found, False
 
 
+def fill(gateway: Gateway, clients: int, messages: int) -> None:
+    """So many clients sleep, and so many messages of 2,000 octets wait for each. Then the gateway is started again, and has made nothing since."""
+    gateway.start()
+    for place in range(clients):
+        sleeps_at(gateway, b"s-%d" % place)
+    with Client(b"p-much", gateway) as publisher:
+        publisher.connect(clean=True)
+        for place in range(messages):
+            body = (b"<much %06d>" % place).ljust(2000, b".")
+            publisher.ask(publish(b"ow", body, place + 1), published(b"ow", place + 1))
+    gateway.kill()
+    gateway.start()
+
+
 def memory(program: str, folder: str) -> str:
     """Bodies are shared in memory, and written out for each client in an answer: 100 clients, each with 100 messages of 2,000 octets."""
-    ports, bodies = free_ports(2), [(b"<much %06d>" % place).ljust(2000, b".") for place in range(100)]
+    ports = free_ports(2)
     with Gateway(program, folder, 7, (ports[0], ports[1])) as gateway:
-        gateway.start()
-        for place in range(100):
-            sleeps_at(gateway, b"s-%d" % place)
-        with Client(b"p-much", gateway) as publisher:
-            publisher.connect(clean=True)
-            for place, body in enumerate(bodies):
-                publisher.ask(publish(b"ow", body, place + 1), published(b"ow", place + 1))
-        gateway.kill()
-        gateway.start()
+        fill(gateway, 100, 100)
         gateway.limit_memory(12_582_912)
         found, closed = heard(gateway, 10_000, 30)
         time.sleep(0.5)
@@ -285,12 +331,27 @@ def memory(program: str, folder: str) -> str:
         expect(found == 0 and closed, f"{found} messages came, and the link was {'' if closed else 'not '}closed: was memory refused?")
         with Client(b"s-0", gateway) as sleeper:
             got = sleeper.wake(60)
-        expect(len(set(got)) == len(bodies), f"a sleeper got {len(set(got))} messages of {len(bodies)}")
+        expect(len(set(got)) == 100, f"a sleeper got {len(set(got))} messages of 100")
         gateway.free_memory()
         time.sleep(10)
         found, closed = heard(gateway, 9_900, 60)
     expect(found == 9_900, f"{found} messages were answered of 9,900")
     return "closed, and then all answered"
+
+
+def breaks(program: str, folder: str) -> str:
+    """60 clients, each with 50 messages of 2,000 octets, at a gateway that made nothing since its start."""
+    ports, wanted = free_ports(4), 60 * 50
+    with Gateway(program, folder, 1, (ports[0], ports[1])) as full:
+        fill(full, 60, 50)
+        way, began = Cut(full.link, 1_500_000), time.monotonic()
+        with Gateway(program, folder, 2, (ports[2], ports[3]), peers=f"[{at_port(way.at)}]") as empty:
+            empty.start()
+            until(lambda: max(slot.count(b"<much") for slot in empty.slots()) >= wanted, 90, f"{wanted} messages did not come to the journal", 0.5)
+        way.close()
+    said = f"{time.monotonic() - began:.0f} seconds, {way.calls} links, {way.octets} octets"
+    expect(way.octets < 12_000_000, said)
+    return said
 
 
 def lines(program: str, folder: str) -> str:
@@ -333,8 +394,8 @@ def numbers(program: str, folder: str) -> str:
     return "one of two"
 
 
-PARTS = {"far": far, "places": places, "gone": gone, "busy": busy, "knock": knock, "mute": mute, "pieces": pieces, "lines": lines, "numbers": numbers,
-         "asks": asks, "memory": memory}
+PARTS = {"far": far, "places": places, "gone": gone, "busy": busy, "knock": knock, "mute": mute, "pieces": pieces, "breaks": breaks, "lines": lines,
+         "numbers": numbers, "asks": asks, "memory": memory}
 
 
 def main() -> int:
