@@ -8,7 +8,7 @@ ghost use Rattle.gw_link.specs.inner.Calling as spec;
 use crate::calling::{End, call, dropped};
 use crate::link::{Heard, Link};
 use crate::outgoing::is_nothing;
-use crate::relay::{Relay, weight};
+use crate::relay::{Relay, weight, weight_of_digest};
 use crate::saying::say_answer;
 use crate::stage::Stage;
 use crate::trouble::trouble_of;
@@ -296,6 +296,7 @@ fn note_refusal<T: Wait, S: Drop>(rt: &T, link: &Link<S>, relay: &Relay, fault: 
 fn octets_of(step: &Step) -> usize {
     match step {
         Step::Take { delta } => weight(delta.ops()),
+        Step::Answer { digest } => weight_of_digest(digest),
         _ => 0,
     }
 }

@@ -5,6 +5,7 @@ use crate::trouble::{Report, Tally, Trouble, count_one, report_of};
 use gw_relay::{Name, brings_news, brings_unnoted, may_answer, may_link, name_of, replaces};
 use gw_shift::gw_node::{Out, Step};
 use octets::NoMemory;
+use rep_digest::{ClientEntry, Digest};
 use rep_ops::{Delta, Op};
 use std::alloc::Global;
 use std::collections::VecDeque;
@@ -313,6 +314,25 @@ pub(crate) fn weight(ops: &[Op]) -> usize {
             Op::Put { put, .. } => put.body.len().saturating_add(128),
             _ => 128,
         });
+    }
+    octets
+}
+
+/// Some measure of the octets of a digest.
+pub(crate) fn weight_of_digest(digest: &Digest) -> usize {
+    let mut octets = 0usize;
+    for entry in digest.entries() {
+        octets = octets.saturating_add(weight_of_entry(entry));
+    }
+    octets
+}
+
+/// Some measure of the octets of what a digest says of a client.
+fn weight_of_entry(entry: &ClientEntry) -> usize {
+    let mut octets = 64usize;
+    for said in entry.origins.as_slice() {
+        let ranges = said.acknowledged.len().saturating_add(said.waiting.len());
+        octets = octets.saturating_add(ranges.saturating_mul(16).saturating_add(64));
     }
     octets
 }

@@ -7,7 +7,7 @@ use crate::calling::{End, call, dropped};
 use crate::hearing::second_of;
 use crate::link::Link;
 use crate::outgoing::{is_behind, say, say_spelled, spelled};
-use crate::relay::Relay;
+use crate::relay::{Relay, weight_of_digest};
 use crate::stage::Stage;
 use crate::trouble::Trouble;
 use gw_net::LinkMessage;
@@ -310,7 +310,8 @@ fn has_lost<S: Drop>(link: &Link<S>, linked: &[u8]) -> bool {
     false
 }
 
-/// Says the digest where that is due. A gateway whose digest would be too large says none.
+/// Says the digest where that is due. A gateway whose digest would be too large says none. The
+/// history keeps it in either case.
 fn say_greeting<T: Wait, S: Drop>(
     rt: &T,
     alloc: Global,
@@ -319,15 +320,24 @@ fn say_greeting<T: Wait, S: Drop>(
     relay: &Relay,
     out: Option<Arc<Out>>,
 ) -> Result<(), End> {
-    let before = link.behind;
     if is_due(link) {
         link.greeted = true;
         link.repeats = 0;
         say_digest_of(alloc, link, &out)?;
     }
-    stage.keep(rt, link.behind.saturating_sub(before));
+    stage.keep(rt, octets_of_digest(&out));
     relay.learn(rt, out);
     Ok(())
+}
+
+/// Some measure of the octets of the digest that was worked out, if it was.
+fn octets_of_digest(out: &Option<Arc<Out>>) -> usize {
+    if let Some(out) = out.as_ref() {
+        if let Some(digest) = out.digest.as_ref() {
+            return weight_of_digest(digest);
+        }
+    }
+    0
 }
 
 /// Says the digest that was worked out, if it was.
