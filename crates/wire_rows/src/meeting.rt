@@ -135,11 +135,7 @@ pub(crate) fn meet<T: Wait + Clock>(
 }
 
 /// A gateway of this number on an empty disk, without a link.
-fn side_of<'a, T: Wait>(
-    alloc: Global,
-    text: &mut String,
-    number: u8,
-) -> Result<Side<'a, T>, Stop> {
+fn side_of<'a, T: Wait>(alloc: Global, text: &mut String, number: u8) -> Result<Side<'a, T>, Stop> {
     let mut toml = String::new(alloc);
     writeln!(toml, "gateway = {number}")?;
     toml.push_str("listen = \"127.0.0.1:1\"\nlink = \"127.0.0.1:2\"\njournal = \"j\"\n")?;
@@ -170,20 +166,12 @@ fn join<'a, T: Wait>(
     let one = Tie {
         other: dialled.number,
         place: near,
-        link: Some(Link::new(
-            alloc,
-            Pipe::new(rt, alloc, near, far),
-            Origin::Dialled(0),
-        )),
+        link: Some(Link::new(alloc, Pipe::new(rt, alloc, near, far), Origin::Dialled(0))),
     };
     let other = Tie {
         other: dialler.number,
         place: far,
-        link: Some(Link::new(
-            alloc,
-            Pipe::new(rt, alloc, far, near),
-            Origin::Accepted,
-        )),
+        link: Some(Link::new(alloc, Pipe::new(rt, alloc, far, near), Origin::Accepted)),
     };
     put_last(dialler, one)?;
     put_last(dialled, other)
