@@ -16,6 +16,7 @@ The parts, all where none is named:
   lines   two gateways of one number, a contradiction and a ninth peer are told by a line of standard error each
   numbers of two gateways that dial the one is linked that the settings name, and a line tells of the other
   asks    a peer that asks each half second for all that is there is answered four times in 35 seconds at most
+  bound   a peer that tells the same megabyte 64 times ends three shifts at least: none keeps more for links than 16 MiB and one call
   memory  memory is refused for an answer of some 20 MB: that link is closed, clients are served, and once there is memory all is answered
 
 All but the first goes on at 127.0.0.1, at ports that the system gives, in a folder that is gone afterwards. Status 0 only where nothing failed.
@@ -354,6 +355,26 @@ def breaks(program: str, folder: str) -> str:
     return said
 
 
+def bound(program: str, folder: str) -> str:
+    """250 messages of 4,000 octets for client s1, put by gateway 200. From the second time on they change nothing."""
+    body = b"." * 4000
+    puts = [b"\x02\x02s1\xc8" + place.to_bytes(8, "big") + b"\x00\x02ow\x01" + len(body).to_bytes(2, "big") + body for place in range(1, 251)]
+    delta = message(3, b"\x01" + len(puts).to_bytes(4, "big") + b"".join(puts))
+    with Gateway(program, folder, 7) as gateway:
+        gateway.start()
+        before = gateway.memory()
+        with socket.create_connection((HOST, gateway.link), 5) as link:
+            link.settimeout(60)
+            link.sendall(HELLO)
+            for _ in range(64):
+                link.sendall(delta)
+            time.sleep(2)
+            said = f"{len(gateway.shifts())} shifts were closed, and VmRSS grew by {(gateway.memory() - before) // 1024} MiB"
+            expect(gateway.held().count(body) >= len(puts), "the delta was refused")
+    expect(len(gateway.shifts()) >= 3, said)
+    return said
+
+
 def lines(program: str, folder: str) -> str:
     """Delta: a Take of client s1 under stamp 1.200, and the same with another duration."""
     ports, take = free_ports(2), "0100000001 01 027331 0000000000000001 c8 00 0000 01 %s 0001 0000000000000000"
@@ -395,7 +416,7 @@ def numbers(program: str, folder: str) -> str:
 
 
 PARTS = {"far": far, "places": places, "gone": gone, "busy": busy, "knock": knock, "mute": mute, "pieces": pieces, "breaks": breaks, "lines": lines,
-         "numbers": numbers, "asks": asks, "memory": memory}
+         "numbers": numbers, "asks": asks, "bound": bound, "memory": memory}
 
 
 def main() -> int:
