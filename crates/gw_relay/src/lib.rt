@@ -13,8 +13,8 @@
 //! - `laws`: in a connected field whose links stay up a delta reaches every gateway.
 //!
 //! The definitions are in `specs/`: `News` (what is known of operations), `Going` (to whom a delta
-//! goes on), `Pausing` (how long is waited),
-//! `Sizes` (how much is said at once, and kept), `Fields` (links, and who took a delta from whom).
+//! goes on, and who may be linked), `Pausing` (how long is waited), `Sizes` (how much is said at
+//! once, and kept), `Fields` (links, and who took a delta from whom).
 #![tactic(auto)]
 
 mod going;
