@@ -18,6 +18,7 @@ use gw_shift::gw_node::{NodeFault, Out, Step};
 use gw_shift::{Pass, Shift};
 use jr_disk::Disk;
 use rep_model::Replica;
+use rep_ops::Delta;
 use std::alloc::Global;
 use std::io::Read;
 use std::sync::{Arc, Wait};
@@ -325,7 +326,27 @@ fn follow<T: Wait, S: Drop>(
     if let Some(step) = news {
         relay.hand_on(rt, alloc, link.other.unwrap_or(0), step);
     }
-    let octets = say_answer(alloc, link, out.answer.as_slice())?;
+    let octets = weight_of_answer(out.answer.as_slice());
     stage.keep(rt, octets);
+    look_for_room(alloc, octets)?;
+    say_answer(alloc, link, out.answer.as_slice())
+}
+
+/// Whether there is room for so many octets, asked for at once: where there is none, nothing is
+/// taken of what is left, which the other threads need.
+fn look_for_room(alloc: Global, octets: usize) -> Result<(), End> {
+    let mut room: Vec<u8> = Vec::new(alloc);
+    if octets > 0 && room.reserve(octets).is_err() {
+        return Err(End::Memory);
+    }
     Ok(())
+}
+
+/// Some measure of the octets of an answer.
+fn weight_of_answer(deltas: &[Delta]) -> usize {
+    let mut octets = 0usize;
+    for delta in deltas {
+        octets = octets.saturating_add(weight(delta.ops()));
+    }
+    octets
 }

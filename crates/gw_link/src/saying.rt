@@ -69,22 +69,23 @@ fn say_digest<S: Drop>(alloc: Global, link: &mut Link<S>, digest: &Digest) -> Re
     say(alloc, link, &LinkMessage::Digest(digest))
 }
 
-/// Says what the other end lacks, in pieces, and how many octets that takes. Nothing else is to go
-/// out then, where that is anything: its octets do not count among those that wait.
+/// Says what the other end lacks, in pieces. Nothing else is to go out then, where that is
+/// anything: its octets do not count among those that wait.
 pub(crate) fn say_answer<S: Drop>(
     alloc: Global,
     link: &mut Link<S>,
     deltas: &[Delta],
-) -> Result<usize, End> {
+) -> Result<(), End> {
     if deltas.is_empty() {
-        return Ok(0);
+        return Ok(());
     }
     let mut pieces = 0usize;
     for delta in deltas {
         pieces = pieces.saturating_add(say_pieces(alloc, link, delta.ops())?);
     }
     link.answering = pieces;
-    Ok(std::mem::replace(&mut link.behind, 0))
+    link.behind = 0;
+    Ok(())
 }
 
 /// Says operations in pieces, and how many these are: each that went out is taken by itself, so
