@@ -126,6 +126,7 @@ BAD = {
     "predefined": ["1", "[1]", '["a"]', "[{ id = 1 }]", '[{ topic = "a" }]', '[{ id = 0, topic = "a" }]', '[{ id = 65535, topic = "a" }]',
                    '[{ id = 1, topic = "a" }, { id = 1, topic = "b" }]', '[{ id = 1, topic = "" }]', '[{ id = 1, topic = "a/#" }]',
                    f'[{{ id = 1, topic = "{"a" * 257}" }}]', '[{ id = "1", topic = "a" }]'],
+    "numbers": ["1", '["1"]', "[0]", "[256]", "[1, 1.0]"],
 }
 
 
@@ -636,7 +637,7 @@ def ask_all_of(gateway: Gateway, last: bytes) -> int:
     """A link asks for all that is there, and hears this body. How many octets it was told."""
     got = b""
     with socket.create_connection((HOST, gateway.link), 5) as link:
-        link.settimeout(20)
+        link.settimeout(60)
         link.sendall(message_of(1, b"\xc8") + message_of(2, b"\x01\x00\x00\x00\x00"))
         while last not in got[-100_000:]:
             more = link.recv(65536)

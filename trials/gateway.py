@@ -224,6 +224,16 @@ class Gateway:
         resource.prlimit(self.process.pid, resource.RLIMIT_FSIZE, (room, resource.RLIM_INFINITY))
         self.room = room
 
+    def limit_memory(self, more: int) -> None:
+        """The system gives the process that runs so many octets more at most."""
+        with open(f"/proc/{self.process.pid}/statm", encoding="ascii") as text:
+            pages = int(text.read().split()[0])
+        resource.prlimit(self.process.pid, resource.RLIMIT_AS, (pages * resource.getpagesize() + more, resource.RLIM_INFINITY))
+
+    def free_memory(self) -> None:
+        """The system gives the process what it asks for."""
+        resource.prlimit(self.process.pid, resource.RLIMIT_AS, (resource.RLIM_INFINITY, resource.RLIM_INFINITY))
+
     def make_room(self) -> None:
         """The disk is not full any more."""
         resource.prlimit(self.process.pid, resource.RLIMIT_FSIZE, (resource.RLIM_INFINITY, resource.RLIM_INFINITY))

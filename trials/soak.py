@@ -1,9 +1,9 @@
 #!/usr/bin/env python3
 """Tries a field of linked daemons for a long time: random clients, links that are cut, gateways that are killed, disks that are full.
 
-Usage: trials/soak.py PROGRAM MINUTES [--seed N] [--gateways N] [--look PROGRAM] [--steps N] [--patience N] [--keep FOLDER] [--older]
+Usage: trials/soak.py PROGRAM MINUTES [--seed N] [--gateways N] [--look PROGRAM] [--steps N] [--patience N] [--keep FOLDER] [--older] [--chain]
 
-Each pair of gateways has a link, by way of a proxy that can be cut. In rounds of 20 to 100 seconds clients connect, sleep, wake at other
+Each pair of gateways has a link, by way of a proxy that can be cut; with --chain each gateway is linked with the next alone. In rounds of 20 to 100 seconds clients connect, sleep, wake at other
 gateways and publish at every quality of service, while links are cut, gateways are killed by `kill -9` and started again on their
 journals, processes stand still, and there is no room for a journal. Of the datagrams of clients some are lost and some come twice. Behind
 each round all is mended, the subscribers fetch what waits for them, and it is looked at what came. A line is printed each minute. Status 0
@@ -560,9 +560,10 @@ class Field:
         self.ways, self.gateways, self.due, self.away, self.full, self.still = {}, [], [], set(), {}, set()
         self.older = options.older
         for place in range(options.gateways):
-            for other in range(place + 1, options.gateways):
+            for other in range(place + 1, place + 2 if options.chain and place + 1 < options.gateways else options.gateways):
                 # a ring: the last one dials the first
-                dialler, dialled = (other, place) if (place, other) == (0, options.gateways - 1) else (place, other)
+                turned = (place, other) == (0, options.gateways - 1) and not options.chain
+                dialler, dialled = (other, place) if turned else (place, other)
                 self.ways[dialler, dialled] = Way(ports[2 * dialled + 1], self.chance)
         for place in range(options.gateways):
             peers = ", ".join(at_port(way.port) for (dialler, _), way in self.ways.items() if dialler == place)
@@ -845,6 +846,7 @@ def options_of() -> argparse.Namespace:
     reader.add_argument("--patience", type=float, default=1)
     reader.add_argument("--look", default="")
     reader.add_argument("--older", action="store_true")
+    reader.add_argument("--chain", action="store_true")
     reader.add_argument("--keep", default="")
     return reader.parse_args()
 

@@ -3,20 +3,26 @@
 ghost use Rattle.std.specs.Prelude.{◌≡◌, true};
 ghost use Rattle.std.specs.Arc.{arc_value};
 ghost use Rattle.gw_link.specs.Adding.{Adds, is_of_link};
+ghost use Rattle.gw_link.specs.inner.Calling as spec;
 
 use crate::calling::{End, call, dropped};
 use crate::link::{Heard, Link};
 use crate::outgoing::is_nothing;
+use crate::relay::{Relay, weight, weight_of_digest};
 use crate::saying::say_answer;
 use crate::stage::Stage;
+use crate::trouble::trouble_of;
 use gw_net::{LinkFault, LinkMessage};
-use gw_shift::gw_node::Step;
+use gw_relay::is_gone;
+use gw_shift::gw_node::{NodeFault, Out, Step};
 use gw_shift::{Pass, Shift};
 use jr_disk::Disk;
 use rep_model::Replica;
+use rep_ops::Delta;
 use std::alloc::Global;
 use std::io::Read;
 use std::sync::{Arc, Wait};
+use std::time::Clock;
 
 /// How often a read may find nothing before the other end has said its number: some ten seconds.
 const MOST_SILENCE: u32 = 1_000;
@@ -31,29 +37,42 @@ enum Said {
     Tells(Heard),
 }
 
-/// Reads what has come, where anything does within the stream's time.
+/// Reads what has come, where anything does within the stream's time. It is this second now.
 pub(crate) fn listen<S: Read + Drop>(
     alloc: Global,
     link: &mut Link<S>,
     piece: &mut [u8],
+    second: u64,
 ) -> Result<(), End> {
     match link.stream.read(piece) {
         Ok(0) => Err(End::Lost),
-        Ok(size) => take_in(alloc, link, &piece[..size]),
-        Err(error) if is_nothing(&error) => wait_on(link),
+        Ok(size) => {
+            link.heard = Some(second);
+            take_in(alloc, link, &piece[..size])
+        }
+        Err(error) if is_nothing(&error) => wait_on(link, second),
         Err(_) => Err(End::Lost),
     }
 }
 
 /// Nothing came. An end that does not say its number for too long is given up: it keeps another
-/// from its place. A link that is mute is at an end.
-fn wait_on<S: Drop>(link: &mut Link<S>) -> Result<(), End> {
+/// from its place. So is one of which nothing was heard for longer than it would be silent. A link
+/// that is mute is at an end.
+fn wait_on<S: Drop>(link: &mut Link<S>, second: u64) -> Result<(), End> {
     if link.mute {
         return Err(End::Lost);
     }
     link.silence = link.silence.saturating_add(1);
     if link.other.is_none() && link.silence > MOST_SILENCE {
         return Err(End::Lost);
+    }
+    match link.heard {
+        None => link.heard = Some(second),
+        Some(heard) => {
+            if is_gone(heard, second) {
+                return Err(End::Lost);
+            }
+        }
     }
     Ok(())
 }
@@ -79,7 +98,7 @@ fn wait_all<S: Drop>(
 ) -> Result<(), End> {
     for message in messages {
         match heard(alloc, message)? {
-            Said::Number(number) => link.other = Some(number),
+            Said::Number(number) => take_number(link, number)?,
             Said::Asks(asked) => link.asked = Some(asked),
             Said::Tells(told) => {
                 if link.waiting.push_back(told).is_err() {
@@ -89,6 +108,28 @@ fn wait_all<S: Drop>(
         }
     }
     Ok(())
+}
+
+/// The first number is that of the other end. Any other is a gateway that it is linked with; where
+/// it says its own again, those are said anew.
+fn take_number<S: Drop>(link: &mut Link<S>, number: u8) -> Result<(), End> {
+    match link.other {
+        None => link.other = Some(number),
+        Some(other) if other == number => link.linked.clear(),
+        Some(_) => {
+            add_once(&mut link.linked, number)?;
+            add_once(&mut link.ever, number)?;
+        }
+    }
+    Ok(())
+}
+
+/// Puts a number behind others, unless it is among them.
+fn add_once(numbers: &mut Vec<u8>, number: u8) -> Result<(), End> {
+    if numbers.as_slice().contains(&number) || numbers.push(number).is_ok() {
+        return Ok(());
+    }
+    Err(End::Memory)
 }
 
 /// What a message says, as the call that it asks for. A number asks for none.
@@ -107,7 +148,8 @@ fn heard(alloc: Global, message: LinkMessage) -> Result<Said, End> {
 }
 
 /// Takes the deltas that came. What the gateway refuses is dropped, also where it is halted; where
-/// the shift has had all its calls the rest waits for the next one.
+/// the shift has had all its calls the rest waits for the next one. Before both ends have said who
+/// they are, nothing is heard but that.
 #[tactic(auto, using(crate::proofs::Adding::adds_more, crate::proofs::Adding::adds_none))]
 pub(crate) fn hear_all<T: Wait, R: Replica, D: Disk + Drop, S: Drop>(
     rt: &T,
@@ -116,6 +158,7 @@ pub(crate) fn hear_all<T: Wait, R: Replica, D: Disk + Drop, S: Drop>(
     pass: Pass,
     link: &mut Link<S>,
     stage: &Stage,
+    relay: &Relay,
 ) -> (Pass, Result<(), End>)
     ensures { Adds is_of_link pass result.0 }
 {
@@ -127,7 +170,7 @@ pub(crate) fn hear_all<T: Wait, R: Replica, D: Disk + Drop, S: Drop>(
         let Ok(step) = first.step.clone() else {
             return (pass, Err(End::Memory));
         };
-        let (after, heard) = hear(rt, alloc, shift, pass, link, step, stage);
+        let (after, heard) = hear(rt, alloc, shift, pass, link, step, stage, relay);
         pass = after;
         if let Err(end) = heard {
             return (pass, Err(end));
@@ -137,36 +180,80 @@ pub(crate) fn hear_all<T: Wait, R: Replica, D: Disk + Drop, S: Drop>(
     unreachable!()
 }
 
-/// Answers the digest that came, once what was said so far went out, and once a shift: who asks and
-/// does not listen, or asks and asks, is not answered without end.
-pub(crate) fn answer<T: Wait, R: Replica, D: Disk + Drop, S: Drop>(
+/// Answers the digest that came, once what was said so far went out, and for each gateway once in
+/// some seconds: who asks and does not listen, or asks and asks, is not answered without end.
+pub(crate) fn answer<T: Wait + Clock, R: Replica, D: Disk + Drop, S: Drop>(
     rt: &T,
     alloc: Global,
     shift: &Shift<R, D>,
     pass: Pass,
     link: &mut Link<S>,
     stage: &Stage,
+    relay: &Relay,
 ) -> (Pass, Result<(), End>)
     ensures { Adds is_of_link pass result.0 }
 {
-    if link.answered || !link.is_told() {
+    let second = second_of(rt);
+    if !may_answer(rt, link, relay, second) {
         return (pass, Ok(()));
     }
     let Some(asked) = link.asked.as_ref() else {
         return (pass, Ok(()));
     };
     let Ok(step) = asked.step.clone() else {
-        return (pass, Err(End::Memory));
+        return (pass, Err(End::Lost));
     };
-    let (pass, heard) = hear(rt, alloc, shift, pass, link, step, stage);
-    if heard.is_ok() {
-        link.asked = None;
-        link.answered = true;
+    let (pass, heard) = hear(rt, alloc, shift, pass, link, step, stage, relay);
+    match heard {
+        Err(End::Full) => (pass, Err(End::Full)),
+        Ok(()) => {
+            note_tried(rt, link, relay, second);
+            (pass, Ok(()))
+        }
+        Err(end) => {
+            note_tried(rt, link, relay, second);
+            (pass, Err(alone(end)))
+        }
     }
-    (pass, heard)
 }
 
-/// Hears one message.
+/// The digest that came was answered in this second, or could not be: who asks again at once waits
+/// in either case.
+fn note_tried<T: Wait, S: Drop>(rt: &T, link: &mut Link<S>, relay: &Relay, second: u64) {
+    link.asked = None;
+    relay.note_answer(rt, link.other.unwrap_or(0), second);
+}
+
+/// The second of the clock that nobody sets.
+pub(crate) fn second_of<T: Clock>(rt: &T) -> u64 {
+    match rt.monotonic() {
+        Ok(since) => since.as_secs(),
+        Err(_) => 0,
+    }
+}
+
+/// Whether a digest that came may be answered now.
+fn may_answer<T: Wait, S: Drop>(rt: &T, link: &Link<S>, relay: &Relay, second: u64) -> bool {
+    match link.other {
+        None => false,
+        Some(other) => {
+            link.asked.is_some() && link.is_told() && relay.may_answer(rt, other, second)
+        }
+    }
+}
+
+/// How a link ends where an answer could not be given. Want of memory for an answer ends this link
+/// and nothing else: who asks for less is answered, and so is this one once there is more.
+fn alone(end: End) -> End
+    ensures { result ≡ spec.alone end }
+{
+    match end {
+        End::Memory => End::Lost,
+        other => other,
+    }
+}
+
+/// Hears one message. A delta that brings what is new here is handed on.
 fn hear<T: Wait, R: Replica, D: Disk + Drop, S: Drop>(
     rt: &T,
     alloc: Global,
@@ -175,23 +262,91 @@ fn hear<T: Wait, R: Replica, D: Disk + Drop, S: Drop>(
     link: &mut Link<S>,
     step: Arc<Step>,
     stage: &Stage,
+    relay: &Relay,
 ) -> (Pass, Result<(), End>)
     requires { is_of_link (arc_value step) ≡ true }
     ensures { Adds is_of_link pass result.0 }
 {
+    let news = match news_of(rt, &step, relay) {
+        Ok(news) => news,
+        Err(end) => return (pass, Err(end)),
+    };
+    stage.keep(rt, octets_of(&step));
     let (pass, answered) = call(rt, alloc, shift, pass, step, stage);
     match answered {
         Err(end) => (pass, Err(end)),
-        Ok(Err(fault)) => match dropped(&fault) {
-            Ok(()) => (pass, Ok(())),
-            Err(_) => (pass, Err(End::Memory)),
-        },
-        Ok(Ok(out)) => match say_answer(alloc, link, out.answer.as_slice()) {
-            Err(end) => (pass, Err(end)),
-            Ok(octets) => {
-                stage.keep(rt, octets);
-                (pass, Ok(()))
+        Ok(Err(fault)) => {
+            note_refusal(rt, link, relay, &fault);
+            match dropped(&fault) {
+                Ok(()) => (pass, Ok(())),
+                Err(_) => (pass, Err(End::Memory)),
             }
-        },
+        }
+        Ok(Ok(out)) => (pass, follow(rt, alloc, link, stage, relay, news, &out)),
     }
+}
+
+/// Notes a refusal that an operator should hear of.
+fn note_refusal<T: Wait, S: Drop>(rt: &T, link: &Link<S>, relay: &Relay, fault: &NodeFault) {
+    if let Some(trouble) = trouble_of(fault) {
+        relay.note_trouble(rt, trouble, link.other.unwrap_or(0));
+    }
+}
+
+/// How many octets the history keeps of what comes, some more or less.
+fn octets_of(step: &Step) -> usize {
+    match step {
+        Step::Take { delta } => weight(delta.ops()),
+        Step::Answer { digest } => weight_of_digest(digest),
+        _ => 0,
+    }
+}
+
+/// A share of what comes, where it brings anything that is new here.
+fn news_of<T: Wait>(rt: &T, step: &Arc<Step>, relay: &Relay) -> Result<Option<Arc<Step>>, End> {
+    if !relay.is_news(rt, step) {
+        return Ok(None);
+    }
+    match step.clone() {
+        Ok(share) => Ok(Some(share)),
+        Err(_) => Err(End::Memory),
+    }
+}
+
+/// What follows on what was heard: news are handed on, and what the other end lacks is said.
+fn follow<T: Wait, S: Drop>(
+    rt: &T,
+    alloc: Global,
+    link: &mut Link<S>,
+    stage: &Stage,
+    relay: &Relay,
+    news: Option<Arc<Step>>,
+    out: &Arc<Out>,
+) -> Result<(), End> {
+    if let Some(step) = news {
+        relay.hand_on(rt, alloc, link.other.unwrap_or(0), step);
+    }
+    let octets = weight_of_answer(out.answer.as_slice());
+    stage.keep(rt, octets);
+    look_for_room(alloc, octets)?;
+    say_answer(alloc, link, out.answer.as_slice())
+}
+
+/// Whether there is room for so many octets, asked for at once: where there is none, nothing is
+/// taken of what is left, which the other threads need.
+fn look_for_room(alloc: Global, octets: usize) -> Result<(), End> {
+    let mut room: Vec<u8> = Vec::new(alloc);
+    if octets > 0 && room.reserve(octets).is_err() {
+        return Err(End::Memory);
+    }
+    Ok(())
+}
+
+/// Some measure of the octets of an answer.
+fn weight_of_answer(deltas: &[Delta]) -> usize {
+    let mut octets = 0usize;
+    for delta in deltas {
+        octets = octets.saturating_add(weight(delta.ops()));
+    }
+    octets
 }

@@ -1,6 +1,6 @@
 //! A link that is open.
 
-ghost use Rattle.std.specs.Prelude.{◌≡◌, false, true};
+ghost use Rattle.std.specs.Prelude.{◌≡◌, true};
 ghost use Rattle.std.specs.Arc.{arc_value};
 ghost use Rattle.gw_link.specs.Adding.{is_of_link};
 
@@ -38,10 +38,24 @@ pub struct Link<S: Drop> {
     pub(crate) waiting: VecDeque<Heard>,
     /// The last digest that came and was not answered yet.
     pub(crate) asked: Option<Heard>,
-    /// A digest was answered in this shift.
-    pub answered: bool,
     /// The number of the other end, where it has said it.
     pub(crate) other: Option<u8>,
+    /// The gateways that the other end has said that it is linked with.
+    pub(crate) linked: Vec<u8>,
+    /// The same, with those that it was linked with before.
+    pub(crate) ever: Vec<u8>,
+    /// The gateways that this end has said that it is linked with.
+    pub(crate) said: Vec<u8>,
+    /// How often a link had come or gone when it said so.
+    pub(crate) changes: u64,
+    /// The place among the links of a `Relay`, once the other end has said its number.
+    pub place: Option<u64>,
+    /// This end has said its number.
+    pub(crate) named: bool,
+    /// The second in which it last did.
+    pub(crate) spoke: u64,
+    /// The second in which octets last came, or it was first listened.
+    pub(crate) heard: Option<u64>,
     /// How often a read found nothing: before that, and since this end has last said its number.
     pub(crate) silence: u32,
     /// How often this end has said its number again since it last said its digest.
@@ -75,8 +89,15 @@ impl<S: Drop> Link<S> {
             incoming: LinkIn::new(),
             waiting: VecDeque::new(alloc),
             asked: None,
-            answered: false,
             other: None,
+            linked: Vec::new(alloc),
+            ever: Vec::new(alloc),
+            said: Vec::new(alloc),
+            changes: 0,
+            place: None,
+            named: false,
+            spoke: 0,
+            heard: None,
             silence: 0,
             repeats: 0,
             failed: false,
@@ -91,6 +112,14 @@ impl<S: Drop> Link<S> {
         }
     }
 
+    /// Whether the other end made the connection.
+    pub(crate) fn is_accepted(&self) -> bool {
+        match self.origin {
+            Origin::Accepted => true,
+            Origin::Dialled(_) => false,
+        }
+    }
+
     /// Whether all that was said went out.
     pub(crate) fn is_told(&self) -> bool {
         self.outgoing.is_empty()
@@ -100,9 +129,7 @@ impl<S: Drop> Link<S> {
     pub fn begin_shift(&mut self)
         ensures origin { self.new.origin ≡ self.old.origin }
         ensures told { self.new.told ≡ 0 }
-        ensures answered { self.new.answered ≡ false }
     {
         self.told = 0;
-        self.answered = false;
     }
 }

@@ -54,10 +54,22 @@ pub(crate) fn say<S: Drop>(
 ) -> Result<(), End>
     requires { IsNumbered message.now }
 {
+    say_spelled(link, spelled(alloc, message)?)
+}
+
+/// The octets of a message. The number of a hello is not 0.
+pub(crate) fn spelled(alloc: Global, message: &LinkMessage) -> Result<Vec<u8>, End>
+    requires { IsNumbered message.now }
+{
     let mut octets = Vec::new(alloc);
     if link_out(alloc, &mut octets, message).is_err() {
         return Err(End::Memory);
     }
+    Ok(octets)
+}
+
+/// Puts the octets of a message behind those that are to go out.
+pub(crate) fn say_spelled<S: Drop>(link: &mut Link<S>, octets: Vec<u8>) -> Result<(), End> {
     let size = octets.len();
     if link.outgoing.push_back(octets).is_err() {
         return Err(End::Memory);

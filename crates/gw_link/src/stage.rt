@@ -1,5 +1,6 @@
 //! How far a shift is.
 
+use gw_relay::is_much;
 use std::sync::atomic::{AtomicU64, Ordering};
 use std::sync::{Condvar, CondvarTimeouts, Mutex, Wait};
 use std::time::{Clock, Duration};
@@ -25,14 +26,10 @@ pub struct Stage {
     steps: u64,
     /// How often one was asked for.
     claims: AtomicU64,
-    /// How many octets of answers to other gateways, and of digests that were said again, its
-    /// history keeps.
+    /// How many octets of answers to other gateways, of digests and of what these told its history
+    /// keeps.
     kept: AtomicU64,
 }
-
-/// How many octets of such answers and digests a shift's history may keep before the shift is to
-/// end. A peer whose disk fails asks for the same again and again.
-const MOST_KEPT: u64 = 16_777_216;
 
 impl Stage {
     /// The begin of a shift of so many calls, of which so many are claimed.
@@ -61,11 +58,11 @@ impl Stage {
         self.claims.load(Ordering::SeqCst) >= self.steps
     }
 
-    /// The history keeps such an answer or digest of so many octets. Where it keeps more of them
-    /// than it should, the shift is to end.
+    /// The history keeps such an answer, digest or delta of so many octets. Where it keeps more of
+    /// them than it should, the shift is to end.
     pub(crate) fn keep<T: Wait>(&self, rt: &T, octets: usize) {
         let before = self.kept.fetch_add(octets as u64, Ordering::SeqCst);
-        if before.saturating_add(octets as u64) > MOST_KEPT {
+        if is_much(before.saturating_add(octets as u64)) {
             self.close(rt);
         }
     }

@@ -3,10 +3,11 @@
 ghost use Rattle.gw_link.specs.Adding.{Adds, is_of_link};
 
 use crate::calling::End;
-use crate::hearing::{answer, hear_all, listen};
+use crate::hearing::{answer, hear_all, listen, second_of};
 use crate::link::Link;
 use crate::outgoing::pump;
-use crate::saying::{greet, tell_all};
+use crate::relay::Relay;
+use crate::saying::{greet, hand_all, tell_all};
 use crate::stage::{Phase, Stage};
 use gw_shift::{Pass, Shift};
 use jr_disk::Disk;
@@ -32,13 +33,14 @@ pub fn talk<T: Wait + Clock, R: Replica, D: Disk + Drop, S: Read + Write + Drop>
     gateway: u8,
     piece: &mut [u8],
     stage: &Stage,
+    relay: &Relay,
 ) -> (Pass, End)
     ensures { Adds is_of_link pass result.0 }
 {
     let mut pass = pass;
     for _ in rt.forever() {
         let phase = stage.phase(rt);
-        let (after, turned) = take_turn(rt, alloc, shift, pass, link, gateway, stage, phase);
+        let (after, turned) = take_turn(rt, alloc, shift, pass, link, gateway, stage, phase, relay);
         pass = after;
         if let Err(end) = wait_or_listen(rt, alloc, link, piece, stage, phase, turned) {
             return (pass, end);
@@ -50,7 +52,7 @@ pub fn talk<T: Wait + Clock, R: Replica, D: Disk + Drop, S: Read + Write + Drop>
 /// Hears what has come, and tells what is new: once what was said before went out, or at the
 /// shift's end.
 #[tactic(auto, using(crate::proofs::Adding::adds_more, crate::proofs::Adding::adds_none))]
-fn take_turn<T: Wait, R: Replica, D: Disk + Drop, S: Write + Drop>(
+fn take_turn<T: Wait + Clock, R: Replica, D: Disk + Drop, S: Write + Drop>(
     rt: &T,
     alloc: Global,
     shift: &Shift<R, D>,
@@ -59,12 +61,13 @@ fn take_turn<T: Wait, R: Replica, D: Disk + Drop, S: Write + Drop>(
     gateway: u8,
     stage: &Stage,
     phase: Phase,
+    relay: &Relay,
 ) -> (Pass, Result<(), End>)
     ensures { Adds is_of_link pass result.0 }
 {
-    let (pass, heard) = hear_in_turn(rt, alloc, shift, pass, link, gateway, stage);
+    let (pass, heard) = hear_in_turn(rt, alloc, shift, pass, link, gateway, stage, relay);
     match heard {
-        Ok(()) | Err(End::Full) => match tell(rt, alloc, shift, &pass, link, phase) {
+        Ok(()) | Err(End::Full) => match tell(rt, alloc, shift, &pass, link, phase, relay) {
             Ok(()) => (pass, heard),
             Err(end) => (pass, Err(end)),
         },
@@ -75,7 +78,7 @@ fn take_turn<T: Wait, R: Replica, D: Disk + Drop, S: Write + Drop>(
 /// Says who this is, takes the deltas that came, and answers the digest that did. A link that is
 /// mute only takes deltas.
 #[tactic(auto, using(crate::proofs::Adding::adds_more, crate::proofs::Adding::adds_none))]
-fn hear_in_turn<T: Wait, R: Replica, D: Disk + Drop, S: Drop>(
+fn hear_in_turn<T: Wait + Clock, R: Replica, D: Disk + Drop, S: Drop>(
     rt: &T,
     alloc: Global,
     shift: &Shift<R, D>,
@@ -83,21 +86,25 @@ fn hear_in_turn<T: Wait, R: Replica, D: Disk + Drop, S: Drop>(
     link: &mut Link<S>,
     gateway: u8,
     stage: &Stage,
+    relay: &Relay,
 ) -> (Pass, Result<(), End>)
     ensures { Adds is_of_link pass result.0 }
 {
     if link.mute {
-        return hear_all(rt, alloc, shift, pass, link, stage);
+        return hear_all(rt, alloc, shift, pass, link, stage, relay);
     }
-    let (pass, greeted) = greet(rt, alloc, shift, pass, link, gateway, stage);
+    let (pass, greeted) = greet(rt, alloc, shift, pass, link, gateway, stage, relay);
     if greeted.is_err() {
         return (pass, greeted);
     }
-    let (pass, heard) = hear_all(rt, alloc, shift, pass, link, stage);
+    if !link.greeted {
+        return (pass, Ok(()));
+    }
+    let (pass, heard) = hear_all(rt, alloc, shift, pass, link, stage, relay);
     if heard.is_err() {
         return (pass, heard);
     }
-    answer(rt, alloc, shift, pass, link, stage)
+    answer(rt, alloc, shift, pass, link, stage, relay)
 }
 
 /// Tells what is new, where that is due, and lets go out what the stream takes. A stream that took
@@ -109,13 +116,15 @@ fn tell<T: Wait, R: Replica, D: Disk + Drop, S: Write + Drop>(
     pass: &Pass,
     link: &mut Link<S>,
     phase: Phase,
+    relay: &Relay,
 ) -> Result<(), End> {
-    // a link begins with its greeting; the answer to the peer's digest has what was made before
-    if !link.greeted || link.mute {
+    if link.mute {
         return Ok(());
     }
-    if link.is_told() || phase == Phase::Quiet {
-        tell_all(rt, alloc, shift, pass, link)?;
+    // a link begins with its greeting; the answer to the peer's digest has what was made before
+    if link.greeted && (link.is_told() || phase == Phase::Quiet) {
+        tell_all(rt, alloc, shift, pass, link, relay)?;
+        hand_all(rt, alloc, link, relay)?;
     }
     if phase == Phase::Quiet && link.stalls > 0 {
         return Ok(());
@@ -136,7 +145,7 @@ fn wait_or_listen<T: Wait + Clock, S: Read + Drop>(
     match turned {
         Ok(()) | Err(End::Full) if phase == Phase::Quiet => Err(End::Full),
         Ok(()) if link.failed => Err(End::Lost),
-        Ok(()) => listen(alloc, link, piece),
+        Ok(()) => listen(alloc, link, piece, second_of(rt)),
         Err(End::Full) => {
             stage.close(rt);
             stage.wait(rt, Phase::Closing, A_MOMENT);

@@ -64,6 +64,10 @@ entry_from members =
 abbrev pub entry_item : Data → Option (ℕ × List ℕ)
 entry_item found = option_and_then entry_from (as_table found)
 
+-- an item that is a gateway's number
+abbrev pub number_item : Data → Option ℕ
+number_item found = number_in 1 255 None (Some found)
+
 -- entries none of whose ids is reserved or occurs twice
 abbrev pub table_from : Entries → Option Entries
 table_from entries = if is_table entries then Some entries else None
@@ -114,6 +118,10 @@ peers_in members = list_in address_item (at keys.Peers members)
 abbrev pub predefined_in : Members → Option Entries
 predefined_in members = option_and_then table_from (list_in entry_item (at keys.Predefined members))
 
+-- the gateways that may be linked; none if it is not said
+abbrev pub numbers_in : Members → Option (List ℕ)
+numbers_in members = list_in number_item (at keys.Numbers members)
+
 -- ---- the whole
 
 -- the settings hold what the document says of each key, or the key's default
@@ -128,6 +136,7 @@ pub record Says (members : Members) (settings : Settings) : Type 0 where
   pub field : field_in members ≡ Some settings.field.items
   pub peers : peers_in members ≡ Some settings.peers.items
   pub predefined : predefined_in members ≡ Some settings.predefined
+  pub numbers : numbers_in members ≡ Some settings.numbers.items
 
 -- the key, if nothing was read, else what is found after it
 abbrev pub or_else : {A : Type 0} → Option A → Key → Option Key → Option Key
@@ -147,7 +156,8 @@ first_bad members =
     (or_else (advertise_in members) keys.Advertise
     (or_else (field_in members) keys.Field
     (or_else (peers_in members) keys.Peers
-    (or_else (predefined_in members) keys.Predefined None)))))))))
+    (or_else (predefined_in members) keys.Predefined
+    (or_else (numbers_in members) keys.Numbers None))))))))))
 
 -- the text is a document that says these settings
 abbrev pub IsRead : List ℕ → Settings → Type 0

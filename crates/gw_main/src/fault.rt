@@ -42,6 +42,10 @@ pub enum Key {
     /// The predefined topic ids: tables with `id` and `topic`, or else none.
     #[error("predefined")]
     Predefined,
+    /// The gateways that may be linked: whole numbers from 1 to 255, or else none are named, and
+    /// all may.
+    #[error("numbers")]
+    Numbers,
 }
 
 impl Key {
@@ -60,6 +64,7 @@ impl Key {
             Key::Field => "field",
             Key::Peers => "peers",
             Key::Predefined => "predefined",
+            Key::Numbers => "numbers",
         }
     }
 }

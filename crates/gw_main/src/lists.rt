@@ -58,6 +58,52 @@ pub(crate) fn addresses_at(
     }
 }
 
+/// The number of a gateway that a value is.
+fn number_item(value: &Value) -> Option<u8>
+    ensures { result ≡ spec.number_item (view value.now) }
+{
+    match number_in(Some(value), 1, 255, None) {
+        None => None,
+        Some(number) => Some(number as u8),
+    }
+}
+
+/// The numbers of a list.
+#[tactic(auto, using(crate::proofs::Items::goes_on, crate::proofs::Items::stops, crate::proofs::Items::begins, crate::proofs::Items::ends))]
+fn numbers(alloc: Global, items: &[Value], key: Key) -> Result<Vec<u8>, SettingsFault>
+    ensures ok { IfOk result
+        (λ all. each spec.number_item (items_view items.now) ≡ Some all.items) }
+    ensures err { IfErr result (IsBadAt (each spec.number_item (items_view items.now)) key) }
+{
+    let mut all = Vec::new(alloc);
+    let mut left = items;
+    'items: while let Some((item, rest)) = left.split_first() {
+        let Some(number) = number_item(item) else {
+            return Err(SettingsFault::Key(key));
+        };
+        if all.reserve(1).is_err() {
+            return Err(SettingsFault::Memory);
+        }
+        all.push_reserved(number);
+        left = rest;
+    }
+    Ok(all)
+}
+
+/// The numbers of the gateways that may be linked; none where the key is not there.
+pub(crate) fn numbers_at(alloc: Global, table: &Table) -> Result<Vec<u8>, SettingsFault>
+    ensures ok { IfOk result (λ all. spec.numbers_in (table_view table.now) ≡ Some all.items) }
+    ensures err { IfErr result (IsBadAt (spec.numbers_in (table_view table.now)) keys.Numbers) }
+{
+    match found(table, Key::Numbers.name()) {
+        None => Ok(Vec::new(alloc)),
+        Some(value) => match value.as_array() {
+            None => Err(SettingsFault::Key(Key::Numbers)),
+            Some(items) => numbers(alloc, items.as_slice(), Key::Numbers),
+        },
+    }
+}
+
 /// A text as the name of a topic, where it is one.
 #[tactic(auto, using(crate::proofs::Naming::named, crate::proofs::Naming::empty, crate::proofs::Naming::too_long, crate::proofs::Naming::wild))]
 fn named(alloc: Global, text: &[u8]) -> Result<Option<TopicName>, NoMemory>

@@ -26,4 +26,6 @@ pub struct Settings {
     pub peers: Vec<Addr>,
     /// The predefined topic ids.
     pub predefined: Predefined,
+    /// The gateways that may be linked: all, where none is named.
+    pub numbers: Vec<u8>,
 }

@@ -7,7 +7,7 @@ ghost use Rattle.gw_main.specs.inner.Reading.{IsBad};
 
 use super::fault::{Key, SettingsFault};
 use super::keys::{address_at, number_at, text_at};
-use super::lists::{addresses_at, predefined_at};
+use super::lists::{addresses_at, numbers_at, predefined_at};
 use super::options::Settings;
 use gw_shift::MAX_STEPS;
 use std::alloc::Global;
@@ -49,6 +49,7 @@ fn settings_of(alloc: Global, table: &Table) -> Result<Settings, SettingsFault>
     let field = addresses_at(alloc, table, Key::Field)?;
     let peers = addresses_at(alloc, table, Key::Peers)?;
     let predefined = predefined_at(alloc, table)?;
+    let numbers = numbers_at(alloc, table)?;
     Ok(Settings {
         gateway: gateway as u8,
         listen,
@@ -60,5 +61,6 @@ fn settings_of(alloc: Global, table: &Table) -> Result<Settings, SettingsFault>
         field,
         peers,
         predefined,
+        numbers,
     })
 }

@@ -1,6 +1,6 @@
 //! What outlives a shift: the links of a gateway, and when its clock last ticked.
 
-use gw_link::{Link, Origin};
+use gw_link::{Link, Origin, Relay};
 use std::alloc::Global;
 use std::sync::atomic::{AtomicU64, Ordering};
 use std::sync::{Mutex, Wait};
@@ -16,6 +16,8 @@ struct Links<S: Drop> {
     talked: Vec<Link<S>>,
     /// For each peer of the settings, whether a link that was dialled is open.
     dialled: Vec<bool>,
+    /// For each of them, whether the last one that was closed had said its number.
+    spoken: Vec<bool>,
     /// How many that were accepted are open.
     accepted: usize,
 }
@@ -25,15 +27,23 @@ struct Links<S: Drop> {
 #[derive(Drop)]
 pub struct Pool<S: Drop> {
     links: Mutex<Links<S>>,
+    /// What the links share.
+    pub relay: Relay,
     ticked: AtomicU64,
 }
 
 impl<S: Drop> Pool<S> {
-    /// No link is open. `None` where memory ran out.
-    pub fn new(alloc: Global, peers: usize) -> Option<Pool<S>> {
+    /// No link is open. These gateways may be linked: all, where none is named. `None` where memory
+    /// ran out.
+    pub fn new(alloc: Global, peers: usize, numbers: &[u8]) -> Option<Pool<S>> {
+        let mut allowed = Vec::new(alloc);
+        if allowed.extend_from_slice(numbers).is_err() {
+            return None;
+        }
         let mut dialled = Vec::new(alloc);
+        let mut spoken = Vec::new(alloc);
         for _ in 0..peers {
-            if dialled.push(false).is_err() {
+            if dialled.push(false).is_err() || spoken.push(true).is_err() {
                 return None;
             }
         }
@@ -42,8 +52,10 @@ impl<S: Drop> Pool<S> {
                 waiting: Vec::new(alloc),
                 talked: Vec::new(alloc),
                 dialled,
+                spoken,
                 accepted: 0,
             }),
+            relay: Relay::new(alloc, allowed),
             ticked: AtomicU64::new(0),
         })
     }
@@ -78,6 +90,18 @@ impl<S: Drop> Pool<S> {
         }
     }
 
+    /// Whether the last link of this origin that was closed had said its number.
+    pub fn has_spoken<T: Wait>(&self, rt: &T, origin: Origin) -> bool {
+        let links = self.links.lock(rt);
+        match origin {
+            Origin::Accepted => true,
+            Origin::Dialled(peer) => match links.spoken.get(peer) {
+                Some(spoken) => *spoken,
+                None => true,
+            },
+        }
+    }
+
     /// A link was made: it waits for a seat. Where memory ran out it is closed.
     pub fn open<T: Wait>(&self, rt: &T, link: Link<S>) {
         let mut links = self.links.lock(rt);
@@ -89,6 +113,7 @@ impl<S: Drop> Pool<S> {
 
     /// A shift begins: each link that talked to the end of the last one waits for a seat again.
     pub fn begin_shift<T: Wait>(&self, rt: &T) {
+        self.relay.begin_shift(rt);
         let talked = self.links.lock(rt).talked.len();
         for _ in 0..talked {
             self.seek_seat(rt);
@@ -99,9 +124,10 @@ impl<S: Drop> Pool<S> {
     fn seek_seat<T: Wait>(&self, rt: &T) {
         let mut links = self.links.lock(rt);
         if let Some(link) = links.talked.pop() {
-            let origin = link.origin;
+            let (origin, place) = (link.origin, link.place);
             if links.waiting.push(link).is_err() {
                 note(&mut links, origin, false);
+                self.relay.leave(rt, place);
             }
         }
     }
@@ -115,9 +141,10 @@ impl<S: Drop> Pool<S> {
     /// ran out it is closed.
     pub(crate) fn give_back<T: Wait>(&self, rt: &T, link: Link<S>) {
         let mut links = self.links.lock(rt);
-        let origin = link.origin;
+        let (origin, place) = (link.origin, link.place);
         if links.talked.push(link).is_err() {
             note(&mut links, origin, false);
+            self.relay.leave(rt, place);
         }
     }
 
@@ -137,9 +164,21 @@ impl<S: Drop> Pool<S> {
 
     /// A link is closed.
     pub(crate) fn lose<T: Wait>(&self, rt: &T, link: Link<S>) {
-        let origin = link.origin;
+        let (origin, place) = (link.origin, link.place);
         link.drop();
-        note(&mut self.links.lock(rt), origin, false);
+        self.relay.leave(rt, place);
+        let mut links = self.links.lock(rt);
+        note(&mut links, origin, false);
+        note_spoken(&mut links, origin, place.is_some());
+    }
+}
+
+/// Notes whether a link of this origin that was closed had said its number.
+fn note_spoken<S: Drop>(links: &mut Links<S>, origin: Origin, has_spoken: bool) {
+    if let Origin::Dialled(peer) = origin {
+        if let Some(spoken) = links.spoken.get_mut(peer) {
+            *spoken = has_spoken;
+        }
     }
 }
 

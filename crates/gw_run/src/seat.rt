@@ -87,7 +87,17 @@ fn sit_with<T: Wait + Clock, R: Replica, D: Disk + Drop, S: Read + Write + Drop>
             continue;
         };
         link.begin_shift();
-        let (after, end) = talk(rt, alloc, shift, pass, &mut link, gateway, piece, stage);
+        let (after, end) = talk(
+            rt,
+            alloc,
+            shift,
+            pass,
+            &mut link,
+            gateway,
+            piece,
+            stage,
+            &pool.relay,
+        );
         pass = after;
         match end {
             End::Full => pool.give_back(rt, link),

@@ -1,11 +1,13 @@
 //! How links are made: peers are dialled, others are accepted.
 
-use gw_link::{Link, Origin, Phase, Stage};
+use gw_link::{Link, Origin, Phase, Report, Stage, Trouble};
 use gw_main::options::Settings;
-use gw_run::Pool;
-use gw_wire::address;
+use gw_relay::next_pause;
+use gw_run::{MOST_ACCEPTED, Pool};
+use gw_wire::{address, moment};
 use sn_local::Addr;
 use std::alloc::Global;
+use std::io::Eprint;
 use std::net::{Net, TcpListener, TcpStream};
 use std::sync::Wait;
 use std::thread;
@@ -20,14 +22,17 @@ const A_READ: u64 = 10;
 /// and what it says is read.
 const A_WRITE: u64 = 10;
 
-/// How many milliseconds a peer has to take a call.
-const A_DIAL: u64 = 1_000;
+/// How many milliseconds a peer has to take a call: one that is far away is linked too.
+const A_DIAL: u64 = 10_000;
 
 /// How many milliseconds pass before a peer is dialled again.
 const A_PAUSE: u64 = 1_000;
 
 /// How many milliseconds pass before it is looked again whether somebody dials.
 const A_LOOK: u64 = 50;
+
+/// How many lines are told at once.
+const MOST_LINES: usize = 16;
 
 /// Where links come from: a peer, or whoever dials.
 #[derive(Clone, Copy, Debug)]
@@ -68,7 +73,8 @@ pub(crate) fn keep_all<T>(
     over: &Stage,
 )
 where
-    T: Threads + Wait + Sync + Clock + Net<Listener = TcpListener, Stream = TcpStream>,
+    T: Threads + Wait + Sync + Clock + Eprint,
+    T: Net<Listener = TcpListener, Stream = TcpStream>,
 {
     let count = doors.len();
     if count > 0 {
@@ -82,32 +88,52 @@ where
     }
 }
 
-/// Dials a peer wherever no link to it is open.
+/// Dials a peer wherever no link to it is open: at once where the last one worked, and with growing
+/// pauses where it takes the call and does not say its number.
 fn dial_all<T>(rt: &T, alloc: Global, door: Door, pool: &Pool<TcpStream>, over: &Stage)
 where
     T: Wait + Clock + Net<Listener = TcpListener, Stream = TcpStream>,
 {
+    let mut pause = 0u64;
+    let mut left = 0u64;
+    let mut has_called = false;
     for _ in rt.forever() {
         if over.phase(rt) != Phase::Serving {
             return;
         }
         if pool.may_open(rt, door.origin) {
-            let found = TcpStream::connect_timeout(
-                rt,
-                &address(door.at),
-                Duration::from_millis(A_DIAL),
-            );
-            if let Ok(stream) = found {
-                open(rt, alloc, stream, door.origin, pool);
+            if has_called {
+                pause = next_pause(pause, pool.has_spoken(rt, door.origin));
+                left = pause;
+                has_called = false;
             }
+            if left == 0 {
+                has_called = dial(rt, alloc, door, pool);
+            }
+            left = left.saturating_sub(1);
         }
         over.wait(rt, Phase::Serving, A_PAUSE);
     }
     unreachable!()
 }
 
-/// Accepts those who dial, as many as may be.
-fn accept_all<T: Wait + Clock>(
+/// Dials a peer. Whether it took the call.
+fn dial<T>(rt: &T, alloc: Global, door: Door, pool: &Pool<TcpStream>) -> bool
+where
+    T: Wait + Clock + Net<Listener = TcpListener, Stream = TcpStream>,
+{
+    let found = TcpStream::connect_timeout(rt, &address(door.at), Duration::from_millis(A_DIAL));
+    match found {
+        Ok(stream) => {
+            open(rt, alloc, stream, door.origin, pool);
+            true
+        }
+        Err(_) => false,
+    }
+}
+
+/// Accepts those who dial, as many as may be, and tells the troubles of links.
+fn accept_all<T: Wait + Clock + Eprint>(
     rt: &T,
     alloc: Global,
     listener: &TcpListener,
@@ -118,10 +144,13 @@ fn accept_all<T: Wait + Clock>(
         if over.phase(rt) != Phase::Serving {
             return;
         }
+        tell_all(rt, pool);
         match listener.accept() {
             Ok((stream, _)) => {
                 if pool.may_open(rt, Origin::Accepted) {
                     open(rt, alloc, stream, Origin::Accepted, pool);
+                } else {
+                    pool.relay.note_trouble(rt, Trouble::TurnedAway, 0);
                 }
             }
             Err(_) => over.wait(rt, Phase::Serving, A_LOOK),
@@ -143,4 +172,41 @@ fn open<T: Wait>(rt: &T, alloc: Global, stream: TcpStream, origin: Origin, pool:
     if is_set {
         pool.open(rt, Link::new(alloc, stream, origin));
     }
+}
+
+/// Tells the troubles of links that are to be told, each in a line of standard error.
+fn tell_all<T: Wait + Clock + Eprint>(rt: &T, pool: &Pool<TcpStream>) {
+    for _ in 0..MOST_LINES {
+        match pool.relay.report(rt, moment(rt)) {
+            None => return,
+            Some(report) => tell(rt, report),
+        }
+    }
+}
+
+/// Tells a trouble.
+fn tell<T: Eprint>(rt: &T, report: Report) {
+    let Report {
+        trouble,
+        number,
+        count,
+    } = report;
+    let _ = match trouble {
+        Trouble::SameNumber => eprintln!(rt;
+            "link: another gateway has the number {number} of this one, and is not linked: {count} times"
+        ),
+        Trouble::Stranger => eprintln!(rt;
+            "link: gateway {number} is not among numbers, and is not linked: {count} times"
+        ),
+        Trouble::Conflict => eprintln!(rt;
+            "link: gateway {number} told what contradicts what is kept, and was refused: {count} times"
+        ),
+        Trouble::TooMuch => eprintln!(rt;
+            "link: gateway {number} told more than may be kept, and was refused: {count} times"
+        ),
+        Trouble::TurnedAway => eprintln!(rt;
+            "link: {} that dialled are linked, and another was turned away: {} times",
+            MOST_ACCEPTED, count
+        ),
+    };
 }

@@ -8,7 +8,7 @@ use std::io::Write;
 use toml::{Table, Value};
 
 /// The keys that mean something.
-const KEYS: [Key; 10] = [
+const KEYS: [Key; 11] = [
     Key::Gateway,
     Key::Listen,
     Key::Link,
@@ -19,6 +19,7 @@ const KEYS: [Key; 10] = [
     Key::Field,
     Key::Peers,
     Key::Predefined,
+    Key::Numbers,
 ];
 
 /// Tells which keys of the settings in a file are ignored. Where memory runs out, or the lines

@@ -46,7 +46,7 @@ where
     if listener.set_nonblocking(true).is_err() {
         return Err(Stop::Socket);
     }
-    let Some(pool) = Pool::new(alloc, settings.peers.len()) else {
+    let Some(pool) = Pool::new(alloc, settings.peers.len(), settings.numbers.as_slice()) else {
         return Err(Stop::Memory);
     };
     let Some(mut doors) = doors_of(alloc, settings) else {
@@ -92,7 +92,8 @@ fn run_beside<T, R, D>(
     over: &Stage,
 ) -> Result<(), Stop>
 where
-    T: Threads + Wait + Sync + Clock + Print + Net<Listener = TcpListener, Stream = TcpStream>,
+    T: Threads + Wait + Sync + Clock + Print + Eprint,
+    T: Net<Listener = TcpListener, Stream = TcpStream>,
     R: Replica + Send,
     R::Staged: Send,
     D: Disk + Drop + Send,

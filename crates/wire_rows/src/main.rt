@@ -1,4 +1,4 @@
-//! Worked rows of serving, of a socket, of settings, of files and of a link: what no clause says.
+//! Worked rows of serving, of a socket, of settings, of files and of links: what no clause says.
 //!
 //! Standard input holds rows, each behind a line `== NAME`; empty lines and those that begin with
 //! `#` are skipped. The program prints each name, and below it what the lines of the row give; of a
@@ -40,20 +40,23 @@
 //! the history (where serving ended early, the history); how many calls the closed shift has; and
 //! the clients that the gateway knows. None of that depends on which thread was first.
 //!
-//! What happens when two gateways, 1 and 2, meet on empty disks, with a link that 1 dialled:
+//! What happens when two gateways, 1 and 2, meet on empty disks, with a link that 1 dialled. If a
+//! line names gateway 3, that one is there too, with a link that 2 dialled:
 //!
 //! - `ask GATEWAY HOST OCTETS`: a datagram comes to a gateway, from port 1 of a host.
-//! - `talk GATEWAY`: its end of the link talks until nothing comes, and to the end of the shift.
-//! - `last GATEWAY`: its end talks at the end of the shift, and reads nothing.
-//! - `sit GATEWAY`: the same as `talk`, at a seat; and then all links of the gateway are closed.
+//! - `talk GATEWAY`: its links talk in turn, each until nothing comes, and to the end of the shift.
+//! - `last GATEWAY`: its links talk at the end of the shift, and read nothing.
+//! - `sit GATEWAY`: its first link talks so at a seat; and then it is closed.
 //! - `turn GATEWAY`: its shift is closed, and the next one begins.
-//! - `takes GATEWAY COUNT`: its stream takes so many octets at once, and at 0 no more.
-//! - `idle GATEWAY COUNT`: so many reads find nothing before the one that ends its next `talk`.
-//! - `come GATEWAY OCTETS`: octets come to its end that the other one has not said.
+//! - `takes GATEWAY COUNT`: its first stream takes so many octets at once, and at 0 no more.
+//! - `idle GATEWAY COUNT`: so many reads of its first link find nothing before the one that ends its
+//!   next `talk`.
+//! - `come GATEWAY OCTETS`: octets come over its first link that the other end has not said.
 //! - `meet`: plays these, in their order, in one thread.
 //!
-//! Printed are answers, each message that has gone out whole, why an end stopped before the shift's
-//! end, whether 1 may dial again, and of a closed shift the number of calls and the clients.
+//! Printed are answers, each message that has gone out whole, and of those to gateway 3 that they
+//! are, why a link stopped before the shift's end, whether 1 may dial again, and of a closed shift
+//! the number of calls and the clients.
 //!
 //! - `row`: what the lines of a row have brought about (`Row`), and the play of one more.
 //! - `fields`: numbers and octets of a line.
@@ -63,8 +66,8 @@
 //! - `serving`: a shift is opened, served and closed.
 //! - `loopback`: the same over sockets.
 //! - `printing`: what is printed of that.
-//! - `meeting`: two gateways that meet.
-//! - `pipe`: the stream between them.
+//! - `meeting`: gateways that meet.
+//! - `pipe`: the stream between two of them.
 //! - `stop`: why a line is not played.
 #![tactic(auto)]
 

@@ -1,4 +1,4 @@
-//! Two gateways that have a link.
+//! Gateways that have links: two, or a chain of three.
 
 use crate::fields::{digits, host, number};
 use crate::options::begin_on;
@@ -14,13 +14,14 @@ use jr_journal::MemoryDisk;
 use octets::{Octets, read_u32};
 use sn_local::Addr;
 use std::alloc::{AllocError, Global};
+use std::collections::VecDeque;
 use std::sync::{Arc, Wait};
 use std::time::Clock;
 
-/// Something that happens at one of the two gateways.
+/// Something that happens at one of the gateways.
 #[derive(Debug, Drop)]
 pub(crate) struct Deed {
-    /// The number of the gateway, 1 or 2.
+    /// The number of the gateway, 1 to 3.
     gateway: u64,
     act: Act,
 }
@@ -30,19 +31,19 @@ pub(crate) struct Deed {
 enum Act {
     /// A datagram of these octets comes, from port 1 of a host.
     Ask(u32, Vec<u8>),
-    /// These octets come over the link, and not from the other gateway.
+    /// These octets come over its first link, and not from the other gateway.
     Come(Vec<u8>),
-    /// The link talks until nothing comes, and to the end of the shift.
+    /// Its links talk in turn, each until nothing comes, and to the end of the shift.
     Talk,
-    /// The link talks at the end of the shift.
+    /// They talk at the end of the shift.
     Last,
-    /// The same as `Talk`, at a seat.
+    /// Its first link talks as with `Talk`, at a seat.
     Sit,
     /// Its shift is closed, and the next one begins.
     Turn,
-    /// So many reads that find nothing come before the end of the next shift.
+    /// So many reads of its first link find nothing before the end of the next shift.
     Idle(u64),
-    /// Its stream takes so many octets at once.
+    /// The stream of its first link takes so many octets at once.
     Takes(u64),
 }
 
@@ -56,13 +57,25 @@ struct OpenShift {
     seat: Pass,
 }
 
-/// One of the gateways, with its end of the link.
+/// A gateway's end of a link.
+#[derive(Drop)]
+struct Tie<'a, T: Wait> {
+    /// The number of the other gateway.
+    other: u8,
+    place: &'a Place,
+    /// The link, until it is lost.
+    link: Option<Link<Pipe<'a, T>>>,
+}
+
+/// One of the gateways, with its ends of links.
 #[derive(Drop)]
 struct Side<'a, T: Wait> {
     number: u8,
-    place: &'a Place,
     open: Option<OpenShift>,
-    link: Option<Link<Pipe<'a, T>>>,
+    /// What its links share.
+    pool: Pool<Pipe<'a, T>>,
+    /// Its ends of links, that with the least number first.
+    ties: VecDeque<Tie<'a, T>>,
 }
 
 /// What a line says of the meeting.
@@ -91,7 +104,8 @@ fn read_act(alloc: Global, word: &str, fields: &[&str]) -> Result<Act, Stop> {
     }
 }
 
-/// `meet`: two gateways, 1 and 2, on empty disks, and a link that 1 dialled; and what happens then.
+/// `meet`: gateways 1 and 2 on empty disks, and a link that 1 dialled; where a line names gateway 3,
+/// that one too, and a link that 2 dialled; and what happens then.
 pub(crate) fn meet<T: Wait + Clock>(
     rt: &T,
     alloc: Global,
@@ -99,28 +113,29 @@ pub(crate) fn meet<T: Wait + Clock>(
     deeds: &[Deed],
 ) -> Result<(), Stop> {
     let (near, far) = (Place::new(alloc), Place::new(alloc));
-    let first = Link::new(alloc, Pipe::new(rt, alloc, &near, &far), Origin::Dialled(0));
-    let second = Link::new(alloc, Pipe::new(rt, alloc, &far, &near), Origin::Accepted);
-    let mut first = side_of(alloc, text, 1, &near, first)?;
-    let mut second = side_of(alloc, text, 2, &far, second)?;
+    let (inner, outer) = (Place::new(alloc), Place::new(alloc));
+    let mut aside = String::new(alloc);
+    let mut first = side_of(alloc, text, 1)?;
+    let mut second = side_of(alloc, text, 2)?;
+    let mut third = side_of(alloc, &mut aside, 3)?;
+    join(rt, alloc, &mut first, &mut second, &near, &far)?;
+    if deeds.iter().any(|deed| deed.gateway == 3) {
+        text.push_str(aside.as_str())?;
+        join(rt, alloc, &mut second, &mut third, &inner, &outer)?;
+    }
     for deed in deeds {
         match deed.gateway {
             1 => happen(rt, alloc, text, &mut first, &deed.act)?,
             2 => happen(rt, alloc, text, &mut second, &deed.act)?,
+            3 => happen(rt, alloc, text, &mut third, &deed.act)?,
             _ => return Err(Stop::Line),
         }
     }
     Ok(())
 }
 
-/// A gateway of this number on an empty disk, with this end of the link.
-fn side_of<'a, T: Wait>(
-    alloc: Global,
-    text: &mut String,
-    number: u8,
-    place: &'a Place,
-    link: Link<Pipe<'a, T>>,
-) -> Result<Side<'a, T>, Stop> {
+/// A gateway of this number on an empty disk, without a link.
+fn side_of<'a, T: Wait>(alloc: Global, text: &mut String, number: u8) -> Result<Side<'a, T>, Stop> {
     let mut toml = String::new(alloc);
     writeln!(toml, "gateway = {number}")?;
     toml.push_str("listen = \"127.0.0.1:1\"\nlink = \"127.0.0.1:2\"\njournal = \"j\"\n")?;
@@ -128,12 +143,62 @@ fn side_of<'a, T: Wait>(
     let Some(node) = begun else {
         return Err(Stop::Line);
     };
+    let Some(pool) = Pool::new(alloc, 1, &[]) else {
+        return Err(Stop::Memory);
+    };
     Ok(Side {
         number,
-        place,
         open: Some(open_shift(alloc, node)?),
-        link: Some(link),
+        pool,
+        ties: VecDeque::new(alloc),
     })
+}
+
+/// A link between two gateways, which the first one dialled.
+fn join<'a, T: Wait>(
+    rt: &'a T,
+    alloc: Global,
+    dialler: &mut Side<'a, T>,
+    dialled: &mut Side<'a, T>,
+    near: &'a Place,
+    far: &'a Place,
+) -> Result<(), Stop> {
+    let one = Tie {
+        other: dialled.number,
+        place: near,
+        link: Some(Link::new(alloc, Pipe::new(rt, alloc, near, far), Origin::Dialled(0))),
+    };
+    let other = Tie {
+        other: dialler.number,
+        place: far,
+        link: Some(Link::new(alloc, Pipe::new(rt, alloc, far, near), Origin::Accepted)),
+    };
+    put_last(dialler, one)?;
+    put_last(dialled, other)
+}
+
+/// Puts an end of a link behind the others of a gateway.
+fn put_last<'a, T: Wait>(side: &mut Side<'a, T>, tie: Tie<'a, T>) -> Result<(), Stop> {
+    match side.ties.push_back(tie) {
+        Ok(()) => Ok(()),
+        Err(_) => Err(Stop::Memory),
+    }
+}
+
+/// Takes the first of a gateway's ends of links.
+fn take_first<'a, T: Wait>(side: &mut Side<'a, T>) -> Result<Tie<'a, T>, Stop> {
+    match side.ties.pop_front() {
+        Some(tie) => Ok(tie),
+        None => Err(Stop::Line),
+    }
+}
+
+/// The place of a gateway's first link.
+fn place_of<'a, T: Wait>(side: &Side<'a, T>) -> Result<&'a Place, Stop> {
+    match side.ties.front() {
+        Some(tie) => Ok(tie.place),
+        None => Err(Stop::Line),
+    }
 }
 
 /// A shift of a gateway, with a pass for datagrams and one for the link.
@@ -155,17 +220,17 @@ fn happen<'a, T: Wait + Clock>(
 ) -> Result<(), Stop> {
     match act {
         Act::Ask(host, octets) => ask(rt, alloc, text, side, *host, octets.as_slice()),
-        Act::Come(octets) => come(rt, alloc, side.place, octets.as_slice()),
-        Act::Talk => talk_from(rt, alloc, text, side, Phase::Serving),
-        Act::Last => talk_from(rt, alloc, text, side, Phase::Quiet),
+        Act::Come(octets) => come(rt, alloc, place_of(side)?, octets.as_slice()),
+        Act::Talk => talk_all(rt, alloc, text, side, Phase::Serving),
+        Act::Last => talk_all(rt, alloc, text, side, Phase::Quiet),
         Act::Sit => sit_down(rt, alloc, text, side),
-        Act::Turn => turn(alloc, text, side),
+        Act::Turn => turn(rt, alloc, text, side),
         Act::Idle(count) => {
-            side.place.set_idle(*count);
+            place_of(side)?.set_idle(*count);
             Ok(())
         }
         Act::Takes(count) => {
-            side.place.set_takes(*count);
+            place_of(side)?.set_takes(*count);
             Ok(())
         }
     }
@@ -192,10 +257,11 @@ fn ask<'a, T: Wait>(
     ) else {
         return Err(Stop::Memory);
     };
+    let place = place_of(side)?;
     let Some(OpenShift { shift, pass, seat }) = side.open.take() else {
         return Err(Stop::Line);
     };
-    let (pass, answered) = call(rt, alloc, &shift, pass, step, &side.place.stage);
+    let (pass, answered) = call(rt, alloc, &shift, pass, step, &place.stage);
     side.open = Some(OpenShift { shift, pass, seat });
     print_asked(alloc, text, side.number, answered)
 }
@@ -221,20 +287,39 @@ fn print_asked(
     Ok(text.push('\n')?)
 }
 
-/// The link of a gateway talks from a phase of the shift on, to the end of the shift.
-fn talk_from<'a, T: Wait + Clock>(
+/// The links of a gateway talk in turn, from a phase of the shift on, each to the end of the shift.
+fn talk_all<'a, T: Wait + Clock>(
     rt: &T,
     alloc: Global,
     text: &mut String,
     side: &mut Side<'a, T>,
     phase: Phase,
 ) -> Result<(), Stop> {
+    for _ in 0..side.ties.len() {
+        let mut tie = take_first(side)?;
+        let end = talk_over(rt, alloc, side, &mut tie, phase)?;
+        print_said(rt, alloc, text, side.number, &tie)?;
+        print_end(text, side.number, end)?;
+        put_last(side, tie)?;
+    }
+    Ok(())
+}
+
+/// A link of a gateway talks from a phase of the shift on, to the end of the shift. Says why it
+/// stopped. One that is lost is left.
+fn talk_over<'a, T: Wait + Clock>(
+    rt: &T,
+    alloc: Global,
+    side: &mut Side<'a, T>,
+    tie: &mut Tie<'a, T>,
+    phase: Phase,
+) -> Result<End, Stop> {
     let mut piece = Vec::from_elem(alloc, 0u8, 65_536)?;
-    let (Some(opened), Some(mut link)) = (side.open.take(), side.link.take()) else {
+    let (Some(opened), Some(mut link)) = (side.open.take(), tie.link.take()) else {
         return Err(Stop::Line);
     };
     let OpenShift { shift, pass, seat } = opened;
-    let stage = &side.place.stage;
+    let stage = &tie.place.stage;
     stage.go_to(rt, phase);
     let (seat, end) = talk(
         rt,
@@ -245,13 +330,15 @@ fn talk_from<'a, T: Wait + Clock>(
         side.number,
         piece.as_mut_slice(),
         stage,
+        &side.pool.relay,
     );
     side.open = Some(OpenShift { shift, pass, seat });
     if end == End::Full {
-        side.link = Some(link);
+        tie.link = Some(link);
+    } else {
+        side.pool.relay.leave(rt, link.place);
     }
-    print_said(rt, alloc, text, side.number, side.place)?;
-    print_end(text, side.number, end)
+    Ok(end)
 }
 
 /// Why a link has stopped to talk.
@@ -262,21 +349,23 @@ fn print_end(text: &mut String, number: u8, end: End) -> Result<(), Stop> {
     }
 }
 
-/// The messages that a gateway has said over its link. The front part of one waits for its rest.
-fn print_said<T: Wait>(
+/// The messages that a gateway has said over a link. The front part of one waits for its rest.
+fn print_said<'a, T: Wait>(
     rt: &T,
     alloc: Global,
     text: &mut String,
     number: u8,
-    place: &Place,
+    tie: &Tie<'a, T>,
 ) -> Result<(), Stop> {
+    let place = tie.place;
+    let to = if tie.other == 3 { " to 3" } else { "" };
     let said = place.take_said(rt, Vec::new(alloc));
     let mut rest = said.as_slice();
     for _ in 0..said.len() {
         let Some((kind, body, behind)) = first_of(rest) else {
             break;
         };
-        print_message(alloc, text, number, kind, body)?;
+        print_message(alloc, text, number, to, kind, body)?;
         rest = behind;
     }
     let left = Vec::from_slice(alloc, rest)?;
@@ -295,53 +384,53 @@ fn first_of(octets: &[u8]) -> Option<(u8, &[u8], &[u8])> {
     Some((*kind, body, behind))
 }
 
-/// A message.
+/// A message, and to whom, where that is to be told.
 fn print_message(
     alloc: Global,
     text: &mut String,
     number: u8,
+    to: &str,
     kind: u8,
     body: &[u8],
 ) -> Result<(), AllocError> {
     let body = shown(alloc, body)?;
     match kind {
-        1 => writeln!(text, "{number} says hello {body}"),
-        2 => writeln!(text, "{number} says digest {body}"),
-        _ => writeln!(text, "{number} says delta {body}"),
+        1 => writeln!(text, "{number} says{to} hello {body}"),
+        2 => writeln!(text, "{number} says{to} digest {body}"),
+        _ => writeln!(text, "{number} says{to} delta {body}"),
     }
 }
 
-/// The link of a gateway talks at a seat, and then all links are closed.
+/// The first link of a gateway talks at a seat, and then it is closed.
 fn sit_down<'a, T: Wait + Clock>(
     rt: &T,
     alloc: Global,
     text: &mut String,
     side: &mut Side<'a, T>,
 ) -> Result<(), Stop> {
-    let Some(pool) = Pool::new(alloc, 1) else {
-        return Err(Stop::Memory);
-    };
-    let (Some(opened), Some(link)) = (side.open.take(), side.link.take()) else {
+    let mut tie = take_first(side)?;
+    let (Some(opened), Some(link)) = (side.open.take(), tie.link.take()) else {
         return Err(Stop::Line);
     };
     let OpenShift { shift, pass, seat } = opened;
     let origin = link.origin;
-    pool.open(rt, link);
-    let stage = &side.place.stage;
+    side.pool.open(rt, link);
+    let stage = &tie.place.stage;
     stage.go_to(rt, Phase::Serving);
     let seat = Seat {
         pass: seat,
         end: None,
     };
-    let Seat { pass: seat, end } = sit(rt, alloc, &shift, seat, &pool, side.number, stage);
+    let Seat { pass: seat, end } = sit(rt, alloc, &shift, seat, &side.pool, side.number, stage);
     side.open = Some(OpenShift { shift, pass, seat });
-    print_said(rt, alloc, text, side.number, side.place)?;
+    print_said(rt, alloc, text, side.number, &tie)?;
     if let Some(end) = end {
         print_end(text, side.number, end)?;
     }
-    print_room(rt, text, side.number, &pool, origin)?;
-    pool.close_all(rt);
-    print_room(rt, text, side.number, &pool, origin)
+    print_room(rt, text, side.number, &side.pool, origin)?;
+    side.pool.close_all(rt);
+    print_room(rt, text, side.number, &side.pool, origin)?;
+    put_last(side, tie)
 }
 
 /// Whether a gateway's link is open still.
@@ -361,7 +450,12 @@ fn print_room<T: Wait, S: Drop>(
 }
 
 /// A shift of a gateway is closed, and the next one begins.
-fn turn<'a, T: Wait>(alloc: Global, text: &mut String, side: &mut Side<'a, T>) -> Result<(), Stop> {
+fn turn<'a, T: Wait>(
+    rt: &T,
+    alloc: Global,
+    text: &mut String,
+    side: &mut Side<'a, T>,
+) -> Result<(), Stop> {
     let Some(OpenShift { shift, pass, seat }) = side.open.take() else {
         return Err(Stop::Line);
     };
@@ -373,8 +467,18 @@ fn turn<'a, T: Wait>(alloc: Global, text: &mut String, side: &mut Side<'a, T>) -
     write!(text, "{number} ")?;
     print_over(alloc, text, &over)?;
     side.open = Some(open_shift(alloc, over.node)?);
-    if let Some(link) = &mut side.link {
-        link.begin_shift();
+    side.pool.begin_shift(rt);
+    begin_links(side)
+}
+
+/// The next shift begins for the links of a gateway.
+fn begin_links<'a, T: Wait>(side: &mut Side<'a, T>) -> Result<(), Stop> {
+    for _ in 0..side.ties.len() {
+        let mut tie = take_first(side)?;
+        if let Some(link) = &mut tie.link {
+            link.begin_shift();
+        }
+        put_last(side, tie)?;
     }
     Ok(())
 }

@@ -68,7 +68,11 @@ fn print_others(text: &mut String, read: &Settings) -> Result<(), AllocError> {
     print_addresses(text, "field", read.field.as_slice())?;
     print_addresses(text, "peer", read.peers.as_slice())?;
     let predefined = read.predefined.entries().len();
-    writeln!(text, " predefined {predefined}")
+    write!(text, " predefined {predefined}")?;
+    for number in read.numbers.as_slice() {
+        write!(text, " number {number}")?;
+    }
+    text.push('\n')
 }
 
 /// Addresses, each behind a word.

@@ -40,7 +40,7 @@ struct Plan {
     fails: bool,
     hold: Option<Hold>,
     coming: Vec<Coming>,
-    /// What happens when two gateways meet.
+    /// What happens when gateways meet.
     deeds: Vec<Deed>,
 }
 
@@ -152,13 +152,13 @@ fn play_coming(alloc: Global, coming: &mut Vec<Coming>, words: &[&str]) -> Resul
     }
 }
 
-/// Lines that say what happens when two gateways meet.
+/// Lines that say what happens when gateways meet.
 fn play_deed(alloc: Global, deeds: &mut Vec<Deed>, words: &[&str]) -> Result<(), Stop> {
     let next = read_deed(alloc, words)?;
     Ok(deeds.push(next)?)
 }
 
-/// `meet`: two gateways meet.
+/// `meet`: gateways meet.
 fn play_meet<T: Wait + Clock>(
     rt: &T,
     alloc: Global,

@@ -1,0 +1,76 @@
+-- What is known of operations: what a digest covers, and what was noted since.
+use Rattle.std.specs.Prelude.{ℕ, ◌==◌, Bool, ◌&&◌, ◌||◌, nat_le, List}
+use Rattle.std.specs.List.{list_any}
+use Rattle.rep_op.specs.declared.op.Op.{Op}
+use Rattle.rep_op.specs.declared.op.Op.TheVariants.{Session as OfSession, Put as OfPut, Ack}
+use Rattle.rep_op.specs.Sets.{same_client}
+use Rattle.rep_op.specs.declared.op.Stamp.{Stamp}
+use Rattle.rep_model.specs.Keep.{is_below}
+use Rattle.rep_model.specs.Limits.{is_in_prefix}
+use Rattle.rep_digest.specs.declared.entry.OriginEntry.{OriginEntry}
+use Rattle.rep_digest.specs.declared.entry.ClientEntry.{ClientEntry}
+use Rattle.gw_relay.specs.declared.name.Name.{Name}
+
+-- whether a range has all numbers from the first to the last
+abbrev pub holds : ℕ → ℕ → ℕ × ℕ → Bool
+holds first last range = nat_le range.0 first && nat_le last range.1
+
+-- whether what is said of an origin has a message of it: it waits, or is acknowledged
+abbrev pub has_put : ℕ → ℕ → OriginEntry → Bool
+has_put origin seq said =
+    (said.origin == origin)
+    && (list_any (holds seq seq) said.waiting || list_any (holds seq seq) said.acknowledged)
+
+-- whether what is said of an origin has these acknowledgements of it, in one range
+abbrev pub has_acks : ℕ → ℕ → ℕ → OriginEntry → Bool
+has_acks origin first last said =
+    (said.origin == origin) && list_any (holds first last) said.acknowledged
+
+-- whether an entry sees a session operation: it is below the stamp, or at it without a gap from 0
+-- on
+abbrev pub sees : ClientEntry → Stamp → ℕ → Bool
+sees entry stamp counter =
+    is_below stamp entry.stamp || is_in_prefix entry.stamp entry.prefix (stamp, counter)
+
+-- whether an entry is of the client of an operation, and covers that
+abbrev pub is_covered_by : Op → ClientEntry → Bool
+is_covered_by (OfSession c stamp counter change) entry =
+    same_client entry.client c && sees entry stamp counter
+is_covered_by (OfPut c put) entry =
+    same_client entry.client c && list_any (has_put put.origin put.seq) entry.origins
+is_covered_by (Ack c origin first last) entry =
+    same_client entry.client c && list_any (has_acks origin first last) entry.origins
+
+-- whether a digest covers an operation: the entry of its client does
+abbrev pub is_covered : List ClientEntry → Op → Bool
+is_covered digest op = list_any (is_covered_by op) digest
+
+-- the name of an operation
+abbrev pub name_of : Op → Name
+name_of (OfSession c stamp counter change) =
+    record { client = c; kind = 0; gateway = stamp.gateway; first = stamp.epoch; last = counter }
+name_of (OfPut c put) =
+    record { client = c; kind = 1; gateway = put.origin; first = put.seq; last = put.seq }
+name_of (Ack c origin first last) =
+    record { client = c; kind = 2; gateway = origin; first = first; last = last }
+
+-- whether a name has these parts
+abbrev pub is_name : ℕ → ℕ → ℕ → ℕ → List ℕ → Name → Bool
+is_name kind gateway first last c name =
+    (name.first == first) && (name.last == last) && (name.gateway == gateway)
+    && (name.kind == kind) && same_client name.client c
+
+-- whether the name is that of the operation
+abbrev pub is_of : Op → Name → Bool
+is_of (OfSession c stamp counter change) name =
+    is_name 0 stamp.gateway stamp.epoch counter c name
+is_of (OfPut c put) name = is_name 1 put.origin put.seq put.seq c name
+is_of (Ack c origin first last) name = is_name 2 origin first last c name
+
+-- whether an operation was noted
+abbrev pub is_noted : List Name → Op → Bool
+is_noted notes op = list_any (is_of op) notes
+
+-- whether an operation is known: a digest covers it, or it was noted since
+abbrev pub is_known : List ClientEntry → List Name → Op → Bool
+is_known digest notes op = is_covered digest op || is_noted notes op

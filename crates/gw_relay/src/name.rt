@@ -1,0 +1,63 @@
+//! The name of an operation.
+
+ghost use Rattle.std.specs.Prelude.{◌≡◌, IfOk};
+ghost use Rattle.gw_relay.specs.News as spec;
+
+use octets::NoMemory;
+use rep_ops::{ClientId, Op};
+use std::alloc::Global;
+
+/// The name of an operation, and of acknowledgements their range: what tells it from others,
+/// without what it says.
+#[derive(Drop)]
+pub struct Name {
+    /// Whose state it is an operation on.
+    pub client: ClientId,
+    /// 0 a change of a session, 1 a message, 2 acknowledgements.
+    pub kind: u8,
+    /// The gateway of its stamp, or that made its messages.
+    pub gateway: u8,
+    /// The epoch of its stamp, or the first of its messages.
+    pub first: u64,
+    /// The counter below its stamp, or the last of its messages.
+    pub last: u64,
+}
+
+/// The name of an operation. The only fault is want of memory.
+pub fn name_of(alloc: Global, op: &Op) -> Result<Name, NoMemory>
+    ensures { IfOk result (λ name. name ≡ spec.name_of op.now) }
+{
+    match op {
+        Op::Session {
+            client,
+            stamp,
+            counter,
+            ..
+        } => Ok(Name {
+            client: client.copied(alloc)?,
+            kind: 0,
+            gateway: stamp.gateway,
+            first: stamp.epoch,
+            last: u64::from(*counter),
+        }),
+        Op::Put { client, put } => Ok(Name {
+            client: client.copied(alloc)?,
+            kind: 1,
+            gateway: put.origin,
+            first: put.seq,
+            last: put.seq,
+        }),
+        Op::Ack {
+            client,
+            origin,
+            first,
+            last,
+        } => Ok(Name {
+            client: client.copied(alloc)?,
+            kind: 2,
+            gateway: *origin,
+            first: *first,
+            last: *last,
+        }),
+    }
+}

@@ -1,0 +1,188 @@
+//! What of a delta is new.
+
+ghost use Rattle.std.specs.Prelude.{◌≡◌, not};
+ghost use Rattle.std.specs.List.{list_any};
+ghost use Rattle.rep_model.specs.Keep as keeps;
+ghost use Rattle.rep_model.specs.Limits as limits;
+ghost use Rattle.gw_relay.specs.News as spec;
+
+use crate::name::Name;
+use rep_digest::{ClientEntry, Digest, OriginEntry};
+use rep_ops::{ClientId, Op, Stamp};
+
+/// Whether a delta has an operation that is not known: no digest covers it, and it was not noted.
+pub fn brings_news(digest: &Digest, notes: &[Name], ops: &[Op]) -> bool
+    ensures { result ≡ list_any (λ op. not (spec.is_known digest.now notes.now op)) ops.now }
+{
+    ops.iter().any(|op| !is_known(digest, notes, op))
+}
+
+/// The same where there is no digest: whether one of the operations was not noted.
+pub fn brings_unnoted(notes: &[Name], ops: &[Op]) -> bool
+    ensures { result ≡ list_any (λ op. not (spec.is_noted notes.now op)) ops.now }
+{
+    ops.iter().any(|op| !is_noted(notes, op))
+}
+
+/// Whether a digest covers an operation, or it was noted since.
+pub fn is_known(digest: &Digest, notes: &[Name], op: &Op) -> bool
+    ensures { result ≡ spec.is_known digest.now notes.now op.now }
+{
+    is_covered(digest, op) || is_noted(notes, op)
+}
+
+/// Whether a digest covers an operation.
+pub fn is_covered(digest: &Digest, op: &Op) -> bool
+    ensures { result ≡ spec.is_covered digest.now op.now }
+{
+    digest
+        .entries()
+        .iter()
+        .any(|entry| is_covered_by(entry, op))
+}
+
+/// Whether an entry is of the client of an operation, and covers that.
+fn is_covered_by(entry: &ClientEntry, op: &Op) -> bool
+    ensures { result ≡ spec.is_covered_by op.now entry.now }
+{
+    match op {
+        Op::Session {
+            client,
+            stamp,
+            counter,
+            ..
+        } => entry.client == *client && sees(entry, *stamp, *counter),
+        Op::Put { client, put } => entry.client == *client && has_put(entry, put.origin, put.seq),
+        Op::Ack {
+            client,
+            origin,
+            first,
+            last,
+        } => entry.client == *client && has_acks(entry, *origin, *first, *last),
+    }
+}
+
+/// Whether the entry sees a session operation: below its stamp, or at it among those without a gap.
+fn sees(entry: &ClientEntry, stamp: Stamp, counter: u8) -> bool
+    ensures { result ≡ spec.sees entry.now stamp counter }
+{
+    is_below(stamp, entry.stamp) || is_in_prefix(entry.stamp, entry.prefix, stamp, counter)
+}
+
+/// Whether a stamp is below the visible one.
+fn is_below(stamp: Stamp, visible: Option<Stamp>) -> bool
+    ensures { result ≡ keeps.is_below stamp visible }
+{
+    match visible {
+        Some(seen) => stamp < seen,
+        None => false,
+    }
+}
+
+/// Whether an operation is among the first of the visible stamp.
+fn is_in_prefix(visible: Option<Stamp>, prefix: u16, stamp: Stamp, counter: u8) -> bool
+    ensures { result ≡ limits.is_in_prefix visible prefix (stamp, counter) }
+{
+    match visible {
+        Some(seen) => stamp == seen && (counter as u16) < prefix,
+        None => false,
+    }
+}
+
+/// Whether a message waits or is acknowledged.
+fn has_put(entry: &ClientEntry, origin: u8, seq: u64) -> bool
+    ensures { result ≡ list_any (spec.has_put origin seq) entry.now.origins }
+{
+    entry
+        .origins
+        .as_slice()
+        .iter()
+        .any(|said| has_put_of(said, origin, seq))
+}
+
+/// Whether what is said of an origin has a message of it.
+fn has_put_of(said: &OriginEntry, origin: u8, seq: u64) -> bool
+    ensures { result ≡ spec.has_put origin seq said.now }
+{
+    said.origin == origin
+        && (has_range(said.waiting.as_slice(), seq, seq)
+            || has_range(said.acknowledged.as_slice(), seq, seq))
+}
+
+/// Whether all messages from the first to the last are acknowledged, in one range.
+fn has_acks(entry: &ClientEntry, origin: u8, first: u64, last: u64) -> bool
+    ensures { result ≡ list_any (spec.has_acks origin first last) entry.now.origins }
+{
+    entry
+        .origins
+        .as_slice()
+        .iter()
+        .any(|said| has_acks_of(said, origin, first, last))
+}
+
+/// Whether what is said of an origin has acknowledgements of it, in one range.
+fn has_acks_of(said: &OriginEntry, origin: u8, first: u64, last: u64) -> bool
+    ensures { result ≡ spec.has_acks origin first last said.now }
+{
+    said.origin == origin && has_range(said.acknowledged.as_slice(), first, last)
+}
+
+/// Whether one of the ranges has all numbers from the first to the last.
+fn has_range(ranges: &[(u64, u64)], first: u64, last: u64) -> bool
+    ensures { result ≡ list_any (spec.holds first last) ranges.now }
+{
+    ranges.iter().any(|range| holds(*range, first, last))
+}
+
+/// Whether a range has all numbers from the first to the last.
+fn holds(range: (u64, u64), first: u64, last: u64) -> bool
+    ensures { result ≡ spec.holds first last range }
+{
+    range.0 <= first && last <= range.1
+}
+
+/// Whether an operation was noted.
+pub fn is_noted(notes: &[Name], op: &Op) -> bool
+    ensures { result ≡ spec.is_noted notes.now op.now }
+{
+    notes.iter().any(|note| is_of(note, op))
+}
+
+/// Whether the name is that of the operation.
+fn is_of(name: &Name, op: &Op) -> bool
+    ensures { result ≡ spec.is_of op.now name.now }
+{
+    match op {
+        Op::Session {
+            client,
+            stamp,
+            counter,
+            ..
+        } => is_name(
+            name,
+            0,
+            stamp.gateway,
+            stamp.epoch,
+            u64::from(*counter),
+            client,
+        ),
+        Op::Put { client, put } => is_name(name, 1, put.origin, put.seq, put.seq, client),
+        Op::Ack {
+            client,
+            origin,
+            first,
+            last,
+        } => is_name(name, 2, *origin, *first, *last, client),
+    }
+}
+
+/// Whether a name has these parts.
+fn is_name(name: &Name, kind: u8, gateway: u8, first: u64, last: u64, client: &ClientId) -> bool
+    ensures { result ≡ spec.is_name kind gateway first last client.now name.now }
+{
+    name.first == first
+        && name.last == last
+        && name.gateway == gateway
+        && name.kind == kind
+        && name.client == *client
+}

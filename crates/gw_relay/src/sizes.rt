@@ -1,0 +1,26 @@
+//! How much is said at once, and kept.
+
+ghost use Rattle.std.specs.Prelude.{◌≡◌};
+ghost use Rattle.gw_relay.specs.Sizes as spec;
+
+/// How many octets a piece of an answer has at most, if it has more than one operation.
+pub const PIECE: usize = 65_536;
+
+/// How many octets a shift's history may keep of answers to other gateways, of digests and of what
+/// these told, before the shift is to end. A peer whose disk fails asks for the same again and
+/// again.
+pub const MOST_KEPT: u64 = 16_777_216;
+
+/// Whether operations, so many, that are spelled in so many octets make one piece of an answer.
+pub fn fits(octets: usize, count: usize) -> bool
+    ensures { result ≡ spec.fits octets count }
+{
+    octets <= PIECE || count <= 1
+}
+
+/// Whether a shift whose history keeps so many octets for links is to end.
+pub fn is_much(octets: u64) -> bool
+    ensures { result ≡ spec.is_much octets }
+{
+    octets > MOST_KEPT
+}

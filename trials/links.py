@@ -1,0 +1,439 @@
+#!/usr/bin/env python3
+"""Tries what links cost and how they end: a peer far away, one that is gone, one that hangs up, one that asks and asks.
+
+Usage: trials/links.py PROGRAM [PART..]
+
+The parts, all where none is named:
+
+  far     a peer is 1.5 seconds away, over a device that holds each packet back: news come to it all the same. It needs root and /dev/net/tun
+  places  eight connections that said one number have each place for accepted links: the gateway of that number dials, and has a link at once
+  gone    a peer stops without a word: its link is closed within two minutes
+  busy    a peer that only tells, and to which nothing is told, is not given up meanwhile
+  knock   for a minute a peer takes calls and closes them: the gateway dials it less than ten times, and its memory hardly grows
+  mute    a connection that says no number is told a number alone, and no digest
+  pieces  the answer to a digest, of some 400,000 octets, comes in deltas of 65,536 octets at most
+  breaks  a link that breaks each 1.5 MB brings an answer of 6 MB all the same, within 90 seconds, and nothing twice but what broke off
+  lines   two gateways of one number, a contradiction and a ninth peer are told by a line of standard error each
+  numbers of two gateways that dial the one is linked that the settings name, and a line tells of the other
+  asks    a peer that asks each half second for all that is there is answered four times in 35 seconds at most
+  bound   a peer that tells the same megabyte 64 times ends three shifts at least: none keeps more for links than 16 MiB and one call
+  memory  memory is refused for an answer of some 20 MB: that link is closed, clients are served, and once there is memory all is answered
+
+All but the first goes on at 127.0.0.1, at ports that the system gives, in a folder that is gone afterwards. Status 0 only where nothing failed.
+"""
+import argparse
+import fcntl
+import os
+import select
+import socket
+import struct
+import subprocess
+import sys
+import tempfile
+import threading
+import time
+
+sys.dont_write_bytecode = True
+from gateway import HOST, Client, Failed, Gateway, at_port, expect, free_ports, publish, published, subscribe, until
+
+NEAR, FAR, DEVICE = "10.78.0.1", "10.78.0.2", "nimhazel-far"
+
+
+def message(kind: int, body: bytes) -> bytes:
+    return bytes([kind]) + len(body).to_bytes(4, "big") + body
+
+
+HELLO, ASK_ALL = message(1, b"\xc8"), message(2, b"\x01\x00\x00\x00\x00")
+
+
+class Distance:
+    """A device with one address. What goes to the other address comes back to the first one from there, so many seconds later."""
+
+    def __init__(self, seconds: float):
+        self.seconds, self.over = seconds, False
+        self.device = os.open("/dev/net/tun", os.O_RDWR)
+        fcntl.ioctl(self.device, 0x400454CA, struct.pack("16sH", DEVICE.encode(), 0x1001))
+        for words in (["addr", "add", f"{NEAR}/24", "dev", DEVICE], ["link", "set", DEVICE, "up"]):
+            subprocess.run(["ip", *words], check=True)
+        threading.Thread(target=self.carry, daemon=True).start()
+
+    def carry(self) -> None:
+        held = []
+        while not self.over:
+            wait = max(0.0, held[0][0] - time.monotonic()) if held else 0.2
+            if select.select([self.device], [], [], min(wait, 0.2))[0]:
+                packet = os.read(self.device, 65536)
+                if packet[0] >> 4 == 4 and packet[16:20] == socket.inet_aton(FAR):
+                    held.append((time.monotonic() + self.seconds, packet[:12] + packet[16:20] + packet[12:16] + packet[20:]))
+            while held and held[0][0] <= time.monotonic():
+                os.write(self.device, held.pop(0)[1])
+
+    def close(self) -> None:
+        self.over = True
+        time.sleep(0.5)
+        os.close(self.device)
+
+
+class Cut:
+    """A way to an address that breaks as soon as so many octets came back over it."""
+
+    def __init__(self, port: int, most: int):
+        self.port, self.most, self.calls, self.octets = port, most, 0, 0
+        self.listener = socket.create_server((HOST, 0))
+        self.at = self.listener.getsockname()[1]
+        threading.Thread(target=self.accept, daemon=True).start()
+
+    def accept(self) -> None:
+        while True:
+            try:
+                here, _ = self.listener.accept()
+                there = socket.create_connection((HOST, self.port), 5)
+            except OSError:
+                return
+            self.calls += 1
+            self.carry(here, there)
+
+    def carry(self, here: socket.socket, there: socket.socket) -> None:
+        left = self.most
+        with here, there:
+            try:
+                while left > 0:
+                    for one in select.select([here, there], [], [])[0]:
+                        octets = one.recv(min(65536, left))
+                        if not octets:
+                            return
+                        (there if one is here else here).sendall(octets)
+                        if one is there:
+                            left -= len(octets)
+                            self.octets += len(octets)
+            except OSError:
+                return
+
+    def close(self) -> None:
+        self.listener.close()
+
+
+def sleeps_at(gateway: Gateway, name: bytes) -> None:
+    with Client(name, gateway) as sleeper:
+        sleeper.connect()
+        sleeper.ask(subscribe(b"ow", 1, 0x22), b"\x08\x13")
+        sleeper.sleep()
+
+
+def say(gateway: Gateway, body: bytes, identifier: int = 1) -> None:
+    with Client(b"p-%d" % identifier, gateway) as publisher:
+        publisher.connect(clean=True)
+        publisher.ask(publish(b"ow", body, identifier), published(b"ow", identifier))
+
+
+def far(program: str, folder: str) -> str:
+    distance, ports = Distance(0.75), free_ports(4)
+    try:
+        with Gateway(program, folder, 1, (ports[0], ports[1]), peers=f'["{FAR}:{ports[3]}"]') as here, \
+                Gateway(program, folder, 2, (ports[2], ports[3]), link=f'"0.0.0.0:{ports[3]}"') as there:
+            there.start()
+            here.start()
+            sleeps_at(here, b"s-far")
+            return f"{there.await_octets(b's-far', 30):.1f} seconds"
+    finally:
+        distance.close()
+
+
+def held_links(gateway: Gateway, count: int) -> list:
+    links = [socket.create_connection((HOST, gateway.link), 5) for _ in range(count)]
+    for link in links:
+        link.sendall(message(1, b"\x01"))
+    return links
+
+
+def places(program: str, folder: str) -> str:
+    ports = free_ports(4)
+    with Gateway(program, folder, 2, (ports[2], ports[3])) as called, \
+            Gateway(program, folder, 1, (ports[0], ports[1]), peers=f"[{at_port(ports[3])}]") as caller:
+        called.start()
+        links = held_links(called, 8)
+        try:
+            time.sleep(1)
+            caller.start()
+            sleeps_at(caller, b"s-place")
+            return f"{called.await_octets(b's-place', 10):.1f} seconds"
+        finally:
+            for link in links:
+                link.close()
+
+
+def gone(program: str, folder: str) -> str:
+    ports = free_ports(2)
+    with Gateway(program, folder, 7, (ports[0], ports[1])) as gateway:
+        gateway.start()
+        with socket.create_connection((HOST, gateway.link), 5) as link:
+            link.sendall(HELLO)
+            began = time.monotonic()
+            link.settimeout(125)
+            try:
+                while link.recv(65536):
+                    expect(time.monotonic() - began < 120, "the link is open after two minutes")
+                    link.settimeout(125 - (time.monotonic() - began))
+            except ConnectionError:
+                pass
+            except TimeoutError:
+                raise Failed("the link is open after two minutes") from None
+            return f"{time.monotonic() - began:.0f} seconds"
+
+
+def busy(program: str, folder: str) -> str:
+    """What the gateway tells is read, and its number said each 20 seconds by a peer of an older kind, which says nothing else."""
+    ports = free_ports(2)
+    with Gateway(program, folder, 7, (ports[0], ports[1])) as gateway:
+        gateway.start()
+        with socket.create_connection((HOST, gateway.link), 5) as link:
+            link.setblocking(False)
+            began = spoke = time.monotonic()
+            link.sendall(HELLO)
+            while time.monotonic() - began < 130:
+                if time.monotonic() - spoke > 60:
+                    spoke = time.monotonic()
+                    link.sendall(HELLO)
+                if select.select([link], [], [], 0.2)[0]:
+                    expect(link.recv(65536), f"the link was closed after {time.monotonic() - began:.0f} seconds")
+        return "130 seconds"
+
+
+def knock(program: str, folder: str) -> str:
+    """Beside a gateway without a peer, since an unproved build keeps what it gave back for a while."""
+    ports = free_ports(4)
+    with socket.create_server((HOST, 0)) as door:
+        calls = []
+
+        def hang_up() -> None:
+            while True:
+                try:
+                    door.accept()[0].close()
+                except OSError:
+                    return
+                calls.append(time.monotonic())
+
+        threading.Thread(target=hang_up, daemon=True).start()
+        with Gateway(program, folder, 1, (ports[0], ports[1]), peers=f"[{at_port(door.getsockname()[1])}]") as gateway, \
+                Gateway(program, folder, 2, (ports[2], ports[3])) as idle:
+            for each in (gateway, idle):
+                each.start()
+                for place in range(50):
+                    sleeps_at(each, b"s-%d" % place)
+            before, first = (gateway.memory(), idle.memory()), len(calls)
+            time.sleep(60)
+            more, count = gateway.memory() - before[0] - (idle.memory() - before[1]), len(calls) - first
+    said = f"{count} calls in a minute, and VmRSS grew by {more} KiB more than that of a gateway without a peer"
+    expect(count < 10 and more < 8192, said)
+    return said
+
+
+def mute(program: str, folder: str) -> str:
+    ports = free_ports(2)
+    with Gateway(program, folder, 7, (ports[0], ports[1])) as gateway:
+        gateway.start()
+        sleeps_at(gateway, b"s-mute")
+        with socket.create_connection((HOST, gateway.link), 5) as link:
+            got, end = b"", time.monotonic() + 3
+            while (left := end - time.monotonic()) > 0:
+                if select.select([link], [], [], left)[0]:
+                    got += link.recv(65536)
+        expect(got == message(1, b"\x07"), f"{len(got)} octets were told to nobody: {got[:40].hex()}")
+    return f"{len(got)} octets"
+
+
+def asks(program: str, folder: str) -> str:
+    ports = free_ports(2)
+    with Gateway(program, folder, 7, (ports[0], ports[1])) as gateway:
+        gateway.start()
+        sleeps_at(gateway, b"s-asks")
+        say(gateway, b"<all that is there>")
+        # what a gateway made since its start it tells each link that is new
+        gateway.kill()
+        gateway.start()
+        answers, end = 0, time.monotonic() + 35
+        while time.monotonic() < end:
+            with socket.create_connection((HOST, gateway.link), 5) as link:
+                link.sendall(HELLO + ASK_ALL)
+                got, until = b"", time.monotonic() + 0.5
+                while (left := until - time.monotonic()) > 0:
+                    if select.select([link], [], [], left)[0]:
+                        got += link.recv(65536)
+                answers += b"<all that is there>" in got
+    expect(1 <= answers <= 4, f"{answers} answers in 35 seconds")
+    return f"{answers} answers in 35 seconds"
+
+
+def pieces(program: str, folder: str) -> str:
+    ports = free_ports(2)
+    with Gateway(program, folder, 7, (ports[0], ports[1])) as gateway:
+        gateway.start()
+        sleeps_at(gateway, b"s-much")
+        with Client(b"p-much", gateway) as publisher:
+            publisher.connect(clean=True)
+            for place in range(100):
+                publisher.ask(publish(b"ow", (b"<%06d>" % place).ljust(4000, b"."), place + 1), published(b"ow", place + 1))
+        with socket.create_connection((HOST, gateway.link), 5) as link:
+            link.settimeout(20)
+            link.sendall(HELLO + ASK_ALL)
+            got, sizes = b"", []
+            while b"<000099>" not in got:
+                got += link.recv(65536)
+            while len(got) >= 5:
+                size = int.from_bytes(got[1:5], "big")
+                sizes += [size] if got[0] == 3 else []
+                got = got[5 + size:]
+    expect(max(sizes) <= 65536, f"{len(sizes)} deltas of up to {max(sizes)} octets")
+    return f"{len(sizes)} deltas of up to {max(sizes)} octets"
+
+
+def heard(gateway: Gateway, count: int, seconds: float) -> tuple:
+    """How many messages a link hears that asks for all, up to so many; and whether it was closed before."""
+    with socket.create_connection((HOST, gateway.link), 5) as link:
+        link.sendall(HELLO + ASK_ALL)
+        found, rest, end = 0, b"", time.monotonic() + seconds
+        while found < count and time.monotonic() < end:
+            if select.select([link], [], [], 0.2)[0]:
+                try:
+                    more = link.recv(65536)
+                except ConnectionError:
+                    more = b""
+                if not more:
+                    return found, True
+                rest += more
+                found += rest.count(b"<much")
+                rest = rest[-4:]
+    return found, False
+
+
+def fill(gateway: Gateway, clients: int, messages: int) -> None:
+    """So many clients sleep, and so many messages of 2,000 octets wait for each. Then the gateway is started again, and has made nothing since."""
+    gateway.start()
+    for place in range(clients):
+        sleeps_at(gateway, b"s-%d" % place)
+    with Client(b"p-much", gateway) as publisher:
+        publisher.connect(clean=True)
+        for place in range(messages):
+            body = (b"<much %06d>" % place).ljust(2000, b".")
+            publisher.ask(publish(b"ow", body, place + 1), published(b"ow", place + 1))
+    gateway.kill()
+    gateway.start()
+
+
+def memory(program: str, folder: str) -> str:
+    """Bodies are shared in memory, and written out for each client in an answer: 100 clients, each with 100 messages of 2,000 octets."""
+    ports = free_ports(2)
+    with Gateway(program, folder, 7, (ports[0], ports[1])) as gateway:
+        fill(gateway, 100, 100)
+        gateway.limit_memory(12_582_912)
+        found, closed = heard(gateway, 10_000, 30)
+        time.sleep(0.5)
+        gateway.alive()
+        expect(found == 0 and closed, f"{found} messages came, and the link was {'' if closed else 'not '}closed: was memory refused?")
+        with Client(b"s-0", gateway) as sleeper:
+            got = sleeper.wake(60)
+        expect(len(set(got)) == 100, f"a sleeper got {len(set(got))} messages of 100")
+        gateway.free_memory()
+        time.sleep(10)
+        found, closed = heard(gateway, 9_900, 60)
+    expect(found == 9_900, f"{found} messages were answered of 9,900")
+    return "closed, and then all answered"
+
+
+def breaks(program: str, folder: str) -> str:
+    """60 clients, each with 50 messages of 2,000 octets, at a gateway that made nothing since its start."""
+    ports, wanted = free_ports(4), 60 * 50
+    with Gateway(program, folder, 1, (ports[0], ports[1])) as full:
+        fill(full, 60, 50)
+        way, began = Cut(full.link, 1_500_000), time.monotonic()
+        with Gateway(program, folder, 2, (ports[2], ports[3]), peers=f"[{at_port(way.at)}]") as empty:
+            empty.start()
+            until(lambda: max(slot.count(b"<much") for slot in empty.slots()) >= wanted, 90, f"{wanted} messages did not come to the journal", 0.5)
+        way.close()
+    said = f"{time.monotonic() - began:.0f} seconds, {way.calls} links, {way.octets} octets"
+    expect(way.octets < 12_000_000, said)
+    return said
+
+
+def bound(program: str, folder: str) -> str:
+    """250 messages of 4,000 octets for client s1, put by gateway 200. From the second time on they change nothing."""
+    body = b"." * 4000
+    puts = [b"\x02\x02s1\xc8" + place.to_bytes(8, "big") + b"\x00\x02ow\x01" + len(body).to_bytes(2, "big") + body for place in range(1, 251)]
+    delta = message(3, b"\x01" + len(puts).to_bytes(4, "big") + b"".join(puts))
+    with Gateway(program, folder, 7) as gateway:
+        gateway.start()
+        before = gateway.memory()
+        with socket.create_connection((HOST, gateway.link), 5) as link:
+            link.settimeout(60)
+            link.sendall(HELLO)
+            for _ in range(64):
+                link.sendall(delta)
+            time.sleep(2)
+            said = f"{len(gateway.shifts())} shifts were closed, and VmRSS grew by {(gateway.memory() - before) // 1024} MiB"
+            expect(gateway.held().count(body) >= len(puts), "the delta was refused")
+    expect(len(gateway.shifts()) >= 3, said)
+    return said
+
+
+def lines(program: str, folder: str) -> str:
+    """Delta: a Take of client s1 under stamp 1.200, and the same with another duration."""
+    ports, take = free_ports(2), "0100000001 01 027331 0000000000000001 c8 00 0000 01 %s 0001 0000000000000000"
+    with Gateway(program, folder, 7, (ports[0], ports[1])) as gateway:
+        gateway.start()
+        with socket.create_connection((HOST, gateway.link), 5) as link:
+            link.sendall(message(1, b"\x07"))
+            time.sleep(0.5)
+        with socket.create_connection((HOST, gateway.link), 5) as link:
+            link.sendall(HELLO + b"".join(message(3, bytes.fromhex(take % duration)) for duration in ("003c", "003d")))
+            time.sleep(0.5)
+        links = [socket.create_connection((HOST, gateway.link), 5) for _ in range(9)]
+        time.sleep(1)
+        for link in links:
+            link.close()
+        told = gateway.told()
+    wanted = ["link: another gateway has the number 7 of this one, and is not linked: 1 times",
+              "link: gateway 200 told what contradicts what is kept, and was refused: 1 times",
+              "link: 8 that dialled are linked, and another was turned away: 1 times"]
+    expect(sorted(told.splitlines()) == sorted(wanted), f"told {told!r}")
+    return "three lines"
+
+
+def numbers(program: str, folder: str) -> str:
+    """A gateway links with those alone that its settings name."""
+    ports = free_ports(6)
+    with Gateway(program, folder, 1, (ports[0], ports[1]), numbers="[2]") as here, \
+            Gateway(program, folder, 2, (ports[2], ports[3]), peers=f"[{at_port(ports[1])}]") as friend, \
+            Gateway(program, folder, 3, (ports[4], ports[5]), peers=f"[{at_port(ports[1])}]") as stranger:
+        for gateway in (here, friend, stranger):
+            gateway.start()
+        sleeps_at(here, b"s-here")
+        friend.await_octets(b"s-here", 10)
+        time.sleep(3)
+        expect(b"s-here" not in stranger.held(), "a gateway was linked that is not among numbers")
+        told = here.told()
+    expect(told.startswith("link: gateway 3 is not among numbers, and is not linked: 1 times\n"), f"told {told!r}")
+    return "one of two"
+
+
+PARTS = {"far": far, "places": places, "gone": gone, "busy": busy, "knock": knock, "mute": mute, "pieces": pieces, "breaks": breaks, "lines": lines,
+         "numbers": numbers, "asks": asks, "bound": bound, "memory": memory}
+
+
+def main() -> int:
+    reader = argparse.ArgumentParser()
+    reader.add_argument("program")
+    reader.add_argument("parts", nargs="*", choices=[*PARTS, []])
+    asked = reader.parse_args()
+    program, good = os.path.abspath(asked.program), True
+    for part in asked.parts or PARTS:
+        with tempfile.TemporaryDirectory(prefix="links-") as folder:
+            try:
+                print(f"  ok    {part}: {PARTS[part](program, folder)}", flush=True)
+            except (Failed, OSError, subprocess.SubprocessError) as why:
+                good = False
+                print(f"  FAIL  {part}: {why}", flush=True)
+    return 0 if good else 1
+
+
+if __name__ == "__main__":
+    sys.exit(main())
