@@ -605,7 +605,8 @@ def comes_past_the_silent(program: str, folder: str) -> str:
 
 
 def says_again(program: str, folder: str) -> str:
-    """A link on which nothing comes hears the gateway's number once more within a minute or two, so that an end that is gone is noticed."""
+    """A link on which nothing comes hears the gateway's number, once more with the numbers that it is linked with, and again within a minute or
+    two, so that an end that is gone is noticed."""
     ports = free_ports(2)
     with Gateway(program, folder, 7, (ports[0], ports[1])) as gateway:
         gateway.start()
@@ -613,7 +614,7 @@ def says_again(program: str, folder: str) -> str:
             link.sendall(message_of(1, b"\xc8"))
             hello, got, began = message_of(1, bytes([7])), b"", time.monotonic()
             link.settimeout(120)
-            while got.count(hello) < 2:
+            while got.count(hello) < 3:
                 more = link.recv(4096)
                 expect(more, "the link was closed")
                 got += more
@@ -621,24 +622,28 @@ def says_again(program: str, folder: str) -> str:
 
 
 def answers_end_a_shift(program: str, folder: str) -> str:
-    """Who asks again and again for all that is there does not have the gateway keep every answer: the shift ends."""
+    """Who asks again and again for all that is there does not have the gateway keep every answer: the shift ends. Each link says another number,
+    as one number is answered once in ten seconds; and what a gateway made in a shift it tells each new link without an answer."""
     ports = free_ports(2)
     with Gateway(program, folder, 9, (ports[0], ports[1])) as gateway:
         gateway.start()
-        last, before, asked, octets = fill(gateway, 3)[-1], len(gateway.shifts()), 0, 0
+        last = fill(gateway, 3)[-1]
+        gateway.kill()
+        gateway.start()
+        before, asked, octets = len(gateway.shifts()), 0, 0
         while len(gateway.shifts()) == before:
             expect(asked < 10, f"{asked} answers of {octets} octets together were given in one shift")
-            asked, octets = asked + 1, octets + ask_all_of(gateway, last)
+            asked, octets = asked + 1, octets + ask_all_of(gateway, last, 200 + asked)
             time.sleep(0.5)
     return f"{asked} answers of {octets} octets together"
 
 
-def ask_all_of(gateway: Gateway, last: bytes) -> int:
-    """A link asks for all that is there, and hears this body. How many octets it was told."""
+def ask_all_of(gateway: Gateway, last: bytes, peer: int) -> int:
+    """A link of this number asks for all that is there, and hears this body. How many octets it was told."""
     got = b""
     with socket.create_connection((HOST, gateway.link), 5) as link:
         link.settimeout(60)
-        link.sendall(message_of(1, b"\xc8") + message_of(2, b"\x01\x00\x00\x00\x00"))
+        link.sendall(message_of(1, bytes([peer])) + message_of(2, b"\x01\x00\x00\x00\x00"))
         while last not in got[-100_000:]:
             more = link.recv(65536)
             expect(more, "the link was closed")

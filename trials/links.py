@@ -17,7 +17,7 @@ The parts, all where none is named:
   numbers of two gateways that dial the one is linked that the settings name, and a line tells of the other
   asks    a peer that asks each half second for all that is there is answered four times in 35 seconds at most
   bound   a peer that tells the same megabyte 64 times ends three shifts at least: none keeps more for links than 16 MiB and one call
-  memory  memory is refused for an answer of some 20 MB: that link is closed, clients are served, and once there is memory all is answered
+  memory  memory is refused for an answer of some 90 MB: that link is closed, clients are served, and once there is memory all is answered
 
 All but the first goes on at 127.0.0.1, at ports that the system gives, in a folder that is gone afterwards. Status 0 only where nothing failed.
 """
@@ -306,37 +306,38 @@ def heard(gateway: Gateway, count: int, seconds: float) -> tuple:
     return found, False
 
 
-def fill(gateway: Gateway, clients: int, messages: int) -> None:
-    """So many clients sleep, and so many messages of 2,000 octets wait for each. Then the gateway is started again, and has made nothing since."""
+def fill(gateway: Gateway, clients: int, messages: int, size: int = 2000) -> None:
+    """So many clients sleep, and so many messages of this size wait for each. Then the gateway is started again, and has made nothing since."""
     gateway.start()
     for place in range(clients):
         sleeps_at(gateway, b"s-%d" % place)
     with Client(b"p-much", gateway) as publisher:
         publisher.connect(clean=True)
         for place in range(messages):
-            body = (b"<much %06d>" % place).ljust(2000, b".")
+            body = (b"<much %06d>" % place).ljust(size, b".")
             publisher.ask(publish(b"ow", body, place + 1), published(b"ow", place + 1))
     gateway.kill()
     gateway.start()
 
 
 def memory(program: str, folder: str) -> str:
-    """Bodies are shared in memory, and written out for each client in an answer: 100 clients, each with 100 messages of 2,000 octets."""
+    """Bodies are shared in memory, and written out for each client in an answer: 150 clients, each with 150 messages of 4,000 octets. The limit is
+    one of addresses, of which a process has more than it uses."""
     ports = free_ports(2)
     with Gateway(program, folder, 7, (ports[0], ports[1])) as gateway:
-        fill(gateway, 100, 100)
-        gateway.limit_memory(12_582_912)
-        found, closed = heard(gateway, 10_000, 30)
+        fill(gateway, 150, 150, 4000)
+        gateway.limit_memory(16_777_216)
+        found, closed = heard(gateway, 150 * 150, 30)
         time.sleep(0.5)
         gateway.alive()
         expect(found == 0 and closed, f"{found} messages came, and the link was {'' if closed else 'not '}closed: was memory refused?")
         with Client(b"s-0", gateway) as sleeper:
             got = sleeper.wake(60)
-        expect(len(set(got)) == 100, f"a sleeper got {len(set(got))} messages of 100")
+        expect(len(set(got)) == 150, f"a sleeper got {len(set(got))} messages of 150")
         gateway.free_memory()
         time.sleep(10)
-        found, closed = heard(gateway, 9_900, 60)
-    expect(found == 9_900, f"{found} messages were answered of 9,900")
+        found, closed = heard(gateway, 149 * 150, 60)
+    expect(found == 149 * 150, f"{found} messages were answered of {149 * 150}")
     return "closed, and then all answered"
 
 
