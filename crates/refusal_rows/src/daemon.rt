@@ -1,10 +1,10 @@
 //! Settings, the start of a daemon, and its files.
 
-use crate::again::{again, beside};
+use crate::calls::{Calls, Shown, asked, beside, given};
 use crate::page::Page;
 use crate::said::{Said, Stop};
 use file_disk::{FileDisk, FileDiskFault};
-use gw_main::{SettingsFault, begin, settings};
+use gw_main::{Settings, SettingsFault, begin, settings};
 use jr_journal::MemoryDisk;
 use rep_state::Folded;
 use std::alloc::Global;
@@ -18,72 +18,92 @@ const SHORT: &str =
 const LONG: &str =
     "gateway = 1\nlisten = \"127.0.0.1:1884\"\nlink = \"127.0.0.1:1885\"\njournal = \"j\"\nworkers = 3\nsteps = 9\nadvertise = 900\nfield = [\"10.0.0.1:1884\"]\npeers = [\"10.0.0.2:1885\"]\npredefined = [{ id = 5, topic = \"t/a\" }]\n";
 
-/// Plays a row of gw_main.
-pub(crate) fn play(alloc: Global, said: &mut Said, call: &str) -> Result<(), Stop> {
-    match call {
-        "settings" => {
-            read(alloc, said, SHORT)?;
-            read(alloc, said, LONG)
+/// Settings as a text, and all settings as they are read.
+#[derive(Drop)]
+pub(crate) struct Starts {
+    text: &'static str,
+    read: Settings,
+}
+
+impl Calls for Starts {
+    fn make(alloc: Global, _call: &str, is_second: bool) -> Result<Starts, Stop> {
+        let read = beside(settings(alloc, LONG))?;
+        let text = if is_second { LONG } else { SHORT };
+        Ok(Starts { text, read })
+    }
+
+    fn call_once(&mut self, alloc: Global, said: &mut Said, call: &str) -> Result<(), Stop> {
+        match call {
+            "settings" => {
+                let read = settings(alloc, self.text);
+                given(alloc, said, read, SettingsFault::Memory)
+            }
+            "begin" => begin_once(alloc, said, &self.read),
+            _ => Err(Stop::Row),
         }
-        "begin" => begin_again(alloc, said),
-        _ => Err(Stop::Row),
     }
 }
 
-/// Reads settings, and prints them.
-fn read(alloc: Global, said: &mut Said, text: &str) -> Result<(), Stop> {
-    let read = again!(said, SettingsFault::Memory, settings(alloc, text));
-    said.number("workers", read.workers as usize);
-    said.number("steps", read.steps as usize);
-    said.number("advertise", read.advertise as usize);
-    said.number("field", read.field.len());
-    said.number("peers", read.peers.len());
-    said.number("predefined", read.predefined.entries().len());
-    Ok(())
+impl Shown for Settings {
+    fn show(self, _alloc: Global, said: &mut Said) -> Result<(), Stop> {
+        said.number("workers", self.workers as usize);
+        said.number("steps", self.steps as usize);
+        said.number("advertise", self.advertise as usize);
+        said.number("field", self.field.len());
+        said.number("peers", self.peers.len());
+        said.number("predefined", self.predefined.entries().len());
+        Ok(())
+    }
 }
 
-/// Starts a gateway on an empty disk, and prints what it prints.
-fn begin_again(alloc: Global, said: &mut Said) -> Result<(), Stop> {
-    let read = beside!(settings(alloc, LONG));
-    for _ in 0..2 {
-        let mut out = Page::new();
-        let mut err = Page::new();
-        let disk = MemoryDisk::new(alloc);
-        match begin::<Folded, _, Page, Page>(alloc, &read, disk, &mut out, &mut err) {
-            Ok(_) => {
-                said.keep(err.as_slice().is_empty());
-                said.page.append(out.as_slice());
-                return Ok(());
-            }
-            Err(status) => {
-                said.keep(status == 2 && out.as_slice().is_empty());
-                look(said, err.as_slice());
-            }
+/// Starts a gateway on an empty disk, and prints what that prints.
+fn begin_once(alloc: Global, said: &mut Said, read: &Settings) -> Result<(), Stop> {
+    let mut out = Page::new();
+    let mut err = Page::new();
+    match begun(alloc, read, &mut out, &mut err) {
+        None => {
+            said.keep(err.as_slice().is_empty());
+            said.page.append(out.as_slice());
+            Ok(())
+        }
+        Some(status) => {
+            said.keep(status == 2 && out.as_slice().is_empty());
+            Err(look(said, err.as_slice()))
         }
     }
-    Err(Stop::Other)
+}
+
+/// The status of a start that is refused.
+fn begun(alloc: Global, read: &Settings, out: &mut Page, err: &mut Page) -> Option<u8> {
+    match begin::<Folded, _, Page, Page>(alloc, read, MemoryDisk::new(alloc), out, err) {
+        Ok(_) => None,
+        Err(status) => Some(status),
+    }
 }
 
 /// Looks at what a refused start prints. The disk, which begins empty, is gone then.
-fn look(said: &mut Said, line: &[u8]) {
+fn look(said: &mut Said, line: &[u8]) -> Stop {
     if line == b"sngw: journal J4\n".as_slice() {
-        said.refuse();
-    } else {
-        said.starve(line == b"sngw: journal J1\n".as_slice());
+        return Stop::Refused;
     }
+    said.keep(line == b"sngw: journal J1\n".as_slice());
+    Stop::Starved
 }
 
-/// Plays a row of files.
+/// Opens two files.
 pub(crate) fn play_files<T: Files<File = File>>(
     rt: &T,
     alloc: Global,
     said: &mut Said,
-    call: &str,
 ) -> Result<(), Stop> {
-    if call != "FileDisk::at" {
-        return Err(Stop::Row);
+    for _ in 0..2 {
+        match asked(FileDisk::at(rt, alloc, "j"), FileDiskFault::Memory) {
+            Ok(_disk) => {
+                said.page.append(b"two files\n");
+                return Ok(());
+            }
+            Err(stop) => said.count(stop)?,
+        }
     }
-    let _disk = again!(said, FileDiskFault::Memory, FileDisk::at(rt, alloc, "j"));
-    said.page.append(b"two files\n");
-    Ok(())
+    Err(Stop::Other)
 }

@@ -1,84 +1,87 @@
 //! Digests, and answers to them.
 
-use crate::again::{again, beside};
-use crate::deltas::show_all;
+use crate::calls::{Calls, Shown, beside, front, given, written};
 use crate::replicas::{filled, first, new};
 use crate::said::{Said, Stop};
 use rep_answer::answer;
 use rep_digest::{Digest, digest_of};
 use rep_model::Replica;
 use rep_ops::OpsFault;
-use rep_state::Folded;
 use std::alloc::Global;
 
-/// Plays a row of this replica: works out the digest of the first connection and of more; answers
-/// an empty digest, and its own.
-pub(crate) fn play<R: Replica>(alloc: Global, said: &mut Said, call: &str) -> Result<(), Stop> {
-    let replica: R = first(alloc)?;
-    match call {
-        "digest_of" => {
-            work_out(alloc, said, &replica)?;
-            work_out(alloc, said, &filled::<R>(alloc)?)
+/// A replica, a digest that is answered, read and written, and its octets.
+#[derive(Drop)]
+pub(crate) struct Digests<R: Replica> {
+    replica: R,
+    digest: Digest,
+    octets: Vec<u8>,
+    out: Vec<u8>,
+}
+
+impl<R: Replica> Calls for Digests<R> {
+    fn make(alloc: Global, call: &str, is_second: bool) -> Result<Digests<R>, Stop> {
+        if call == "answer" && !is_second {
+            let replica = first(alloc)?;
+            let digest = digest_of_none::<R>(alloc)?;
+            return made_of(alloc, replica, digest);
         }
-        "answer" => {
-            ask(alloc, said, &replica, &digest(alloc, &new::<R>(alloc)?)?)?;
-            ask(alloc, said, &replica, &digest(alloc, &replica)?)
+        if call == "answer" || (call == "digest_of" && !is_second) {
+            made(alloc, first(alloc)?)
+        } else {
+            made(alloc, filled(alloc)?)
         }
-        _ => Err(Stop::Row),
+    }
+
+    fn call_once(&mut self, alloc: Global, said: &mut Said, call: &str) -> Result<(), Stop> {
+        let memory = OpsFault::Memory;
+        match call {
+            "digest_of" => given(alloc, said, digest_of(alloc, &self.replica), memory),
+            "answer" => {
+                let deltas = answer(alloc, &self.replica, &self.digest);
+                given(alloc, said, deltas, memory)
+            }
+            "Digest::decode" => {
+                let read = Digest::decode(alloc, self.octets.as_slice());
+                given(alloc, said, read, memory)
+            }
+            "Digest::encode" => {
+                let done = self.digest.encode(alloc, &mut self.out);
+                written(said, done, memory, self.out.as_slice())?;
+                said.octets(self.out.as_slice());
+                Ok(())
+            }
+            _ => Err(Stop::Row),
+        }
     }
 }
 
-/// Works out the digest of a replica.
-fn work_out<R: Replica>(alloc: Global, said: &mut Said, replica: &R) -> Result<(), Stop> {
-    let digest = again!(said, OpsFault::Memory, digest_of(alloc, replica));
-    show(alloc, said, &digest)
+/// A replica with its own digest.
+fn made<R: Replica>(alloc: Global, replica: R) -> Result<Digests<R>, Stop> {
+    let digest = digest(alloc, &replica)?;
+    made_of(alloc, replica, digest)
 }
 
-/// Answers a digest.
-fn ask<R: Replica>(
-    alloc: Global,
-    said: &mut Said,
-    replica: &R,
-    digest: &Digest,
-) -> Result<(), Stop> {
-    let deltas = again!(said, OpsFault::Memory, answer(alloc, replica, digest));
-    show_all(alloc, said, deltas.as_slice())
-}
-
-/// Plays a row of digests alone.
-pub(crate) fn play_octets(alloc: Global, said: &mut Said, call: &str) -> Result<(), Stop> {
-    let digest = digest(alloc, &filled::<Folded>(alloc)?)?;
-    match call {
-        "Digest::encode" => write(alloc, said, &digest),
-        "Digest::decode" => {
-            let octets = octets_of(alloc, &digest)?;
-            let read = again!(
-                said,
-                OpsFault::Memory,
-                Digest::decode(alloc, octets.as_slice())
-            );
-            show(alloc, said, &read)
-        }
-        _ => Err(Stop::Row),
-    }
-}
-
-/// Writes a digest after two octets.
-fn write(alloc: Global, said: &mut Said, digest: &Digest) -> Result<(), Stop> {
-    let mut out = vec![in alloc; 1u8, 2]?;
-    let _done = again!(
-        said,
-        OpsFault::Memory,
-        digest.encode(alloc, &mut out),
-        out.as_slice() == b"\x01\x02".as_slice()
-    );
-    said.octets(out.as_slice());
-    Ok(())
+/// A replica with a digest.
+fn made_of<R: Replica>(alloc: Global, replica: R, digest: Digest) -> Result<Digests<R>, Stop> {
+    let octets = octets_of(alloc, &digest)?;
+    let out = front(alloc)?;
+    Ok(Digests {
+        replica,
+        digest,
+        octets,
+        out,
+    })
 }
 
 /// The digest of a replica.
 fn digest<R: Replica>(alloc: Global, replica: &R) -> Result<Digest, Stop> {
-    Ok(beside!(digest_of(alloc, replica)))
+    beside(digest_of(alloc, replica))
+}
+
+/// The digest of a replica that has taken nothing.
+fn digest_of_none<R: Replica>(alloc: Global) -> Result<Digest, Stop> {
+    let replica: R = new(alloc)?;
+    digest(alloc, &replica)
 }
 
 /// The octets of a digest.
@@ -88,8 +91,15 @@ fn octets_of(alloc: Global, digest: &Digest) -> Result<Vec<u8>, Stop> {
     Ok(octets)
 }
 
+impl Shown for Digest {
+    fn show(self, alloc: Global, said: &mut Said) -> Result<(), Stop> {
+        show(alloc, said, &self)
+    }
+}
+
 /// Prints a digest.
 pub(crate) fn show(alloc: Global, said: &mut Said, digest: &Digest) -> Result<(), Stop> {
-    said.octets(octets_of(alloc, digest)?.as_slice());
+    let octets = octets_of(alloc, digest)?;
+    said.octets(octets.as_slice());
     Ok(())
 }

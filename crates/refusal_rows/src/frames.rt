@@ -1,6 +1,6 @@
 //! Frames.
 
-use crate::again::again;
+use crate::calls::{Calls, Shown, front, given, written};
 use crate::deltas::octets_of;
 use crate::said::{Said, Stop};
 use octets::Octets;
@@ -12,50 +12,78 @@ const SHORT: [&str; 2] = ["0a16", "6162636465666768"];
 
 const LONG: [&str; 2] = ["01000c16", "6162636465666768"];
 
-/// Plays a row.
-pub(crate) fn play(alloc: Global, said: &mut Said, call: &str) -> Result<(), Stop> {
-    match call {
-        "decode" => {
-            read(alloc, said, &SHORT)?;
-            read(alloc, said, &LONG)
+/// A datagram that is read; and a PUBLISH with so many octets of message, of which the first one
+/// needs three octets of Length and the second one does not. It is written after two octets.
+#[derive(Drop)]
+pub(crate) struct Frames {
+    datagram: Vec<u8>,
+    frame: Frame,
+    out: Vec<u8>,
+}
+
+impl Calls for Frames {
+    fn make(alloc: Global, _call: &str, is_second: bool) -> Result<Frames, Stop> {
+        if is_second {
+            made(alloc, &LONG, 248)
+        } else {
+            made(alloc, &SHORT, 249)
         }
-        "encode" => {
-            write(alloc, said, 249)?;
-            write(alloc, said, 248)
+    }
+
+    fn call_once(&mut self, alloc: Global, said: &mut Said, call: &str) -> Result<(), Stop> {
+        match call {
+            "decode" => {
+                let read = decode(alloc, self.datagram.as_slice());
+                given(alloc, said, read, FrameFault::Memory)
+            }
+            "encode" => {
+                let done = encode(alloc, &self.frame, &mut self.out);
+                show_written(said, done, self.out.as_slice())
+            }
+            _ => Err(Stop::Row),
         }
-        _ => Err(Stop::Row),
     }
 }
 
-/// Reads a PINGREQ, and prints whom it is of.
-fn read(alloc: Global, said: &mut Said, parts: &[&str]) -> Result<(), Stop> {
-    let octets = octets_of(alloc, parts)?;
-    let frame = again!(said, FrameFault::Memory, decode(alloc, octets.as_slice()));
-    match &frame {
-        Frame::PingReq { client } => {
-            said.octets(client.as_slice());
-            Ok(())
-        }
-        _ => Err(Stop::Other),
-    }
+/// What is read and written.
+fn made(alloc: Global, digits: &[&str], size: usize) -> Result<Frames, Stop> {
+    let datagram = octets_of(alloc, digits)?;
+    let frame = publish(alloc, size)?;
+    let out = front(alloc)?;
+    Ok(Frames {
+        datagram,
+        frame,
+        out,
+    })
 }
 
-/// Writes a PUBLISH with so many octets of message after two octets, and prints the first six and
-/// how many there are.
-fn write(alloc: Global, said: &mut Said, size: usize) -> Result<(), Stop> {
-    let frame = Frame::Publish {
+/// A PUBLISH with so many octets of message.
+fn publish(alloc: Global, size: usize) -> Result<Frame, Stop> {
+    let body = Octets::new(vec![in alloc; 0x61u8; size]?)?;
+    Ok(Frame::Publish {
         flags: Flags { bits: 0 },
         topic: 1,
         msg_id: 0,
-        body: Octets::new(vec![in alloc; 0x61u8; size]?)?,
-    };
-    let mut out = vec![in alloc; 1u8, 2]?;
-    let _done = again!(
-        said,
-        EncodeFault::Memory,
-        encode(alloc, &frame, &mut out),
-        out.as_slice() == b"\x01\x02".as_slice()
-    );
+        body,
+    })
+}
+
+/// Prints whom a PINGREQ is of.
+impl Shown for Frame {
+    fn show(self, _alloc: Global, said: &mut Said) -> Result<(), Stop> {
+        match &self {
+            Frame::PingReq { client } => {
+                said.octets(client.as_slice());
+                Ok(())
+            }
+            _ => Err(Stop::Other),
+        }
+    }
+}
+
+/// Prints the first six octets, and how many there are.
+fn show_written(said: &mut Said, done: Result<(), EncodeFault>, out: &[u8]) -> Result<(), Stop> {
+    written(said, done, EncodeFault::Memory, out)?;
     if out.len() >= 6 {
         said.octets(&out[..6]);
     }

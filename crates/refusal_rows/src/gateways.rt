@@ -1,7 +1,7 @@
 //! One gateway.
 
-use crate::again::{again, beside};
-use crate::deltas::{client, delta, octets_of, show, show_all};
+use crate::calls::{Calls, Shown, beside, given};
+use crate::deltas::{client, delta, octets_of, show, spelled};
 use crate::digests;
 use crate::locals::{HERE, config};
 use crate::said::{Said, Stop};
@@ -10,7 +10,9 @@ use jr_journal::MemoryDisk;
 use octets::{NoMemory, Octets};
 use rep_digest::Digest;
 use rep_model::Replica;
+use sn_local::Config;
 use std::alloc::Global;
+use std::mem;
 
 /// The first CONNECT of client s1, and its SUBSCRIBE to `t/#`.
 pub(crate) const CONNECT: &str = "08040401003c7331";
@@ -18,7 +20,7 @@ pub(crate) const CONNECT: &str = "08040401003c7331";
 pub(crate) const SUBSCRIBE: &str = "0812200002742f23";
 
 /// What they are answered if the disk fails.
-pub(crate) const NOT_CONNECTED: &[u8] = b"\x03\x05\x01";
+const NOT_CONNECTED: &[u8] = b"\x03\x05\x01";
 
 pub(crate) const NOT_SUBSCRIBED: &[u8] = b"\x08\x13\x20\x00\x00\x00\x02\x01";
 
@@ -31,71 +33,146 @@ const OTHER: [&str; 2] = [
 /// A gateway on a disk in memory.
 pub(crate) type Gateway<R> = Node<R, MemoryDisk>;
 
-/// Plays a row of this replica.
-pub(crate) fn play<R: Replica>(alloc: Global, said: &mut Said, call: &str) -> Result<(), Stop> {
-    match call {
-        "Node::open" => {
-            open::<R>(alloc, said, MemoryDisk::new(alloc))?;
-            open::<R>(alloc, said, connected::<R>(alloc)?.into_disk())
+/// A gateway, a call of it, and what it keeps.
+#[derive(Drop)]
+pub(crate) struct Gateways<R: Replica> {
+    node: Gateway<R>,
+    step: Step,
+    stood: Vec<u8>,
+    /// A disk on which another one is opened.
+    disk: MemoryDisk,
+    /// What is sent instead of an answer if the disk fails.
+    excuse: &'static [u8],
+    /// Whether the client is to connect.
+    is_new: bool,
+}
+
+impl<R: Replica> Calls for Gateways<R> {
+    fn make(alloc: Global, call: &str, is_second: bool) -> Result<Gateways<R>, Stop> {
+        match call {
+            "Node::frame" => {
+                if is_second {
+                    made(alloc, frame(alloc, SUBSCRIBE)?, NOT_SUBSCRIBED, false)
+                } else {
+                    made(alloc, frame(alloc, CONNECT)?, NOT_CONNECTED, true)
+                }
+            }
+            "Node::step" => made(alloc, frame(alloc, SUBSCRIBE)?, NOT_SUBSCRIBED, false),
+            "Node::open" => with_disk(alloc, is_second),
+            _ => made(alloc, step(alloc, call)?, b"", false),
         }
-        "Node::held" => {
-            let node: Gateway<R> = connected(alloc)?;
-            let deltas = again!(said, NoMemory, node.held(alloc));
-            show_all(alloc, said, deltas.as_slice())
-        }
-        "Node::clients" => {
-            let node: Gateway<R> = connected(alloc)?;
-            let clients = again!(said, NoMemory, node.clients(alloc));
-            said.number("clients", clients.len());
-            Ok(())
-        }
-        "Node::frame" => {
-            let way = Way {
-                is_new: true,
-                excuse: NOT_CONNECTED,
-                is_thrice: false,
-            };
-            call_again::<R>(alloc, said, &frame(alloc, CONNECT)?, &way)?;
-            call_again::<R>(alloc, said, &frame(alloc, SUBSCRIBE)?, &subscribing(false))
-        }
-        "Node::step" => {
-            call_again::<R>(alloc, said, &frame(alloc, SUBSCRIBE)?, &subscribing(true))
-        }
-        _ => {
-            let way = Way {
-                is_new: false,
-                excuse: b"",
-                is_thrice: false,
-            };
-            call_again::<R>(alloc, said, &step(alloc, call)?, &way)
+    }
+
+    fn call_once(&mut self, alloc: Global, said: &mut Said, call: &str) -> Result<(), Stop> {
+        match call {
+            "Node::open" => self.open(alloc, said),
+            "Node::held" => given(alloc, said, self.node.held(alloc), NoMemory),
+            "Node::clients" => given(alloc, said, self.node.clients(alloc), NoMemory),
+            "Node::step" => {
+                let answer = called_thrice(alloc, said, &mut self.node, &self.step);
+                self.look(alloc, said, answer)
+            }
+            _ => {
+                let answer = called(alloc, &mut self.node, &self.step);
+                self.look(alloc, said, answer)
+            }
         }
     }
 }
 
-/// How a call is made: at a gateway without clients or at one with a client; what is sent in place
-/// of the answer if the disk fails; and whether by `Node::step`, which answers three times.
-#[derive(Clone, Copy, Debug)]
-struct Way {
-    is_new: bool,
+/// A gateway for a call, with what is beside it.
+fn made<R: Replica>(
+    alloc: Global,
+    step: Step,
     excuse: &'static [u8],
-    is_thrice: bool,
+    is_new: bool,
+) -> Result<Gateways<R>, Stop> {
+    let node = before(alloc, is_new)?;
+    let stood = kept(alloc, &node)?;
+    Ok(Gateways {
+        node,
+        step,
+        stood,
+        disk: MemoryDisk::new(alloc),
+        excuse,
+        is_new,
+    })
 }
 
-/// How a SUBSCRIBE is made.
-fn subscribing(is_thrice: bool) -> Way {
-    Way {
-        is_new: false,
-        excuse: NOT_SUBSCRIBED,
-        is_thrice,
+/// A gateway beside an empty disk, or beside that of another one.
+fn with_disk<R: Replica>(alloc: Global, is_second: bool) -> Result<Gateways<R>, Stop> {
+    let mut made = made(alloc, Step::Digest, b"", true)?;
+    if is_second {
+        made.disk = connected::<R>(alloc)?.into_disk();
+    }
+    Ok(made)
+}
+
+impl<R: Replica> Gateways<R> {
+    /// Opens another gateway.
+    fn open(&mut self, alloc: Global, said: &mut Said) -> Result<(), Stop> {
+        let config = config(alloc, 1)?;
+        let disk = mem::replace(&mut self.disk, MemoryDisk::new(alloc));
+        match open::<R>(alloc, config, disk) {
+            Ok(node) => show_opened(alloc, said, &node),
+            Err((disk, fault)) => {
+                self.disk = disk;
+                Err(look_closed(said, self.disk.starved(), fault))
+            }
+        }
+    }
+
+    /// Prints an answer and what is kept then. If the call was refused, all is as it was.
+    fn look(&mut self, alloc: Global, said: &mut Said, answer: Answer) -> Result<(), Stop> {
+        match answer {
+            Ok(out) => {
+                show_out(alloc, said, &out)?;
+                let octets = kept(alloc, &self.node)?;
+                said.octets(octets.as_slice());
+                Ok(())
+            }
+            Err(fault) => {
+                let stop = self.look_refused(said, fault);
+                let stands = kept(alloc, &self.node)?;
+                said.keep(stands.as_slice() == self.stood.as_slice());
+                self.revive(alloc)?;
+                Err(stop)
+            }
+        }
+    }
+
+    /// Looks at a refusal: a gateway halts if its disk fails, and only then.
+    fn look_refused(&self, said: &mut Said, fault: NodeFault) -> Stop {
+        match fault {
+            NodeFault::Memory => {
+                said.keep(!self.node.is_halted());
+                Stop::Refused
+            }
+            NodeFault::Disk { out } => {
+                said.keep(self.node.starved() && self.node.is_halted());
+                said.keep(is_excuse(&out, self.excuse));
+                Stop::Starved
+            }
+            _ => Stop::Other,
+        }
+    }
+
+    /// Puts a gateway as it was in the place of a halted one.
+    fn revive(&mut self, alloc: Global) -> Result<(), Stop> {
+        if self.node.is_halted() {
+            self.node = before(alloc, self.is_new)?;
+        }
+        Ok(())
     }
 }
 
 /// A datagram from the client's address.
 pub(crate) fn frame(alloc: Global, digits: &str) -> Result<Step, Stop> {
     let octets = octets_of(alloc, &[digits])?;
+    let bytes = Octets::from_slice(alloc, octets.as_slice())?;
     Ok(Step::Frame {
         from: HERE,
-        bytes: Octets::from_slice(alloc, octets.as_slice())?,
+        bytes,
         now: 1,
     })
 }
@@ -110,13 +187,12 @@ fn step(alloc: Global, call: &str) -> Result<Step, Stop> {
         "Node::view" => Ok(Step::View {
             client: client(alloc)?,
         }),
-        "Node::digest" => Ok(Step::Digest),
         "Node::answer" => Ok(Step::Answer {
-            digest: beside!(Digest::decode(alloc, b"\x01\x00\x00\x00\x00")),
+            digest: beside(Digest::decode(alloc, b"\x01\x00\x00\x00\x00"))?,
         }),
         "Node::compact" => Ok(Step::Compact),
         "Node::reopen" => Ok(Step::Reopen),
-        _ => Err(Stop::Row),
+        _ => Ok(Step::Digest),
     }
 }
 
@@ -141,22 +217,41 @@ fn called_thrice<R: Replica>(
     node: &mut Gateway<R>,
     step: &Step,
 ) -> Answer {
-    let (first, second, third) = node.step(alloc, step);
+    let (first, second, third) = thrice(alloc, node, step);
     let is_ok = first.is_ok();
     said.keep(second.is_ok() == is_ok && third.is_ok() == is_ok);
     first
 }
 
+/// A call as a value, with its answers.
+fn thrice<R: Replica>(
+    alloc: Global,
+    node: &mut Gateway<R>,
+    step: &Step,
+) -> (Answer, Answer, Answer) {
+    node.step(alloc, step)
+}
+
+/// Opens a gateway.
+fn open<R: Replica>(
+    alloc: Global,
+    config: Config,
+    disk: MemoryDisk,
+) -> Result<Gateway<R>, (MemoryDisk, NodeFault)> {
+    Node::open(alloc, config, disk)
+}
+
 /// A gateway without clients.
 fn new<R: Replica>(alloc: Global) -> Result<Gateway<R>, Stop> {
-    Ok(beside!(Node::open(alloc, config(alloc, 1)?, MemoryDisk::new(alloc))))
+    let config = config(alloc, 1)?;
+    beside(open(alloc, config, MemoryDisk::new(alloc)))
 }
 
 /// A gateway at which the client is connected.
 pub(crate) fn connected<R: Replica>(alloc: Global) -> Result<Gateway<R>, Stop> {
     let mut node = new(alloc)?;
     let step = frame(alloc, CONNECT)?;
-    let _done = beside!(called(alloc, &mut node, &step));
+    beside(called(alloc, &mut node, &step))?;
     Ok(node)
 }
 
@@ -167,68 +262,11 @@ fn before<R: Replica>(alloc: Global, is_new: bool) -> Result<Gateway<R>, Stop> {
 
 /// The octets of what a gateway must keep.
 pub(crate) fn kept<R: Replica>(alloc: Global, node: &Gateway<R>) -> Result<Vec<u8>, Stop> {
-    let mut octets = Vec::new(alloc);
     let deltas = node.held(alloc)?;
-    for delta in deltas.as_slice() {
-        delta.append_to(&mut octets)?;
-    }
-    Ok(octets)
+    spelled(alloc, deltas.as_slice())
 }
 
-/// Makes a call at a gateway, and prints what it answers and what is kept then. After a failed write
-/// it is made again at a gateway as that was.
-fn call_again<R: Replica>(
-    alloc: Global,
-    said: &mut Said,
-    step: &Step,
-    way: &Way,
-) -> Result<(), Stop> {
-    let mut node: Gateway<R> = before(alloc, way.is_new)?;
-    let stood = kept(alloc, &node)?;
-    for _ in 0..2 {
-        let answer = if way.is_thrice {
-            called_thrice(alloc, said, &mut node, step)
-        } else {
-            called(alloc, &mut node, step)
-        };
-        match answer {
-            Ok(out) => {
-                show_out(alloc, said, &out)?;
-                said.octets(kept(alloc, &node)?.as_slice());
-                return Ok(());
-            }
-            Err(fault) => look(said, &node, fault, way.excuse)?,
-        }
-        said.keep(kept(alloc, &node)?.as_slice() == stood.as_slice());
-        if node.is_halted() {
-            node = before(alloc, way.is_new)?;
-        }
-    }
-    Err(Stop::Other)
-}
-
-/// Looks at a refusal: a gateway halts if its disk fails, and only then.
-fn look<R: Replica>(
-    said: &mut Said,
-    node: &Gateway<R>,
-    fault: NodeFault,
-    excuse: &[u8],
-) -> Result<(), Stop> {
-    match fault {
-        NodeFault::Memory => {
-            said.refuse();
-            said.keep(!node.is_halted());
-        }
-        NodeFault::Disk { out } => {
-            said.starve(node.starved());
-            said.keep(node.is_halted() && is_excuse(&out, excuse));
-        }
-        _ => return Err(Stop::Other),
-    }
-    Ok(())
-}
-
-/// Whether this is sent in place of the answer, and nothing else is said.
+/// Whether this is sent instead of the answer, and nothing else is said.
 pub(crate) fn is_excuse(out: &Out, excuse: &[u8]) -> bool {
     if out.made.is_some() {
         return false;
@@ -260,34 +298,22 @@ pub(crate) fn show_out(alloc: Global, said: &mut Said, out: &Out) -> Result<(), 
     Ok(())
 }
 
-/// Opens a gateway.
-fn open<R: Replica>(alloc: Global, said: &mut Said, disk: MemoryDisk) -> Result<(), Stop> {
-    let mut disk = disk;
-    for _ in 0..2 {
-        match Node::<R, MemoryDisk>::open(alloc, config(alloc, 1)?, disk) {
-            Ok(node) => {
-                said.number("records", node.records() as usize);
-                said.octets(kept(alloc, &node)?.as_slice());
-                return Ok(());
-            }
-            Err((back, fault)) => {
-                look_closed(said, &back, fault)?;
-                disk = back;
-            }
-        }
-    }
-    Err(Stop::Other)
+/// Prints what an opening reads.
+fn show_opened<R: Replica>(alloc: Global, said: &mut Said, node: &Gateway<R>) -> Result<(), Stop> {
+    said.number("records", node.records() as usize);
+    let octets = kept(alloc, node)?;
+    said.octets(octets.as_slice());
+    Ok(())
 }
 
 /// Looks at a refused opening.
-fn look_closed(said: &mut Said, disk: &MemoryDisk, fault: NodeFault) -> Result<(), Stop> {
+fn look_closed(said: &mut Said, starved: bool, fault: NodeFault) -> Stop {
     match fault {
-        NodeFault::Memory => said.refuse(),
+        NodeFault::Memory => Stop::Refused,
         NodeFault::Disk { out } => {
-            said.starve(disk.starved());
-            said.keep(is_excuse(&out, b""));
+            said.keep(starved && is_excuse(&out, b""));
+            Stop::Starved
         }
-        _ => return Err(Stop::Other),
+        _ => Stop::Other,
     }
-    Ok(())
 }

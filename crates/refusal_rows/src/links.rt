@@ -1,55 +1,76 @@
 //! Links.
 
-ghost use Rattle.gw_net.specs.Messages.{IsNumbered};
-
-use crate::again::again;
+use crate::calls::{Calls, Shown, asked, beside, given};
 use crate::deltas::{FIRST, delta, octets_of, show};
 use crate::digests;
 use crate::page::Page;
 use crate::said::{Said, Stop};
-use gw_net::{LinkFault, LinkIn, LinkMessage, LinkOutFault, link_out};
+use gw_net::{Fed, LinkFault, LinkIn, LinkMessage, LinkOutFault, link_out};
 use std::alloc::Global;
 
-/// A hello of gateway 2, an empty digest, and the first delta, cut in the middle of it.
-const PIECES: [[&str; 3]; 2] = [
-    ["010000000102", "02000000050100000000", "0300000022"],
-    [
-        "0100000001",
-        "010273310000000000000001",
-        "0100000001003c00010000000000000000",
-    ],
+/// A hello of gateway 2, an empty digest, and the first delta, which is cut.
+const PIECE: [&str; 3] = ["010000000102", "02000000050100000000", "0300000022"];
+
+const REST: [&str; 3] = [
+    "0100000001",
+    "010273310000000000000001",
+    "0100000001003c00010000000000000000",
 ];
 
-/// Plays a row.
-pub(crate) fn play(alloc: Global, said: &mut Said, call: &str) -> Result<(), Stop> {
-    match call {
-        "LinkIn::feed" => feed_all(alloc, said),
-        "link_out" => {
-            send(alloc, said, &LinkMessage::Hello(2))?;
-            send(alloc, said, &LinkMessage::Delta(delta(alloc, &FIRST)?))
-        }
-        _ => Err(Stop::Row),
-    }
+/// A link, the piece that comes in over it, and the message that goes out.
+#[derive(Drop)]
+pub(crate) struct Links {
+    link: LinkIn,
+    piece: Vec<u8>,
+    message: LinkMessage,
 }
 
-/// Octets come in over a link, in two pieces.
-fn feed_all(alloc: Global, said: &mut Said) -> Result<(), Stop> {
-    let mut link = LinkIn::new();
-    for piece in PIECES {
-        let octets = octets_of(alloc, &piece)?;
-        feed(alloc, said, &mut link, octets.as_slice())?;
+impl Calls for Links {
+    fn make(alloc: Global, _call: &str, is_second: bool) -> Result<Links, Stop> {
+        let piece = octets_of(alloc, &PIECE)?;
+        let mut link = LinkIn::new();
+        if !is_second {
+            return Ok(Links {
+                link,
+                piece,
+                message: LinkMessage::Hello(2),
+            });
+        }
+        beside(feed(alloc, &mut link, piece.as_slice()))?;
+        let piece = octets_of(alloc, &REST)?;
+        let delta = delta(alloc, &FIRST)?;
+        Ok(Links {
+            link,
+            piece,
+            message: LinkMessage::Delta(delta),
+        })
     }
-    Ok(())
+
+    fn call_once(&mut self, alloc: Global, said: &mut Said, call: &str) -> Result<(), Stop> {
+        match call {
+            "LinkIn::feed" => {
+                let fed = feed(alloc, &mut self.link, self.piece.as_slice());
+                given(alloc, said, fed, LinkFault::Memory)
+            }
+            "link_out" => send(alloc, said, &self.message),
+            _ => Err(Stop::Row),
+        }
+    }
 }
 
 /// A piece comes in.
-fn feed(alloc: Global, said: &mut Said, link: &mut LinkIn, piece: &[u8]) -> Result<(), Stop> {
-    let fed = again!(said, LinkFault::Memory, link.feed(alloc, piece));
-    said.keep(fed.fault.is_none());
-    for message in fed.messages.as_slice() {
-        show_message(alloc, said, message)?;
+fn feed(alloc: Global, link: &mut LinkIn, piece: &[u8]) -> Result<Fed, LinkFault> {
+    link.feed(alloc, piece)
+}
+
+impl Shown for Fed {
+    fn show(self, alloc: Global, said: &mut Said) -> Result<(), Stop> {
+        said.keep(self.fault.is_none());
+        for message in self.messages.as_slice() {
+            show_message(alloc, said, message)?;
+        }
+        Ok(())
     }
-    Ok(())
 }
 
 /// Prints a message.
@@ -64,17 +85,24 @@ fn show_message(alloc: Global, said: &mut Said, message: &LinkMessage) -> Result
     }
 }
 
-/// A message goes out.
-fn send(alloc: Global, said: &mut Said, message: &LinkMessage) -> Result<(), Stop>
-    requires { IsNumbered message.now }
-{
+/// A message goes out. If that is refused, nothing of it did.
+fn send(alloc: Global, said: &mut Said, message: &LinkMessage) -> Result<(), Stop> {
     let mut page = Page::new();
-    let _done = again!(
-        said,
-        LinkOutFault::Memory,
-        link_out(alloc, &mut page, message),
-        page.as_slice().is_empty()
-    );
+    let done = go_out(alloc, &mut page, message);
+    if done.is_err() {
+        said.keep(page.as_slice().is_empty());
+    }
+    asked(done, LinkOutFault::Memory)?;
     said.octets(page.as_slice());
     Ok(())
+}
+
+/// A message goes out. Nobody says a hello of gateway 0.
+fn go_out(alloc: Global, page: &mut Page, message: &LinkMessage) -> Result<(), LinkOutFault> {
+    match message {
+        LinkMessage::Hello(0) => Err(LinkOutFault::Write { written: 0 }),
+        LinkMessage::Hello(_) => link_out(alloc, page, message),
+        LinkMessage::Digest(_) => link_out(alloc, page, message),
+        LinkMessage::Delta(_) => link_out(alloc, page, message),
+    }
 }

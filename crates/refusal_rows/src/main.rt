@@ -18,7 +18,7 @@
 //! of the rows take no memory.
 #![tactic(auto)]
 
-mod again;
+mod calls;
 mod daemon;
 mod deltas;
 mod digests;
@@ -38,7 +38,7 @@ mod steps;
 mod topics;
 mod worlds;
 
-use crate::rows::{NO_GROWTH, ROWS, play};
+use crate::rows::{NO_GROWTH, ROWS, play_row};
 use crate::said::{Said, Stop};
 use anyhow::Result;
 use std::alloc::Global;
@@ -99,12 +99,12 @@ where
     E: Write,
 {
     let mut said = Said::new();
-    let mut played = play(rt, alloc, &mut said, name);
+    let mut played = play_row(rt, alloc, &mut said, name);
     let mut beside = 0u32;
     if played == Err(Stop::Memory) {
         beside = 1;
         said.page.clear();
-        played = play(rt, alloc, &mut said, name);
+        played = play_row(rt, alloc, &mut said, name);
     }
     out.write_all(b"== ")?;
     out.write_all(name.as_bytes())?;
@@ -121,8 +121,8 @@ fn ending(name: &str, played: Result<(), Stop>) -> &'static str {
     match played {
         Ok(()) => note(name),
         Err(Stop::Row) => "no such row\n",
-        Err(Stop::Other) => "another answer\n",
         Err(Stop::Memory) => "no memory\n",
+        Err(_) => "another answer\n",
     }
 }
 

@@ -1,11 +1,10 @@
 //! Replicas, and views of clients.
 
-use crate::again::{again, beside};
-use crate::deltas::{FIRST, client, delta, show_all};
+use crate::calls::{Calls, Shown, asked, beside, given, stop_of};
+use crate::deltas::{FIRST, client, delta, spelled};
 use crate::said::{Said, Stop};
-use rep_model::{Replica, TakeFault};
+use rep_model::{ClientView, Replica, TakeFault};
 use rep_ops::{ClientId, Delta, OpsFault};
-use rep_state::Folded;
 use std::alloc::Global;
 
 /// What is taken after the first connection: a subscription of client s1 and its next Take; a
@@ -23,121 +22,110 @@ const NEXT: [&str; 9] = [
     "030273310200000000000000040000000000000004",
 ];
 
-/// Plays a row of this replica.
-pub(crate) fn play<R: Replica>(alloc: Global, said: &mut Said, call: &str) -> Result<(), Stop> {
-    match call {
-        "empty" => {
-            let replica: R = empty(alloc, said)?;
-            said.octets(kept(alloc, &replica)?.as_slice());
+/// A replica, a delta that it takes, and the octets of what it keeps.
+#[derive(Drop)]
+pub(crate) struct Replicas<R: Replica> {
+    replica: R,
+    next: Delta,
+    stood: Vec<u8>,
+}
+
+impl<R: Replica> Calls for Replicas<R> {
+    fn make(alloc: Global, call: &str, _is_second: bool) -> Result<Replicas<R>, Stop> {
+        match call {
+            "empty" => made(alloc, new(alloc)?),
+            "prepare" => made(alloc, first(alloc)?),
+            _ => made(alloc, filled(alloc)?),
         }
-        "prepare" => {
-            let mut replica: R = first(alloc)?;
-            take(alloc, said, &mut replica, &NEXT)?;
-            said.octets(kept(alloc, &replica)?.as_slice());
+    }
+
+    fn call_once(&mut self, alloc: Global, said: &mut Said, call: &str) -> Result<(), Stop> {
+        let memory = TakeFault::Memory;
+        match call {
+            "empty" => show_empty::<R>(alloc, said),
+            "prepare" => self.take(alloc, said),
+            "clients" => given(alloc, said, self.replica.clients(alloc), memory),
+            "held" => given(alloc, said, self.replica.held(alloc), memory),
+            "ClientView::copy" => copy_view(alloc, said, &self.replica),
+            _ => Err(Stop::Row),
         }
-        "clients" => {
-            let replica: R = filled(alloc)?;
-            let clients = clients(alloc, said, &replica)?;
-            for client in clients.as_slice() {
-                said.octets(client.bytes());
+    }
+}
+
+impl<R: Replica> Replicas<R> {
+    /// Takes the delta. If that is refused, what is kept is as it was.
+    fn take(&mut self, alloc: Global, said: &mut Said) -> Result<(), Stop> {
+        match self.replica.prepare(alloc, &self.next) {
+            Ok(staged) => {
+                self.replica.commit(staged);
+                show(alloc, said, &self.replica)
+            }
+            Err(fault) => {
+                let stands = kept(alloc, &self.replica)?;
+                said.keep(stands.as_slice() == self.stood.as_slice());
+                Err(stop_of(&fault, &TakeFault::Memory))
             }
         }
-        "held" => {
-            let replica: R = filled(alloc)?;
-            let deltas = held(alloc, said, &replica)?;
-            show_all(alloc, said, deltas.as_slice())?;
-        }
-        _ => return Err(Stop::Row),
     }
-    Ok(())
+}
+
+/// A replica, with what is beside it.
+fn made<R: Replica>(alloc: Global, replica: R) -> Result<Replicas<R>, Stop> {
+    let next = delta(alloc, &NEXT)?;
+    let stood = kept(alloc, &replica)?;
+    Ok(Replicas {
+        replica,
+        next,
+        stood,
+    })
 }
 
 /// Makes an empty replica.
-fn empty<R: Replica>(alloc: Global, said: &mut Said) -> Result<R, Stop> {
-    for _ in 0..2 {
-        match R::empty(alloc) {
-            Ok(replica) => return Ok(replica),
-            Err(TakeFault::Memory) => said.refuse(),
-            Err(_) => return Err(Stop::Other),
-        }
-    }
-    Err(Stop::Other)
+fn show_empty<R: Replica>(alloc: Global, said: &mut Said) -> Result<(), Stop> {
+    let replica: R = asked(R::empty(alloc), TakeFault::Memory)?;
+    show(alloc, said, &replica)
 }
 
-/// Asks for the clients of a replica.
-fn clients<R: Replica>(alloc: Global, said: &mut Said, replica: &R) -> Result<Vec<ClientId>, Stop> {
-    for _ in 0..2 {
-        match replica.clients(alloc) {
-            Ok(clients) => return Ok(clients),
-            Err(TakeFault::Memory) => said.refuse(),
-            Err(_) => return Err(Stop::Other),
-        }
-    }
-    Err(Stop::Other)
+/// Prints the octets of what a replica must keep.
+fn show<R: Replica>(alloc: Global, said: &mut Said, replica: &R) -> Result<(), Stop> {
+    let octets = kept(alloc, replica)?;
+    said.octets(octets.as_slice());
+    Ok(())
 }
 
-/// Asks for what a replica must keep.
-fn held<R: Replica>(alloc: Global, said: &mut Said, replica: &R) -> Result<Vec<Delta>, Stop> {
-    for _ in 0..2 {
-        match replica.held(alloc) {
-            Ok(deltas) => return Ok(deltas),
-            Err(TakeFault::Memory) => said.refuse(),
-            Err(_) => return Err(Stop::Other),
+/// Prints clients.
+impl Shown for Vec<ClientId> {
+    fn show(self, _alloc: Global, said: &mut Said) -> Result<(), Stop> {
+        for client in self.as_slice() {
+            said.octets(client.bytes());
         }
+        Ok(())
     }
-    Err(Stop::Other)
 }
 
 /// An empty replica.
 pub(crate) fn new<R: Replica>(alloc: Global) -> Result<R, Stop> {
-    Ok(beside!(R::empty(alloc)))
-}
-
-/// A replica takes the delta that hexadecimal digits spell.
-fn take<R: Replica>(
-    alloc: Global,
-    said: &mut Said,
-    replica: &mut R,
-    parts: &[&str],
-) -> Result<(), Stop> {
-    let delta = delta(alloc, parts)?;
-    let before = kept(alloc, &*replica)?;
-    for _ in 0..2 {
-        match replica.prepare(alloc, &delta) {
-            Ok(staged) => {
-                replica.commit(staged);
-                return Ok(());
-            }
-            Err(TakeFault::Memory) => {
-                said.refuse();
-                said.keep(kept(alloc, &*replica)?.as_slice() == before.as_slice());
-            }
-            Err(_) => return Err(Stop::Other),
-        }
-    }
-    Err(Stop::Other)
+    beside(R::empty(alloc))
 }
 
 /// A replica that took the first connection.
 pub(crate) fn first<R: Replica>(alloc: Global) -> Result<R, Stop> {
     let mut replica = new(alloc)?;
-    take_beside(alloc, &mut replica, &delta(alloc, &FIRST)?)?;
+    let delta = delta(alloc, &FIRST)?;
+    take(alloc, &mut replica, &delta)?;
     Ok(replica)
 }
 
 /// A replica that took more.
 pub(crate) fn filled<R: Replica>(alloc: Global) -> Result<R, Stop> {
     let mut replica = first(alloc)?;
-    take_beside(alloc, &mut replica, &delta(alloc, &NEXT)?)?;
+    let delta = delta(alloc, &NEXT)?;
+    take(alloc, &mut replica, &delta)?;
     Ok(replica)
 }
 
 /// Takes a delta beside the call.
-pub(crate) fn take_beside<R: Replica>(
-    alloc: Global,
-    replica: &mut R,
-    delta: &Delta,
-) -> Result<(), Stop> {
+pub(crate) fn take<R: Replica>(alloc: Global, replica: &mut R, delta: &Delta) -> Result<(), Stop> {
     match replica.prepare(alloc, delta) {
         Ok(staged) => {
             replica.commit(staged);
@@ -149,25 +137,26 @@ pub(crate) fn take_beside<R: Replica>(
 
 /// The octets of what a replica must keep.
 fn kept<R: Replica>(alloc: Global, replica: &R) -> Result<Vec<u8>, Stop> {
-    let mut octets = Vec::new(alloc);
-    let deltas = beside!(replica.held(alloc));
-    for delta in deltas.as_slice() {
-        delta.append_to(&mut octets)?;
-    }
-    Ok(octets)
+    let deltas = beside(replica.held(alloc))?;
+    spelled(alloc, deltas.as_slice())
 }
 
-/// Plays a row of views.
-pub(crate) fn play_view(alloc: Global, said: &mut Said, call: &str) -> Result<(), Stop> {
-    if call != "ClientView::copy" {
-        return Err(Stop::Row);
-    }
-    let replica: Folded = filled(alloc)?;
+/// Copies the view of the client.
+fn copy_view<R: Replica>(alloc: Global, said: &mut Said, replica: &R) -> Result<(), Stop> {
     let client = client(alloc)?;
-    let Some(view) = replica.view_of(&client) else {
-        return Err(Stop::Other);
-    };
-    let copy = again!(said, OpsFault::Memory, view.copy(alloc));
+    match replica.view_of(&client) {
+        Some(view) => show_copy(said, view, view.copy(alloc)),
+        None => Err(Stop::Other),
+    }
+}
+
+/// Prints how many messages wait in a copy of a view.
+fn show_copy(
+    said: &mut Said,
+    view: &ClientView,
+    copy: Result<ClientView, OpsFault>,
+) -> Result<(), Stop> {
+    let copy = asked(copy, OpsFault::Memory)?;
     said.keep(copy.session == view.session && copy.stamp == view.stamp);
     said.number("pending", copy.pending.as_slice().len());
     Ok(())

@@ -1,10 +1,22 @@
 //! The rows.
 
+use crate::calls::play;
+use crate::daemon::{self, Starts};
+use crate::deltas::Deltas;
+use crate::digests::Digests;
+use crate::frames::Frames;
+use crate::gateways::Gateways;
+use crate::journals::{Disks, Journals};
+use crate::links::Links;
+use crate::locals::Locals;
+use crate::replicas::Replicas;
 use crate::said::{Said, Stop};
-use crate::{
-    daemon, deltas, digests, frames, gateways, journals, links, locals, replicas, serving,
-    sessions, shifts, steps, topics, worlds,
-};
+use crate::serving;
+use crate::sessions::Sessions;
+use crate::shifts::{self, Shifts};
+use crate::steps::Steps;
+use crate::topics::Topics;
+use crate::worlds::Worlds;
 use rep_plain::Plain;
 use rep_state::Folded;
 use std::alloc::Global;
@@ -102,68 +114,68 @@ pub(crate) const NO_GROWTH: [&str; 6] = [
 ];
 
 /// Plays a row.
-pub(crate) fn play<T>(rt: &T, alloc: Global, said: &mut Said, name: &str) -> Result<(), Stop>
+pub(crate) fn play_row<T>(rt: &T, alloc: Global, said: &mut Said, name: &str) -> Result<(), Stop>
 where
     T: Threads + Wait + Sync + Files<File = File>,
 {
-    let Some((home, call)) = name.split_once("::") else {
-        return Err(Stop::Row);
-    };
-    match home {
-        "gw_shift" => shifts::play(rt, alloc, said, call),
-        "file_disk" => daemon::play_files(rt, alloc, said, call),
-        "gw_serve" => serving::play(rt, alloc, said, call),
-        "gw_world" | "gw_play" | "gw_net" | "gw_main" | "gw_node" | "jr_journal" => {
-            play_high(alloc, said, home, call)
-        }
-        _ => play_low(alloc, said, home, call),
+    match name {
+        "gw_shift::Shift::open" => play::<Shifts>(alloc, said, "Shift::open"),
+        "gw_shift::Shift::call" => shifts::play(rt, alloc, said, "Shift::call"),
+        "gw_shift::Shift::after" => shifts::play(rt, alloc, said, "Shift::after"),
+        "file_disk::FileDisk::at" => daemon::play_files(rt, alloc, said),
+        "gw_serve::serve" => serving::play(rt, alloc, said),
+        _ => play_named(alloc, said, name),
     }
 }
 
-/// Plays a row of a journal, a gateway or a field.
-fn play_high(alloc: Global, said: &mut Said, home: &str, call: &str) -> Result<(), Stop> {
-    match home {
-        "jr_journal" => journals::play(alloc, said, call),
-        "gw_node" => {
-            gateways::play::<Plain>(alloc, said, call)?;
-            gateways::play::<Folded>(alloc, said, call)
-        }
-        "gw_world" => {
-            worlds::play_run::<Plain>(alloc, said, call)?;
-            worlds::play_run::<Folded>(alloc, said, call)
-        }
-        "gw_play" => worlds::play_script(alloc, said, call),
-        "gw_net" => links::play(alloc, said, call),
-        _ => daemon::play(alloc, said, call),
+/// Plays a row for which nothing is asked of the system.
+fn play_named(alloc: Global, said: &mut Said, name: &str) -> Result<(), Stop> {
+    match name.split_once("::") {
+        Some((home, call)) => play_low(alloc, said, home, call),
+        None => Err(Stop::Row),
     }
 }
 
 /// Plays a row of a format, a replica or the step table.
 fn play_low(alloc: Global, said: &mut Said, home: &str, call: &str) -> Result<(), Stop> {
     match home {
-        "sn_frame" => frames::play(alloc, said, call),
-        "sn_topic" => topics::play(alloc, said, call),
-        "sn_session" => sessions::play(alloc, said, call),
-        "rep_op" | "rep_ops" => deltas::play(alloc, said, call),
-        "rep_model" => replicas::play_view(alloc, said, call),
-        "rep_plain" => replicas::play::<Plain>(alloc, said, call),
-        "rep_state" => replicas::play::<Folded>(alloc, said, call),
-        "sn_local" => locals::play(alloc, said, call),
-        "rep_digest" | "rep_answer" => play_digests(alloc, said, call),
-        _ => {
-            steps::play::<Plain>(alloc, said, call)?;
-            steps::play::<Folded>(alloc, said, call)
-        }
+        "sn_frame" => play::<Frames>(alloc, said, call),
+        "sn_topic" => play::<Topics>(alloc, said, call),
+        "sn_session" => play::<Sessions>(alloc, said, call),
+        "rep_op" | "rep_ops" => play::<Deltas>(alloc, said, call),
+        "rep_plain" => play::<Replicas<Plain>>(alloc, said, call),
+        "rep_state" | "rep_model" => play::<Replicas<Folded>>(alloc, said, call),
+        "sn_local" => play::<Locals>(alloc, said, call),
+        _ => play_high(alloc, said, home, call),
     }
 }
 
-/// Plays a row of digests.
-fn play_digests(alloc: Global, said: &mut Said, call: &str) -> Result<(), Stop> {
-    match call {
-        "digest_of" | "answer" => {
-            digests::play::<Plain>(alloc, said, call)?;
-            digests::play::<Folded>(alloc, said, call)
+/// Plays a row of a journal, a gateway or a field.
+fn play_high(alloc: Global, said: &mut Said, home: &str, call: &str) -> Result<(), Stop> {
+    match home {
+        "jr_journal" if call == "Journal::open" => play::<Disks>(alloc, said, call),
+        "jr_journal" => play::<Journals>(alloc, said, call),
+        "gw_world" | "gw_play" => play::<Worlds>(alloc, said, call),
+        "gw_net" => play::<Links>(alloc, said, call),
+        "gw_main" => play::<Starts>(alloc, said, call),
+        _ => play_both(alloc, said, home, call),
+    }
+}
+
+/// Plays a row on both replicas.
+fn play_both(alloc: Global, said: &mut Said, home: &str, call: &str) -> Result<(), Stop> {
+    match home {
+        "gw_node" => {
+            play::<Gateways<Plain>>(alloc, said, call)?;
+            play::<Gateways<Folded>>(alloc, said, call)
         }
-        _ => digests::play_octets(alloc, said, call),
+        "rep_digest" | "rep_answer" => {
+            play::<Digests<Plain>>(alloc, said, call)?;
+            play::<Digests<Folded>>(alloc, said, call)
+        }
+        _ => {
+            play::<Steps<Plain>>(alloc, said, call)?;
+            play::<Steps<Folded>>(alloc, said, call)
+        }
     }
 }

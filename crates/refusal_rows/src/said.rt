@@ -6,7 +6,7 @@ use std::alloc::{AllocError, AllocFailed};
 use std::io::Write;
 use thiserror::Error;
 
-/// Why a row is not played to its end.
+/// Why a row is not played to its end, or why its call is made again.
 #[derive(Clone, Copy, Debug, PartialEq, Eq, Error)]
 pub(crate) enum Stop {
     /// There is no such row.
@@ -18,6 +18,12 @@ pub(crate) enum Stop {
     /// Memory was refused beside the call.
     #[error("out of memory")]
     Memory,
+    /// The call answers Memory.
+    #[error("the call is refused memory")]
+    Refused,
+    /// The call answers that its disk failed.
+    #[error("the disk is refused memory")]
+    Starved,
 }
 
 impl From<AllocError> for Stop {
@@ -45,7 +51,7 @@ pub(crate) struct Said {
     pub(crate) page: Page,
     /// How often the call answered Memory.
     pub(crate) refused: u32,
-    /// How often it answered that its disk failed, and that disk was refused memory.
+    /// How often it answered that its disk failed.
     pub(crate) disk: u32,
 }
 
@@ -59,15 +65,14 @@ impl Said {
         }
     }
 
-    /// The call answered Memory.
-    pub(crate) fn refuse(&mut self) {
-        self.refused = self.refused.saturating_add(1);
-    }
-
-    /// The call answered that its disk failed. Was memory refused there?
-    pub(crate) fn starve(&mut self, starved: bool) {
-        self.disk = self.disk.saturating_add(1);
-        self.keep(starved);
+    /// Counts a call that is made again. Any other answer ends the row.
+    pub(crate) fn count(&mut self, stop: Stop) -> Result<(), Stop> {
+        match stop {
+            Stop::Refused => self.refused = self.refused.saturating_add(1),
+            Stop::Starved => self.disk = self.disk.saturating_add(1),
+            _ => return Err(stop),
+        }
+        Ok(())
     }
 
     /// Prints `changed`, unless all is as it must be.

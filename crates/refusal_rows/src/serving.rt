@@ -2,16 +2,17 @@
 
 ghost use Rattle.std.specs.Prelude.{◌≤◌, ◌+◌, length, IfSome};
 
-use crate::again::beside;
-use crate::gateways::{Gateway, connected};
+use crate::calls::stop_of;
 use crate::said::{Said, Stop};
+use crate::shifts::begun;
 use gw_serve::{Cause, serve};
 use gw_shift::{Pass, Shift};
 use gw_wire::{Arrival, OpenGate, Post, Tally, Unsent, Wire, WireFault};
-use jr_journal::{Failures, MemoryDisk};
-use rep_state::Folded;
+use jr_journal::{Disk, Failures};
+use rep_model::Replica;
 use sn_local::Addr;
 use std::alloc::Global;
+use std::mem;
 use std::sync::Wait;
 use std::thread::{self, Threads};
 
@@ -88,58 +89,57 @@ impl Post for Mute {
     }
 }
 
-/// Plays a row.
+/// Plays the row.
 pub(crate) fn play<T: Wait + Threads + Sync>(
     rt: &T,
     alloc: Global,
     said: &mut Said,
-    call: &str,
 ) -> Result<(), Stop> {
-    if call != "serve" {
-        return Err(Stop::Row);
-    }
-    let node: Gateway<Folded> = connected(alloc)?;
-    let (shift, passes) = beside!(Shift::open(alloc, node, 1, 9));
-    serve_again(rt, alloc, said, &shift, passes)
-}
-
-/// Serves the datagram with one worker.
-fn serve_again<T: Wait + Threads + Sync>(
-    rt: &T,
-    alloc: Global,
-    said: &mut Said,
-    shift: &Shift<Folded, MemoryDisk>,
-    passes: Vec<Pass>,
-) -> Result<(), Stop> {
-    let mut passes = passes;
+    let (shift, mut passes) = begun(alloc)?;
     for _ in 0..2 {
-        if passes.len() != 1 {
-            return Err(Stop::Other);
-        }
-        let mut wire = Brief::new();
-        match serve(rt, alloc, shift, passes, &mut wire, &Mute, &OpenGate, 200) {
-            Ok(served) => {
-                said.number("passes", served.passes.len());
-                said.number("taken", served.taken.len());
-                said.number("left", served.left.len());
-                return Ok(());
-            }
-            Err(fault) => {
-                look(said, fault.cause)?;
-                passes = fault.passes;
-            }
+        match serve_once(rt, alloc, said, &shift, &mut passes) {
+            Ok(()) => return Ok(()),
+            Err(stop) => said.count(stop)?,
         }
     }
     Err(Stop::Other)
 }
 
-/// Looks at why serving ended early.
-fn look(said: &mut Said, cause: Cause) -> Result<(), Stop> {
-    match cause {
-        Cause::Memory => {
-            said.refuse();
+/// Serves the datagram with one worker.
+fn serve_once<T, R, D>(
+    rt: &T,
+    alloc: Global,
+    said: &mut Said,
+    shift: &Shift<R, D>,
+    passes: &mut Vec<Pass>,
+) -> Result<(), Stop>
+where
+    T: Threads + Wait + Sync,
+    R: Replica + Send,
+    R::Staged: Send,
+    D: Disk + Drop + Send,
+{
+    let mut wire = Brief::new();
+    let given = mem::replace(passes, Vec::new(alloc));
+    if given.is_empty() {
+        return Err(Stop::Other);
+    }
+    match serve(rt, alloc, shift, given, &mut wire, &Mute, &OpenGate, 200) {
+        Ok(served) => {
+            said.number("passes", served.passes.len());
+            said.number("taken", served.taken.len());
+            said.number("left", served.left.len());
             Ok(())
         }
-        _ => Err(Stop::Other),
+        Err(fault) => {
+            *passes = fault.passes;
+            Err(look(said, fault.cause, passes.len()))
+        }
     }
+}
+
+/// Looks at why serving ended early: the pass is back.
+fn look(said: &mut Said, cause: Cause, passes: usize) -> Stop {
+    said.keep(passes == 1);
+    stop_of(&cause, &Cause::Memory)
 }

@@ -1,10 +1,10 @@
 //! Sessions.
 
-use crate::again::{again, beside};
+use crate::calls::{Calls, asked, beside};
 use crate::deltas::delta;
 use crate::said::{Said, Stop};
 use rep_ops::{Delta, Op};
-use sn_session::Session;
+use sn_session::{Session, SessionOp};
 use sn_tables::SessionFault;
 use std::alloc::Global;
 
@@ -20,40 +20,74 @@ const CHANGES: [&str; 7] = [
     "0102733100000000000000010105070007",
 ];
 
-/// Plays a row.
-pub(crate) fn play(alloc: Global, said: &mut Said, call: &str) -> Result<(), Stop> {
-    let changes = delta(alloc, &CHANGES)?;
-    match call {
-        "Session::apply" => {
-            let session = changed(alloc, said, &changes)?;
-            show(said, &session);
+/// A session, changes, and how many of them it has.
+#[derive(Drop)]
+pub(crate) struct Sessions {
+    session: Session,
+    changes: Delta,
+    done: usize,
+}
+
+impl Calls for Sessions {
+    fn make(alloc: Global, call: &str, _is_second: bool) -> Result<Sessions, Stop> {
+        let changes = delta(alloc, &CHANGES)?;
+        let mut made = Sessions {
+            session: Session::empty(alloc),
+            changes,
+            done: 0,
+        };
+        if call == "Session::copy" {
+            beside(change_all(alloc, &mut Said::new(), &mut made))?;
         }
-        "Session::copy" => {
-            let session = changed(alloc, &mut Said::new(), &changes)?;
-            let copy = again!(said, SessionFault::Memory, session.copy(alloc));
-            said.keep(copy == session);
-            show(said, &copy);
+        Ok(made)
+    }
+
+    fn call_once(&mut self, alloc: Global, said: &mut Said, call: &str) -> Result<(), Stop> {
+        match call {
+            "Session::apply" => {
+                change_all(alloc, said, self)?;
+                show(said, &self.session);
+                Ok(())
+            }
+            "Session::copy" => copy(alloc, said, &self.session),
+            _ => Err(Stop::Row),
         }
-        _ => return Err(Stop::Row),
+    }
+}
+
+/// Makes the changes that are left.
+fn change_all(alloc: Global, said: &mut Said, made: &mut Sessions) -> Result<(), Stop> {
+    let ops = made.changes.ops();
+    for at in made.done..ops.len() {
+        if let Op::Session { change, .. } = &ops[at] {
+            change_once(alloc, said, &mut made.session, change)?;
+        }
+        made.done = at + 1;
     }
     Ok(())
 }
 
-/// The empty session after changes.
-fn changed(alloc: Global, said: &mut Said, changes: &Delta) -> Result<Session, Stop> {
-    let mut session = Session::empty(alloc);
-    for op in changes.ops() {
-        if let Op::Session { change, .. } = op {
-            let before = beside!(session.copied(alloc));
-            let _done = again!(
-                said,
-                SessionFault::Memory,
-                session.apply(alloc, change),
-                session == before
-            );
-        }
+/// Makes a change. If it is refused, the session is as it was.
+fn change_once(
+    alloc: Global,
+    said: &mut Said,
+    session: &mut Session,
+    change: &SessionOp,
+) -> Result<(), Stop> {
+    let before = beside(session.copied(alloc))?;
+    let done = session.apply(alloc, change);
+    if done.is_err() {
+        said.keep(*session == before);
     }
-    Ok(session)
+    asked(done, SessionFault::Memory)
+}
+
+/// Copies a session.
+fn copy(alloc: Global, said: &mut Said, session: &Session) -> Result<(), Stop> {
+    let copy = asked(session.copy(alloc), SessionFault::Memory)?;
+    said.keep(copy == *session);
+    show(said, &copy);
+    Ok(())
 }
 
 /// Prints how much a session has.

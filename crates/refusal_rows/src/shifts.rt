@@ -1,6 +1,6 @@
 //! Shifts.
 
-use crate::again::beside;
+use crate::calls::{Calls, beside};
 use crate::gateways::{Gateway, NOT_SUBSCRIBED, SUBSCRIBE, connected, frame, is_excuse, show_out};
 use crate::said::{Said, Stop};
 use gw_node::{NodeFault, Step};
@@ -10,14 +10,70 @@ use rep_state::Folded;
 use std::alloc::Global;
 use std::sync::{Arc, Wait};
 
-type Shared = Shift<Folded, MemoryDisk>;
+/// A shift of a gateway on a disk in memory.
+pub(crate) type Shared = Shift<Folded, MemoryDisk>;
 
-/// A shift, its pass, and how many calls its history has.
+/// A gateway of which a shift is opened. While that is done, it is not here.
+#[derive(Drop)]
+pub(crate) struct Shifts {
+    node: Option<Gateway<Folded>>,
+}
+
+impl Calls for Shifts {
+    fn make(alloc: Global, _call: &str, _is_second: bool) -> Result<Shifts, Stop> {
+        let node = connected(alloc)?;
+        Ok(Shifts { node: Some(node) })
+    }
+
+    fn call_once(&mut self, alloc: Global, said: &mut Said, _call: &str) -> Result<(), Stop> {
+        let Some(node) = self.node.take() else {
+            return Err(Stop::Other);
+        };
+        match open(alloc, node, 2) {
+            Ok((_, passes)) => {
+                said.number("passes", passes.len());
+                Ok(())
+            }
+            Err((node, ShiftFault::Memory)) => {
+                said.keep(!node.is_halted());
+                self.node = Some(node);
+                Err(Stop::Refused)
+            }
+        }
+    }
+}
+
+/// Opens a shift of nine calls.
+fn open(
+    alloc: Global,
+    node: Gateway<Folded>,
+    passes: usize,
+) -> Result<(Shared, Vec<Pass>), (Gateway<Folded>, ShiftFault)> {
+    Shift::open(alloc, node, passes.clamp(1, 2), 9)
+}
+
+/// A shift of one pass, with it.
+pub(crate) fn begun(alloc: Global) -> Result<(Shared, Vec<Pass>), Stop> {
+    let node = connected(alloc)?;
+    beside(open(alloc, node, 1))
+}
+
+/// A shift, its pass unless a call has it, and how many calls its history has.
 #[derive(Drop)]
 struct Work {
     shift: Shared,
-    pass: Pass,
+    pass: Option<Pass>,
     calls: u64,
+}
+
+/// A shift without calls.
+fn work(alloc: Global) -> Result<Work, Stop> {
+    let (shift, mut passes) = begun(alloc)?;
+    Ok(Work {
+        shift,
+        pass: passes.pop(),
+        calls: 0,
+    })
 }
 
 /// Plays a row.
@@ -27,113 +83,119 @@ pub(crate) fn play<W: Wait>(
     said: &mut Said,
     call: &str,
 ) -> Result<(), Stop> {
+    let mut work = work(alloc)?;
+    let step = Arc::new(alloc, frame(alloc, SUBSCRIBE)?)?;
     match call {
-        "Shift::open" => open(alloc, said),
-        "Shift::call" => call_again(rt, alloc, said),
-        "Shift::after" => after(rt, alloc, said),
+        "Shift::call" => {
+            call_again(rt, alloc, said, &mut work, &step)?;
+            close(alloc, said, work)
+        }
+        "Shift::after" => {
+            beside(work.call(rt, alloc, &mut Said::new(), step))?;
+            work.ask_again(rt, alloc, said)
+        }
         _ => Err(Stop::Row),
     }
 }
 
-/// Opens a shift.
-fn open(alloc: Global, said: &mut Said) -> Result<(), Stop> {
-    let mut node: Gateway<Folded> = connected(alloc)?;
-    for _ in 0..2 {
-        match Shift::open(alloc, node, 2, 9) {
-            Ok((_, passes)) => {
-                said.number("passes", passes.len());
-                return Ok(());
-            }
-            Err((back, ShiftFault::Memory)) => {
-                said.refuse();
-                said.keep(!back.is_halted());
-                node = back;
-            }
-        }
-    }
-    Err(Stop::Other)
-}
-
-/// A shift for one pass.
-fn begun(alloc: Global) -> Result<Work, Stop> {
-    let node: Gateway<Folded> = connected(alloc)?;
-    let (shift, mut passes) = beside!(Shift::open(alloc, node, 1, 9));
-    match passes.pop() {
-        Some(pass) => Ok(Work {
-            shift,
-            pass,
-            calls: 0,
-        }),
-        None => Err(Stop::Other),
-    }
-}
-
-/// Makes a call through a shift, and prints what it answers.
-fn call_again<W: Wait>(rt: &W, alloc: Global, said: &mut Said) -> Result<(), Stop> {
-    let work = begun(alloc)?;
-    let step = frame(alloc, SUBSCRIBE)?;
-    let work = called(rt, alloc, said, work, Arc::new(alloc, step)?)?;
-    close(alloc, said, work)
-}
-
-/// Makes a call, again if it is refused memory. If the disk was, the row begins again.
-fn called<W: Wait>(
+/// Makes a call through a shift, and makes it again if it is refused memory.
+fn call_again<W: Wait>(
     rt: &W,
     alloc: Global,
     said: &mut Said,
-    work: Work,
-    step: Arc<Step>,
-) -> Result<Work, Stop> {
-    let mut work = work;
+    work: &mut Work,
+    step: &Arc<Step>,
+) -> Result<(), Stop> {
     for _ in 0..2 {
-        let Work { shift, pass, calls } = work;
-        match shift.call(rt, alloc, pass, beside!(step.clone())) {
-            Ok((pass, out, number)) => {
-                said.keep(number == calls.saturating_add(1));
-                show_out(alloc, said, &out)?;
-                return Ok(Work {
-                    shift,
-                    pass,
-                    calls: number,
-                });
-            }
-            Err((pass, fault)) => {
-                let calls = calls.saturating_add(look(said, calls, fault)?);
-                work = Work { shift, pass, calls };
-            }
+        let share = beside(step.clone())?;
+        match work.call(rt, alloc, said, share) {
+            Ok(()) => return Ok(()),
+            Err(stop) => said.count(stop)?,
         }
     }
     Err(Stop::Other)
 }
 
-/// Looks at a refusal: says how many calls more the history has. Memory before the gateway was
-/// reached is no call.
-fn look(said: &mut Said, calls: u64, fault: CallFault) -> Result<u64, Stop> {
-    match fault {
-        CallFault::Memory => {
-            said.refuse();
-            Ok(0)
+impl Work {
+    /// Makes a call, and prints what it answers.
+    fn call<W: Wait>(
+        &mut self,
+        rt: &W,
+        alloc: Global,
+        said: &mut Said,
+        step: Arc<Step>,
+    ) -> Result<(), Stop> {
+        let Some(pass) = self.pass.take() else {
+            return Err(Stop::Other);
+        };
+        match self.shift.call(rt, alloc, pass, step) {
+            Ok((pass, out, number)) => {
+                self.pass = Some(pass);
+                self.count(said, number);
+                show_out(alloc, said, &out)
+            }
+            Err((pass, fault)) => {
+                self.pass = Some(pass);
+                Err(self.look(said, fault))
+            }
         }
-        CallFault::Node { number, fault } => {
-            said.keep(number == calls.saturating_add(1));
-            look_inside(said, fault)
+    }
+
+    /// One call more is in the history, under this number.
+    fn count(&mut self, said: &mut Said, number: u64) {
+        self.calls = self.calls.saturating_add(1);
+        said.keep(number == self.calls);
+    }
+
+    /// Looks at a refusal. Memory before the gateway was reached is no call.
+    fn look(&mut self, said: &mut Said, fault: CallFault) -> Stop {
+        match fault {
+            CallFault::Memory => Stop::Refused,
+            CallFault::Node { number, fault } => {
+                self.count(said, number);
+                look_inside(said, fault)
+            }
+            _ => Stop::Other,
         }
-        _ => Err(Stop::Other),
+    }
+
+    /// Asks for the deltas that were made, and asks again if that is refused memory.
+    fn ask_again<W: Wait>(&self, rt: &W, alloc: Global, said: &mut Said) -> Result<(), Stop> {
+        let Some(pass) = &self.pass else {
+            return Err(Stop::Other);
+        };
+        for _ in 0..2 {
+            match made(rt, alloc, &self.shift, pass) {
+                Ok(made) => {
+                    said.number("deltas", made);
+                    return Ok(());
+                }
+                Err(stop) => said.count(stop)?,
+            }
+        }
+        Err(Stop::Other)
     }
 }
 
-/// Looks at a refusal of the gateway.
-fn look_inside(said: &mut Said, fault: NodeFault) -> Result<u64, Stop> {
+/// Looks at a refusal of the gateway. If its disk was refused memory, the row begins again.
+fn look_inside(said: &mut Said, fault: NodeFault) -> Stop {
     match fault {
-        NodeFault::Memory => {
-            said.refuse();
-            Ok(1)
-        }
+        NodeFault::Memory => Stop::Refused,
         NodeFault::Disk { out } => {
-            said.starve(is_excuse(&out, NOT_SUBSCRIBED));
-            Err(Stop::Memory)
+            said.keep(is_excuse(&out, NOT_SUBSCRIBED));
+            said.disk = said.disk.saturating_add(1);
+            Stop::Memory
         }
-        _ => Err(Stop::Other),
+        _ => Stop::Other,
+    }
+}
+
+/// How many deltas were made.
+fn made<W: Wait>(rt: &W, alloc: Global, shift: &Shared, pass: &Pass) -> Result<usize, Stop> {
+    match shift.after(rt, alloc, pass, 0, 9) {
+        Ok(made) => Ok(made.len()),
+        Err(CallFault::Memory) => Err(Stop::Refused),
+        Err(_) => Err(Stop::Other),
     }
 }
 
@@ -141,7 +203,9 @@ fn look_inside(said: &mut Said, fault: NodeFault) -> Result<u64, Stop> {
 fn close(alloc: Global, said: &mut Said, work: Work) -> Result<(), Stop> {
     let Work { shift, pass, calls } = work;
     let mut passes = Vec::new(alloc);
-    passes.push(pass)?;
+    if let Some(pass) = pass {
+        passes.push(pass)?;
+    }
     match shift.end().close(passes) {
         Ok(closed) => {
             said.keep(closed.history.len() as u64 == calls);
@@ -149,33 +213,4 @@ fn close(alloc: Global, said: &mut Said, work: Work) -> Result<(), Stop> {
         }
         Err(_) => Err(Stop::Other),
     }
-}
-
-/// Asks for the deltas that were made.
-fn after<W: Wait>(rt: &W, alloc: Global, said: &mut Said) -> Result<(), Stop> {
-    let Work { shift, pass, .. } = begun(alloc)?;
-    let step = Arc::new(alloc, frame(alloc, SUBSCRIBE)?)?;
-    let (pass, _, _) = beside!(shift.call(rt, alloc, pass, step));
-    ask(rt, alloc, said, &shift, &pass)
-}
-
-/// Asks again if that is refused memory.
-fn ask<W: Wait>(
-    rt: &W,
-    alloc: Global,
-    said: &mut Said,
-    shift: &Shared,
-    pass: &Pass,
-) -> Result<(), Stop> {
-    for _ in 0..2 {
-        match shift.after(rt, alloc, pass, 0, 9) {
-            Ok(made) => {
-                said.number("deltas", made.len());
-                return Ok(());
-            }
-            Err(CallFault::Memory) => said.refuse(),
-            Err(_) => return Err(Stop::Other),
-        }
-    }
-    Err(Stop::Other)
 }

@@ -1,66 +1,77 @@
 //! Topic names, filters and predefined topic ids.
 
-use crate::again::{again, beside};
+use crate::calls::{Calls, Shown, beside, given};
 use crate::said::{Said, Stop};
 use sn_topic::{Filter, Predefined, TopicFault, TopicName};
 use std::alloc::Global;
 
-/// Plays a row.
-pub(crate) fn play(alloc: Global, said: &mut Said, call: &str) -> Result<(), Stop> {
-    match call {
-        "Filter::new" | "Filter::copy" => play_filter(alloc, said, call),
-        "Predefined::new" | "Predefined::copy" => play_table(alloc, said, call),
-        "TopicName::new" => {
-            let name = again!(said, TopicFault::Memory, TopicName::new(alloc, b"t/a"));
-            said.octets(name.bytes());
-            Ok(())
+/// What is copied.
+#[derive(Drop)]
+pub(crate) struct Topics {
+    name: TopicName,
+    filter: Filter,
+    table: Predefined,
+}
+
+impl Calls for Topics {
+    fn make(alloc: Global, _call: &str, _is_second: bool) -> Result<Topics, Stop> {
+        let name = topic(alloc)?;
+        let filter = beside(Filter::new(alloc, b"t/#"))?;
+        let table = predefined(alloc)?;
+        Ok(Topics {
+            name,
+            filter,
+            table,
+        })
+    }
+
+    fn call_once(&mut self, alloc: Global, said: &mut Said, call: &str) -> Result<(), Stop> {
+        let memory = TopicFault::Memory;
+        match call {
+            "TopicName::new" => given(alloc, said, TopicName::new(alloc, b"t/a"), memory),
+            "TopicName::copy" => given(alloc, said, self.name.copy(alloc), memory),
+            "Filter::new" => given(alloc, said, Filter::new(alloc, b"t/#"), memory),
+            "Filter::copy" => given(alloc, said, self.filter.copy(alloc), memory),
+            "Predefined::new" => {
+                let entries = entries(alloc)?;
+                given(alloc, said, Predefined::new(alloc, entries), memory)
+            }
+            "Predefined::copy" => given(alloc, said, self.table.copy(alloc), memory),
+            _ => Err(Stop::Row),
         }
-        "TopicName::copy" => {
-            let name = topic(alloc)?;
-            let copy = again!(said, TopicFault::Memory, name.copy(alloc));
-            said.octets(copy.bytes());
-            Ok(())
-        }
-        _ => Err(Stop::Row),
     }
 }
 
-/// Makes or copies a filter.
-fn play_filter(alloc: Global, said: &mut Said, call: &str) -> Result<(), Stop> {
-    let filter = beside!(Filter::new(alloc, b"t/#"));
-    let made = if call == "Filter::new" {
-        again!(said, TopicFault::Memory, Filter::new(alloc, b"t/#"))
-    } else {
-        again!(said, TopicFault::Memory, filter.copy(alloc))
-    };
-    said.octets(made.bytes());
-    Ok(())
+impl Shown for TopicName {
+    fn show(self, _alloc: Global, said: &mut Said) -> Result<(), Stop> {
+        said.octets(self.bytes());
+        Ok(())
+    }
 }
 
-/// Makes or copies a table of predefined topic ids, and prints what id 5 stands for.
-fn play_table(alloc: Global, said: &mut Said, call: &str) -> Result<(), Stop> {
-    let table = predefined(alloc)?;
-    let made = if call == "Predefined::new" {
-        again!(
-            said,
-            TopicFault::Memory,
-            Predefined::new(alloc, entries(alloc)?)
-        )
-    } else {
-        again!(said, TopicFault::Memory, table.copy(alloc))
-    };
-    match made.name(5) {
-        Some(name) => {
-            said.octets(name.bytes());
-            Ok(())
+impl Shown for Filter {
+    fn show(self, _alloc: Global, said: &mut Said) -> Result<(), Stop> {
+        said.octets(self.bytes());
+        Ok(())
+    }
+}
+
+/// Prints what id 5 stands for.
+impl Shown for Predefined {
+    fn show(self, _alloc: Global, said: &mut Said) -> Result<(), Stop> {
+        match self.name(5) {
+            Some(name) => {
+                said.octets(name.bytes());
+                Ok(())
+            }
+            None => Err(Stop::Other),
         }
-        None => Err(Stop::Other),
     }
 }
 
 /// A topic name.
 fn topic(alloc: Global) -> Result<TopicName, Stop> {
-    Ok(beside!(TopicName::new(alloc, b"t/a")))
+    beside(TopicName::new(alloc, b"t/a"))
 }
 
 /// What a gateway knows beforehand: id 5.
@@ -72,5 +83,6 @@ fn entries(alloc: Global) -> Result<Vec<(u16, TopicName)>, Stop> {
 
 /// The same as a table.
 pub(crate) fn predefined(alloc: Global) -> Result<Predefined, Stop> {
-    Ok(beside!(Predefined::new(alloc, entries(alloc)?)))
+    let entries = entries(alloc)?;
+    beside(Predefined::new(alloc, entries))
 }
