@@ -49,7 +49,10 @@ fn datagrams(call: &str) -> Option<(&'static str, &'static str)> {
         "unsubscribe" => ("08040401003c7331 0812200002742f23", "0814000003742f23"),
         "other" => ("", "030100"),
         "publish_in" => ("08040401003c7331 0812200002742f61", "080c200001000478"),
-        "pubrel_in" => ("08040401003c7331 090a00000001742f61 080c400001000578", "04100005"),
+        "pubrel_in" => (
+            "08040401003c7331 090a00000001742f61 080c400001000578",
+            "04100005",
+        ),
         "ack_in" => (
             "08040401003c7331 0812200002742f61 080c200001000478 tick",
             "070d0001000100",
@@ -178,7 +181,15 @@ impl<R: Replica> Steps<R> {
                 duration,
                 ..
             } => connect(
-                alloc, replica, dialogs, HERE, *flags, *protocol, *duration, &self.client, 1,
+                alloc,
+                replica,
+                dialogs,
+                HERE,
+                *flags,
+                *protocol,
+                *duration,
+                &self.client,
+                1,
             ),
             Frame::Disconnect { duration } => {
                 disconnect(alloc, replica, dialogs, HERE, *duration, 1)

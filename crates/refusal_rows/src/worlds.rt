@@ -13,7 +13,8 @@ use rep_state::Folded;
 use std::alloc::Global;
 
 /// A script about two gateways.
-const FIELD: &[u8] = b"gateway 1\ngateway 2\nframe 1 7 0 08040401003c7331\nframe 1 7 0 0812200002742f23\nanswer 2 1\ntake 2 3\ncompact 1\nrestart 1 9\ntick 1 1000\nshow 1\n";
+const FIELD: &[u8] =
+    b"gateway 1\ngateway 2\nframe 1 7 0 08040401003c7331\nframe 1 7 0 0812200002742f23\nanswer 2 1\ntake 2 3\ncompact 1\nrestart 1 9\ntick 1 1000\nshow 1\n";
 
 /// A script about one gateway.
 const SCRIPT: &[u8] =
