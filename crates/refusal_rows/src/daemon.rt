@@ -1,10 +1,10 @@
 //! Settings, the start of a daemon, and its files.
 
-use crate::calls::{Calls, Shown, asked, beside, given};
+use crate::calls::{Calls, asked, beside};
 use crate::page::Page;
 use crate::said::{Said, Stop};
 use file_disk::{FileDisk, FileDiskFault};
-use gw_main::{Settings, SettingsFault, begin, settings};
+use gw_main::{SettingsFault, begin, settings};
 use jr_journal::MemoryDisk;
 use rep_state::Folded;
 use std::alloc::Global;
@@ -18,49 +18,44 @@ const SHORT: &str =
 const LONG: &str =
     "gateway = 1\nlisten = \"127.0.0.1:1884\"\nlink = \"127.0.0.1:1885\"\njournal = \"j\"\nworkers = 3\nsteps = 9\nadvertise = 900\nfield = [\"10.0.0.1:1884\"]\npeers = [\"10.0.0.2:1885\"]\npredefined = [{ id = 5, topic = \"t/a\" }]\n";
 
-/// Settings as a text, and all settings as they are read.
+/// Settings.
 #[derive(Drop)]
 pub(crate) struct Starts {
     text: &'static str,
-    read: Settings,
 }
 
 impl Calls for Starts {
-    fn make(alloc: Global, _call: &str, is_second: bool) -> Result<Starts, Stop> {
-        let read = beside(settings(alloc, LONG))?;
+    fn make(_alloc: Global, _call: &str, is_second: bool) -> Result<Starts, Stop> {
         let text = if is_second { LONG } else { SHORT };
-        Ok(Starts { text, read })
+        Ok(Starts { text })
     }
 
     fn call_once(&mut self, alloc: Global, said: &mut Said, call: &str) -> Result<(), Stop> {
         match call {
-            "settings" => {
-                let read = settings(alloc, self.text);
-                given(alloc, said, read, SettingsFault::Memory)
-            }
-            "begin" => begin_once(alloc, said, &self.read),
+            "settings" => read(alloc, said, self.text),
+            "begin" => begin_once(alloc, said),
             _ => Err(Stop::Row),
         }
     }
 }
 
-impl Shown for Settings {
-    fn show(self, _alloc: Global, said: &mut Said) -> Result<(), Stop> {
-        said.number("workers", self.workers as usize);
-        said.number("steps", self.steps as usize);
-        said.number("advertise", self.advertise as usize);
-        said.number("field", self.field.len());
-        said.number("peers", self.peers.len());
-        said.number("predefined", self.predefined.entries().len());
-        Ok(())
-    }
+/// Reads settings, and prints them.
+fn read(alloc: Global, said: &mut Said, text: &str) -> Result<(), Stop> {
+    let read = asked(settings(alloc, text), SettingsFault::Memory)?;
+    said.number("workers", read.workers as usize);
+    said.number("steps", read.steps as usize);
+    said.number("advertise", read.advertise as usize);
+    said.number("field", read.field.len());
+    said.number("peers", read.peers.len());
+    said.number("predefined", read.predefined.entries().len());
+    Ok(())
 }
 
 /// Starts a gateway on an empty disk, and prints what that prints.
-fn begin_once(alloc: Global, said: &mut Said, read: &Settings) -> Result<(), Stop> {
+fn begin_once(alloc: Global, said: &mut Said) -> Result<(), Stop> {
     let mut out = Page::new();
     let mut err = Page::new();
-    match begun(alloc, read, &mut out, &mut err) {
+    match begun(alloc, &mut out, &mut err)? {
         None => {
             said.keep(err.as_slice().is_empty());
             said.page.append(out.as_slice());
@@ -74,10 +69,11 @@ fn begin_once(alloc: Global, said: &mut Said, read: &Settings) -> Result<(), Sto
 }
 
 /// The status of a start that is refused.
-fn begun(alloc: Global, read: &Settings, out: &mut Page, err: &mut Page) -> Option<u8> {
-    match begin::<Folded, _, Page, Page>(alloc, read, MemoryDisk::new(alloc), out, err) {
-        Ok(_) => None,
-        Err(status) => Some(status),
+fn begun(alloc: Global, out: &mut Page, err: &mut Page) -> Result<Option<u8>, Stop> {
+    let read = beside(settings(alloc, LONG))?;
+    match begin::<Folded, _, Page, Page>(alloc, &read, MemoryDisk::new(alloc), out, err) {
+        Ok(_) => Ok(None),
+        Err(status) => Ok(Some(status)),
     }
 }
 

@@ -67,7 +67,7 @@ struct Work {
 }
 
 /// A shift without calls.
-fn work(alloc: Global) -> Result<Work, Stop> {
+fn at_work(alloc: Global) -> Result<Work, Stop> {
     let (shift, mut passes) = begun(alloc)?;
     Ok(Work {
         shift,
@@ -83,7 +83,7 @@ pub(crate) fn play<W: Wait>(
     said: &mut Said,
     call: &str,
 ) -> Result<(), Stop> {
-    let mut work = work(alloc)?;
+    let mut work = at_work(alloc)?;
     let step = Arc::new(alloc, frame(alloc, SUBSCRIBE)?)?;
     match call {
         "Shift::call" => {
