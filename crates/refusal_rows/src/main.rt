@@ -66,19 +66,24 @@ where
     O: Write,
     E: Write,
 {
-    if let Some(count) = line.strip_prefix("use ") {
-        spend(alloc, count.parse().unwrap_or(0))?;
-        return Ok(());
+    if line == "all" {
+        return play_all(rt, alloc, out, err);
     }
-    let mut is_row = false;
-    for name in ROWS {
-        if line == name || line == "all" {
-            is_row = true;
-            show(rt, alloc, out, err, name)?;
-        }
+    match line.strip_prefix("use ") {
+        Some(count) => Ok(spend(alloc, count.parse().unwrap_or(0))?),
+        None => show(rt, alloc, out, err, line),
     }
-    if !is_row {
-        out.write_all(b"no such row\n")?;
+}
+
+/// Plays each row.
+fn play_all<T, O, E>(rt: &T, alloc: Global, out: &mut O, err: &mut E) -> Result<()>
+where
+    T: Threads + Wait + Sync + Files<File = File>,
+    O: Write,
+    E: Write,
+{
+    for name in ROWS.split_whitespace() {
+        show(rt, alloc, out, err, name)?;
     }
     Ok(())
 }
@@ -128,7 +133,7 @@ fn ending(name: &str, played: Result<(), Stop>) -> &'static str {
 
 /// What stands after a row whose call asks for no memory.
 fn note(name: &str) -> &'static str {
-    for other in NO_GROWTH {
+    for other in NO_GROWTH.split_whitespace() {
         if name == other {
             return "no growth\n";
         }
