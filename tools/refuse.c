@@ -7,6 +7,7 @@ extern void *__libc_realloc(void *, size_t);
 extern char *getenv(const char *);
 extern unsigned long strtoul(const char *, char **, int);
 extern long write(int, const void *, size_t);
+extern long syscall(long, ...);
 
 static unsigned long seen, first, last;
 static int ready;
@@ -32,12 +33,20 @@ void *malloc(size_t size) { return refused() ? 0 : __libc_malloc(size); }
 void *realloc(void *block, size_t size) { return refused() ? 0 : __libc_realloc(block, size); }
 
 __attribute__((destructor)) static void tell(void) {
+    static int told;
     char line[32];
     int at = 32;
     unsigned long left = seen;
-    if (!getenv("COUNT")) return;
+    if (told || !getenv("COUNT")) return;
+    told = 1;
     line[--at] = '\n';
     do line[--at] = '0' + left % 10; while (left /= 10);
     write(2, "growths ", 8);
     write(2, line + at, 32 - at);
+}
+
+/* A program with threads ends by this call, without destructors. 231 is exit_group of x86_64. */
+__attribute__((noreturn)) void _exit(int status) {
+    tell();
+    for (;;) syscall(231, (long)status);
 }
