@@ -2,7 +2,9 @@
 #
 #   make run    plays the scripts of examples/ and shows script and output side by side
 #   make prove  proves the simulator and all that it stands on, and builds it; make run plays it from then on
-#   make test   proves every crate from nothing, tries the edits that must fail, runs every test and program
+#   make test   proves every crate from nothing, tries the edits that must fail, runs every test and program, and refuses
+#               memory to each call in turn
+#   make refusals  after make test: refuses memory in all row programs, and shows that a wrong answer would be seen
 #   make trust  writes docs/TRUST.md, and its long form into out/trust: the contracts that carry the promise, and what they need
 #   make edits  tries more edits that must fail, which make test leaves out for the sake of its time; CRATES=NAME those of a crate
 #   make daemon proves and builds the daemon, and tries it over sockets on this machine
@@ -29,7 +31,7 @@ SOURCES := $(shell find crates.txt crates -path '*/out' -prune -o \( -name '*.rt
 
 TRIALS = $(PROGRAMS:%=out/trial/%)
 
-.PHONY: run prove test edits bench trust daemon field trial client look install deb uninstall clean
+.PHONY: run prove test refusals edits bench trust daemon field trial client look install deb uninstall clean
 
 run:
 	@sh examples/show.sh
@@ -45,7 +47,15 @@ test:
 	python3 tools/voice.py
 	python3 tools/links.py
 	python3 tools/edits.py --check
+	python3 tools/refusals_page.py --check
 	sh tools/ci.sh
+	python3 tools/refusals.py
+
+refusals:
+	python3 tools/refusals.py
+	! python3 tools/refusals.py --control
+	python3 tools/refusals.py --checked
+	python3 tools/refusals.py --programs
 
 trust:
 	python3 tools/trust.py
