@@ -10,11 +10,10 @@ use crate::wire::Wire;
 use crate::words::{Command, Settings};
 use octets::NoMemory;
 use sn_frame::{EncodeFault, Frame, FrameFault, decode, encode};
-use std::alloc::AllocError;
-use std::io;
+use std::alloc::{AllocError, Global};
 use std::net::Net;
 use std::time::{Clock, Duration, Instant, SystemTime};
-use thiserror::Error;
+use std::{fmt, io};
 
 /// The most octets of a datagram.
 const DATAGRAM: usize = 65_535;
@@ -27,20 +26,30 @@ const CONNECT: Command<'static> = Command::Connect {
 };
 
 /// Why a run failed.
-#[derive(Debug, Drop, Error)]
+#[derive(Drop)]
 pub(crate) enum Fault {
     /// The socket, the clock or the output failed.
-    #[error("{0}")]
     Io(io::Error),
     /// The client's port cannot be had.
-    #[error("port {port}: {error}; one run of a client at a time, or another --port")]
     Port { port: u16, error: io::Error },
     /// What was asked for fits no frame.
-    #[error("{0}")]
     Frame(EncodeFault),
     /// Memory ran out.
-    #[error("out of memory")]
     Memory,
+}
+
+impl fmt::Display for Fault {
+    fn fmt<W: fmt::Write>(&self, f: &mut fmt::Formatter<W>) -> fmt::Result {
+        match self {
+            Fault::Io(error) => write!(f, "{error}"),
+            Fault::Port { port, error } => write!(
+                f,
+                "port {port}: {error}; one run of a client at a time, or another --port"
+            ),
+            Fault::Frame(fault) => write!(f, "{fault}"),
+            Fault::Memory => f.write_str("out of memory"),
+        }
+    }
 }
 
 impl From<io::Error> for Fault {
@@ -169,6 +178,22 @@ impl Run {
         command: &Command<'_>,
     ) -> Result<Outcome, Fault> {
         let mut buffer = vec![in rt.alloc(); 0_u8; DATAGRAM]?;
+        self.speak_and_hear(rt, command, buffer.as_mut_slice())?;
+        let outcome = self.concluded();
+        if outcome == Outcome::Unanswered {
+            let why = self.silence();
+            println!(rt; "-- {why}")?;
+        }
+        Ok(outcome)
+    }
+
+    /// Speaks and hears until the exchange is over.
+    fn speak_and_hear<R: Clock + Print + AllocGlobal>(
+        &mut self,
+        rt: &R,
+        command: &Command<'_>,
+        buffer: &mut [u8],
+    ) -> Result<(), Fault> {
         let start = Instant::now(rt)?;
         for _ in 0..u64::MAX {
             let moment = millis(start.elapsed(rt)?);
@@ -176,14 +201,9 @@ impl Run {
                 break;
             }
             self.speak(rt, moment)?;
-            self.hear(rt, command, buffer.as_mut_slice(), moment)?;
+            self.hear(rt, command, buffer, moment)?;
         }
-        let outcome = self.concluded();
-        if outcome == Outcome::Unanswered {
-            let why = self.silence();
-            println!(rt; "-- {why}")?;
-        }
-        Ok(outcome)
+        Ok(())
     }
 
     /// Whether the exchange is over. One that is followed by another is over with its answer: what
@@ -220,9 +240,7 @@ impl Run {
         if self.pace.sent.is_some() {
             self.talk.repeat();
         }
-        if let Some(frame) = &self.talk.pending {
-            say(rt, &self.wire, frame, self.hex)?;
-        }
+        say(rt, &self.wire, &self.talk.pending, self.hex)?;
         self.pace.note_sent(moment);
         Ok(())
     }
@@ -239,7 +257,7 @@ impl Run {
             return Ok(());
         };
         let octets = &buffer[..size];
-        match decode(rt.alloc(), octets) {
+        match frame_of(rt.alloc(), octets) {
             Ok(frame) => {
                 tell(rt, "<-", &frame, octets, self.hex)?;
                 self.answer(rt, command, &frame, moment)
@@ -261,35 +279,67 @@ impl Run {
         frame: &Frame,
         moment: u64,
     ) -> Result<(), Fault> {
-        if let Some(reply) = acknowledgement(frame) {
-            say(rt, &self.wire, &reply, self.hex)?;
-        }
-        if let Some(reply) = told_will(rt.alloc(), command, frame)? {
-            say(rt, &self.wire, &reply, self.hex)?;
-        }
-        if matches!(frame, Frame::Disconnect { .. })
-            && !matches!(self.talk.awaited, Awaited::Farewell)
-        {
+        self.acknowledge(rt, frame)?;
+        say(
+            rt,
+            &self.wire,
+            &told_will(rt.alloc(), command, frame)?,
+            self.hex,
+        )?;
+        if is_farewell(frame, self.talk.awaited) {
             println!(rt;
                 "-- the gateway has no connection with this client at this port: connect"
             )?;
         }
+        self.take(frame, moment);
+        Ok(())
+    }
+
+    /// Sends what acknowledges a frame, if anything does.
+    fn acknowledge<R: Print + AllocGlobal>(&self, rt: &R, frame: &Frame) -> Result<(), Fault> {
+        say(rt, &self.wire, &acknowledgement(frame), self.hex)
+    }
+
+    /// The exchange goes on, or ends, by a frame.
+    fn take(&mut self, frame: &Frame, moment: u64) {
         if matches!(self.talk.awaited, Awaited::Waking) {
             self.pace.wait_from(moment);
         }
         let goes_on = self.talk.take(frame);
         self.pace.note_came(moment, goes_on);
-        Ok(())
     }
 }
 
-/// Sends a frame, and tells it.
-fn say<R: Print + AllocGlobal>(rt: &R, wire: &Wire, frame: &Frame, hex: bool) -> Result<(), Fault> {
-    let mut octets = Vec::new(rt.alloc());
-    encode(rt.alloc(), frame, &mut octets)?;
+/// Whether a frame ends the connection, where no end was asked for.
+fn is_farewell(frame: &Frame, awaited: Awaited) -> bool {
+    matches!(frame, Frame::Disconnect { .. }) && !matches!(awaited, Awaited::Farewell)
+}
+
+/// Sends a frame, if there is one, and tells it.
+fn say<R: Print + AllocGlobal>(
+    rt: &R,
+    wire: &Wire,
+    frame: &Option<Frame>,
+    hex: bool,
+) -> Result<(), Fault> {
+    let Some(frame) = frame else {
+        return Ok(());
+    };
+    let octets = written(rt.alloc(), frame)?;
     tell(rt, "->", frame, octets.as_slice(), hex)?;
-    wire.send(octets.as_slice())?;
-    Ok(())
+    Ok(wire.send(octets.as_slice())?)
+}
+
+/// The frame that a datagram spells. Nothing is said of it, so that who asks carries no clause on.
+fn frame_of(alloc: Global, octets: &[u8]) -> Result<Frame, FrameFault> {
+    decode(alloc, octets)
+}
+
+/// The octets of a frame.
+fn written(alloc: Global, frame: &Frame) -> Result<Vec<u8>, EncodeFault> {
+    let mut octets = Vec::new(alloc);
+    encode(alloc, frame, &mut octets)?;
+    Ok(octets)
 }
 
 /// Prints a frame in words, and its octets where they are asked for.

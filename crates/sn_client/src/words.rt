@@ -119,10 +119,24 @@ impl From<Error> for Unread {
 
 /// What a command line says.
 pub(crate) fn read<'a>(alloc: Global, words: &'a [String]) -> Result<Settings<'a>, Unread> {
-    let matches = command_line(alloc)?.try_get_matches_from(words)?;
-    let Some((name, inner)) = matches.subcommand() else {
-        return Err(Unread::Word("COMMAND is missing"));
-    };
+    let matches = matched(alloc, words)?;
+    match matches.subcommand() {
+        Some((name, inner)) => settings_of(alloc, name, inner),
+        None => Err(Unread::Word("COMMAND is missing")),
+    }
+}
+
+/// The words, matched with the command line.
+fn matched<'a>(alloc: Global, words: &'a [String]) -> Result<ArgMatches<'a>, Error> {
+    command_line(alloc)?.try_get_matches_from(words)
+}
+
+/// What the words of a command say.
+fn settings_of<'a>(
+    alloc: Global,
+    name: &str,
+    inner: &ArgMatches<'a>,
+) -> Result<Settings<'a>, Unread> {
     let client = client(inner)?;
     Ok(Settings {
         gateway: gateway(inner)?,

@@ -10,6 +10,9 @@ static OF_PUBLISH: [&str; 4] = ["0", "1", "2", "-1"];
 /// The qualities of service that a subscription or a will may have.
 static OF_OTHERS: [&str; 3] = ["0", "1", "2"];
 
+/// What help says of `--qos`.
+const QOS: &str = "The quality of service";
+
 /// What help says behind the options.
 const AFTER: &str =
     "The session is at the gateway and belongs to the client's address: so all runs of one client have one port.
@@ -34,49 +37,64 @@ pub(super) fn command_line<'a>(alloc: Global) -> Result<Command<'a>, AllocError>
         .subcommand_required(true)
         .arg_required_else_help(true)
         .disable_help_subcommand(true);
-    let command = with_addresses(alloc, command)?;
-    let command = with_manners(alloc, command)?;
+    let command = with_options(alloc, command)?;
     let command = with_subscriptions(alloc, command)?;
     with_messages(alloc, command)
 }
 
+/// A command with these arguments. It says nothing of them, so that who calls it carries on no more
+/// than a command.
+fn with<'a>(command: Command<'a>, args: Vec<Arg<'a>>) -> Result<Command<'a>, AllocError> {
+    command.args(args)
+}
+
+/// A command with one more below it, of which it says nothing either.
+fn and<'a>(
+    command: Command<'a>,
+    more: Result<Command<'a>, AllocError>,
+) -> Result<Command<'a>, AllocError> {
+    command.subcommand(more?)
+}
+
 /// The commands about a connection and what a client asks for.
 fn with_subscriptions<'a>(alloc: Global, command: Command<'a>) -> Result<Command<'a>, AllocError> {
-    command
-        .subcommand(plain(alloc, "search", "Ask whether a gateway is there"))?
-        .subcommand(connect(alloc)?)?
-        .subcommand(subscribe(alloc)?)?
-        .subcommand(unsubscribe(alloc)?)
+    let command = and(
+        command,
+        Ok(plain(alloc, "search", "Ask whether a gateway is there")),
+    )?;
+    let command = and(command, connect(alloc))?;
+    let command = and(command, subscribe(alloc))?;
+    and(command, unsubscribe(alloc))
 }
 
 /// The commands about messages that go and come, and the end of a connection.
 fn with_messages<'a>(alloc: Global, command: Command<'a>) -> Result<Command<'a>, AllocError> {
-    command
-        .subcommand(publish(alloc)?)?
-        .subcommand(sleep(alloc)?)?
-        .subcommand(plain(
-            alloc,
-            "wake",
-            "Wake up for the messages that were kept, and sleep on",
-        ))?
-        .subcommand(listen(alloc)?)?
-        .subcommand(plain(alloc, "disconnect", "End the connection"))
+    let command = and(command, publish(alloc))?;
+    let command = and(command, sleep(alloc))?;
+    let wake = plain(
+        alloc,
+        "wake",
+        "Wake up for the messages that were kept, and sleep on",
+    );
+    let command = and(command, Ok(wake))?;
+    let command = and(command, listen(alloc))?;
+    and(
+        command,
+        Ok(plain(alloc, "disconnect", "End the connection")),
+    )
 }
 
-/// The options of every command that say who speaks, and with whom.
-fn with_addresses<'a>(alloc: Global, command: Command<'a>) -> Result<Command<'a>, AllocError> {
-    command
-        .arg(gateway(alloc))?
-        .arg(id(alloc))?
-        .arg(port(alloc))
-}
-
-/// The options of every command that say how.
-fn with_manners<'a>(alloc: Global, command: Command<'a>) -> Result<Command<'a>, AllocError> {
-    command
-        .arg(connect_first(alloc))?
-        .arg(wait(alloc))?
-        .arg(hex(alloc))
+/// The options of every command: who speaks, with whom, and how.
+fn with_options<'a>(alloc: Global, command: Command<'a>) -> Result<Command<'a>, AllocError> {
+    let options = vec![in alloc;
+        gateway(alloc),
+        id(alloc),
+        port(alloc),
+        connect_first(alloc),
+        wait(alloc),
+        hex(alloc),
+    ]?;
+    with(command, options)
 }
 
 /// The option `--gateway`.
@@ -168,8 +186,8 @@ fn word<'a>(alloc: Global, name: &'a str, value: &'a str, help: &'a str) -> Arg<
 }
 
 /// The option `--qos`.
-fn qos<'a>(alloc: Global, levels: &'static [&'static str]) -> Arg<'a> {
-    text(alloc, "qos", "QOS", "The quality of service")
+fn qos<'a>(alloc: Global, levels: &'static [&'static str], help: &'a str) -> Arg<'a> {
+    text(alloc, "qos", "QOS", help)
         .value_parser(ValueParser::Names(levels))
         .allow_negative_numbers(true)
         .default_value("0")
@@ -184,68 +202,80 @@ fn predefined<'a>(alloc: Global) -> Arg<'a> {
     )
 }
 
-/// The command `connect`.
-fn connect<'a>(alloc: Global) -> Result<Command<'a>, AllocError> {
-    let keep_alive = text(
+/// The option `--keep-alive`.
+fn keep_alive<'a>(alloc: Global) -> Arg<'a> {
+    text(
         alloc,
         "keep-alive",
         "SECONDS",
         "After half as much silence again the client is lost; 0 for never",
     )
     .value_parser(value_parser!(u16))
-    .default_value("0");
-    plain(alloc, "connect", "Set up a connection")
-        .arg(flag(alloc, "clean", "Begin with an empty session"))?
-        .arg(keep_alive)?
-        .arg(text(
-            alloc,
-            "will-topic",
-            "TOPIC",
-            "Where to publish the will if the client is lost",
-        ))?
-        .arg(text(alloc, "will-message", "TEXT", "What the will says"))?
-        .arg(qos(alloc, OF_OTHERS.as_slice()).help("The will's quality of service"))?
-        .arg(flag(alloc, "retain", "Set the will's retain flag"))
+    .default_value("0")
+}
+
+/// The option `--will-topic`.
+fn will_topic<'a>(alloc: Global) -> Arg<'a> {
+    text(
+        alloc,
+        "will-topic",
+        "TOPIC",
+        "Where to publish the will if the client is lost",
+    )
+}
+
+/// The command `connect`.
+fn connect<'a>(alloc: Global) -> Result<Command<'a>, AllocError> {
+    let options = vec![in alloc;
+        flag(alloc, "clean", "Begin with an empty session"),
+        keep_alive(alloc),
+        will_topic(alloc),
+        text(alloc, "will-message", "TEXT", "What the will says"),
+        qos(alloc, OF_OTHERS.as_slice(), "The will's quality of service"),
+        flag(alloc, "retain", "Set the will's retain flag"),
+    ]?;
+    with(plain(alloc, "connect", "Set up a connection"), options)
 }
 
 /// The command `subscribe`.
 fn subscribe<'a>(alloc: Global) -> Result<Command<'a>, AllocError> {
-    plain(alloc, "subscribe", "Subscribe to topics")
-        .arg(word(
+    let options = vec![in alloc;
+        word(
             alloc,
             "filter",
             "FILTER",
             "Which topics, as tele/+ or tele/#",
-        ))?
-        .arg(qos(alloc, OF_OTHERS.as_slice()))?
-        .arg(predefined(alloc))
+        ),
+        qos(alloc, OF_OTHERS.as_slice(), QOS),
+        predefined(alloc),
+    ]?;
+    with(plain(alloc, "subscribe", "Subscribe to topics"), options)
 }
 
 /// The command `unsubscribe`.
 fn unsubscribe<'a>(alloc: Global) -> Result<Command<'a>, AllocError> {
-    plain(alloc, "unsubscribe", "End a subscription")
-        .arg(word(
+    let options = vec![in alloc;
+        word(
             alloc,
             "filter",
             "FILTER",
             "The filter as it was subscribed to",
-        ))?
-        .arg(predefined(alloc))
+        ),
+        predefined(alloc),
+    ]?;
+    with(plain(alloc, "unsubscribe", "End a subscription"), options)
 }
 
 /// The command `publish`.
 fn publish<'a>(alloc: Global) -> Result<Command<'a>, AllocError> {
-    let command = plain(alloc, "publish", "Publish a text");
-    let command = command.arg(topic(alloc))?.arg(message(alloc))?;
-    publish_options(alloc, command)
-}
-
-/// The options of `publish`.
-fn publish_options<'a>(alloc: Global, command: Command<'a>) -> Result<Command<'a>, AllocError> {
-    command
-        .arg(qos(alloc, OF_PUBLISH.as_slice()))?
-        .arg(flag(alloc, "retain", "Set the retain flag"))?
-        .arg(predefined(alloc))
+    let options = vec![in alloc;
+        topic(alloc),
+        message(alloc),
+        qos(alloc, OF_PUBLISH.as_slice(), QOS),
+        flag(alloc, "retain", "Set the retain flag"),
+        predefined(alloc),
+    ]?;
+    with(plain(alloc, "publish", "Publish a text"), options)
 }
 
 /// The topic of a publication.
@@ -263,20 +293,29 @@ fn message<'a>(alloc: Global) -> Arg<'a> {
     word(alloc, "text", "TEXT", "What is published").allow_negative_numbers(true)
 }
 
+/// How long a client sleeps.
+fn seconds<'a>(alloc: Global) -> Arg<'a> {
+    word(alloc, "seconds", "SECONDS", "For how long at most").value_parser(value_parser!(u16))
+}
+
 /// The command `sleep`.
 fn sleep<'a>(alloc: Global) -> Result<Command<'a>, AllocError> {
-    let seconds = word(alloc, "seconds", "SECONDS", "For how long at most").value_parser(
-        value_parser!(u16),
-    );
-    plain(alloc, "sleep", "Fall asleep: messages are kept meanwhile").arg(seconds)
+    let command = plain(alloc, "sleep", "Fall asleep: messages are kept meanwhile");
+    let options = vec![in alloc; seconds(alloc)]?;
+    with(command, options)
+}
+
+/// How long a client listens.
+fn length<'a>(alloc: Global) -> Arg<'a> {
+    Arg::new(alloc, "length")
+        .value_name("SECONDS")
+        .value_parser(value_parser!(u16))
+        .default_value("0")
+        .help("For how long; 0 until it is stopped")
 }
 
 /// The command `listen`.
 fn listen<'a>(alloc: Global) -> Result<Command<'a>, AllocError> {
-    let length = Arg::new(alloc, "length")
-        .value_name("SECONDS")
-        .value_parser(value_parser!(u16))
-        .default_value("0")
-        .help("For how long; 0 until it is stopped");
-    plain(alloc, "listen", "Take what comes").arg(length)
+    let options = vec![in alloc; length(alloc)]?;
+    with(plain(alloc, "listen", "Take what comes"), options)
 }
