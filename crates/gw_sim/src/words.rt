@@ -28,44 +28,62 @@ pub struct Options {
 /// Reads the words, the program's name first. Nothing where they do not parse, `--help` among them,
 /// or where memory ran out.
 pub(crate) fn read_words(alloc: Global, words: &[String]) -> Option<Asked> {
-    let seed = Arg::new(alloc, "random")
+    let matches = matched(alloc, words)?;
+    Some(ask_for(&matches))
+}
+
+/// The words, matched with the command line.
+fn matched<'a>(alloc: Global, words: &'a [String]) -> Option<ArgMatches<'a>> {
+    command_line(alloc).ok()?.try_get_matches_from(words).ok()
+}
+
+/// The command line that the program reads.
+fn command_line<'a>(alloc: Global) -> Result<Command<'a>, AllocError> {
+    let events = events(alloc)?;
+    let gateways = gateways(alloc)?;
+    let options = [plain(alloc), rows(alloc), seed(alloc), events, gateways];
+    Command::new(alloc, "gw_sim").args(Vec::from_array(alloc, options)?)
+}
+
+/// The option `--plain`.
+fn plain<'a>(alloc: Global) -> Arg<'a> {
+    Arg::new(alloc, "plain")
+        .long("plain")
+        .action(ArgAction::SetTrue)
+}
+
+/// The option `--rows`.
+fn rows<'a>(alloc: Global) -> Arg<'a> {
+    Arg::new(alloc, "rows")
+        .long("rows")
+        .action(ArgAction::SetTrue)
+        .exclusive(true)
+}
+
+/// The option `--random`.
+fn seed<'a>(alloc: Global) -> Arg<'a> {
+    Arg::new(alloc, "random")
         .long("random")
         .action(ArgAction::Set)
-        .value_parser(clap::value_parser!(u64).range(0..=i64::MAX));
-    let events = Arg::new(alloc, "events")
+        .value_parser(clap::value_parser!(u64).range(0..=i64::MAX))
+}
+
+/// The option `--events`.
+fn events<'a>(alloc: Global) -> Result<Arg<'a>, AllocError> {
+    Arg::new(alloc, "events")
         .long("events")
         .action(ArgAction::Set)
         .value_parser(clap::value_parser!(u64).range(1..=1_000_000_000))
         .requires_arg("random")
-        .ok()?;
-    let gateways = Arg::new(alloc, "gateways")
+}
+
+/// The option `--gateways`.
+fn gateways<'a>(alloc: Global) -> Result<Arg<'a>, AllocError> {
+    Arg::new(alloc, "gateways")
         .long("gateways")
         .action(ArgAction::Set)
         .value_parser(clap::value_parser!(u8).range(1..=8))
         .requires_arg("random")
-        .ok()?;
-    let command = command_line(alloc).ok()?;
-    let command = command
-        .arg(seed)
-        .ok()?
-        .arg(events)
-        .ok()?
-        .arg(gateways)
-        .ok()?;
-    let matches = command.try_get_matches_from(words).ok()?;
-    Some(ask_for(&matches))
-}
-
-/// The command line without what belongs to scripts from a seed.
-fn command_line<'a>(alloc: Global) -> Result<Command<'a>, AllocError> {
-    let plain = Arg::new(alloc, "plain")
-        .long("plain")
-        .action(ArgAction::SetTrue);
-    let rows = Arg::new(alloc, "rows")
-        .long("rows")
-        .action(ArgAction::SetTrue)
-        .exclusive(true);
-    Command::new(alloc, "gw_sim").arg(plain)?.arg(rows)
 }
 
 /// What the words ask for.
