@@ -1,7 +1,7 @@
 //! Faults, and what to do.
 
 use crate::looking::Fault;
-use crate::shown::name;
+use crate::shown::Name;
 use jr_journal::{JournalFault, Slot};
 use jr_read::Misfit;
 use rep_model::{Limit, TakeFault};
@@ -73,7 +73,7 @@ fn misfit_words(alloc: Global, misfit: &Misfit) -> Result<String, AllocError> {
     let before = misfit.before;
     match &misfit.fault {
         TakeFault::Conflict { client } => {
-            let client = name(alloc, client.bytes())?;
+            let client = Name(client.bytes());
             format!(in alloc; "record {before} contradicts one in front of it, of client {client}")
         }
         TakeFault::Full { limit } => {

@@ -1,20 +1,20 @@
 //! Operations in words.
 
 use crate::clients::{exchange, session, will};
-use crate::shown::{message, name};
+use crate::shown::{Body, Name};
 use rep_ops::{Op, Put};
 use sn_session::{Message, Outbound, Presence, SessionOp, WillTopic};
 use sn_tables::QosLevel;
-use std::alloc::{AllocError, Global};
+use std::alloc::AllocError;
 
 /// The lines of an operation.
-pub(crate) fn operation(alloc: Global, text: &mut String, op: &Op) -> Result<(), AllocError> {
-    let client = name(alloc, op.client().bytes())?;
-    operation_of(alloc, text, client.as_str(), op)
+pub(crate) fn operation(text: &mut String, op: &Op) -> Result<(), AllocError> {
+    let client = Name(op.client().bytes());
+    operation_of(text, client, op)
 }
 
 /// The lines of an operation of a client.
-fn operation_of(alloc: Global, text: &mut String, client: &str, op: &Op) -> Result<(), AllocError> {
+fn operation_of(text: &mut String, client: Name<'_>, op: &Op) -> Result<(), AllocError> {
     match op {
         Op::Session {
             stamp,
@@ -29,11 +29,11 @@ fn operation_of(alloc: Global, text: &mut String, client: &str, op: &Op) -> Resu
                 text,
                 "  client {client} stamp {epoch}.{gateway} change {counter}: "
             )?;
-            session_change(alloc, text, change)
+            session_change(text, change)
         }
         Op::Put { put, .. } => {
             write!(text, "  client {client} ")?;
-            waiting(alloc, text, put)
+            waiting(text, put)
         }
         Op::Ack {
             origin,
@@ -51,12 +51,12 @@ fn operation_of(alloc: Global, text: &mut String, client: &str, op: &Op) -> Resu
 }
 
 /// The rest of the line of a message that waits.
-pub(crate) fn waiting(alloc: Global, text: &mut String, put: &Put) -> Result<(), AllocError> {
+pub(crate) fn waiting(text: &mut String, put: &Put) -> Result<(), AllocError> {
     let seq = put.seq;
     let origin = put.origin;
     let qos = put.qos.number();
-    let topic = name(alloc, put.topic.bytes())?;
-    let body = message(alloc, put.body.as_slice())?;
+    let topic = Name(put.topic.bytes());
+    let body = Body(put.body.as_slice());
     writeln!(
         text,
         "waits for message {seq} of gateway {origin}: {topic} qos {qos}, {body}"
@@ -64,20 +64,18 @@ pub(crate) fn waiting(alloc: Global, text: &mut String, put: &Put) -> Result<(),
 }
 
 /// The rest of the line of a session's change.
-fn session_change(alloc: Global, text: &mut String, change: &SessionOp) -> Result<(), AllocError> {
+fn session_change(text: &mut String, change: &SessionOp) -> Result<(), AllocError> {
     match change {
         SessionOp::Take(taken) => {
             text.push_str("taken over as ")?;
-            session(alloc, text, taken)
+            session(text, taken)
         }
         SessionOp::Presence { presence, duration } => presence_line(text, *presence, *duration),
-        SessionOp::Register { id, name, known } => {
-            registered(alloc, text, *id, name.bytes(), *known)
-        }
-        SessionOp::Subscribe { filter, qos } => subscribed(alloc, text, filter.bytes(), *qos),
-        SessionOp::Unsubscribe { filter } => unsubscribed(alloc, text, filter.bytes()),
-        SessionOp::WillTopic(topic) => will_topic(alloc, text, topic),
-        SessionOp::WillMsg(message) => will_message(alloc, text, message),
+        SessionOp::Register { id, name, known } => { registered(text, *id, name.bytes(), *known) }
+        SessionOp::Subscribe { filter, qos } => subscribed(text, filter.bytes(), *qos),
+        SessionOp::Unsubscribe { filter } => unsubscribed(text, filter.bytes()),
+        SessionOp::WillTopic(topic) => will_topic(text, topic),
+        SessionOp::WillMsg(message) => will_message(text, message),
         SessionOp::Received { id } => {
             let id = *id;
             writeln!(text, "message id {id} was received")
@@ -109,49 +107,43 @@ fn presence_line(text: &mut String, presence: Presence, duration: u16) -> Result
 
 /// An id stands for a topic.
 pub(crate) fn registered(
-    alloc: Global,
     text: &mut String,
     id: u16,
     topic: &[u8],
     known: bool,
 ) -> Result<(), AllocError> {
-    let topic = name(alloc, topic)?;
+    let topic = Name(topic);
     let word = if known { "known" } else { "not known" };
     writeln!(text, "topic id {id} is {topic}, {word} to the client")
 }
 
 /// The client asks for topics.
 pub(crate) fn subscribed(
-    alloc: Global,
     text: &mut String,
     filter: &[u8],
     qos: QosLevel,
 ) -> Result<(), AllocError> {
-    let filter = name(alloc, filter)?;
+    let filter = Name(filter);
     writeln!(text, "subscribed to {filter} qos {}", qos.number())
 }
 
 /// The client no longer asks for topics.
-fn unsubscribed(alloc: Global, text: &mut String, filter: &[u8]) -> Result<(), AllocError> {
-    let filter = name(alloc, filter)?;
+fn unsubscribed(text: &mut String, filter: &[u8]) -> Result<(), AllocError> {
+    let filter = Name(filter);
     writeln!(text, "no longer subscribed to {filter}")
 }
 
 /// The will has another topic.
-fn will_topic(
-    alloc: Global,
-    text: &mut String,
-    topic: &Option<WillTopic>,
-) -> Result<(), AllocError> {
+fn will_topic(text: &mut String, topic: &Option<WillTopic>) -> Result<(), AllocError> {
     match topic {
         None => text.push_str("no will\n"),
-        Some(topic) => will(alloc, text, topic.topic.bytes(), topic.qos, topic.retain),
+        Some(topic) => will(text, topic.topic.bytes(), topic.qos, topic.retain),
     }
 }
 
 /// The will has another message.
-fn will_message(alloc: Global, text: &mut String, said: &Message) -> Result<(), AllocError> {
-    let body = message(alloc, said.as_slice())?;
+fn will_message(text: &mut String, said: &Message) -> Result<(), AllocError> {
+    let body = Body(said.as_slice());
     writeln!(text, "the will's message is {body}")
 }
 

@@ -1,7 +1,7 @@
 //! What the records come to for each client, in words.
 
 use crate::changes::{presence_word, registered, subscribed, waiting};
-use crate::shown::{message, name};
+use crate::shown::{Body, Name};
 use rep_model::{ClientView, Replica};
 use rep_ops::ClientId;
 use rep_state::Folded;
@@ -18,48 +18,38 @@ pub(crate) fn clients(
     let Ok(all) = replica.clients(alloc) else {
         return Err(AllocError);
     };
-    each(alloc, text, replica, all.as_slice())
+    each(text, replica, all.as_slice())
 }
 
 /// The lines of these clients.
-fn each(
-    alloc: Global,
-    text: &mut String,
-    replica: &Folded,
-    clients: &[ClientId],
-) -> Result<(), AllocError> {
+fn each(text: &mut String, replica: &Folded, clients: &[ClientId]) -> Result<(), AllocError> {
     for client in clients {
         if let Some(view) = replica.view_of(client) {
-            one(alloc, text, client, view)?;
+            one(text, client, view)?;
         }
     }
     Ok(())
 }
 
 /// The lines of a client.
-fn one(
-    alloc: Global,
-    text: &mut String,
-    client: &ClientId,
-    view: &ClientView,
-) -> Result<(), AllocError> {
-    begin(alloc, text, client)?;
-    owned(alloc, text, view)?;
+fn one(text: &mut String, client: &ClientId, view: &ClientView) -> Result<(), AllocError> {
+    begin(text, client)?;
+    owned(text, view)?;
     for put in view.pending.as_slice() {
         text.push_str("  ")?;
-        waiting(alloc, text, put)?;
+        waiting(text, put)?;
     }
     Ok(())
 }
 
 /// The begin of a client's line.
-fn begin(alloc: Global, text: &mut String, client: &ClientId) -> Result<(), AllocError> {
-    let client = name(alloc, client.bytes())?;
+fn begin(text: &mut String, client: &ClientId) -> Result<(), AllocError> {
+    let client = Name(client.bytes());
     write!(text, "client {client} ")
 }
 
 /// Who owns a client, and the session.
-fn owned(alloc: Global, text: &mut String, view: &ClientView) -> Result<(), AllocError> {
+fn owned(text: &mut String, view: &ClientView) -> Result<(), AllocError> {
     let Some(stamp) = &view.stamp else {
         return text.push_str("is owned by no gateway\n");
     };
@@ -72,12 +62,12 @@ fn owned(alloc: Global, text: &mut String, view: &ClientView) -> Result<(), Allo
     )?;
     match &view.session {
         None => text.push_str("no session\n"),
-        Some(seen) => session(alloc, text, seen),
+        Some(seen) => session(text, seen),
     }
 }
 
 /// The rest of the line of a session, and the lines of its tables.
-pub(crate) fn session(alloc: Global, text: &mut String, seen: &Session) -> Result<(), AllocError> {
+pub(crate) fn session(text: &mut String, seen: &Session) -> Result<(), AllocError> {
     let presence = presence_word(seen.presence);
     let kind = if seen.clean { "clean" } else { "kept" };
     let duration = seen.duration;
@@ -86,10 +76,10 @@ pub(crate) fn session(alloc: Global, text: &mut String, seen: &Session) -> Resul
         text,
         "{presence}, {kind}, {duration} seconds, the next message id is {next}"
     )?;
-    topics(alloc, text, seen)?;
-    subscriptions(alloc, text, seen)?;
+    topics(text, seen)?;
+    subscriptions(text, seen)?;
     if let Some(told) = &seen.will {
-        last_will(alloc, text, told)?;
+        last_will(text, told)?;
     }
     received(text, seen)?;
     if let Some(outbound) = &seen.outbound {
@@ -101,40 +91,39 @@ pub(crate) fn session(alloc: Global, text: &mut String, seen: &Session) -> Resul
 }
 
 /// A line for each topic id.
-fn topics(alloc: Global, text: &mut String, seen: &Session) -> Result<(), AllocError> {
+fn topics(text: &mut String, seen: &Session) -> Result<(), AllocError> {
     for entry in seen.topics.as_slice() {
         text.push_str("    ")?;
-        registered(alloc, text, entry.id, entry.name.bytes(), entry.known)?;
+        registered(text, entry.id, entry.name.bytes(), entry.known)?;
     }
     Ok(())
 }
 
 /// A line for each subscription.
-fn subscriptions(alloc: Global, text: &mut String, seen: &Session) -> Result<(), AllocError> {
+fn subscriptions(text: &mut String, seen: &Session) -> Result<(), AllocError> {
     for entry in seen.subscriptions.as_slice() {
         text.push_str("    ")?;
-        subscribed(alloc, text, entry.filter.bytes(), entry.qos)?;
+        subscribed(text, entry.filter.bytes(), entry.qos)?;
     }
     Ok(())
 }
 
 /// The lines of a will.
-fn last_will(alloc: Global, text: &mut String, told: &Will) -> Result<(), AllocError> {
+fn last_will(text: &mut String, told: &Will) -> Result<(), AllocError> {
     text.push_str("    ")?;
-    will(alloc, text, told.topic.bytes(), told.qos, told.retain)?;
-    let body = message(alloc, told.message.as_slice())?;
+    will(text, told.topic.bytes(), told.qos, told.retain)?;
+    let body = Body(told.message.as_slice());
     writeln!(text, "    the will's message is {body}")
 }
 
 /// The rest of the line of a will.
 pub(crate) fn will(
-    alloc: Global,
     text: &mut String,
     topic: &[u8],
     qos: QosLevel,
     retain: bool,
 ) -> Result<(), AllocError> {
-    let topic = name(alloc, topic)?;
+    let topic = Name(topic);
     let word = if retain { ", retained" } else { "" };
     writeln!(text, "a will on {topic} qos {}{word}", qos.number())
 }

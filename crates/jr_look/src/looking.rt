@@ -116,11 +116,26 @@ fn front(
     };
     let sound = other.filter(|it| !it.places.is_empty());
     let octets = until(bad, at);
-    match (sound, alone(alloc, gateway, slot, octets)) {
-        (Some(sound), Some(older)) if sound.generation > older.generation => Some(sound),
-        (_, Some(own)) => Some(own),
-        (Some(sound), None) => Some(sound),
-        (None, None) => base(alloc, gateway, slot, octets),
+    match better(sound, alone(alloc, gateway, slot, octets)) {
+        Some(found) => Some(found),
+        None => base(alloc, gateway, slot, octets),
+    }
+}
+
+/// The sound slot if it is newer than what stands in front of a bad record, else that, if there is
+/// any.
+fn better(sound: Option<Reading>, own: Option<Reading>) -> Option<Reading> {
+    if is_newer(&sound, &own) {
+        return sound;
+    }
+    own.or(sound)
+}
+
+/// Whether both are there and the first has the greater generation.
+fn is_newer(sound: &Option<Reading>, own: &Option<Reading>) -> bool {
+    match (sound, own) {
+        (Some(sound), Some(own)) => sound.generation > own.generation,
+        _ => false,
     }
 }
 

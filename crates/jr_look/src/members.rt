@@ -2,12 +2,12 @@
 
 use crate::changes::presence_word;
 use crate::clients::phase_word;
-use crate::shown::quoted;
+use crate::shown::Quoted;
 use rep_ops::{ClientId, Op, Put};
 use sn_session::{Message, Outbound, Presence, Session, SessionOp, Will, WillTopic};
 use sn_tables::QosLevel;
 use sn_topic::{Filter, TopicName};
-use std::alloc::{AllocError, Global};
+use std::alloc::AllocError;
 
 /// What stands between members: nothing in front of the first.
 pub(crate) fn comma(text: &mut String, index: usize) -> Result<(), AllocError> {
@@ -19,21 +19,21 @@ pub(crate) fn comma(text: &mut String, index: usize) -> Result<(), AllocError> {
 }
 
 /// An operation.
-pub(crate) fn operation(alloc: Global, text: &mut String, op: &Op) -> Result<(), AllocError> {
-    begin(alloc, text, op.client())?;
+pub(crate) fn operation(text: &mut String, op: &Op) -> Result<(), AllocError> {
+    begin(text, op.client())?;
     text.push_str(",")?;
-    members(alloc, text, op)?;
+    members(text, op)?;
     text.push_str("}")
 }
 
 /// The begin of an object with a client as its first member.
-pub(crate) fn begin(alloc: Global, text: &mut String, client: &ClientId) -> Result<(), AllocError> {
-    let client = quoted(alloc, client.bytes())?;
+pub(crate) fn begin(text: &mut String, client: &ClientId) -> Result<(), AllocError> {
+    let client = Quoted(client.bytes());
     write!(text, "{{\"client\":{client}")
 }
 
 /// The members of an operation behind its client.
-fn members(alloc: Global, text: &mut String, op: &Op) -> Result<(), AllocError> {
+fn members(text: &mut String, op: &Op) -> Result<(), AllocError> {
     match op {
         Op::Session {
             stamp,
@@ -48,11 +48,11 @@ fn members(alloc: Global, text: &mut String, op: &Op) -> Result<(), AllocError> 
                 text,
                 "\"epoch\":{epoch},\"gateway\":{gateway},\"counter\":{counter},\"change\":"
             )?;
-            session_change(alloc, text, change)
+            session_change(text, change)
         }
         Op::Put { put, .. } => {
             text.push_str("\"change\":\"put\",")?;
-            waiting(alloc, text, put)
+            waiting(text, put)
         }
         Op::Ack {
             origin,
@@ -70,12 +70,12 @@ fn members(alloc: Global, text: &mut String, op: &Op) -> Result<(), AllocError> 
 }
 
 /// The members of a message that waits.
-pub(crate) fn waiting(alloc: Global, text: &mut String, put: &Put) -> Result<(), AllocError> {
+pub(crate) fn waiting(text: &mut String, put: &Put) -> Result<(), AllocError> {
     let seq = put.seq;
     let origin = put.origin;
     let qos = put.qos.number();
-    let topic = quoted(alloc, put.topic.bytes())?;
-    let body = quoted(alloc, put.body.as_slice())?;
+    let topic = Quoted(put.topic.bytes());
+    let body = Quoted(put.body.as_slice());
     write!(
         text,
         "\"origin\":{origin},\"seq\":{seq},\"topic\":{topic},\"qos\":{qos},\"body\":{body}"
@@ -83,24 +83,24 @@ pub(crate) fn waiting(alloc: Global, text: &mut String, put: &Put) -> Result<(),
 }
 
 /// A session's change, and its members.
-fn session_change(alloc: Global, text: &mut String, change: &SessionOp) -> Result<(), AllocError> {
+fn session_change(text: &mut String, change: &SessionOp) -> Result<(), AllocError> {
     match change {
         SessionOp::Take(taken) => {
             text.push_str("\"take\",\"session\":")?;
-            session_of(alloc, text, taken)
+            session_of(text, taken)
         }
         SessionOp::Presence { presence, duration } => elsewhere(text, *presence, *duration),
         SessionOp::Register { id, name, known } => {
             text.push_str("\"register\",")?;
-            registered(alloc, text, *id, name, *known)
+            registered(text, *id, name, *known)
         }
         SessionOp::Subscribe { filter, qos } => {
             text.push_str("\"subscribe\",")?;
-            subscribed(alloc, text, filter, *qos)
+            subscribed(text, filter, *qos)
         }
-        SessionOp::Unsubscribe { filter } => unsubscribed(alloc, text, filter),
-        SessionOp::WillTopic(topic) => will_topic(alloc, text, topic),
-        SessionOp::WillMsg(message) => will_message(alloc, text, message),
+        SessionOp::Unsubscribe { filter } => unsubscribed(text, filter),
+        SessionOp::WillTopic(topic) => will_topic(text, topic),
+        SessionOp::WillMsg(message) => will_message(text, message),
         SessionOp::Received { id } => {
             let id = *id;
             write!(text, "\"received\",\"id\":{id}")
@@ -123,44 +123,29 @@ fn elsewhere(text: &mut String, presence: Presence, duration: u16) -> Result<(),
 }
 
 /// The members of a topic id.
-fn registered(
-    alloc: Global,
-    text: &mut String,
-    id: u16,
-    name: &TopicName,
-    known: bool,
-) -> Result<(), AllocError> {
-    let topic = quoted(alloc, name.bytes())?;
+fn registered(text: &mut String, id: u16, name: &TopicName, known: bool) -> Result<(), AllocError> {
+    let topic = Quoted(name.bytes());
     write!(text, "\"id\":{id},\"topic\":{topic},\"known\":{known}")
 }
 
 /// The members of a subscription.
-fn subscribed(
-    alloc: Global,
-    text: &mut String,
-    filter: &Filter,
-    qos: QosLevel,
-) -> Result<(), AllocError> {
-    let filter = quoted(alloc, filter.bytes())?;
+fn subscribed(text: &mut String, filter: &Filter, qos: QosLevel) -> Result<(), AllocError> {
+    let filter = Quoted(filter.bytes());
     write!(text, "\"filter\":{filter},\"qos\":{}", qos.number())
 }
 
 /// The client no longer asks for topics.
-fn unsubscribed(alloc: Global, text: &mut String, filter: &Filter) -> Result<(), AllocError> {
-    let filter = quoted(alloc, filter.bytes())?;
+fn unsubscribed(text: &mut String, filter: &Filter) -> Result<(), AllocError> {
+    let filter = Quoted(filter.bytes());
     write!(text, "\"unsubscribe\",\"filter\":{filter}")
 }
 
 /// The will has another topic.
-fn will_topic(
-    alloc: Global,
-    text: &mut String,
-    topic: &Option<WillTopic>,
-) -> Result<(), AllocError> {
+fn will_topic(text: &mut String, topic: &Option<WillTopic>) -> Result<(), AllocError> {
     match topic {
         None => text.push_str("\"will_topic\",\"topic\":null"),
         Some(told) => {
-            let topic = quoted(alloc, told.topic.bytes())?;
+            let topic = Quoted(told.topic.bytes());
             let qos = told.qos.number();
             let retain = told.retain;
             write!(
@@ -172,8 +157,8 @@ fn will_topic(
 }
 
 /// The will has another message.
-fn will_message(alloc: Global, text: &mut String, message: &Message) -> Result<(), AllocError> {
-    let body = quoted(alloc, message.as_slice())?;
+fn will_message(text: &mut String, message: &Message) -> Result<(), AllocError> {
+    let body = Quoted(message.as_slice());
     write!(text, "\"will_message\",\"message\":{body}")
 }
 
@@ -200,11 +185,7 @@ fn exchange(text: &mut String, begun: &Option<Outbound>) -> Result<(), AllocErro
 }
 
 /// A session.
-pub(crate) fn session_of(
-    alloc: Global,
-    text: &mut String,
-    seen: &Session,
-) -> Result<(), AllocError> {
+pub(crate) fn session_of(text: &mut String, seen: &Session) -> Result<(), AllocError> {
     let presence = presence_word(seen.presence);
     let clean = seen.clean;
     let duration = seen.duration;
@@ -214,11 +195,11 @@ pub(crate) fn session_of(
         "{{\"presence\":\"{presence}\",\"clean\":{clean},\"duration\":{duration}"
     )?;
     write!(text, ",\"next_id\":{next},\"topics\":[")?;
-    topics(alloc, text, seen)?;
+    topics(text, seen)?;
     text.push_str("],\"subscriptions\":[")?;
-    subscriptions(alloc, text, seen)?;
+    subscriptions(text, seen)?;
     text.push_str("],\"will\":")?;
-    will(alloc, text, &seen.will)?;
+    will(text, &seen.will)?;
     text.push_str(",\"received\":[")?;
     received(text, seen)?;
     text.push_str("],\"exchange\":")?;
@@ -227,36 +208,36 @@ pub(crate) fn session_of(
 }
 
 /// The topic ids of a session.
-fn topics(alloc: Global, text: &mut String, seen: &Session) -> Result<(), AllocError> {
+fn topics(text: &mut String, seen: &Session) -> Result<(), AllocError> {
     for (index, entry) in seen.topics.as_slice().iter().enumerate() {
         comma(text, index)?;
         text.push_str("{")?;
-        registered(alloc, text, entry.id, &entry.name, entry.known)?;
+        registered(text, entry.id, &entry.name, entry.known)?;
         text.push_str("}")?;
     }
     Ok(())
 }
 
 /// The subscriptions of a session.
-fn subscriptions(alloc: Global, text: &mut String, seen: &Session) -> Result<(), AllocError> {
+fn subscriptions(text: &mut String, seen: &Session) -> Result<(), AllocError> {
     for (index, entry) in seen.subscriptions.as_slice().iter().enumerate() {
         comma(text, index)?;
         text.push_str("{")?;
-        subscribed(alloc, text, &entry.filter, entry.qos)?;
+        subscribed(text, &entry.filter, entry.qos)?;
         text.push_str("}")?;
     }
     Ok(())
 }
 
 /// A will.
-fn will(alloc: Global, text: &mut String, told: &Option<Will>) -> Result<(), AllocError> {
+fn will(text: &mut String, told: &Option<Will>) -> Result<(), AllocError> {
     let Some(told) = told else {
         return text.push_str("null");
     };
-    let topic = quoted(alloc, told.topic.bytes())?;
+    let topic = Quoted(told.topic.bytes());
     let qos = told.qos.number();
     let retain = told.retain;
-    let body = quoted(alloc, told.message.as_slice())?;
+    let body = Quoted(told.message.as_slice());
     write!(
         text,
         "{{\"topic\":{topic},\"qos\":{qos},\"retain\":{retain},\"message\":{body}}}"

@@ -3,7 +3,7 @@
 use crate::advice::{advice, number, slot_number};
 use crate::looking::{Fault, Findings, Torn};
 use crate::members::{begin, comma, operation, session_of, waiting};
-use crate::shown::quoted;
+use crate::shown::Quoted;
 use jr_journal::JournalFault;
 use jr_read::{Misfit, Place, Reading};
 use rep_model::{ClientView, Replica, TakeFault};
@@ -18,13 +18,13 @@ pub(crate) fn report(alloc: Global, text: &mut String, seen: &Findings) -> Resul
         if !seen.is_fresh {
             read_slot(text, reading)?;
         }
-        records(alloc, text, reading)?;
+        records(text, reading)?;
     }
     if let Some(torn) = &seen.torn {
         torn_end(text, torn)?;
     }
     if let Some(fault) = &seen.fault {
-        refusal(alloc, text, fault)?;
+        refusal(text, fault)?;
     }
     if let Some(replica) = &seen.replica {
         clients(alloc, text, replica)?;
@@ -72,13 +72,13 @@ fn read_slot(text: &mut String, reading: &Reading) -> Result<(), AllocError> {
 }
 
 /// The records.
-fn records(alloc: Global, text: &mut String, reading: &Reading) -> Result<(), AllocError> {
+fn records(text: &mut String, reading: &Reading) -> Result<(), AllocError> {
     let places = reading.places.as_slice();
     text.push_str(",\"records\":[")?;
     for (index, delta) in reading.records.as_slice().iter().enumerate() {
         comma(text, index)?;
         place(text, places.get(index))?;
-        operations(alloc, text, delta)?;
+        operations(text, delta)?;
     }
     text.push_str("]")
 }
@@ -96,11 +96,11 @@ fn place(text: &mut String, found: Option<&Place>) -> Result<(), AllocError> {
 }
 
 /// The operations of a record.
-fn operations(alloc: Global, text: &mut String, delta: &Delta) -> Result<(), AllocError> {
+fn operations(text: &mut String, delta: &Delta) -> Result<(), AllocError> {
     text.push_str("\"operations\":[")?;
     for (index, op) in delta.ops().iter().enumerate() {
         comma(text, index)?;
-        operation(alloc, text, op)?;
+        operation(text, op)?;
     }
     text.push_str("]}")
 }
@@ -113,12 +113,12 @@ fn torn_end(text: &mut String, torn: &Torn) -> Result<(), AllocError> {
 }
 
 /// Why an opening refuses.
-fn refusal(alloc: Global, text: &mut String, fault: &Fault) -> Result<(), AllocError> {
+fn refusal(text: &mut String, fault: &Fault) -> Result<(), AllocError> {
     let number = number(fault);
     write!(text, ",\"fault\":{{\"number\":\"J{number}\"")?;
     match fault {
         Fault::Journal(fault) => bad_place(text, *fault)?,
-        Fault::Record(misfit) => bad_record(alloc, text, misfit)?,
+        Fault::Record(misfit) => bad_record(text, misfit)?,
     }
     let advice = advice(fault);
     write!(text, ",\"advice\":\"{advice}\"}}")
@@ -136,12 +136,12 @@ fn bad_place(text: &mut String, fault: JournalFault) -> Result<(), AllocError> {
 }
 
 /// Which record does not fit.
-fn bad_record(alloc: Global, text: &mut String, misfit: &Misfit) -> Result<(), AllocError> {
+fn bad_record(text: &mut String, misfit: &Misfit) -> Result<(), AllocError> {
     let before = misfit.before;
     write!(text, ",\"record\":{before}")?;
     match &misfit.fault {
         TakeFault::Conflict { client } => {
-            let client = quoted(alloc, client.bytes())?;
+            let client = Quoted(client.bytes());
             write!(text, ",\"client\":{client}")
         }
         _ => Ok(()),
@@ -153,40 +153,30 @@ fn clients(alloc: Global, text: &mut String, replica: &Folded) -> Result<(), All
     let Ok(all) = replica.clients(alloc) else {
         return Err(AllocError);
     };
-    each(alloc, text, replica, all.as_slice())
+    each(text, replica, all.as_slice())
 }
 
 /// What the records come to for these clients.
-fn each(
-    alloc: Global,
-    text: &mut String,
-    replica: &Folded,
-    clients: &[ClientId],
-) -> Result<(), AllocError> {
+fn each(text: &mut String, replica: &Folded, clients: &[ClientId]) -> Result<(), AllocError> {
     text.push_str(",\"clients\":[")?;
     for (index, client) in clients.iter().enumerate() {
         comma(text, index)?;
         if let Some(view) = replica.view_of(client) {
-            one(alloc, text, client, view)?;
+            one(text, client, view)?;
         }
     }
     text.push_str("]")
 }
 
 /// A client.
-fn one(
-    alloc: Global,
-    text: &mut String,
-    client: &ClientId,
-    view: &ClientView,
-) -> Result<(), AllocError> {
-    begin(alloc, text, client)?;
+fn one(text: &mut String, client: &ClientId, view: &ClientView) -> Result<(), AllocError> {
+    begin(text, client)?;
     owner(text, view)?;
     if let Some(session) = &view.session {
         text.push_str(",\"session\":")?;
-        session_of(alloc, text, session)?;
+        session_of(text, session)?;
     }
-    waits(alloc, text, view.pending.as_slice())
+    waits(text, view.pending.as_slice())
 }
 
 /// Who owns a client, if a gateway does.
@@ -204,12 +194,12 @@ fn owner(text: &mut String, view: &ClientView) -> Result<(), AllocError> {
 }
 
 /// The messages that wait for a client.
-fn waits(alloc: Global, text: &mut String, puts: &[Put]) -> Result<(), AllocError> {
+fn waits(text: &mut String, puts: &[Put]) -> Result<(), AllocError> {
     text.push_str(",\"waits\":[")?;
     for (index, put) in puts.iter().enumerate() {
         comma(text, index)?;
         text.push_str("{")?;
-        waiting(alloc, text, put)?;
+        waiting(text, put)?;
         text.push_str("}")?;
     }
     text.push_str("]}")

@@ -15,7 +15,7 @@ pub(crate) fn report(alloc: Global, text: &mut String, seen: &Findings) -> Resul
         if !seen.is_fresh {
             read_slot(text, reading)?;
         }
-        records(alloc, text, reading)?;
+        records(text, reading)?;
     }
     if let Some(torn) = &seen.torn {
         torn_end(text, torn)?;
@@ -72,17 +72,16 @@ fn read_slot(text: &mut String, reading: &Reading) -> Result<(), AllocError> {
 }
 
 /// The records, each behind a line with its place in that slot.
-fn records(alloc: Global, text: &mut String, reading: &Reading) -> Result<(), AllocError> {
+fn records(text: &mut String, reading: &Reading) -> Result<(), AllocError> {
     let places = reading.places.as_slice();
     for (index, delta) in reading.records.as_slice().iter().enumerate() {
-        one_record(alloc, text, index, places.get(index), delta)?;
+        one_record(text, index, places.get(index), delta)?;
     }
     Ok(())
 }
 
 /// A record.
 fn one_record(
-    alloc: Global,
     text: &mut String,
     before: usize,
     place: Option<&Place>,
@@ -94,7 +93,7 @@ fn one_record(
         writeln!(text, "record {before} at {at}, octets {octets}")?;
     }
     for op in delta.ops() {
-        operation(alloc, text, op)?;
+        operation(text, op)?;
     }
     Ok(())
 }

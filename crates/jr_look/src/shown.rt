@@ -1,39 +1,67 @@
 //! Octets as text.
 
-use std::alloc::{AllocError, Global};
-use std::str;
+use std::{fmt, str};
 
 /// How many octets of a message are shown in words.
 const SHOWN: usize = 64;
 
 /// A name: in quotes where it is text, else in hexadecimal digits.
-pub(crate) fn name(alloc: Global, octets: &[u8]) -> Result<String, AllocError> {
-    match str::from_utf8(octets) {
-        Ok(text) => format!(in alloc; "{text:?}"),
-        Err(_) => {
-            let digits = hex::encode(alloc, octets)?;
-            format!(in alloc; "0x{digits}")
+#[derive(Clone, Copy)]
+pub(crate) struct Name<'a>(pub &'a [u8]);
+
+/// How many octets a message has, and its first octets in hexadecimal digits.
+#[derive(Clone, Copy)]
+pub(crate) struct Body<'a>(pub &'a [u8]);
+
+/// Octets in hexadecimal digits, in quotes.
+#[derive(Clone, Copy)]
+pub(crate) struct Quoted<'a>(pub &'a [u8]);
+
+/// Octets in hexadecimal digits.
+#[derive(Clone, Copy)]
+struct Digits<'a>(&'a [u8]);
+
+impl fmt::Display for Digits<'_> {
+    fn fmt<W: fmt::Write>(&self, f: &mut fmt::Formatter<W>) -> fmt::Result {
+        for octet in self.0 {
+            write!(f, "{octet:02x}")?;
+        }
+        Ok(())
+    }
+}
+
+impl fmt::Display for Quoted<'_> {
+    fn fmt<W: fmt::Write>(&self, f: &mut fmt::Formatter<W>) -> fmt::Result {
+        let digits = Digits(self.0);
+        write!(f, "\"{digits}\"")
+    }
+}
+
+impl fmt::Display for Name<'_> {
+    fn fmt<W: fmt::Write>(&self, f: &mut fmt::Formatter<W>) -> fmt::Result {
+        match str::from_utf8(self.0) {
+            Ok(text) => write!(f, "{text:?}"),
+            Err(_) => {
+                let digits = Digits(self.0);
+                write!(f, "0x{digits}")
+            }
         }
     }
 }
 
-/// How many octets a message has, and its first octets in hexadecimal digits.
-pub(crate) fn message(alloc: Global, octets: &[u8]) -> Result<String, AllocError> {
-    let count = octets.len();
-    if count == 0 {
-        return String::from_str(alloc, "no octets");
+impl fmt::Display for Body<'_> {
+    fn fmt<W: fmt::Write>(&self, f: &mut fmt::Formatter<W>) -> fmt::Result {
+        let octets = self.0;
+        let count = octets.len();
+        if count == 0 {
+            return f.write_str("no octets");
+        }
+        if count <= SHOWN {
+            let digits = Digits(octets);
+            return write!(f, "octets {count}: {digits}");
+        }
+        let (front, _) = octets.split_at(SHOWN);
+        let digits = Digits(front);
+        write!(f, "octets {count}: {digits}..")
     }
-    if count <= SHOWN {
-        let digits = hex::encode(alloc, octets)?;
-        return format!(in alloc; "octets {count}: {digits}");
-    }
-    let (front, _) = octets.split_at(SHOWN);
-    let digits = hex::encode(alloc, front)?;
-    format!(in alloc; "octets {count}: {digits}..")
-}
-
-/// Octets in hexadecimal digits, in quotes.
-pub(crate) fn quoted(alloc: Global, octets: &[u8]) -> Result<String, AllocError> {
-    let digits = hex::encode(alloc, octets)?;
-    format!(in alloc; "\"{digits}\"")
 }

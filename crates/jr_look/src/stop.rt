@@ -2,32 +2,43 @@
 
 use octets::NoMemory;
 use std::alloc::AllocError;
+use std::fmt;
 use std::io::ErrorKind;
-use thiserror::Error;
 
 /// Why the program has nothing to show.
-#[derive(Clone, Copy, Debug, Error)]
+#[derive(Clone, Copy)]
 pub enum Stop {
     /// The command line does not say what to look at.
-    #[error("arguments")]
     Arguments,
     /// A file cannot be read.
-    #[error("the file PATH.{ending} cannot be read: {kind}")]
     File {
         ending: &'static str,
         kind: ErrorKind,
     },
     /// A file has more than 1,073,741,824 octets.
-    #[error("the file PATH.{ending} has more than 1073741824 octets")]
     Long {
         ending: &'static str,
     },
     /// What there is to show cannot be written.
-    #[error("the output cannot be written")]
     Output,
     /// Memory ran out.
-    #[error("out of memory")]
     Memory,
+}
+
+impl fmt::Display for Stop {
+    fn fmt<W: fmt::Write>(&self, f: &mut fmt::Formatter<W>) -> fmt::Result {
+        match self {
+            Stop::Arguments => f.write_str("arguments"),
+            Stop::File { ending, kind } => {
+                write!(f, "the file PATH.{ending} cannot be read: {kind}")
+            }
+            Stop::Long { ending } => {
+                write!(f, "the file PATH.{ending} has more than 1073741824 octets")
+            }
+            Stop::Output => f.write_str("the output cannot be written"),
+            Stop::Memory => f.write_str("out of memory"),
+        }
+    }
 }
 
 impl From<AllocError> for Stop {

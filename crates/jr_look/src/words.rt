@@ -17,15 +17,19 @@ pub struct Options {
 /// Reads the words, the program's name first. Nothing where they do not parse, `--help` among them,
 /// or where memory ran out.
 pub(crate) fn read_words(alloc: Global, words: &[String]) -> Option<Options> {
-    let matches = command(alloc)?.try_get_matches_from(words).ok()?;
+    let matches = matched(alloc, words)?;
     found(alloc, &matches)
+}
+
+/// The words, matched with the command line.
+fn matched<'a>(alloc: Global, words: &'a [String]) -> Option<ArgMatches<'a>> {
+    command(alloc)?.try_get_matches_from(words).ok()
 }
 
 /// The command line that the program reads.
 fn command<'a>(alloc: Global) -> Option<Command<'a>> {
-    let command = Command::new(alloc, "jr_look").arg(path(alloc)).ok()?;
-    let command = command.arg(gateway(alloc)).ok()?;
-    command.arg(json(alloc)).ok()
+    let args = Vec::from_array(alloc, [path(alloc), gateway(alloc), json(alloc)]).ok()?;
+    Command::new(alloc, "jr_look").args(args).ok()
 }
 
 /// The path of the journal.
