@@ -1,8 +1,10 @@
 //! Lines about topic names, filters and predefined ids.
 
-use crate::fields::{field_octets, octets, small_number};
-use crate::shown::Text;
-use crate::stop::{Stop, refused_topic};
+use crate::datagrams::fields::{field_octets, octets};
+use crate::datagrams::refusals::refused_topic;
+use crate::datagrams::shown::Text;
+use crate::fields::small_number;
+use crate::stop::Stop;
 use sn_topic::{Filter, Predefined, TopicName, matches};
 use std::alloc::Global;
 

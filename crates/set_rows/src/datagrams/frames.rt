@@ -1,11 +1,13 @@
 //! Lines about datagrams.
 
-use crate::fields::{field_octets, octets};
-use crate::shown::Digits;
-use crate::stop::{Stop, not_written, refused_frame};
-use crate::words::{Told, message_name};
+use crate::calls::{read_frame, write_frame};
+use crate::datagrams::fields::{field_octets, octets};
+use crate::datagrams::refusals::{not_written, refused_frame};
+use crate::datagrams::shown::Digits;
+use crate::datagrams::words::{Told, message_name};
+use crate::stop::Stop;
 use octets::Octets;
-use sn_frame::{Frame, FrameFault, Will, decode, encode};
+use sn_frame::{Frame, FrameFault, Will};
 use std::alloc::Global;
 
 /// The most octets of a body behind a Length of one octet (MQTT-SN 1.2 section 5.2.1).
@@ -20,7 +22,7 @@ pub(crate) fn frame(
 ) -> Result<(), Stop> {
     *kept = None;
     let datagram = octets(alloc, fields)?;
-    match decode(alloc, &datagram) {
+    match read_frame(alloc, &datagram) {
         Ok(frame) => {
             let printed = print_frame(alloc, text, &frame);
             *kept = Some(frame);
@@ -35,7 +37,7 @@ fn print_frame(alloc: Global, text: &mut String, frame: &Frame) -> Result<(), St
     let told = Told(frame);
     writeln!(text, "{told}")?;
     let mut out = Vec::new(alloc);
-    match encode(alloc, frame, &mut out) {
+    match write_frame(alloc, frame, &mut out) {
         Ok(()) => {
             let digits = Digits(&out);
             Ok(writeln!(text, "  written {digits}")?)
@@ -139,7 +141,7 @@ fn replaced_topic(frame: &Frame, other: Octets) -> Result<Frame, Stop> {
 
 /// What a datagram is, in a word: the name of its message, or the number of its fault.
 fn brief(alloc: Global, datagram: &[u8]) -> Result<String, Stop> {
-    match decode(alloc, datagram) {
+    match read_frame(alloc, datagram) {
         Ok(frame) => Ok(String::from_str(alloc, message_name(&frame))?),
         Err(fault) => brief_fault(alloc, fault),
     }

@@ -2,8 +2,8 @@
 
 mod bits;
 
-use crate::shown::{Digits, Text};
-use crate::words::bits::{Bits, Code, TopicField, TopicOctets};
+use crate::datagrams::shown::{Digits, Text};
+use crate::datagrams::words::bits::{Bits, Code, TopicField, TopicOctets};
 use sn_frame::{Frame, Will};
 use std::fmt;
 

@@ -1,49 +1,8 @@
-//! Why a line is not played.
+//! What is said of datagrams and topics that are refused.
 
-use octets::NoMemory;
+use crate::stop::Stop;
 use sn_frame::{EncodeFault, FrameFault};
 use sn_topic::TopicFault;
-use std::alloc::{AllocError, AllocFailed};
-use thiserror::Error;
-
-/// Why a line is not played.
-#[derive(Clone, Copy, Debug, PartialEq, Eq, Error)]
-pub(crate) enum Stop {
-    /// The line is none of the language.
-    #[error("no such line")]
-    Line,
-    /// Memory ran out.
-    #[error("out of memory")]
-    Memory,
-}
-
-impl From<AllocError> for Stop {
-    fn from(_error: AllocError) -> Stop {
-        Stop::Memory
-    }
-}
-
-impl From<NoMemory> for Stop {
-    fn from(_error: NoMemory) -> Stop {
-        Stop::Memory
-    }
-}
-
-impl<T: Drop> From<AllocFailed<T>> for Stop {
-    fn from(_error: AllocFailed<T>) -> Stop {
-        Stop::Memory
-    }
-}
-
-/// A topic that a line wants and that is none.
-impl From<TopicFault> for Stop {
-    fn from(fault: TopicFault) -> Stop {
-        match fault {
-            TopicFault::Memory => Stop::Memory,
-            _ => Stop::Line,
-        }
-    }
-}
 
 /// A refused datagram's line; want of memory ends the program.
 pub(crate) fn refused_frame(text: &mut String, fault: FrameFault) -> Result<(), Stop> {

@@ -1,6 +1,6 @@
 //! Flags, what they say of a topic, and return codes.
 
-use crate::shown::Text;
+use crate::datagrams::shown::Text;
 use sn_frame::{Flags, Qos, TopicIdType};
 use std::fmt;
 
