@@ -85,33 +85,37 @@ mod stop;
 use crate::names::Names;
 use crate::row::{Row, begin, play};
 use crate::stop::Stop;
-use anyhow::Result;
 use rep_model::Replica;
 use rep_plain::Plain;
 use rep_state::Folded;
 use std::alloc::{AllocError, Global};
 use std::io::{self, Write};
+use std::process::ExitCode;
 
-fn main(rt: HostRuntime) -> Result<()> {
-    let mut printed = String::new(rt.alloc());
-    play_input(&rt, &mut printed)?;
-    io::writer(&rt).write_all(printed.as_bytes())?;
-    Ok(())
+fn main(rt: HostRuntime) -> ExitCode {
+    match play_input(&rt) {
+        Ok(()) => ExitCode::SUCCESS,
+        Err(stop) => {
+            let _ = eprintln!(rt; "node_rows: {stop}");
+            ExitCode::FAILURE
+        }
+    }
 }
 
-/// Plays all lines of standard input.
-fn play_input(rt: &HostRuntime, text: &mut String) -> Result<()> {
-    let alloc = rt.alloc();
-    let mut lines = Vec::new(alloc);
-    read_lines(rt, alloc, &mut lines)?;
-    print_both(alloc, text, lines.as_slice())?;
-    Ok(())
+/// Plays all lines of standard input, and writes what that prints.
+fn play_input(rt: &HostRuntime) -> Result<(), Stop> {
+    let mut lines = Vec::new(rt.alloc());
+    read_lines(rt, &mut lines)?;
+    let mut printed = String::new(rt.alloc());
+    print_both(rt.alloc(), &mut printed, lines.as_slice())?;
+    Ok(io::writer(rt).write_all(printed.as_bytes())?)
 }
 
 /// The lines of standard input.
-fn read_lines(rt: &HostRuntime, alloc: Global, lines: &mut Vec<String>) -> Result<()> {
-    for line in rt.lines(alloc) {
-        lines.push(line?)?;
+fn read_lines(rt: &HostRuntime, lines: &mut Vec<String>) -> Result<(), Stop> {
+    for line in rt.lines(rt.alloc()) {
+        let line = line?;
+        lines.push(line)?;
     }
     Ok(())
 }
