@@ -13,7 +13,7 @@ use rep_ops::{Delta, OpsFault};
 use std::alloc::{AllocError, Global};
 
 /// The call that a line says.
-fn step(alloc: Global, names: &Names, words: &[&str]) -> Result<Step, Stop> {
+pub(crate) fn step(alloc: Global, names: &Names, words: &[&str]) -> Result<Step, Stop> {
     match words {
         ["frame", port, moment, rest @ ..] => frame(alloc, names, port, moment, rest),
         ["take", rest @ ..] => Ok(Step::Take {

@@ -36,6 +36,16 @@ pub(crate) fn opened<R: Replica>(store: &mut Store<R>) -> Result<&mut Node<R, Me
     }
 }
 
+/// The gateway, which is to be open, and is no longer here.
+pub(crate) fn taken<R: Replica>(store: &mut Store<R>) -> Result<Node<R, MemoryDisk>, Stop> {
+    store.node.take().ok_or(Stop::Line)
+}
+
+/// This gateway is the one that is open.
+pub(crate) fn keep<R: Replica>(store: &mut Store<R>, node: Node<R, MemoryDisk>) {
+    store.node = Some(node);
+}
+
 /// The disk; a gateway that is open on it is closed.
 fn closed<R: Replica>(store: &mut Store<R>) -> &mut MemoryDisk {
     if let Some(node) = store.node.take() {

@@ -71,7 +71,7 @@ pub(crate) fn print_answer(text: &mut String, answer: &Answer) -> Result<(), All
 }
 
 /// The number of a refusal, and the answer that it brings.
-fn print_refusal(text: &mut String, fault: &NodeFault) -> Result<(), AllocError> {
+pub(crate) fn print_refusal(text: &mut String, fault: &NodeFault) -> Result<(), AllocError> {
     let number = fault.number();
     write!(text, "refused N{number}")?;
     match fault {
@@ -81,7 +81,7 @@ fn print_refusal(text: &mut String, fault: &NodeFault) -> Result<(), AllocError>
 }
 
 /// The parts of an answer.
-fn print_out(text: &mut String, out: &Out) -> Result<(), AllocError> {
+pub(crate) fn print_out(text: &mut String, out: &Out) -> Result<(), AllocError> {
     print_sends(text, out.sends.as_slice())?;
     if let Some(delta) = &out.made {
         let count = delta.ops().len();

@@ -1,6 +1,7 @@
 //! Why a line is not played.
 
 use octets::NoMemory;
+use rep_ops::OpsFault;
 use std::alloc::{AllocError, AllocFailed};
 use std::{fmt, io};
 
@@ -13,6 +14,8 @@ pub(crate) enum Stop {
     Memory,
     /// Standard input or output failed.
     Stream,
+    /// A call that a work makes was refused.
+    Work,
 }
 
 impl fmt::Display for Stop {
@@ -21,6 +24,7 @@ impl fmt::Display for Stop {
             Stop::Line => "no such line",
             Stop::Memory => "out of memory",
             Stop::Stream => "standard input or output failed",
+            Stop::Work => "a call of a work was refused",
         };
         f.write_str(words)
     }
@@ -29,6 +33,15 @@ impl fmt::Display for Stop {
 impl From<io::Error> for Stop {
     fn from(_error: io::Error) -> Stop {
         Stop::Stream
+    }
+}
+
+impl From<OpsFault> for Stop {
+    fn from(fault: OpsFault) -> Stop {
+        match fault {
+            OpsFault::Memory => Stop::Memory,
+            _ => Stop::Work,
+        }
     }
 }
 

@@ -1,7 +1,7 @@
 //! The operations of a delta of about 8 MiB: 100 clients, each with a Take, three changes of
 //! presence, 20 puts with bodies of 4,096 octets and five ranges of acknowledgements.
 
-use crate::numbers::Numbers;
+use crate::works::numbers::Numbers;
 use octets::Octets;
 use rep_ops::{ClientId, Op, OpsFault, Put, Stamp};
 use sn_session::{Message, Presence, Session, SessionOp};

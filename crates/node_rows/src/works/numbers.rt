@@ -1,8 +1,8 @@
 //! Numbers to make data of.
 
 /// A sequence of numbers that is the same in each run.
-#[derive(Debug, Drop)]
-pub struct Numbers {
+#[derive(Drop)]
+pub(crate) struct Numbers {
     state: u32,
 }
 

@@ -1,6 +1,6 @@
 //! A mixed stream of datagrams (MQTT-SN 1.2 section 5.4).
 
-use crate::numbers::Numbers;
+use crate::works::numbers::Numbers;
 use std::alloc::{AllocError, Global};
 
 /// How many datagrams the stream has.

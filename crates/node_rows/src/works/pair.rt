@@ -2,8 +2,9 @@
 //! four origins, with bodies of 64 octets. One message in a hundred has not come to the one that
 //! was away.
 
-use crate::numbers::Numbers;
-use anyhow::Result;
+use crate::stop::Stop;
+use crate::works::delta_of;
+use crate::works::numbers::Numbers;
 use octets::Octets;
 use rep_model::Replica;
 use rep_ops::{ClientId, Delta, Op, OpsFault, Put, Stamp};
@@ -23,22 +24,40 @@ const ORIGINS: u16 = 4;
 const BODY: usize = 64;
 
 /// The gateway that has all.
-pub(crate) fn peer(alloc: Global) -> Result<Plain> {
+pub(crate) fn peer(alloc: Global) -> Result<Plain, Stop> {
     taken(alloc, operations(alloc, false)?)
 }
 
 /// The gateway that was away.
-pub(crate) fn asker(alloc: Global) -> Result<Plain> {
+pub(crate) fn asker(alloc: Global) -> Result<Plain, Stop> {
     taken(alloc, operations(alloc, true)?)
 }
 
 /// A gateway that has taken these operations.
-pub(crate) fn taken(alloc: Global, ops: Vec<Op>) -> Result<Plain> {
-    let delta = Delta::from_ops(alloc, ops)?;
-    let mut replica = Plain::empty(alloc)?;
-    let staged = replica.prepare(alloc, &delta)?;
-    replica.commit(staged);
+fn taken(alloc: Global, ops: Vec<Op>) -> Result<Plain, Stop> {
+    let delta = delta_of(alloc, ops)?;
+    let mut replica = empty(alloc)?;
+    take_all(alloc, &mut replica, &delta)?;
     Ok(replica)
+}
+
+/// A gateway that has nothing.
+fn empty(alloc: Global) -> Result<Plain, Stop> {
+    match Plain::empty(alloc) {
+        Ok(replica) => Ok(replica),
+        Err(_) => Err(Stop::Memory),
+    }
+}
+
+/// A gateway takes a delta.
+fn take_all(alloc: Global, replica: &mut Plain, delta: &Delta) -> Result<(), Stop> {
+    match replica.prepare(alloc, delta) {
+        Ok(staged) => {
+            replica.commit(staged);
+            Ok(())
+        }
+        Err(_) => Err(Stop::Work),
+    }
 }
 
 /// All operations, or all but one message in a hundred.
@@ -71,7 +90,7 @@ fn name(alloc: Global, client: u16) -> Result<ClientId, OpsFault> {
 }
 
 /// The client's session.
-pub(crate) fn take(alloc: Global, client: u16) -> Result<Op, OpsFault> {
+fn take(alloc: Global, client: u16) -> Result<Op, OpsFault> {
     let mut session = Session::empty(alloc);
     session.duration = 60;
     Ok(Op::Session {
@@ -86,7 +105,7 @@ pub(crate) fn take(alloc: Global, client: u16) -> Result<Op, OpsFault> {
 }
 
 /// A message for the client.
-pub(crate) fn put(alloc: Global, client: u16, message: u16) -> Result<Op, OpsFault> {
+fn put(alloc: Global, client: u16, message: u16) -> Result<Op, OpsFault> {
     let put = Put {
         origin: 1 + (message % ORIGINS) as u8,
         seq: 1 + u64::from(message / ORIGINS),
