@@ -124,8 +124,11 @@ use rep_model::Replica;
 use rep_plain::Plain;
 use rep_state::Folded;
 use std::alloc::{AllocError, Global};
-use std::io::{self, Write};
+use std::io::{self, Input, Write};
 use std::process::ExitCode;
+use std::sync::Wait;
+use std::thread::Threads;
+use std::time::Clock;
 
 fn main(rt: HostRuntime) -> ExitCode {
     match play_input(&rt) {
@@ -138,7 +141,10 @@ fn main(rt: HostRuntime) -> ExitCode {
 }
 
 /// Plays all lines of standard input, and writes what that prints.
-fn play_input(rt: &HostRuntime) -> Result<(), Stop> {
+fn play_input<T>(rt: &T) -> Result<(), Stop>
+where
+    T: Threads + Wait + Sync + Clock + Input + Print + Eprint + AllocGlobal,
+{
     let mut lines = Vec::new(rt.alloc());
     read_lines(rt, &mut lines)?;
     let mut printed = String::new(rt.alloc());
@@ -148,7 +154,10 @@ fn play_input(rt: &HostRuntime) -> Result<(), Stop> {
 
 /// Plays the lines in front of the first heading on both replicas, if there are any, and those from
 /// it on once.
-fn play_parts(rt: &HostRuntime, text: &mut String, lines: &[String]) -> Result<(), Stop> {
+fn play_parts<T>(rt: &T, text: &mut String, lines: &[String]) -> Result<(), Stop>
+where
+    T: Threads + Wait + Sync + Clock + Eprint + AllocGlobal,
+{
     let (rows, others) = lines.split_at(front(lines).min(lines.len()));
     if !rows.is_empty() {
         print_both(rt.alloc(), text, rows)?;
@@ -167,7 +176,7 @@ fn front(lines: &[String]) -> usize {
 }
 
 /// The lines of standard input.
-fn read_lines(rt: &HostRuntime, lines: &mut Vec<String>) -> Result<(), Stop> {
+fn read_lines<T: Input + AllocGlobal>(rt: &T, lines: &mut Vec<String>) -> Result<(), Stop> {
     for line in rt.lines(rt.alloc()) {
         let line = line?;
         lines.push(line)?;
