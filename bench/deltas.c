@@ -1,4 +1,4 @@
-/* The work `deltas` of crates/codec_bench in plain C: the same operations, written as a delta, and read
+/* The work `deltas` of crates/node_rows in plain C: the same operations, written as a delta, and read
    again into operations that own their octets. */
 #include "plain.h"
 

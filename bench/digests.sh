@@ -3,7 +3,7 @@
 #
 # Usage: bench/digests.sh [ROUNDS]
 #
-# Makes the digest of the one and the other's answer ROUNDS times (20), by crates/codec_bench. Rates are by processor time without what it
+# Makes the digest of the one and the other's answer ROUNDS times (20), by crates/node_rows. Rates are by processor time without what it
 # takes to make the two gateways, and the best of three runs counts: operations that the answering gateway holds.
 set -eu
 top=$(cd "$(dirname "$0")/.." && pwd)
@@ -11,11 +11,13 @@ work=$(mktemp -d)
 trap 'rm -rf "$work"' EXIT
 rounds=${1:-20}
 . "$top/bench/built.sh"
-program=$(built codec_bench "$top/crates/codec_bench/stdin")
+program=$(built node_rows "$top/crates/node_rows/stdin")
+heading='=== benchmarks
+'
 echo "load $(cut -d ' ' -f 1-3 /proc/loadavg 2>/dev/null || echo unknown), $(nproc) processors"
 for _ in 1 2 3; do
-    python3 "$top/bench/seconds.py" "$program" "digests 0" "$work/printed" >>"$work/without"
-    python3 "$top/bench/seconds.py" "$program" "digests $rounds" "$work/printed" >>"$work/with"
+    python3 "$top/bench/seconds.py" "$program" "${heading}digests 0" "$work/printed" >>"$work/without"
+    python3 "$top/bench/seconds.py" "$program" "${heading}digests $rounds" "$work/printed" >>"$work/with"
 done
 cat "$work/printed"
 awk -v a="$(sort -n "$work/with" | head -n 1)" -v b="$(sort -n "$work/without" | head -n 1)" -v n="$rounds" '

@@ -1,4 +1,4 @@
-/* The work `frames` of crates/codec_bench in plain C: the same datagrams, decoded into messages that own
+/* The work `frames` of crates/node_rows in plain C: the same datagrams, decoded into messages that own
    their octets, and encoded again. */
 #include "plain.h"
 

@@ -12,15 +12,18 @@ rounds=${1:-20}
 work=$(mktemp -d)
 trap 'rm -rf "$work"' EXIT
 . "$top/bench/built.sh"
-program=$(built codec_bench "$top/crates/codec_bench/stdin")
+program=$(built node_rows "$top/crates/node_rows/stdin")
 echo "load $(cut -d ' ' -f 1-3 /proc/loadavg 2>/dev/null || echo unknown), $(nproc) processors"
-for name in "search $rounds" "sleep 1"; do
-    for threads in 0 1 2 4 8; do
-        for _ in 1 2 3; do
-            echo "${name% *} $threads ${name#* }"
+{
+    echo "=== benchmarks"
+    for name in "search $rounds" "sleep 1"; do
+        for threads in 0 1 2 4 8; do
+            for _ in 1 2 3; do
+                echo "${name% *} $threads ${name#* }"
+            done
         done
     done
-done | "$program" 2>&1 >/dev/null | awk '{
+} | "$program" 2>&1 >/dev/null | awk '{
     key = $1 " " $2
     rate = $4 * 1000000 / ($5 + 1)
     if (rate > best[key]) best[key] = rate

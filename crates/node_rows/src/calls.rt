@@ -13,7 +13,7 @@ use rep_ops::{Delta, OpsFault};
 use std::alloc::{AllocError, Global};
 
 /// The call that a line says.
-fn step(alloc: Global, names: &Names, words: &[&str]) -> Result<Step, Stop> {
+pub(crate) fn step(alloc: Global, names: &Names, words: &[&str]) -> Result<Step, Stop> {
     match words {
         ["frame", port, moment, rest @ ..] => frame(alloc, names, port, moment, rest),
         ["take", rest @ ..] => Ok(Step::Take {
@@ -54,11 +54,16 @@ fn body(alloc: Global, names: &Names, fields: &[&str]) -> Result<Octets, Stop> {
 /// The delta that octets spell.
 pub(crate) fn delta(alloc: Global, names: &Names, fields: &[&str]) -> Result<Delta, Stop> {
     let bytes = octets(alloc, names, fields)?;
-    match Delta::decode(alloc, &bytes) {
+    match read(alloc, &bytes) {
         Ok(delta) => Ok(delta),
         Err(OpsFault::Memory) => Err(Stop::Memory),
         Err(_) => Err(Stop::Line),
     }
+}
+
+/// The delta that octets spell, of which nothing more is said.
+fn read(alloc: Global, bytes: &[u8]) -> Result<Delta, OpsFault> {
+    Delta::decode(alloc, bytes)
 }
 
 /// A call of the gateway, and its answer.
@@ -71,7 +76,7 @@ pub(crate) fn call_once<R: Replica>(
 ) -> Result<(), Stop> {
     let step = step(alloc, names, words)?;
     let answer = call(alloc, node, &step);
-    Ok(print_answer(alloc, text, &answer)?)
+    Ok(print_answer(text, &answer)?)
 }
 
 /// The call of the method that a call as a value stands for.
@@ -97,18 +102,23 @@ pub(crate) fn call_thrice<R: Replica>(
     words: &[&str],
 ) -> Result<(), Stop> {
     let step = step(alloc, names, words)?;
-    let answers = node.step(alloc, &step);
-    Ok(print_answers(alloc, text, &answers)?)
+    let answers = thrice(alloc, node, &step);
+    Ok(print_answers(text, &answers)?)
+}
+
+/// A call as a value, with its answer three times.
+fn thrice<R: Replica>(
+    alloc: Global,
+    node: &mut Node<R, MemoryDisk>,
+    step: &Step,
+) -> (Answer, Answer, Answer) {
+    node.step(alloc, step)
 }
 
 /// What a gateway answered, three times.
-fn print_answers(
-    alloc: Global,
-    text: &mut String,
-    answers: &(Answer, Answer, Answer),
-) -> Result<(), AllocError> {
+fn print_answers(text: &mut String, answers: &(Answer, Answer, Answer)) -> Result<(), AllocError> {
     let (first, second, third) = answers;
-    print_answer(alloc, text, first)?;
-    print_answer(alloc, text, second)?;
-    print_answer(alloc, text, third)
+    print_answer(text, first)?;
+    print_answer(text, second)?;
+    print_answer(text, third)
 }

@@ -5,14 +5,14 @@ use crate::gateways::no_predefined;
 use crate::names::{Names, octets};
 use crate::printing::{print_draft, print_octets};
 use crate::stop::Stop;
-use gw_node::Node;
+use gw_node::{Answer, Node};
 use jr_journal::MemoryDisk;
 use octets::Octets;
 use rep_model::{ClientView, Replica};
-use rep_ops::Put;
+use rep_ops::{ClientId, Put};
 use sn_deliver::acknowledge;
 use sn_exchange::{Peer, then_deliver, then_resend};
-use sn_frame::{Flags, Frame, decode};
+use sn_frame::{Flags, Frame, FrameFault, decode};
 use sn_local::Addr;
 use sn_plan::Draft;
 use sn_publish::{Meant, pubrel, topic_meant};
@@ -45,10 +45,16 @@ fn play_for<R: Replica>(
     first: &str,
     bytes: &[u8],
 ) -> Result<(), Stop> {
-    match node.view(alloc, &peer.client) {
+    match seen(alloc, node, &peer.client) {
         Ok(out) => play_seen(alloc, text, peer, &out.view, first, bytes),
         Err(_) => Err(Stop::Memory),
     }
+}
+
+/// The answer with a client's view. Of the call nothing is said here, so that who makes it carries
+/// no clause on.
+fn seen<R: Replica>(alloc: Global, node: &Node<R, MemoryDisk>, client: &ClientId) -> Answer {
+    node.view(alloc, client)
 }
 
 /// The client, at port 7 of host 0 and moment 3.
@@ -105,14 +111,40 @@ fn sent(
     pending: &[Put],
     first: &str,
 ) -> Result<Draft, Stop> {
-    let predefined = no_predefined(alloc)?;
     let mut draft = Draft::new(alloc);
-    let done = match first {
-        "deliver" => then_deliver(alloc, &predefined, peer, session, pending, &mut draft),
-        _ => then_resend(alloc, &predefined, peer, session, pending, &mut draft),
-    };
-    match done {
-        Ok(()) => Ok(draft),
+    match first {
+        "deliver" => deliver(alloc, peer, session, pending, &mut draft)?,
+        _ => resend(alloc, peer, session, pending, &mut draft)?,
+    }
+    Ok(draft)
+}
+
+/// Drafts what waits.
+fn deliver(
+    alloc: Global,
+    peer: &Peer,
+    session: &Session,
+    pending: &[Put],
+    draft: &mut Draft,
+) -> Result<(), Stop> {
+    let predefined = no_predefined(alloc)?;
+    match then_deliver(alloc, &predefined, peer, session, pending, draft) {
+        Ok(()) => Ok(()),
+        Err(_) => Err(Stop::Memory),
+    }
+}
+
+/// Drafts what was sent.
+fn resend(
+    alloc: Global,
+    peer: &Peer,
+    session: &Session,
+    pending: &[Put],
+    draft: &mut Draft,
+) -> Result<(), Stop> {
+    let predefined = no_predefined(alloc)?;
+    match then_resend(alloc, &predefined, peer, session, pending, draft) {
+        Ok(()) => Ok(()),
         Err(_) => Err(Stop::Memory),
     }
 }
@@ -138,13 +170,23 @@ fn heard(
     pending: &[Put],
     bytes: &[u8],
 ) -> Result<Draft, Stop> {
-    let Ok(frame) = decode(alloc, bytes) else {
+    let Ok(frame) = frame_of(alloc, bytes) else {
         return Err(Stop::Line);
     };
     match &frame {
-        Frame::PubRel { msg_id } => Ok(pubrel(alloc, peer.address, session, *msg_id)?),
+        Frame::PubRel { msg_id } => released(alloc, peer, session, *msg_id),
         frame => acknowledged(alloc, peer, session, pending, frame),
     }
+}
+
+/// The frame that octets spell, of which nothing more is said.
+fn frame_of(alloc: Global, bytes: &[u8]) -> Result<Frame, FrameFault> {
+    decode(alloc, bytes)
+}
+
+/// What is drafted where the client releases its message of this id.
+fn released(alloc: Global, peer: &Peer, session: &Session, id: u16) -> Result<Draft, Stop> {
+    Ok(pubrel(alloc, peer.address, session, id)?)
 }
 
 /// What is drafted where the client acknowledges by this frame.
@@ -167,7 +209,7 @@ fn meaning(alloc: Global, text: &mut String, session: &Session, bytes: &[u8]) ->
     let flags = Flags { bits: *bits };
     let topic = u16::from(*high) * 256 + u16::from(*low);
     let meant = meaning_of(alloc, session, flags, topic)?;
-    print_meant(alloc, text, &meant)
+    print_meant(text, &meant)
 }
 
 /// The topic of these flags and this topic field.
@@ -177,9 +219,9 @@ fn meaning_of(alloc: Global, session: &Session, flags: Flags, topic: u16) -> Res
 }
 
 /// What a publication is about.
-fn print_meant(alloc: Global, text: &mut String, meant: &Meant) -> Result<(), Stop> {
+fn print_meant(text: &mut String, meant: &Meant) -> Result<(), Stop> {
     match meant {
-        Meant::Topic(name) => Ok(print_octets(alloc, text, "topic", name.bytes())?),
+        Meant::Topic(name) => Ok(print_octets(text, "topic", name.bytes())?),
         Meant::Refused(code) => print_code(text, *code),
     }
 }

@@ -14,9 +14,9 @@ pub(crate) fn number(text: &str) -> Result<u16, Stop> {
 
 /// The number of a gateway.
 pub(crate) fn gateway(text: &str) -> Result<u8, Stop> {
-    match text.parse::<u8>() {
-        Ok(number) => Ok(number),
-        Err(_) => Err(Stop::Line),
+    match number(text)? {
+        number if number < 256 => Ok(number as u8),
+        _ => Err(Stop::Line),
     }
 }
 

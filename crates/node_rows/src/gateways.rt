@@ -3,7 +3,7 @@
 use crate::fields::{gateway, number};
 use crate::printing::print_slot;
 use crate::stop::Stop;
-use gw_node::Node;
+use gw_node::{Node, NodeFault};
 use jr_journal::{MemoryDisk, Slot};
 use octets::Sequence;
 use rep_model::Replica;
@@ -34,6 +34,16 @@ pub(crate) fn opened<R: Replica>(store: &mut Store<R>) -> Result<&mut Node<R, Me
         None => Err(Stop::Line),
         Some(node) => Ok(node),
     }
+}
+
+/// The gateway, which is to be open, and is no longer here.
+pub(crate) fn taken<R: Replica>(store: &mut Store<R>) -> Result<Node<R, MemoryDisk>, Stop> {
+    store.node.take().ok_or(Stop::Line)
+}
+
+/// This gateway is the one that is open.
+pub(crate) fn keep<R: Replica>(store: &mut Store<R>, node: Node<R, MemoryDisk>) {
+    store.node = Some(node);
 }
 
 /// The disk; a gateway that is open on it is closed.
@@ -75,7 +85,7 @@ fn print_opening(text: &mut String, opening: Result<u64, u8>) -> Result<(), Stop
 /// Opens a gateway on the disk: the records that it read, or the number of its refusal.
 fn start<R: Replica>(alloc: Global, store: &mut Store<R>, config: Config) -> Result<u64, u8> {
     let disk = mem::replace(closed(store), MemoryDisk::new(alloc));
-    match Node::open(alloc, config, disk) {
+    match node_on(alloc, config, disk) {
         Ok(node) => {
             let records = node.records();
             store.node = Some(node);
@@ -86,6 +96,16 @@ fn start<R: Replica>(alloc: Global, store: &mut Store<R>, config: Config) -> Res
             Err(fault.number())
         }
     }
+}
+
+/// A gateway is opened. Of the call nothing is said here, so that who makes it carries no clause
+/// on.
+fn node_on<R: Replica>(
+    alloc: Global,
+    config: Config,
+    disk: MemoryDisk,
+) -> Result<Node<R, MemoryDisk>, (MemoryDisk, NodeFault)> {
+    Node::open(alloc, config, disk)
 }
 
 /// What the gateway is told.

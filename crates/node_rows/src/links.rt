@@ -66,11 +66,16 @@ fn read_beginnings(alloc: Global, text: &mut String, bytes: &[u8]) -> Result<(),
 
 /// The digest that octets spell.
 fn read_digest(alloc: Global, text: &mut String, bytes: &[u8]) -> Result<(), Stop> {
-    match Digest::decode(alloc, bytes) {
+    match decoded(alloc, bytes) {
         Ok(digest) => print_count(text, &digest),
         Err(OpsFault::Memory) => Err(Stop::Memory),
         Err(fault) => print_refused(text, &fault),
     }
+}
+
+/// The digest that octets spell, of which nothing more is said.
+fn decoded(alloc: Global, bytes: &[u8]) -> Result<Digest, OpsFault> {
+    Digest::decode(alloc, bytes)
 }
 
 /// Of how many clients a digest is.
@@ -97,7 +102,7 @@ fn message(alloc: Global, names: &Names, fields: &[&str]) -> Result<LinkMessage,
 /// The digest that fields say.
 fn said_digest(alloc: Global, names: &Names, fields: &[&str]) -> Result<Digest, Stop> {
     let bytes = octets(alloc, names, fields)?;
-    match Digest::decode(alloc, &bytes) {
+    match decoded(alloc, &bytes) {
         Ok(digest) => Ok(digest),
         Err(_) => Err(Stop::Line),
     }
@@ -127,19 +132,18 @@ pub(crate) fn say(
 ) -> Result<(), Stop> {
     let message = message(alloc, names, fields)?;
     let gone = go_out(alloc, said, &message);
-    print_said(alloc, text, said, gone)
+    print_said(text, said, gone)
 }
 
 /// All that went out, if the latest message did.
 fn print_said(
-    alloc: Global,
     text: &mut String,
     said: &[u8],
     gone: Option<Result<(), LinkOutFault>>,
 ) -> Result<(), Stop> {
     match gone {
         None => Err(Stop::Line),
-        Some(Ok(())) => Ok(print_octets(alloc, text, "went out", said)?),
+        Some(Ok(())) => Ok(print_octets(text, "went out", said)?),
         Some(Err(_)) => Err(Stop::Memory),
     }
 }

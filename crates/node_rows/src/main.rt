@@ -1,5 +1,5 @@
-//! Worked rows of gateways with their journals, of deliveries and of links: what no clause says, as
-//! that calls succeed, and octets written out by hand.
+//! Worked rows of gateways with their journals, of deliveries, of links and of shifts: what no
+//! clause says, as that calls succeed, and octets written out by hand. And the work of benchmarks.
 //!
 //! A contract lets a call answer want of memory in place of almost anything; a row does not.
 //! Standard input holds rows, each behind a line `== NAME`; empty lines and those that begin with
@@ -63,12 +63,41 @@
 //! - `feed OCTETS ..`: a piece comes in: the messages that are whole now, and the fault behind
 //!   them.
 //!
+//! All these lines are played on both replicas, and a last line says that they print the same. What
+//! stands behind a heading is played once, on the plain replica.
+//!
+//! Behind the heading `=== shifts` rows are of shifts. Each of the lines above may stand there, but
+//! `repeat`; and in a shift, during which the gateway is not open, those below. PLACE is where a
+//! pass sits, from 0 on, in the order in which passes sat down in the row; those of an earlier
+//! shift stay in their places:
+//!
+//! - `shift PASSES STEPS`: a shift of the gateway for so many passes, which sit down, and for 1 to
+//!   4,096 calls.
+//! - `pass PLACE CALL`: the pass at this place makes a call: its number and its answer. A refusal
+//!   by the shift itself is printed by its number, as `K1`.
+//! - `often PLACE COUNT CALL`: the pass makes the call so many times.
+//! - `together PLACE COUNT CALL`: the passes from this place on make the call so many times each,
+//!   each pass in a thread of its own and all at once.
+//! - `plan CALL`: one more call for the next `beside`, which takes the latest three.
+//! - `beside FIRST SECOND`: the pass at the first place makes the first two calls, and the pass at
+//!   the second place the third, each in a thread of its own: the least and the greatest number of
+//!   these calls, the second answer and the third.
+//! - `after PLACE NUMBER MOST`: the pass asks for the deltas of the calls above a number, at most
+//!   so many: how many there are.
+//! - `end`: the shift is over.
+//! - `close PLACE ..`: it is closed with the passes at these places: how many calls it has, and the
+//!   gateway is open again. If it is refused, the passes sit down behind the others.
+//!
+//! Behind the heading `=== benchmarks` each line is a work; the head of `works.rt` has them.
+//!
 //! The files:
 //!
 //! - `row`: what the lines of a row have brought about (`Row`), and the play of one more.
 //! - `fields`, `names`: lines that are read.
-//! - `gateways`, `calls`, `deliveries`, `links`: lines that are played.
-//! - `printing`: what is printed.
+//! - `gateways`, `calls`, `deliveries`, `links`: lines that are played on both replicas.
+//! - `once`, `shifts`, `works`: those that are played once.
+//! - `seats`: passes in their seats, and calls by threads.
+//! - `printing`, `passing`: what is printed.
 //! - `stop`: why a line is not played.
 #![tactic(auto)]
 
@@ -78,40 +107,79 @@ mod fields;
 mod gateways;
 mod links;
 mod names;
+mod once;
+mod passing;
 mod printing;
 mod row;
+mod seats;
+mod shifts;
 mod stop;
+mod works;
 
 use crate::names::Names;
+use crate::once::play_once;
 use crate::row::{Row, begin, play};
 use crate::stop::Stop;
-use anyhow::Result;
 use rep_model::Replica;
 use rep_plain::Plain;
 use rep_state::Folded;
 use std::alloc::{AllocError, Global};
-use std::io::{self, Write};
+use std::io::{self, Input, Write};
+use std::process::ExitCode;
+use std::sync::Wait;
+use std::thread::Threads;
+use std::time::Clock;
 
-fn main(rt: HostRuntime) -> Result<()> {
-    let mut printed = String::new(rt.alloc());
-    play_input(&rt, &mut printed)?;
-    io::writer(&rt).write_all(printed.as_bytes())?;
-    Ok(())
+fn main(rt: HostRuntime) -> ExitCode {
+    match play_input(&rt) {
+        Ok(()) => ExitCode::SUCCESS,
+        Err(stop) => {
+            let _ = eprintln!(rt; "node_rows: {stop}");
+            ExitCode::FAILURE
+        }
+    }
 }
 
-/// Plays all lines of standard input.
-fn play_input(rt: &HostRuntime, text: &mut String) -> Result<()> {
-    let alloc = rt.alloc();
-    let mut lines = Vec::new(alloc);
-    read_lines(rt, alloc, &mut lines)?;
-    print_both(alloc, text, lines.as_slice())?;
-    Ok(())
+/// Plays all lines of standard input, and writes what that prints.
+fn play_input<T>(rt: &T) -> Result<(), Stop>
+where
+    T: Threads + Wait + Sync + Clock + Input + Print + Eprint + AllocGlobal,
+{
+    let mut lines = Vec::new(rt.alloc());
+    read_lines(rt, &mut lines)?;
+    let mut printed = String::new(rt.alloc());
+    play_parts(rt, &mut printed, lines.as_slice())?;
+    Ok(io::writer(rt).write_all(printed.as_bytes())?)
+}
+
+/// Plays the lines in front of the first heading on both replicas, if there are any, and those from
+/// it on once.
+fn play_parts<T>(rt: &T, text: &mut String, lines: &[String]) -> Result<(), Stop>
+where
+    T: Threads + Wait + Sync + Clock + Eprint + AllocGlobal,
+{
+    let (rows, others) = lines.split_at(front(lines).min(lines.len()));
+    if !rows.is_empty() {
+        print_both(rt.alloc(), text, rows)?;
+    }
+    play_once(rt, text, others)
+}
+
+/// How many lines stand in front of the first heading.
+fn front(lines: &[String]) -> usize {
+    for (at, line) in lines.iter().enumerate() {
+        if line.starts_with("=== ") {
+            return at;
+        }
+    }
+    lines.len()
 }
 
 /// The lines of standard input.
-fn read_lines(rt: &HostRuntime, alloc: Global, lines: &mut Vec<String>) -> Result<()> {
-    for line in rt.lines(alloc) {
-        lines.push(line?)?;
+fn read_lines<T: Input + AllocGlobal>(rt: &T, lines: &mut Vec<String>) -> Result<(), Stop> {
+    for line in rt.lines(rt.alloc()) {
+        let line = line?;
+        lines.push(line)?;
     }
     Ok(())
 }

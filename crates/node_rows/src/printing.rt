@@ -10,12 +10,21 @@ use rep_ops::Delta;
 use sn_local::Send as Sending;
 use sn_plan::{Draft, plan_without};
 use std::alloc::{AllocError, Global};
+use std::fmt;
 
 /// Octets in hexadecimal digits, `-` for none.
-fn shown(alloc: Global, octets: &[u8]) -> Result<String, AllocError> {
-    match octets {
-        [] => String::from_str(alloc, "-"),
-        _ => hex::encode(alloc, octets),
+#[derive(Clone, Copy)]
+struct Digits<'a>(&'a [u8]);
+
+impl fmt::Display for Digits<'_> {
+    fn fmt<W: fmt::Write>(&self, f: &mut fmt::Formatter<W>) -> fmt::Result {
+        if self.0.is_empty() {
+            return f.write_str("-");
+        }
+        for octet in self.0 {
+            write!(f, "{octet:02x}")?;
+        }
+        Ok(())
     }
 }
 
@@ -28,7 +37,7 @@ pub(crate) fn print_slot(
     slot: Slot,
 ) -> Result<(), Stop> {
     let octets = slot_octets(alloc, disk, slot)?;
-    Ok(print_octets(alloc, text, name, &octets)?)
+    Ok(print_octets(text, name, &octets)?)
 }
 
 /// The octets that stand in a slot.
@@ -44,45 +53,36 @@ fn slot_octets(alloc: Global, disk: &mut MemoryDisk, slot: Slot) -> Result<Vec<u
 }
 
 /// A line of octets behind a word.
-pub(crate) fn print_octets(
-    alloc: Global,
-    text: &mut String,
-    word: &str,
-    octets: &[u8],
-) -> Result<(), AllocError> {
-    let octets = shown(alloc, octets)?;
+pub(crate) fn print_octets(text: &mut String, word: &str, octets: &[u8]) -> Result<(), AllocError> {
+    let octets = Digits(octets);
     writeln!(text, "{word} {octets}")
 }
 
 /// What a gateway answered.
-pub(crate) fn print_answer(
-    alloc: Global,
-    text: &mut String,
-    answer: &Answer,
-) -> Result<(), AllocError> {
+pub(crate) fn print_answer(text: &mut String, answer: &Answer) -> Result<(), AllocError> {
     match answer {
         Ok(out) => {
             text.push_str("answer")?;
-            print_out(alloc, text, out)?;
+            print_out(text, out)?;
         }
-        Err(fault) => print_refusal(alloc, text, fault)?,
+        Err(fault) => print_refusal(text, fault)?,
     }
     text.push('\n')
 }
 
 /// The number of a refusal, and the answer that it brings.
-fn print_refusal(alloc: Global, text: &mut String, fault: &NodeFault) -> Result<(), AllocError> {
+pub(crate) fn print_refusal(text: &mut String, fault: &NodeFault) -> Result<(), AllocError> {
     let number = fault.number();
     write!(text, "refused N{number}")?;
     match fault {
-        NodeFault::Disk { out } => print_out(alloc, text, out),
+        NodeFault::Disk { out } => print_out(text, out),
         _ => Ok(()),
     }
 }
 
 /// The parts of an answer.
-fn print_out(alloc: Global, text: &mut String, out: &Out) -> Result<(), AllocError> {
-    print_sends(alloc, text, out.sends.as_slice())?;
+pub(crate) fn print_out(text: &mut String, out: &Out) -> Result<(), AllocError> {
+    print_sends(text, out.sends.as_slice())?;
     if let Some(delta) = &out.made {
         let count = delta.ops().len();
         write!(text, ", made {count}")?;
@@ -94,17 +94,17 @@ fn print_out(alloc: Global, text: &mut String, out: &Out) -> Result<(), AllocErr
 }
 
 /// Datagrams, each with where it goes to.
-fn print_sends(alloc: Global, text: &mut String, sends: &[Sending]) -> Result<(), AllocError> {
+fn print_sends(text: &mut String, sends: &[Sending]) -> Result<(), AllocError> {
     for send in sends {
-        print_send(alloc, text, send)?;
+        print_send(text, send)?;
     }
     Ok(())
 }
 
 /// A datagram, and where it goes to.
-fn print_send(alloc: Global, text: &mut String, send: &Sending) -> Result<(), AllocError> {
+fn print_send(text: &mut String, send: &Sending) -> Result<(), AllocError> {
     let (host, port) = (send.to.host, send.to.port);
-    let octets = shown(alloc, send.bytes.as_slice())?;
+    let octets = Digits(send.bytes.as_slice());
     write!(text, ", to {host}:{port} {octets}")
 }
 
@@ -130,7 +130,7 @@ pub(crate) fn print_draft(
 ) -> Result<(), AllocError> {
     print_drafted(text, &draft)?;
     let plan = plan_without(alloc, draft);
-    print_sends(alloc, text, plan.sends.as_slice())?;
+    print_sends(text, plan.sends.as_slice())?;
     text.push('\n')
 }
 
@@ -166,7 +166,7 @@ fn print_hello(text: &mut String, gateway: u8) -> Result<(), Stop> {
 fn print_digest(alloc: Global, text: &mut String, digest: &Digest) -> Result<(), Stop> {
     let mut bytes = Vec::new(alloc);
     match digest.encode(alloc, &mut bytes) {
-        Ok(()) => Ok(print_octets(alloc, text, "digest", &bytes)?),
+        Ok(()) => Ok(print_octets(text, "digest", &bytes)?),
         Err(_) => Err(Stop::Memory),
     }
 }
@@ -175,7 +175,7 @@ fn print_digest(alloc: Global, text: &mut String, digest: &Digest) -> Result<(),
 fn print_delta(alloc: Global, text: &mut String, delta: &Delta) -> Result<(), Stop> {
     let mut bytes = Vec::new(alloc);
     match delta.encode(alloc, &mut bytes) {
-        Ok(()) => Ok(print_octets(alloc, text, "delta", &bytes)?),
+        Ok(()) => Ok(print_octets(text, "delta", &bytes)?),
         Err(_) => Err(Stop::Memory),
     }
 }

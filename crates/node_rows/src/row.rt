@@ -15,7 +15,7 @@ use std::alloc::Global;
 /// What the lines of a row have brought about.
 #[derive(Drop)]
 pub(crate) struct Row<R: Replica> {
-    store: Store<R>,
+    pub(crate) store: Store<R>,
     /// The end of the link at which pieces come in.
     link: LinkIn,
     /// What went out.

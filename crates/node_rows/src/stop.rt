@@ -1,18 +1,48 @@
 //! Why a line is not played.
 
 use octets::NoMemory;
+use rep_ops::OpsFault;
 use std::alloc::{AllocError, AllocFailed};
-use thiserror::Error;
+use std::{fmt, io};
 
 /// Why a line is not played.
-#[derive(Clone, Copy, Debug, PartialEq, Eq, Error)]
+#[derive(Clone, Copy)]
 pub(crate) enum Stop {
     /// The line is none of the language.
-    #[error("no such line")]
     Line,
     /// Memory ran out.
-    #[error("out of memory")]
     Memory,
+    /// Standard input or output failed.
+    Stream,
+    /// A call that a work makes was refused.
+    Work,
+}
+
+impl fmt::Display for Stop {
+    fn fmt<W: fmt::Write>(&self, f: &mut fmt::Formatter<W>) -> fmt::Result {
+        let words = match self {
+            Stop::Line => "no such line",
+            Stop::Memory => "out of memory",
+            Stop::Stream => "standard input or output failed",
+            Stop::Work => "a call of a work was refused",
+        };
+        f.write_str(words)
+    }
+}
+
+impl From<io::Error> for Stop {
+    fn from(_error: io::Error) -> Stop {
+        Stop::Stream
+    }
+}
+
+impl From<OpsFault> for Stop {
+    fn from(fault: OpsFault) -> Stop {
+        match fault {
+            OpsFault::Memory => Stop::Memory,
+            _ => Stop::Work,
+        }
+    }
 }
 
 impl From<AllocError> for Stop {

@@ -1,13 +1,14 @@
 //! Lines that try a journal at one place after the other, each on a disk of its own.
 
+use crate::calls;
 use crate::deltas::made;
 use crate::fields::{count, octet};
 use crate::journals::{Held, Store, base_of, both, octets_of, put, slot};
 use crate::retries::all_calls;
 use crate::runs::{Run, add, finish};
 use crate::stop::Stop;
-use crate::words::{journal_fault, shown_octets, slot_word};
-use jr_journal::{Journal, JournalFault, MemoryDisk, OnceCall, OnceDisk, Slot};
+use crate::words::{Digits, NotWritten, slot_word};
+use jr_journal::{JournalFault, MemoryDisk, OnceCall, OnceDisk, Slot};
 use rep_ops::{Delta, Op};
 use std::alloc::{AllocError, Global};
 
@@ -37,7 +38,7 @@ fn fill(disk: &mut MemoryDisk, held: &Held) -> Result<(), Stop> {
 
 /// How many records an opening reads, and in which slot, or why none.
 pub(crate) fn opening(alloc: Global, disk: MemoryDisk, gateway: u8) -> Result<String, AllocError> {
-    match Journal::open(alloc, disk, gateway) {
+    match calls::open(alloc, disk, gateway) {
         Ok((journal, deltas)) => count_text(alloc, deltas.len(), journal.slot()),
         Err((_disk, fault)) => fault_text(alloc, fault),
     }
@@ -51,13 +52,13 @@ fn count_text(alloc: Global, count: usize, slot: Slot) -> Result<String, AllocEr
 
 /// The words of a refusal.
 fn fault_text(alloc: Global, fault: JournalFault) -> Result<String, AllocError> {
-    let why = journal_fault(alloc, fault)?;
+    let why = NotWritten(fault);
     format!(in alloc; "refused {why}")
 }
 
 /// How many records an opening reads, and what their slot holds behind it.
 fn opening_whole(alloc: Global, disk: MemoryDisk, gateway: u8) -> Result<String, Stop> {
-    match Journal::open(alloc, disk, gateway) {
+    match calls::open(alloc, disk, gateway) {
         Ok((journal, deltas)) => {
             let slot = journal.slot();
             slot_text(alloc, deltas.len(), slot, &mut journal.into_disk())
@@ -80,7 +81,7 @@ fn slot_text(
 /// The words of a number of records, their slot and its octets.
 fn read_text(alloc: Global, count: usize, slot: Slot, octets: &[u8]) -> Result<String, AllocError> {
     let slot = slot_word(slot);
-    let octets = shown_octets(alloc, octets)?;
+    let octets = Digits(octets);
     format!(in alloc; "records {count} in {slot}, {octets}")
 }
 
@@ -229,9 +230,9 @@ fn stopped(mut disk: MemoryDisk, far: usize) -> MemoryDisk {
 
 /// One such append.
 fn append_on(alloc: Global, disk: MemoryDisk, gateway: u8, delta: &Delta) -> Result<String, Stop> {
-    match Journal::open(alloc, disk, gateway) {
+    match calls::open(alloc, disk, gateway) {
         Ok((mut journal, _deltas)) => {
-            let outcome = journal.append(alloc, delta);
+            let outcome = calls::append(alloc, &mut journal, delta);
             behind_crash(alloc, journal.into_disk(), gateway, outcome)
         }
         Err((_disk, fault)) => Ok(fault_text(alloc, fault)?),
@@ -245,9 +246,9 @@ fn compact_on(
     gateway: u8,
     base: &[Delta],
 ) -> Result<String, Stop> {
-    match Journal::open(alloc, disk, gateway) {
+    match calls::open(alloc, disk, gateway) {
         Ok((mut journal, _deltas)) => {
-            let outcome = journal.compact(alloc, base);
+            let outcome = calls::compact(alloc, &mut journal, base);
             behind_crash(alloc, journal.into_disk(), gateway, outcome)
         }
         Err((_disk, fault)) => Ok(fault_text(alloc, fault)?),
@@ -277,6 +278,6 @@ fn refused_and_found(
     fault: JournalFault,
     found: &str,
 ) -> Result<String, AllocError> {
-    let why = journal_fault(alloc, fault)?;
+    let why = NotWritten(fault);
     format!(in alloc; "refused {why}, {found}")
 }

@@ -1,11 +1,12 @@
 //! Lines about deltas and their octets.
 
+use crate::calls;
 use crate::fields::{count, digits, word};
 use crate::names::{Names, octets};
 use crate::printing::print_delta;
 use crate::runs::{Run, add, finish};
 use crate::stop::Stop;
-use crate::words::{ops_fault, shown_octets};
+use crate::words::{Digits, ops_fault};
 use rep_ops::{ClientId, Delta, Op, OpsFault};
 use std::alloc::{AllocError, Global};
 
@@ -17,7 +18,7 @@ fn refused(text: &mut String, fault: OpsFault) -> Result<(), Stop> {
 
 /// The delta of operations; says why there is none.
 pub(crate) fn made(alloc: Global, text: &mut String, ops: Vec<Op>) -> Result<Option<Delta>, Stop> {
-    match Delta::from_ops(alloc, ops) {
+    match calls::delta_of(alloc, ops) {
         Ok(delta) => Ok(Some(delta)),
         Err(fault) => {
             refused(text, fault)?;
@@ -30,7 +31,7 @@ pub(crate) fn made(alloc: Global, text: &mut String, ops: Vec<Op>) -> Result<Opt
 pub(crate) fn shown(alloc: Global, text: &mut String, ops: Vec<Op>) -> Result<(), Stop> {
     match made(alloc, text, ops)? {
         None => Ok(()),
-        Some(delta) => Ok(print_delta(alloc, text, &delta)?),
+        Some(delta) => Ok(print_delta(text, &delta)?),
     }
 }
 
@@ -38,21 +39,21 @@ pub(crate) fn shown(alloc: Global, text: &mut String, ops: Vec<Op>) -> Result<()
 pub(crate) fn copied(alloc: Global, text: &mut String, ops: Vec<Op>) -> Result<(), Stop> {
     match made(alloc, text, ops)? {
         None => Ok(()),
-        Some(delta) => print_read(alloc, text, delta.copy(alloc)),
+        Some(delta) => print_read(text, delta.copy(alloc)),
     }
 }
 
 /// A delta, or why there is none.
-fn print_read(alloc: Global, text: &mut String, read: Result<Delta, OpsFault>) -> Result<(), Stop> {
+fn print_read(text: &mut String, read: Result<Delta, OpsFault>) -> Result<(), Stop> {
     match read {
-        Ok(delta) => Ok(print_delta(alloc, text, &delta)?),
+        Ok(delta) => Ok(print_delta(text, &delta)?),
         Err(fault) => refused(text, fault),
     }
 }
 
 /// `none`: the delta of no operations.
 pub(crate) fn none(alloc: Global, text: &mut String) -> Result<(), Stop> {
-    Ok(print_delta(alloc, text, &Delta::empty(alloc))?)
+    Ok(print_delta(text, &Delta::empty(alloc))?)
 }
 
 /// `spell`: the octets of the delta of the operations stand behind those that are there.
@@ -70,7 +71,7 @@ pub(crate) fn spelled(
 
 /// Puts the octets of a delta behind those that are there.
 fn spell(alloc: Global, text: &mut String, delta: &Delta, out: &mut Vec<u8>) -> Result<(), Stop> {
-    match delta.encode(alloc, out) {
+    match calls::write_delta(alloc, delta, out) {
         Ok(()) => Ok(()),
         Err(fault) => refused(text, fault),
     }
@@ -97,10 +98,10 @@ fn print_written(
     delta: &Delta,
     out: &mut Vec<u8>,
 ) -> Result<(), Stop> {
-    print_delta(alloc, text, delta)?;
+    print_delta(text, delta)?;
     out.clear();
-    match delta.encode(alloc, out) {
-        Ok(()) => print(alloc, text, out),
+    match calls::write_delta(alloc, delta, out) {
+        Ok(()) => print(text, out),
         Err(fault) => refused(text, fault),
     }
 }
@@ -117,8 +118,8 @@ pub(crate) fn named(alloc: Global, text: &mut String, fields: &[&str]) -> Result
 }
 
 /// `print`: the octets.
-pub(crate) fn print(alloc: Global, text: &mut String, bytes: &[u8]) -> Result<(), Stop> {
-    let octets = shown_octets(alloc, bytes)?;
+pub(crate) fn print(text: &mut String, bytes: &[u8]) -> Result<(), Stop> {
+    let octets = Digits(bytes);
     Ok(writeln!(text, "{octets}")?)
 }
 
@@ -130,7 +131,7 @@ pub(crate) fn size(text: &mut String, bytes: &[u8]) -> Result<(), Stop> {
 
 /// `read`: the delta that the octets spell.
 pub(crate) fn read(alloc: Global, text: &mut String, bytes: &[u8]) -> Result<(), Stop> {
-    print_read(alloc, text, Delta::decode(alloc, bytes))
+    print_read(text, calls::read_delta(alloc, bytes))
 }
 
 /// `count`: how many operations the delta has that the octets spell.
@@ -141,7 +142,7 @@ pub(crate) fn counted(alloc: Global, text: &mut String, bytes: &[u8]) -> Result<
 
 /// How many operations octets spell, or why none.
 fn answer(alloc: Global, bytes: &[u8]) -> Result<String, AllocError> {
-    match Delta::decode(alloc, bytes) {
+    match calls::read_delta(alloc, bytes) {
         Ok(delta) => count_text(alloc, delta.ops().len()),
         Err(fault) => fault_text(alloc, fault),
     }

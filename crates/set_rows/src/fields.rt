@@ -5,7 +5,7 @@ use octets::Octets;
 use rep_ops::{ClientId, OpsFault, Stamp};
 use sn_session::Message;
 use sn_tables::QosLevel;
-use sn_topic::{Filter, TopicFault, TopicName};
+use sn_topic::{Filter, TopicName};
 use std::alloc::Global;
 
 /// The fields between spaces.
@@ -23,17 +23,17 @@ pub(crate) fn number(text: &str) -> Result<u64, Stop> {
 
 /// A number below 65,536.
 pub(crate) fn small_number(text: &str) -> Result<u16, Stop> {
-    match text.parse::<u16>() {
-        Ok(number) => Ok(number),
-        Err(_) => Err(Stop::Line),
+    match number(text)? {
+        number if number < 65_536 => Ok(number as u16),
+        _ => Err(Stop::Line),
     }
 }
 
 /// A number below 256.
 pub(crate) fn octet(text: &str) -> Result<u8, Stop> {
-    match text.parse::<u8>() {
-        Ok(number) => Ok(number),
-        Err(_) => Err(Stop::Line),
+    match number(text)? {
+        number if number < 256 => Ok(number as u8),
+        _ => Err(Stop::Line),
     }
 }
 
@@ -47,10 +47,7 @@ pub(crate) fn level(text: &str) -> Result<QosLevel, Stop> {
 
 /// How many, or a place.
 pub(crate) fn count(text: &str) -> Result<usize, Stop> {
-    match text.parse::<usize>() {
-        Ok(number) => Ok(number),
-        Err(_) => Err(Stop::Line),
-    }
+    Ok(number(text)? as usize)
 }
 
 /// An epoch and a gateway with a dot between them.
@@ -82,35 +79,26 @@ pub(crate) fn word(text: &str) -> &[u8] {
 
 /// A client.
 pub(crate) fn client(alloc: Global, text: &str) -> Result<ClientId, Stop> {
-    match ClientId::new(alloc, word(text)) {
+    named(alloc, word(text))
+}
+
+/// The client of this name.
+pub(crate) fn named(alloc: Global, name: &[u8]) -> Result<ClientId, Stop> {
+    match ClientId::new(alloc, name) {
         Ok(client) => Ok(client),
         Err(OpsFault::Memory) => Err(Stop::Memory),
         Err(_) => Err(Stop::Line),
     }
 }
 
-/// Why a topic is none.
-fn topic_stop(fault: TopicFault) -> Stop {
-    match fault {
-        TopicFault::Memory => Stop::Memory,
-        _ => Stop::Line,
-    }
-}
-
 /// The name of a topic.
 pub(crate) fn topic(alloc: Global, text: &str) -> Result<TopicName, Stop> {
-    match TopicName::new(alloc, word(text)) {
-        Ok(topic) => Ok(topic),
-        Err(fault) => Err(topic_stop(fault)),
-    }
+    Ok(TopicName::new(alloc, word(text))?)
 }
 
 /// A filter.
 pub(crate) fn filter(alloc: Global, text: &str) -> Result<Filter, Stop> {
-    match Filter::new(alloc, word(text)) {
-        Ok(filter) => Ok(filter),
-        Err(fault) => Err(topic_stop(fault)),
-    }
+    Ok(Filter::new(alloc, word(text))?)
 }
 
 /// What a message says.

@@ -1,10 +1,11 @@
 //! Lines about a journal and its disk.
 
+use crate::calls;
 use crate::deltas::made;
 use crate::fields::{count, octet};
 use crate::printing::print_delta;
 use crate::stop::Stop;
-use crate::words::{journal_fault, shown_octets, slot_word};
+use crate::words::{Digits, NotWritten, slot_word};
 use jr_journal::{Disk, Journal, JournalFault, MemoryDisk, Slot};
 use rep_ops::{Delta, Op};
 use std::alloc::Global;
@@ -103,21 +104,17 @@ pub(crate) fn crash(store: &mut Store, fields: &[&str]) -> Result<(), Stop> {
 }
 
 /// Says why a journal refuses.
-pub(crate) fn refused(alloc: Global, text: &mut String, fault: JournalFault) -> Result<(), Stop> {
-    let why = journal_fault(alloc, fault)?;
+pub(crate) fn refused(text: &mut String, fault: JournalFault) -> Result<(), Stop> {
+    let why = NotWritten(fault);
     Ok(writeln!(text, "refused {why}")?)
 }
 
 /// The records that an opening read.
-pub(crate) fn print_records(
-    alloc: Global,
-    text: &mut String,
-    deltas: &[Delta],
-) -> Result<(), Stop> {
+pub(crate) fn print_records(text: &mut String, deltas: &[Delta]) -> Result<(), Stop> {
     let count = deltas.len();
     writeln!(text, "records {count}")?;
     for delta in deltas {
-        print_delta(alloc, text, delta)?;
+        print_delta(text, delta)?;
     }
     Ok(())
 }
@@ -134,14 +131,14 @@ pub(crate) fn open(
     };
     let gateway = octet(gateway)?;
     let disk = mem::replace(closed(store)?, MemoryDisk::new(alloc));
-    match Journal::open(alloc, disk, gateway) {
+    match calls::open(alloc, disk, gateway) {
         Ok((journal, deltas)) => {
             store.journal = Some(journal);
-            print_records(alloc, text, deltas.as_slice())
+            print_records(text, deltas.as_slice())
         }
         Err((disk, fault)) => {
             store.disk = disk;
-            refused(alloc, text, fault)
+            refused(text, fault)
         }
     }
 }
@@ -166,9 +163,9 @@ fn append_delta(
     journal: &mut Journal<MemoryDisk>,
     delta: &Delta,
 ) -> Result<(), Stop> {
-    match journal.append(alloc, delta) {
+    match calls::append(alloc, journal, delta) {
         Ok(()) => Ok(text.push_str("appended\n")?),
-        Err(fault) => refused(alloc, text, fault),
+        Err(fault) => refused(text, fault),
     }
 }
 
@@ -238,17 +235,17 @@ fn compact_to(
     journal: &mut Journal<MemoryDisk>,
     base: &[Delta],
 ) -> Result<(), Stop> {
-    match journal.compact(alloc, base) {
+    match calls::compact(alloc, journal, base) {
         Ok(()) => Ok(text.push_str("compacted\n")?),
-        Err(fault) => refused(alloc, text, fault),
+        Err(fault) => refused(text, fault),
     }
 }
 
 /// `reopen`: the journal is opened once more as it stands.
 pub(crate) fn reopen(alloc: Global, text: &mut String, store: &mut Store) -> Result<(), Stop> {
-    match opened(store)?.reopen(alloc) {
-        Ok(deltas) => print_records(alloc, text, deltas.as_slice()),
-        Err(fault) => refused(alloc, text, fault),
+    match calls::reopen(alloc, opened(store)?) {
+        Ok(deltas) => print_records(text, deltas.as_slice()),
+        Err(fault) => refused(text, fault),
     }
 }
 
@@ -300,7 +297,7 @@ fn print_slot(
 ) -> Result<(), Stop> {
     let octets = octets_of(alloc, disk, slot)?;
     let name = slot_word(slot);
-    let digits = shown_octets(alloc, &octets)?;
+    let digits = Digits(&octets);
     Ok(writeln!(text, "{name} {digits}")?)
 }
 

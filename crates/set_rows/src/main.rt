@@ -1,13 +1,16 @@
-//! Worked rows of operations, deltas, sessions, replicas and journals: what no clause says, as that
-//! calls succeed, and octets written out by hand.
+//! Worked rows of datagrams, topic names and filters, and of operations, deltas, sessions, replicas
+//! and journals: what no clause says, as that calls succeed, and octets written out by hand.
 //!
 //! The rows are played on both replicas, and a last line says that these print the same.
 //!
 //! A contract lets a call answer want of memory in place of almost anything; a row does not.
 //! Standard input holds rows, each behind a line `== NAME`; empty lines and those that begin with
 //! `#` are skipped. Each row begins with nothing: no operation, no octets, the empty session, an
-//! empty replica, an empty disk. The program prints each name, and below it what the lines of the
-//! row give; of a line that is none of these, `no such line` and the line.
+//! empty replica, an empty disk, no frame and no predefined id. The program prints each name, and
+//! below it what the lines of the row give; of a line that is none of these, `no such line` and the
+//! line. After a line `=== datagrams` rows are of datagrams and topics; the head of `datagrams.rt`
+//! has their words. After a line `=== sets`, and in front of the first of both, they are as
+//! follows.
 //!
 //! A line is words with one space between them. Numbers are decimal. Octets are words of
 //! hexadecimal digits, in as many as is pleasant; after a line `name NAME OCTETS ..`, which may
@@ -73,6 +76,11 @@
 //!   next message for it.
 //! - `clients`: how many clients it knows.
 //! - `held`, `parts`: the deltas of what must be kept; how many operations each has.
+//! - `fold`, `folded CLIENT GATEWAY`: as `join` and `next`, of a replica that folds; also if the
+//!   rows are played on one that keeps all.
+//! - `pair SEED TIMES SIZE LEAST`: so many times both replicas take so many operations that are
+//!   made up of a number, if they are a delta: whether the two say the same after each, of LEAST or
+//!   more.
 //!
 //! The disk, and the journal on it; SLOT is `first` or `second`:
 //!
@@ -105,19 +113,27 @@
 //! left.
 //!
 //! - `row`: what the lines of a row have brought about (`Row`), and the play of one more.
+//! - `datagrams`: the same of a row of datagrams and topics.
 //! - `fields`, `names`, `operations`, `changes`: lines that are read.
-//! - `sessions`, `deltas`, `replicas`, `journals`, `attempts`, `retries`: lines that are played.
+//! - `sessions`, `deltas`, `replicas`, `pairs`, `journals`, `attempts`, `retries`: lines that are
+//!   played.
+//! - `made_up`: operations that are made up of a number.
+//! - `calls`: calls of the libraries.
 //! - `words`, `printing`, `runs`: what is printed.
 //! - `stop`: why a line is not played.
 #![tactic(auto)]
 
 mod attempts;
+mod calls;
 mod changes;
+mod datagrams;
 mod deltas;
 mod fields;
 mod journals;
+mod made_up;
 mod names;
 mod operations;
+mod pairs;
 mod printing;
 mod replicas;
 mod retries;
@@ -131,35 +147,50 @@ use crate::fields::fields;
 use crate::names::Names;
 use crate::row::{Row, begin, play};
 use crate::stop::Stop;
-use anyhow::Result;
 use rep_model::Replica;
 use rep_plain::Plain;
 use rep_state::Folded;
 use std::alloc::{AllocError, Global};
 use std::io::{self, Write};
+use std::process::ExitCode;
 
 /// What stands in front of a row's name.
 const MARK: &str = "== ";
 
-fn main(rt: HostRuntime) -> Result<()> {
+/// What the lines have brought about.
+#[derive(Drop)]
+struct Page<R: Replica> {
+    /// Whether rows are of datagrams and topics.
+    is_of_datagrams: bool,
+    names: Names,
+    datagrams: datagrams::Row,
+    row: Row<R>,
+}
+
+fn main(rt: HostRuntime) -> ExitCode {
+    match play_input(&rt) {
+        Ok(()) => ExitCode::SUCCESS,
+        Err(stop) => {
+            let _ = eprintln!(rt; "set_rows: {stop}");
+            ExitCode::FAILURE
+        }
+    }
+}
+
+/// Plays standard input on both replicas, and writes what that prints.
+fn play_input(rt: &HostRuntime) -> Result<(), Stop> {
     let mut lines = Vec::new(rt.alloc());
-    read_lines(&rt, &mut lines)?;
-    play_both(&rt, lines.as_slice())
+    read_lines(rt, &mut lines)?;
+    let printed = print_both(rt.alloc(), lines.as_slice())?;
+    Ok(io::writer(rt).write_all(printed.as_bytes())?)
 }
 
 /// Reads the lines of standard input.
-fn read_lines(rt: &HostRuntime, lines: &mut Vec<String>) -> Result<()> {
+fn read_lines(rt: &HostRuntime, lines: &mut Vec<String>) -> Result<(), Stop> {
     for line in rt.lines(rt.alloc()) {
         let line = line?;
         lines.push(line)?;
     }
-    Ok(())
-}
-
-/// Plays lines on both replicas, and writes what that prints.
-fn play_both(rt: &HostRuntime, lines: &[String]) -> Result<()> {
-    let printed = print_both(rt.alloc(), lines)?;
-    io::writer(rt).write_all(printed.as_bytes())?;
     Ok(())
 }
 
@@ -190,42 +221,55 @@ fn played<R: Replica>(alloc: Global, lines: &[String]) -> Result<String, Stop> {
 
 /// Plays the lines on a replica.
 fn play_all<R: Replica>(alloc: Global, printed: &mut String, lines: &[String]) -> Result<(), Stop> {
-    let mut row: Row<R> = begin(alloc)?;
-    let mut names = names::none(alloc);
-    play_lines(alloc, printed, &mut row, &mut names, lines)
-}
-
-/// Plays lines, one after the other.
-fn play_lines<R: Replica>(
-    alloc: Global,
-    printed: &mut String,
-    row: &mut Row<R>,
-    names: &mut Names,
-    lines: &[String],
-) -> Result<(), Stop> {
+    let mut page: Page<R> = blank(alloc)?;
     for line in lines {
-        answer(alloc, printed, row, names, line.as_str())?;
+        answer(alloc, printed, &mut page, line.as_str())?;
     }
     Ok(())
+}
+
+/// No line has brought anything about.
+fn blank<R: Replica>(alloc: Global) -> Result<Page<R>, Stop> {
+    let datagrams = datagrams::begin(alloc)?;
+    Ok(Page {
+        is_of_datagrams: false,
+        names: names::none(alloc),
+        datagrams,
+        row: begin(alloc)?,
+    })
 }
 
 /// Plays a line; empty ones and explanations say nothing.
 fn answer<R: Replica>(
     alloc: Global,
     text: &mut String,
-    row: &mut Row<R>,
-    names: &mut Names,
+    page: &mut Page<R>,
     line: &str,
 ) -> Result<(), Stop> {
     if line.is_empty() || line.starts_with('#') {
         return Ok(());
     }
-    match line.strip_prefix(MARK) {
-        Some(name) => begin_row(alloc, text, row, name),
-        None => match play_line(alloc, text, row, names, line) {
-            Ok(()) => Ok(()),
-            Err(stop) => tell(text, stop, line),
-        },
+    match line {
+        "=== datagrams" => page.is_of_datagrams = true,
+        "=== sets" => page.is_of_datagrams = false,
+        _ => return play_or_begin(alloc, text, page, line),
+    }
+    Ok(())
+}
+
+/// Plays a line of a row, or begins one.
+fn play_or_begin<R: Replica>(
+    alloc: Global,
+    text: &mut String,
+    page: &mut Page<R>,
+    line: &str,
+) -> Result<(), Stop> {
+    if line.starts_with(MARK) {
+        return begin_row(alloc, text, page, line);
+    }
+    match play_line(alloc, text, page, line) {
+        Ok(()) => Ok(()),
+        Err(stop) => tell(text, stop, line),
     }
 }
 
@@ -233,19 +277,19 @@ fn answer<R: Replica>(
 fn begin_row<R: Replica>(
     alloc: Global,
     text: &mut String,
-    row: &mut Row<R>,
-    name: &str,
+    page: &mut Page<R>,
+    line: &str,
 ) -> Result<(), Stop> {
-    *row = begin(alloc)?;
-    Ok(writeln!(text, "== {name}")?)
+    page.datagrams = datagrams::begin(alloc)?;
+    page.row = begin(alloc)?;
+    Ok(writeln!(text, "{line}")?)
 }
 
 /// Tells a line that is none of the language.
 fn tell(text: &mut String, stop: Stop, line: &str) -> Result<(), Stop> {
     match stop {
-        Stop::Line => Ok(writeln!(text, "no such line: {line}")?),
-        Stop::Message => Ok(writeln!(text, "{}: {line}", Stop::Message)?),
-        Stop::Memory => Err(Stop::Memory),
+        Stop::Line | Stop::Message => Ok(writeln!(text, "{stop}: {line}")?),
+        Stop::Memory | Stop::Stream => Err(stop),
     }
 }
 
@@ -253,13 +297,15 @@ fn tell(text: &mut String, stop: Stop, line: &str) -> Result<(), Stop> {
 fn play_line<R: Replica>(
     alloc: Global,
     text: &mut String,
-    row: &mut Row<R>,
-    names: &mut Names,
+    page: &mut Page<R>,
     line: &str,
 ) -> Result<(), Stop> {
     let words = fields(alloc, line)?;
+    if page.is_of_datagrams {
+        return datagrams::play(alloc, text, &mut page.datagrams, &words);
+    }
     match words.as_slice() {
-        ["name", rest @ ..] => names::add(alloc, names, rest),
-        words => play(alloc, text, row, names, words),
+        ["name", rest @ ..] => names::add(alloc, &mut page.names, rest),
+        words => play(alloc, text, &mut page.row, &page.names, words),
     }
 }

@@ -2,10 +2,11 @@
 
 use crate::changes::change;
 use crate::fields::{
-    client, count, level, message, message_number, number, octet, small_number, stamp, topic, word,
+    client, count, level, message, message_number, named, number, octet, small_number, stamp,
+    topic, word,
 };
 use crate::stop::Stop;
-use rep_ops::{ClientId, Op, OpsFault, Put, Stamp};
+use rep_ops::{ClientId, Op, Put, Stamp};
 use sn_session::{Session, SessionOp};
 use sn_tables::QosLevel;
 use std::alloc::Global;
@@ -218,10 +219,5 @@ fn add_take(alloc: Global, session: &Session, ops: &mut Vec<Op>, number: u16) ->
 
 /// The client of a number.
 fn numbered(alloc: Global, number: u16) -> Result<ClientId, Stop> {
-    let name = [(number / 256) as u8, (number % 256) as u8];
-    match ClientId::new(alloc, &name) {
-        Ok(client) => Ok(client),
-        Err(OpsFault::Memory) => Err(Stop::Memory),
-        Err(_) => Err(Stop::Line),
-    }
+    named(alloc, &[(number / 256) as u8, (number % 256) as u8])
 }

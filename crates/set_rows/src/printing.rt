@@ -1,37 +1,33 @@
 //! Operations, sessions and views as lines.
 
-use crate::words::{kind_word, known_word, phase_word, presence_word, retain_word, word};
+use crate::words::{Word, kind_word, known_word, phase_word, presence_word, retain_word};
 use rep_model::ClientView;
 use rep_ops::{Delta, Op, Put};
 use sn_session::{Outbound, Session, SessionOp, Will, WillTopic};
 use sn_tables::{QosLevel, Subscription, TopicEntry};
-use std::alloc::{AllocError, Global};
+use std::alloc::AllocError;
 
 /// The operations of a delta, behind a line with their number.
-pub(crate) fn print_delta(
-    alloc: Global,
-    text: &mut String,
-    delta: &Delta,
-) -> Result<(), AllocError> {
+pub(crate) fn print_delta(text: &mut String, delta: &Delta) -> Result<(), AllocError> {
     if delta.is_empty() {
         return text.push_str("empty delta\n");
     }
     let count = delta.ops().len();
     writeln!(text, "delta of {count}")?;
     for op in delta.ops() {
-        print_op(alloc, text, op)?;
+        print_op(text, op)?;
     }
     Ok(())
 }
 
 /// The lines of an operation.
-fn print_op(alloc: Global, text: &mut String, op: &Op) -> Result<(), AllocError> {
-    let client = word(alloc, op.client().bytes())?;
-    print_op_of(alloc, text, client.as_str(), op)
+fn print_op(text: &mut String, op: &Op) -> Result<(), AllocError> {
+    let client = Word(op.client().bytes());
+    print_op_of(text, client, op)
 }
 
 /// The lines of an operation of a client.
-fn print_op_of(alloc: Global, text: &mut String, client: &str, op: &Op) -> Result<(), AllocError> {
+fn print_op_of(text: &mut String, client: Word<'_>, op: &Op) -> Result<(), AllocError> {
     match op {
         Op::Session {
             stamp,
@@ -41,11 +37,11 @@ fn print_op_of(alloc: Global, text: &mut String, client: &str, op: &Op) -> Resul
         } => {
             let (epoch, gateway, counter) = (stamp.epoch, stamp.gateway, *counter);
             write!(text, "op {client} {epoch}.{gateway} {counter} ")?;
-            print_change(alloc, text, change)
+            print_change(text, change)
         }
         Op::Put { put, .. } => {
             write!(text, "put {client} ")?;
-            print_put(alloc, text, put)
+            print_put(text, put)
         }
         Op::Ack {
             origin,
@@ -60,35 +56,33 @@ fn print_op_of(alloc: Global, text: &mut String, client: &str, op: &Op) -> Resul
 }
 
 /// The rest of a message's line.
-fn print_put(alloc: Global, text: &mut String, put: &Put) -> Result<(), AllocError> {
+fn print_put(text: &mut String, put: &Put) -> Result<(), AllocError> {
     let (origin, seq, qos) = (put.origin, put.seq, put.qos.number());
-    let topic = word(alloc, put.topic.bytes())?;
-    let body = word(alloc, put.body.as_slice())?;
+    let topic = Word(put.topic.bytes());
+    let body = Word(put.body.as_slice());
     writeln!(text, "{origin}.{seq} {topic} {qos} {body}")
 }
 
 /// The rest of the line of a change; the lines of a session behind `take`.
-fn print_change(alloc: Global, text: &mut String, change: &SessionOp) -> Result<(), AllocError> {
+fn print_change(text: &mut String, change: &SessionOp) -> Result<(), AllocError> {
     match change {
         SessionOp::Take(session) => {
             text.push_str("take\n")?;
-            print_session(alloc, text, session)
+            print_session(text, session)
         }
         SessionOp::Presence { presence, duration } => {
             let (place, seconds) = (presence_word(*presence), *duration);
             writeln!(text, "presence {place} {seconds}")
         }
         SessionOp::Register { id, name, known } => {
-            print_topic(alloc, text, "register", *id, name.bytes(), *known)
+            print_topic(text, "register", *id, name.bytes(), *known)
         }
         SessionOp::Subscribe { filter, qos } => {
-            print_filter(alloc, text, "subscribe", filter.bytes(), *qos)
+            print_filter(text, "subscribe", filter.bytes(), *qos)
         }
-        SessionOp::Unsubscribe { filter } => {
-            print_word(alloc, text, "unsubscribe", filter.bytes())
-        }
-        SessionOp::WillTopic(asked) => print_will_topic(alloc, text, asked),
-        SessionOp::WillMsg(message) => print_word(alloc, text, "message", message.as_slice()),
+        SessionOp::Unsubscribe { filter } => { print_word(text, "unsubscribe", filter.bytes()) }
+        SessionOp::WillTopic(asked) => print_will_topic(text, asked),
+        SessionOp::WillMsg(message) => print_word(text, "message", message.as_slice()),
         SessionOp::Received { id } => print_id(text, "received", *id),
         SessionOp::Released { id } => print_id(text, "released", *id),
         SessionOp::Outbound { exchange, next_id } => print_exchange(text, exchange, *next_id),
@@ -101,53 +95,42 @@ fn print_id(text: &mut String, what: &str, id: u16) -> Result<(), AllocError> {
 }
 
 /// Octets as a word behind another.
-fn print_word(
-    alloc: Global,
-    text: &mut String,
-    what: &str,
-    octets: &[u8],
-) -> Result<(), AllocError> {
-    let octets = word(alloc, octets)?;
+fn print_word(text: &mut String, what: &str, octets: &[u8]) -> Result<(), AllocError> {
+    let octets = Word(octets);
     writeln!(text, "{what} {octets}")
 }
 
 /// A topic id behind a word.
 fn print_topic(
-    alloc: Global,
     text: &mut String,
     what: &str,
     id: u16,
     name: &[u8],
     known: bool,
 ) -> Result<(), AllocError> {
-    let name = word(alloc, name)?;
+    let name = Word(name);
     let known = known_word(known);
     writeln!(text, "{what} {id} {name} {known}")
 }
 
 /// A filter behind a word.
 fn print_filter(
-    alloc: Global,
     text: &mut String,
     what: &str,
     filter: &[u8],
     qos: QosLevel,
 ) -> Result<(), AllocError> {
-    let filter = word(alloc, filter)?;
+    let filter = Word(filter);
     let qos = qos.number();
     writeln!(text, "{what} {filter} {qos}")
 }
 
 /// A will's topic.
-fn print_will_topic(
-    alloc: Global,
-    text: &mut String,
-    asked: &Option<WillTopic>,
-) -> Result<(), AllocError> {
+fn print_will_topic(text: &mut String, asked: &Option<WillTopic>) -> Result<(), AllocError> {
     match asked {
         None => text.push_str("will none\n"),
         Some(asked) => {
-            let topic = word(alloc, asked.topic.bytes())?;
+            let topic = Word(asked.topic.bytes());
             let (qos, kept) = (asked.qos.number(), retain_word(asked.retain));
             writeln!(text, "will {topic} {qos} {kept}")
         }
@@ -171,19 +154,15 @@ fn print_exchange(
 }
 
 /// The lines of a session.
-pub(crate) fn print_session(
-    alloc: Global,
-    text: &mut String,
-    session: &Session,
-) -> Result<(), AllocError> {
+pub(crate) fn print_session(text: &mut String, session: &Session) -> Result<(), AllocError> {
     let place = presence_word(session.presence);
     let kind = kind_word(session.clean);
     let seconds = session.duration;
     writeln!(text, "  session {place} {kind} {seconds}")?;
-    print_topics(alloc, text, session.topics.as_slice())?;
-    print_filters(alloc, text, session.subscriptions.as_slice())?;
+    print_topics(text, session.topics.as_slice())?;
+    print_filters(text, session.subscriptions.as_slice())?;
     if let Some(will) = &session.will {
-        print_will(alloc, text, will)?;
+        print_will(text, will)?;
     }
     print_received(text, session.received.as_slice())?;
     text.push_str("  ")?;
@@ -191,36 +170,25 @@ pub(crate) fn print_session(
 }
 
 /// The topic ids of a session.
-fn print_topics(alloc: Global, text: &mut String, topics: &[TopicEntry]) -> Result<(), AllocError> {
+fn print_topics(text: &mut String, topics: &[TopicEntry]) -> Result<(), AllocError> {
     for entry in topics {
-        print_topic(
-            alloc,
-            text,
-            "  topic",
-            entry.id,
-            entry.name.bytes(),
-            entry.known,
-        )?;
+        print_topic(text, "  topic", entry.id, entry.name.bytes(), entry.known)?;
     }
     Ok(())
 }
 
 /// The subscriptions of a session.
-fn print_filters(
-    alloc: Global,
-    text: &mut String,
-    subscriptions: &[Subscription],
-) -> Result<(), AllocError> {
+fn print_filters(text: &mut String, subscriptions: &[Subscription]) -> Result<(), AllocError> {
     for entry in subscriptions {
-        print_filter(alloc, text, "  filter", entry.filter.bytes(), entry.qos)?;
+        print_filter(text, "  filter", entry.filter.bytes(), entry.qos)?;
     }
     Ok(())
 }
 
 /// The will of a session.
-fn print_will(alloc: Global, text: &mut String, will: &Will) -> Result<(), AllocError> {
-    let topic = word(alloc, will.topic.bytes())?;
-    let message = word(alloc, will.message.as_slice())?;
+fn print_will(text: &mut String, will: &Will) -> Result<(), AllocError> {
+    let topic = Word(will.topic.bytes());
+    let message = Word(will.message.as_slice());
     let (qos, kept) = (will.qos.number(), retain_word(will.retain));
     writeln!(text, "  will {topic} {qos} {kept} {message}")
 }
@@ -234,16 +202,12 @@ fn print_received(text: &mut String, ids: &[u16]) -> Result<(), AllocError> {
 }
 
 /// The lines of a view.
-pub(crate) fn print_view(
-    alloc: Global,
-    text: &mut String,
-    view: &ClientView,
-) -> Result<(), AllocError> {
+pub(crate) fn print_view(text: &mut String, view: &ClientView) -> Result<(), AllocError> {
     print_stamp(text, view)?;
     if let Some(session) = &view.session {
-        print_session(alloc, text, session)?;
+        print_session(text, session)?;
     }
-    print_waiting(alloc, text, view.pending.as_slice())
+    print_waiting(text, view.pending.as_slice())
 }
 
 /// The first line of a view.
@@ -259,14 +223,10 @@ fn print_stamp(text: &mut String, view: &ClientView) -> Result<(), AllocError> {
 }
 
 /// The messages that wait.
-pub(crate) fn print_waiting(
-    alloc: Global,
-    text: &mut String,
-    puts: &[Put],
-) -> Result<(), AllocError> {
+pub(crate) fn print_waiting(text: &mut String, puts: &[Put]) -> Result<(), AllocError> {
     for put in puts {
         text.push_str("  put ")?;
-        print_put(alloc, text, put)?;
+        print_put(text, put)?;
     }
     Ok(())
 }

@@ -1,10 +1,11 @@
 //! Lines about a replica.
 
+use crate::calls;
 use crate::deltas::made;
 use crate::fields::{client, octet};
 use crate::printing::{print_delta, print_view, print_waiting};
 use crate::stop::Stop;
-use crate::words::take_fault;
+use crate::words::NotTaken;
 use rep_model::{ClientView, Puts, Replica, TakeFault};
 use rep_ops::{ClientId, Delta, Op};
 use std::alloc::{AllocError, Global};
@@ -21,8 +22,8 @@ pub(crate) fn empty<R: Replica>(alloc: Global) -> Result<R, Stop> {
 }
 
 /// Says why a replica refuses.
-fn refused(alloc: Global, text: &mut String, fault: &TakeFault) -> Result<(), Stop> {
-    let why = take_fault(alloc, fault)?;
+fn refused(text: &mut String, fault: &TakeFault) -> Result<(), Stop> {
+    let why = NotTaken(fault);
     Ok(writeln!(text, "refused {why}")?)
 }
 
@@ -46,12 +47,9 @@ fn join_delta<R: Replica>(
     replica: &mut R,
     delta: &Delta,
 ) -> Result<(), Stop> {
-    match replica.prepare(alloc, delta) {
-        Ok(staged) => {
-            replica.commit(staged);
-            Ok(text.push_str("joined\n")?)
-        }
-        Err(fault) => refused(alloc, text, &fault),
+    match calls::take(alloc, replica, delta) {
+        Ok(()) => Ok(text.push_str("joined\n")?),
+        Err(fault) => refused(text, &fault),
     }
 }
 
@@ -71,18 +69,14 @@ pub(crate) fn view<R: Replica>(
     fields: &[&str],
 ) -> Result<(), Stop> {
     let client = only_client(alloc, fields)?;
-    Ok(print_known(alloc, text, replica.view_of(&client))?)
+    Ok(print_known(text, replica.view_of(&client))?)
 }
 
 /// What is known of a client, if it is named.
-fn print_known(
-    alloc: Global,
-    text: &mut String,
-    known: Option<&ClientView>,
-) -> Result<(), AllocError> {
+fn print_known(text: &mut String, known: Option<&ClientView>) -> Result<(), AllocError> {
     match known {
         None => text.push_str(NOT_NAMED),
-        Some(view) => print_view(alloc, text, view),
+        Some(view) => print_view(text, view),
     }
 }
 
@@ -113,15 +107,15 @@ fn print_copied(alloc: Global, text: &mut String, view: &ClientView) -> Result<(
     let Ok(messages) = view.pending.copied(alloc) else {
         return Err(Stop::Memory);
     };
-    print_view(alloc, text, view)?;
-    Ok(print_messages(alloc, text, &messages)?)
+    print_view(text, view)?;
+    Ok(print_messages(text, &messages)?)
 }
 
 /// Messages, behind a line with their number.
-fn print_messages(alloc: Global, text: &mut String, messages: &Puts) -> Result<(), AllocError> {
+fn print_messages(text: &mut String, messages: &Puts) -> Result<(), AllocError> {
     let (count, is_empty) = (messages.len(), messages.is_empty());
     writeln!(text, "messages {count}, none: {is_empty}")?;
-    print_waiting(alloc, text, messages.as_slice())
+    print_waiting(text, messages.as_slice())
 }
 
 /// `waiting CLIENT`: how many messages wait for a client.
@@ -200,15 +194,15 @@ pub(crate) fn held<R: Replica>(alloc: Global, text: &mut String, replica: &R) ->
     let Ok(deltas) = replica.held(alloc) else {
         return Err(Stop::Memory);
     };
-    Ok(print_held(alloc, text, &deltas)?)
+    Ok(print_held(text, &deltas)?)
 }
 
 /// Deltas of what must be kept.
-fn print_held(alloc: Global, text: &mut String, deltas: &[Delta]) -> Result<(), AllocError> {
+fn print_held(text: &mut String, deltas: &[Delta]) -> Result<(), AllocError> {
     let count = deltas.len();
     writeln!(text, "held in {count}")?;
     for delta in deltas {
-        print_delta(alloc, text, delta)?;
+        print_delta(text, delta)?;
     }
     Ok(())
 }

@@ -1,10 +1,11 @@
 //! A line that tries a journal on disks of which one call fails.
 
 use crate::attempts::{Trial, opening, tried};
+use crate::calls;
 use crate::fields::{count, octet};
 use crate::journals::{Store, base_of};
 use crate::stop::Stop;
-use crate::words::journal_fault;
+use crate::words::NotWritten;
 use jr_journal::{Journal, JournalFault, OnceCall, OnceDisk};
 use rep_ops::{Delta, Op};
 use std::alloc::Global;
@@ -102,8 +103,8 @@ fn read(said: &mut String, deltas: &[Delta]) -> Result<(), Stop> {
 }
 
 /// Why a call was refused.
-fn refused(alloc: Global, said: &mut String, fault: JournalFault) -> Result<(), Stop> {
-    let why = journal_fault(alloc, fault)?;
+fn refused(said: &mut String, fault: JournalFault) -> Result<(), Stop> {
+    let why = NotWritten(fault);
     Ok(write!(said, " {why}")?)
 }
 
@@ -115,13 +116,13 @@ fn open(
     gateway: u8,
 ) -> Result<Journal<OnceDisk>, Stop> {
     said.push_str("open")?;
-    match Journal::open(alloc, disk, gateway) {
+    match calls::open(alloc, disk, gateway) {
         Ok((journal, deltas)) => {
             read(said, deltas.as_slice())?;
             Ok(journal)
         }
         Err((disk, fault)) => {
-            refused(alloc, said, fault)?;
+            refused(said, fault)?;
             open_again(alloc, said, disk, gateway)
         }
     }
@@ -134,7 +135,7 @@ fn open_again(
     disk: OnceDisk,
     gateway: u8,
 ) -> Result<Journal<OnceDisk>, Stop> {
-    match Journal::open(alloc, disk, gateway) {
+    match calls::open(alloc, disk, gateway) {
         Ok((journal, deltas)) => {
             read(said, deltas.as_slice())?;
             Ok(journal)
@@ -150,13 +151,13 @@ fn reopens(
     journal: &mut Journal<OnceDisk>,
 ) -> Result<bool, Stop> {
     said.push_str("; reopen")?;
-    match journal.reopen(alloc) {
+    match calls::reopen(alloc, journal) {
         Ok(deltas) => {
             read(said, deltas.as_slice())?;
             Ok(true)
         }
         Err(fault) => {
-            refused(alloc, said, fault)?;
+            refused(said, fault)?;
             Ok(false)
         }
     }
@@ -170,10 +171,10 @@ fn compacts(
     base: &[Delta],
 ) -> Result<bool, Stop> {
     said.push_str("; compact")?;
-    match journal.compact(alloc, base) {
+    match calls::compact(alloc, journal, base) {
         Ok(()) => Ok(true),
         Err(fault) => {
-            refused(alloc, said, fault)?;
+            refused(said, fault)?;
             Ok(false)
         }
     }

@@ -4,11 +4,13 @@ use crate::attempts::{appends, compactions, openings};
 use crate::journals::Store;
 use crate::names::Names;
 use crate::operations::{ack_op, ack_ops, put_op, put_ops, session_op, session_ops, take_ops};
+use crate::pairs::play_pair;
 use crate::retries::retries;
 use crate::stop::Stop;
 use crate::{deltas, journals, names, replicas, sessions};
 use rep_model::Replica;
 use rep_ops::Op;
+use rep_state::Folded;
 use sn_session::Session;
 use std::alloc::Global;
 use std::mem;
@@ -22,22 +24,32 @@ pub(crate) struct Row<R: Replica> {
     ops: Vec<Op>,
     octets: Vec<u8>,
     replica: R,
+    /// A replica that folds, whichever the rows are played on.
+    folded: Folded,
     store: Store,
 }
 
 /// A row without a line.
 pub(crate) fn begin<R: Replica>(alloc: Global) -> Result<Row<R>, Stop> {
     let replica = replicas::empty(alloc)?;
+    let folded = replicas::empty(alloc)?;
     Ok(Row {
         session: Session::empty(alloc),
         ops: Vec::new(alloc),
         octets: Vec::new(alloc),
         replica,
+        folded,
         store: journals::empty(alloc),
     })
 }
 
-/// Plays a line.
+/// The operations that no line has used, which are used now.
+fn used<R: Replica>(alloc: Global, row: &mut Row<R>) -> Vec<Op> {
+    mem::replace(&mut row.ops, Vec::new(alloc))
+}
+
+/// Plays a line. Each of the functions below knows the words of some lines, and leaves all others
+/// to the next.
 pub(crate) fn play<R: Replica>(
     alloc: Global,
     text: &mut String,
@@ -45,104 +57,77 @@ pub(crate) fn play<R: Replica>(
     names: &Names,
     words: &[&str],
 ) -> Result<(), Stop> {
-    let Some((first, rest)) = words.split_first() else {
-        return Err(Stop::Line);
-    };
-    match *first {
-        "session" | "apply" | "applies" => {
-            play_session(alloc, text, &mut row.session, first, rest)
-        }
-        "tell" | "sizes" | "id" | "topic" | "filter" | "asked" | "heard" => {
-            ask_session(alloc, text, &row.session, first, rest)
-        }
-        "op" | "ops" | "put" | "puts" | "ack" | "acks" | "takes" => {
-            play_operation(alloc, &row.session, &mut row.ops, first, rest)
-        }
-        "delta" | "copy" | "spell" | "written" | "join" => {
-            let ops = mem::replace(&mut row.ops, Vec::new(alloc));
-            play_use(alloc, text, row, ops, first)
-        }
-        "append" | "appends" | "compact" | "compactions" | "retries" => {
-            let ops = mem::replace(&mut row.ops, Vec::new(alloc));
-            play_writing(alloc, text, &mut row.store, ops, first, rest)
-        }
-        "octets" | "behind" | "set" | "fill" | "cut" => {
-            play_octets(alloc, names, &mut row.octets, first, rest)
-        }
-        "none" | "client" | "print" | "size" | "read" | "count" | "altered" | "beginnings" => {
-            play_reading(alloc, text, &row.octets, first, rest)
-        }
-        "view" | "copied" | "waiting" | "next" | "clients" | "held" | "parts" => {
-            play_replica(alloc, text, &row.replica, first, rest)
-        }
-        _ => play_store(alloc, text, &mut row.store, &row.octets, first, rest),
+    match words.split_first() {
+        Some((first, rest)) => play_session(alloc, text, row, names, first, rest),
+        None => Err(Stop::Line),
     }
 }
 
 /// Lines that describe a session or change it.
-fn play_session(
+fn play_session<R: Replica>(
     alloc: Global,
     text: &mut String,
-    session: &mut Session,
+    row: &mut Row<R>,
+    names: &Names,
     first: &str,
     rest: &[&str],
 ) -> Result<(), Stop> {
     match first {
         "session" => {
-            *session = sessions::described(alloc, rest)?;
+            row.session = sessions::described(alloc, rest)?;
             Ok(())
         }
-        "apply" => sessions::apply(alloc, text, session, rest),
-        _ => sessions::applies(alloc, text, session, rest),
+        "apply" => sessions::apply(alloc, text, &mut row.session, rest),
+        "applies" => sessions::applies(alloc, text, &mut row.session, rest),
+        _ => ask_session(alloc, text, row, names, first, rest),
     }
 }
 
 /// Lines that ask a session.
-fn ask_session(
+fn ask_session<R: Replica>(
     alloc: Global,
     text: &mut String,
-    session: &Session,
+    row: &mut Row<R>,
+    names: &Names,
     first: &str,
     rest: &[&str],
 ) -> Result<(), Stop> {
     match first {
-        "tell" => sessions::tell(alloc, text, session),
-        "sizes" => sessions::sizes(text, session),
-        "id" => sessions::id(alloc, text, session, rest),
-        "topic" => sessions::topic_of(alloc, text, session, rest),
-        "filter" => sessions::qos_of(alloc, text, session, rest),
-        "asked" => sessions::asked_qos(alloc, text, session, rest),
-        _ => sessions::heard(text, session, rest),
+        "tell" => sessions::tell(text, &row.session),
+        "sizes" => sessions::sizes(text, &row.session),
+        "id" => sessions::id(alloc, text, &row.session, rest),
+        "topic" => sessions::topic_of(text, &row.session, rest),
+        "filter" => sessions::qos_of(alloc, text, &row.session, rest),
+        "asked" => sessions::asked_qos(alloc, text, &row.session, rest),
+        "heard" => sessions::heard(text, &row.session, rest),
+        _ => play_operations(alloc, text, row, names, first, rest),
     }
 }
 
 /// Lines that add operations.
-fn play_operation(
+fn play_operations<R: Replica>(
     alloc: Global,
-    session: &Session,
-    ops: &mut Vec<Op>,
+    text: &mut String,
+    row: &mut Row<R>,
+    names: &Names,
     first: &str,
     rest: &[&str],
 ) -> Result<(), Stop> {
     match first {
-        "ops" => session_ops(alloc, session, ops, rest),
-        "puts" => put_ops(alloc, ops, rest),
-        "acks" => ack_ops(alloc, ops, rest),
-        "takes" => take_ops(alloc, session, ops, rest),
-        _ => {
-            let op = operation(alloc, session, first, rest)?;
-            Ok(ops.push(op)?)
-        }
+        "ops" => session_ops(alloc, &row.session, &mut row.ops, rest),
+        "puts" => put_ops(alloc, &mut row.ops, rest),
+        "acks" => ack_ops(alloc, &mut row.ops, rest),
+        "takes" => take_ops(alloc, &row.session, &mut row.ops, rest),
+        "op" => add(&mut row.ops, session_op(alloc, &row.session, rest)),
+        "put" => add(&mut row.ops, put_op(alloc, rest)),
+        "ack" => add(&mut row.ops, ack_op(alloc, rest)),
+        _ => play_use(alloc, text, row, names, first, rest),
     }
 }
 
-/// The operation of a line that adds one.
-fn operation(alloc: Global, session: &Session, first: &str, rest: &[&str]) -> Result<Op, Stop> {
-    match first {
-        "op" => session_op(alloc, session, rest),
-        "put" => put_op(alloc, rest),
-        _ => ack_op(alloc, rest),
-    }
+/// Adds an operation.
+fn add(ops: &mut Vec<Op>, op: Result<Op, Stop>) -> Result<(), Stop> {
+    Ok(ops.push(op?)?)
 }
 
 /// Lines that use the operations.
@@ -150,20 +135,53 @@ fn play_use<R: Replica>(
     alloc: Global,
     text: &mut String,
     row: &mut Row<R>,
-    ops: Vec<Op>,
+    names: &Names,
     first: &str,
+    rest: &[&str],
 ) -> Result<(), Stop> {
     match first {
-        "delta" => deltas::shown(alloc, text, ops),
-        "copy" => deltas::copied(alloc, text, ops),
-        "spell" => deltas::spelled(alloc, text, ops, &mut row.octets),
-        "written" => deltas::written(alloc, text, ops, &mut row.octets),
-        _ => replicas::join(alloc, text, &mut row.replica, ops),
+        "delta" => deltas::shown(alloc, text, used(alloc, row)),
+        "copy" => deltas::copied(alloc, text, used(alloc, row)),
+        "spell" => {
+            let ops = used(alloc, row);
+            deltas::spelled(alloc, text, ops, &mut row.octets)
+        }
+        "written" => {
+            let ops = used(alloc, row);
+            deltas::written(alloc, text, ops, &mut row.octets)
+        }
+        "join" => {
+            let ops = used(alloc, row);
+            replicas::join(alloc, text, &mut row.replica, ops)
+        }
+        "fold" => {
+            let ops = used(alloc, row);
+            replicas::join(alloc, text, &mut row.folded, ops)
+        }
+        _ => play_writing(alloc, text, row, names, first, rest),
     }
 }
 
-/// Lines that write the operations.
-fn play_writing(
+/// Lines that write the operations into a journal.
+fn play_writing<R: Replica>(
+    alloc: Global,
+    text: &mut String,
+    row: &mut Row<R>,
+    names: &Names,
+    first: &str,
+    rest: &[&str],
+) -> Result<(), Stop> {
+    match first {
+        "append" | "appends" | "compact" | "compactions" | "retries" => {
+            let ops = used(alloc, row);
+            write(alloc, text, &mut row.store, ops, first, rest)
+        }
+        _ => play_octets(alloc, text, row, names, first, rest),
+    }
+}
+
+/// Writes operations into a journal.
+fn write(
     alloc: Global,
     text: &mut String,
     store: &mut Store,
@@ -181,42 +199,45 @@ fn play_writing(
 }
 
 /// Lines that make octets.
-fn play_octets(
+fn play_octets<R: Replica>(
     alloc: Global,
+    text: &mut String,
+    row: &mut Row<R>,
     names: &Names,
-    octets: &mut Vec<u8>,
     first: &str,
     rest: &[&str],
 ) -> Result<(), Stop> {
     match first {
         "octets" => {
-            *octets = names::octets(alloc, names, rest)?;
+            row.octets = names::octets(alloc, names, rest)?;
             Ok(())
         }
-        "behind" => deltas::behind(alloc, names, octets, rest),
-        "set" => deltas::set(alloc, octets, rest),
-        "fill" => deltas::fill(octets, rest),
-        _ => deltas::cut(octets, rest),
+        "behind" => deltas::behind(alloc, names, &mut row.octets, rest),
+        "set" => deltas::set(alloc, &mut row.octets, rest),
+        "fill" => deltas::fill(&mut row.octets, rest),
+        "cut" => deltas::cut(&mut row.octets, rest),
+        _ => play_reading(alloc, text, row, first, rest),
     }
 }
 
 /// Lines that read octets.
-fn play_reading(
+fn play_reading<R: Replica>(
     alloc: Global,
     text: &mut String,
-    octets: &[u8],
+    row: &mut Row<R>,
     first: &str,
     rest: &[&str],
 ) -> Result<(), Stop> {
     match first {
         "none" => deltas::none(alloc, text),
         "client" => deltas::named(alloc, text, rest),
-        "print" => deltas::print(alloc, text, octets),
-        "size" => deltas::size(text, octets),
-        "read" => deltas::read(alloc, text, octets),
-        "count" => deltas::counted(alloc, text, octets),
-        "altered" => deltas::altered(alloc, text, octets, rest),
-        _ => deltas::beginnings(alloc, text, octets),
+        "print" => deltas::print(text, &row.octets),
+        "size" => deltas::size(text, &row.octets),
+        "read" => deltas::read(alloc, text, &row.octets),
+        "count" => deltas::counted(alloc, text, &row.octets),
+        "altered" => deltas::altered(alloc, text, &row.octets, rest),
+        "beginnings" => deltas::beginnings(alloc, text, &row.octets),
+        _ => play_replica(alloc, text, row, first, rest),
     }
 }
 
@@ -224,18 +245,21 @@ fn play_reading(
 fn play_replica<R: Replica>(
     alloc: Global,
     text: &mut String,
-    replica: &R,
+    row: &mut Row<R>,
     first: &str,
     rest: &[&str],
 ) -> Result<(), Stop> {
     match first {
-        "view" => replicas::view(alloc, text, replica, rest),
-        "copied" => replicas::copied(alloc, text, replica, rest),
-        "waiting" => replicas::waiting(alloc, text, replica, rest),
-        "next" => replicas::next(alloc, text, replica, rest),
-        "clients" => replicas::clients(alloc, text, replica),
-        "held" => replicas::held(alloc, text, replica),
-        _ => replicas::parts(alloc, text, replica),
+        "view" => replicas::view(alloc, text, &row.replica, rest),
+        "copied" => replicas::copied(alloc, text, &row.replica, rest),
+        "waiting" => replicas::waiting(alloc, text, &row.replica, rest),
+        "next" => replicas::next(alloc, text, &row.replica, rest),
+        "folded" => replicas::next(alloc, text, &row.folded, rest),
+        "clients" => replicas::clients(alloc, text, &row.replica),
+        "held" => replicas::held(alloc, text, &row.replica),
+        "parts" => replicas::parts(alloc, text, &row.replica),
+        "pair" => play_pair(alloc, text, rest),
+        _ => play_store(alloc, text, &mut row.store, &row.octets, first, rest),
     }
 }
 

@@ -4,7 +4,7 @@ use crate::changes::{change, presence};
 use crate::fields::{fields as words_of, filter, is_first, small_number, topic};
 use crate::printing::print_session;
 use crate::stop::Stop;
-use crate::words::{known_word, word};
+use crate::words::{Word, known_word};
 use sn_session::Session;
 use sn_tables::{QosLevel, SessionFault, TopicEntry};
 use std::alloc::{AllocError, Global};
@@ -100,8 +100,8 @@ fn add_word(line: &mut String, field: &str, number: u16) -> Result<(), AllocErro
 }
 
 /// `tell`: the session and all that it has.
-pub(crate) fn tell(alloc: Global, text: &mut String, session: &Session) -> Result<(), Stop> {
-    Ok(print_session(alloc, text, session)?)
+pub(crate) fn tell(text: &mut String, session: &Session) -> Result<(), Stop> {
+    Ok(print_session(text, session)?)
 }
 
 /// `sizes`: how many entries its tables have, and the least topic id that is not in use.
@@ -151,30 +151,20 @@ fn print_id(
 }
 
 /// `topic ID`: the name of a topic id.
-pub(crate) fn topic_of(
-    alloc: Global,
-    text: &mut String,
-    session: &Session,
-    fields: &[&str],
-) -> Result<(), Stop> {
+pub(crate) fn topic_of(text: &mut String, session: &Session, fields: &[&str]) -> Result<(), Stop> {
     let [id] = fields else {
         return Err(Stop::Line);
     };
     let id = small_number(id)?;
     match session.topic_of(id) {
-        Some(entry) => Ok(print_name(alloc, text, id, entry)?),
+        Some(entry) => Ok(print_name(text, id, entry)?),
         None => Ok(writeln!(text, "{id} has no name")?),
     }
 }
 
 /// The name of a topic id.
-fn print_name(
-    alloc: Global,
-    text: &mut String,
-    id: u16,
-    entry: &TopicEntry,
-) -> Result<(), AllocError> {
-    let name = word(alloc, entry.name.bytes())?;
+fn print_name(text: &mut String, id: u16, entry: &TopicEntry) -> Result<(), AllocError> {
+    let name = Word(entry.name.bytes());
     let known = known_word(entry.known);
     writeln!(text, "{id} is {name} {known}")
 }

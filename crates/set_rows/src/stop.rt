@@ -1,21 +1,39 @@
 //! Why a line is not played.
 
 use octets::NoMemory;
+use sn_topic::TopicFault;
 use std::alloc::{AllocError, AllocFailed};
-use thiserror::Error;
+use std::{fmt, io};
 
 /// Why a line is not played.
-#[derive(Clone, Copy, Debug, PartialEq, Eq, Error)]
+#[derive(Clone, Copy)]
 pub(crate) enum Stop {
     /// The line is none of the language.
-    #[error("no such line")]
     Line,
     /// The message has more than 4,096 octets, so that there is none of it.
-    #[error("a message of more than 4096 octets")]
     Message,
     /// Memory ran out.
-    #[error("out of memory")]
     Memory,
+    /// Standard input or output failed.
+    Stream,
+}
+
+impl fmt::Display for Stop {
+    fn fmt<W: fmt::Write>(&self, f: &mut fmt::Formatter<W>) -> fmt::Result {
+        let words = match self {
+            Stop::Line => "no such line",
+            Stop::Message => "a message of more than 4096 octets",
+            Stop::Memory => "out of memory",
+            Stop::Stream => "standard input or output failed",
+        };
+        f.write_str(words)
+    }
+}
+
+impl From<io::Error> for Stop {
+    fn from(_error: io::Error) -> Stop {
+        Stop::Stream
+    }
 }
 
 impl From<AllocError> for Stop {
@@ -33,5 +51,15 @@ impl From<NoMemory> for Stop {
 impl<T: Drop> From<AllocFailed<T>> for Stop {
     fn from(_error: AllocFailed<T>) -> Stop {
         Stop::Memory
+    }
+}
+
+/// A topic that a line wants and that is none.
+impl From<TopicFault> for Stop {
+    fn from(fault: TopicFault) -> Stop {
+        match fault {
+            TopicFault::Memory => Stop::Memory,
+            _ => Stop::Line,
+        }
     }
 }

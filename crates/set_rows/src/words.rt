@@ -4,28 +4,77 @@ use jr_journal::{JournalFault, Slot};
 use rep_model::{Limit, TakeFault};
 use rep_ops::OpsFault;
 use sn_session::{Phase, Presence};
-use std::alloc::{AllocError, Global};
-use std::str;
+use std::{fmt, str};
 
 /// Octets as a word: `-` for none, hexadecimal digits behind `0x` where they are no text.
-pub(crate) fn word(alloc: Global, octets: &[u8]) -> Result<String, AllocError> {
-    if octets.is_empty() {
-        return String::from_str(alloc, "-");
-    }
-    match str::from_utf8(octets) {
-        Ok(text) => String::from_str(alloc, text),
-        Err(_) => {
-            let digits = hex::encode(alloc, octets)?;
-            format!(in alloc; "0x{digits}")
+#[derive(Clone, Copy)]
+pub(crate) struct Word<'a>(pub &'a [u8]);
+
+/// Octets in hexadecimal digits, `-` for none.
+#[derive(Clone, Copy)]
+pub(crate) struct Digits<'a>(pub &'a [u8]);
+
+/// Why a replica refuses.
+#[derive(Clone, Copy)]
+pub(crate) struct NotTaken<'a>(pub &'a TakeFault);
+
+/// Why a journal refuses.
+#[derive(Clone, Copy)]
+pub(crate) struct NotWritten(pub JournalFault);
+
+impl fmt::Display for Word<'_> {
+    fn fmt<W: fmt::Write>(&self, f: &mut fmt::Formatter<W>) -> fmt::Result {
+        match str::from_utf8(self.0) {
+            Ok("") => f.write_str("-"),
+            Ok(text) => f.write_str(text),
+            Err(_) => {
+                let digits = Digits(self.0);
+                write!(f, "0x{digits}")
+            }
         }
     }
 }
 
-/// Octets in hexadecimal digits, `-` for none.
-pub(crate) fn shown_octets(alloc: Global, octets: &[u8]) -> Result<String, AllocError> {
-    match octets {
-        [] => String::from_str(alloc, "-"),
-        _ => hex::encode(alloc, octets),
+impl fmt::Display for Digits<'_> {
+    fn fmt<W: fmt::Write>(&self, f: &mut fmt::Formatter<W>) -> fmt::Result {
+        if self.0.is_empty() {
+            return f.write_str("-");
+        }
+        for octet in self.0 {
+            write!(f, "{octet:02x}")?;
+        }
+        Ok(())
+    }
+}
+
+impl fmt::Display for NotTaken<'_> {
+    fn fmt<W: fmt::Write>(&self, f: &mut fmt::Formatter<W>) -> fmt::Result {
+        match self.0 {
+            TakeFault::Conflict { client } => {
+                let name = Word(client.bytes());
+                write!(f, "conflict {name}")
+            }
+            TakeFault::Full { limit } => {
+                let what = limit_word(*limit);
+                write!(f, "full {what}")
+            }
+            TakeFault::Memory => f.write_str("memory"),
+        }
+    }
+}
+
+impl fmt::Display for NotWritten {
+    fn fmt<W: fmt::Write>(&self, f: &mut fmt::Formatter<W>) -> fmt::Result {
+        match self.0 {
+            JournalFault::Disk => f.write_str("disk"),
+            JournalFault::Foreign => f.write_str("foreign"),
+            JournalFault::BadRecord { slot, at } => {
+                let slot = slot_word(slot);
+                write!(f, "bad record {slot} {at}")
+            }
+            JournalFault::Memory => f.write_str("memory"),
+            JournalFault::Halted => f.write_str("halted"),
+        }
     }
 }
 
@@ -88,39 +137,10 @@ fn limit_word(limit: Limit) -> &'static str {
     }
 }
 
-/// Why a replica refuses.
-pub(crate) fn take_fault(alloc: Global, fault: &TakeFault) -> Result<String, AllocError> {
-    match fault {
-        TakeFault::Conflict { client } => {
-            let name = word(alloc, client.bytes())?;
-            format!(in alloc; "conflict {name}")
-        }
-        TakeFault::Full { limit } => {
-            let what = limit_word(*limit);
-            format!(in alloc; "full {what}")
-        }
-        TakeFault::Memory => String::from_str(alloc, "memory"),
-    }
-}
-
 /// A slot.
 pub(crate) fn slot_word(slot: Slot) -> &'static str {
     match slot {
         Slot::First => "first",
         Slot::Second => "second",
-    }
-}
-
-/// Why a journal refuses.
-pub(crate) fn journal_fault(alloc: Global, fault: JournalFault) -> Result<String, AllocError> {
-    match fault {
-        JournalFault::Disk => String::from_str(alloc, "disk"),
-        JournalFault::Foreign => String::from_str(alloc, "foreign"),
-        JournalFault::BadRecord { slot, at } => {
-            let slot = slot_word(slot);
-            format!(in alloc; "bad record {slot} {at}")
-        }
-        JournalFault::Memory => String::from_str(alloc, "memory"),
-        JournalFault::Halted => String::from_str(alloc, "halted"),
     }
 }

@@ -1,0 +1,48 @@
+//! The journal at work.
+
+use crate::stop::Stop;
+use crate::works::delta_of;
+use crate::works::operations::presence;
+use jr_journal::{Journal, MemoryDisk};
+use rep_ops::Delta;
+use std::alloc::Global;
+
+/// Appends so many records of one change of a session to a new journal on a disk in memory, each
+/// synced, and says how many it appended.
+pub(crate) fn run(alloc: Global, text: &mut String, rounds: u32) -> Result<(), Stop> {
+    let delta = delta_of(alloc, presence(alloc)?)?;
+    let mut journal = journal(alloc)?;
+    let count = append_all(alloc, &mut journal, &delta, rounds)?;
+    Ok(writeln!(text, "records: {count} appended, each synced")?)
+}
+
+/// A new journal on a disk in memory.
+fn journal(alloc: Global) -> Result<Journal<MemoryDisk>, Stop> {
+    match Journal::open(alloc, MemoryDisk::new(alloc), 1) {
+        Ok((journal, _)) => Ok(journal),
+        Err(_) => Err(Stop::Work),
+    }
+}
+
+/// Appends the delta so often: how many records that were.
+fn append_all(
+    alloc: Global,
+    journal: &mut Journal<MemoryDisk>,
+    delta: &Delta,
+    rounds: u32,
+) -> Result<u64, Stop> {
+    let mut count = 0_u64;
+    for _ in 0..rounds {
+        append(alloc, journal, delta)?;
+        count = count.wrapping_add(1);
+    }
+    Ok(count)
+}
+
+/// Appends the delta.
+fn append(alloc: Global, journal: &mut Journal<MemoryDisk>, delta: &Delta) -> Result<(), Stop> {
+    match journal.append(alloc, delta) {
+        Ok(()) => Ok(()),
+        Err(_) => Err(Stop::Work),
+    }
+}

@@ -1,0 +1,87 @@
+//! Calls of the libraries. These functions say nothing of them: what a library promises would stay
+//! in view at each exit behind the call, and no row needs it.
+
+use jr_journal::{Disk, Journal, JournalFault};
+use rep_model::{Replica, TakeFault};
+use rep_ops::{Delta, Op, OpsFault};
+use sn_frame::{EncodeFault, Frame, FrameFault};
+use std::alloc::Global;
+
+/// The frame that a datagram spells.
+pub(crate) fn read_frame(alloc: Global, datagram: &[u8]) -> Result<Frame, FrameFault> {
+    sn_frame::decode(alloc, datagram)
+}
+
+/// Puts the octets of a frame behind those that are there.
+pub(crate) fn write_frame(
+    alloc: Global,
+    frame: &Frame,
+    out: &mut Vec<u8>,
+) -> Result<(), EncodeFault> {
+    sn_frame::encode(alloc, frame, out)
+}
+
+/// The delta of operations.
+pub(crate) fn delta_of(alloc: Global, ops: Vec<Op>) -> Result<Delta, OpsFault> {
+    Delta::from_ops(alloc, ops)
+}
+
+/// The delta that octets spell.
+pub(crate) fn read_delta(alloc: Global, bytes: &[u8]) -> Result<Delta, OpsFault> {
+    Delta::decode(alloc, bytes)
+}
+
+/// Puts the octets of a delta behind those that are there.
+pub(crate) fn write_delta(alloc: Global, delta: &Delta, out: &mut Vec<u8>) -> Result<(), OpsFault> {
+    delta.encode(alloc, out)
+}
+
+/// A replica takes a delta.
+pub(crate) fn take<R: Replica>(
+    alloc: Global,
+    replica: &mut R,
+    delta: &Delta,
+) -> Result<(), TakeFault> {
+    match replica.prepare(alloc, delta) {
+        Ok(staged) => {
+            replica.commit(staged);
+            Ok(())
+        }
+        Err(fault) => Err(fault),
+    }
+}
+
+/// The journal of a gateway is opened.
+pub(crate) fn open<D: Disk + Drop>(
+    alloc: Global,
+    disk: D,
+    gateway: u8,
+) -> Result<(Journal<D>, Vec<Delta>), (D, JournalFault)> {
+    Journal::open(alloc, disk, gateway)
+}
+
+/// A delta is a new record.
+pub(crate) fn append<D: Disk + Drop>(
+    alloc: Global,
+    journal: &mut Journal<D>,
+    delta: &Delta,
+) -> Result<(), JournalFault> {
+    journal.append(alloc, delta)
+}
+
+/// Records take the place of all.
+pub(crate) fn compact<D: Disk + Drop>(
+    alloc: Global,
+    journal: &mut Journal<D>,
+    base: &[Delta],
+) -> Result<(), JournalFault> {
+    journal.compact(alloc, base)
+}
+
+/// A journal is opened once more as it stands.
+pub(crate) fn reopen<D: Disk + Drop>(
+    alloc: Global,
+    journal: &mut Journal<D>,
+) -> Result<Vec<Delta>, JournalFault> {
+    journal.reopen(alloc)
+}

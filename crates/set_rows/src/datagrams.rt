@@ -1,0 +1,102 @@
+//! A row of datagrams and topics: what its lines have brought about so far, and the play of one
+//! more.
+//!
+//! OCTETS are words of hexadecimal digits, in as many as is pleasant; `COUNTxDIGITS` are the octets
+//! of the digits, so often; a word behind an apostrophe, as `'t/a`, is the octets of its text, and
+//! `-` is no octet. A KIND, a FILTER and a NAME are one such word.
+//!
+//! Datagrams:
+//!
+//! - `frame OCTETS ..`: the frame in the words of section 5, and below it the octets that it is
+//!   written as; or the number and the words of the fault.
+//! - `with OCTETS ..`: the same of the frame that was read, with these octets in place of its
+//!   ClientId, GwAdd, WillTopic, WillMsg, TopicName or Data.
+//! - `types OCTETS ..`: what this body is behind each octet from 00 to ff in the place of MsgType.
+//! - `bodies KIND OCTETS ..`: what each beginning of this body is behind one octet in the place of
+//!   MsgType.
+//! - `beginnings OCTETS ..`: what each beginning of a datagram is.
+//!
+//! The last three tell only the name of the message or the number of the fault, from which octet or
+//! number of octets on. `types` and `bodies` try each body with either form of Length (section
+//! 5.2.1), and say so if the two give different answers.
+//!
+//! Topics (sections 5.3.11, 5.3.12 and 6.7):
+//!
+//! - `name OCTETS ..`: a topic name, or the number and the words of the fault.
+//! - `filter OCTETS ..`: the same of a filter, and which wildcards it has.
+//! - `match FILTER NAME`: whether the filter asks for the name.
+//! - `table ID NAME ..`: a table of predefined ids, or the fault.
+//! - `id OCTETS ..`: the least predefined id of a name.
+//! - `of ID`: the name of a predefined id.
+//!
+//! - `fields`: octets of a line.
+//! - `frames`, `topics`: lines that are played.
+//! - `words`, `shown`, `refusals`: what is printed.
+
+mod fields;
+mod frames;
+mod refusals;
+mod shown;
+mod topics;
+mod words;
+
+use crate::stop::Stop;
+use sn_frame::Frame;
+use sn_topic::Predefined;
+use std::alloc::Global;
+
+/// What the lines of a row have brought about.
+#[derive(Drop)]
+pub(crate) struct Row {
+    /// The frame that the last `frame` has read.
+    frame: Option<Frame>,
+    /// The predefined ids of the last `table` that was taken.
+    table: Predefined,
+}
+
+/// A row without a line.
+pub(crate) fn begin(alloc: Global) -> Result<Row, Stop> {
+    Ok(Row {
+        frame: None,
+        table: topics::no_table(alloc)?,
+    })
+}
+
+/// Plays a line.
+pub(crate) fn play(
+    alloc: Global,
+    text: &mut String,
+    row: &mut Row,
+    words: &[&str],
+) -> Result<(), Stop> {
+    let Some((first, rest)) = words.split_first() else {
+        return Err(Stop::Line);
+    };
+    match *first {
+        "frame" => frames::frame(alloc, text, &mut row.frame, rest),
+        "with" => frames::with(alloc, text, &row.frame, rest),
+        "types" => frames::types(alloc, text, rest),
+        "bodies" => frames::bodies(alloc, text, rest),
+        "beginnings" => frames::beginnings(alloc, text, rest),
+        other => play_topic(alloc, text, &mut row.table, other, rest),
+    }
+}
+
+/// Lines about topics.
+fn play_topic(
+    alloc: Global,
+    text: &mut String,
+    table: &mut Predefined,
+    first: &str,
+    rest: &[&str],
+) -> Result<(), Stop> {
+    match first {
+        "name" => topics::name(alloc, text, rest),
+        "filter" => topics::filter(alloc, text, rest),
+        "match" => topics::asked(alloc, text, rest),
+        "table" => topics::table(alloc, text, table, rest),
+        "id" => topics::id(alloc, text, table, rest),
+        "of" => topics::name_of(text, table, rest),
+        _ => Err(Stop::Line),
+    }
+}
