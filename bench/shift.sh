@@ -23,7 +23,9 @@ echo "load $(cut -d ' ' -f 1-3 /proc/loadavg 2>/dev/null || echo unknown), $(npr
             done
         done
     done
-} | "$program" 2>&1 >/dev/null | awk '{
+} | "$program" 2>"$work/times" >"$work/printed"
+if grep '^no such line' "$work/printed"; then exit 1; fi
+awk '{
     key = $1 " " $2
     rate = $4 * 1000000 / ($5 + 1)
     if (rate > best[key]) best[key] = rate
@@ -34,4 +36,4 @@ echo "load $(cut -d ' ' -f 1-3 /proc/loadavg 2>/dev/null || echo unknown), $(npr
         if (part[2] == 0) { direct = best[order[i]]; printf "%s: directly %.0f calls per second\n", part[1], direct }
         else printf "  %d threads %.0f calls per second, %.2f of direct\n", part[2], best[order[i]], best[order[i]] / direct
     }
-}'
+}' "$work/times"

@@ -100,6 +100,11 @@ pub(crate) fn print_unclosed(text: &mut String, fault: &CloseFault) -> Result<()
     writeln!(text, "refused K{number}: {fault}")
 }
 
+/// How many of the calls of a pass were answered.
+pub(crate) fn print_answered(text: &mut String, calls: u64) -> Result<(), AllocError> {
+    writeln!(text, "answered {calls}")
+}
+
 /// How many calls a closed shift has.
 pub(crate) fn print_closed(text: &mut String, calls: usize) -> Result<(), AllocError> {
     writeln!(text, "closed, calls {calls}")

@@ -35,21 +35,21 @@ pub(crate) fn risen(alloc: Global, seats: Vec<Option<Pass>>) -> Result<Vec<Pass>
     Ok(passes)
 }
 
-/// The pass makes a call, and comes back.
+/// The pass makes a call, and comes back; and whether the call was answered, and not refused.
 fn returned<W: Wait, R: Replica, D: Disk + Drop>(
     rt: &W,
     alloc: Global,
     shift: &Shift<R, D>,
     pass: Pass,
     step: Arc<Step>,
-) -> Pass {
+) -> (Pass, bool) {
     match shift.call(rt, alloc, pass, step) {
-        Ok((pass, _out, _number)) => pass,
-        Err((pass, _fault)) => pass,
+        Ok((pass, _out, _number)) => (pass, true),
+        Err((pass, _fault)) => (pass, false),
     }
 }
 
-/// The pass in a seat makes so many calls, and sits down again.
+/// The pass in a seat makes so many calls, and sits down again. How many were answered.
 pub(crate) fn sit<W: Wait, R: Replica, D: Disk + Drop>(
     rt: &W,
     alloc: Global,
@@ -57,16 +57,19 @@ pub(crate) fn sit<W: Wait, R: Replica, D: Disk + Drop>(
     seat: &mut Option<Pass>,
     step: &Arc<Step>,
     calls: usize,
-) {
+) -> u64 {
+    let mut answered = 0u64;
     for _ in 0..calls {
         let Ok(step) = step.clone() else {
-            return;
+            return answered;
         };
         if let Some(pass) = seat.take() {
-            let pass = returned(rt, alloc, shift, pass, step);
+            let (pass, is_answered) = returned(rt, alloc, shift, pass, step);
             *seat = Some(pass);
+            answered = answered.saturating_add(u64::from(is_answered));
         }
     }
+    answered
 }
 
 /// The same once all threads have come to this point.
@@ -80,7 +83,7 @@ fn sit_at_once<W: Wait, R: Replica, D: Disk + Drop>(
     calls: usize,
 ) {
     let _leads = gate.wait(rt);
-    sit(rt, alloc, shift, seat, step, calls);
+    let _answered = sit(rt, alloc, shift, seat, step, calls);
 }
 
 /// Two calls of a pass, where both succeed.

@@ -7,7 +7,7 @@ use crate::fields::number;
 use crate::gateways::{Store, keep, taken};
 use crate::names::Names;
 use crate::passing::{
-    Called, print_beside, print_called, print_closed, print_made, print_unclosed,
+    Called, print_answered, print_beside, print_called, print_closed, print_made, print_unclosed,
 };
 use crate::row::{self, Row};
 use crate::seats::{Made, Steps, seated, side_by_side, sit, sit_all};
@@ -68,7 +68,7 @@ where
     };
     match *first {
         "pass" => call_by(rt, text, names, shifts, rest),
-        "often" => call_often(rt, names, shifts, rest),
+        "often" => call_often(rt, text, names, shifts, rest),
         "together" => call_together(rt, names, shifts, rest),
         "beside" => call_beside(rt, text, shifts, rest),
         "after" => ask_after(rt, text, shifts, rest),
@@ -204,9 +204,11 @@ fn call<T: Wait + AllocGlobal>(
     }
 }
 
-/// `often PLACE COUNT CALL`: the pass at this place makes a call so many times.
+/// `often PLACE COUNT CALL`: the pass at this place makes a call so many times. It prints how many
+/// were answered.
 fn call_often<T: Wait + AllocGlobal>(
     rt: &T,
+    text: &mut String,
     names: &Names,
     shifts: &mut Shifts,
     fields: &[&str],
@@ -218,8 +220,8 @@ fn call_often<T: Wait + AllocGlobal>(
     let step = shared(rt.alloc(), names, words)?;
     let shift = opened(&shifts.open)?;
     let seat = seat_at(shifts.seats.as_mut_slice(), at)?;
-    sit(rt, rt.alloc(), shift, seat, &step, count);
-    Ok(())
+    let answered = sit(rt, rt.alloc(), shift, seat, &step, count);
+    Ok(print_answered(text, answered)?)
 }
 
 /// `together PLACE COUNT CALL`: the passes from this place on make a call so many times each, all
