@@ -101,7 +101,7 @@ pub(crate) fn print_unclosed(text: &mut String, fault: &CloseFault) -> Result<()
 }
 
 /// How many of the calls of a pass were answered.
-pub(crate) fn print_answered(text: &mut String, calls: u64) -> Result<(), AllocError> {
+pub(crate) fn print_answers(text: &mut String, calls: u64) -> Result<(), AllocError> {
     writeln!(text, "answered {calls}")
 }
 

@@ -7,7 +7,7 @@ use crate::fields::number;
 use crate::gateways::{Store, keep, taken};
 use crate::names::Names;
 use crate::passing::{
-    Called, print_answered, print_beside, print_called, print_closed, print_made, print_unclosed,
+    Called, print_answers, print_beside, print_called, print_closed, print_made, print_unclosed,
 };
 use crate::row::{self, Row};
 use crate::seats::{Made, Steps, seated, side_by_side, sit, sit_all};
@@ -221,7 +221,7 @@ fn call_often<T: Wait + AllocGlobal>(
     let shift = opened(&shifts.open)?;
     let seat = seat_at(shifts.seats.as_mut_slice(), at)?;
     let answered = sit(rt, rt.alloc(), shift, seat, &step, count);
-    Ok(print_answered(text, answered)?)
+    Ok(print_answers(text, answered)?)
 }
 
 /// `together PLACE COUNT CALL`: the passes from this place on make a call so many times each, all
