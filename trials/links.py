@@ -326,6 +326,8 @@ def memory(program: str, folder: str) -> str:
     ports = free_ports(2)
     with Gateway(program, folder, 7, (ports[0], ports[1])) as gateway:
         fill(gateway, 150, 150, 4000)
+        # a shift's threads take their memory when it begins
+        time.sleep(1.5)
         gateway.limit_memory(16_777_216)
         found, closed = heard(gateway, 150 * 150, 30)
         time.sleep(0.5)
