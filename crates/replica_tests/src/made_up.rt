@@ -58,6 +58,8 @@ fn message(alloc: Global, client: ClientId, origin: u8, seq: u64) -> Result<Op, 
             seq,
             topic: TopicName::new(alloc, b"t")?,
             qos: QosLevel::one(),
+            retain: false,
+            expires: 0,
             body,
         },
     })

@@ -133,6 +133,11 @@ pub(crate) fn read(alloc: Global, text: &mut String, bytes: &[u8]) -> Result<(),
     print_read(alloc, text, Delta::decode(alloc, bytes))
 }
 
+/// `older`: the delta that the octets spell for what knows version 1 alone.
+pub(crate) fn older(alloc: Global, text: &mut String, bytes: &[u8]) -> Result<(), Stop> {
+    print_read(alloc, text, Delta::decode_one(alloc, bytes))
+}
+
 /// `count`: how many operations the delta has that the octets spell.
 pub(crate) fn counted(alloc: Global, text: &mut String, bytes: &[u8]) -> Result<(), Stop> {
     let said = answer(alloc, bytes)?;

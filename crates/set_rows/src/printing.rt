@@ -64,7 +64,13 @@ fn print_put(alloc: Global, text: &mut String, put: &Put) -> Result<(), AllocErr
     let (origin, seq, qos) = (put.origin, put.seq, put.qos.number());
     let topic = word(alloc, put.topic.bytes())?;
     let body = word(alloc, put.body.as_slice())?;
-    writeln!(text, "{origin}.{seq} {topic} {qos} {body}")
+    let later = later_words(put.retain);
+    writeln!(text, "{origin}.{seq} {topic} {qos} {body}{later}")
+}
+
+/// What is behind the body of a message.
+fn later_words(retain: bool) -> &'static str {
+    if retain { " retained" } else { "" }
 }
 
 /// The rest of the line of a change; the lines of a session behind `take`.

@@ -69,9 +69,15 @@ pub(crate) fn play<R: Replica>(
         "octets" | "behind" | "set" | "fill" | "cut" => {
             play_octets(alloc, names, &mut row.octets, first, rest)
         }
-        "none" | "client" | "print" | "size" | "read" | "count" | "altered" | "beginnings" => {
-            play_reading(alloc, text, &row.octets, first, rest)
-        }
+        "none"
+        | "client"
+        | "print"
+        | "size"
+        | "read"
+        | "older"
+        | "count"
+        | "altered"
+        | "beginnings" => { play_reading(alloc, text, &row.octets, first, rest) }
         "view" | "copied" | "waiting" | "next" | "clients" | "held" | "parts" => {
             play_replica(alloc, text, &row.replica, first, rest)
         }
@@ -214,6 +220,7 @@ fn play_reading(
         "print" => deltas::print(alloc, text, octets),
         "size" => deltas::size(text, octets),
         "read" => deltas::read(alloc, text, octets),
+        "older" => deltas::older(alloc, text, octets),
         "count" => deltas::counted(alloc, text, octets),
         "altered" => deltas::altered(alloc, text, octets, rest),
         _ => deltas::beginnings(alloc, text, octets),
