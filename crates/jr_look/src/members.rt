@@ -76,10 +76,16 @@ pub(crate) fn waiting(alloc: Global, text: &mut String, put: &Put) -> Result<(),
     let qos = put.qos.number();
     let topic = quoted(alloc, put.topic.bytes())?;
     let body = quoted(alloc, put.body.as_slice())?;
+    let later = later_members(put.retain);
     write!(
         text,
-        "\"origin\":{origin},\"seq\":{seq},\"topic\":{topic},\"qos\":{qos},\"body\":{body}"
+        "\"origin\":{origin},\"seq\":{seq},\"topic\":{topic},\"qos\":{qos},\"body\":{body}{later}"
     )
+}
+
+/// A further member of a message that the client gets since it was retained.
+fn later_members(retain: bool) -> &'static str {
+    if retain { ",\"retain\":true" } else { "" }
 }
 
 /// A session's change, and its members.
