@@ -10,7 +10,7 @@ use jr_journal::MemoryDisk;
 use octets::Octets;
 use rep_model::Replica;
 use rep_ops::{Delta, OpsFault};
-use std::alloc::{AllocError, Global};
+use std::alloc::Global;
 
 /// The call that a line says.
 pub(crate) fn step(alloc: Global, names: &Names, words: &[&str]) -> Result<Step, Stop> {
@@ -74,9 +74,24 @@ pub(crate) fn call_once<R: Replica>(
     node: &mut Node<R, MemoryDisk>,
     words: &[&str],
 ) -> Result<(), Stop> {
+    let answer = answer_to(alloc, names, node, words)?;
+    print_one(text, &answer)
+}
+
+/// The answer to the call that a line says.
+fn answer_to<R: Replica>(
+    alloc: Global,
+    names: &Names,
+    node: &mut Node<R, MemoryDisk>,
+    words: &[&str],
+) -> Result<Answer, Stop> {
     let step = step(alloc, names, words)?;
-    let answer = call(alloc, node, &step);
-    Ok(print_answer(text, &answer)?)
+    Ok(call(alloc, node, &step))
+}
+
+/// What a gateway answered.
+fn print_one(text: &mut String, answer: &Answer) -> Result<(), Stop> {
+    Ok(print_answer(text, answer)?)
 }
 
 /// The call of the method that a call as a value stands for.
@@ -101,9 +116,19 @@ pub(crate) fn call_thrice<R: Replica>(
     node: &mut Node<R, MemoryDisk>,
     words: &[&str],
 ) -> Result<(), Stop> {
+    let answers = answers_to(alloc, names, node, words)?;
+    print_answers(text, &answers)
+}
+
+/// The three answers to the call that a line says.
+fn answers_to<R: Replica>(
+    alloc: Global,
+    names: &Names,
+    node: &mut Node<R, MemoryDisk>,
+    words: &[&str],
+) -> Result<(Answer, Answer, Answer), Stop> {
     let step = step(alloc, names, words)?;
-    let answers = thrice(alloc, node, &step);
-    Ok(print_answers(text, &answers)?)
+    Ok(thrice(alloc, node, &step))
 }
 
 /// A call as a value, with its answer three times.
@@ -116,9 +141,9 @@ fn thrice<R: Replica>(
 }
 
 /// What a gateway answered, three times.
-fn print_answers(text: &mut String, answers: &(Answer, Answer, Answer)) -> Result<(), AllocError> {
+fn print_answers(text: &mut String, answers: &(Answer, Answer, Answer)) -> Result<(), Stop> {
     let (first, second, third) = answers;
-    print_answer(text, first)?;
-    print_answer(text, second)?;
-    print_answer(text, third)
+    print_one(text, first)?;
+    print_one(text, second)?;
+    print_one(text, third)
 }

@@ -28,8 +28,16 @@ where
     T: Threads + Wait + Sync + Clock + Eprint + AllocGlobal,
 {
     let mut page = blank(rt.alloc());
+    play_lines(rt, text, &mut page, lines)
+}
+
+/// Plays lines on a page.
+fn play_lines<T>(rt: &T, text: &mut String, page: &mut Page, lines: &[String]) -> Result<(), Stop>
+where
+    T: Threads + Wait + Sync + Clock + Eprint + AllocGlobal,
+{
     for line in lines {
-        answer(rt, text, &mut page, line.as_str())?;
+        answer(rt, text, page, line.as_str())?;
     }
     Ok(())
 }

@@ -45,11 +45,19 @@ pub(crate) fn run<T>(
 where
     T: Threads + Wait + Sync + Clock + Eprint + AllocGlobal,
 {
-    let step = step_of(rt.alloc(), name)?;
-    let micros = all(rt, &step, threads, rounds)?;
+    let micros = micros_of(rt, name, threads, rounds)?;
     let calls = u64::from(rounds) * 4096;
     let _ = eprintln!(rt; "{name} {threads} {rounds} {calls} {micros}");
     Ok(writeln!(text, "{name} {threads} {rounds}: {calls} calls")?)
+}
+
+/// The microseconds that all rounds of a work took.
+fn micros_of<T>(rt: &T, name: &str, threads: usize, rounds: u16) -> Result<u64, Stop>
+where
+    T: Threads + Wait + Sync + Clock + AllocGlobal,
+{
+    let step = step_of(rt.alloc(), name)?;
+    all(rt, &step, threads, rounds)
 }
 
 /// The call of a work.
